@@ -1,0 +1,13 @@
+-- Laws of the definitions, and the machine by which they are proved. Nothing here need be believed.
+pub mod Machine
+pub mod Theory
+pub mod Test
+pub mod Longest
+pub mod Same
+pub mod LexTables
+pub mod LexChecked
+pub mod LexSame
+pub mod Lexing
+pub mod Tables
+pub mod Checked
+pub mod Going
