@@ -4,15 +4,15 @@
 // sizes
 pub const MOST_TEXT: usize = 16384;
 
-pub const MOST_LEVELS: usize = 32;
+pub const MOST_LEVELS: u32 = 32;
 
-pub const MOST_ROWS: usize = 2048;
+pub const MOST_ROWS: u32 = 2048;
 
-pub const MOST_FRAGMENTS: usize = 64;
+pub const MOST_FRAGMENTS: u32 = 64;
 
-pub const MOST_VARIABLES: usize = 64;
+pub const MOST_VARIABLES: u32 = 64;
 
-pub const MOST_WRAPPERS: usize = 7;
+pub const MOST_WRAPPERS: u32 = 7;
 
 // fixed sizes of the outputs, in numbers
 pub const ROW_SIZE: usize = 7;
@@ -44,7 +44,7 @@ pub const INPUT_DOCUMENT: u32 = 0;
 pub const INPUT_VARIABLES: u32 = 1;
 
 // a row's parent where there is none
-pub const NO_PARENT: usize = 2048;
+pub const NO_PARENT: u32 = 2048;
 
 // the kinds of rows
 pub const KIND_OPERATION: u32 = 1;
@@ -108,13 +108,13 @@ pub enum Refusal {
     // 2: the input that is over its length
     OverLength(u32),
     // 3: offset of bytes that start no token, or of the string or comment with bad text
-    NoToken(usize),
+    NoToken(u32),
     // 4: offset of the token with which no document can go on, or the text's length
-    NoGoing(usize),
+    NoGoing(u32),
     // 5: offset of the opening mark of level 33
-    TooDeep(usize),
+    TooDeep(u32),
     // 6: offset of the construct that would be row 2,049
-    TooManyRows(usize),
+    TooManyRows(u32),
     // 8: offset of the first over another count
-    TooMany(usize),
+    TooMany(u32),
 }

@@ -69,19 +69,13 @@ pub const WORD_NULL: u32 = 8;
 
 // Whether a byte may start a name: A to Z, a to z, _ (draft 2.1.9).
 pub fn starts_name(b: u8) -> bool {
-    if b < 65 {
-        return false;
+    if 96 < b {
+        return b < 123;
     }
-    if b < 91 {
-        return true;
+    if 90 < b {
+        return b == 95;
     }
-    if b == 95 {
-        return true;
-    }
-    if b < 97 {
-        return false;
-    }
-    b < 123
+    64 < b
 }
 
 pub fn is_digit(b: u8) -> bool {
@@ -93,8 +87,8 @@ pub fn is_digit(b: u8) -> bool {
 
 // Whether a byte may go on with a name.
 pub fn in_name(b: u8) -> bool {
-    if is_digit(b) {
-        return true;
+    if b < 58 {
+        return 47 < b;
     }
     starts_name(b)
 }

@@ -1,0 +1,223 @@
+// Reads values, and the entries of arguments and objects, and writes their rows.
+use paper::Refusal;
+use paper::EXTRA_FALSE;
+use paper::EXTRA_TRUE;
+use paper::KIND_BOOLEAN;
+use paper::KIND_ENUM;
+use paper::KIND_FLOAT;
+use paper::KIND_INTEGER;
+use paper::KIND_LIST;
+use paper::KIND_NULL;
+use paper::KIND_OBJECT;
+use paper::KIND_OBJECT_FIELD;
+use paper::KIND_STRING;
+use paper::KIND_VARIABLE;
+use paper::MOST_ROWS;
+use reader::no_going;
+use reader::put_end;
+use reader::put_row;
+use reader::Cursor;
+use reader::Read;
+use tokens::TOKEN_BRACE_CLOSE;
+use tokens::TOKEN_BRACE_OPEN;
+use tokens::TOKEN_BRACKET_CLOSE;
+use tokens::TOKEN_BRACKET_OPEN;
+use tokens::TOKEN_COLON;
+use tokens::TOKEN_DOLLAR;
+use tokens::TOKEN_FLOAT;
+use tokens::TOKEN_INT;
+use tokens::TOKEN_NAME;
+use tokens::TOKEN_STRING;
+use tokens::WORD_FALSE;
+use tokens::WORD_NULL;
+use tokens::WORD_TRUE;
+ghost use mathlib.Core.Path.{_≡_};
+ghost use Prim.Native.Nat.{_+_, _*_, _≤_, _<_};
+ghost use lib.ListN.{length};
+ghost use Rattle.reader.specs.Reader.{Ready, Said};
+ghost use Rattle.values.specs.Stacks.{valueStack, entryStack};
+
+// A value that is one token: its row.
+fn leaf(s: &[u8], rows: &mut [u32], c: Cursor, parent: u32, kind: u32, name: u32, size: u32, extra: u32) -> Read
+{
+    let n = c.rows;
+    if n == MOST_ROWS {
+        return Read::Refused(Refusal::TooManyRows(c.start));
+    }
+    put_row(rows, n, kind, c.start, c.end, parent, name, size, extra);
+    c.past(s, n + 1)
+}
+
+// A name as a value: true, false, null or an enum value.
+fn word_value(s: &[u8], rows: &mut [u32], c: Cursor, parent: u32) -> Read
+{
+    let start = c.start;
+    let end = c.end;
+    let w = tokens::word(s, start as usize, end as usize);
+    if w == WORD_TRUE {
+        return leaf(s, rows, c, parent, KIND_BOOLEAN, 0, 0, EXTRA_TRUE);
+    }
+    if w == WORD_FALSE {
+        return leaf(s, rows, c, parent, KIND_BOOLEAN, 0, 0, EXTRA_FALSE);
+    }
+    if w == WORD_NULL {
+        return leaf(s, rows, c, parent, KIND_NULL, 0, 0, 0);
+    }
+    leaf(s, rows, c, parent, KIND_ENUM, start, end - start, 0)
+}
+
+// A value of one token, or none at all.
+fn scalar(s: &[u8], rows: &mut [u32], c: Cursor, parent: u32) -> Read
+{
+    let kind = c.kind;
+    if kind == TOKEN_NAME {
+        return word_value(s, rows, c, parent);
+    }
+    if kind == TOKEN_INT {
+        return leaf(s, rows, c, parent, KIND_INTEGER, 0, 0, 0);
+    }
+    if kind == TOKEN_FLOAT {
+        return leaf(s, rows, c, parent, KIND_FLOAT, 0, 0, 0);
+    }
+    if kind == TOKEN_STRING {
+        return leaf(s, rows, c, parent, KIND_STRING, 0, 0, 0);
+    }
+    no_going(c)
+}
+
+// Variable: $ Name
+fn variable(s: &[u8], rows: &mut [u32], c: Cursor, parent: u32) -> Read
+{
+    let n = c.rows;
+    if n == MOST_ROWS {
+        return Read::Refused(Refusal::TooManyRows(c.start));
+    }
+    let r = c.past(s, n + 1);
+    let Read::Done(name) = r else {
+        return r;
+    };
+    if name.kind != TOKEN_NAME {
+        return no_going(name);
+    }
+    put_row(rows, n, KIND_VARIABLE, c.start, name.end, parent, name.start, name.end - name.start, 0);
+    name.past(s, n + 1)
+}
+
+// Value, or where `constant` Value[Const]
+pub fn value(s: &[u8], rows: &mut [u32], c: Cursor, parent: u32, left: u32, constant: bool) -> Read
+    requires { ⌜ Ready (now s) (now rows) c parent ⌝ }
+    ensures { λ r. ⌜ Said 1 (now (s .entry)) (now (rows .entry)) (now (rows .exit)) c parent left (valueStack constant) r ⌝ }
+{
+    let kind = c.kind;
+    if kind == TOKEN_BRACKET_OPEN {
+        return list(s, rows, c, parent, left, constant);
+    }
+    if kind == TOKEN_BRACE_OPEN {
+        return object(s, rows, c, parent, left, constant);
+    }
+    if kind == TOKEN_DOLLAR {
+        if constant {
+            return no_going(c);
+        }
+        return variable(s, rows, c, parent);
+    }
+    scalar(s, rows, c, parent)
+}
+
+// The closing mark of row n, at which the cursor stands.
+fn close(s: &[u8], rows: &mut [u32], c: Cursor, n: u32) -> Read
+{
+    put_end(rows, n, c.end);
+    let m = c.rows;
+    c.past(s, m)
+}
+
+// ListValue, at its [
+fn list(s: &[u8], rows: &mut [u32], c: Cursor, parent: u32, left: u32, constant: bool) -> Read
+{
+    if left == 0 {
+        return Read::Refused(Refusal::TooDeep(c.start));
+    }
+    let n = c.rows;
+    if n == MOST_ROWS {
+        return Read::Refused(Refusal::TooManyRows(c.start));
+    }
+    put_row(rows, n, KIND_LIST, c.start, 0, parent, 0, 0, 0);
+    let r = c.past(s, n + 1);
+    let Read::Done(first) = r else {
+        return r;
+    };
+    let mut d = first;
+    loop {
+        let kind = d.kind;
+        if kind == TOKEN_BRACKET_CLOSE {
+            return close(s, rows, d, n);
+        }
+        let t = value(s, rows, d, n, left - 1, constant);
+        let Read::Done(next) = t else {
+            return t;
+        };
+        d = next;
+    }
+}
+
+// ObjectValue, at its {
+pub fn object(s: &[u8], rows: &mut [u32], c: Cursor, parent: u32, left: u32, constant: bool) -> Read
+{
+    if left == 0 {
+        return Read::Refused(Refusal::TooDeep(c.start));
+    }
+    let n = c.rows;
+    if n == MOST_ROWS {
+        return Read::Refused(Refusal::TooManyRows(c.start));
+    }
+    put_row(rows, n, KIND_OBJECT, c.start, 0, parent, 0, 0, 0);
+    let r = c.past(s, n + 1);
+    let Read::Done(first) = r else {
+        return r;
+    };
+    let mut d = first;
+    loop {
+        let kind = d.kind;
+        if kind == TOKEN_BRACE_CLOSE {
+            return close(s, rows, d, n);
+        }
+        let t = entry(s, rows, d, n, left - 1, KIND_OBJECT_FIELD, constant);
+        let Read::Done(next) = t else {
+            return t;
+        };
+        d = next;
+    }
+}
+
+// Argument or ObjectField, by its row's kind: Name : Value
+pub fn entry(s: &[u8], rows: &mut [u32], c: Cursor, parent: u32, left: u32, kind: u32, constant: bool) -> Read
+    requires { ⌜ Ready (now s) (now rows) c parent ⌝ }
+    ensures { λ r. ⌜ Said 1 (now (s .entry)) (now (rows .entry)) (now (rows .exit)) c parent left (entryStack kind constant) r ⌝ }
+{
+    if c.kind != TOKEN_NAME {
+        return no_going(c);
+    }
+    let n = c.rows;
+    if n == MOST_ROWS {
+        return Read::Refused(Refusal::TooManyRows(c.start));
+    }
+    put_row(rows, n, kind, c.start, 0, parent, c.start, c.end - c.start, 0);
+    let r = c.past(s, n + 1);
+    let Read::Done(colon) = r else {
+        return r;
+    };
+    if colon.kind != TOKEN_COLON {
+        return no_going(colon);
+    }
+    let t = colon.past(s, n + 1);
+    let Read::Done(first) = t else {
+        return t;
+    };
+    let v = value(s, rows, first, n, left, constant);
+    let Read::Done(d) = v else {
+        return v;
+    };
+    put_end(rows, n, d.stop);
+    v
+}
