@@ -10,4 +10,6 @@ pub mod LexSame
 pub mod Lexing
 pub mod Tables
 pub mod Checked
+pub mod SameLanguage
+pub mod ReadingLaws
 pub mod Going
