@@ -8,6 +8,8 @@ pub mod LexTables
 pub mod LexChecked
 pub mod LexSame
 pub mod Lexing
+pub mod FromLaws
+pub mod TokensLaws
 pub mod Tables
 pub mod Checked
 pub mod SameLanguage
