@@ -13,7 +13,6 @@ use Rattle.paper.specs.Lexical.{What, is, ignored, comment, Piece}
 use Rattle.paper.specs.Tokens.{Tok, Text, over, bad, token, whatOf, lineEnd}
 use Rattle.paper.specs.Reading.{tokensOf, placeOf}
 use Rattle.paper.proofs.Machine.{Tables, Step, took, emptied, refused, spent, step}
-use Rattle.paper.proofs.Theory.{none≢some}
 use Rattle.paper.proofs.Longest.{scan, Match, here, longer, further}
 use Rattle.paper.proofs.LexTables.{lexer}
 use Rattle.paper.proofs.Lexing.{text, from, found, shown, orBad, piece-byte, rounds}

@@ -1,11 +1,10 @@
 -- The language's grammar and the left-factored one: the same texts, with the same marks.
-use mathlib.Core.Path.{_≡_, refl, sym, ap, _∙_, subst}
+use mathlib.Core.Path.{_≡_, refl, sym, subst}
 use mathlib.Core.Logic.{_⊎_, inl, inr}
 use mathlib.Core.Bool.{Bool, true, false}
 use mathlib.Core.List.{List, [], _∷_, _++_, List·Memᴰ, List·Memᴰ·head, List·Memᴰ·tail}
-use Prim.Native.Nat.{ℕ}
 use lib.Dec.{T, eqb→eq}
-use Rattle.paper.specs.Grammar.{Sym, nt, tm, act, Ev, tok, mark, Derives, done, take, note, by}
+use Rattle.paper.specs.Grammar.{Sym, nt, tm, act, Ev, tok, mark, Derives, take, note, by}
 use Rattle.paper.specs.Numbers.{kindField, kindSpread, kindInline, wrapNonNull}
 use Rattle.paper.specs.Language.{Class, Terminal, the, t, hits, Mark, Part, language, colon, bang, spread, bracketL, bracketR, braceL, braceR, row, kind, named, wrapper, wrap, end}
 use Rattle.paper.specs.Language.{Field, Alias?, Alias, Name, Arguments?, Directives?, SelectionSet?, SelectionSet, AliasRest, Selection, FragmentSpread, InlineFragment, SpreadRest, FragmentName, TypeCondition?}

@@ -1,7 +1,7 @@
 -- Each text has its tokens, and in one way only: those that `from` gives.
 use mathlib.Core.Path.{_≡_, refl, sym, ap, _∙_, subst}
 use mathlib.Core.Bool.{Bool, true, false, not}
-use mathlib.Core.List.{List, [], _∷_, _++_}
+use mathlib.Core.List.{List, [], _∷_}
 use mathlib.Core.Option.{Option, none, some}
 use Prim.Native.Nat.{ℕ, zero, suc, _+_, _≤_, _<_, zero-le, suc-le-suc}
 use native.Mathlib.Nat.{le-antisymm}
@@ -9,10 +9,9 @@ use native.Mathlib.Omega.{arith}
 use lib.Dec.{T}
 use lib.ListN.{length, take, drop, length-drop, length-append}
 use lib.Seq.{length-take-le, take-at}
-use Rattle.paper.specs.Grammar.{nt, Ev, toks}
-use Rattle.paper.specs.Language.{Class}
+use Rattle.paper.specs.Grammar.{nt}
 use Rattle.paper.specs.Lexical.{What, is, ignored, comment, Piece}
-use Rattle.paper.specs.Tokens.{Tok, Text, over, bad, token, classed, Starts, whatOf, Longest, lineEnd, Tokens, ends, starts-none, skips, comments, bad-comment, tokens}
+use Rattle.paper.specs.Tokens.{Text, bad, token, classed, whatOf, Longest, lineEnd, Tokens, ends, starts-none, skips, comments, bad-comment, tokens}
 use Rattle.paper.proofs.Theory.{derives-null, unique}
 use Rattle.paper.proofs.Longest.{scan, Match}
 use Rattle.paper.proofs.LexTables.{lexer}
@@ -84,3 +83,61 @@ found-is bs p w l = go (scan lexer (nt Piece ∷ []) bs) refl (longest bs)
       where
         size : m .size ≡ length p
         size = le-antisymm (subst (λ (n : ℕ). n ≤ length p) (length-take-le (m .size) bs (piece-within bs m q)) (l .most (take (m .size) bs) (m .events) (f .0))) (f .1 p (l .events) (l .starts))
+
+-- so the function takes it
+text-longest : (k at b : ℕ) (bs p : List ℕ) (w : What) → Longest (b ∷ bs) p w → text (suc k) at (b ∷ bs) ≡ shown w at (length p) (b ∷ bs) (text k (at + length p) (drop (length p) (b ∷ bs)))
+unfolding text
+text-longest k at b bs p w l = go (scan lexer (nt Piece ∷ []) (b ∷ bs)) (found-is (b ∷ bs) p w l)
+  where
+    go : (o : Option (Match ℕ What)) → Is (b ∷ bs) p w o → found (λ n. text k (at + n) (drop n (b ∷ bs))) at (b ∷ bs) o ≡ shown w at (length p) (b ∷ bs) (text k (at + length p) (drop (length p) (b ∷ bs)))
+    go none h = absurd h
+    go (some m) h = rw (h .0, h .1) refl
+
+-- as much again with the rounds that the bytes left need
+text-shown : (at : ℕ) (bs p : List ℕ) (w : What) → Longest bs p w → text (suc (length bs)) at bs ≡ shown w at (length p) bs (text (suc (length (drop (length p) bs))) (at + length p) (drop (length p) bs))
+text-shown at [] p w l = let a = filled [] p w l in let z : ⊥ = omega (arith, a, short) in absurd z
+  where
+    short : length p ≤ 0
+    short = let e = sym (length-append p (l .starts .0 .0)) ∙ ap (λ (z : List ℕ). length z) (l .starts .0 .1) in omega (arith, e)
+text-shown at (b ∷ bs) p w l =
+    text-longest (length (b ∷ bs)) at b bs p w l ∙
+    ap (λ (t : Text). shown w at (length p) (b ∷ bs) t) (rounds (length (b ∷ bs)) (suc (length (drop (length p) (b ∷ bs)))) (at + length p) (drop (length p) (b ∷ bs)) fewer (omega arith))
+  where
+    fewer : length (drop (length p) (b ∷ bs)) < length (b ∷ bs)
+    fewer = let a = filled (b ∷ bs) p w l in simp length-drop (omega (arith, a))
+
+begins : (bs p : List ℕ) (w : What) → Longest bs p w → take (length p) bs ≡ p
+begins bs p w l = subst (λ (z : List ℕ). take (length p) z ≡ p) (l .starts .0 .1) (take-at p (l .starts .0 .0) (length p) refl)
+
+line-over : (b : Bool) (at : ℕ) (t : Text) → T b → orBad b at t ≡ t
+line-over true at t h = refl
+line-over false at t h = absurd h
+
+line-bad : (b : Bool) (at : ℕ) (t : Text) → T (not b) → orBad b at t ≡ bad at
+line-bad true at t h = absurd h
+line-bad false at t h = refl
+
+-- the tokens are those that the function gives
+pub tokens-text : {at : ℕ} {bs : List ℕ} {t : Text} → Tokens at bs t → t ≡ text (suc (length bs)) at bs
+unfolding text Found
+tokens-text ends = refl
+tokens-text (starts-none {at} {b} {bs} h) = go (scan lexer (nt Piece ∷ []) (b ∷ bs)) (longest (b ∷ bs))
+  where
+    go : (o : Option (Match ℕ What)) → Found (b ∷ bs) o → bad at ≡ found (λ n. text (length (b ∷ bs)) (at + n) (drop n (b ∷ bs))) at (b ∷ bs) o
+    go none f = refl
+    go (some m) f = absurd (h (take (m .size) (b ∷ bs)) (m .events) (f .0))
+tokens-text (skips {at} {bs} p l d) = tokens-text d ∙ sym (text-shown at bs p ignored l)
+tokens-text (comments {at} {bs} p l e d) = tokens-text d ∙ sym (text-shown at bs p comment l ∙ line-over (lineEnd (drop (length p) bs)) at (text (suc (length (drop (length p) bs))) (at + length p) (drop (length p) bs)) e)
+tokens-text (bad-comment {at} {bs} p l e) = sym (text-shown at bs p comment l ∙ line-bad (lineEnd (drop (length p) bs)) at (text (suc (length (drop (length p) bs))) (at + length p) (drop (length p) bs)) e)
+tokens-text (tokens {at} {bs} p c l d) =
+    ap (λ (t : Text). token (record { class = classed c p; start = at; stop = at + length p }) t) (tokens-text d) ∙
+    ap (λ (z : List ℕ). token (record { class = classed c z; start = at; stop = at + length p }) (text (suc (length (drop (length p) bs))) (at + length p) (drop (length p) bs))) (sym (begins bs p (is c) l)) ∙
+    sym (text-shown at bs p (is c) l)
+
+-- in one way only
+pub tokens-one : {at : ℕ} {bs : List ℕ} {t t′ : Text} → Tokens at bs t → Tokens at bs t′ → t ≡ t′
+tokens-one a b = tokens-text a ∙ sym (tokens-text b)
+
+pub tokens-from : {s : List ℕ} {t : Text} → Tokens 0 s t → t ≡ from s 0
+unfolding from
+tokens-from a = tokens-text a
