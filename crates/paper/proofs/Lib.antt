@@ -15,3 +15,7 @@ pub mod Checked
 pub mod SameLanguage
 pub mod ReadingLaws
 pub mod Going
+pub mod Worked
+pub mod Examples
+pub mod ExamplesStops
+pub mod ExamplesText

@@ -1,0 +1,105 @@
+-- Worked examples, computed: characters, tokens, ignored text and comments.
+-- The answers are those of document 01 and of its readings; none was taken from what is computed here.
+use mathlib.Core.Path.{_≡_, refl}
+use mathlib.Core.List.{List, [], _∷_, _++_, map}
+use Prim.Native.Nat.{ℕ}
+use Prim.Native.String.{String}
+use Rattle.paper.specs.Numbers.{accepted, refuseNoToken}
+use Rattle.paper.specs.Tokens.{Text, over, bad, token}
+use Rattle.paper.specs.Language.{Class, int, float, spread, n-other, n-on}
+use Rattle.paper.specs.Language.{language}
+use Rattle.paper.specs.Lexical.{lexical}
+use Rattle.paper.proofs.Machine.{step, enter, choose}
+use Rattle.paper.proofs.Longest.{scan}
+use Rattle.paper.proofs.Tables.{factored}
+use Rattle.paper.proofs.LexTables.{lexFactored}
+use Rattle.paper.proofs.Lexing.{text, from}
+use Rattle.paper.proofs.Going.{go}
+use Rattle.paper.proofs.Worked.{bytes, tells}
+
+abbrev tk : Class → ℕ → ℕ → Text → Text
+tk c a e t = token (record { class = c; start = a; stop = e }) t
+
+-- the longest match, and the next begins anew
+longest-matches :
+    map (λ s. from (bytes s) 0) ("1.x" ∷ "007" ∷ "...." ∷ "-0.5e+3e" ∷ "1..." ∷ "on one" ∷ []) ≡
+    tk int 0 1 (bad 1) ∷ tk int 0 1 (tk int 1 2 (tk int 2 3 (over 3))) ∷ tk spread 0 3 (bad 3) ∷ tk float 0 7 (tk n-other 7 8 (over 8)) ∷ tk int 0 1 (tk spread 1 4 (over 4)) ∷ tk n-on 0 2 (tk n-other 3 6 (over 6)) ∷ []
+unfolding from text scan step enter choose lexical lexFactored
+longest-matches = refl
+
+-- a document, and its count of rows or its refusal: bytes that start no token, ignored text, comments
+abbrev pieces : List (List ℕ × List ℕ)
+pieces =
+    (bytes "{a} %", 3 ∷ 4 ∷ []) ∷ (bytes "{a}#" ++ (240 ∷ 159 ∷ 152 ∷ 128 ∷ []), 3 ∷ 3 ∷ []) ∷
+    (bytes "{" ++ (195 ∷ 169 ∷ []) ++ bytes "}", 3 ∷ 1 ∷ []) ∷ (bytes "{a" ++ (239 ∷ 187 ∷ 191 ∷ []) ++ bytes "b}", 0 ∷ 3 ∷ []) ∷
+    (bytes "{....a}", 3 ∷ 4 ∷ []) ∷ (bytes "{a(x:&)}", 3 ∷ 5 ∷ []) ∷ (bytes "{a # " ++ (195 ∷ 169 ∷ 1 ∷ []), 3 ∷ 3 ∷ []) ∷ (bytes "#", 4 ∷ 1 ∷ []) ∷
+    (bytes ",", 4 ∷ 1 ∷ []) ∷ ((239 ∷ 187 ∷ 191 ∷ []), 4 ∷ 3 ∷ []) ∷ (bytes " ", 4 ∷ 1 ∷ []) ∷ (bytes "\t\r\n", 4 ∷ 3 ∷ []) ∷ (bytes "&", 3 ∷ 0 ∷ []) ∷
+    (bytes "-", 3 ∷ 0 ∷ []) ∷ (bytes ".", 3 ∷ 0 ∷ []) ∷ (bytes "..", 3 ∷ 0 ∷ []) ∷ ((195 ∷ 169 ∷ []), 3 ∷ 0 ∷ []) ∷ ((0 ∷ []), 3 ∷ 0 ∷ []) ∷
+    ((127 ∷ []), 3 ∷ 0 ∷ []) ∷ (bytes "\"", 3 ∷ 0 ∷ []) ∷ (bytes "\\", 3 ∷ 0 ∷ []) ∷ (bytes "'", 3 ∷ 0 ∷ []) ∷ (bytes "?", 3 ∷ 0 ∷ []) ∷
+    (bytes "%", 3 ∷ 0 ∷ []) ∷ (bytes "/", 3 ∷ 0 ∷ []) ∷ (bytes ";", 3 ∷ 0 ∷ []) ∷ (bytes "<", 3 ∷ 0 ∷ []) ∷ (bytes "~", 3 ∷ 0 ∷ []) ∷
+    (bytes "^", 3 ∷ 0 ∷ []) ∷ (bytes "*", 3 ∷ 0 ∷ []) ∷ (bytes "+", 3 ∷ 0 ∷ []) ∷ (bytes "#\n{a}", 0 ∷ 2 ∷ []) ∷ (bytes "{#c\na}", 0 ∷ 2 ∷ []) ∷
+    (bytes "{a#c\r}", 0 ∷ 2 ∷ []) ∷ (bytes "{a}#" ++ (195 ∷ 169 ∷ []), 0 ∷ 2 ∷ []) ∷ (bytes "{a}#" ++ (1 ∷ []), 3 ∷ 3 ∷ []) ∷
+    (bytes "#" ++ (239 ∷ 187 ∷ 191 ∷ []) ++ bytes "\n{a}", 0 ∷ 2 ∷ []) ∷ ((239 ∷ 187 ∷ 191 ∷ []) ++ bytes "{a}", 0 ∷ 2 ∷ []) ∷
+    (bytes "{a" ++ (239 ∷ 187 ∷ 191 ∷ []) ++ bytes "}", 0 ∷ 2 ∷ []) ∷ (bytes "\r\n{\r\na\r\n}\r\n", 0 ∷ 2 ∷ []) ∷
+    (bytes "{a" ++ (11 ∷ []) ++ bytes "}", 3 ∷ 2 ∷ []) ∷ (bytes "{a" ++ (12 ∷ []) ++ bytes "}", 3 ∷ 2 ∷ []) ∷
+    (bytes "{a" ++ (194 ∷ 160 ∷ []) ++ bytes "b}", 3 ∷ 2 ∷ []) ∷ (bytes "{a" ++ (226 ∷ 128 ∷ 168 ∷ []) ++ bytes "b}", 3 ∷ 2 ∷ []) ∷
+    (bytes ",,,{,a,},,,", 0 ∷ 2 ∷ []) ∷ (bytes "{a #\n#\n#\r}", 0 ∷ 2 ∷ []) ∷ (bytes "{a}#", 0 ∷ 2 ∷ []) ∷
+    (bytes "{a" ++ (239 ∷ 187 ∷ []) ++ bytes "}", 3 ∷ 2 ∷ []) ∷ (bytes "{a" ++ (239 ∷ 187 ∷ 190 ∷ []) ++ bytes "}", 3 ∷ 2 ∷ []) ∷
+    (bytes "{a" ++ (239 ∷ []) ++ bytes "}", 3 ∷ 2 ∷ []) ∷ (bytes "{a" ++ (128 ∷ []) ++ bytes "}", 3 ∷ 2 ∷ []) ∷
+    (bytes "{a" ++ (226 ∷ 128 ∷ 168 ∷ []) ++ bytes "}", 3 ∷ 2 ∷ []) ∷ (bytes "{a" ++ (0 ∷ []) ++ bytes "}", 3 ∷ 2 ∷ []) ∷
+    (bytes "{a" ++ (8 ∷ []) ++ bytes "}", 3 ∷ 2 ∷ []) ∷ (bytes "{a" ++ (27 ∷ []) ++ bytes "}", 3 ∷ 2 ∷ []) ∷ (bytes "{ a # c\n , b } # d", 0 ∷ 3 ∷ []) ∷
+    ((239 ∷ 187 ∷ 191 ∷ []) ++ bytes "{" ++ (239 ∷ 187 ∷ 191 ∷ []) ++ bytes "a" ++ (239 ∷ 187 ∷ 191 ∷ []) ++ bytes "}", 0 ∷ 2 ∷ []) ∷
+    (bytes "{_ __ _1 A_9z}", 0 ∷ 5 ∷ []) ∷ (bytes "{a(x:\"\\)}", 3 ∷ 5 ∷ []) ∷ (bytes "{a(x:\"a)}", 3 ∷ 5 ∷ []) ∷ (bytes "{a(x:\")}", 3 ∷ 5 ∷ []) ∷
+    (bytes "{a(x:\"\"\")}", 3 ∷ 7 ∷ []) ∷ (bytes "{a(x:\"\"\"\"\"\")}", 4 ∷ 7 ∷ []) ∷ (bytes "{a(x:\"a\"\"b\")}", 4 ∷ 8 ∷ []) ∷
+    (bytes "{abcdefghijklmnopqrstuvwxyz ABCDEFGHIJKLMNOPQRSTUVWXYZ _0123456789}", 0 ∷ 4 ∷ []) ∷ (bytes "`", 3 ∷ 0 ∷ []) ∷ []
+
+pieces-told : map (λ c. tells (c .0)) pieces ≡ map (λ c. c .1) pieces
+unfolding from text scan step enter choose lexical lexFactored language factored go
+pieces-told = refl
+
+-- what stands in a list value
+abbrev inList : String → List ℕ
+inList s = bytes "{a(x:[" ++ bytes s ++ bytes "])}"
+
+abbrev numbers : List (String × List ℕ)
+numbers =
+    ("0", 0 ∷ 5 ∷ []) ∷ ("-0", 0 ∷ 5 ∷ []) ∷ ("00", 0 ∷ 6 ∷ []) ∷ ("01", 0 ∷ 6 ∷ []) ∷ ("-01", 0 ∷ 6 ∷ []) ∷ ("10", 0 ∷ 5 ∷ []) ∷ ("1.0", 0 ∷ 5 ∷ []) ∷
+    ("0.0", 0 ∷ 5 ∷ []) ∷ ("-0.0", 0 ∷ 5 ∷ []) ∷ ("1.a", 3 ∷ 7 ∷ []) ∷ (".5", 3 ∷ 6 ∷ []) ∷ ("-.5", 3 ∷ 6 ∷ []) ∷ ("1e5", 0 ∷ 5 ∷ []) ∷
+    ("1E5", 0 ∷ 5 ∷ []) ∷ ("1e+5", 0 ∷ 5 ∷ []) ∷ ("1e-5", 0 ∷ 5 ∷ []) ∷ ("1e", 0 ∷ 6 ∷ []) ∷ ("1e+", 3 ∷ 8 ∷ []) ∷ ("1E-", 3 ∷ 8 ∷ []) ∷
+    ("1.5e10", 0 ∷ 5 ∷ []) ∷ ("1.e5", 3 ∷ 7 ∷ []) ∷ ("1.5.2", 3 ∷ 9 ∷ []) ∷ ("1..2", 3 ∷ 7 ∷ []) ∷ ("1...2", 4 ∷ 7 ∷ []) ∷ ("0x1", 0 ∷ 6 ∷ []) ∷
+    ("1a", 0 ∷ 6 ∷ []) ∷ ("1_", 0 ∷ 6 ∷ []) ∷ ("--1", 3 ∷ 6 ∷ []) ∷ ("-a", 3 ∷ 6 ∷ []) ∷ ("+1", 3 ∷ 6 ∷ []) ∷ ("1-1", 0 ∷ 6 ∷ []) ∷
+    ("1e5e5", 0 ∷ 6 ∷ []) ∷ ("1e5.5", 3 ∷ 9 ∷ []) ∷ ("123456789012345678901234567890", 0 ∷ 5 ∷ []) ∷ ("0e0", 0 ∷ 5 ∷ []) ∷ ("0.00e-00", 0 ∷ 5 ∷ []) ∷
+    ("1,2", 0 ∷ 6 ∷ []) ∷ ("1#c\n2", 0 ∷ 6 ∷ []) ∷ ("00.5", 0 ∷ 6 ∷ []) ∷ ("-1.5E-05", 0 ∷ 5 ∷ []) ∷ ("1.", 3 ∷ 7 ∷ []) ∷ ("01 1a", 0 ∷ 8 ∷ []) ∷
+    ("-", 3 ∷ 6 ∷ []) ∷ []
+
+numbers-told : map (λ c. tells (inList (c .0))) numbers ≡ map (λ c. c .1) numbers
+unfolding from text scan step enter choose lexical lexFactored language factored go
+numbers-told = refl
+
+-- what stands between quotation marks, as the value of an argument
+abbrev inString : List ℕ → List ℕ
+inString s = bytes "{a(x:\"" ++ s ++ bytes "\")}"
+
+abbrev goodStrings : List (List ℕ)
+goodStrings =
+    [] ∷ (bytes "a") ∷ (bytes "\\\"") ∷ (bytes "\\\\") ∷ (bytes "\\/\\b\\f\\n\\r\\t") ∷ (bytes "\\u0041") ∷ (bytes "\\uABCD\\uabcd") ∷
+    (bytes "\\uD800") ∷ (bytes "a\tb") ∷ ((195 ∷ 169 ∷ [])) ∷ ((239 ∷ 191 ∷ 191 ∷ [])) ∷ ((226 ∷ 128 ∷ 168 ∷ 226 ∷ 128 ∷ 169 ∷ [])) ∷ ((127 ∷ [])) ∷
+    (bytes "#,{") ∷ ((239 ∷ 187 ∷ 191 ∷ [])) ∷ ((194 ∷ 128 ∷ [])) ∷ ((223 ∷ 191 ∷ [])) ∷ ((224 ∷ 160 ∷ 128 ∷ [])) ∷ ((237 ∷ 159 ∷ 191 ∷ [])) ∷
+    ((238 ∷ 128 ∷ 128 ∷ [])) ∷ ((239 ∷ 191 ∷ 190 ∷ [])) ∷ ((226 ∷ 128 ∷ 168 ∷ 127 ∷ [])) ∷ []
+
+good-strings-told : map (λ s. tells (inString s)) goodStrings ≡ map (λ s. accepted ∷ 4 ∷ []) goodStrings
+unfolding from text scan step enter choose lexical lexFactored language factored go
+good-strings-told = refl
+
+-- escapes that are none, ends of line, bytes that are no character up to U+FFFF
+abbrev badStrings : List (List ℕ)
+badStrings =
+    (bytes "\\u00") ∷ (bytes "\\u00G0") ∷ (bytes "\\u") ∷ (bytes "\\U0041") ∷ (bytes "\\x") ∷ (bytes "\\") ∷ (bytes "a\nb") ∷ (bytes "a\rb") ∷
+    ((31 ∷ [])) ∷ ((0 ∷ [])) ∷ ((128 ∷ [])) ∷ ((191 ∷ [])) ∷ ((192 ∷ 128 ∷ [])) ∷ ((193 ∷ 191 ∷ [])) ∷ ((194 ∷ [])) ∷ ((194 ∷ []) ++ bytes "A") ∷
+    ((224 ∷ 159 ∷ 191 ∷ [])) ∷ ((225 ∷ 128 ∷ [])) ∷ ((225 ∷ 128 ∷ []) ++ bytes "A") ∷ ((240 ∷ 144 ∷ 128 ∷ 128 ∷ [])) ∷ ((244 ∷ 143 ∷ 191 ∷ 191 ∷ [])) ∷
+    ((245 ∷ 128 ∷ 128 ∷ 128 ∷ [])) ∷ ((255 ∷ [])) ∷ ((254 ∷ 255 ∷ [])) ∷ ((226 ∷ []) ++ bytes "(" ++ (161 ∷ [])) ∷ ((240 ∷ 159 ∷ 152 ∷ 128 ∷ [])) ∷
+    ((237 ∷ 160 ∷ 128 ∷ [])) ∷ (bytes "b\n") ∷ []
+
+bad-strings-told : map (λ s. tells (inString s)) badStrings ≡ map (λ s. refuseNoToken ∷ 5 ∷ []) badStrings
+unfolding from text scan step enter choose lexical lexFactored language factored go
+bad-strings-told = refl
