@@ -3,7 +3,6 @@
 use mathlib.Core.Path.{_≡_, refl}
 use mathlib.Core.List.{List, [], _∷_, _++_, map}
 use Prim.Native.Nat.{ℕ}
-use Prim.Native.String.{String}
 use lib.ListN.{length}
 use Rattle.paper.specs.Language.{Part, language, Document, VariablesText}
 use Rattle.paper.specs.Lexical.{lexical}
@@ -136,7 +135,7 @@ constants =
      r 1 0 41 2048 0 0 0 ∷ r 8 10 30 0 11 2 0 ∷ r 9 15 23 1 15 7 2 ∷ r 24 25 30 1 0 0 0 ∷ r 4 34 40 0 38 2 0 ∷
      r 2 42 96 2048 51 2 0 ∷ r 9 57 62 5 57 5 0 ∷ r 3 64 95 5 64 10 0 ∷ r 7 75 95 7 77 7 0 ∷ r 6 86 94 8 86 2 0 ∷
      r 20 90 94 9 92 2 0 ∷ []) ∷
-    (bytes "fragment # caf" ++ (195 ∷ 169 ∷ []) ++ bytes " \"x\nF0\ron Query{ b :on( in:[true$v0$ v0])a : on(in :$v1) }\rfragment\rF1 on O3{ __typename },query A($\r\nv0:S1 $ v1 :[S1 ] ! =[\"$v\"\"\\n\\t\\\"\\\\\\/\\b\\f\\r\"-2147483648  ]) {...on O2{ ...F1 a ...F1 } }",
+    (bytes "fragment # caf" ++ (0xc3 ∷ 0xa9 ∷ []) ++ bytes " \"x\nF0\ron Query{ b :on( in:[true$v0$ v0])a : on(in :$v1) }\rfragment\rF1 on O3{ __typename },query A($\r\nv0:S1 $ v1 :[S1 ] ! =[\"$v\"\"\\n\\t\\\"\\\\\\/\\b\\f\\r\"-2147483648  ]) {...on O2{ ...F1 a ...F1 } }",
      r 2 0 74 2048 20 2 0 ∷ r 9 26 31 0 26 5 0 ∷ r 3 33 57 0 36 2 0 ∷ r 6 40 56 2 40 2 0 ∷ r 27 43 56 3 0 0 0 ∷
      r 24 44 48 4 0 0 1 ∷ r 20 48 51 4 49 2 0 ∷ r 20 51 55 4 53 2 0 ∷ r 3 57 72 0 61 2 0 ∷ r 6 64 71 8 64 2 0 ∷
      r 20 68 71 9 69 2 0 ∷ r 2 75 106 2048 84 2 0 ∷ r 9 90 92 11 90 2 0 ∷ r 3 94 104 11 94 10 0 ∷ r 1 107 206 2048 113 1 0 ∷

@@ -1,7 +1,7 @@
 -- Worked examples, computed: with which token no document can go on, and where.
 -- The answers are those of document 01 and of its readings; none was taken from what is computed here.
 use mathlib.Core.Path.{_≡_, refl}
-use mathlib.Core.List.{List, [], _∷_, _++_, map}
+use mathlib.Core.List.{List, [], _∷_, map}
 use Prim.Native.Nat.{ℕ}
 use Prim.Native.String.{String}
 use Rattle.paper.specs.Numbers.{accepted, refuseNoGoing}

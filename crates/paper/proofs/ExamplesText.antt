@@ -30,25 +30,26 @@ longest-matches = refl
 -- a document, and its count of rows or its refusal: bytes that start no token, ignored text, comments
 abbrev pieces : List (List ℕ × List ℕ)
 pieces =
-    (bytes "{a} %", 3 ∷ 4 ∷ []) ∷ (bytes "{a}#" ++ (240 ∷ 159 ∷ 152 ∷ 128 ∷ []), 3 ∷ 3 ∷ []) ∷
-    (bytes "{" ++ (195 ∷ 169 ∷ []) ++ bytes "}", 3 ∷ 1 ∷ []) ∷ (bytes "{a" ++ (239 ∷ 187 ∷ 191 ∷ []) ++ bytes "b}", 0 ∷ 3 ∷ []) ∷
-    (bytes "{....a}", 3 ∷ 4 ∷ []) ∷ (bytes "{a(x:&)}", 3 ∷ 5 ∷ []) ∷ (bytes "{a # " ++ (195 ∷ 169 ∷ 1 ∷ []), 3 ∷ 3 ∷ []) ∷ (bytes "#", 4 ∷ 1 ∷ []) ∷
-    (bytes ",", 4 ∷ 1 ∷ []) ∷ ((239 ∷ 187 ∷ 191 ∷ []), 4 ∷ 3 ∷ []) ∷ (bytes " ", 4 ∷ 1 ∷ []) ∷ (bytes "\t\r\n", 4 ∷ 3 ∷ []) ∷ (bytes "&", 3 ∷ 0 ∷ []) ∷
-    (bytes "-", 3 ∷ 0 ∷ []) ∷ (bytes ".", 3 ∷ 0 ∷ []) ∷ (bytes "..", 3 ∷ 0 ∷ []) ∷ ((195 ∷ 169 ∷ []), 3 ∷ 0 ∷ []) ∷ ((0 ∷ []), 3 ∷ 0 ∷ []) ∷
-    ((127 ∷ []), 3 ∷ 0 ∷ []) ∷ (bytes "\"", 3 ∷ 0 ∷ []) ∷ (bytes "\\", 3 ∷ 0 ∷ []) ∷ (bytes "'", 3 ∷ 0 ∷ []) ∷ (bytes "?", 3 ∷ 0 ∷ []) ∷
-    (bytes "%", 3 ∷ 0 ∷ []) ∷ (bytes "/", 3 ∷ 0 ∷ []) ∷ (bytes ";", 3 ∷ 0 ∷ []) ∷ (bytes "<", 3 ∷ 0 ∷ []) ∷ (bytes "~", 3 ∷ 0 ∷ []) ∷
-    (bytes "^", 3 ∷ 0 ∷ []) ∷ (bytes "*", 3 ∷ 0 ∷ []) ∷ (bytes "+", 3 ∷ 0 ∷ []) ∷ (bytes "#\n{a}", 0 ∷ 2 ∷ []) ∷ (bytes "{#c\na}", 0 ∷ 2 ∷ []) ∷
-    (bytes "{a#c\r}", 0 ∷ 2 ∷ []) ∷ (bytes "{a}#" ++ (195 ∷ 169 ∷ []), 0 ∷ 2 ∷ []) ∷ (bytes "{a}#" ++ (1 ∷ []), 3 ∷ 3 ∷ []) ∷
-    (bytes "#" ++ (239 ∷ 187 ∷ 191 ∷ []) ++ bytes "\n{a}", 0 ∷ 2 ∷ []) ∷ ((239 ∷ 187 ∷ 191 ∷ []) ++ bytes "{a}", 0 ∷ 2 ∷ []) ∷
-    (bytes "{a" ++ (239 ∷ 187 ∷ 191 ∷ []) ++ bytes "}", 0 ∷ 2 ∷ []) ∷ (bytes "\r\n{\r\na\r\n}\r\n", 0 ∷ 2 ∷ []) ∷
-    (bytes "{a" ++ (11 ∷ []) ++ bytes "}", 3 ∷ 2 ∷ []) ∷ (bytes "{a" ++ (12 ∷ []) ++ bytes "}", 3 ∷ 2 ∷ []) ∷
-    (bytes "{a" ++ (194 ∷ 160 ∷ []) ++ bytes "b}", 3 ∷ 2 ∷ []) ∷ (bytes "{a" ++ (226 ∷ 128 ∷ 168 ∷ []) ++ bytes "b}", 3 ∷ 2 ∷ []) ∷
-    (bytes ",,,{,a,},,,", 0 ∷ 2 ∷ []) ∷ (bytes "{a #\n#\n#\r}", 0 ∷ 2 ∷ []) ∷ (bytes "{a}#", 0 ∷ 2 ∷ []) ∷
-    (bytes "{a" ++ (239 ∷ 187 ∷ []) ++ bytes "}", 3 ∷ 2 ∷ []) ∷ (bytes "{a" ++ (239 ∷ 187 ∷ 190 ∷ []) ++ bytes "}", 3 ∷ 2 ∷ []) ∷
-    (bytes "{a" ++ (239 ∷ []) ++ bytes "}", 3 ∷ 2 ∷ []) ∷ (bytes "{a" ++ (128 ∷ []) ++ bytes "}", 3 ∷ 2 ∷ []) ∷
-    (bytes "{a" ++ (226 ∷ 128 ∷ 168 ∷ []) ++ bytes "}", 3 ∷ 2 ∷ []) ∷ (bytes "{a" ++ (0 ∷ []) ++ bytes "}", 3 ∷ 2 ∷ []) ∷
-    (bytes "{a" ++ (8 ∷ []) ++ bytes "}", 3 ∷ 2 ∷ []) ∷ (bytes "{a" ++ (27 ∷ []) ++ bytes "}", 3 ∷ 2 ∷ []) ∷ (bytes "{ a # c\n , b } # d", 0 ∷ 3 ∷ []) ∷
-    ((239 ∷ 187 ∷ 191 ∷ []) ++ bytes "{" ++ (239 ∷ 187 ∷ 191 ∷ []) ++ bytes "a" ++ (239 ∷ 187 ∷ 191 ∷ []) ++ bytes "}", 0 ∷ 2 ∷ []) ∷
+    (bytes "{a} %", 3 ∷ 4 ∷ []) ∷ (bytes "{a}#" ++ (0xf0 ∷ 0x9f ∷ 0x98 ∷ 0x80 ∷ []), 3 ∷ 3 ∷ []) ∷
+    (bytes "{" ++ (0xc3 ∷ 0xa9 ∷ []) ++ bytes "}", 3 ∷ 1 ∷ []) ∷ (bytes "{a" ++ (0xef ∷ 0xbb ∷ 0xbf ∷ []) ++ bytes "b}", 0 ∷ 3 ∷ []) ∷
+    (bytes "{....a}", 3 ∷ 4 ∷ []) ∷ (bytes "{a(x:&)}", 3 ∷ 5 ∷ []) ∷ (bytes "{a # " ++ (0xc3 ∷ 0xa9 ∷ 0x01 ∷ []), 3 ∷ 3 ∷ []) ∷
+    (bytes "#", 4 ∷ 1 ∷ []) ∷ (bytes ",", 4 ∷ 1 ∷ []) ∷ ((0xef ∷ 0xbb ∷ 0xbf ∷ []), 4 ∷ 3 ∷ []) ∷ (bytes " ", 4 ∷ 1 ∷ []) ∷
+    (bytes "\t\r\n", 4 ∷ 3 ∷ []) ∷ (bytes "&", 3 ∷ 0 ∷ []) ∷ (bytes "-", 3 ∷ 0 ∷ []) ∷ (bytes ".", 3 ∷ 0 ∷ []) ∷ (bytes "..", 3 ∷ 0 ∷ []) ∷
+    ((0xc3 ∷ 0xa9 ∷ []), 3 ∷ 0 ∷ []) ∷ ((0x00 ∷ []), 3 ∷ 0 ∷ []) ∷ ((0x7f ∷ []), 3 ∷ 0 ∷ []) ∷ (bytes "\"", 3 ∷ 0 ∷ []) ∷ (bytes "\\", 3 ∷ 0 ∷ []) ∷
+    (bytes "'", 3 ∷ 0 ∷ []) ∷ (bytes "?", 3 ∷ 0 ∷ []) ∷ (bytes "%", 3 ∷ 0 ∷ []) ∷ (bytes "/", 3 ∷ 0 ∷ []) ∷ (bytes ";", 3 ∷ 0 ∷ []) ∷
+    (bytes "<", 3 ∷ 0 ∷ []) ∷ (bytes "~", 3 ∷ 0 ∷ []) ∷ (bytes "^", 3 ∷ 0 ∷ []) ∷ (bytes "*", 3 ∷ 0 ∷ []) ∷ (bytes "+", 3 ∷ 0 ∷ []) ∷
+    (bytes "#\n{a}", 0 ∷ 2 ∷ []) ∷ (bytes "{#c\na}", 0 ∷ 2 ∷ []) ∷ (bytes "{a#c\r}", 0 ∷ 2 ∷ []) ∷ (bytes "{a}#" ++ (0xc3 ∷ 0xa9 ∷ []), 0 ∷ 2 ∷ []) ∷
+    (bytes "{a}#" ++ (0x01 ∷ []), 3 ∷ 3 ∷ []) ∷ (bytes "#" ++ (0xef ∷ 0xbb ∷ 0xbf ∷ []) ++ bytes "\n{a}", 0 ∷ 2 ∷ []) ∷
+    ((0xef ∷ 0xbb ∷ 0xbf ∷ []) ++ bytes "{a}", 0 ∷ 2 ∷ []) ∷ (bytes "{a" ++ (0xef ∷ 0xbb ∷ 0xbf ∷ []) ++ bytes "}", 0 ∷ 2 ∷ []) ∷
+    (bytes "\r\n{\r\na\r\n}\r\n", 0 ∷ 2 ∷ []) ∷ (bytes "{a" ++ (0x0b ∷ []) ++ bytes "}", 3 ∷ 2 ∷ []) ∷
+    (bytes "{a" ++ (0x0c ∷ []) ++ bytes "}", 3 ∷ 2 ∷ []) ∷ (bytes "{a" ++ (0xc2 ∷ 0xa0 ∷ []) ++ bytes "b}", 3 ∷ 2 ∷ []) ∷
+    (bytes "{a" ++ (0xe2 ∷ 0x80 ∷ 0xa8 ∷ []) ++ bytes "b}", 3 ∷ 2 ∷ []) ∷ (bytes ",,,{,a,},,,", 0 ∷ 2 ∷ []) ∷ (bytes "{a #\n#\n#\r}", 0 ∷ 2 ∷ []) ∷
+    (bytes "{a}#", 0 ∷ 2 ∷ []) ∷ (bytes "{a" ++ (0xef ∷ 0xbb ∷ []) ++ bytes "}", 3 ∷ 2 ∷ []) ∷
+    (bytes "{a" ++ (0xef ∷ 0xbb ∷ 0xbe ∷ []) ++ bytes "}", 3 ∷ 2 ∷ []) ∷ (bytes "{a" ++ (0xef ∷ []) ++ bytes "}", 3 ∷ 2 ∷ []) ∷
+    (bytes "{a" ++ (0x80 ∷ []) ++ bytes "}", 3 ∷ 2 ∷ []) ∷ (bytes "{a" ++ (0xe2 ∷ 0x80 ∷ 0xa8 ∷ []) ++ bytes "}", 3 ∷ 2 ∷ []) ∷
+    (bytes "{a" ++ (0x00 ∷ []) ++ bytes "}", 3 ∷ 2 ∷ []) ∷ (bytes "{a" ++ (0x08 ∷ []) ++ bytes "}", 3 ∷ 2 ∷ []) ∷
+    (bytes "{a" ++ (0x1b ∷ []) ++ bytes "}", 3 ∷ 2 ∷ []) ∷ (bytes "{ a # c\n , b } # d", 0 ∷ 3 ∷ []) ∷
+    ((0xef ∷ 0xbb ∷ 0xbf ∷ []) ++ bytes "{" ++ (0xef ∷ 0xbb ∷ 0xbf ∷ []) ++ bytes "a" ++ (0xef ∷ 0xbb ∷ 0xbf ∷ []) ++ bytes "}", 0 ∷ 2 ∷ []) ∷
     (bytes "{_ __ _1 A_9z}", 0 ∷ 5 ∷ []) ∷ (bytes "{a(x:\"\\)}", 3 ∷ 5 ∷ []) ∷ (bytes "{a(x:\"a)}", 3 ∷ 5 ∷ []) ∷ (bytes "{a(x:\")}", 3 ∷ 5 ∷ []) ∷
     (bytes "{a(x:\"\"\")}", 3 ∷ 7 ∷ []) ∷ (bytes "{a(x:\"\"\"\"\"\")}", 4 ∷ 7 ∷ []) ∷ (bytes "{a(x:\"a\"\"b\")}", 4 ∷ 8 ∷ []) ∷
     (bytes "{abcdefghijklmnopqrstuvwxyz ABCDEFGHIJKLMNOPQRSTUVWXYZ _0123456789}", 0 ∷ 4 ∷ []) ∷ (bytes "`", 3 ∷ 0 ∷ []) ∷ []
@@ -83,9 +84,9 @@ inString s = bytes "{a(x:\"" ++ s ++ bytes "\")}"
 abbrev goodStrings : List (List ℕ)
 goodStrings =
     [] ∷ (bytes "a") ∷ (bytes "\\\"") ∷ (bytes "\\\\") ∷ (bytes "\\/\\b\\f\\n\\r\\t") ∷ (bytes "\\u0041") ∷ (bytes "\\uABCD\\uabcd") ∷
-    (bytes "\\uD800") ∷ (bytes "a\tb") ∷ ((195 ∷ 169 ∷ [])) ∷ ((239 ∷ 191 ∷ 191 ∷ [])) ∷ ((226 ∷ 128 ∷ 168 ∷ 226 ∷ 128 ∷ 169 ∷ [])) ∷ ((127 ∷ [])) ∷
-    (bytes "#,{") ∷ ((239 ∷ 187 ∷ 191 ∷ [])) ∷ ((194 ∷ 128 ∷ [])) ∷ ((223 ∷ 191 ∷ [])) ∷ ((224 ∷ 160 ∷ 128 ∷ [])) ∷ ((237 ∷ 159 ∷ 191 ∷ [])) ∷
-    ((238 ∷ 128 ∷ 128 ∷ [])) ∷ ((239 ∷ 191 ∷ 190 ∷ [])) ∷ ((226 ∷ 128 ∷ 168 ∷ 127 ∷ [])) ∷ []
+    (bytes "\\uD800") ∷ (bytes "a\tb") ∷ ((0xc3 ∷ 0xa9 ∷ [])) ∷ ((0xef ∷ 0xbf ∷ 0xbf ∷ [])) ∷ ((0xe2 ∷ 0x80 ∷ 0xa8 ∷ 0xe2 ∷ 0x80 ∷ 0xa9 ∷ [])) ∷
+    ((0x7f ∷ [])) ∷ (bytes "#,{") ∷ ((0xef ∷ 0xbb ∷ 0xbf ∷ [])) ∷ ((0xc2 ∷ 0x80 ∷ [])) ∷ ((0xdf ∷ 0xbf ∷ [])) ∷ ((0xe0 ∷ 0xa0 ∷ 0x80 ∷ [])) ∷
+    ((0xed ∷ 0x9f ∷ 0xbf ∷ [])) ∷ ((0xee ∷ 0x80 ∷ 0x80 ∷ [])) ∷ ((0xef ∷ 0xbf ∷ 0xbe ∷ [])) ∷ ((0xe2 ∷ 0x80 ∷ 0xa8 ∷ 0x7f ∷ [])) ∷ []
 
 good-strings-told : map (λ s. tells (inString s)) goodStrings ≡ map (λ s. accepted ∷ 4 ∷ []) goodStrings
 unfolding from text scan step enter choose lexical lexFactored language factored go
@@ -95,10 +96,11 @@ good-strings-told = refl
 abbrev badStrings : List (List ℕ)
 badStrings =
     (bytes "\\u00") ∷ (bytes "\\u00G0") ∷ (bytes "\\u") ∷ (bytes "\\U0041") ∷ (bytes "\\x") ∷ (bytes "\\") ∷ (bytes "a\nb") ∷ (bytes "a\rb") ∷
-    ((31 ∷ [])) ∷ ((0 ∷ [])) ∷ ((128 ∷ [])) ∷ ((191 ∷ [])) ∷ ((192 ∷ 128 ∷ [])) ∷ ((193 ∷ 191 ∷ [])) ∷ ((194 ∷ [])) ∷ ((194 ∷ []) ++ bytes "A") ∷
-    ((224 ∷ 159 ∷ 191 ∷ [])) ∷ ((225 ∷ 128 ∷ [])) ∷ ((225 ∷ 128 ∷ []) ++ bytes "A") ∷ ((240 ∷ 144 ∷ 128 ∷ 128 ∷ [])) ∷ ((244 ∷ 143 ∷ 191 ∷ 191 ∷ [])) ∷
-    ((245 ∷ 128 ∷ 128 ∷ 128 ∷ [])) ∷ ((255 ∷ [])) ∷ ((254 ∷ 255 ∷ [])) ∷ ((226 ∷ []) ++ bytes "(" ++ (161 ∷ [])) ∷ ((240 ∷ 159 ∷ 152 ∷ 128 ∷ [])) ∷
-    ((237 ∷ 160 ∷ 128 ∷ [])) ∷ (bytes "b\n") ∷ []
+    ((0x1f ∷ [])) ∷ ((0x00 ∷ [])) ∷ ((0x80 ∷ [])) ∷ ((0xbf ∷ [])) ∷ ((0xc0 ∷ 0x80 ∷ [])) ∷ ((0xc1 ∷ 0xbf ∷ [])) ∷ ((0xc2 ∷ [])) ∷
+    ((0xc2 ∷ []) ++ bytes "A") ∷ ((0xe0 ∷ 0x9f ∷ 0xbf ∷ [])) ∷ ((0xe1 ∷ 0x80 ∷ [])) ∷ ((0xe1 ∷ 0x80 ∷ []) ++ bytes "A") ∷
+    ((0xf0 ∷ 0x90 ∷ 0x80 ∷ 0x80 ∷ [])) ∷ ((0xf4 ∷ 0x8f ∷ 0xbf ∷ 0xbf ∷ [])) ∷ ((0xf5 ∷ 0x80 ∷ 0x80 ∷ 0x80 ∷ [])) ∷ ((0xff ∷ [])) ∷
+    ((0xfe ∷ 0xff ∷ [])) ∷ ((0xe2 ∷ []) ++ bytes "(" ++ (0xa1 ∷ [])) ∷ ((0xf0 ∷ 0x9f ∷ 0x98 ∷ 0x80 ∷ [])) ∷ ((0xed ∷ 0xa0 ∷ 0x80 ∷ [])) ∷
+    (bytes "b\n") ∷ []
 
 bad-strings-told : map (λ s. tells (inString s)) badStrings ≡ map (λ s. refuseNoToken ∷ 5 ∷ []) badStrings
 unfolding from text scan step enter choose lexical lexFactored language factored go

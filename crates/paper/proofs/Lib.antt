@@ -19,3 +19,4 @@ pub mod Worked
 pub mod Examples
 pub mod ExamplesStops
 pub mod ExamplesText
+pub mod ExamplesSizes

@@ -1,7 +1,7 @@
 -- How a worked example is computed: the bytes of a text, and what the machine tells of it.
 use mathlib.Core.List.{List, [], _∷_, _++_}
 use Prim.Native.Nat.{ℕ, zero, suc, _*_}
-use Prim.Native.Char.{Char, code}
+use Prim.Native.Char.{code}
 use Prim.Native.String.{String, [] as empty, _∷_ as _then_}
 use lib.ListN.{replicate}
 use Rattle.paper.specs.Grammar.{nt}
