@@ -97,10 +97,22 @@ bracket-to o c n x x+ x* p p+ p* = (λ σ es d. by (first-of factored hits p) (b
 
 to-factored : Each (λ n. AdmitsAll factored n (language n)) changed
 unfolding language factored
-to-factored =
-    (selection-to, (field-to, (bracket-to (the bracketL) (the bracketR) ListValue Value Value+ Value* refl refl refl, (bracket-to (the braceL) (the braceR) ObjectValue ObjectField ObjectField+ ObjectField* refl refl refl,
-    (bracket-to (the bracketL) (the bracketR) ConstListValue ConstValue ConstValue+ ConstValue* refl refl refl,
-    (bracket-to (the braceL) (the braceR) ConstObjectValue ConstObjectField ConstObjectField+ ConstObjectField* refl refl refl, (type-to, tt)))))))
+to-factored = (
+  selection-to,
+  (
+    field-to,
+    (
+      bracket-to (the bracketL) (the bracketR) ListValue Value Value+ Value* refl refl refl,
+      (
+        bracket-to (the braceL) (the braceR) ObjectValue ObjectField ObjectField+ ObjectField* refl refl refl,
+        (
+          bracket-to (the bracketL) (the bracketR) ConstListValue ConstValue ConstValue+ ConstValue* refl refl refl,
+          (bracket-to (the braceL) (the braceR) ConstObjectValue ConstObjectField ConstObjectField+ ConstObjectField* refl refl refl, (type-to, tt)),
+        ),
+      ),
+    ),
+  ),
+)
 
 -- what the language's grammar admits
 field-from : AdmitsAll language Field (factored Field)
@@ -149,8 +161,10 @@ module _ (n : Part) (bare : (σ : Syms) (es : Evs) → Derives language hits (nt
 
 type-from : AdmitsAll language TypeRef (factored TypeRef)
 unfolding language factored
-type-from = (λ σ es d. type-go NamedType (λ σ es d. by (first-of language hits {n = TypeRef} refl) d) (λ σ es d. by (third-of language hits {n = TypeRef} refl) (by (first-of language hits {n = NonNullType} refl) d)) σ d,
-    (λ σ es d. type-go ListType (λ σ es d. by (second-of language hits {n = TypeRef} refl) d) (λ σ es d. by (third-of language hits {n = TypeRef} refl) (by (second-of language hits {n = NonNullType} refl) d)) σ d, tt))
+type-from = (
+  λ σ es d. type-go NamedType (λ σ es d. by (first-of language hits {n = TypeRef} refl) d) (λ σ es d. by (third-of language hits {n = TypeRef} refl) (by (first-of language hits {n = NonNullType} refl) d)) σ d,
+  (λ σ es d. type-go ListType (λ σ es d. by (second-of language hits {n = TypeRef} refl) d) (λ σ es d. by (third-of language hits {n = TypeRef} refl) (by (second-of language hits {n = NonNullType} refl) d)) σ d, tt),
+)
 
 bracket-from : (o c : Terminal) (n x x+ x* : Part) → language n ≡ (tm o ∷ tm c ∷ []) ∷ (tm o ∷ nt x+ ∷ tm c ∷ []) ∷ [] → language x+ ≡ (nt x ∷ nt x* ∷ []) ∷ [] → language x* ≡ [] ∷ (nt x ∷ nt x* ∷ []) ∷ [] →
     AdmitsAll language n ((tm o ∷ nt x* ∷ tm c ∷ []) ∷ [])
@@ -162,10 +176,22 @@ bracket-from o c n x x+ x* p p+ p* = (λ σ es d. go σ (bracket-out language hi
 
 to-language : Each (λ n. AdmitsAll language n (factored n)) changed
 unfolding language factored
-to-language =
-    (selection-from, (field-from, (bracket-from (the bracketL) (the bracketR) ListValue Value Value+ Value* refl refl refl, (bracket-from (the braceL) (the braceR) ObjectValue ObjectField ObjectField+ ObjectField* refl refl refl,
-    (bracket-from (the bracketL) (the bracketR) ConstListValue ConstValue ConstValue+ ConstValue* refl refl refl,
-    (bracket-from (the braceL) (the braceR) ConstObjectValue ConstObjectField ConstObjectField+ ConstObjectField* refl refl refl, (type-from, tt)))))))
+to-language = (
+  selection-from,
+  (
+    field-from,
+    (
+      bracket-from (the bracketL) (the bracketR) ListValue Value Value+ Value* refl refl refl,
+      (
+        bracket-from (the braceL) (the braceR) ObjectValue ObjectField ObjectField+ ObjectField* refl refl refl,
+        (
+          bracket-from (the bracketL) (the bracketR) ConstListValue ConstValue ConstValue+ ConstValue* refl refl refl,
+          (bracket-from (the braceL) (the braceR) ConstObjectValue ConstObjectField ConstObjectField+ ConstObjectField* refl refl refl, (type-from, tt)),
+        ),
+      ),
+    ),
+  ),
+)
 
 -- THE SAME: what one derives the other derives, with the same marks
 pub language→factored : {ss : Syms} {es : Evs} → Derives language hits ss es → Derives factored hits ss es
