@@ -8,6 +8,15 @@ pub mod LexTables
 pub mod LexChecked
 pub mod LexSame
 pub mod Lexing
+pub mod FromLaws
+pub mod TokensLaws
 pub mod Tables
 pub mod Checked
+pub mod SameLanguage
+pub mod ReadingLaws
 pub mod Going
+pub mod Worked
+pub mod Examples
+pub mod ExamplesStops
+pub mod ExamplesText
+pub mod ExamplesSizes
