@@ -9,7 +9,7 @@ use lib.Dec.{ltb}
 use lib.ListN.{set, getD}
 use lib.Seq.{sets}
 use Rattle.paper.specs.Grammar.{Sym, nt, tm, act, Ev, tok, mark}
-use Rattle.paper.specs.Numbers.{mostRows}
+use Rattle.paper.specs.Numbers.{mostLevels, mostRows}
 use Rattle.paper.specs.Language.{Class, Terminal, Mark, row, kind, named, wrapper, wrap, end, Part}
 use Rattle.paper.specs.Tokens.{Tok, Text, over, bad, token}
 use Rattle.paper.specs.Rows.{top, pop}
@@ -33,6 +33,10 @@ pub record State : Type 0 where
 
 abbrev pub st : List ℕ → ℕ → List ℕ → ℕ → ℕ → Counts → State
 st cells rows o stop left q = record { cells = cells; rows = rows; open′ = o; stop = stop; left = left; counts = q }
+
+-- before anything is read
+abbrev pub start : List ℕ → State
+start cells = st cells 0 [] 0 mostLevels (record { fragments = 0; variables = 0; wrappers = 0 })
 
 pub data Out : Type 0 where
   whole : State → Out

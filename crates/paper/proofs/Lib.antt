@@ -15,6 +15,15 @@ pub mod Checked
 pub mod SameLanguage
 pub mod ReadingLaws
 pub mod Going
+pub mod RowCells
+pub mod GoingRows
+pub mod Marks
+pub mod GoingSums
+pub mod GoingHeed
+pub mod Flaws
+pub mod GoingSaid
+pub mod SaidOne
+pub mod CallsOne
 pub mod Worked
 pub mod Examples
 pub mod ExamplesStops

@@ -530,7 +530,7 @@ module _ {N P C A : Type 0} {G : Tables N P C A} {follow : N → C → Bool} (F 
   derives-append {ss′} {fs} (by {n} {α} {ss} {es} m d) d′ = by m (rw append-assoc at (derives-append d d′))
 
   module _ (hit : (p : P) → (c : C) × T (G .hits p c)) (words : (n : N) → (es : List (Ev C A)) × Derives (G .prods) (G .hits) (nt n ∷ []) es) where
-    word : (σ : List (Sym N P A)) → (es : List (Ev C A)) × Derives (G .prods) (G .hits) σ es
+    pub word : (σ : List (Sym N P A)) → (es : List (Ev C A)) × Derives (G .prods) (G .hits) σ es
     word [] = ([], done)
     word (tm p ∷ σ) = (tok (hit p .0) ∷ word σ .0, take (hit p .1) (word σ .1))
     word (act a ∷ σ) = (mark a ∷ word σ .0, note (word σ .1))
