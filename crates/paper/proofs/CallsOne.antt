@@ -1,10 +1,10 @@
 -- One thing only may a call answer and leave in its buffers.
 use mathlib.Core.Path.{_≡_, refl, sym, ap, _∙_, subst}
 use mathlib.Core.List.{List, [], _∷_}
-use Prim.Native.Nat.{ℕ, _≤_, _<_}
+use Prim.Native.Nat.{ℕ}
 use native.Mathlib.Omega.{arith}
 use lib.ListN.{length}
-use Rattle.paper.specs.Numbers.{reportSize, rowsSize, mostText, accepted}
+use Rattle.paper.specs.Numbers.{reportSize, rowsSize, accepted}
 use Rattle.paper.specs.Language.{Document}
 use Rattle.paper.specs.Tokens.{Text, Tokens}
 use Rattle.paper.specs.Rows.{Row, flat}

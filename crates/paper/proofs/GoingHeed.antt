@@ -1,9 +1,8 @@
 -- What the reader's machine counts are the sums, and at each token it heeds them: levels, then rows, then the other counts.
 use mathlib.Core.Path.{_≡_, refl, sym, ap, _∙_, subst}
-use mathlib.Core.Bool.{Bool, true, false, cond}
+use mathlib.Core.Bool.{Bool, true, false}
 use mathlib.Core.List.{List, [], _∷_, cons≢nil}
-use Prim.Native.Nat.{ℕ, zero, suc, _+_, _-_, _≤_}
-use native.Mathlib.Nat.{not-suc-le-zero}
+use Prim.Native.Nat.{ℕ, zero, suc, _+_, _≤_}
 use native.Mathlib.Omega.{arith}
 use lib.Dec.{T, ltb, ltb→lt, lt→ltb}
 use Rattle.paper.specs.Grammar.{Ev, tok, mark, toks}
@@ -11,7 +10,6 @@ use Rattle.paper.specs.Numbers.{mostLevels, mostRows}
 use Rattle.paper.specs.Language.{Class, Mark, row, kind, named, wrapper, wrap, end}
 use Rattle.paper.specs.Tokens.{Tok, Text}
 use Rattle.paper.specs.Sizes.{Sums, opens, closes, kinded, wrapperMore, leveled, counted, sums, overLevels, overRows, overCounts}
-use Rattle.paper.specs.declared.Refusal.{Refusal}
 use Rattle.paper.specs.declared.Refusal.the-variants.{TooDeep, TooManyRows, TooMany}
 use Rattle.paper.proofs.Going.{State, st, Out, halt, noted, marked, deep, many, heed}
 

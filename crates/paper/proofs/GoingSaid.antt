@@ -1,20 +1,20 @@
 -- What the reader's machine answers is what `Reading` says of the text: its rows where it has no fault, or else the least of its faults.
 use mathlib.Core.Path.{_≡_, refl, sym, ap, _∙_, subst, subst₂}
-use mathlib.Core.List.{List, [], _∷_, _++_, map}
-use mathlib.Core.Logic.{_⊎_, inl, inr}
-use mathlib.Core.Option.{Option, none, some}
-use Prim.Native.Nat.{ℕ, zero, suc, _*_, _≤_, _<_}
+use mathlib.Core.List.{List, [], _∷_, _++_}
+use mathlib.Core.Logic.{inl, inr}
+use mathlib.Core.Option.{none, some}
+use Prim.Native.Nat.{ℕ, suc, _*_, _≤_, _<_}
 use native.Mathlib.Nat.{le-refl}
 use native.Mathlib.Omega.{arith}
 use lib.Dec.{T, ltb, nltb→le, not-T}
 use lib.ListN.{length, take}
 use Rattle.paper.specs.Grammar.{nt, Ev, tok, toks, Derives}
-use Rattle.paper.specs.Numbers.{mostLevels, mostRows, rowSize, rowsSize}
+use Rattle.paper.specs.Numbers.{mostRows, rowSize, rowsSize}
 use Rattle.paper.specs.Language.{Class, Terminal, hits, Mark, Part}
 use Rattle.paper.specs.Tokens.{Tok, Text, over, bad, token}
 use Rattle.paper.specs.Rows.{Row, Book, blank, book, taken, rowsOf, flat}
 use Rattle.paper.specs.Sizes.{Sums, nothing, closes, leveled, counted, sums, overLevels, overRows, overCounts}
-use Rattle.paper.specs.Reading.{tokensOf, classesOf, placeOf, Whole, whole-over, whole-token, BadAt, bad-here, bad-later, Fault, offsetOf, NoLater, rows-are, refuses, Said, accepts, refused}
+use Rattle.paper.specs.Reading.{tokensOf, classesOf, placeOf, Whole, whole-over, whole-token, bad-here, bad-later, offsetOf, NoLater, rows-are, refuses, Said, accepts, refused}
 use Rattle.paper.specs.declared.Refusal.{Refusal}
 use Rattle.paper.specs.declared.Refusal.the-variants.{NoToken, NoGoing, TooDeep, TooManyRows, TooMany}
 use Rattle.paper.proofs.Machine.{Step, took, emptied, refused as refuses-it, spent, step}
@@ -25,7 +25,7 @@ use Rattle.paper.proofs.SameLanguage.{factored→language}
 use Rattle.paper.proofs.Going.{Stack, State, st, start, Out, whole, halt, marked, heed, ended, goes, go}
 use Rattle.paper.proofs.GoingRows.{Holds, holds-marked, holds-ended, holds-taken, holds-blank, book-step, marked-last}
 use Rattle.paper.proofs.Marks.{Sober, derives-sober, sober-later, sober-quiet, Level, derives-level, level-step}
-use Rattle.paper.proofs.GoingSums.{Ends, step-last, sums-append, took-before, took-reads, some-word}
+use Rattle.paper.proofs.GoingSums.{step-last, sums-append, took-before, took-reads, some-word}
 use Rattle.paper.proofs.GoingHeed.{Tracks, tracks-marked, sums-levels, Heeded, over-deep, over-rows, over-counts, well, heeds}
 use Rattle.paper.proofs.Flaws.{Flaw, stray, short, unfit, deeper, rowed, many, onward, flaw-place, flaw-fault, fault-flaw, NotTook, NotEmptied}
 

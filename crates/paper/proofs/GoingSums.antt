@@ -1,17 +1,16 @@
 -- The sums of a text, token by token: a step of the machine writes marks and then its token, and those are the events of every derivation there.
 use mathlib.Core.Path.{_≡_, refl, sym, ap, _∙_, subst}
-use mathlib.Core.Bool.{Bool, true, false, cond}
-use mathlib.Core.List.{List, [], _∷_, _++_, append-assoc, append-nil, cons≢nil, tail-eq-of-cons-eq, head-eq-of-cons-eq}
+use mathlib.Core.Bool.{Bool, true, false}
+use mathlib.Core.List.{List, [], _∷_, _++_, append-assoc, cons≢nil}
 use mathlib.Core.Option.{Option, none, some}
-use Prim.Native.Nat.{ℕ, zero, suc, _+_, _-_, _≤_, _<_}
+use Prim.Native.Nat.{ℕ, zero, suc, _<_}
 use native.Mathlib.Omega.{arith}
-use lib.Dec.{T, ltb}
 use lib.ListN.{length, take as takeN}
 use Rattle.paper.specs.Grammar.{Sym, nt, tm, act, Ev, tok, mark, toks, Derives}
 use Rattle.paper.specs.Language.{Class, Terminal, hits, Mark, Part}
-use Rattle.paper.specs.Sizes.{Counts, Sums, nothing, opens, closes, leveled, counted, sums, through, overLevels, overRows, overCounts}
-use Rattle.paper.proofs.Machine.{Tables, Step, took, emptied, refused, spent, takeIf, takeAt, _▸_, andThen, choose, over, onward, enter, step}
-use Rattle.paper.proofs.Theory.{Kept, Sound, step-sound, took-derives, took-toks, complete-step, kept-step, word}
+use Rattle.paper.specs.Sizes.{Sums, counted, sums, through}
+use Rattle.paper.proofs.Machine.{Tables, Step, took, emptied, refused, spent, takeIf, _▸_, andThen, choose, over, onward, enter, step}
+use Rattle.paper.proofs.Theory.{Kept, Sound, step-sound, took-derives, took-toks, complete-step, word}
 use Rattle.paper.proofs.Tables.{graphql, factored}
 use Rattle.paper.proofs.Going.{Stack}
 use Rattle.paper.proofs.Checked.{fits, follow, a-token, words}
