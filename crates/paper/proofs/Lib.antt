@@ -24,6 +24,7 @@ pub mod Flaws
 pub mod GoingSaid
 pub mod SaidOne
 pub mod CallsOne
+pub mod CallsGoing
 pub mod Worked
 pub mod Examples
 pub mod ExamplesStops
