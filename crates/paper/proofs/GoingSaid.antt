@@ -44,7 +44,7 @@ unfolding tokensOf placeOf
 rising-later k t f = λ i j h b. f (suc i) (suc j) (omega arith) (omega arith)
 
 -- what a stack derives closes only what is open, and its last marks look at no token
-pub record Sound′ (l : ℕ) (σ : Stack) : Type 0 where
+pub record Steady (l : ℕ) (σ : Stack) : Type 0 where
   pub levels : (es : Evs) → Derives factored hits σ es → Level l es
   pub sober : (es : Evs) → Derives factored hits σ es → Sober es
 
@@ -156,18 +156,18 @@ module _ (m : Sums) (σ σ′ : Stack) (k : Tok) (t : Text) (fs : Evs) (q : step
   levels-are : sums fs m .levels ≡ leveled (k .class) (m .levels)
   levels-are = ap (λ (z : Sums). z .levels) (sym sums-are) ∙ ap (leveled (k .class)) (sums-levels ms m ms-marks)
 
-  sound-level : Sound′ (m .levels) σ → (gs : Evs) → Derives factored hits σ′ gs → (T (closes (k .class)) → 1 ≤ m .levels) × Level (leveled (k .class) (m .levels)) gs
+  sound-level : Steady (m .levels) σ → (gs : Evs) → Derives factored hits σ′ gs → (T (closes (k .class)) → 1 ≤ m .levels) × Level (leveled (k .class) (m .levels)) gs
   sound-level h gs d =
       level-step ms gs (k .class) (m .levels) ms-marks (subst (λ (z : Evs). Level (m .levels) (z ++ gs)) fs-are (h .levels (fs ++ gs) (took-before (k .class) σ σ′ fs gs q d)))
 
-  sound-on : Sound′ (m .levels) σ → Sound′ (sums fs m .levels) σ′
+  sound-on : Steady (m .levels) σ → Steady (sums fs m .levels) σ′
   sound-on h =
       record {
         levels = λ gs d. subst (λ (z : ℕ). Level z gs) (sym levels-are) (sound-level h gs d .1);
         sober = λ gs d. sober-later fs gs (h .sober (fs ++ gs) (took-before (k .class) σ σ′ fs gs q d));
       }
 
-  closed-open : Sound′ (m .levels) σ → T (closes (k .class)) → 1 ≤ sums ms m .levels
+  closed-open : Steady (m .levels) σ → T (closes (k .class)) → 1 ≤ sums ms m .levels
   closed-open h c = let w = some-word σ′ in rw (sums-levels ms m ms-marks) (sound-level h (w .0) (w .1) .0 c)
 
   -- the rows of what comes after are those of the whole
@@ -188,13 +188,13 @@ module _ (m : Sums) (σ σ′ : Stack) (k : Tok) (t : Text) (fs : Evs) (q : step
         clean = λ r z. a .clean r (on-flaw d w c r z);
       }
 
-  taken-judged : (s : State) → Tracks s m → Sound′ (m .levels) σ → ((s′ : State) → Tracks s′ (sums fs m) → Judged (sums fs m) σ′ t s′ (go s′ σ′ t)) →
+  taken-judged : (s : State) → Tracks s m → Steady (m .levels) σ → ((s′ : State) → Tracks s′ (sums fs m) → Judged (sums fs m) σ′ t s′ (go s′ σ′ t)) →
       Judged m σ (token k t) s (heed k (marked fs (token k t) s) (λ s′. go s′ σ′ t))
   taken-judged s tr snd ih =
       subst (λ (z : State). Judged m σ (token k t) s (heed k z (λ s′. go s′ σ′ t))) (sym (marked-are s))
       (cases (heed k s₁ (λ s′. go s′ σ′ t))
-        (subst (λ (z : Sums). Heeded k s₁ z (λ s′. go s′ σ′ t) (heed k s₁ (λ s′. go s′ σ′ t))) sums-are
-          (heeds k s₁ (sums ms m) (λ s′. go s′ σ′ t) (tracks-marked ms (token k t) s m ms-marks tr) (closed-open snd))))
+      (subst (λ (z : Sums). Heeded k s₁ z (λ s′. go s′ σ′ t) (heed k s₁ (λ s′. go s′ σ′ t))) sums-are
+      (heeds k s₁ (sums ms m) (λ s′. go s′ σ′ t) (tracks-marked ms (token k t) s m ms-marks tr) (closed-open snd))))
     where
       s₁ : State
       s₁ = marked ms (token k t) s
@@ -219,7 +219,7 @@ end-least m σ n f = (short f, least)
     least : (r : Refusal) → Flaw m σ (over n) r → NoLater (NoGoing n) r
     least r (short g) = inr (refl, le-refl 4)
 
-end-judged : (m : Sums) (σ : Stack) (n : ℕ) (s : State) → Sound′ (m .levels) σ → Judged m σ (over n) s (ended s n (step graphql σ none))
+end-judged : (m : Sums) (σ : Stack) (n : ℕ) (s : State) → Steady (m .levels) σ → Judged m σ (over n) s (ended s n (step graphql σ none))
 unfolding tokensOf
 end-judged m σ n s snd = by-step (step graphql σ none) refl (step-sound fits σ none)
   where
@@ -247,15 +247,15 @@ bad-least m σ n = (stray bad-here, least)
     least r (stray bad-here) = inr (refl, le-refl 3)
 
 -- WHAT `go` ANSWERS
-judged : (t : Text) (m : Sums) (σ : Stack) (s : State) → Tracks s m → Sound′ (m .levels) σ → Judged m σ t s (go s σ t)
+judged : (t : Text) (m : Sums) (σ : Stack) (s : State) → Tracks s m → Steady (m .levels) σ → Judged m σ t s (go s σ t)
 unfolding go
 judged (over n) m σ s tr snd = end-judged m σ n s snd
 judged (bad n) m σ s tr snd = λ rise. bad-least m σ n
 judged (token k t) m σ s tr snd =
-    by-step (step graphql σ (some (k .class))) refl (λ (m′ : Sums) (σ′ : Stack) (s′ : State) (tr′ : Tracks s′ m′) (snd′ : Sound′ (m′ .levels) σ′). judged t m′ σ′ s′ tr′ snd′)
+    by-step (step graphql σ (some (k .class))) refl (λ (m′ : Sums) (σ′ : Stack) (s′ : State) (tr′ : Tracks s′ m′) (snd′ : Steady (m′ .levels) σ′). judged t m′ σ′ s′ tr′ snd′)
   where
     by-step : (r : Steps) → step graphql σ (some (k .class)) ≡ r →
-        ((m′ : Sums) (σ′ : Stack) (s′ : State) → Tracks s′ m′ → Sound′ (m′ .levels) σ′ → Judged m′ σ′ t s′ (go s′ σ′ t)) → Judged m σ (token k t) s (goes s k t (λ s′ σ′. go s′ σ′ t) r)
+        ((m′ : Sums) (σ′ : Stack) (s′ : State) → Tracks s′ m′ → Steady (m′ .levels) σ′ → Judged m′ σ′ t s′ (go s′ σ′ t)) → Judged m σ (token k t) s (goes s k t (λ s′ σ′. go s′ σ′ t) r)
     by-step (took fs σ′) q ih = taken-judged m σ σ′ k t fs q s tr snd (λ s′ tr′. ih (sums fs m) σ′ s′ tr′ (sound-on m σ σ′ k t fs q snd))
     by-step (emptied fs) q ih = unfit-least m σ k t (λ gs σ′ p. took≢emptied (sym p ∙ q))
     by-step refuses-it q ih = unfit-least m σ k t (λ gs σ′ p. took≢refused (sym p ∙ q))
@@ -264,7 +264,7 @@ judged (token k t) m σ s tr snd =
 start-tracks : (cells : List ℕ) → Tracks (start cells) nothing
 start-tracks cells = record { rows-are = refl; counts-are = refl; levels-are = refl }
 
-part-sound : (n : Part) → Sound′ 0 (nt n ∷ [])
+part-sound : (n : Part) → Steady 0 (nt n ∷ [])
 part-sound n = record { levels = λ es d. derives-level d; sober = λ es d. derives-sober d }
 
 -- the rows of a text that is read through
@@ -275,9 +275,14 @@ going-whole n t cells s e q =
     let j : Judged nothing (nt n ∷ []) t (start cells) (whole s) = subst (λ (o : Out). Judged nothing (nt n ∷ []) t (start cells) o) q (judged t nothing (nt n ∷ []) (start cells) (start-tracks cells) (part-sound n)) in
     let r = j blank (holds-blank (start cells) e refl refl refl) in
     let h = r .holds in
-    let count = h .stand .count in
-    (rowsOf (r .events) (tokensOf t), accepts (r .wholly) (factored→language (r .derives), r .reads) (λ z f. r .clean z (fault-flaw n t f)), count, (let w = h .within in omega arith),
-    ap (λ (z : ℕ). take (rowSize * z) (s .cells)) (sym count) ∙ h .stand .are, h .size)
+    let count = h .stand .count in (
+      rowsOf (r .events) (tokensOf t),
+      accepts (r .wholly) (factored→language (r .derives), r .reads) (λ z f. r .clean z (fault-flaw n t f)),
+      count,
+      (let w = h .within in omega arith),
+      ap (λ (z : ℕ). take (rowSize * z) (s .cells)) (sym count) ∙ h .stand .are,
+      h .size,
+    )
 
 -- the refusal of a text that is not
 pub going-halt : (n : Part) (t : Text) → Rising t → (cells : List ℕ) (r : Refusal) → go (start cells) (nt n ∷ []) t ≡ halt r → Said n t (refuses r)

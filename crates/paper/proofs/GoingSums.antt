@@ -149,12 +149,16 @@ summed-first c ts σ m s k h =
 pub summed-next : (c : Class) (ts : List Class) (σ : Stack) (m s : Sums) (j : ℕ) → Kept graphql follow σ → SummedBy σ m (c ∷ ts) (suc j) s →
     (fs : Evs) × (σ′ : Stack) × (step graphql σ (some c) ≡ took fs σ′) × SummedBy σ′ (sums fs m) ts j s
 summed-next c ts σ m s j k h =
-    let r = complete-step fits (h .derives) k (h .reads) in
-    (r .0, r .1, r .3, record {
-      inside = let i = h .inside in omega arith;
-      later = h .later;
-      events = r .2;
-      derives = r .4;
-      reads = r .7;
-      are = sym (sums-step c (r .0) (r .2) (suc j) m (step-last graphql c σ (r .3))) ∙ ap (λ (z : Evs). sums (through (suc (suc j)) z) m) (sym (r .6)) ∙ h .are;
-    })
+    let r = complete-step fits (h .derives) k (h .reads) in (
+      r .0,
+      r .1,
+      r .3,
+      record {
+        inside = let i = h .inside in omega arith;
+        later = h .later;
+        events = r .2;
+        derives = r .4;
+        reads = r .7;
+        are = sym (sums-step c (r .0) (r .2) (suc j) m (step-last graphql c σ (r .3))) ∙ ap (λ (z : Evs). sums (through (suc (suc j)) z) m) (sym (r .6)) ∙ h .are;
+      },
+    )
