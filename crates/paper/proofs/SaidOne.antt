@@ -1,11 +1,14 @@
--- One thing only is said of a text.
+-- Something is said of every text, and one thing only.
 use mathlib.Core.Path.{_≡_, refl, sym, ap, _∙_}
 use mathlib.Core.Logic.{inl, inr}
+use mathlib.Core.List.{List, [], _∷_}
 use mathlib.Core.Bool.{cond}
 use Prim.Native.Nat.{ℕ}
 use native.Mathlib.Omega.{arith}
 use lib.Dec.{eqb}
-use Rattle.paper.specs.Numbers.{refuseNoToken, refuseNoGoing, refuseTooDeep, refuseTooManyRows}
+use lib.ListN.{length, replicate, length-replicate}
+use Rattle.paper.specs.Grammar.{nt}
+use Rattle.paper.specs.Numbers.{refuseNoToken, refuseNoGoing, refuseTooDeep, refuseTooManyRows, rowsSize}
 use Rattle.paper.specs.Language.{Part}
 use Rattle.paper.specs.Tokens.{Text}
 use Rattle.paper.specs.Rows.{rowsOf}
@@ -14,6 +17,8 @@ use Rattle.paper.specs.Refusals.{numberOf}
 use Rattle.paper.specs.declared.Refusal.{Refusal}
 use Rattle.paper.specs.declared.Refusal.the-variants.{NoToken, NoGoing, TooDeep, TooManyRows, TooMany}
 use Rattle.paper.proofs.ReadingLaws.{one-reading}
+use Rattle.paper.proofs.Going.{start, Out, whole, halt, go}
+use Rattle.paper.proofs.GoingSaid.{Rising, going-whole, going-halt}
 
 -- a fault is known by its number and its offset
 numbered : ℕ → ℕ → Refusal
@@ -46,3 +51,14 @@ said-one {n} {t} (accepts {es} w d c) (accepts {es = fs} w′ d′ c′) = ap (�
 said-one (accepts w d c) (refused {r} f l) = absurd (c r f)
 said-one (refused {r} f l) (accepts w d c) = absurd (c r f)
 said-one (refused {r} f l) (refused {r = r′} f′ l′) = ap refuses (one-refusal r r′ f f′ (l r′ f′) (l′ r f))
+
+-- and something is said of every text: what the machine answers
+pub said-some : (n : Part) (t : Text) → Rising t → (a : Answer) × Said n t a
+said-some n t rise = of-cells (replicate rowsSize 0) (length-replicate {A = ℕ} rowsSize 0)
+  where
+    of-cells : (cells : List ℕ) → length cells ≡ rowsSize → (a : Answer) × Said n t a
+    of-cells cells e = of-answer (go (start cells) (nt n ∷ []) t) refl
+      where
+        of-answer : (o : Out) → go (start cells) (nt n ∷ []) t ≡ o → (a : Answer) × Said n t a
+        of-answer (whole s) q = let g = going-whole n t cells s e q in (rows-are (g .0), g .1)
+        of-answer (halt r) q = (refuses r, going-halt n t rise cells r q)
