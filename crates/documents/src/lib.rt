@@ -40,6 +40,13 @@ use tokens::WORD_MUTATION;
 use tokens::WORD_OTHER;
 use tokens::WORD_QUERY;
 use tokens::WORD_SUBSCRIPTION;
+ghost use mathlib.Core.Path.{_≡_};
+ghost use Prim.Native.Nat.{_+_, _-_, _≤_, _<_};
+ghost use lib.ListN.{length};
+ghost use Rattle.paper.specs.Numbers.{mostText, rowsSize};
+ghost use Rattle.paper.specs.Language.{Document, VariablesText};
+ghost use Rattle.reader.specs.Reader.{Ready, Said};
+ghost use Rattle.documents.specs.Documents.{Ended};
 
 // Where a type reference has been read to: the cursor, its wrappers so far, and how many marks they are.
 pub struct Wrapped {
@@ -390,7 +397,7 @@ fn fragment_rest(s: &[u8], rows: &mut [u32], c: Cursor, n: u32) -> Read
     if names_fragment(s, d) {
         return no_going(d);
     }
-    let t = condition(s, rows, d, n);
+    let t = condition(s, rows, d, n, MOST_LEVELS);
     let Read::Done(e) = t else {
         return t;
     };
@@ -446,6 +453,8 @@ fn begin(s: &[u8]) -> Read
 
 // Document: the rows are written, and the answer's cursor counts them
 pub fn document(s: &[u8], rows: &mut [u32]) -> Read
+    requires { ⌜ (length (now s) ≤ mostText) × (length (now rows) ≡ rowsSize) ⌝ }
+    ensures { λ r. ⌜ Ended Document (now (s .entry)) (now (rows .entry)) (now (rows .exit)) r ⌝ }
 {
     let r = begin(s);
     let Read::Done(first) = r else {
@@ -468,6 +477,8 @@ pub fn document(s: &[u8], rows: &mut [u32]) -> Read
 
 // VariablesText: one constant object value
 pub fn variables_text(s: &[u8], rows: &mut [u32]) -> Read
+    requires { ⌜ (length (now s) ≤ mostText) × (length (now rows) ≡ rowsSize) ⌝ }
+    ensures { λ r. ⌜ Ended VariablesText (now (s .entry)) (now (rows .entry)) (now (rows .exit)) r ⌝ }
 {
     let r = begin(s);
     let Read::Done(first) = r else {
@@ -476,7 +487,7 @@ pub fn variables_text(s: &[u8], rows: &mut [u32]) -> Read
     if first.kind != TOKEN_BRACE_OPEN {
         return no_going(first);
     }
-    let t = values::object(s, rows, first, NO_PARENT, MOST_LEVELS, true);
+    let t = values::value(s, rows, first, NO_PARENT, MOST_LEVELS, true);
     let Read::Done(d) = t else {
         return t;
     };

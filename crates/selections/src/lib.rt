@@ -22,6 +22,11 @@ use tokens::TOKEN_PAREN_OPEN;
 use tokens::TOKEN_SPREAD;
 use tokens::WORD_ON;
 use values::entry;
+ghost use mathlib.Core.Path.{_≡_};
+ghost use Prim.Native.Nat.{_+_, _-_, _≤_, _<_};
+ghost use lib.ListN.{length, take, drop};
+ghost use Rattle.reader.specs.Reader.{Ready, Said};
+ghost use Rattle.selections.specs.Selections.{namesFragment, selectionSetStack, directivesStack, conditionStack, AtOn};
 
 // Arguments, at their (
 fn arguments(s: &[u8], rows: &mut [u32], c: Cursor, parent: u32, left: u32) -> Read
@@ -86,6 +91,8 @@ fn directive(s: &[u8], rows: &mut [u32], c: Cursor, parent: u32, left: u32) -> R
 
 // Directives, or none
 pub fn directives_if(s: &[u8], rows: &mut [u32], c: Cursor, parent: u32, left: u32) -> Read
+    requires { ⌜ Ready (now s) (now rows) c parent ⌝ }
+    ensures { λ r. ⌜ Said 0 (now (s .entry)) (now (rows .entry)) (now (rows .exit)) c parent left directivesStack r ⌝ }
 {
     let mut d = c;
     loop {
@@ -101,7 +108,9 @@ pub fn directives_if(s: &[u8], rows: &mut [u32], c: Cursor, parent: u32, left: u
 }
 
 // TypeCondition, at its `on`
-pub fn condition(s: &[u8], rows: &mut [u32], c: Cursor, parent: u32) -> Read
+pub fn condition(s: &[u8], rows: &mut [u32], c: Cursor, parent: u32, left: u32) -> Read
+    requires { ⌜ Ready (now s) (now rows) c parent × AtOn (now s) c ⌝ }
+    ensures { λ r. ⌜ Said 1 (now (s .entry)) (now (rows .entry)) (now (rows .exit)) c parent left conditionStack r ⌝ }
 {
     let n = c.rows;
     let r = c.past(s, n);
@@ -186,7 +195,7 @@ fn inline_head(s: &[u8], rows: &mut [u32], c: Cursor, parent: u32, left: u32, n:
 {
     put_row(rows, n, KIND_INLINE, start, 0, parent, 0, 0, 0);
     if c.kind == TOKEN_NAME {
-        let r = condition(s, rows, c, n);
+        let r = condition(s, rows, c, n, left);
         let Read::Done(d) = r else {
             return r;
         };
@@ -197,6 +206,8 @@ fn inline_head(s: &[u8], rows: &mut [u32], c: Cursor, parent: u32, left: u32, n:
 
 // SelectionSet; no other token than { goes on
 pub fn selection_set(s: &[u8], rows: &mut [u32], c: Cursor, parent: u32, left: u32) -> Read
+    requires { ⌜ Ready (now s) (now rows) c parent ⌝ }
+    ensures { λ r. ⌜ Said 1 (now (s .entry)) (now (rows .entry)) (now (rows .exit)) c parent left selectionSetStack r ⌝ }
 {
     if c.kind != TOKEN_BRACE_OPEN {
         return no_going(c);
@@ -273,6 +284,8 @@ fn spread(s: &[u8], rows: &mut [u32], c: Cursor, parent: u32, left: u32) -> Read
 
 // Whether the token looked at is a fragment's name: any but `on`
 pub fn names_fragment(s: &[u8], c: Cursor) -> bool
+    requires { ⌜ (c .start ≤ c .end) × (c .end ≤ length (now s)) ⌝ }
+    ensures { λ r. ⌜ r ≡ namesFragment (now (s .entry)) c ⌝ }
 {
     if c.kind == TOKEN_NAME {
         return tokens::word(s, c.start as usize, c.end as usize) != WORD_ON;

@@ -162,7 +162,7 @@ fn list(s: &[u8], rows: &mut [u32], c: Cursor, parent: u32, left: u32, constant:
 }
 
 // ObjectValue, at its {
-pub fn object(s: &[u8], rows: &mut [u32], c: Cursor, parent: u32, left: u32, constant: bool) -> Read
+fn object(s: &[u8], rows: &mut [u32], c: Cursor, parent: u32, left: u32, constant: bool) -> Read
 {
     if left == 0 {
         return Read::Refused(Refusal::TooDeep(c.start));

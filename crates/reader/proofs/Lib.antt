@@ -1,0 +1,3 @@
+pub mod ReaderLaws
+pub mod Steps
+pub mod Cells

@@ -1,0 +1,33 @@
+-- The symbols that the readers of selections read, and what they ask of their tokens.
+use mathlib.Core.Path.{_≡_}
+use mathlib.Core.Bool.{Bool, _&&_, not}
+use mathlib.Core.List.{List, [], _∷_}
+use Prim.Native.Nat.{ℕ, _-_}
+use lib.Dec.{eqb}
+use lib.ListN.{take, drop}
+use Rattle.paper.specs.Grammar.{nt}
+use Rattle.paper.specs.Language.{SelectionSet, Directives?, TypeCondition}
+use Rattle.paper.proofs.Going.{Stack}
+use Rattle.tokens.specs.Head.{wordOf}
+use Rattle.reader.specs.declared.Cursor.{Cursor}
+
+-- the bytes of the token that a cursor looks at
+abbrev pub bytesAt : List ℕ → Cursor → List ℕ
+bytesAt s c = take (c .end - c .start) (drop (c .start) s)
+
+-- the token looked at is a name, and is not `on`
+abbrev pub namesFragment : List ℕ → Cursor → Bool
+namesFragment s c = eqb (c .kind) 1 && not (eqb (wordOf (bytesAt s c)) 5)
+
+-- the token looked at is the name `on`
+abbrev pub AtOn : List ℕ → Cursor → Type 0
+AtOn s c = (c .kind ≡ 1) × (wordOf (bytesAt s c) ≡ 5)
+
+abbrev pub selectionSetStack : Stack
+selectionSetStack = nt SelectionSet ∷ []
+
+abbrev pub directivesStack : Stack
+directivesStack = nt Directives? ∷ []
+
+abbrev pub conditionStack : Stack
+conditionStack = nt TypeCondition ∷ []
