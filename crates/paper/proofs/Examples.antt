@@ -4,6 +4,7 @@ use mathlib.Core.Path.{_≡_, refl}
 use mathlib.Core.List.{List, [], _∷_, _++_, map}
 use Prim.Native.Nat.{ℕ}
 use lib.ListN.{length}
+use lib.Dec.{T}
 use Rattle.paper.specs.Language.{Part, language, Document, VariablesText}
 use Rattle.paper.specs.Lexical.{lexical}
 use Rattle.paper.specs.Numbers.{accepted}
@@ -15,7 +16,7 @@ use Rattle.paper.proofs.Tables.{factored}
 use Rattle.paper.proofs.LexTables.{lexFactored}
 use Rattle.paper.proofs.Lexing.{text, from}
 use Rattle.paper.proofs.Going.{go}
-use Rattle.paper.proofs.Worked.{bytes, reads, rowsBy, r}
+use Rattle.paper.proofs.Worked.{bytes, agree, reads, rowsBy, r}
 
 -- a text and its rows
 abbrev Case : Type 0
@@ -93,13 +94,13 @@ documents = (
 ) ∷
     []
 
-documents-read : map (given Document) documents ≡ map due documents
+documents-read : T (agree (given Document) due documents)
 unfolding from text scan step enter choose lexical lexFactored language factored go flat
-documents-read = refl
+documents-read = tt
 
-documents-derived : map (λ c. rowsBy Document (c .0)) documents ≡ map (λ c. c .1) documents
-unfolding from text scan step enter choose lexical lexFactored language factored run rowsOf book tokensOf
-documents-derived = refl
+documents-derived : T (agree (λ c. flat (rowsBy Document (c .0))) (λ c. flat (c .1)) documents)
+unfolding from text scan step enter choose lexical lexFactored language factored run rowsOf book tokensOf flat
+documents-derived = tt
 
 -- a directive's row; what is ignored is outside; an object as a constant; words are names
 abbrev small : List Case
@@ -129,13 +130,9 @@ small = (
 ) ∷
     []
 
-small-read : map (given Document) small ≡ map due small
+small-read : T (agree (given Document) due small)
 unfolding from text scan step enter choose lexical lexFactored language factored go flat
-small-read = refl
-
-small-derived : map (λ c. rowsBy Document (c .0)) small ≡ map (λ c. c .1) small
-unfolding from text scan step enter choose lexical lexFactored language factored run rowsOf book tokensOf
-small-derived = refl
+small-read = tt
 
 -- each kind of constant as a default value
 abbrev constants : List Case
@@ -167,13 +164,9 @@ constants = (
 ) ∷
     []
 
-constants-read : map (given Document) constants ≡ map due constants
+constants-read : T (agree (given Document) due constants)
 unfolding from text scan step enter choose lexical lexFactored language factored go flat
-constants-read = refl
-
-constants-derived : map (λ c. rowsBy Document (c .0)) constants ≡ map (λ c. c .1) constants
-unfolding from text scan step enter choose lexical lexFactored language factored run rowsOf book tokensOf
-constants-derived = refl
+constants-read = tt
 
 -- type references: the wrappers from outside in
 abbrev wrappers : List Case
@@ -210,13 +203,13 @@ wrappers = (
 ) ∷
     []
 
-wrappers-read : map (given Document) wrappers ≡ map due wrappers
+wrappers-read : T (agree (given Document) due wrappers)
 unfolding from text scan step enter choose lexical lexFactored language factored go flat
-wrappers-read = refl
+wrappers-read = tt
 
-wrappers-derived : map (λ c. rowsBy Document (c .0)) wrappers ≡ map (λ c. c .1) wrappers
-unfolding from text scan step enter choose lexical lexFactored language factored run rowsOf book tokensOf
-wrappers-derived = refl
+wrappers-derived : T (agree (λ c. flat (rowsBy Document (c .0))) (λ c. flat (c .1)) wrappers)
+unfolding from text scan step enter choose lexical lexFactored language factored run rowsOf book tokensOf flat
+wrappers-derived = tt
 
 -- the variables text: the object is row 0, its first entry row 1, that entry's value row 2
 abbrev variables : List Case
@@ -226,13 +219,9 @@ variables = (
 ) ∷
     []
 
-variables-read : map (given VariablesText) variables ≡ map due variables
+variables-read : T (agree (given VariablesText) due variables)
 unfolding from text scan step enter choose lexical lexFactored language factored go flat
-variables-read = refl
-
-variables-derived : map (λ c. rowsBy VariablesText (c .0)) variables ≡ map (λ c. c .1) variables
-unfolding from text scan step enter choose lexical lexFactored language factored run rowsOf book tokensOf
-variables-derived = refl
+variables-read = tt
 
 -- no variable in it, and nothing behind it
 variables-stop : map (reads VariablesText 0) (bytes "{x:$x}" ∷ bytes "{} {}" ∷ []) ≡ (4 ∷ 3 ∷ []) ∷ (4 ∷ 3 ∷ []) ∷ []

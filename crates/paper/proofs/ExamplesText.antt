@@ -4,6 +4,7 @@ use mathlib.Core.Path.{_≡_, refl}
 use mathlib.Core.List.{List, [], _∷_, _++_, map}
 use Prim.Native.Nat.{ℕ}
 use Prim.Native.String.{String}
+use lib.Dec.{T}
 use Rattle.paper.specs.Numbers.{accepted, refuseNoToken}
 use Rattle.paper.specs.Tokens.{Text, over, bad, token}
 use Rattle.paper.specs.Language.{Class, int, float, spread, n-other, n-on}
@@ -15,7 +16,7 @@ use Rattle.paper.proofs.Tables.{factored}
 use Rattle.paper.proofs.LexTables.{lexFactored}
 use Rattle.paper.proofs.Lexing.{text, from}
 use Rattle.paper.proofs.Going.{go}
-use Rattle.paper.proofs.Worked.{bytes, tells}
+use Rattle.paper.proofs.Worked.{bytes, agree, tells}
 
 abbrev tk : Class → ℕ → ℕ → Text → Text
 tk c a e t = token (record { class = c; start = a; stop = e }) t
@@ -54,9 +55,9 @@ pieces =
     (bytes "{a(x:\"\"\")}", 3 ∷ 7 ∷ []) ∷ (bytes "{a(x:\"\"\"\"\"\")}", 4 ∷ 7 ∷ []) ∷ (bytes "{a(x:\"a\"\"b\")}", 4 ∷ 8 ∷ []) ∷
     (bytes "{abcdefghijklmnopqrstuvwxyz ABCDEFGHIJKLMNOPQRSTUVWXYZ _0123456789}", 0 ∷ 4 ∷ []) ∷ (bytes "`", 3 ∷ 0 ∷ []) ∷ []
 
-pieces-told : map (λ c. tells (c .0)) pieces ≡ map (λ c. c .1) pieces
+pieces-told : T (agree (λ c. tells (c .0)) (λ c. c .1) pieces)
 unfolding from text scan step enter choose lexical lexFactored language factored go
-pieces-told = refl
+pieces-told = tt
 
 -- what stands in a list value
 abbrev inList : String → List ℕ
@@ -73,9 +74,9 @@ numbers =
     ("1,2", 0 ∷ 6 ∷ []) ∷ ("1#c\n2", 0 ∷ 6 ∷ []) ∷ ("00.5", 0 ∷ 6 ∷ []) ∷ ("-1.5E-05", 0 ∷ 5 ∷ []) ∷ ("1.", 3 ∷ 7 ∷ []) ∷ ("01 1a", 0 ∷ 8 ∷ []) ∷
     ("-", 3 ∷ 6 ∷ []) ∷ []
 
-numbers-told : map (λ c. tells (inList (c .0))) numbers ≡ map (λ c. c .1) numbers
+numbers-told : T (agree (λ c. tells (inList (c .0))) (λ c. c .1) numbers)
 unfolding from text scan step enter choose lexical lexFactored language factored go
-numbers-told = refl
+numbers-told = tt
 
 -- what stands between quotation marks, as the value of an argument
 abbrev inString : List ℕ → List ℕ
@@ -88,9 +89,9 @@ goodStrings =
     ((0x7f ∷ [])) ∷ (bytes "#,{") ∷ ((0xef ∷ 0xbb ∷ 0xbf ∷ [])) ∷ ((0xc2 ∷ 0x80 ∷ [])) ∷ ((0xdf ∷ 0xbf ∷ [])) ∷ ((0xe0 ∷ 0xa0 ∷ 0x80 ∷ [])) ∷
     ((0xed ∷ 0x9f ∷ 0xbf ∷ [])) ∷ ((0xee ∷ 0x80 ∷ 0x80 ∷ [])) ∷ ((0xef ∷ 0xbf ∷ 0xbe ∷ [])) ∷ ((0xe2 ∷ 0x80 ∷ 0xa8 ∷ 0x7f ∷ [])) ∷ []
 
-good-strings-told : map (λ s. tells (inString s)) goodStrings ≡ map (λ s. accepted ∷ 4 ∷ []) goodStrings
+good-strings-told : T (agree (λ s. tells (inString s)) (λ s. accepted ∷ 4 ∷ []) goodStrings)
 unfolding from text scan step enter choose lexical lexFactored language factored go
-good-strings-told = refl
+good-strings-told = tt
 
 -- escapes that are none, ends of line, bytes that are no character up to U+FFFF
 abbrev badStrings : List (List ℕ)
@@ -102,6 +103,6 @@ badStrings =
     ((0xfe ∷ 0xff ∷ [])) ∷ ((0xe2 ∷ []) ++ bytes "(" ++ (0xa1 ∷ [])) ∷ ((0xf0 ∷ 0x9f ∷ 0x98 ∷ 0x80 ∷ [])) ∷ ((0xed ∷ 0xa0 ∷ 0x80 ∷ [])) ∷
     (bytes "b\n") ∷ []
 
-bad-strings-told : map (λ s. tells (inString s)) badStrings ≡ map (λ s. refuseNoToken ∷ 5 ∷ []) badStrings
+bad-strings-told : T (agree (λ s. tells (inString s)) (λ s. refuseNoToken ∷ 5 ∷ []) badStrings)
 unfolding from text scan step enter choose lexical lexFactored language factored go
-bad-strings-told = refl
+bad-strings-told = tt

@@ -1,4 +1,5 @@
 -- How a worked example is computed: the bytes of a text, and what the machine tells of it.
+use mathlib.Core.Bool.{Bool, true, _&&_}
 use mathlib.Core.List.{List, [], _∷_, _++_}
 use Prim.Native.Nat.{ℕ, zero, suc, _*_}
 use Prim.Native.Char.{code}
@@ -7,7 +8,7 @@ use lib.ListN.{replicate}
 use Rattle.paper.specs.Grammar.{nt}
 use Rattle.paper.specs.Numbers.{accepted, mostLevels}
 use Rattle.paper.specs.Language.{Class, Mark, Part, Document}
-use Rattle.paper.specs.Tokens.{Text}
+use Rattle.paper.specs.Tokens.{Text, same}
 use Rattle.paper.specs.Rows.{Row, rowsOf}
 use Rattle.paper.specs.Refusals.{numberOf, shownOf}
 use Rattle.paper.specs.Reading.{tokensOf, classesOf}
@@ -20,6 +21,11 @@ use Rattle.paper.proofs.Going.{State, st, Out, whole, halt, go}
 abbrev pub bytes : String → List ℕ
 bytes empty = []
 bytes (c then s) = code c ∷ bytes s
+
+-- the two agree on each of a list
+abbrev pub agree : {A : Type 0} → (A → List ℕ) → (A → List ℕ) → List A → Bool
+agree f g [] = true
+agree f g (x ∷ xs) = same (f x) (g x) && agree f g xs
 
 -- the same n times
 abbrev pub times : ℕ → List ℕ → List ℕ
