@@ -1,0 +1,8 @@
+pub mod Texts
+pub mod Firsts
+pub mod Keys
+pub mod KeyLaws
+pub mod Chained
+pub mod Search
+pub mod Linking
+pub mod SubLaws

@@ -1,0 +1,67 @@
+use mathlib.Core.Path.{_≡_, refl, sym, ap, _∙_}
+use mathlib.Core.List.{List, [], _∷_}
+use Prim.Native.Nat.{ℕ, suc, _+_, _-_, _*_, _%_, _<_, _≤_}
+use native.Mathlib.Nat.{add-zero}
+use native.Mathlib.Omega.{arith}
+use borrow.Author.Needs.{needs}
+use borrow.Author.Tests.{eq-eqb, ne-eqb}
+use lib.ListN.{length, take, drop, getD}
+use Rattle.index.specs.Book.{part, hashFrom, hashOf}
+use Rattle.index.proofs.Texts.{hash-more, hash-end}
+use Rattle.index.proofs.hash.Statement.{statement}
+use Rattle.index.proofs.hash.Tie as tie
+
+abbrev Inv-loop : tie.InvT-loop
+Inv-loop s at n h₀ i₀ h i = (hashFrom h (part s (at + i) (n - i)) ≡ hashOf (part s at n)) × (h < 256) × (i ≤ n)
+
+abbrev μ-loop : tie.MeasureT-loop
+μ-loop s at n h₀ i₀ h i = n - i
+
+loop-holds : tie.Need-loop-holds Inv-loop μ-loop
+loop-holds c =
+    let a = c .args in
+    (let e : a .at + 0 ≡ a .at = omega arith in let g : a .n - 0 ≡ a .n = omega arith in rw (e, g), omega arith, omega arith)
+
+mul-h : tie.Need-mul-h Inv-loop μ-loop
+mul-h c = search needs
+
+add-h : tie.Need-add-h Inv-loop μ-loop
+add-h c = search needs
+
+shared-slice-read-h : tie.Need-shared-slice-read-h Inv-loop μ-loop
+shared-slice-read-h c = search needs
+
+cast-h : tie.Need-cast-h Inv-loop μ-loop
+cast-h c = omega (arith, c .shared-slice-known .given (c .before .before .before .args .at + c .before .before .loop .i))
+
+add-h-2 : tie.Need-add-h-2 Inv-loop μ-loop
+add-h-2 c = omega (arith, c .shared-slice-known .given (c .before .before .before .args .at + c .before .before .loop .i))
+
+add-i : tie.Need-add-i Inv-loop μ-loop
+add-i c = search needs
+
+loop-less : tie.Need-loop-less Inv-loop μ-loop
+loop-less c = search needs
+
+loop-again : tie.Need-loop-again Inv-loop μ-loop
+loop-again c = (hash-more _ (c .before .before .before .args .at) (c .before .before .before .args .n) (c .before .before .loop .i) (c .before .before .loop .h) (c .before .loop-test .taken) (c .before .before .before .pre) ∙ c .before .before .loop .inv .0, omega arith, omega arith)
+
+returns : tie.Need-returns Inv-loop μ-loop
+returns c = (hash-end _ (c .before .before .args .at) (c .before .before .args .n) (c .before .loop .i) (c .before .loop .h) (c .loop-test .left) ∙ c .before .loop .inv .0, c .before .loop .inv .1)
+
+pub hash-spec : {M : Type 1} → statement M
+hash-spec =
+    tie.close
+    (tie.spec
+    Inv-loop
+    μ-loop
+    loop-holds
+    mul-h
+    add-h
+    shared-slice-read-h
+    cast-h
+    add-h-2
+    add-i
+    loop-less
+    loop-again
+    returns)

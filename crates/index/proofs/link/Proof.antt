@@ -1,0 +1,75 @@
+use borrow.Author.Needs.{needs}
+use native.Mathlib.Omega.{arith}
+use mathlib.Core.Path.{_∙_}
+use Rattle.index.proofs.Linking.{Linking, linking-start, linking-room, linking-cells, linking-within, linking-more, linking-end}
+use Rattle.index.proofs.link.Statement.{statement}
+use Rattle.index.proofs.link.Tie as tie
+use Rattle.index.proofs.link.Reads as reads
+use Rattle.index.proofs.link.Lts as lts
+use Rattle.index.proofs.clear_heads.Reads as clear-heads-reads
+use Rattle.index.proofs.count_of.Reads as count-of-reads
+use Rattle.index.proofs.hash.Reads as hash-reads
+use Rattle.index.proofs.name_of.Reads as name-of-reads
+use Rattle.index.proofs.put_first.Reads as put-first-reads
+use Rattle.index.proofs.size_of.Reads as size-of-reads
+
+abbrev Inv-loop : tie.InvT-loop
+Inv-loop t book₀ j₀ book j = Linking t book₀ book j
+
+abbrev μ-loop : tie.MeasureT-loop
+μ-loop t book₀ j₀ book j = j
+
+clear-heads-requires : tie.Need-clear-heads-requires Inv-loop μ-loop
+clear-heads-requires c κs = c .before .before .before .pre .cells
+
+count-of-requires : tie.Need-count-of-requires Inv-loop μ-loop
+count-of-requires c κs = c .before .before .before .clear-heads .ensures .kept .cells ∙ c .before .before .before .before .before .before .before .pre .cells
+
+loop-holds : tie.Need-loop-holds Inv-loop μ-loop
+loop-holds c = linking-start _ _ _ (c .before .before .before .before .before .before .before .before .pre) (c .before .before .before .before .clear-heads .ensures) (c .count-of .ensures)
+
+sub-j : tie.Need-sub-j Inv-loop μ-loop
+sub-j c = search needs
+
+name-of-requires : tie.Need-name-of-requires Inv-loop μ-loop
+name-of-requires c κs = (linking-cells _ _ _ (c .before .before .loop .inv) (c .before .loop-test .taken) ∙ c .before .before .loop .inv .held .cells, linking-room _ _ _ (c .before .before .loop .inv) (c .before .loop-test .taken))
+
+size-of-requires : tie.Need-size-of-requires Inv-loop μ-loop
+size-of-requires c κs = (linking-cells _ _ _ (c .before .before .before .before .loop .inv) (c .before .before .before .loop-test .taken) ∙ c .before .before .before .before .loop .inv .held .cells, linking-room _ _ _ (c .before .before .before .before .loop .inv) (c .before .before .before .loop-test .taken))
+
+hash-requires : tie.Need-hash-requires Inv-loop μ-loop
+hash-requires c κs = linking-within _ _ _ (c .before .before .before .before .before .loop .inv) (c .before .before .before .before .loop-test .taken) (c .before .before .name-of .ensures) (c .size-of .ensures)
+
+put-first-requires : tie.Need-put-first-requires Inv-loop μ-loop
+put-first-requires c κs = (linking-cells _ _ _ (c .before .before .before .before .before .before .before .loop .inv) (c .before .before .before .before .before .before .loop-test .taken) ∙ c .before .before .before .before .before .before .before .loop .inv .held .cells, c .before .hash .ensures .1, linking-room _ _ _ (c .before .before .before .before .before .before .before .loop .inv) (c .before .before .before .before .before .before .loop-test .taken))
+
+loop-less : tie.Need-loop-less Inv-loop μ-loop
+loop-less c = omega (arith, c .before .before .before .before .before .before .before .before .before .loop-test .taken)
+
+loop-again : tie.Need-loop-again Inv-loop μ-loop
+loop-again c = linking-more _ _ _ (c .before .before .before .before .before .before .before .before .before .before .loop .inv) (c .before .before .before .before .before .before .before .before .before .loop-test .taken) (c .before .before .before .before .before .before .before .name-of .ensures) (c .before .before .before .before .before .size-of .ensures) (c .before .before .before .before .hash .ensures .0) (c .before .before .before .before .hash .ensures .1) (c .before .before .put-first .ensures)
+
+same-length : tie.Need-same-length Inv-loop μ-loop
+same-length c = c .before .loop .inv .kept .cells ∙ c .before .before .before .before .before .before .clear-heads .ensures .kept .cells
+
+returns : tie.Need-returns Inv-loop μ-loop
+returns c = linking-end _ _ _ _ (c .before .before .before .before .before .before .clear-heads .ensures) (c .before .loop .inv) (omega (arith, c .loop-test .left))
+
+pub link-spec : {M : Type 1} → statement M
+link-spec =
+    tie.close
+    (tie.spec
+    Inv-loop
+    μ-loop
+    clear-heads-requires
+    count-of-requires
+    loop-holds
+    sub-j
+    name-of-requires
+    size-of-requires
+    hash-requires
+    put-first-requires
+    loop-less
+    loop-again
+    same-length
+    returns)
