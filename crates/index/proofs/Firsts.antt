@@ -8,18 +8,11 @@ use native.Mathlib.Omega.{arith}
 use lib.ListN.{length, drop, getD, drop-of-length-le, length-drop}
 use lib.Seq.{drop-cons, drop-drop, getD-drop}
 use Rattle.paper_types.specs.Lists.{firstAt}
+use Rattle.paper_types.proofs.ListsLaws.{firstAt-here, firstAt-later, firstAt-most}
 use Rattle.index.specs.Book.{Key, noKey, firstFrom}
 
 abbrev Test : Type 0
 Test = Key → Bool
-
-at-yes : (p : Test) (x : Key) (xs : List Key) → p x ≡ true → firstAt p (x ∷ xs) ≡ 0
-unfolding firstAt
-at-yes p x xs e = rw e
-
-at-no : (p : Test) (x : Key) (xs : List Key) → p x ≡ false → firstAt p (x ∷ xs) ≡ 1 + firstAt p xs
-unfolding firstAt
-at-no p x xs e = rw e
 
 at-nil : (p : Test) → firstAt p [] ≡ 0
 unfolding firstAt
@@ -28,12 +21,12 @@ at-nil p = refl
 -- it passes at i
 pub first-here : (p : Test) (keys : List Key) (i : ℕ) → i < length keys → p (getD keys i noKey) ≡ true → i ≡ firstFrom p keys i
 unfolding firstFrom
-first-here p keys i h e = rw (drop-cons keys i noKey h, at-yes p (getD keys i noKey) (drop (suc i) keys) e) (sym (add-zero i))
+first-here p keys i h e = rw (drop-cons keys i noKey h, firstAt-here p (getD keys i noKey) (drop (suc i) keys) e) (sym (add-zero i))
 
 -- it does not pass at i
 pub first-step : (p : Test) (keys : List Key) (i : ℕ) → i < length keys → p (getD keys i noKey) ≡ false → firstFrom p keys (suc i) ≡ firstFrom p keys i
 unfolding firstFrom
-first-step p keys i h e = rw (drop-cons keys i noKey h, at-no p (getD keys i noKey) (drop (suc i) keys) e) (omega arith)
+first-step p keys i h e = rw (drop-cons keys i noKey h, firstAt-later p (getD keys i noKey) (drop (suc i) keys) e) (omega arith)
 
 pub first-end : (p : Test) (keys : List Key) (i : ℕ) → length keys ≤ i → i ≡ firstFrom p keys i
 unfolding firstFrom
@@ -43,18 +36,9 @@ pub first-all : (p : Test) (keys : List Key) → firstFrom p keys 0 ≡ firstAt 
 unfolding firstFrom
 first-all p keys = zero-add (firstAt p keys)
 
-at-most : (p : Test) (xs : List Key) → firstAt p xs ≤ length xs
-unfolding firstAt
-at-most p [] = omega arith
-at-most p (x ∷ xs) = let ih : firstAt p xs ≤ length xs = at-most p xs in go (p x) refl ih
-  where
-    go : (b : Bool) → p x ≡ b → firstAt p xs ≤ length xs → cond (p x) 0 (1 + firstAt p xs) ≤ suc (length xs)
-    go true q ih = rw q (omega arith)
-    go false q ih = rw q (omega arith)
-
 pub first-most : (p : Test) (keys : List Key) (i : ℕ) → i ≤ length keys → firstFrom p keys i ≤ length keys
 unfolding firstFrom
-first-most p keys i h = omega (arith, at-most p (drop i keys), length-drop i keys)
+first-most p keys i h = omega (arith, firstAt-most p (drop i keys), length-drop i keys)
 
 pub first-least : (p : Test) (keys : List Key) (i : ℕ) → i ≤ firstFrom p keys i
 unfolding firstFrom
@@ -67,10 +51,9 @@ jump p q [] f = refl
 jump p q (x ∷ xs) f = let ih : firstAt q xs + firstAt p (drop (firstAt q xs) xs) ≡ firstAt p xs = jump p q xs f in go (q x) refl ih
   where
     go : (b : Bool) → q x ≡ b → firstAt q xs + firstAt p (drop (firstAt q xs) xs) ≡ firstAt p xs → firstAt q (x ∷ xs) + firstAt p (drop (firstAt q (x ∷ xs)) (x ∷ xs)) ≡ firstAt p (x ∷ xs)
-    go true e ih = rw (at-yes q x xs e) (zero-add (firstAt p (x ∷ xs)))
+    go true e ih = rw (firstAt-here q x xs e) (zero-add (firstAt p (x ∷ xs)))
     go false e ih =
-        let k : 1 + firstAt q xs ≡ suc (firstAt q xs) = omega arith in
-        rw (at-no q x xs e, at-no p x xs (f x e), k) (omega arith)
+        rw (firstAt-later q x xs e, firstAt-later p x xs (f x e)) (omega arith)
 
 pub first-jump : (p q : Test) (keys : List Key) (i : ℕ) → ((x : Key) → q x ≡ false → p x ≡ false) → firstFrom p keys (firstFrom q keys i) ≡ firstFrom p keys i
 unfolding firstFrom
@@ -82,10 +65,9 @@ passes q [] h = absurd (omega arith)
 passes q (x ∷ xs) h = go (q x) refl h (λ r. passes q xs r)
   where
     go : (b : Bool) → q x ≡ b → firstAt q (x ∷ xs) < length (x ∷ xs) → (firstAt q xs < length xs → q (getD xs (firstAt q xs) noKey) ≡ true) → q (getD (x ∷ xs) (firstAt q (x ∷ xs)) noKey) ≡ true
-    go true e h ih = rw (at-yes q x xs e) e
+    go true e h ih = rw (firstAt-here q x xs e) e
     go false e h ih =
-        let k : 1 + firstAt q xs ≡ suc (firstAt q xs) = omega arith in
-        rw (at-no q x xs e, k) (ih (omega (arith, at-no q x xs e)))
+        rw (firstAt-later q x xs e) (ih (omega (arith, firstAt-later q x xs e)))
 
 -- the first that passes does pass
 pub first-passes : (q : Test) (keys : List Key) (i : ℕ) → firstFrom q keys i < length keys → q (getD keys (firstFrom q keys i) noKey) ≡ true
