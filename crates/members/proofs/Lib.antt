@@ -1,0 +1,4 @@
+pub mod EachLaws
+pub mod MemberLaws
+pub mod TagLaws
+pub mod FindLaws

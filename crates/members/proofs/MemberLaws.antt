@@ -1,0 +1,90 @@
+-- A record's members, field by field.
+use mathlib.Core.Path.{_≡_, refl, sym, ap, subst, _∙_}
+use mathlib.Core.Bool.{Bool, true, false, _||_, cond, false≢true}
+use mathlib.Core.List.{List, [], _∷_, _++_}
+use Prim.Native.Nat.{ℕ, _+_, _≤_, _<_}
+use native.Mathlib.Omega.{arith}
+use lib.ListN.{length}
+use lib.Seq.{slice}
+use lib.Dec.{eqb, leb}
+use Rattle.paper_types.specs.TableNumbers.{tagField, tagArgument, tagUnionMember}
+use Rattle.paper_types.specs.Lists.{each, onlyIf}
+use Rattle.paper_types.specs.House.{Piece, piece, cut, pieces, inside}
+use Rattle.paper_types.specs.Types.{Member, typed, untyped, argumentOf, memberOf}
+use Rattle.fields.specs.Fields.{fieldAt}
+use Rattle.fields.specs.declared.FieldRead.the-variants.{Field, Cut}
+use Rattle.fields.proofs.FieldLaws.{field-lies}
+use Rattle.members.specs.Members.{fieldsIn, membersIn, argumentsIn, memberIn, isMember, Lies, First}
+use Rattle.members.proofs.EachLaws.{each-none, each-torn, each-field}
+
+pub member-steady : (i j : ℕ) (p : Piece) → memberOf i p ≡ memberOf j p
+unfolding memberOf
+member-steady i j (cut at) = refl
+member-steady i j (piece at tag s) = refl
+
+pub member-cut : (i at : ℕ) → memberOf i (cut at) ≡ []
+unfolding memberOf
+member-cut i at = refl
+
+pub member-is : (t : List ℕ) (at tag start stop : ℕ) → start ≡ at + 3 → isMember tag ≡ true → memberOf 0 (piece at tag (slice start stop t)) ≡ memberIn t tag start stop ∷ []
+unfolding memberOf memberIn
+member-is t at tag start stop e q =
+    rw (← e)
+    (go (eqb tag tagField) (eqb tag tagArgument) (leb tagUnionMember tag) (typed tag (fieldsIn t start stop) (argumentsIn t start stop)) (typed tag (fieldsIn t start stop) [])
+    (untyped tag (slice start stop t)) q)
+  where
+    go : (a b c : Bool) (x y z : Member) → a || (b || c) ≡ true → cond a (x ∷ []) (cond b (y ∷ []) (onlyIf c z)) ≡ cond a x (cond b y z) ∷ []
+    go true b c x y z q = refl
+    go false true c x y z q = refl
+    go false false true x y z q = refl
+    go false false false x y z q = absurd (false≢true q)
+
+pub member-not : (at tag : ℕ) (s : List ℕ) → isMember tag ≡ false → memberOf 0 (piece at tag s) ≡ []
+unfolding memberOf
+member-not at tag s q =
+    go (eqb tag tagField) (eqb tag tagArgument) (leb tagUnionMember tag) (typed tag (inside at s) (each argumentOf (inside at s))) (typed tag (inside at s) []) (untyped tag s) q
+  where
+    go : (a b c : Bool) (x y z : Member) → a || (b || c) ≡ false → cond a (x ∷ []) (cond b (y ∷ []) (onlyIf c z)) ≡ []
+    go true b c x y z q = absurd (false≢true (sym q))
+    go false true c x y z q = absurd (false≢true (sym q))
+    go false false true x y z q = absurd (false≢true (sym q))
+    go false false false x y z q = refl
+
+-- what a loop over a record's members knows at i: these are all that come, from `at` on
+pub record Walked {A : Type 0} (at end i : ℕ) (all left : List A) : Type 0 where
+  pub begun : at ≤ i
+  pub within : i ≤ end
+  pub same : all ≡ left
+
+module _ (t : List ℕ) (at end i : ℕ) (w : end ≤ length t) (h : Walked at end i (membersIn t at end) (membersIn t i end)) where
+  pub members-none : end ≤ i → membersIn t at end ≡ []
+  members-none l = h .same ∙ each-none memberOf member-steady member-cut t i end w l
+
+  pub members-torn : i < end → fieldAt t i end ≡ Cut → membersIn t at end ≡ []
+  members-torn l q = h .same ∙ each-torn memberOf member-steady member-cut t i end w l q
+
+  module _ (l : i < end) (tag start stop : ℕ) (q : fieldAt t i end ≡ Field tag start stop) where
+    pub members-here : isMember tag ≡ true → First at end start stop (membersIn t at end) (memberIn t tag start stop) (membersIn t stop end)
+    members-here e =
+        let f = field-lies t i end tag start stop (h .within) q in
+        record
+        { lies = record { begins = omega (arith, h .begun, f .begins); order = f .order; within = f .within }
+        ; all-are =
+            h .same ∙ each-field memberOf member-steady member-cut t i end w l tag start stop q
+            ∙ ap (λ (m : List Member). m ++ membersIn t stop end) (member-is t i tag start stop (f .begins) e) }
+
+    pub members-on : isMember tag ≡ false → Walked at end stop (membersIn t at end) (membersIn t stop end)
+    members-on e =
+        let f = field-lies t i end tag start stop (h .within) q in
+        record
+        { begun = omega (arith, h .begun, f .begins, f .order)
+        ; within = f .within
+        ; same =
+            h .same ∙ each-field memberOf member-steady member-cut t i end w l tag start stop q
+            ∙ ap (λ (m : List Member). m ++ membersIn t stop end) (member-not i tag (slice start stop t) e) }
+
+    pub field-moves : i < stop
+    field-moves = let f = field-lies t i end tag start stop (h .within) q in omega (arith, f .begins, f .order)
+
+pub walked-start : {A : Type 0} (at end : ℕ) (all : List A) → at ≤ end → Walked at end at all all
+walked-start at end all h = record { begun = omega arith; within = h; same = refl }
