@@ -7,6 +7,7 @@ use native.Mathlib.Omega.{arith}
 use lib.ListN.{length}
 use lib.Seq.{slice}
 use lib.Dec.{eqb, leb}
+use borrow.Author.Tests.{eq-eqb, ne-eqb}
 use Rattle.paper_types.specs.TableNumbers.{tagField, tagArgument, tagUnionMember}
 use Rattle.paper_types.specs.Lists.{each, onlyIf}
 use Rattle.paper_types.specs.House.{Piece, piece, cut, pieces, inside}
@@ -88,3 +89,26 @@ module _ (t : List ℕ) (at end i : ℕ) (w : end ≤ length t) (h : Walked at e
 
 pub walked-start : {A : Type 0} (at end : ℕ) (all : List A) → at ≤ end → Walked at end at all all
 walked-start at end all h = record { begun = omega arith; within = h; same = refl }
+
+-- the parts of the member with a tag and a content: a field's or an argument's, and of one that is a name
+module _ (t : List ℕ) (tag start stop : ℕ) where
+  pub member-tag : memberIn t tag start stop .tag ≡ tag
+  unfolding memberIn
+  member-tag = go (eqb tag tagField) (eqb tag tagArgument)
+    where
+      go : (a b : Bool) → cond a (typed tag (fieldsIn t start stop) (argumentsIn t start stop)) (cond b (typed tag (fieldsIn t start stop) []) (untyped tag (slice start stop t))) .tag ≡ tag
+      go true b = refl
+      go false true = refl
+      go false false = refl
+
+  pub field-is : tag ≡ tagField → memberIn t tag start stop ≡ typed tag (fieldsIn t start stop) (argumentsIn t start stop)
+  unfolding memberIn
+  field-is e = rw (eq-eqb tag tagField e)
+
+  pub argument-is : tag ≡ tagArgument → memberIn t tag start stop ≡ typed tag (fieldsIn t start stop) []
+  unfolding memberIn
+  argument-is e = let n : tag ≡ tagField → ⊥ = λ q. omega arith in rw (ne-eqb tag tagField n, eq-eqb tag tagArgument e)
+
+  pub other-is : (tag ≡ tagField → ⊥) → (tag ≡ tagArgument → ⊥) → memberIn t tag start stop ≡ untyped tag (slice start stop t)
+  unfolding memberIn
+  other-is e f = rw (ne-eqb tag tagField e, ne-eqb tag tagArgument f)

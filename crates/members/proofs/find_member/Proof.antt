@@ -1,3 +1,13 @@
+use borrow.Author.Needs.{needs}
+use mathlib.Core.Path.{_≡_, sym, ap, subst, _∙_}
+use Prim.Native.Nat.{_-_}
+use native.Mathlib.Omega.{arith}
+use Rattle.paper_types.specs.Lists.{find}
+use Rattle.paper_types.specs.Rules.{memberNamed}
+use Rattle.index.specs.Book.{part}
+use Rattle.members.specs.Members.{membersIn, memberIn, NextMember}
+use Rattle.members.specs.declared.FieldFound.the-variants.{Found}
+use Rattle.members.proofs.FindLaws.{Sought, sought-start, find-none, find-found, find-more, first-moves}
 use Rattle.members.proofs.find_member.Statement.{statement}
 use Rattle.members.proofs.find_member.Tie as tie
 use Rattle.members.proofs.find_member.Reads as reads
@@ -6,46 +16,55 @@ use Rattle.members.proofs.is_member_named.Reads as is-member-named-read
 use Rattle.members.proofs.next_member.Reads as next-member-reads
 
 abbrev Inv-loop : tie.InvT-loop
-Inv-loop t from end s at n i₀ i = ?
+Inv-loop t from end s at n i₀ i = Sought from end i (find (memberNamed (part s at n)) (membersIn t from end)) (find (memberNamed (part s at n)) (membersIn t i end))
 
 abbrev μ-loop : tie.MeasureT-loop
-μ-loop t from end s at n i₀ i = ?
+μ-loop t from end s at n i₀ i = end - i
 
--- src/lib.rt:149:5
+-- helpers
+found : (c : tie.After-tag Inv-loop μ-loop)
+    → NextMember (c .before .before .before .before .before .before .args .t .now) (c .before .before .before .loop .i) (c .before .before .before .before .before .before .args .end) (Found (c .tag .given .0 .0) (c .tag .given .0 .1 .0) (c .tag .given .0 .1 .1 .0))
+found c =
+    subst (NextMember (c .before .before .before .before .before .before .args .t .now) (c .before .before .before .loop .i) (c .before .before .before .before .before .before .args .end)) (c .tag .given .1) (c .before .before .next-member .ensures)
+
+-- end of helpers
+
 loop-holds : tie.Need-loop-holds Inv-loop μ-loop
-loop-holds c = ?
+loop-holds c = sought-start _ _ _ (c .before .before .pre .0 .order)
 
--- src/lib.rt:150:59
 next-member-requires : tie.Need-next-member-requires Inv-loop μ-loop
-next-member-requires c κs = ?
+next-member-requires c κs = record { order = c .loop .inv .within; within = c .before .before .before .pre .0 .within; most = c .before .before .before .pre .0 .most }
 
--- src/lib.rt:150:33
 enum-known-tag : tie.Need-enum-known-tag Inv-loop μ-loop
-enum-known-tag c = ?
+enum-known-tag c = search needs
 
--- src/lib.rt:151:13
 enum-told : tie.Need-enum-told Inv-loop μ-loop
-enum-told c = ?
+enum-told c = search needs
 
--- src/lib.rt:151:13
 returns : tie.Need-returns Inv-loop μ-loop
-returns c = ?
+returns c =
+    let a = c .before .before .before .before .before .before .args in
+    find-none (memberNamed (part (a .s .now) (a .at) (a .n))) (a .from) (a .end) (c .before .before .before .loop .i) (membersIn (a .t .now) (a .from) (a .end)) (membersIn (a .t .now) (c .before .before .before .loop .i) (a .end)) (c .before .before .before .loop .inv) (subst (NextMember (a .t .now) (c .before .before .before .loop .i) (a .end)) (c .enum-told .given .1) (c .before .before .next-member .ensures))
 
--- src/lib.rt:153:12
 is-member-named-requires : tie.Need-is-member-named-requires Inv-loop μ-loop
-is-member-named-requires c κs = ?
+is-member-named-requires c κs =
+    let f = found ((c .before)) in
+    (record { order = f .lies .order; within = omega (arith, f .lies .within, c .before .before .before .before .before .before .before .pre .0 .within); most = c .before .before .before .before .before .before .before .pre .0 .most }, c .before .before .before .before .before .before .before .pre .1)
 
--- src/lib.rt:154:13
 returns-2 : tie.Need-returns-2 Inv-loop μ-loop
-returns-2 c = ?
+returns-2 c =
+    let a = c .before .before .before .before .before .before .before .before .before .args in
+    find-found (memberNamed (part (a .s .now) (a .at) (a .n))) (a .from) (a .end) (c .before .before .before .before .before .before .loop .i) (membersIn (a .t .now) (a .from) (a .end)) (membersIn (a .t .now) (c .before .before .before .before .before .before .loop .i) (a .end)) (c .before .before .before .before .before .before .loop .inv) _ _ _ _ (found ((c .before .before .before))) (sym (c .before .is-member-named .ensures) ∙ c .if1 .taken)
 
--- src/lib.rt:149:5
 loop-less : tie.Need-loop-less Inv-loop μ-loop
-loop-less c = ?
+loop-less c =
+    let f = found ((c .before .before .before)) in
+    omega (arith, f .lies .begins, f .lies .order, f .lies .within)
 
--- src/lib.rt:149:5
 loop-again : tie.Need-loop-again Inv-loop μ-loop
-loop-again c = ?
+loop-again c =
+    let a = c .before .before .before .before .before .before .before .before .before .args in
+    find-more (memberNamed (part (a .s .now) (a .at) (a .n))) (a .from) (a .end) (c .before .before .before .before .before .before .loop .i) (membersIn (a .t .now) (a .from) (a .end)) (membersIn (a .t .now) (c .before .before .before .before .before .before .loop .i) (a .end)) (c .before .before .before .before .before .before .loop .inv) _ _ _ _ (found ((c .before .before .before))) (sym (c .before .is-member-named .ensures) ∙ c .if1 .left)
 
 pub find-member-spec : {M : Type 1} → statement M
 find-member-spec =

@@ -1,3 +1,13 @@
+use borrow.Author.Needs.{needs}
+use mathlib.Core.Path.{_≡_, sym, ap, subst, _∙_}
+use Prim.Native.Nat.{_-_}
+use native.Mathlib.Omega.{arith}
+use Rattle.paper.specs.Tokens.{same}
+use Rattle.paper_types.specs.Lists.{anyOf}
+use Rattle.index.specs.Book.{part}
+use Rattle.members.specs.Members.{implementedIn, NextImplemented}
+use Rattle.members.specs.declared.FieldFound.the-variants.{Found}
+use Rattle.members.proofs.FindLaws.{Sought, sought-start, any-none, any-found, any-more}
 use Rattle.members.proofs.implements.Statement.{statement}
 use Rattle.members.proofs.implements.Tie as tie
 use Rattle.members.proofs.implements.Reads as reads
@@ -6,50 +16,58 @@ use Rattle.index.proofs.is_text.Reads as is-text-reads
 use Rattle.members.proofs.next_implemented.Reads as next-implemented-reads
 
 abbrev Inv-loop : tie.InvT-loop
-Inv-loop t from end s at n i₀ i = ?
+Inv-loop t from end s at n i₀ i = Sought from end i (anyOf (same (part s at n)) (implementedIn t from end)) (anyOf (same (part s at n)) (implementedIn t i end))
 
 abbrev μ-loop : tie.MeasureT-loop
-μ-loop t from end s at n i₀ i = ?
+μ-loop t from end s at n i₀ i = end - i
 
--- src/lib.rt:183:5
+-- helpers
+found : (c : tie.After-start Inv-loop μ-loop)
+    → NextImplemented (c .before .before .before .before .before .before .args .t .now) (c .before .before .before .loop .i) (c .before .before .before .before .before .before .args .end) (Found (c .start .given .0 .0) (c .start .given .0 .1 .0) (c .start .given .0 .1 .1 .0))
+found c =
+    subst (NextImplemented (c .before .before .before .before .before .before .args .t .now) (c .before .before .before .loop .i) (c .before .before .before .before .before .before .args .end)) (c .start .given .1) (c .before .before .next-implemented .ensures)
+
+-- end of helpers
+
 loop-holds : tie.Need-loop-holds Inv-loop μ-loop
-loop-holds c = ?
+loop-holds c = sought-start _ _ _ (c .before .before .pre .0 .order)
 
--- src/lib.rt:184:62
 next-implemented-requires : tie.Need-next-implemented-requires Inv-loop μ-loop
-next-implemented-requires c κs = ?
+next-implemented-requires c κs = record { order = c .loop .inv .within; within = c .before .before .before .pre .0 .within; most = c .before .before .before .pre .0 .most }
 
--- src/lib.rt:184:41
 enum-known-start : tie.Need-enum-known-start Inv-loop μ-loop
-enum-known-start c = ?
+enum-known-start c = search needs
 
--- src/lib.rt:185:13
 enum-told : tie.Need-enum-told Inv-loop μ-loop
-enum-told c = ?
+enum-told c = search needs
 
--- src/lib.rt:185:13
 returns : tie.Need-returns Inv-loop μ-loop
-returns c = ?
+returns c =
+    let a = c .before .before .before .before .before .before .args in
+    any-none (same (part (a .s .now) (a .at) (a .n))) (a .from) (a .end) (c .before .before .before .loop .i) (implementedIn (a .t .now) (a .from) (a .end)) (implementedIn (a .t .now) (c .before .before .before .loop .i) (a .end)) (c .before .before .before .loop .inv) (subst (NextImplemented (a .t .now) (c .before .before .before .loop .i) (a .end)) (c .enum-told .given .1) (c .before .before .next-implemented .ensures))
 
--- src/lib.rt:187:47
 sub-is-text : tie.Need-sub-is-text Inv-loop μ-loop
-sub-is-text c = ?
+sub-is-text c = found ((c .before)) .lies .order
 
--- src/lib.rt:187:12
 is-text-requires : tie.Need-is-text-requires Inv-loop μ-loop
-is-text-requires c κs = ?
+is-text-requires c κs =
+    let f = found ((c .before)) in
+    (c .before .before .before .before .before .before .before .pre .1, omega (arith, f .lies .order, f .lies .within, c .before .before .before .before .before .before .before .pre .0 .within))
 
--- src/lib.rt:188:13
 returns-2 : tie.Need-returns-2 Inv-loop μ-loop
-returns-2 c = ?
+returns-2 c =
+    let a = c .before .before .before .before .before .before .before .before .before .args in
+    any-found (same (part (a .s .now) (a .at) (a .n))) (a .from) (a .end) (c .before .before .before .before .before .before .loop .i) (implementedIn (a .t .now) (a .from) (a .end)) (implementedIn (a .t .now) (c .before .before .before .before .before .before .loop .i) (a .end)) (c .before .before .before .before .before .before .loop .inv) _ _ _ _ (found ((c .before .before .before))) (sym (c .before .is-text .ensures) ∙ c .if1 .taken)
 
--- src/lib.rt:183:5
 loop-less : tie.Need-loop-less Inv-loop μ-loop
-loop-less c = ?
+loop-less c =
+    let f = found ((c .before .before .before)) in
+    omega (arith, f .lies .begins, f .lies .order, f .lies .within)
 
--- src/lib.rt:183:5
 loop-again : tie.Need-loop-again Inv-loop μ-loop
-loop-again c = ?
+loop-again c =
+    let a = c .before .before .before .before .before .before .before .before .before .args in
+    any-more (same (part (a .s .now) (a .at) (a .n))) (a .from) (a .end) (c .before .before .before .before .before .before .loop .i) (implementedIn (a .t .now) (a .from) (a .end)) (implementedIn (a .t .now) (c .before .before .before .before .before .before .loop .i) (a .end)) (c .before .before .before .before .before .before .loop .inv) _ _ _ _ (found ((c .before .before .before))) (sym (c .before .is-text .ensures) ∙ c .if1 .left)
 
 pub implements-spec : {M : Type 1} → statement M
 implements-spec =

@@ -1,3 +1,8 @@
+use mathlib.Core.Path.{_≡_, sym, ap, _∙_}
+use native.Mathlib.Omega.{arith}
+use Rattle.paper_types.specs.Types.{Member}
+use Rattle.members.proofs.MemberLaws.{field-is, argument-is, other-is}
+use Rattle.members.proofs.TagLaws.{part-slice}
 use borrow.Author.Needs.{needs}
 use Rattle.members.proofs.member_name.Statement.{statement}
 use Rattle.members.proofs.member_name.Tie as tie
@@ -5,29 +10,29 @@ use Rattle.members.proofs.member_name.Reads as reads
 use Rattle.members.proofs.member_name.Lts as lts
 use Rattle.members.proofs.name_in.Reads as name-in-reads
 
--- src/lib.rt:117:9
 name-in-requires : tie.Need-name-in-requires
 name-in-requires c κs = search needs
 
--- src/lib.rt:117:9
 returns : tie.Need-returns
-returns c = ?
+returns c =
+    let a = c .before .before .before .args in
+    rw (field-is (a .t .now) (a .tag) (a .start) (a .end) (c .before .if1 .taken)) (c .name-in .ensures)
 
--- src/lib.rt:120:9
 name-in-requires-2 : tie.Need-name-in-requires-2
 name-in-requires-2 c κs = search needs
 
--- src/lib.rt:120:9
 returns-2 : tie.Need-returns-2
-returns-2 c = ?
+returns-2 c =
+    let a = c .before .before .before .before .args in
+    rw (argument-is (a .t .now) (a .tag) (a .start) (a .end) (c .before .if2 .taken)) (c .name-in2 .ensures)
 
--- src/lib.rt:122:29
 sub-t6 : tie.Need-sub-t6
 sub-t6 c = search needs
 
--- src/lib.rt:112:1
 returns-3 : tie.Need-returns-3
-returns-3 c = ?
+returns-3 c =
+    let a = c .before .before .before .args in
+    rw (other-is (a .t .now) (a .tag) (a .start) (a .end) (c .before .if1 .left) (c .if2 .left)) (record { is = part-slice (a .t .now) (a .start) (a .end); within = omega (arith, c .before .before .before .pre .order, c .before .before .before .pre .within) })
 
 pub member-name-spec : {M : Type 1} → statement M
 member-name-spec =

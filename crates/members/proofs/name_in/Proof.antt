@@ -1,3 +1,8 @@
+use mathlib.Core.Path.{subst}
+use Rattle.paper_types.specs.TableNumbers.{tagName}
+use Rattle.members.specs.Members.{NextTag}
+use Rattle.members.specs.declared.FieldFound.the-variants.{Found}
+use Rattle.members.proofs.TagLaws.{name-found, name-none}
 use borrow.Author.Needs.{needs}
 use Rattle.members.proofs.name_in.Statement.{statement}
 use Rattle.members.proofs.name_in.Tie as tie
@@ -5,29 +10,35 @@ use Rattle.members.proofs.name_in.Reads as reads
 use Rattle.members.proofs.name_in.Lts as lts
 use Rattle.members.proofs.next_tag.Reads as next-tag-reads
 
--- src/lib.rt:104:9
+-- helpers
+found : (c : tie.After-f)
+    → NextTag (c .before .before .before .before .args .t .now) (c .before .before .before .before .args .start) (c .before .before .before .before .args .end) tagName (Found (c .f .given .0 .0) (c .f .given .0 .1 .0) (c .f .given .0 .1 .1 .0))
+found c =
+    subst (NextTag (c .before .before .before .before .args .t .now) (c .before .before .before .before .args .start) (c .before .before .before .before .args .end) tagName) (c .f .given .1) (c .before .before .next-tag .ensures)
+
+-- end of helpers
+
 next-tag-requires : tie.Need-next-tag-requires
 next-tag-requires c κs = search needs
 
--- src/lib.rt:105:44
 enum-known-f : tie.Need-enum-known-f
 enum-known-f c = search needs
 
--- src/lib.rt:106:9
 enum-told : tie.Need-enum-told
 enum-told c = search needs
 
--- src/lib.rt:106:9
 returns : tie.Need-returns
-returns c = ?
+returns c =
+    let a = c .before .before .before .before .args in
+    name-none (a .t .now) (a .start) (a .end) (c .before .before .before .before .pre .order) (c .before .before .before .before .pre .within) (subst (NextTag (a .t .now) (a .start) (a .end) tagName) (c .enum-told .given .1) (c .before .before .next-tag .ensures))
 
--- src/lib.rt:108:28
 sub-t7 : tie.Need-sub-t7
-sub-t7 c = ?
+sub-t7 c = found ((c .before)) .lies .order
 
--- src/lib.rt:100:1
 returns-2 : tie.Need-returns-2
-returns-2 c = ?
+returns-2 c =
+    let a = c .before .before .before .before .before .args in
+    name-found (a .t .now) (a .start) (a .end) (c .before .before .before .before .before .pre .within) 0 _ _ (found ((c .before)))
 
 pub name-in-spec : {M : Type 1} → statement M
 name-in-spec =

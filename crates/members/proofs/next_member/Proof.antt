@@ -17,51 +17,41 @@ Inv-loop t at end i₀ i = Walked at end i (membersIn t at end) (membersIn t i e
 abbrev μ-loop : tie.MeasureT-loop
 μ-loop t at end i₀ i = end - i
 
--- src/lib.rt:71:5
 loop-holds : tie.Need-loop-holds Inv-loop μ-loop
 loop-holds c = walked-start _ _ _ (c .before .pre .order)
 
--- src/lib.rt:72:65
 read-field-requires : tie.Need-read-field-requires Inv-loop μ-loop
 read-field-requires c κs = record { order = c .before .loop .inv .within; within = c .before .before .before .pre .within; most = c .before .before .before .pre .most }
 
--- src/lib.rt:72:37
 enum-known-k : tie.Need-enum-known-k Inv-loop μ-loop
 enum-known-k c = search needs
 
--- src/lib.rt:73:13
 enum-told : tie.Need-enum-told Inv-loop μ-loop
 enum-told c = search needs
 
--- src/lib.rt:73:13
 returns : tie.Need-returns Inv-loop μ-loop
 returns c =
     let a = c .before .before .before .before .before .before .args in
     members-torn (a .t .now) (a .at) (a .end) (c .before .before .before .before .loop .i) (c .before .before .before .before .before .before .pre .within) (c .before .before .before .before .loop .inv) (c .before .before .before .loop-test .taken) (sym (c .before .before .read-field .ensures) ∙ c .enum-told .given .1)
 
--- src/lib.rt:75:12
 is-member-requires : tie.Need-is-member-requires Inv-loop μ-loop
 is-member-requires c κs = search needs
 
--- src/lib.rt:76:13
 returns-2 : tie.Need-returns-2 Inv-loop μ-loop
 returns-2 c =
     let a = c .before .before .before .before .before .before .before .before .before .args in
     members-here (a .t .now) (a .at) (a .end) (c .before .before .before .before .before .before .before .loop .i) (c .before .before .before .before .before .before .before .before .before .pre .within) (c .before .before .before .before .before .before .before .loop .inv) (c .before .before .before .before .before .before .loop-test .taken) _ _ _ (sym (c .before .before .before .before .before .read-field .ensures) ∙ c .before .before .before .k .given .1) (sym (c .before .is-member .ensures) ∙ c .if1 .taken)
 
--- src/lib.rt:71:5
 loop-less : tie.Need-loop-less Inv-loop μ-loop
 loop-less c =
     let a = c .before .before .before .before .before .before .before .before .before .args in
     omega (arith, c .before .before .before .before .before .before .loop-test .taken, field-moves (a .t .now) (a .at) (a .end) (c .before .before .before .before .before .before .before .loop .i) (c .before .before .before .before .before .before .before .before .before .pre .within) (c .before .before .before .before .before .before .before .loop .inv) (c .before .before .before .before .before .before .loop-test .taken) _ _ _ (sym (c .before .before .before .before .before .read-field .ensures) ∙ c .before .before .before .k .given .1))
 
--- src/lib.rt:71:5
 loop-again : tie.Need-loop-again Inv-loop μ-loop
 loop-again c =
     let a = c .before .before .before .before .before .before .before .before .before .args in
     members-on (a .t .now) (a .at) (a .end) (c .before .before .before .before .before .before .before .loop .i) (c .before .before .before .before .before .before .before .before .before .pre .within) (c .before .before .before .before .before .before .before .loop .inv) (c .before .before .before .before .before .before .loop-test .taken) _ _ _ (sym (c .before .before .before .before .before .read-field .ensures) ∙ c .before .before .before .k .given .1) (sym (c .before .is-member .ensures) ∙ c .if1 .left)
 
--- src/lib.rt:66:1
 returns-3 : tie.Need-returns-3 Inv-loop μ-loop
 returns-3 c =
     let a = c .before .before .before .args in
