@@ -9,7 +9,8 @@ use borrow.Author.Tests.{eq-eqb, ne-eqb, eqb-true, eqb-false}
 use Rattle.paper.specs.Tokens.{same}
 use Rattle.paper_types.specs.References.{Ref, named, listOf, nonNull, baseOf, sameRef}
 use Rattle.paper_types.specs.SubTypes.{subTest}
-use Rattle.index.specs.Book.{packOf, SubAnswer}
+use Rattle.fields.specs.Wrappers.{packOf}
+use Rattle.index.specs.Book.{SubAnswer}
 
 and-left : (a b : Bool) → a && b ≡ true → a ≡ true
 and-left true b e = refl

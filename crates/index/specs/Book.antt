@@ -9,8 +9,9 @@ use lib.ListN.{length, take, drop, getD}
 use lib.Dec.{eqb, leb}
 use Rattle.paper.specs.Tokens.{same}
 use Rattle.paper_types.specs.Lists.{firstAt}
-use Rattle.paper_types.specs.References.{Ref, named, listOf, nonNull, baseOf}
+use Rattle.paper_types.specs.References.{Ref, baseOf}
 use Rattle.paper_types.specs.SubTypes.{subTest}
+use Rattle.fields.specs.Wrappers.{packOf}
 
 -- the n bytes of a text from `at` on
 abbrev pub part : List ℕ → ℕ → ℕ → List ℕ
@@ -121,12 +122,6 @@ pub record Cleared (old book : List ℕ) : Type 0 where
 pub record Linked (t old book : List ℕ) : Type 0 where
   pub kept : Kept old book
   pub indexed : Indexed t book
-
--- a reference's wrappers as one number: from outside in, lowest two bits first, 1 list, 2 Non-Null
-unfoldable pub packOf : Ref → ℕ
-packOf (named n) = 0
-packOf (listOf r) = 4 * packOf r + 1
-packOf (nonNull r) = 4 * packOf r + 2
 
 -- q answers whether every reference of the wrappers o is a sub-type of every reference of the wrappers i,
 -- where their base names are the same or not, and the second's can be the first's or not
