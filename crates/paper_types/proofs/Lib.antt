@@ -1,9 +1,27 @@
 -- Laws of the definitions of the type table, and worked examples. Nothing here need be believed.
 pub mod ListsLaws
 pub mod TextLaws
+pub mod ReferenceLaws
+pub mod ReferenceTexts
+pub mod ReferenceSizes
 pub mod SubTypesLaws
 pub mod PiecesLaws
 pub mod Rising
 pub mod HolderLaws
+pub mod Filled
+pub mod MeaningLaws
+pub mod Before
+pub mod LeastLaws
+pub mod RuleOrder
+pub mod BreakOrder
+pub mod TableFits
+pub mod Walk
+pub mod FramedLaws
+pub mod BreaksLaws
+pub mod JudgingLaws
 pub mod TableCallsOne
 pub mod WorkedTables
+pub mod ExamplesTables
+pub mod ExamplesFraming
+pub mod ExamplesRules
+pub mod ExamplesSizes
