@@ -1,4 +1,4 @@
-pub mod EachLaws
+pub mod GatherLaws
 pub mod MemberLaws
 pub mod TagLaws
 pub mod FindLaws

@@ -7,32 +7,26 @@ use native.Mathlib.Omega.{arith}
 use lib.ListN.{length}
 use lib.Seq.{slice}
 use lib.Dec.{eqb, leb}
-use borrow.Author.Tests.{eq-eqb, ne-eqb}
+use borrow.Author.Tests.{eq-eqb, ne-eqb, eqb-true, eqb-false}
 use Rattle.paper_types.specs.TableNumbers.{tagField, tagArgument, tagUnionMember}
-use Rattle.paper_types.specs.Lists.{each, onlyIf}
-use Rattle.paper_types.specs.House.{Piece, piece, cut, pieces, inside}
-use Rattle.paper_types.specs.Types.{Member, typed, untyped, argumentOf, memberOf}
+use Rattle.paper_types.specs.Lists.{onlyIf}
+use Rattle.paper_types.specs.House.{piece, cut}
+use Rattle.paper_types.specs.Types.{Member, fieldIn, inputIn, nameOnly, memberOf}
 use Rattle.fields.specs.Fields.{fieldAt}
 use Rattle.fields.specs.declared.FieldRead.the-variants.{Field, Cut}
 use Rattle.fields.proofs.FieldLaws.{field-lies}
-use Rattle.members.specs.Members.{fieldsIn, membersIn, argumentsIn, memberIn, isMember, Lies, First}
-use Rattle.members.proofs.EachLaws.{each-none, each-torn, each-field}
+use Rattle.members.specs.Members.{fieldsIn, membersIn, fieldFrom, inputFrom, memberFrom, isMember, Lies, First}
+use Rattle.members.proofs.GatherLaws.{gather-none, gather-torn, gather-field}
 
-pub member-steady : (i j : ℕ) (p : Piece) → memberOf i p ≡ memberOf j p
+pub member-cut : (at : ℕ) → memberOf (cut at) ≡ []
 unfolding memberOf
-member-steady i j (cut at) = refl
-member-steady i j (piece at tag s) = refl
+member-cut at = refl
 
-pub member-cut : (i at : ℕ) → memberOf i (cut at) ≡ []
-unfolding memberOf
-member-cut i at = refl
-
-pub member-is : (t : List ℕ) (at tag start stop : ℕ) → start ≡ at + 3 → isMember tag ≡ true → memberOf 0 (piece at tag (slice start stop t)) ≡ memberIn t tag start stop ∷ []
-unfolding memberOf memberIn
+pub member-is : (t : List ℕ) (at tag start stop : ℕ) → start ≡ at + 3 → isMember tag ≡ true → memberOf (piece at tag (slice start stop t)) ≡ memberFrom t tag start stop ∷ []
+unfolding memberOf memberFrom
 member-is t at tag start stop e q =
     rw (← e)
-    (go (eqb tag tagField) (eqb tag tagArgument) (leb tagUnionMember tag) (typed tag (fieldsIn t start stop) (argumentsIn t start stop)) (typed tag (fieldsIn t start stop) [])
-    (untyped tag (slice start stop t)) q)
+    (go (eqb tag tagField) (eqb tag tagArgument) (leb tagUnionMember tag) (fieldFrom t start stop) (inputFrom t start stop) (nameOnly tag (slice start stop t)) q)
   where
     go : (a b c : Bool) (x y z : Member) → a || (b || c) ≡ true → cond a (x ∷ []) (cond b (y ∷ []) (onlyIf c z)) ≡ cond a x (cond b y z) ∷ []
     go true b c x y z q = refl
@@ -40,10 +34,10 @@ member-is t at tag start stop e q =
     go false false true x y z q = refl
     go false false false x y z q = absurd (false≢true q)
 
-pub member-not : (at tag : ℕ) (s : List ℕ) → isMember tag ≡ false → memberOf 0 (piece at tag s) ≡ []
+pub member-not : (at tag : ℕ) (s : List ℕ) → isMember tag ≡ false → memberOf (piece at tag s) ≡ []
 unfolding memberOf
 member-not at tag s q =
-    go (eqb tag tagField) (eqb tag tagArgument) (leb tagUnionMember tag) (typed tag (inside at s) (each argumentOf (inside at s))) (typed tag (inside at s) []) (untyped tag s) q
+    go (eqb tag tagField) (eqb tag tagArgument) (leb tagUnionMember tag) (fieldIn at s) (inputIn at s) (nameOnly tag s) q
   where
     go : (a b c : Bool) (x y z : Member) → a || (b || c) ≡ false → cond a (x ∷ []) (cond b (y ∷ []) (onlyIf c z)) ≡ []
     go true b c x y z q = absurd (false≢true (sym q))
@@ -59,19 +53,19 @@ pub record Walked {A : Type 0} (at end i : ℕ) (all left : List A) : Type 0 whe
 
 module _ (t : List ℕ) (at end i : ℕ) (w : end ≤ length t) (h : Walked at end i (membersIn t at end) (membersIn t i end)) where
   pub members-none : end ≤ i → membersIn t at end ≡ []
-  members-none l = h .same ∙ each-none memberOf member-steady member-cut t i end w l
+  members-none l = h .same ∙ gather-none memberOf member-cut t i end w l
 
   pub members-torn : i < end → fieldAt t i end ≡ Cut → membersIn t at end ≡ []
-  members-torn l q = h .same ∙ each-torn memberOf member-steady member-cut t i end w l q
+  members-torn l q = h .same ∙ gather-torn memberOf member-cut t i end w l q
 
   module _ (l : i < end) (tag start stop : ℕ) (q : fieldAt t i end ≡ Field tag start stop) where
-    pub members-here : isMember tag ≡ true → First at end start stop (membersIn t at end) (memberIn t tag start stop) (membersIn t stop end)
+    pub members-here : isMember tag ≡ true → First at end start stop (membersIn t at end) (memberFrom t tag start stop) (membersIn t stop end)
     members-here e =
         let f = field-lies t i end tag start stop (h .within) q in
         record
         { lies = record { begins = omega (arith, h .begun, f .begins); order = f .order; within = f .within }
         ; all-are =
-            h .same ∙ each-field memberOf member-steady member-cut t i end w l tag start stop q
+            h .same ∙ gather-field memberOf member-cut t i end w l tag start stop q
             ∙ ap (λ (m : List Member). m ++ membersIn t stop end) (member-is t i tag start stop (f .begins) e) }
 
     pub members-on : isMember tag ≡ false → Walked at end stop (membersIn t at end) (membersIn t stop end)
@@ -81,7 +75,7 @@ module _ (t : List ℕ) (at end i : ℕ) (w : end ≤ length t) (h : Walked at e
         { begun = omega (arith, h .begun, f .begins, f .order)
         ; within = f .within
         ; same =
-            h .same ∙ each-field memberOf member-steady member-cut t i end w l tag start stop q
+            h .same ∙ gather-field memberOf member-cut t i end w l tag start stop q
             ∙ ap (λ (m : List Member). m ++ membersIn t stop end) (member-not i tag (slice start stop t) e) }
 
     pub field-moves : i < stop
@@ -92,23 +86,22 @@ walked-start at end all h = record { begun = omega arith; within = h; same = ref
 
 -- the parts of the member with a tag and a content: a field's or an argument's, and of one that is a name
 module _ (t : List ℕ) (tag start stop : ℕ) where
-  pub member-tag : memberIn t tag start stop .tag ≡ tag
-  unfolding memberIn
-  member-tag = go (eqb tag tagField) (eqb tag tagArgument)
-    where
-      go : (a b : Bool) → cond a (typed tag (fieldsIn t start stop) (argumentsIn t start stop)) (cond b (typed tag (fieldsIn t start stop) []) (untyped tag (slice start stop t))) .tag ≡ tag
-      go true b = refl
-      go false true = refl
-      go false false = refl
-
-  pub field-is : tag ≡ tagField → memberIn t tag start stop ≡ typed tag (fieldsIn t start stop) (argumentsIn t start stop)
-  unfolding memberIn
+  pub field-is : tag ≡ tagField → memberFrom t tag start stop ≡ fieldFrom t start stop
+  unfolding memberFrom
   field-is e = rw (eq-eqb tag tagField e)
 
-  pub argument-is : tag ≡ tagArgument → memberIn t tag start stop ≡ typed tag (fieldsIn t start stop) []
-  unfolding memberIn
-  argument-is e = let n : tag ≡ tagField → ⊥ = λ q. omega arith in rw (ne-eqb tag tagField n, eq-eqb tag tagArgument e)
+  pub input-is : tag ≡ tagArgument → memberFrom t tag start stop ≡ inputFrom t start stop
+  unfolding memberFrom
+  input-is e = let n : tag ≡ tagField → ⊥ = λ q. omega arith in rw (ne-eqb tag tagField n, eq-eqb tag tagArgument e)
 
-  pub other-is : (tag ≡ tagField → ⊥) → (tag ≡ tagArgument → ⊥) → memberIn t tag start stop ≡ untyped tag (slice start stop t)
-  unfolding memberIn
-  other-is e f = rw (ne-eqb tag tagField e, ne-eqb tag tagArgument f)
+  pub name-is : (tag ≡ tagField → ⊥) → (tag ≡ tagArgument → ⊥) → memberFrom t tag start stop ≡ nameOnly tag (slice start stop t)
+  unfolding memberFrom
+  name-is e f = rw (ne-eqb tag tagField e, ne-eqb tag tagArgument f)
+
+  pub member-tag : memberFrom t tag start stop .tag ≡ tag
+  member-tag = go (eqb tag tagField) refl (eqb tag tagArgument) refl
+    where
+      go : (a : Bool) → eqb tag tagField ≡ a → (b : Bool) → eqb tag tagArgument ≡ b → memberFrom t tag start stop .tag ≡ tag
+      go true p b q = let e = eqb-true tag tagField p in ap (λ (m : Member). m .tag) (field-is e) ∙ sym e
+      go false p true q = let e = eqb-true tag tagArgument q in ap (λ (m : Member). m .tag) (input-is e) ∙ sym e
+      go false p false q = ap (λ (m : Member). m .tag) (name-is (eqb-false tag tagField p) (eqb-false tag tagArgument q))

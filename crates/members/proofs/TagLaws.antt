@@ -9,18 +9,17 @@ use lib.Seq.{slice}
 use lib.Dec.{eqb}
 use borrow.Author.Tests.{eq-eqb, ne-eqb, eqb-true}
 use Rattle.paper_types.specs.TableNumbers.{tagName, tagImplements, tagArgument}
-use Rattle.paper_types.specs.Lists.{each, onlyIf}
+use Rattle.paper_types.specs.Lists.{gather, onlyIf}
 use Rattle.paper_types.specs.House.{Piece, piece, cut, pieces, inside}
 use Rattle.paper_types.specs.Types.{Argument, textOf, nameIn, argumentOf, implementedOf}
-use Rattle.paper_types.proofs.ListsLaws.{eachFrom-nil}
 use Rattle.fields.specs.Fields.{fieldAt}
 use Rattle.fields.specs.declared.FieldRead.the-variants.{Field, Cut}
 use Rattle.fields.proofs.FieldLaws.{pieces-read, pieces-torn, pieces-none, field-lies, slice-none}
 use Rattle.index.specs.Book.{part}
-use Rattle.members.specs.Members.{fieldsIn, argumentsIn, implementedIn, argumentIn, fromTag, Lies, First, NextTag, NextArgument, NextImplemented, Named}
+use Rattle.members.specs.Members.{fieldsIn, argumentsIn, implementedIn, argumentFrom, fromTag, Lies, First, NextTag, NextArgument, NextImplemented, Named}
 use Rattle.members.specs.declared.FieldFound.{FieldFound}
 use Rattle.members.specs.declared.FieldFound.the-variants.{Found, Nothing}
-use Rattle.members.proofs.EachLaws.{each-first}
+use Rattle.members.proofs.GatherLaws.{gather-nil, gather-cons}
 use Rattle.members.proofs.MemberLaws.{Walked}
 
 -- the first field of a tag
@@ -72,17 +71,16 @@ module _ (t : List ℕ) (at end k i : ℕ) (w : end ≤ length t) (h : Walked at
     tags-move = let f = field-lies t i end tag start stop (h .within) q in omega (arith, f .begins, f .order)
 
 -- what is taken from fields of one tag alone
-module _ {B : Type 0} (f : ℕ → Piece → List B) (k : ℕ) (h : (i j : ℕ) (p : Piece) → f i p ≡ f j p) (g : (i at : ℕ) → f i (cut at) ≡ [])
-    (o : (at tag : ℕ) (s : List ℕ) → eqb tag k ≡ false → f 0 (piece at tag s) ≡ []) where
-  pub each-tag : (ps : List Piece) → each f (fromTag k ps) ≡ each f ps
+module _ {B : Type 0} (f : Piece → List B) (k : ℕ) (g : (at : ℕ) → f (cut at) ≡ []) (o : (at tag : ℕ) (s : List ℕ) → eqb tag k ≡ false → f (piece at tag s) ≡ []) where
+  pub gather-tag : (ps : List Piece) → gather f (fromTag k ps) ≡ gather f ps
   unfolding fromTag
-  each-tag [] = refl
-  each-tag (cut at ∷ ps) = each-tag ps ∙ sym (each-first f h g (cut at) ps ∙ ap (λ (l : List B). l ++ each f ps) (g 0 at))
-  each-tag (piece at tag s ∷ ps) = go (eqb tag k) refl (each-tag ps)
+  gather-tag [] = refl
+  gather-tag (cut at ∷ ps) = gather-tag ps ∙ sym (gather-cons f (cut at) ps ∙ ap (λ (l : List B). l ++ gather f ps) (g at))
+  gather-tag (piece at tag s ∷ ps) = go (eqb tag k) refl (gather-tag ps)
     where
-      go : (b : Bool) → eqb tag k ≡ b → each f (fromTag k ps) ≡ each f ps → each f (cond b (piece at tag s ∷ ps) (fromTag k ps)) ≡ each f (piece at tag s ∷ ps)
+      go : (b : Bool) → eqb tag k ≡ b → gather f (fromTag k ps) ≡ gather f ps → gather f (cond b (piece at tag s ∷ ps) (fromTag k ps)) ≡ gather f (piece at tag s ∷ ps)
       go true q e = refl
-      go false q e = e ∙ sym (each-first f h g (piece at tag s) ps ∙ ap (λ (l : List B). l ++ each f ps) (o at tag s q))
+      go false q e = e ∙ sym (gather-cons f (piece at tag s) ps ∙ ap (λ (l : List B). l ++ gather f ps) (o at tag s q))
 
 text-tag : (k : ℕ) (ps : List Piece) → textOf k (fromTag k ps) ≡ textOf k ps
 unfolding fromTag textOf
@@ -102,18 +100,10 @@ text-nil : (k : ℕ) → textOf k [] ≡ []
 unfolding textOf
 text-nil k = refl
 
-argument-steady : (i j : ℕ) (p : Piece) → argumentOf i p ≡ argumentOf j p
-argument-steady i j (cut at) = refl
-argument-steady i j (piece at tag s) = refl
-
-argument-other : (at tag : ℕ) (s : List ℕ) → eqb tag tagArgument ≡ false → argumentOf 0 (piece at tag s) ≡ []
+argument-other : (at tag : ℕ) (s : List ℕ) → eqb tag tagArgument ≡ false → argumentOf (piece at tag s) ≡ []
 argument-other at tag s q = rw q
 
-implemented-steady : (i j : ℕ) (p : Piece) → implementedOf i p ≡ implementedOf j p
-implemented-steady i j (cut at) = refl
-implemented-steady i j (piece at tag s) = refl
-
-implemented-other : (at tag : ℕ) (s : List ℕ) → eqb tag tagImplements ≡ false → implementedOf 0 (piece at tag s) ≡ []
+implemented-other : (at tag : ℕ) (s : List ℕ) → eqb tag tagImplements ≡ false → implementedOf (piece at tag s) ≡ []
 implemented-other at tag s q = rw q
 
 -- a part by its size is the one by its end
@@ -132,24 +122,24 @@ part-slice t start stop = sym (drop-take start stop t)
 
 module _ (t : List ℕ) (at end : ℕ) where
   pub next-argument : (r : FieldFound) → NextTag t at end tagArgument r → NextArgument t at end r
-  next-argument Nothing e = sym (each-tag argumentOf tagArgument argument-steady (λ i j. refl) argument-other (fieldsIn t at end)) ∙ ap (each argumentOf) e ∙ eachFrom-nil 0 argumentOf
+  next-argument Nothing e = sym (gather-tag argumentOf tagArgument (λ i. refl) argument-other (fieldsIn t at end)) ∙ ap (gather argumentOf) e ∙ gather-nil argumentOf
   next-argument (Found tag start stop) f =
       let z : start - 3 + 3 ≡ start = omega (arith, f .lies .begins) in
       record
       { lies = f .lies
       ; all-are =
-          sym (each-tag argumentOf tagArgument argument-steady (λ i j. refl) argument-other (fieldsIn t at end)) ∙ ap (each argumentOf) (f .all-are)
-          ∙ each-first argumentOf argument-steady (λ i j. refl) (piece (start - 3) tagArgument (slice start stop t)) (fieldsIn t stop end)
+          sym (gather-tag argumentOf tagArgument (λ i. refl) argument-other (fieldsIn t at end)) ∙ ap (gather argumentOf) (f .all-are)
+          ∙ gather-cons argumentOf (piece (start - 3) tagArgument (slice start stop t)) (fieldsIn t stop end)
           ∙ rw z }
 
   pub next-implemented : (r : FieldFound) → NextTag t at end tagImplements r → NextImplemented t at end r
-  next-implemented Nothing e = sym (each-tag implementedOf tagImplements implemented-steady (λ i j. refl) implemented-other (fieldsIn t at end)) ∙ ap (each implementedOf) e ∙ eachFrom-nil 0 implementedOf
+  next-implemented Nothing e = sym (gather-tag implementedOf tagImplements (λ i. refl) implemented-other (fieldsIn t at end)) ∙ ap (gather implementedOf) e ∙ gather-nil implementedOf
   next-implemented (Found tag start stop) f =
       record
       { lies = f .lies
       ; all-are =
-          sym (each-tag implementedOf tagImplements implemented-steady (λ i j. refl) implemented-other (fieldsIn t at end)) ∙ ap (each implementedOf) (f .all-are)
-          ∙ each-first implementedOf implemented-steady (λ i j. refl) (piece (start - 3) tagImplements (slice start stop t)) (fieldsIn t stop end)
+          sym (gather-tag implementedOf tagImplements (λ i. refl) implemented-other (fieldsIn t at end)) ∙ ap (gather implementedOf) (f .all-are)
+          ∙ gather-cons implementedOf (piece (start - 3) tagImplements (slice start stop t)) (fieldsIn t stop end)
           ∙ ap (λ (n : List ℕ). n ∷ implementedIn t stop end) (sym (part-slice t start stop)) }
 
   pub name-found : (w : end ≤ length t) (tag start stop : ℕ) → NextTag t at end tagName (Found tag start stop) → Named t start (stop - start) (nameIn (fieldsIn t at end))

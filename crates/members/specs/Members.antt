@@ -4,16 +4,18 @@ use mathlib.Core.Path.{_≡_}
 use mathlib.Core.Bool.{Bool, true, false, _||_, cond}
 use mathlib.Core.Option.{Option, none, some}
 use mathlib.Core.List.{List, [], _∷_}
-use Prim.Native.Nat.{ℕ, _+_, _-_, _≤_, _<_}
+use Prim.Native.Nat.{ℕ, _+_, _-_, _%_, _≤_}
 use lib.ListN.{length}
 use lib.Seq.{slice}
 use lib.Dec.{leb, eqb}
 use Rattle.paper.specs.Tokens.{same}
 use Rattle.paper_types.specs.TableNumbers.{tagField, tagArgument, tagUnionMember}
-use Rattle.paper_types.specs.Lists.{anyOf, find, each}
+use Rattle.paper_types.specs.Lists.{anyOf, find, gather}
+use Rattle.paper_types.specs.References.{Ref, baseOf}
 use Rattle.paper_types.specs.House.{Piece, piece, cut, pieces}
-use Rattle.paper_types.specs.Types.{Argument, Member, Definition, nameIn, typeIn, typed, untyped, argumentOf, memberOf, implementedOf}
+use Rattle.paper_types.specs.Types.{Argument, Member, Definition, nameIn, typeIn, nameOnly, argumentOf, memberOf, implementedOf}
 use Rattle.paper_types.specs.Rules.{memberNamed, argumentNamed}
+use Rattle.fields.specs.Wrappers.{packOf, packLimit}
 use Rattle.index.specs.Book.{part}
 use Rattle.members.specs.declared.FieldFound.{FieldFound}
 use Rattle.members.specs.declared.FieldFound.the-variants.{Found, Nothing}
@@ -24,25 +26,29 @@ fieldsIn t start end = pieces start (slice start end t)
 
 -- what they are as a record's, a member's, a definition's
 abbrev pub membersIn : List ℕ → ℕ → ℕ → List Member
-membersIn t start end = each memberOf (fieldsIn t start end)
+membersIn t start end = gather memberOf (fieldsIn t start end)
 
 abbrev pub argumentsIn : List ℕ → ℕ → ℕ → List Argument
-argumentsIn t start end = each argumentOf (fieldsIn t start end)
+argumentsIn t start end = gather argumentOf (fieldsIn t start end)
 
 abbrev pub implementedIn : List ℕ → ℕ → ℕ → List (List ℕ)
-implementedIn t start end = each implementedOf (fieldsIn t start end)
+implementedIn t start end = gather implementedOf (fieldsIn t start end)
 
 -- the argument, the member, the definition of a field with this content
-abbrev pub argumentIn : List ℕ → ℕ → ℕ → Argument
-argumentIn t start end = record { name = nameIn (fieldsIn t start end); type = typeIn (fieldsIn t start end) }
+abbrev pub argumentFrom : List ℕ → ℕ → ℕ → Argument
+argumentFrom t start end = record { name = nameIn (fieldsIn t start end); type = typeIn (fieldsIn t start end) }
 
-unfoldable pub memberIn : List ℕ → ℕ → ℕ → ℕ → Member
-memberIn t tag start end =
-    cond (eqb tag tagField) (typed tag (fieldsIn t start end) (argumentsIn t start end))
-    (cond (eqb tag tagArgument) (typed tag (fieldsIn t start end) []) (untyped tag (slice start end t)))
+abbrev pub fieldFrom : List ℕ → ℕ → ℕ → Member
+fieldFrom t start end = record { tag = tagField; name = nameIn (fieldsIn t start end); type = typeIn (fieldsIn t start end); arguments = argumentsIn t start end }
 
-abbrev pub definitionIn : List ℕ → ℕ → ℕ → ℕ → Definition
-definitionIn t tag start end =
+abbrev pub inputFrom : List ℕ → ℕ → ℕ → Member
+inputFrom t start end = record { tag = tagArgument; name = nameIn (fieldsIn t start end); type = typeIn (fieldsIn t start end); arguments = [] }
+
+unfoldable pub memberFrom : List ℕ → ℕ → ℕ → ℕ → Member
+memberFrom t tag start end = cond (eqb tag tagField) (fieldFrom t start end) (cond (eqb tag tagArgument) (inputFrom t start end) (nameOnly tag (slice start end t)))
+
+abbrev pub definitionFrom : List ℕ → ℕ → ℕ → ℕ → Definition
+definitionFrom t tag start end =
     record { tag = tag; name = nameIn (fieldsIn t start end); implements = implementedIn t start end; members = membersIn t start end }
 
 -- the tags of members
@@ -71,11 +77,11 @@ NextTag t at end k (Found tag start stop) = First at end start stop (fromTag k (
 NextTag t at end k Nothing = fromTag k (fieldsIn t at end) ≡ []
 
 abbrev pub NextMember : List ℕ → ℕ → ℕ → FieldFound → Type 0
-NextMember t at end (Found tag start stop) = First at end start stop (membersIn t at end) (memberIn t tag start stop) (membersIn t stop end)
+NextMember t at end (Found tag start stop) = First at end start stop (membersIn t at end) (memberFrom t tag start stop) (membersIn t stop end)
 NextMember t at end Nothing = membersIn t at end ≡ []
 
 abbrev pub NextArgument : List ℕ → ℕ → ℕ → FieldFound → Type 0
-NextArgument t at end (Found tag start stop) = First at end start stop (argumentsIn t at end) (argumentIn t start stop) (argumentsIn t stop end)
+NextArgument t at end (Found tag start stop) = First at end start stop (argumentsIn t at end) (argumentFrom t start stop) (argumentsIn t stop end)
 NextArgument t at end Nothing = argumentsIn t at end ≡ []
 
 abbrev pub NextImplemented : List ℕ → ℕ → ℕ → FieldFound → Type 0
@@ -87,15 +93,21 @@ pub record Named (t : List ℕ) (at n : ℕ) (text : List ℕ) : Type 0 where
   pub is : part t at n ≡ text
   pub within : at + n ≤ length t
 
+-- these bytes are the name of this reference, and this number its wrappers, of more than seven the outer seven
+pub record Typed (t : List ℕ) (at n wrappers : ℕ) (ref : Ref) : Type 0 where
+  pub base : part t at n ≡ baseOf ref
+  pub packs : wrappers ≡ packOf ref % packLimit
+  pub within : at + n ≤ length t
+
 -- the first so named was found there
 pub record Finds {A : Type 0} (at end start stop : ℕ) (sought : Option A) (one : A) : Type 0 where
   pub lies : Lies at end start stop
   pub is : sought ≡ some one
 
 abbrev pub FindMember : List ℕ → ℕ → ℕ → List ℕ → FieldFound → Type 0
-FindMember t at end n (Found tag start stop) = Finds at end start stop (find (memberNamed n) (membersIn t at end)) (memberIn t tag start stop)
+FindMember t at end n (Found tag start stop) = Finds at end start stop (find (memberNamed n) (membersIn t at end)) (memberFrom t tag start stop)
 FindMember t at end n Nothing = find (memberNamed n) (membersIn t at end) ≡ none
 
 abbrev pub FindArgument : List ℕ → ℕ → ℕ → List ℕ → FieldFound → Type 0
-FindArgument t at end n (Found tag start stop) = Finds at end start stop (find (argumentNamed n) (argumentsIn t at end)) (argumentIn t start stop)
+FindArgument t at end n (Found tag start stop) = Finds at end start stop (find (argumentNamed n) (argumentsIn t at end)) (argumentFrom t start stop)
 FindArgument t at end n Nothing = find (argumentNamed n) (argumentsIn t at end) ≡ none

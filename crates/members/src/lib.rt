@@ -1,10 +1,12 @@
 // Walks over the contents of a table: a record's members and the names it implements, a member's name and arguments.
 // Nothing is asked of the bytes; a content is named by where it starts and where it ends.
 use fields::FieldRead;
+use fields::RefRead;
 use paper_types::TAG_ARGUMENT;
 use paper_types::TAG_FIELD;
 use paper_types::TAG_IMPLEMENTS;
 use paper_types::TAG_NAME;
+use paper_types::TAG_REFERENCE;
 use paper_types::TAG_UNION_MEMBER;
 ghost use mathlib.Core.Path.{_≡_};
 ghost use mathlib.Core.Bool.{true, false};
@@ -13,11 +15,11 @@ ghost use lib.ListN.{length};
 ghost use lib.Seq.{slice};
 ghost use Rattle.paper.specs.Tokens.{same};
 ghost use Rattle.paper_types.specs.Lists.{anyOf};
-ghost use Rattle.paper_types.specs.Types.{nameIn};
+ghost use Rattle.paper_types.specs.Types.{nameIn, typeIn};
 ghost use Rattle.paper_types.specs.Rules.{memberNamed};
 ghost use Rattle.fields.specs.Fields.{Bounds};
 ghost use Rattle.index.specs.Book.{part};
-ghost use Rattle.members.specs.Members.{fieldsIn, membersIn, implementedIn, memberIn, isMember, NextTag, NextMember, NextArgument, NextImplemented, Named, FindMember, FindArgument};
+ghost use Rattle.members.specs.Members.{fieldsIn, membersIn, implementedIn, memberFrom, isMember, NextTag, NextMember, NextArgument, NextImplemented, Named, Typed, FindMember, FindArgument};
 
 // A field's tag and the bounds of its content; or there is none.
 pub enum FieldFound {
@@ -29,6 +31,14 @@ pub enum FieldFound {
 pub struct Name {
     pub at: usize,
     pub size: usize,
+}
+
+// A type reference: the place of its name, and its wrappers as one number, from outside in, lowest two bits first, 1 list, 2 Non-Null;
+// of more than seven the outer seven.
+pub struct TypeRead {
+    pub at: usize,
+    pub size: usize,
+    pub wrappers: u32,
 }
 
 // The next field of this tag, from `at` on, in a content that ends at `end`.
@@ -111,7 +121,7 @@ pub fn name_in(t: &[u8], start: usize, end: usize) -> Name
 // The name of the member with this tag and content.
 pub fn member_name(t: &[u8], tag: u8, start: usize, end: usize) -> Name
     requires { ⌜ Bounds (now t) start end ⌝ }
-    ensures { λ r. ⌜ Named (now (t .entry)) (r .at) (r .size) (memberIn (now (t .entry)) tag start end .name) ⌝ }
+    ensures { λ r. ⌜ Named (now (t .entry)) (r .at) (r .size) (memberFrom (now (t .entry)) tag start end .name) ⌝ }
 {
     if tag == TAG_FIELD {
         return name_in(t, start, end);
@@ -122,10 +132,22 @@ pub fn member_name(t: &[u8], tag: u8, start: usize, end: usize) -> Name
     Name { at: start, size: end - start }
 }
 
+// The type in a content; one of no name if there is none.
+pub fn type_in(t: &[u8], start: usize, end: usize) -> TypeRead
+    requires { ⌜ Bounds (now t) start end ⌝ }
+    ensures { λ r. ⌜ Typed (now (t .entry)) (r .at) (r .size) (r .wrappers) (typeIn (fieldsIn (now (t .entry)) start end)) ⌝ }
+{
+    let p = fields::find_tag(t, start, end, TAG_REFERENCE);
+    let RefRead::Reference { start: from, end: to, wrappers } = fields::read_reference(t, p.start, p.end) else {
+        return TypeRead { at: start, size: 0, wrappers: 0 };
+    };
+    TypeRead { at: from, size: to - from, wrappers: wrappers }
+}
+
 // Is a member's name the n bytes of s from `at` on?
 fn is_member_named(t: &[u8], tag: u8, start: usize, end: usize, s: &[u8], at: usize, n: usize) -> bool
     requires { ⌜ Bounds (now t) start end × (at + n ≤ length (now s)) ⌝ }
-    ensures { λ r. ⌜ r ≡ memberNamed (part (now (s .entry)) at n) (memberIn (now (t .entry)) tag start end) ⌝ }
+    ensures { λ r. ⌜ r ≡ memberNamed (part (now (s .entry)) at n) (memberFrom (now (t .entry)) tag start end) ⌝ }
 {
     let m = member_name(t, tag, start, end);
     index::is_text(t, m.at, m.size, s, at, n)

@@ -5,7 +5,7 @@ use native.Mathlib.Omega.{arith}
 use Rattle.paper_types.specs.Lists.{find}
 use Rattle.paper_types.specs.Rules.{argumentNamed}
 use Rattle.index.specs.Book.{part}
-use Rattle.members.specs.Members.{argumentsIn, argumentIn, NextArgument}
+use Rattle.members.specs.Members.{argumentsIn, argumentFrom, NextArgument}
 use Rattle.members.specs.declared.FieldFound.the-variants.{Found}
 use Rattle.members.proofs.FindLaws.{Sought, sought-start, find-none, find-found, find-more, first-moves}
 use Rattle.members.proofs.find_argument.Statement.{statement}

@@ -1,7 +1,7 @@
 use mathlib.Core.Path.{_≡_, sym, ap, _∙_}
 use native.Mathlib.Omega.{arith}
 use Rattle.paper_types.specs.Types.{Member}
-use Rattle.members.proofs.MemberLaws.{field-is, argument-is, other-is}
+use Rattle.members.proofs.MemberLaws.{field-is, input-is, name-is}
 use Rattle.members.proofs.TagLaws.{part-slice}
 use borrow.Author.Needs.{needs}
 use Rattle.members.proofs.member_name.Statement.{statement}
@@ -24,7 +24,7 @@ name-in-requires-2 c κs = search needs
 returns-2 : tie.Need-returns-2
 returns-2 c =
     let a = c .before .before .before .before .args in
-    rw (argument-is (a .t .now) (a .tag) (a .start) (a .end) (c .before .if2 .taken)) (c .name-in2 .ensures)
+    rw (input-is (a .t .now) (a .tag) (a .start) (a .end) (c .before .if2 .taken)) (c .name-in2 .ensures)
 
 sub-t6 : tie.Need-sub-t6
 sub-t6 c = search needs
@@ -32,7 +32,7 @@ sub-t6 c = search needs
 returns-3 : tie.Need-returns-3
 returns-3 c =
     let a = c .before .before .before .args in
-    rw (other-is (a .t .now) (a .tag) (a .start) (a .end) (c .before .if1 .left) (c .if2 .left)) (record { is = part-slice (a .t .now) (a .start) (a .end); within = omega (arith, c .before .before .before .pre .order, c .before .before .before .pre .within) })
+    rw (name-is (a .t .now) (a .tag) (a .start) (a .end) (c .before .if1 .left) (c .if2 .left)) (record { is = part-slice (a .t .now) (a .start) (a .end); within = omega (arith, c .before .before .before .pre .order, c .before .before .before .pre .within) })
 
 pub member-name-spec : {M : Type 1} → statement M
 member-name-spec =
