@@ -21,7 +21,7 @@ and-right true b e = e
 and-right false b e = absurd (false≢true e)
 
 -- equal wrappers and the same base: a reference is a sub-type of itself
-same-ref : (r s : Ref) → packOf r ≡ packOf s → same (baseOf r) (baseOf s) ≡ true → sameRef r s ≡ true
+pub same-ref : (r s : Ref) → packOf r ≡ packOf s → same (baseOf r) (baseOf s) ≡ true → sameRef r s ≡ true
 unfolding packOf sameRef
 same-ref (named a) (named b) e h = h
 same-ref (named a) (listOf s) e h = absurd (omega arith)
@@ -33,7 +33,7 @@ same-ref (nonNull r) (named b) e h = absurd (omega arith)
 same-ref (nonNull r) (listOf s) e h = absurd (omega arith)
 same-ref (nonNull r) (nonNull s) e h = same-ref r s (omega arith) h
 
-same-pack : (r s : Ref) → sameRef r s ≡ true → packOf r ≡ packOf s
+pub same-pack : (r s : Ref) → sameRef r s ≡ true → packOf r ≡ packOf s
 unfolding packOf sameRef
 same-pack (named a) (named b) e = refl
 same-pack (named a) (listOf s) e = absurd (false≢true e)
@@ -45,7 +45,7 @@ same-pack (nonNull r) (named b) e = absurd (false≢true e)
 same-pack (nonNull r) (listOf s) e = absurd (false≢true e)
 same-pack (nonNull r) (nonNull s) e = ap (λ (x : ℕ). 4 * x + 2) (same-pack r s e)
 
-same-base : (r s : Ref) → sameRef r s ≡ true → same (baseOf r) (baseOf s) ≡ true
+pub same-base : (r s : Ref) → sameRef r s ≡ true → same (baseOf r) (baseOf s) ≡ true
 unfolding sameRef
 same-base (named a) (named b) e = e
 same-base (named a) (listOf s) e = absurd (false≢true e)

@@ -21,13 +21,11 @@ Inv-loop t from end s at n i₀ i = Sought from end i (find (memberNamed (part s
 abbrev μ-loop : tie.MeasureT-loop
 μ-loop t from end s at n i₀ i = end - i
 
--- helpers
 found : (c : tie.After-tag Inv-loop μ-loop)
     → NextMember (c .before .before .before .before .before .before .args .t .now) (c .before .before .before .loop .i) (c .before .before .before .before .before .before .args .end) (Found (c .tag .given .0 .0) (c .tag .given .0 .1 .0) (c .tag .given .0 .1 .1 .0))
 found c =
     subst (NextMember (c .before .before .before .before .before .before .args .t .now) (c .before .before .before .loop .i) (c .before .before .before .before .before .before .args .end)) (c .tag .given .1) (c .before .before .next-member .ensures)
 
--- end of helpers
 
 loop-holds : tie.Need-loop-holds Inv-loop μ-loop
 loop-holds c = sought-start _ _ _ (c .before .before .pre .0 .order)

@@ -1,3 +1,6 @@
+use mathlib.Core.Path.{subst}
+use Rattle.fields.specs.Wrappers.{Refers, RefersRead}
+use Rattle.members.proofs.TypeLaws.{type-found, type-none}
 use borrow.Author.Needs.{needs}
 use Rattle.members.proofs.type_in.Statement.{statement}
 use Rattle.members.proofs.type_in.Tie as tie
@@ -6,33 +9,36 @@ use Rattle.members.proofs.type_in.Lts as lts
 use Rattle.fields.proofs.find_tag.Reads as find-tag-reads
 use Rattle.fields.proofs.read_reference.Reads as read-reference-reads
 
--- src/lib.rt:140:9
+found : (c : tie.After-from)
+    → Refers (c .before .before .before .before .before .args .t .now) (c .before .before .before .find-tag .result .start) (c .before .before .before .find-tag .result .end) (c .from .given .0 .0) (c .from .given .0 .1 .0) (c .from .given .0 .1 .1 .0)
+found c =
+    subst (RefersRead (c .before .before .before .before .before .args .t .now) (c .before .before .before .find-tag .result .start) (c .before .before .before .find-tag .result .end)) (c .from .given .1) (c .before .before .read-reference .ensures)
+
+
 find-tag-requires : tie.Need-find-tag-requires
 find-tag-requires c κs = search needs
 
--- src/lib.rt:141:65
 read-reference-requires : tie.Need-read-reference-requires
 read-reference-requires c κs = search needs
 
--- src/lib.rt:141:37
 enum-known-from : tie.Need-enum-known-from
 enum-known-from c = search needs
 
--- src/lib.rt:142:9
 enum-told : tie.Need-enum-told
 enum-told c = search needs
 
--- src/lib.rt:142:9
 returns : tie.Need-returns
-returns c = ?
+returns c =
+    let a = c .before .before .before .before .before .args in
+    type-none (a .t .now) (a .start) (a .end) _ _ (c .before .before .before .find-tag .ensures) (c .before .before .before .before .before .pre .within) (c .before .before .before .before .before .pre .order) (subst (RefersRead (a .t .now) (c .before .before .before .find-tag .result .start) (c .before .before .before .find-tag .result .end)) (c .enum-told .given .1) (c .before .before .read-reference .ensures))
 
--- src/lib.rt:144:32
 sub-t9 : tie.Need-sub-t9
-sub-t9 c = ?
+sub-t9 c = found ((c .before)) .order
 
--- src/lib.rt:136:1
 returns-2 : tie.Need-returns-2
-returns-2 c = ?
+returns-2 c =
+    let a = c .before .before .before .before .before .before .args in
+    type-found (a .t .now) (a .start) (a .end) _ _ (c .before .before .before .before .find-tag .ensures) (c .before .before .before .before .before .before .pre .within) _ _ _ (found ((c .before)))
 
 pub type-in-spec : {M : Type 1} → statement M
 type-in-spec =

@@ -1,0 +1,207 @@
+// The types of a table: its definitions in a book, what a name means, which objects an interface or union can be, sub-types.
+// Nothing is asked of the table but its sizes.
+use fields::FieldRead;
+use index::CELL_COUNT;
+use index::CELL_END;
+use index::CELL_NAME;
+use index::CELL_SIZE;
+use index::CELL_START;
+use members::FieldFound;
+use members::TypeRead;
+ghost use mathlib.Core.Path.{_≡_};
+ghost use mathlib.Core.Bool.{true, false};
+ghost use Prim.Native.Nat.{_+_, _-_, _≤_, _<_};
+ghost use lib.ListN.{length, getD, set};
+ghost use Rattle.paper_types.specs.TableNumbers.{mostTable};
+ghost use Rattle.paper_types.specs.Lists.{anyOf, firstAt};
+ghost use Rattle.paper_types.specs.Types.{tableOf, typeNamed, directiveNamed, isBuiltIn, meaning, meant, canBe};
+ghost use Rattle.paper_types.specs.Rules.{memberNamed};
+ghost use Rattle.fields.specs.Fields.{Bounds};
+ghost use Rattle.index.specs.Book.{part, room, bookSize, countIn};
+ghost use Rattle.members.specs.Members.{membersIn};
+ghost use Rattle.types.specs.Booked.{Booked, Bookable, Recorded, Put, Entering, spoken, SubTyped};
+
+// What a name means: a built-in scalar, the type that is the table's definition of a number, or nothing.
+pub enum Meant {
+    BuiltIn,
+    Definition(usize),
+    Nothing,
+}
+
+// Writes entry i.
+fn put_entry(book: &mut [u32], i: usize, tag: u8, name: usize, size: usize, start: usize, end: usize)
+    requires { ⌜ (length (now book) ≡ bookSize) × (i < room) × (name ≤ mostTable) × (size ≤ mostTable) × (start ≤ mostTable) × (end ≤ mostTable) ⌝ }
+    ensures { λ _. ⌜ Put (now (book .entry)) (now (book .exit)) i tag name size start end ⌝ }
+{
+    book[i] = tag as u32;
+    book[CELL_NAME + i] = name as u32;
+    book[CELL_SIZE + i] = size as u32;
+    book[CELL_START + i] = start as u32;
+    book[CELL_END + i] = end as u32;
+}
+
+// Enters the record with this tag and content as number i.
+fn enter(t: &[u8], book: &mut [u32], i: usize, tag: u8, start: usize, end: usize)
+    requires { ⌜ Bounds (now t) start end × (length (now book) ≡ bookSize) × (i < room) ⌝ }
+    ensures { λ _. ⌜ Entering (now (t .entry)) (now (book .entry)) (now (book .exit)) i tag start end ⌝ }
+{
+    let m = members::name_in(t, start, end);
+    put_entry(book, i, tag, m.at, m.size, start, end);
+}
+
+// Enters a table's records, and says how many there are.
+fn records(t: &[u8], book: &mut [u32]) -> usize
+    requires { ⌜ Bookable (now t) (now book) ⌝ }
+    ensures { λ r. ⌜ Recorded (now (t .entry)) (now (book .exit)) r ⌝ }
+{
+    let end = t.len();
+    let mut at = 0;
+    let mut i = 0;
+    while at < end {
+        let FieldRead::Field { tag, start, end: stop } = fields::read_field(t, at, end) else {
+            return i;
+        };
+        enter(t, book, i, tag, start, stop);
+        i += 1;
+        at = stop;
+    }
+    i
+}
+
+// Makes the book of a table.
+pub fn fill(t: &[u8], book: &mut [u32])
+    requires { ⌜ Bookable (now t) (now book) ⌝ }
+    ensures { λ _. ⌜ Booked (now (t .entry)) (now (book .exit)) ⌝ }
+{
+    let n = records(t, book);
+    book[CELL_COUNT] = n as u32;
+    index::link(t, book);
+}
+
+// Is it the name of a built-in scalar?
+pub fn is_built_in(s: &[u8], at: usize, n: usize) -> bool
+    requires { ⌜ at + n ≤ length (now s) ⌝ }
+    ensures { λ r. ⌜ r ≡ isBuiltIn (part (now (s .entry)) at n) ⌝ }
+{
+    if index::is_text(s, at, n, b"Int", 0, 3) {
+        return true;
+    }
+    if index::is_text(s, at, n, b"Float", 0, 5) {
+        return true;
+    }
+    if index::is_text(s, at, n, b"String", 0, 6) {
+        return true;
+    }
+    if index::is_text(s, at, n, b"Boolean", 0, 7) {
+        return true;
+    }
+    index::is_text(s, at, n, b"ID", 0, 2)
+}
+
+const LOWEST_TYPE: u32 = 0;
+
+const HIGHEST_TYPE: u32 = 6;
+
+const DIRECTIVE: u32 = 7;
+
+// The number of the first type whose name is the n bytes of s from `at` on; the count of definitions if there is none.
+pub fn first_type(t: &[u8], book: &[u32], s: &[u8], at: usize, n: usize) -> usize
+    requires { ⌜ Booked (now t) (now book) × (at + n ≤ length (now s)) ⌝ }
+    ensures { λ r. ⌜ r ≡ firstAt (typeNamed (part (now (s .entry)) at n)) (tableOf (now (t .entry))) ⌝ }
+{
+    index::find_key(t, book, LOWEST_TYPE, HIGHEST_TYPE, s, at, n)
+}
+
+// The same of directives.
+pub fn first_directive(t: &[u8], book: &[u32], s: &[u8], at: usize, n: usize) -> usize
+    requires { ⌜ Booked (now t) (now book) × (at + n ≤ length (now s)) ⌝ }
+    ensures { λ r. ⌜ r ≡ firstAt (directiveNamed (part (now (s .entry)) at n)) (tableOf (now (t .entry))) ⌝ }
+{
+    index::find_key(t, book, DIRECTIVE, DIRECTIVE, s, at, n)
+}
+
+// What the name of n bytes of s from `at` on means.
+pub fn meaning_of(t: &[u8], book: &[u32], s: &[u8], at: usize, n: usize) -> Meant
+    requires { ⌜ Booked (now t) (now book) × (at + n ≤ length (now s)) ⌝ }
+    ensures { λ r. ⌜ r ≡ spoken (meaning (tableOf (now (t .entry))) (part (now (s .entry)) at n)) ⌝ }
+{
+    if is_built_in(s, at, n) {
+        return Meant::BuiltIn;
+    }
+    let k = first_type(t, book, s, at, n);
+    if k < index::count_of(book) {
+        return Meant::Definition(k);
+    }
+    Meant::Nothing
+}
+
+const SCALAR: u32 = 1;
+
+const OBJECT: u32 = 2;
+
+const INTERFACE: u32 = 3;
+
+const UNION: u32 = 4;
+
+const NO_TYPE: u32 = 0;
+
+// The tag of the type that a name means: 1 of a built-in scalar, 0 of nothing.
+pub fn tag_meant(t: &[u8], book: &[u32], s: &[u8], at: usize, n: usize) -> u32
+    requires { ⌜ Booked (now t) (now book) × (at + n ≤ length (now s)) ⌝ }
+    ensures { λ r. ⌜ r ≡ meant (tableOf (now (t .entry))) (part (now (s .entry)) at n) .tag ⌝ }
+{
+    if is_built_in(s, at, n) {
+        return SCALAR;
+    }
+    let k = first_type(t, book, s, at, n);
+    if k < index::count_of(book) {
+        return index::kind_of(book, k);
+    }
+    NO_TYPE
+}
+
+// Has a record a member whose name is the n bytes of s from `at` on?
+pub fn has_member(t: &[u8], start: usize, end: usize, s: &[u8], at: usize, n: usize) -> bool
+    requires { ⌜ Bounds (now t) start end × (at + n ≤ length (now s)) ⌝ }
+    ensures { λ r. ⌜ r ≡ anyOf (memberNamed (part (now (s .entry)) at n)) (membersIn (now (t .entry)) start end) ⌝ }
+{
+    let FieldFound::Found { tag: _, start: _, end: _ } = members::find_member(t, start, end, s, at, n) else {
+        return false;
+    };
+    true
+}
+
+// Can the interface or union of the name at `a` be the object of the name at `o`?
+pub fn can_be(t: &[u8], book: &[u32], s: &[u8], a: usize, an: usize, o: usize, on: usize) -> bool
+    requires { ⌜ Booked (now t) (now book) × (a + an ≤ length (now s)) × (o + on ≤ length (now s)) ⌝ }
+    ensures { λ r. ⌜ r ≡ canBe (tableOf (now (t .entry))) (part (now (s .entry)) a an) (part (now (s .entry)) o on) ⌝ }
+{
+    let Meant::Definition(i) = meaning_of(t, book, s, o, on) else {
+        return false;
+    };
+    if index::kind_of(book, i) != OBJECT {
+        return false;
+    }
+    let Meant::Definition(j) = meaning_of(t, book, s, a, an) else {
+        return false;
+    };
+    let kind = index::kind_of(book, j);
+    if kind == INTERFACE {
+        return members::implements(t, index::start_of(book, i), index::end_of(book, i), s, a, an);
+    }
+    if kind == UNION {
+        return has_member(t, index::start_of(book, j), index::end_of(book, j), s, o, on);
+    }
+    false
+}
+
+// Is the type r a sub-type of q?
+pub fn is_sub_type(t: &[u8], book: &[u32], r: TypeRead, q: TypeRead) -> bool
+    requires { ⌜ Booked (now t) (now book) × (r .at + r .size ≤ length (now t)) × (q .at + q .size ≤ length (now t)) ⌝ }
+    ensures { λ b. ⌜ SubTyped (now (t .entry)) (r .at) (r .size) (r .wrappers) (q .at) (q .size) (q .wrappers) b ⌝ }
+{
+    if index::is_text(t, r.at, r.size, t, q.at, q.size) {
+        return index::sub_type(true, false, r.wrappers, q.wrappers);
+    }
+    index::sub_type(false, can_be(t, book, t, q.at, q.size, r.at, r.size), r.wrappers, q.wrappers)
+}
