@@ -1,0 +1,4 @@
+pub mod Meanings
+pub mod Objects
+pub mod SubTyping
+pub mod Recording
