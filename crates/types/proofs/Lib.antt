@@ -1,3 +1,4 @@
+pub mod BuiltIns
 pub mod Meanings
 pub mod Objects
 pub mod SubTyping

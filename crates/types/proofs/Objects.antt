@@ -15,6 +15,7 @@ use Rattle.paper_types.specs.References.{found}
 use Rattle.paper_types.specs.Types.{Member, Definition, Table, tableOf, isObject, isInterface, isUnion, tagNothing, meant, canBe}
 use Rattle.paper_types.specs.Rules.{memberNamed}
 use Rattle.paper_types.proofs.TextLaws.{same-sound, same-refl}
+use Rattle.fields.specs.Fields.{Bounds}
 use Rattle.index.specs.Book.{room, countIn}
 use Rattle.members.specs.Members.{membersIn, implementedIn}
 use Rattle.types.specs.Booked.{startIn, endIn, kindIn, Booked, NumberMeant}
@@ -118,3 +119,10 @@ module _ (t : Table) (a o : List ℕ) where
       let k : meant t a .tag ≡ tagInterface → ⊥ = λ z. omega (arith, g, z) in
       h ∙ any-alike (memberNamed o) (λ (m : Member). same o (m .name)) (λ m. same-sym (m .name) o) ms
       ∙ sym (can-these t a o ∙ rw (eq-eqb (meant t o .tag) tagObject f, ne-eqb (meant t a .tag) tagInterface k, eq-eqb (meant t a .tag) tagUnion g, ← e))
+
+-- the content of an entry lies in the table
+pub entry-bounds : (t book : List ℕ) (b : Booked t book) (i : ℕ) {start end : ℕ} → i < countIn book → start ≡ startIn book i → end ≡ endIn book i → Bounds t start end
+entry-bounds t book b i l e f = record
+  { order = omega (arith, e, f, b .entered i l .order)
+  ; within = omega (arith, f, b .entered i l .within)
+  ; most = b .short }

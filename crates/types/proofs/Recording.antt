@@ -50,16 +50,16 @@ module _ (old : List ℕ) (i tag name size start end : ℕ) (l : length old ≡ 
   abbrev b5 : List ℕ
   b5 = set b4 (cellEnd + i) end
 
-  l1 : length b1 ≡ bookSize
+  pub l1 : length b1 ≡ bookSize
   l1 = length-set old i tag ∙ l
 
-  l2 : length b2 ≡ bookSize
+  pub l2 : length b2 ≡ bookSize
   l2 = length-set b1 (cellName + i) name ∙ l1
 
-  l3 : length b3 ≡ bookSize
+  pub l3 : length b3 ≡ bookSize
   l3 = length-set b2 (cellSize + i) size ∙ l2
 
-  l4 : length b4 ≡ bookSize
+  pub l4 : length b4 ≡ bookSize
   l4 = length-set b3 (cellStart + i) start ∙ l3
 
   -- a cell other than the five

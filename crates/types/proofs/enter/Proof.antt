@@ -1,3 +1,5 @@
+use native.Mathlib.Omega.{arith}
+use Rattle.types.proofs.Recording.{entering-is}
 use borrow.Author.Needs.{needs}
 use Rattle.types.proofs.enter.Statement.{statement}
 use Rattle.types.proofs.enter.Tie as tie
@@ -6,21 +8,22 @@ use Rattle.types.proofs.enter.Lts as lts
 use Rattle.members.proofs.name_in.Reads as name-in-reads
 use Rattle.types.proofs.put_entry.Reads as put-entry-reads
 
--- src/lib.rt:48:9
 name-in-requires : tie.Need-name-in-requires
 name-in-requires c κs = search needs
 
--- src/lib.rt:49:5
 put-entry-requires : tie.Need-put-entry-requires
-put-entry-requires c κs = search needs
+put-entry-requires c κs =
+    let p = c .before .before .before .before .pre in
+    let m = c .before .name-in .ensures .within in
+    (p .1, p .2, omega (arith, m, p .0 .most), omega (arith, m, p .0 .most), omega (arith, p .0 .order, p .0 .within, p .0 .most), omega (arith, p .0 .within, p .0 .most))
 
--- src/lib.rt:44:1
 same-length : tie.Need-same-length
 same-length c = search needs
 
--- src/lib.rt:44:1
 returns : tie.Need-returns
-returns c = ?
+returns c =
+    let a = c .before .before .before .before .before .before .before .args in
+    entering-is (a .t .now) (a .book .now) _ (a .i) (a .tag) (a .start) (a .end) _ _ (c .before .before .before .before .before .before .before .pre .0 .order) (c .before .before .before .before .before .before .before .pre .0 .within) (c .before .before .before .before .name-in .ensures) (c .before .before .put-entry .ensures)
 
 pub enter-spec : {M : Type 1} → statement M
 enter-spec = tie.close (tie.spec name-in-requires put-entry-requires same-length returns)

@@ -1,3 +1,4 @@
+use Rattle.types.proofs.Recording.{counted-held, booked-is}
 use borrow.Author.Needs.{needs}
 use Rattle.types.proofs.fill.Statement.{statement}
 use Rattle.types.proofs.fill.Tie as tie
@@ -6,29 +7,23 @@ use Rattle.types.proofs.fill.Lts as lts
 use Rattle.index.proofs.link.Reads as link-reads
 use Rattle.types.proofs.records.Reads as records-reads
 
--- src/lib.rt:76:9
 records-requires : tie.Need-records-requires
 records-requires c κs = search needs
 
--- src/lib.rt:77:24
 cast-book : tie.Need-cast-book
 cast-book c = search needs
 
--- src/lib.rt:77:5
 slice-write-book : tie.Need-slice-write-book
 slice-write-book c = search needs
 
--- src/lib.rt:78:5
 link-requires : tie.Need-link-requires
-link-requires c κs = ?
+link-requires c κs = counted-held _ _ _ (c .before .before .before .records .ensures) (c .before .before .before .before .before .before .before .pre .few)
 
--- src/lib.rt:72:1
 same-length : tie.Need-same-length
 same-length c = search needs
 
--- src/lib.rt:72:1
 returns : tie.Need-returns
-returns c = ?
+returns c = booked-is _ _ _ (c .before .before .before .before .before .before .records .ensures) (c .before .before .before .before .before .before .before .before .before .before .pre .few) _ (c .before .before .link .ensures) (c .before .before .before .before .before .before .before .before .before .before .pre .short)
 
 pub fill-spec : {M : Type 1} → statement M
 fill-spec =

@@ -1,3 +1,5 @@
+use mathlib.Core.Path.{_≡_, sym, _∙_}
+use Rattle.types.proofs.SubTyping.{sub-alike, sub-other}
 use borrow.Author.Needs.{needs}
 use Rattle.types.proofs.is_sub_type.Statement.{statement}
 use Rattle.types.proofs.is_sub_type.Tie as tie
@@ -7,29 +9,27 @@ use Rattle.index.proofs.is_text.Reads as is-text-reads
 use Rattle.index.proofs.sub_type.Reads as sub-type-reads
 use Rattle.types.proofs.can_be.Reads as can-be-reads
 
--- src/lib.rt:203:8
 is-text-requires : tie.Need-is-text-requires
 is-text-requires c κs = search needs
 
--- src/lib.rt:204:9
 sub-type-requires : tie.Need-sub-type-requires
 sub-type-requires c κs = search needs
 
--- src/lib.rt:204:9
 returns : tie.Need-returns
-returns c = ?
+returns c =
+    let a = c .before .before .before .before .before .args in
+    sub-alike (a .t .now) (a .r .at) (a .r .size) (a .r .wrappers) (a .q .at) (a .q .size) (a .q .wrappers) (c .before .before .is-text .ensures) (c .before .if1 .taken) (c .sub-type .ensures)
 
--- src/lib.rt:206:28
 can-be-requires : tie.Need-can-be-requires
 can-be-requires c κs = search needs
 
--- src/lib.rt:206:5
 sub-type-requires-2 : tie.Need-sub-type-requires-2
 sub-type-requires-2 c κs = search needs
 
--- src/lib.rt:199:1
 returns-2 : tie.Need-returns-2
-returns-2 c = ?
+returns-2 c =
+    let a = c .before .before .before .before .before .before .args in
+    sub-other (a .t .now) (a .r .at) (a .r .size) (a .r .wrappers) (a .q .at) (a .q .size) (a .q .wrappers) (c .before .before .before .is-text .ensures) (c .before .before .if1 .left) (c .before .can-be .ensures) (c .sub-type2 .ensures)
 
 pub is-sub-type-spec : {M : Type 1} → statement M
 is-sub-type-spec =

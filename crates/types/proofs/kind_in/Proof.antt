@@ -1,3 +1,8 @@
+use mathlib.Core.Path.{_≡_, sym, _∙_}
+use Prim.Native.Nat.{_<_, _≤_}
+use native.Mathlib.Omega.{arith}
+use borrow.Author.Tests.{lt-ltb, le-ltb}
+use Rattle.index.specs.Book.{countIn}
 use borrow.Author.Needs.{needs}
 use Rattle.types.proofs.kind_in.Statement.{statement}
 use Rattle.types.proofs.kind_in.Tie as tie
@@ -6,21 +11,21 @@ use Rattle.types.proofs.kind_in.Lts as lts
 use Rattle.index.proofs.count_of.Reads as count-of-reads
 use Rattle.index.proofs.kind_of.Reads as kind-of-reads
 
--- src/lib.rt:179:12
 count-of-requires : tie.Need-count-of-requires
 count-of-requires c κs = search needs
 
--- src/lib.rt:180:9
 kind-of-requires : tie.Need-kind-of-requires
 kind-of-requires c κs = search needs
 
--- src/lib.rt:180:9
 returns : tie.Need-returns
-returns c = ?
+returns c =
+    let l : c .before .before .before .before .args .i < countIn (c .before .before .before .before .args .book .now) = omega (arith, c .before .if1 .taken, c .before .before .count-of .ensures) in
+    c .kind-of .ensures ∙ rw (lt-ltb _ _ l)
 
--- src/lib.rt:175:1
 returns-2 : tie.Need-returns-2
-returns-2 c = ?
+returns-2 c =
+    let l : countIn (c .before .before .before .args .book .now) ≤ c .before .before .before .args .i = omega (arith, c .if1 .left, c .before .count-of .ensures) in
+    rw (le-ltb _ _ l)
 
 pub kind-in-spec : {M : Type 1} → statement M
 kind-in-spec = tie.close (tie.spec count-of-requires kind-of-requires returns returns-2)

@@ -1,3 +1,7 @@
+use mathlib.Core.Path.{_≡_, sym, _∙_}
+use native.Mathlib.Omega.{arith}
+use Rattle.index.specs.Book.{part}
+use Rattle.types.proofs.Meanings.{means-built-in, means-definition, means-nothing}
 use borrow.Author.Needs.{needs}
 use Rattle.types.proofs.meaning_of.Statement.{statement}
 use Rattle.types.proofs.meaning_of.Tie as tie
@@ -7,29 +11,23 @@ use Rattle.index.proofs.count_of.Reads as count-of-reads
 use Rattle.types.proofs.first_type.Reads as first-type-reads
 use Rattle.types.proofs.is_built_in.Reads as is-built-in-reads
 
--- src/lib.rt:128:8
 is-built-in-requires : tie.Need-is-built-in-requires
 is-built-in-requires c κs = search needs
 
--- src/lib.rt:129:9
 returns : tie.Need-returns
-returns c = ?
+returns c = means-built-in (c .before .before .before .before .before .args .t .now) (c .before .before .before .before .before .args .book .now) (c .before .before .before .before .before .pre .0) (part (c .before .before .before .before .before .args .s .now) (c .before .before .before .before .before .args .at) (c .before .before .before .before .before .args .n)) (sym (c .before .is-built-in .ensures) ∙ c .if1 .taken)
 
--- src/lib.rt:131:9
 first-type-requires : tie.Need-first-type-requires
 first-type-requires c κs = search needs
 
--- src/lib.rt:132:12
 count-of-requires : tie.Need-count-of-requires
 count-of-requires c κs = search needs
 
--- src/lib.rt:133:9
 returns-2 : tie.Need-returns-2
-returns-2 c = ?
+returns-2 c = means-definition (c .before .before .before .before .before .before .before .before .args .t .now) (c .before .before .before .before .before .before .before .before .args .book .now) (c .before .before .before .before .before .before .before .before .pre .0) (part (c .before .before .before .before .before .before .before .before .args .s .now) (c .before .before .before .before .before .before .before .before .args .at) (c .before .before .before .before .before .before .before .before .args .n)) (c .before .before .first-type .ensures) (sym (c .before .before .before .before .is-built-in .ensures) ∙ c .before .before .before .if1 .left) (omega (arith, c .if2 .taken, c .before .count-of .ensures))
 
--- src/lib.rt:124:1
 returns-3 : tie.Need-returns-3
-returns-3 c = ?
+returns-3 c = means-nothing (c .before .before .before .before .before .before .before .before .args .t .now) (c .before .before .before .before .before .before .before .before .args .book .now) (c .before .before .before .before .before .before .before .before .pre .0) (part (c .before .before .before .before .before .before .before .before .args .s .now) (c .before .before .before .before .before .before .before .before .args .at) (c .before .before .before .before .before .before .before .before .args .n)) (c .before .before .first-type .ensures) (sym (c .before .before .before .before .is-built-in .ensures) ∙ c .before .before .before .if1 .left) (omega (arith, c .if2 .left, c .before .count-of .ensures))
 
 pub meaning-of-spec : {M : Type 1} → statement M
 meaning-of-spec =

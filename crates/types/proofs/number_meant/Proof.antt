@@ -1,3 +1,6 @@
+use mathlib.Core.Path.{_≡_, sym, _∙_}
+use Rattle.index.specs.Book.{part}
+use Rattle.types.proofs.Meanings.{number-built-in, number-first}
 use borrow.Author.Needs.{needs}
 use Rattle.types.proofs.number_meant.Statement.{statement}
 use Rattle.types.proofs.number_meant.Tie as tie
@@ -7,25 +10,20 @@ use Rattle.index.proofs.count_of.Reads as count-of-reads
 use Rattle.types.proofs.first_type.Reads as first-type-reads
 use Rattle.types.proofs.is_built_in.Reads as is-built-in-reads
 
--- src/lib.rt:190:8
 is-built-in-requires : tie.Need-is-built-in-requires
 is-built-in-requires c κs = search needs
 
--- src/lib.rt:191:9
 count-of-requires : tie.Need-count-of-requires
 count-of-requires c κs = search needs
 
--- src/lib.rt:191:9
 returns : tie.Need-returns
-returns c = ?
+returns c = number-built-in (c .before .before .before .before .before .before .args .t .now) (c .before .before .before .before .before .before .args .book .now) (c .before .before .before .before .before .before .pre .0) (part (c .before .before .before .before .before .before .args .s .now) (c .before .before .before .before .before .before .args .at) (c .before .before .before .before .before .before .args .n)) (sym (c .before .before .is-built-in .ensures) ∙ c .before .if1 .taken) (c .count-of .ensures)
 
--- src/lib.rt:193:5
 first-type-requires : tie.Need-first-type-requires
 first-type-requires c κs = search needs
 
--- src/lib.rt:186:1
 returns-2 : tie.Need-returns-2
-returns-2 c = ?
+returns-2 c = number-first (c .before .before .before .before .before .before .args .t .now) (c .before .before .before .before .before .before .args .book .now) (c .before .before .before .before .before .before .pre .0) (part (c .before .before .before .before .before .before .args .s .now) (c .before .before .before .before .before .before .args .at) (c .before .before .before .before .before .before .args .n)) (sym (c .before .before .is-built-in .ensures) ∙ c .before .if1 .left) (c .first-type .ensures)
 
 pub number-meant-spec : {M : Type 1} → statement M
 number-meant-spec =

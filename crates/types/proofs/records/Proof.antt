@@ -1,3 +1,11 @@
+use borrow.Author.Needs.{needs}
+use mathlib.Core.Path.{_≡_, sym, _∙_}
+use lib.ListN.{length}
+use Prim.Native.Nat.{_-_}
+use native.Mathlib.Omega.{arith}
+use Rattle.fields.specs.Fields.{fieldAt}
+use Rattle.fields.specs.declared.FieldRead.the-variants.{Field}
+use Rattle.types.proofs.Recording.{Recording, recording-start, recording-end, recording-torn, next-below, next-bounds, recording-more}
 use Rattle.types.proofs.records.Statement.{statement}
 use Rattle.types.proofs.records.Tie as tie
 use Rattle.types.proofs.records.Reads as reads
@@ -6,58 +14,62 @@ use Rattle.fields.proofs.read_field.Reads as read-field-reads
 use Rattle.types.proofs.enter.Reads as enter-reads
 
 abbrev Inv-loop : tie.InvT-loop
-Inv-loop t book₀ end at₀ i₀ book at i = ?
+Inv-loop t book₀ end at₀ i₀ book at i = Recording t book at i
 
 abbrev μ-loop : tie.MeasureT-loop
-μ-loop t book₀ end at₀ i₀ book at i = ?
+μ-loop t book₀ end at₀ i₀ book at i = length t - at
 
--- src/lib.rt:60:5
+read : (c : tie.After-tag Inv-loop μ-loop)
+    → fieldAt (c .before .before .before .before .before .before .before .args .t .now) (c .before .before .before .before .loop .at) (length (c .before .before .before .before .before .before .before .args .t .now)) ≡ Field (c .tag .given .0 .0) (c .tag .given .0 .1 .0) (c .tag .given .0 .1 .1 .0)
+read c =
+    sym (c .before .before .read-field .ensures) ∙ c .tag .given .1
+
+
 loop-holds : tie.Need-loop-holds Inv-loop μ-loop
-loop-holds c = ?
+loop-holds c = recording-start _ _ (c .before .before .pre)
 
--- src/lib.rt:61:58
 read-field-requires : tie.Need-read-field-requires Inv-loop μ-loop
-read-field-requires c κs = ?
+read-field-requires c κs = record { order = c .before .loop .inv .within; within = omega arith; most = c .before .before .before .before .pre .short }
 
--- src/lib.rt:61:32
 enum-known-tag : tie.Need-enum-known-tag Inv-loop μ-loop
-enum-known-tag c = ?
+enum-known-tag c = search needs
 
--- src/lib.rt:62:13
 enum-told : tie.Need-enum-told Inv-loop μ-loop
-enum-told c = ?
+enum-told c = search needs
 
--- src/lib.rt:62:13
 same-length : tie.Need-same-length Inv-loop μ-loop
-same-length c = ?
+same-length c = c .before .before .before .before .loop .inv .cells ∙ sym (c .before .before .before .before .before .before .before .pre .cells)
 
--- src/lib.rt:62:13
 returns : tie.Need-returns Inv-loop μ-loop
-returns c = ?
+returns c = recording-torn (c .before .before .before .before .before .before .before .args .t .now) (c .before .before .before .before .loop .book) (c .before .before .before .before .loop .at) (c .before .before .before .before .loop .i) (c .before .before .before .before .loop .inv) (c .before .before .before .loop-test .taken) (sym (c .before .before .read-field .ensures) ∙ c .enum-told .given .1)
 
--- src/lib.rt:64:9
 enter-requires : tie.Need-enter-requires Inv-loop μ-loop
-enter-requires c κs = ?
+enter-requires c κs =
+    let l = c .before .before .before .before .before .before .loop in
+    let n = next-bounds (c .before .before .before .before .before .before .before .before .before .args .t .now) (l .book) (l .at) (l .i) (l .inv) (c .before .before .before .before .before .loop-test .taken) _ _ _ (read ((c .before .before))) in
+    (record { order = n .0; within = n .1; most = c .before .before .before .before .before .before .before .before .before .pre .short }, l .inv .cells, omega (arith, next-below (c .before .before .before .before .before .before .before .before .before .args .t .now) (l .book) (l .at) (l .i) (l .inv) (c .before .before .before .before .before .loop-test .taken) _ _ _ (read ((c .before .before))), c .before .before .before .before .before .before .before .before .before .pre .few))
 
--- src/lib.rt:65:9
 add-i : tie.Need-add-i Inv-loop μ-loop
-add-i c = ?
+add-i c =
+    let l = c .before .before .before .before .before .before .before .before .before .loop in
+    omega (arith, next-below (c .before .before .before .before .before .before .before .before .before .before .before .before .args .t .now) (l .book) (l .at) (l .i) (l .inv) (c .before .before .before .before .before .before .before .before .loop-test .taken) _ _ _ (read ((c .before .before .before .before .before))), c .before .before .before .before .before .before .before .before .before .before .before .before .pre .few)
 
--- src/lib.rt:60:5
 loop-less : tie.Need-loop-less Inv-loop μ-loop
-loop-less c = ?
+loop-less c =
+    let l = c .before .before .before .before .before .before .before .before .before .loop in
+    let n = next-bounds (c .before .before .before .before .before .before .before .before .before .before .before .before .args .t .now) (l .book) (l .at) (l .i) (l .inv) (c .before .before .before .before .before .before .before .before .loop-test .taken) _ _ _ (read ((c .before .before .before .before .before))) in
+    omega (arith, n .1, n .2)
 
--- src/lib.rt:60:5
 loop-again : tie.Need-loop-again Inv-loop μ-loop
-loop-again c = ?
+loop-again c =
+    let l = c .before .before .before .before .before .before .before .before .before .loop in
+    recording-more (c .before .before .before .before .before .before .before .before .before .before .before .before .args .t .now) (l .book) (l .at) (l .i) (l .inv) (c .before .before .before .before .before .before .before .before .loop-test .taken) _ _ _ (read ((c .before .before .before .before .before))) _ (c .before .before .enter .ensures)
 
--- src/lib.rt:53:1
 same-length-2 : tie.Need-same-length-2 Inv-loop μ-loop
-same-length-2 c = ?
+same-length-2 c = c .before .loop .inv .cells ∙ sym (c .before .before .before .before .pre .cells)
 
--- src/lib.rt:53:1
 returns-2 : tie.Need-returns-2 Inv-loop μ-loop
-returns-2 c = ?
+returns-2 c = recording-end (c .before .before .before .before .args .t .now) (c .before .loop .book) (c .before .loop .at) (c .before .loop .i) (c .before .loop .inv) (c .loop-test .left)
 
 pub records-spec : {M : Type 1} → statement M
 records-spec =
