@@ -29,7 +29,7 @@ pub enum Meant {
 }
 
 // Writes entry i.
-fn put_entry(book: &mut [u32], i: usize, tag: u8, name: usize, size: usize, start: usize, end: usize)
+pub fn put_entry(book: &mut [u32], i: usize, tag: u8, name: usize, size: usize, start: usize, end: usize)
     requires { ⌜ (length (now book) ≡ bookSize) × (i < room) × (name ≤ mostTable) × (size ≤ mostTable) × (start ≤ mostTable) × (end ≤ mostTable) ⌝ }
     ensures { λ _. ⌜ Put (now (book .entry)) (now (book .exit)) i tag name size start end ⌝ }
 {
