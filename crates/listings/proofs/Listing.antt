@@ -1,22 +1,21 @@
 -- How a record's members are entered in a book, one by one, and found by their names.
 use mathlib.Core.Path.{_≡_, refl, sym, ap, _∙_}
-use mathlib.Core.Bool.{Bool, true, false, _&&_, cond}
-use mathlib.Core.Option.{Option, none, some}
+use mathlib.Core.Bool.{Bool, true, false, cond}
+use mathlib.Core.Option.{none, some}
 use mathlib.Core.List.{List, [], _∷_}
-use Prim.Native.Nat.{ℕ, zero, suc, _+_, _-_, _≤_, _<_}
+use Prim.Native.Nat.{ℕ, suc, _+_, _≤_, _<_}
 use native.Mathlib.Omega.{arith}
 use lib.ListN.{length, drop, getD, set, length-set, length-drop}
 use lib.Seq.{getD-set-same, getD-set-other, drop-drop, getD-drop}
-use lib.Dec.{ltb, leb}
+use lib.Dec.{ltb}
 use borrow.Author.Tests.{ltb-true, ltb-false, le-leb}
 use Rattle.paper.specs.Tokens.{same}
 use Rattle.paper_types.specs.Lists.{firstAt, find}
 use Rattle.paper_types.specs.Types.{Member, nameOnly, tagNothing}
 use Rattle.paper_types.specs.Rules.{memberNamed}
-use Rattle.paper_types.proofs.ListsLaws.{firstAt-here, firstAt-later, firstAt-most}
-use Rattle.index.specs.Book.{Key, noKey, part, room, cellName, cellSize, cellStart, cellEnd, cellCount, bookSize, countIn, keyAt, keysOf, keyed, Held, Linked}
+use Rattle.index.specs.Book.{noKey, room, cellName, cellSize, cellStart, cellEnd, cellCount, bookSize, countIn, keysOf, keyed, Held, Linked}
 use Rattle.index.proofs.Keys.{keys-count, keys-at, count-kept}
-use Rattle.members.specs.Members.{membersIn, memberFrom, Lies, First, Named, Finds}
+use Rattle.members.specs.Members.{membersIn, memberFrom, First, Named, Finds}
 use Rattle.types.specs.Booked.{startIn, endIn, SameEntry, Put}
 use Rattle.listings.specs.Listed.{mostTag, memberOn, Entered, Listed, Listable, Entering, Collected}
 

@@ -1,7 +1,7 @@
 -- The names of the built-in scalars, one after the other.
 use mathlib.Core.Path.{_≡_, refl, sym, _∙_}
 use mathlib.Core.Bool.{Bool, true, false, _||_}
-use mathlib.Core.List.{List, [], _∷_}
+use mathlib.Core.List.{List}
 use Prim.Native.Nat.{ℕ}
 use Rattle.paper.specs.Tokens.{same}
 use Rattle.paper_types.specs.Lists.{bytes, anyOf}

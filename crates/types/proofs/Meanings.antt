@@ -1,21 +1,19 @@
 -- What a name means, by the number that a search of the book finds.
 use mathlib.Core.Path.{_≡_, refl, sym, ap, _∙_}
 use mathlib.Core.Bool.{Bool, true, false, _&&_}
-use mathlib.Core.List.{List, [], _∷_, map}
-use Prim.Native.Nat.{ℕ, _+_, _≤_, _<_}
+use mathlib.Core.List.{List}
+use Prim.Native.Nat.{ℕ, _≤_, _<_}
 use native.Mathlib.Omega.{arith}
 use lib.ListN.{length, getD, List·getD-eq-default}
-use lib.Dec.{leb, ltb, eqb}
-use borrow.Author.Tests.{le-leb, lt-leb, le-ltb, lt-ltb, eq-eqb, ne-eqb, eqb-true, eqb-false, leb-true, leb-false}
+use lib.Dec.{leb, eqb}
+use borrow.Author.Tests.{le-leb, le-ltb, lt-ltb, eqb-true, eqb-false, leb-true, leb-false}
 use Rattle.paper.specs.Tokens.{same}
-use Rattle.paper_types.specs.TableNumbers.{tagScalar}
-use Rattle.paper_types.specs.Lists.{anyOf, firstAt}
-use Rattle.paper_types.specs.Types.{Definition, Table, tableOf, typeNamed, directiveNamed, isBuiltIn, Meaning, builtIn, nothing, definition, meaning, blank, tagNothing, meant}
+use Rattle.paper_types.specs.Lists.{firstAt}
+use Rattle.paper_types.specs.Types.{Definition, tableOf, typeNamed, directiveNamed, isBuiltIn, builtIn, nothing, definition, meaning, blank, tagNothing, meant}
 use Rattle.paper_types.proofs.ListsLaws.{firstAt-map}
 use Rattle.paper_types.proofs.MeaningLaws.{meaning-first, meant-first}
 use Rattle.index.specs.Book.{countIn, keysOf, keyed}
 use Rattle.types.specs.Booked.{keyOf, Booked, NumberMeant, spoken}
-use Rattle.types.specs.declared.Meant.{Meant}
 use Rattle.types.specs.declared.Meant.the-variants.{BuiltIn, Definition as Defined, Nothing}
 
 type-keyed : (n : List ℕ) (d : Definition) → keyed 0 6 n (keyOf d) ≡ typeNamed n d

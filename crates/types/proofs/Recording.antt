@@ -1,25 +1,25 @@
 -- How a table's definitions are entered in a book, record by record.
-use mathlib.Core.Path.{_≡_, refl, sym, ap, subst, _∙_}
+use mathlib.Core.Path.{_≡_, refl, sym, ap, _∙_}
 use mathlib.Core.Bool.{Bool, true, false}
 use mathlib.Core.List.{List, [], _∷_, _++_, map}
-use Prim.Native.Nat.{ℕ, zero, suc, _+_, _-_, _≤_, _<_}
+use Prim.Native.Nat.{ℕ, zero, suc, _+_, _≤_, _<_}
 use native.Mathlib.Omega.{arith}
-use lib.ListN.{length, take, drop, getD, set, length-set, length-drop, length-map}
+use lib.ListN.{length, drop, getD, set, length-set, length-drop, length-map}
 use lib.Seq.{slice, getD-set-same, getD-set-other, take-length, drop-drop, getD-drop, ext-getD}
 use lib.Dec.{ltb}
 use borrow.Author.Tests.{ltb-true, ltb-false}
 use Rattle.paper_types.specs.TableNumbers.{mostTable}
 use Rattle.paper_types.specs.Lists.{gather}
-use Rattle.paper_types.specs.House.{Piece, piece, cut, pieces}
+use Rattle.paper_types.specs.House.{piece, cut, pieces}
 use Rattle.paper_types.specs.Types.{Definition, definitionOf, tableOf, nameIn, blank, tagNothing}
 use Rattle.fields.specs.Fields.{fieldAt}
 use Rattle.fields.specs.declared.FieldRead.the-variants.{Field, Cut}
 use Rattle.fields.proofs.FieldLaws.{field-lies}
-use Rattle.index.specs.Book.{part, room, cellName, cellSize, cellStart, cellEnd, cellCount, cellNext, bookSize, countIn, keyAt, keysOf, Held, Linked, noKey}
+use Rattle.index.specs.Book.{room, cellName, cellSize, cellStart, cellEnd, cellCount, bookSize, countIn, keyAt, keysOf, Held, Linked, noKey}
 use Rattle.index.proofs.Keys.{keys-count, keys-at, count-kept}
 use Rattle.members.specs.Members.{fieldsIn, definitionFrom, Named}
 use Rattle.members.proofs.GatherLaws.{gather-none, gather-torn, gather-field}
-use Rattle.types.specs.Booked.{keyOf, startIn, endIn, definitionOn, Entered, SameEntry, Booked, Bookable, Put, Entering, Recorded}
+use Rattle.types.specs.Booked.{keyOf, definitionOn, Entered, SameEntry, Booked, Bookable, Put, Entering, Recorded}
 
 -- five cells are written
 abbrev pub putIn : List ℕ → ℕ → ℕ → ℕ → ℕ → ℕ → ℕ → List ℕ

@@ -2,14 +2,12 @@
 use mathlib.Core.Path.{_≡_, refl, sym, ap, _∙_}
 use mathlib.Core.Bool.{Bool, true, false, _||_}
 use mathlib.Core.List.{List}
-use Prim.Native.Nat.{ℕ, _≤_}
+use Prim.Native.Nat.{ℕ}
 use Rattle.paper.specs.Tokens.{same}
-use Rattle.paper.specs.Numbers.{mostWrappers}
 use Rattle.paper_types.specs.References.{Ref, named, listOf, nonNull, baseOf, sameRef}
 use Rattle.paper_types.specs.SubTypes.{subTest}
 use Rattle.paper_types.specs.Types.{tableOf, canBe}
 use Rattle.paper_types.proofs.SubTypesLaws.{subTest-bases}
-use Rattle.fields.specs.Wrappers.{wrapperCount}
 use Rattle.index.specs.Book.{part, SubAnswer}
 use Rattle.members.specs.Members.{Typed}
 use Rattle.members.proofs.TypeLaws.{typed-packs}

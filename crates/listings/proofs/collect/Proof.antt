@@ -1,5 +1,5 @@
 use borrow.Author.Needs.{needs}
-use mathlib.Core.Path.{_≡_, sym, subst, _∙_}
+use mathlib.Core.Path.{sym, subst, _∙_}
 use Prim.Native.Nat.{_-_, _≤_}
 use native.Mathlib.Omega.{arith}
 use Rattle.members.specs.Members.{NextMember}
@@ -8,10 +8,6 @@ use Rattle.listings.specs.Listed.{mostTag}
 use Rattle.listings.proofs.Listing.{Collecting, collecting-start, collecting-end, collecting-more, member-below}
 use Rattle.listings.proofs.collect.Statement.{statement}
 use Rattle.listings.proofs.collect.Tie as tie
-use Rattle.listings.proofs.collect.Reads as reads
-use Rattle.listings.proofs.collect.Lts as lts
-use Rattle.listings.proofs.enter.Reads as enter-reads
-use Rattle.members.proofs.next_member.Reads as next-member-reads
 
 abbrev Inv-loop : tie.InvT-loop
 Inv-loop t book₀ from end at₀ i₀ book at i = Collecting t book from end at i
@@ -23,7 +19,6 @@ found : (c : tie.After-tag Inv-loop μ-loop)
     → NextMember (c .before .before .before .before .before .before .args .t .now) (c .before .before .before .loop .at) (c .before .before .before .before .before .before .args .end) (Found (c .tag .given .0 .0) (c .tag .given .0 .1 .0) (c .tag .given .0 .1 .1 .0))
 found c =
     subst (NextMember (c .before .before .before .before .before .before .args .t .now) (c .before .before .before .loop .at) (c .before .before .before .before .before .before .args .end)) (c .tag .given .1) (c .before .before .next-member .ensures)
-
 
 loop-holds : tie.Need-loop-holds Inv-loop μ-loop
 loop-holds c = collecting-start _ _ _ _ (c .before .before .pre)

@@ -2,10 +2,6 @@ use Rattle.listings.proofs.Listing.{entering-is}
 use borrow.Author.Needs.{needs}
 use Rattle.listings.proofs.enter.Statement.{statement}
 use Rattle.listings.proofs.enter.Tie as tie
-use Rattle.listings.proofs.enter.Reads as reads
-use Rattle.listings.proofs.enter.Lts as lts
-use Rattle.members.proofs.member_name.Reads as member-name-reads
-use Rattle.types.proofs.put_entry.Reads as put-entry-reads
 
 member-name-requires : tie.Need-member-name-requires
 member-name-requires c κs = search needs

@@ -1,4 +1,3 @@
-use mathlib.Core.Path.{_≡_, sym, _∙_}
 use Prim.Native.Nat.{_<_}
 use native.Mathlib.Omega.{arith}
 use Rattle.index.specs.Book.{part, countIn}
@@ -6,13 +5,6 @@ use Rattle.listings.proofs.Listing.{listed-found, listed-none}
 use borrow.Author.Needs.{needs}
 use Rattle.listings.proofs.find_listed.Statement.{statement}
 use Rattle.listings.proofs.find_listed.Tie as tie
-use Rattle.listings.proofs.find_listed.Reads as reads
-use Rattle.listings.proofs.find_listed.Lts as lts
-use Rattle.index.proofs.count_of.Reads as count-of-reads
-use Rattle.index.proofs.end_of.Reads as end-of-reads
-use Rattle.index.proofs.find_key.Reads as find-key-reads
-use Rattle.index.proofs.kind_of.Reads as kind-of-reads
-use Rattle.index.proofs.start_of.Reads as start-of-reads
 
 find-key-requires : tie.Need-find-key-requires
 find-key-requires c κs = search needs

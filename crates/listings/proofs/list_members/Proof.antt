@@ -2,10 +2,6 @@ use Rattle.listings.proofs.Listing.{counted-held, listed-is}
 use borrow.Author.Needs.{needs}
 use Rattle.listings.proofs.list_members.Statement.{statement}
 use Rattle.listings.proofs.list_members.Tie as tie
-use Rattle.listings.proofs.list_members.Reads as reads
-use Rattle.listings.proofs.list_members.Lts as lts
-use Rattle.index.proofs.link.Reads as link-reads
-use Rattle.listings.proofs.collect.Reads as collect-reads
 
 collect-requires : tie.Need-collect-requires
 collect-requires c κs = search needs

@@ -1,20 +1,11 @@
-use mathlib.Core.Path.{_≡_, sym, ap, _∙_}
+use mathlib.Core.Path.{_≡_, sym, _∙_}
 use native.Mathlib.Omega.{arith}
 use Rattle.paper_types.specs.Types.{tableOf, meant}
-use Rattle.index.specs.Book.{part, countIn}
+use Rattle.index.specs.Book.{part}
 use Rattle.members.specs.Members.{implementedIn, membersIn}
 use Rattle.types.proofs.Objects.{kind-below, number-room, number-tag, number-other, number-implements, number-members, no-object, no-abstract, an-interface, a-union, entry-bounds}
-use borrow.Author.Needs.{needs}
 use Rattle.types.proofs.can_be.Statement.{statement}
 use Rattle.types.proofs.can_be.Tie as tie
-use Rattle.types.proofs.can_be.Reads as reads
-use Rattle.types.proofs.can_be.Lts as lts
-use Rattle.index.proofs.end_of.Reads as end-of-reads
-use Rattle.index.proofs.start_of.Reads as start-of-reads
-use Rattle.members.proofs.implements.Reads as implements-reads
-use Rattle.types.proofs.has_member.Reads as has-member-reads
-use Rattle.types.proofs.kind_in.Reads as kind-in-reads
-use Rattle.types.proofs.number_meant.Reads as number-meant-reads
 
 number-meant-requires : tie.Need-number-meant-requires
 number-meant-requires c κs = (c .before .before .before .pre .0, c .before .before .before .pre .2)

@@ -3,10 +3,6 @@ use Rattle.types.proofs.Recording.{entering-is}
 use borrow.Author.Needs.{needs}
 use Rattle.types.proofs.enter.Statement.{statement}
 use Rattle.types.proofs.enter.Tie as tie
-use Rattle.types.proofs.enter.Reads as reads
-use Rattle.types.proofs.enter.Lts as lts
-use Rattle.members.proofs.name_in.Reads as name-in-reads
-use Rattle.types.proofs.put_entry.Reads as put-entry-reads
 
 name-in-requires : tie.Need-name-in-requires
 name-in-requires c κs = search needs

@@ -2,10 +2,6 @@ use Rattle.types.proofs.Recording.{counted-held, booked-is}
 use borrow.Author.Needs.{needs}
 use Rattle.types.proofs.fill.Statement.{statement}
 use Rattle.types.proofs.fill.Tie as tie
-use Rattle.types.proofs.fill.Reads as reads
-use Rattle.types.proofs.fill.Lts as lts
-use Rattle.index.proofs.link.Reads as link-reads
-use Rattle.types.proofs.records.Reads as records-reads
 
 records-requires : tie.Need-records-requires
 records-requires c κs = search needs

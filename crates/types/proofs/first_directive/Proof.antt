@@ -4,9 +4,6 @@ use Rattle.types.proofs.Meanings.{directive-first}
 use borrow.Author.Needs.{needs}
 use Rattle.types.proofs.first_directive.Statement.{statement}
 use Rattle.types.proofs.first_directive.Tie as tie
-use Rattle.types.proofs.first_directive.Reads as reads
-use Rattle.types.proofs.first_directive.Lts as lts
-use Rattle.index.proofs.find_key.Reads as find-key-reads
 
 find-key-requires : tie.Need-find-key-requires
 find-key-requires c κs = search needs

@@ -4,9 +4,6 @@ use Rattle.types.proofs.Meanings.{type-first}
 use borrow.Author.Needs.{needs}
 use Rattle.types.proofs.first_type.Statement.{statement}
 use Rattle.types.proofs.first_type.Tie as tie
-use Rattle.types.proofs.first_type.Reads as reads
-use Rattle.types.proofs.first_type.Lts as lts
-use Rattle.index.proofs.find_key.Reads as find-key-reads
 
 find-key-requires : tie.Need-find-key-requires
 find-key-requires c κs = search needs

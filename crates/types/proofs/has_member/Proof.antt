@@ -1,4 +1,4 @@
-use mathlib.Core.Path.{_≡_, sym, ap, subst, _∙_}
+use mathlib.Core.Path.{sym, ap, subst, _∙_}
 use Rattle.paper_types.specs.Rules.{memberNamed}
 use Rattle.paper_types.specs.References.{found}
 use Rattle.index.specs.Book.{part}
@@ -7,9 +7,6 @@ use Rattle.types.proofs.Objects.{any-found}
 use borrow.Author.Needs.{needs}
 use Rattle.types.proofs.has_member.Statement.{statement}
 use Rattle.types.proofs.has_member.Tie as tie
-use Rattle.types.proofs.has_member.Reads as reads
-use Rattle.types.proofs.has_member.Lts as lts
-use Rattle.members.proofs.find_member.Reads as find-member-reads
 
 find-member-requires : tie.Need-find-member-requires
 find-member-requires c κs = search needs

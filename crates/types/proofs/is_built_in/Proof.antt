@@ -1,12 +1,9 @@
-use mathlib.Core.Path.{_≡_, sym, _∙_}
+use mathlib.Core.Path.{sym, _∙_}
 use Rattle.index.specs.Book.{part}
 use Rattle.types.proofs.BuiltIns.{built-1, built-2, built-3, built-4, built-5}
 use borrow.Author.Needs.{needs}
 use Rattle.types.proofs.is_built_in.Statement.{statement}
 use Rattle.types.proofs.is_built_in.Tie as tie
-use Rattle.types.proofs.is_built_in.Reads as reads
-use Rattle.types.proofs.is_built_in.Lts as lts
-use Rattle.index.proofs.is_text.Reads as is-text-reads
 
 slice-aggregate-is-text : tie.Need-slice-aggregate-is-text
 slice-aggregate-is-text c = search needs

@@ -1,13 +1,7 @@
-use mathlib.Core.Path.{_≡_, sym, _∙_}
 use Rattle.types.proofs.SubTyping.{sub-alike, sub-other}
 use borrow.Author.Needs.{needs}
 use Rattle.types.proofs.is_sub_type.Statement.{statement}
 use Rattle.types.proofs.is_sub_type.Tie as tie
-use Rattle.types.proofs.is_sub_type.Reads as reads
-use Rattle.types.proofs.is_sub_type.Lts as lts
-use Rattle.index.proofs.is_text.Reads as is-text-reads
-use Rattle.index.proofs.sub_type.Reads as sub-type-reads
-use Rattle.types.proofs.can_be.Reads as can-be-reads
 
 is-text-requires : tie.Need-is-text-requires
 is-text-requires c κs = search needs

@@ -1,4 +1,4 @@
-use mathlib.Core.Path.{_≡_, sym, _∙_}
+use mathlib.Core.Path.{_∙_}
 use Prim.Native.Nat.{_<_, _≤_}
 use native.Mathlib.Omega.{arith}
 use borrow.Author.Tests.{lt-ltb, le-ltb}
@@ -6,10 +6,6 @@ use Rattle.index.specs.Book.{countIn}
 use borrow.Author.Needs.{needs}
 use Rattle.types.proofs.kind_in.Statement.{statement}
 use Rattle.types.proofs.kind_in.Tie as tie
-use Rattle.types.proofs.kind_in.Reads as reads
-use Rattle.types.proofs.kind_in.Lts as lts
-use Rattle.index.proofs.count_of.Reads as count-of-reads
-use Rattle.index.proofs.kind_of.Reads as kind-of-reads
 
 count-of-requires : tie.Need-count-of-requires
 count-of-requires c κs = search needs

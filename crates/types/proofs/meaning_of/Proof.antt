@@ -1,15 +1,10 @@
-use mathlib.Core.Path.{_≡_, sym, _∙_}
+use mathlib.Core.Path.{sym, _∙_}
 use native.Mathlib.Omega.{arith}
 use Rattle.index.specs.Book.{part}
 use Rattle.types.proofs.Meanings.{means-built-in, means-definition, means-nothing}
 use borrow.Author.Needs.{needs}
 use Rattle.types.proofs.meaning_of.Statement.{statement}
 use Rattle.types.proofs.meaning_of.Tie as tie
-use Rattle.types.proofs.meaning_of.Reads as reads
-use Rattle.types.proofs.meaning_of.Lts as lts
-use Rattle.index.proofs.count_of.Reads as count-of-reads
-use Rattle.types.proofs.first_type.Reads as first-type-reads
-use Rattle.types.proofs.is_built_in.Reads as is-built-in-reads
 
 is-built-in-requires : tie.Need-is-built-in-requires
 is-built-in-requires c κs = search needs

@@ -1,14 +1,9 @@
-use mathlib.Core.Path.{_≡_, sym, _∙_}
+use mathlib.Core.Path.{sym, _∙_}
 use Rattle.index.specs.Book.{part}
 use Rattle.types.proofs.Meanings.{number-built-in, number-first}
 use borrow.Author.Needs.{needs}
 use Rattle.types.proofs.number_meant.Statement.{statement}
 use Rattle.types.proofs.number_meant.Tie as tie
-use Rattle.types.proofs.number_meant.Reads as reads
-use Rattle.types.proofs.number_meant.Lts as lts
-use Rattle.index.proofs.count_of.Reads as count-of-reads
-use Rattle.types.proofs.first_type.Reads as first-type-reads
-use Rattle.types.proofs.is_built_in.Reads as is-built-in-reads
 
 is-built-in-requires : tie.Need-is-built-in-requires
 is-built-in-requires c κs = search needs

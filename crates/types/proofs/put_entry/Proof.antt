@@ -3,8 +3,6 @@ use Rattle.types.proofs.Recording.{put-is, l1, l2, l3, l4}
 use borrow.Author.Needs.{needs}
 use Rattle.types.proofs.put_entry.Statement.{statement}
 use Rattle.types.proofs.put_entry.Tie as tie
-use Rattle.types.proofs.put_entry.Reads as reads
-use Rattle.types.proofs.put_entry.Lts as lts
 
 mul-book : tie.Need-mul-book
 mul-book c = search needs

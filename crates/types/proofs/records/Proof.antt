@@ -8,10 +8,6 @@ use Rattle.fields.specs.declared.FieldRead.the-variants.{Field}
 use Rattle.types.proofs.Recording.{Recording, recording-start, recording-end, recording-torn, next-below, next-bounds, recording-more}
 use Rattle.types.proofs.records.Statement.{statement}
 use Rattle.types.proofs.records.Tie as tie
-use Rattle.types.proofs.records.Reads as reads
-use Rattle.types.proofs.records.Lts as lts
-use Rattle.fields.proofs.read_field.Reads as read-field-reads
-use Rattle.types.proofs.enter.Reads as enter-reads
 
 abbrev Inv-loop : tie.InvT-loop
 Inv-loop t book₀ end at₀ i₀ book at i = Recording t book at i
@@ -23,7 +19,6 @@ read : (c : tie.After-tag Inv-loop μ-loop)
     → fieldAt (c .before .before .before .before .before .before .before .args .t .now) (c .before .before .before .before .loop .at) (length (c .before .before .before .before .before .before .before .args .t .now)) ≡ Field (c .tag .given .0 .0) (c .tag .given .0 .1 .0) (c .tag .given .0 .1 .1 .0)
 read c =
     sym (c .before .before .read-field .ensures) ∙ c .tag .given .1
-
 
 loop-holds : tie.Need-loop-holds Inv-loop μ-loop
 loop-holds c = recording-start _ _ (c .before .before .pre)
