@@ -3,3 +3,4 @@ pub mod Meanings
 pub mod Objects
 pub mod SubTyping
 pub mod Recording
+pub mod Fitting
