@@ -1,0 +1,81 @@
+/* How much stack a call takes: it runs on a stack of its own that was painted, and the paint that is gone is counted. */
+#define _GNU_SOURCE
+#include "stack.h"
+
+#include "gateway.h"
+
+#include <stdint.h>
+#include <stdio.h>
+#include <string.h>
+#include <ucontext.h>
+
+enum { STACK = 256 * 1024, PAINT = 0x5A };
+
+static uint8_t stack[STACK] __attribute__((aligned(64)));
+static uint8_t document[GW_MOST_TEXT];
+static size_t length;
+static uint32_t rows[GW_ROWS_SIZE], report[GW_REPORT_SIZE];
+static ucontext_t here, there;
+
+static void with_call(void) {
+    gw_parse(document, length, rows, GW_ROWS_SIZE, report, GW_REPORT_SIZE);
+}
+
+static void without_call(void) {
+}
+
+/* The bytes of the painted stack that a function's run has changed. */
+static size_t used_by(void (*f)(void)) {
+    size_t clean = 0;
+    memset(stack, PAINT, sizeof stack);
+    getcontext(&there);
+    there.uc_stack.ss_sp = stack;
+    there.uc_stack.ss_size = sizeof stack;
+    there.uc_link = &here;
+    makecontext(&there, f, 0);
+    swapcontext(&here, &there);
+    while (clean < sizeof stack && stack[clean] == PAINT)
+        clean++;
+    return sizeof stack - clean;
+}
+
+static size_t stack_of_call(void) {
+    size_t with = used_by(with_call), without = used_by(without_call);
+    return with > without ? with - without : 0;
+}
+
+static void put(const char *s, int times) {
+    for (size_t n = strlen(s); times-- > 0 && length + n <= sizeof document; length += n)
+        memcpy(document + length, s, n);
+}
+
+/* Levels of selection sets, then of values: 31 or 32 in all. */
+static size_t deep(int sets, const char *value, int values) {
+    length = 0;
+    put("query Q($v:[[[[[T!]]]]]=[1])@d{", 1);
+    put("...on T@d(x:1){", sets);
+    put("a@d(x:", 1);
+    put(value, values);
+    put("1", 1);
+    return stack_of_call();
+}
+
+static size_t larger(size_t a, size_t b) {
+    return a > b ? a : b;
+}
+
+size_t most_stack(int count, char **paths) {
+    size_t most = 0;
+    for (int sets = 0; sets <= 30; sets++) {
+        most = larger(most, deep(sets, "[", 30 - sets));
+        most = larger(most, deep(sets, "{y:", 30 - sets));
+    }
+    for (int i = 0; i < count; i++) {
+        FILE *file = fopen(paths[i], "rb");
+        length = file ? fread(document, 1, sizeof document, file) : 0;
+        if (file)
+            fclose(file);
+        most = larger(most, stack_of_call());
+    }
+    return most;
+}
