@@ -49,14 +49,22 @@ static void put(const char *s, int times) {
         memcpy(document + length, s, n);
 }
 
-/* Levels of selection sets, then of values: 31 or 32 in all. */
-static size_t deep(int sets, const char *value, int values) {
+/* Selection sets, then values: 32 levels in all. */
+static size_t deep(const char *set, int sets, const char *value, int values) {
     length = 0;
     put("query Q($v:[[[[[T!]]]]]=[1])@d{", 1);
-    put("...on T@d(x:1){", sets);
+    put(set, sets);
     put("a@d(x:", 1);
     put(value, values);
     put("1", 1);
+    return stack_of_call();
+}
+
+/* A default value of 31 levels, in the parentheses of the variables. */
+static size_t deep_default(const char *value) {
+    length = 0;
+    put("query Q($v:T=", 1);
+    put(value, 31);
     return stack_of_call();
 }
 
@@ -65,10 +73,13 @@ static size_t larger(size_t a, size_t b) {
 }
 
 size_t most_stack(int count, char **paths) {
+    static const char *const sets[] = {"a:b(x:1)@d{", "...on T@d(x:1){"}, *const values[] = {"[", "{y:"};
     size_t most = 0;
-    for (int sets = 0; sets <= 30; sets++) {
-        most = larger(most, deep(sets, "[", 30 - sets));
-        most = larger(most, deep(sets, "{y:", 30 - sets));
+    for (int v = 0; v < 2; v++) {
+        most = larger(most, deep_default(values[v]));
+        for (int s = 0; s < 2; s++)
+            for (int n = 0; n <= 30; n++)
+                most = larger(most, deep(sets[s], n, values[v], 30 - n));
     }
     for (int i = 0; i < count; i++) {
         FILE *file = fopen(paths[i], "rb");
