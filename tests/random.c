@@ -302,6 +302,23 @@ static void many_rows(struct text *t) {
     put(t, "}");
 }
 
+/* The 65th fragment or variable where row 2,049 may be, too. */
+static void many_of_both(struct text *t) {
+    if (one_in(2)) {
+        repeat(t, 63, "fragment F on Q{a}");
+        put(t, "fragment F on Q{");
+        repeat(t, 1854 + random_below(6), "a ");
+        put(t, "}");
+        repeat(t, 2, "fragment F on Q{a}");
+    } else {
+        put(t, "query(");
+        repeat(t, 63, "$v:T ");
+        put(t, "$v:T=[");
+        repeat(t, 1915 + random_below(6), "1 ");
+        put(t, "] $v:T $v:T){a}");
+    }
+}
+
 static void many_counts(struct text *t) {
     if (one_in(2)) {
         repeat(t, 60 + random_below(7), "fragment F on Q{a}");
@@ -337,7 +354,7 @@ static void full_length(struct text *t) {
 
 static void shaped_document(struct text *t) {
     switch (random_below(16)) {
-    case 0: many_rows(t); break;
+    case 0: one_in(2) ? many_rows(t) : many_of_both(t); break;
     case 1: full_length(t); break;
     case 2: case 3: case 4: many_counts(t); break;
     case 5: case 6: case 7: case 8: many_wrappers(t); break;
