@@ -4,7 +4,6 @@
      bench FILE..      (bench/run builds it and gives the files of bench/inputs) */
 #define _GNU_SOURCE
 #include "gateway.h"
-#include "stack.h"
 
 #include <inttypes.h>
 #include <stdio.h>
@@ -243,6 +242,5 @@ int main(int argc, char **argv) {
     print_inputs(argc - 1, argv + 1);
     print_growth();
     print_refusals();
-    printf("\nstack of a call, in bytes: at most %zu\n", most_stack(argc - 1, argv + 1));
     return 0;
 }

@@ -27,6 +27,8 @@ extern "C" {
 #define GW_ROWS_SIZE 14336    /* GW_MOST_ROWS * GW_ROW_SIZE */
 #define GW_REPORT_SIZE 8
 
+#define GW_PARSE_STACK 20480  /* bytes of stack, more than gw_parse takes */
+
 /* What a call answers, which is also report[0]. Shown: report[1]. */
 #define GW_ACCEPTED 0             /* shown: the count of rows */
 #define GW_REFUSE_BUFFER 1        /* a buffer is shorter than its fixed size; nothing shown */
@@ -96,8 +98,8 @@ extern "C" {
      GW_REFUSE_OVER_LENGTH   2, GW_INPUT_DOCUMENT, zeros     untouched
      any other               its number, offset, zeros       zeros up to GW_ROWS_SIZE
 
-   Beyond the fixed sizes nothing is written. Beyond the lent buffers a call takes at most @STACK@ bytes of stack
-   (measured by bench/run).
+   Beyond the fixed sizes nothing is written. The call takes less than GW_PARSE_STACK bytes of stack (measured, not
+   proved: tests/stack.c).
 
      static uint32_t rows[GW_ROWS_SIZE];
      uint32_t report[GW_REPORT_SIZE];

@@ -1,7 +1,7 @@
 #!/usr/bin/env python3
 """Holds include/gateway.h to crates/paper/src/lib.rt: each number of the one is in the other, with GW_ before its name.
 
-The header alone names the columns of a row.
+The header alone names the columns of a row and the stack of a call.
 """
 import pathlib
 import re
@@ -18,6 +18,7 @@ def numbers(path, pattern):
 def main():
     code = numbers('crates/paper/src/lib.rt', r'^pub const (\w+): \w+ = (\d+);')
     header = numbers('include/gateway.h', r'^#define GW_(\w+) (\d+)\b')
+    header.pop('PARSE_STACK')
     columns = {name: header.pop(name, None) for name in COLUMNS if name not in code}
     wrong = sorted(name for name in code.keys() | header.keys() if code.get(name) != header.get(name))
     wrong += [name for i, name in enumerate(COLUMNS) if columns.get(name, i) != i]

@@ -1,7 +1,8 @@
-/* How much stack a call takes: it runs on a stack of its own that was painted, and the paint that is gone is counted. */
-#define _GNU_SOURCE
-#include "stack.h"
+/* How much stack a call of gw_parse takes: it runs on a stack of its own that was painted, and the paint that is gone is
+   counted, on deep documents and on those of the files. It must not be more than the header says.
 
+     stack FILE.. */
+#define _GNU_SOURCE
 #include "gateway.h"
 
 #include <stdint.h>
@@ -72,7 +73,7 @@ static size_t larger(size_t a, size_t b) {
     return a > b ? a : b;
 }
 
-size_t most_stack(int count, char **paths) {
+static size_t most_on_deep_ones(void) {
     static const char *const sets[] = {"a:b(x:1)@d{", "...on T@d(x:1){"}, *const values[] = {"[", "{y:"};
     size_t most = 0;
     for (int v = 0; v < 2; v++) {
@@ -81,12 +82,21 @@ size_t most_stack(int count, char **paths) {
             for (int n = 0; n <= 30; n++)
                 most = larger(most, deep(sets[s], n, values[v], 30 - n));
     }
-    for (int i = 0; i < count; i++) {
-        FILE *file = fopen(paths[i], "rb");
-        length = file ? fread(document, 1, sizeof document, file) : 0;
-        if (file)
-            fclose(file);
-        most = larger(most, stack_of_call());
-    }
     return most;
+}
+
+static size_t on_file(const char *path) {
+    FILE *file = fopen(path, "rb");
+    length = file ? fread(document, 1, sizeof document, file) : 0;
+    if (file)
+        fclose(file);
+    return stack_of_call();
+}
+
+int main(int argc, char **argv) {
+    size_t most = most_on_deep_ones();
+    for (int i = 1; i < argc; i++)
+        most = larger(most, on_file(argv[i]));
+    printf("stack: a call takes at most %zu bytes; the header says %d\n", most, GW_PARSE_STACK);
+    return most <= GW_PARSE_STACK ? 0 : 1;
 }
