@@ -169,7 +169,8 @@ static void print_document(const struct document *d) {
 }
 
 static void print_inputs(int count, char **paths) {
-    printf("%-22s %6s %5s %5s %9s %7s %9s %6s %9s %6s\n", "document", "bytes", "says", "shows", "ns/call", "MB/s", "class ns", "times", "memset ns", "times");
+    printf("%-22s %6s %5s %5s %9s %7s %9s %6s %9s %6s\n", "document", "bytes", "says", "shows", "ns/call", "MB/s", "class ns",
+           "times", "memset ns", "times");
     for (int i = 0; i < count; i++) {
         struct document *d = read_document(paths[i]);
         print_document(d);
@@ -219,6 +220,9 @@ static struct document *usual_end(size_t *at) {
 }
 
 static void print_refusals(void) {
+    /* a field of 32 levels, one in the other */
+    static const char nest[] = "a{a{a{a{a{a{a{a{a{a{a{a{a{a{a{a{a{a{a{a{a{a{a{a{a{a{a{a{a{a{a{a"
+                               "}}}}}}}}}}}}}}}}}}}}}}}}}}}}}}}";
     size_t end;
     struct document *d = usual_end(&end);
     printf("\n%-34s %6s %4s %6s %9s %9s %6s\n", "refused, beside an accepted one", "bytes", "says", "shows", "ns/call", "accepted", "times");
@@ -233,7 +237,7 @@ static void print_refusals(void) {
     print_refused(made_of("", "{a}#", "z", "", GW_MOST_TEXT), "3, a long comment's last byte", "\x01", GW_MOST_TEXT - 1);
     print_refused(made_of("", "{a(x:\"", "\\u00e9", "\")}", GW_MOST_TEXT), "3, a long string's last escape", "\\x", GW_MOST_TEXT - 10);
     print_refused(made_of("", "{", "abcdefg ", "}", GW_MOST_TEXT), "6 at row 2,049", "a b", GW_MOST_TEXT - 10);
-    print_refused(made_of("", "{", "a{a{a{a{a{a{a{a{a{a{a{a{a{a{a{a{a{a{a{a{a{a{a{a{a{a{a{a{a{a{a{a}}}}}}}}}}}}}}}}}}}}}}}}}}}}}}}", "}", 6000), "5 at level 33, early", "a{b{", 63);
+    print_refused(made_of("", "{", nest, "}", 6000), "5 at level 33, early", "a{b{", 63);
     print_refused(made_of("", "{", "...F ", "}", 5 * 2000), "3 behind 1,999 spreads", "%", 5 * 2000 - 4);
 }
 

@@ -365,7 +365,8 @@ static int run_random(long count, const struct corpus *given) {
             prefixes++;
         }
     }
-    printf("harness: %ld random documents, %" PRIu64 " bytes, %ld of them over length; %ld beginnings of refused ones\n", count, bytes, longs, prefixes);
+    printf("harness: %ld random documents, %" PRIu64 " bytes, %ld of them over length; %ld beginnings of refused ones\n", count,
+           bytes, longs, prefixes);
     print_seen();
     return 0;
 }
