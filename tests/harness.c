@@ -2,10 +2,12 @@
 
      harness vectors CASES            the cases of `reader.py cases`, compared in full
      harness buffers                  short and long buffers, long documents
+     harness every                    prints short documents, all of some kinds, with their answers, for `reader.py compare`
      harness random COUNT CASES FILE..   random documents; checks what holds for every document
-     harness sample COUNT CASES FILE..   prints random documents with their answers, for `reader.py compare`
+     harness sample COUNT CASES FILE..   prints random documents with their answers, as `every`
 
    The buffers lie between pages that trap. Ends with status 1 at the first thing that is wrong. */
+#include "every.h"
 #include "gateway.h"
 #include "guard.h"
 #include "random.h"
@@ -320,14 +322,18 @@ static void print_case(const struct text *t) {
     printf("\n");
 }
 
+static void print_answer(const struct text *t) {
+    lend(t->bytes, t->length, GW_ROWS_SIZE, GW_REPORT_SIZE, t->length & 1);
+    checked_call();
+    print_case(t);
+}
+
 static int run_sample(long count, const struct corpus *given) {
     static struct text t;
     random_start(SEED + 1);
     for (long i = 0; i < count; i++) {
         random_document(&t, given);
-        lend(t.bytes, t.length, GW_ROWS_SIZE, GW_REPORT_SIZE, i & 1);
-        checked_call();
-        print_case(&t);
+        print_answer(&t);
     }
     return 0;
 }
@@ -380,8 +386,12 @@ int main(int argc, char **argv) {
         return run_vectors(argv[2]);
     if (argc == 2 && strcmp(argv[1], "buffers") == 0)
         return run_buffers();
+    if (argc == 2 && strcmp(argv[1], "every") == 0) {
+        every_document(print_answer);
+        return 0;
+    }
     if (argc < 4) {
-        fprintf(stderr, "usage: harness vectors CASES | buffers | random COUNT CASES FILE.. | sample COUNT CASES FILE..\n");
+        fprintf(stderr, "usage: harness vectors CASES | buffers | every | random COUNT CASES FILE.. | sample COUNT CASES FILE..\n");
         return 2;
     }
     struct corpus given = {NULL, 0};
