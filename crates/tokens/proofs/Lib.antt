@@ -1,0 +1,4 @@
+-- Laws of the token reader, over plain lists and numbers.
+pub mod Unroll
+pub mod KindLaws
+pub mod HeadLaws
