@@ -1,4 +1,6 @@
 -- Laws of the token reader, over plain lists and numbers.
+pub mod ByteLaws
+pub mod RunLaws
 pub mod Unroll
 pub mod KindLaws
 pub mod HeadLaws

@@ -1,2 +1,4 @@
 pub mod Head
 pub mod Piece
+pub mod Run
+pub mod Skip
