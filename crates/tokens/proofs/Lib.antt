@@ -1,6 +1,7 @@
 -- Laws of the token reader, over plain lists and numbers.
 pub mod ByteLaws
 pub mod RunLaws
+pub mod NumberParts
 pub mod Unroll
 pub mod KindLaws
 pub mod HeadLaws
