@@ -2,6 +2,9 @@
 pub mod ByteLaws
 pub mod RunLaws
 pub mod NumberParts
+pub mod ReadLaws
+pub mod StepLaws
+pub mod WhatLaws
 pub mod Unroll
 pub mod KindLaws
 pub mod HeadLaws
