@@ -5,6 +5,7 @@ pub mod NumberParts
 pub mod ReadLaws
 pub mod StepLaws
 pub mod WhatLaws
+pub mod PieceLaws
 pub mod Unroll
 pub mod KindLaws
 pub mod HeadLaws
