@@ -6,6 +6,7 @@ pub mod ReadLaws
 pub mod StepLaws
 pub mod WhatLaws
 pub mod PieceLaws
+pub mod NumberLaws
 pub mod Unroll
 pub mod KindLaws
 pub mod HeadLaws
