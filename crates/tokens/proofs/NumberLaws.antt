@@ -2,9 +2,9 @@
 use mathlib.Core.Path.{_≡_, refl, sym, ap, _∙_, subst}
 use mathlib.Core.Bool.{Bool, true, false, cond, _&&_, _||_}
 use mathlib.Core.List.{List, [], _∷_}
-use mathlib.Core.Logic.{⊎-elim}
+use mathlib.Core.Logic.{_⊎_, inl, inr, ⊎-elim}
 use mathlib.Core.Option.{Option, none, some}
-use Prim.Native.Nat.{ℕ, suc, _+_, _<_, _≤_}
+use Prim.Native.Nat.{ℕ, suc, _+_, _-_, _<_, _≤_}
 use native.Mathlib.Nat.{add-zero, zero-add, eq-or-lt-of-le}
 use native.Mathlib.Omega.{arith}
 use borrow.Author.Tests.{leb-true, eq-eqb, ne-eqb}
@@ -12,17 +12,21 @@ use lib.Dec.{leb, ltb, eqb}
 use lib.ListN.{length, getD, drop}
 use lib.Seq.{drop-drop}
 use Rattle.paper.specs.Grammar.{nt, act, tok}
-use Rattle.paper.specs.Language.{int, float}
-use Rattle.paper.specs.Lexical.{What, is, Piece, Digit*, Digit+, Sign?, Whole, span, digit, dot, e, sign, zero, lexical, hitsByte}
+use Rattle.paper.specs.Language.{Class, int, float}
+use Rattle.paper.specs.Lexical.{What, is, Piece, Digit*, Digit+, Sign?, Whole, span, letter, digit, dot, e, sign, zero, lexical, hitsByte}
 use Rattle.paper.proofs.Machine.{took, refused, step, enter, choose}
 use Rattle.paper.proofs.LexTables.{lexer, lexFactored}
+use Rattle.tokens.specs.Head.{kindOf}
 use Rattle.tokens.specs.Piece.{asToken, tokenHere}
 use Rattle.tokens.specs.Run.{runOf, startsWith, withDigits, fractionSize, signSize, exponentSize, wholeSize}
+use Rattle.tokens.specs.Skip.{punctuatorOf}
 use Rattle.tokens.specs.declared.TokenRead.{TokenRead}
 use Rattle.tokens.specs.declared.TokenRead.the-variants.{Token, Bad}
-use Rattle.tokens.proofs.RunLaws.{run-yes}
+use Rattle.tokens.proofs.ByteLaws.{front}
+use Rattle.tokens.proofs.RunLaws.{run-yes, starts-at}
 use Rattle.tokens.proofs.ReadLaws.{Stack, Read, Nothing, read-size, read-take, read-end, read-stop, read-back, read-mark, read-run, read-alike, nothing-alike, alike-byte, alike-end, nothing-take, nothing-refused, nothing-end, read-token, nothing-token}
-use Rattle.tokens.proofs.StepLaws.{repeats-digit, step-digit, step-no-digit, end-digit, step-sign, step-no-sign, end-sign, Exponent, Exponent?, Rest, step-e, step-no-e, rest-e, rest-none, rest-dot, end-exponent, end-rest}
+use Rattle.tokens.proofs.StepLaws.{repeats-digit, step-digit, step-no-digit, end-digit, step-sign, step-no-sign, end-sign, step-no-whole, end-whole, Exponent, Exponent?, Rest, step-e, step-no-e, rest-e, rest-none, rest-dot, end-exponent, end-rest}
+use Rattle.tokens.proofs.WhatLaws.{bad-byte}
 
 false≢true : {X : Type 0} → false ≡ true → X
 false≢true q = let z : _≡_ {A = ℕ} 0 1 = cc in let y : ⊥ = omega arith in absurd y
@@ -225,3 +229,61 @@ whole-read {σ} W (b ∷ bs) h = go (hitsByte zero b) refl
     go false q =
         whole-fit (b ∷ bs) (suc (runOf digit bs)) (suc (runOf digit bs + restSize (drop (runOf digit bs) bs))) (whole-is b bs false q ∙ omega arith) (omega arith)
         (read-take (W .step-more b (other q) (digit-range b h .1)) (read-run repeats-digit Rest bs (restSize (drop (runOf digit bs) bs)) (restWhat (restSize (drop (runOf digit bs) bs))) (rest-read (drop (runOf digit bs) bs))))
+
+signed-none : (bs : List ℕ) → startsWith digit bs ≡ false → Nothing Signed bs
+signed-none [] h = nothing-end (end-whole Rest)
+signed-none (b ∷ bs) h = nothing-refused (step-no-whole b Rest h) (end-whole Rest)
+
+minus : step lexer (nt Piece ∷ []) (some 45) ≡ took (tok 45 ∷ []) Signed
+unfolding step enter choose lexFactored lexical
+minus = refl
+
+piece-end : step lexer (nt Piece ∷ []) none ≡ refused
+unfolding step enter choose lexFactored lexical
+piece-end = refl
+
+-- d is the place behind the sign of the number at `at`
+abbrev pub Behind : List ℕ → ℕ → ℕ → Type 0
+Behind s at d = ((getD s at 0 ≡ 45) × (d ≡ at + 1)) ⊎ ((getD s at 0 ≡ 45 → ⊥) × (d ≡ at))
+
+module _ (s : List ℕ) (at d : ℕ) (h : at < length s) where
+  number-read : (n : ℕ) → startsWith digit (drop d s) ≡ true → at + n ≡ d + numberSize (drop d s) → Behind s at d → Read (nt Piece ∷ []) (drop at s) n (numberWhat (drop d s))
+  number-read n q m (inl z) =
+      rw (front s at h, z .0) (read-size (omega (arith, z .1)) (read-take minus (subst (λ (k : ℕ). Read Signed (drop k s) (numberSize (drop d s)) (numberWhat (drop d s))) (z .1) (whole-read wholes-signed (drop d s) q))))
+  number-read n q m (inr z) = read-size (omega (arith, z .1)) (subst (λ (k : ℕ). Read (nt Piece ∷ []) (drop k s) (numberSize (drop d s)) (numberWhat (drop d s))) (z .1) (whole-read wholes-piece (drop d s) q))
+
+  behind-low : Behind s at d → at ≤ d
+  behind-low (inl z) = omega (arith, z .1)
+  behind-low (inr z) = omega (arith, z .1)
+
+  -- no digit: no number, and nothing else that is a token
+  pub number-bad : getD s at 0 < 256 → hitsByte letter (getD s at 0) ≡ false → punctuatorOf (getD s at 0) ≡ 0 → (getD s at 0 ≡ 34 → ⊥) → (getD s at 0 ≡ 46 → ⊥) →
+      Behind s at d → startsWith digit (drop d s) ≡ false → Bad at ≡ tokenHere at (drop at s)
+  number-bad b l p x y (inl z) q =
+      sym (rw (front s at h, z .0) (nothing-token (45 ∷ drop (at + 1) s) (nothing-take minus piece-end (signed-none (drop (at + 1) s) (rw (z .1) at q))) at))
+  number-bad b l p x y (inr z) q =
+      let g : hitsByte digit (getD s at 0) ≡ false = sym (starts-at digit s at h) ∙ (rw (z .1) at q) in
+      sym (rw (front s at h) (bad-byte (getD s at 0) b (rw (l, g, p, ne-eqb _ _ x, ne-eqb _ _ y, ne-eqb _ _ (z .0)) tt) at (drop (at + 1) s)))
+
+  -- the places that the code finds: one past the integer part, the fraction and the exponent
+  module _ (w f k : ℕ) (W : w ≡ d + wholeSize (drop d s)) (F : f ≡ w + fractionSize (drop w s)) (K : k ≡ f + exponentSize (drop f s)) where
+    behind : drop (wholeSize (drop d s)) (drop d s) ≡ drop w s
+    behind = drop-drop (wholeSize (drop d s)) d s ∙ ap (λ (i : ℕ). drop i s) (sym W)
+
+    rest-at : k ≡ w + restSize (drop w s)
+    rest-at = rw (drop-drop (fractionSize (drop w s)) w s, ← F) (omega arith)
+
+    size-at : k ≡ d + numberSize (drop d s)
+    size-at = rw behind (omega (arith, rest-at))
+
+    token-at : (c : Class) → numberWhat (drop d s) ≡ is c → startsWith digit (drop d s) ≡ true → Behind s at d → Token (kindOf c) at k ≡ tokenHere at (drop at s)
+    token-at c e q z =
+        let l : at + (k - at) ≡ k = omega (arith, behind-low z, size-at) in
+        let r = read-token (drop at s) (number-read (k - at) q (l ∙ size-at) z) at in
+        sym (r ∙ ap (λ (v : What). asToken v at (k - at)) e ∙ ap (λ (i : ℕ). Token (kindOf c) at i) l)
+
+    pub number-int : startsWith digit (drop d s) ≡ true → Behind s at d → k ≡ w → Token 2 at k ≡ tokenHere at (drop at s)
+    number-int q z e = token-at int (rw (behind, eq-eqb (restSize (drop w s)) 0 (omega (arith, rest-at)))) q z
+
+    pub number-float : startsWith digit (drop d s) ≡ true → Behind s at d → (k ≡ w → ⊥) → Token 3 at k ≡ tokenHere at (drop at s)
+    number-float q z e = token-at float (rw (behind, ne-eqb (restSize (drop w s)) 0 (λ n. e (rest-at ∙ omega arith)))) q z

@@ -11,8 +11,8 @@ use lib.Dec.{T}
 use Rattle.paper.specs.Grammar.{Sym, nt, tm, act, Ev, tok, mark}
 use Rattle.paper.specs.Language.{n-other, int, float}
 use Rattle.paper.specs.Lexical.{Lex, Set, What, is, Piece, Name, NameRest*, Digit*, Digit+, Sign?, ExponentPart, ExponentPart?, NumberRest, Whole, digit, letter, letterOrDigit, dot, e, sign, lexical, hitsByte}
-use Rattle.paper.proofs.Machine.{Step, took, emptied, refused, spent, step, enter, choose}
-use Rattle.paper.proofs.Theory.{T→eq, or-l, step-by, step-none, choose-first, choose-null}
+use Rattle.paper.proofs.Machine.{took, emptied, refused, pick, fst, nul, step, enter, choose}
+use Rattle.paper.proofs.Theory.{or-l, pick-none, step-by, step-none, choose-first, choose-null}
 use Rattle.paper.proofs.LexTables.{lexer, lexFactored}
 use Rattle.paper.proofs.LexChecked.{fitsL}
 use Rattle.tokens.proofs.ReadLaws.{Stack, Repeats}
@@ -42,6 +42,11 @@ repeats-digit = record {
     over = λ b σ h. step-by fitsL Digit* (some b) σ (choose-null fitsL Digit* b (List·Memᴰ·head refl) tt (not-T (hitsByte digit b) h));
     end = λ σ. step-by fitsL Digit* none σ refl }
 
+-- a part that begins with none of its bytes
+pub step-not-first : (n : Lex) (b : ℕ) (σ : Stack) → pick (λ α. nul lexer α) (lexFactored n) ≡ none → (T (lexer .first n b) → ⊥) → step lexer (nt n ∷ σ) (some b) ≡ refused
+unfolding choose
+step-not-first n b σ q h = step-none fitsL n (some b) σ (rw (pick-none (λ α. fst lexer α b) (lexFactored n) (λ α m t. h (fitsL .first-closed n b m t))) q)
+
 -- a name's first letter
 pub step-letter : (b : ℕ) → hitsByte letter b ≡ true → step lexer (nt Piece ∷ []) (some b) ≡ took (tok b ∷ []) (nt NameRest* ∷ act (is n-other) ∷ [])
 unfolding lexical lexFactored
@@ -70,6 +75,15 @@ module _ (b : ℕ) (σ : Stack) where
   pub step-no-sign : hitsByte sign b ≡ false → step lexer (nt Sign? ∷ σ) (some b) ≡ step lexer σ (some b)
   unfolding lexical lexFactored
   step-no-sign h = step-by fitsL Sign? (some b) σ (choose-null fitsL Sign? b (List·Memᴰ·head refl) tt (not-T (hitsByte sign b) h))
+
+-- an integer part without its sign
+pub step-no-whole : (b : ℕ) (σ : Stack) → hitsByte digit b ≡ false → step lexer (nt Whole ∷ σ) (some b) ≡ refused
+unfolding lexical lexFactored
+step-no-whole b σ h = step-not-first Whole b σ refl (not-T (hitsByte digit b) h)
+
+pub end-whole : (σ : Stack) → step lexer (nt Whole ∷ σ) none ≡ refused
+unfolding lexical lexFactored choose
+end-whole σ = step-none fitsL Whole none σ refl
 
 pub end-digit : (σ : Stack) → step lexer (nt Digit+ ∷ σ) none ≡ refused
 unfolding lexical lexFactored choose
