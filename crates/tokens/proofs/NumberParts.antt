@@ -13,7 +13,7 @@ use lib.Seq.{drop-drop}
 use Rattle.paper.specs.Lexical.{Set, span, within, hitsByte, digit, dot, e, sign}
 use Rattle.tokens.specs.Run.{runOf, startsWith, withDigits, fractionSize, signSize, exponentSize, wholeSize}
 use Rattle.tokens.proofs.ByteLaws.{front}
-use Rattle.tokens.proofs.RunLaws.{run-yes, starts-at, starts-end}
+use Rattle.tokens.proofs.RunLaws.{run-yes, run-within, starts-at, starts-end}
 
 -- a set of one byte or two misses any other
 within-one : (v b : ℕ) → (b ≡ v → ⊥) → within (span v v) b ≡ false
@@ -117,3 +117,29 @@ module _ (s : List ℕ) where
     pub whole-more : i < length s → (getD s i 0 ≡ 48 → ⊥) → i + 1 + runOf digit (drop (i + 1) s) ≡ i + wholeSize (drop i s)
     unfolding wholeSize
     whole-more h q = rw (front s i h, miss-one 48 (getD s i 0) q) (omega arith)
+
+-- each lies within the text
+whole-within : (bs : List ℕ) → wholeSize bs ≤ length bs
+unfolding wholeSize
+whole-within [] = omega arith
+whole-within (b ∷ bs) = go (hitsByte (span 48 48 ∷ []) b)
+  where
+    go : (t : Bool) → cond t 1 (1 + runOf digit bs) ≤ suc (length bs)
+    go true = omega arith
+    go false = omega (arith, run-within digit bs)
+
+fraction-within : (bs : List ℕ) → fractionSize bs ≤ length bs
+unfolding fractionSize
+fraction-within [] = omega arith
+fraction-within (b ∷ bs) = go (hitsByte dot b) (startsWith digit bs)
+  where
+    go : (t d : Bool) → cond t (cond d (1 + runOf digit bs) 0) 0 ≤ suc (length bs)
+    go true true = omega (arith, run-within digit bs)
+    go true false = omega arith
+    go false d = omega arith
+
+pub whole-in : (s : List ℕ) (i : ℕ) → i ≤ length s → i + wholeSize (drop i s) ≤ length s
+whole-in s i h = omega (arith, whole-within (drop i s), length-drop i s)
+
+pub fraction-in : (s : List ℕ) (i : ℕ) → i ≤ length s → i + fractionSize (drop i s) ≤ length s
+fraction-in s i h = omega (arith, fraction-within (drop i s), length-drop i s)

@@ -1,12 +1,12 @@
 -- What stands at the front of some bytes, told by the first of them: names, punctuators, the spread, and what is ignored.
 use mathlib.Core.Path.{_≡_, refl, sym, ap, _∙_, subst}
-use mathlib.Core.Bool.{Bool, true, false, cond, not}
+use mathlib.Core.Bool.{Bool, true, false, cond, _||_}
 use mathlib.Core.List.{List, [], _∷_}
 use mathlib.Core.Option.{Option, none, some}
 use Prim.Native.Nat.{ℕ, zero, suc, _+_, _-_, _<_, _≤_}
 use native.Mathlib.Nat.{add-zero}
 use native.Mathlib.Omega.{arith}
-use borrow.Author.Tests.{eqb-true, eqb-false}
+use borrow.Author.Tests.{ne-eqb, eqb-true, eqb-false}
 use lib.Dec.{T, eqb}
 use lib.ListN.{length, getD, drop, length-drop, drop-of-length-le}
 use Rattle.paper.specs.Grammar.{nt, tm, act, tok}
@@ -20,10 +20,11 @@ use Rattle.tokens.specs.Run.{runOf}
 use Rattle.tokens.specs.Skip.{lookup, punctuatorOf}
 use Rattle.tokens.specs.declared.TokenRead.{TokenRead}
 use Rattle.tokens.specs.declared.TokenRead.the-variants.{Token, Bad}
-use Rattle.tokens.proofs.ByteLaws.{front}
+use Rattle.tokens.proofs.ByteLaws.{front, bytes-agree}
 use Rattle.tokens.proofs.NumberParts.{miss-one}
 use Rattle.tokens.proofs.ReadLaws.{Stack, Read, Nothing, read-size, read-take, read-mark, read-run, nothing-take, nothing-refused, nothing-end, read-token, nothing-token, read-ignored, nothing-ignored}
 use Rattle.tokens.proofs.StepLaws.{repeats-name, step-letter}
+use Rattle.tokens.proofs.WhatLaws.{blank, kept-byte}
 
 piece-end : step lexer (nt Piece ∷ []) none ≡ refused
 unfolding step enter choose lexFactored lexical
@@ -112,6 +113,10 @@ order : step lexer (nt Piece ∷ []) (some 239) ≡ took (tok 239 ∷ []) (Two 1
 unfolding step enter choose lexFactored lexical
 order = refl
 
+-- the bytes that begin what is ignored, one by one
+abbrev listed : ℕ → Bool
+listed b = eqb b 32 || (eqb b 10 || (eqb b 44 || (eqb b 13 || (eqb b 9 || (eqb b 35 || eqb b 239)))))
+
 module _ (s : List ℕ) (i : ℕ) (h : i < length s) where
   abbrev At : ℕ → ℕ
   At k = getD s (i + k) 0
@@ -179,3 +184,11 @@ module _ (s : List ℕ) (i : ℕ) (h : i < length s) where
   pub blank-comma : getD s i 0 ≡ 44 → 1 ≡ ignoredHere (drop i s)
   unfolding step enter choose lexFactored lexical
   blank-comma q = sym (rw (from-at 44 q) (read-ignored _ (read-take refl (read-mark ignored (drop (i + 1) s)))))
+
+  -- any other byte begins nothing that is ignored
+  pub no-blank : getD s i 0 < 256 → (getD s i 0 ≡ 32 → ⊥) → (getD s i 0 ≡ 10 → ⊥) → (getD s i 0 ≡ 44 → ⊥) → (getD s i 0 ≡ 13 → ⊥) → (getD s i 0 ≡ 9 → ⊥) → (getD s i 0 ≡ 35 → ⊥) → (getD s i 0 ≡ 239 → ⊥) →
+      0 ≡ ignoredHere (drop i s)
+  no-blank l a b c d e f g =
+      let q = bytes-agree listed (hitsByte blank) 0 256 tt (getD s i 0) (omega arith) (omega arith) in
+      let n : listed (getD s i 0) ≡ false = rw (ne-eqb _ _ a, ne-eqb _ _ b, ne-eqb _ _ c, ne-eqb _ _ d, ne-eqb _ _ e, ne-eqb _ _ f, ne-eqb _ _ g) in
+      sym (rw (front s i h) (kept-byte (getD s i 0) l (sym q ∙ n) (drop (i + 1) s)))
