@@ -9,4 +9,5 @@ pub mod PieceLaws
 pub mod NumberLaws
 pub mod Unroll
 pub mod KindLaws
+pub mod HereLaws
 pub mod HeadLaws
