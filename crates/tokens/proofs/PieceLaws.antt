@@ -192,3 +192,10 @@ module _ (s : List ℕ) (i : ℕ) (h : i < length s) where
       let q = bytes-agree listed (hitsByte blank) 0 256 tt (getD s i 0) (omega arith) (omega arith) in
       let n : listed (getD s i 0) ≡ false = rw (ne-eqb _ _ a, ne-eqb _ _ b, ne-eqb _ _ c, ne-eqb _ _ d, ne-eqb _ _ e, ne-eqb _ _ f, ne-eqb _ _ g) in
       sym (rw (front s i h) (kept-byte (getD s i 0) l (sym q ∙ n) (drop (i + 1) s)))
+
+  -- a name and a punctuator at a place
+  pub name-at : (e : ℕ) → hitsByte letter (getD s i 0) ≡ true → e ≡ i + 1 + runOf letterOrDigit (drop (i + 1) s) → Token 1 i e ≡ tokenHere i (drop i s)
+  name-at e q z = sym (rw (front s i h) (name-here (getD s i 0) i (drop (i + 1) s) q ∙ ap (λ (k : ℕ). Token 1 i k) (omega arith)))
+
+  pub mark-at : (k : ℕ) → k ≡ punctuatorOf (getD s i 0) → (k ≡ 0 → ⊥) → Token k i (i + 1) ≡ tokenHere i (drop i s)
+  mark-at k q z = sym (rw (front s i h, q) (mark-here (getD s i 0) i (drop (i + 1) s) (λ e. z (q ∙ e))))
