@@ -2,6 +2,7 @@
 ghost use mathlib.Core.Path.{_≡_};
 ghost use Prim.Native.Nat.{_+_, _-_, _≤_, _<_};
 ghost use lib.ListN.{length, take, drop};
+ghost use Rattle.paper.specs.Tokens.{same};
 ghost use Rattle.paper.proofs.Lexing.{from};
 ghost use Rattle.tokens.specs.Head.{headOf, wordOf};
 
@@ -100,7 +101,10 @@ pub fn in_name(b: u8) -> bool {
 }
 
 pub fn is_hex(b: u8) -> bool {
-    if is_digit(b) {
+    if b < 48 {
+        return false;
+    }
+    if b < 58 {
         return true;
     }
     if b < 65 {
@@ -586,6 +590,7 @@ pub fn next(s: &[u8], from: usize) -> TokenRead
 // Whether the bytes of s from `at` on begin with those of w.
 pub fn begins(s: &[u8], at: usize, w: &[u8]) -> bool
     requires { ⌜ at + length (now w) ≤ length (now s) ⌝ }
+    ensures { λ r. ⌜ r ≡ same (take (length (now (w .entry))) (drop at (now (s .entry)))) (now (w .entry)) ⌝ }
 {
     let mut i = 0;
     while i < w.len() {
@@ -628,11 +633,11 @@ pub fn word(s: &[u8], start: usize, end: usize) -> u32
         return WORD_OTHER;
     }
     if n == 8 {
-        if begins(s, start, b"fragment") {
-            return WORD_FRAGMENT;
-        }
         if begins(s, start, b"mutation") {
             return WORD_MUTATION;
+        }
+        if begins(s, start, b"fragment") {
+            return WORD_FRAGMENT;
         }
         return WORD_OTHER;
     }

@@ -1,0 +1,2 @@
+-- Laws of the definitions that the token reader's contracts cite.
+pub mod WordLaws
