@@ -1,2 +1,5 @@
 -- Laws of the definitions that the token reader's contracts cite.
 pub mod WordLaws
+pub mod ScanLaws
+pub mod CharacterScan
+pub mod RunScan
