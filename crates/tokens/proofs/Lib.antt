@@ -3,3 +3,4 @@ pub mod WordLaws
 pub mod ScanLaws
 pub mod CharacterScan
 pub mod RunScan
+pub mod StringLaws
