@@ -15,7 +15,7 @@ use Rattle.paper.proofs.Theory.{step-by, step-none, choose-first, or-l}
 use Rattle.paper.proofs.Longest.{scan}
 use Rattle.paper.proofs.LexTables.{lexer, lexFactored, firstsL}
 use Rattle.paper.proofs.LexChecked.{fitsL}
-use Rattle.tokens.specs.Characters.{fits, sized, wideSize, characterSize, escapedSize, withOne, partSize}
+use Rattle.tokens.specs.Characters.{fits, sized, wideSize, characterSize, escapedSize, withOne, partSize, fourHex}
 use Rattle.tokens.proofs.ScanLaws.{Stack, seen, more, grow, orThat, or-none, scan-took, scan-refused, scan-same, taken, choose-none, terms, after, led}
 
 pub is-true : (x : Bool) → x ≡ true → T x
@@ -73,10 +73,10 @@ scan-escape ρ [] = refl
 scan-escape ρ (b ∷ bs) = go (hitsByte escaped b) (hitsByte u b) refl refl
   where
     go : (x y : Bool) → hitsByte escaped b ≡ x → hitsByte u b ≡ y →
-        seen (scan lexer (nt Escape ∷ ρ) (b ∷ bs)) ≡ after (cond x 1 (cond y (sized (hex ∷ hex ∷ hex ∷ hex ∷ []) bs) 0)) ρ (b ∷ bs)
+        seen (scan lexer (nt Escape ∷ ρ) (b ∷ bs)) ≡ after (cond x 1 (cond y (sized fourHex bs) 0)) ρ (b ∷ bs)
     go true y p q = led [] (nt Escape ∷ ρ) ρ b bs (begun Escape escaped [] ρ b (List·Memᴰ·head refl) p) refl
     go false true p q =
-        led (hex ∷ hex ∷ hex ∷ hex ∷ []) (nt Escape ∷ ρ) ρ b bs (begun Escape u (tm hex ∷ tm hex ∷ tm hex ∷ tm hex ∷ []) ρ b (List·Memᴰ·tail (List·Memᴰ·head refl)) q) refl
+        led fourHex (nt Escape ∷ ρ) ρ b bs (begun Escape u (tm hex ∷ tm hex ∷ tm hex ∷ tm hex ∷ []) ρ b (List·Memᴰ·tail (List·Memᴰ·head refl)) q) refl
     go false false p q = ap seen (scan-refused (nt Escape ∷ ρ) b bs (step-none fitsL Escape (some b) ρ (rw (p, q) refl)))
 
 pub scan-comment-character : (ρ : Stack) (bs : List ℕ) → seen (scan lexer (nt CommentCharacter ∷ ρ) bs) ≡ after (characterSize bs) ρ bs

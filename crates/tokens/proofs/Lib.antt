@@ -1,5 +1,6 @@
 -- Laws of the definitions that the token reader's contracts cite.
 pub mod WordLaws
+pub mod SpanLaws
 pub mod ScanLaws
 pub mod CharacterScan
 pub mod RunScan

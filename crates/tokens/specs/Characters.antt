@@ -3,6 +3,7 @@ use mathlib.Core.Path.{_≡_}
 use mathlib.Core.Bool.{Bool, true, false, _&&_, cond}
 use mathlib.Core.List.{List, [], _∷_}
 use Prim.Native.Nat.{ℕ, zero, suc, _+_, _≤_}
+use lib.Dec.{eqb}
 use lib.ListN.{length, drop}
 use Rattle.paper.specs.Lexical.{Set, hitsByte, plain, commented, backslash, escaped, u, hex, lead2, e0, lead3, ed, tail, tailHigh, tailLow}
 
@@ -15,6 +16,14 @@ fits (p ∷ ps) (b ∷ bs) = hitsByte p b && fits ps bs
 -- the size of what has one byte before those that must fit
 abbrev pub sized : List Set → List ℕ → ℕ
 sized ps bs = cond (fits ps bs) (suc (length ps)) 0
+
+-- what may stand second in a character of three bytes that begins with this byte
+abbrev pub secondOf : ℕ → Set
+secondOf b = cond (eqb b 0xe0) tailHigh (cond (eqb b 0xed) tailLow tail)
+
+-- four digits, as an escape has them
+abbrev pub fourHex : List Set
+fourHex = hex ∷ hex ∷ hex ∷ hex ∷ []
 
 -- a character of two or three bytes
 unfoldable pub wideSize : List ℕ → ℕ
@@ -33,7 +42,7 @@ characterSize (b ∷ bs) = cond (hitsByte commented b) 1 (wideSize (b ∷ bs))
 -- what stands after a backslash
 unfoldable pub escapedSize : List ℕ → ℕ
 escapedSize [] = 0
-escapedSize (b ∷ bs) = cond (hitsByte escaped b) 1 (cond (hitsByte u b) (sized (hex ∷ hex ∷ hex ∷ hex ∷ []) bs) 0)
+escapedSize (b ∷ bs) = cond (hitsByte escaped b) 1 (cond (hitsByte u b) (sized fourHex bs) 0)
 
 -- with the byte before it
 abbrev pub withOne : ℕ → ℕ

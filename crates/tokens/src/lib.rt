@@ -1,10 +1,13 @@
 // Reads one token of a text at a time, by longest match.
 ghost use mathlib.Core.Path.{_≡_};
 ghost use Prim.Native.Nat.{_+_, _-_, _≤_, _<_};
-ghost use lib.ListN.{length, take, drop};
+ghost use lib.ListN.{length, take, drop, getD};
+ghost use Rattle.paper.specs.Lexical.{hitsByte, hex, escaped, tail};
 ghost use Rattle.paper.specs.Tokens.{same};
 ghost use Rattle.paper.proofs.Lexing.{from};
 ghost use Rattle.tokens.specs.Head.{headOf, wordOf};
+ghost use Rattle.tokens.specs.Piece.{tokenHere, ignoredHere};
+ghost use Rattle.tokens.specs.Characters.{fits, secondOf, fourHex, wideSize, characterSize, escapedSize, withOne, partSize, Ended};
 
 // What stands at a place: a token, or bytes that start none (also a string or a comment with bad text).
 pub enum TokenRead {
@@ -100,7 +103,9 @@ pub fn in_name(b: u8) -> bool {
     starts_name(b)
 }
 
-pub fn is_hex(b: u8) -> bool {
+pub fn is_hex(b: u8) -> bool
+    ensures { λ r. ⌜ r ≡ hitsByte hex b ⌝ }
+{
     if b < 48 {
         return false;
     }
@@ -120,7 +125,9 @@ pub fn is_hex(b: u8) -> bool {
 }
 
 // Whether a byte goes on with a character of UTF-8.
-pub fn is_tail(b: u8) -> bool {
+pub fn is_tail(b: u8) -> bool
+    ensures { λ r. ⌜ r ≡ hitsByte tail b ⌝ }
+{
     if b < 128 {
         return false;
     }
@@ -128,16 +135,20 @@ pub fn is_tail(b: u8) -> bool {
 }
 
 // Whether a byte may stand second in a character of three bytes that starts with `lead`: E0 bars overlong forms, ED surrogates.
-pub fn is_second(lead: u8, b: u8) -> bool {
+pub fn is_second(lead: u8, b: u8) -> bool
+    ensures { λ r. ⌜ r ≡ hitsByte (secondOf lead) b ⌝ }
+{
     if lead == 224 {
         if b < 160 {
             return false;
         }
+        return b < 192;
     }
     if lead == 237 {
-        if 159 < b {
+        if b < 128 {
             return false;
         }
+        return b < 160;
     }
     is_tail(b)
 }
@@ -145,6 +156,7 @@ pub fn is_second(lead: u8, b: u8) -> bool {
 // The size of the character of more than one byte at i, or 0.
 pub fn wide(s: &[u8], i: usize) -> usize
     requires { ⌜ i < length (now s) ⌝ }
+    ensures { λ r. ⌜ r ≡ wideSize (drop i (now (s .entry))) ⌝ }
 {
     let b = s[i];
     if b < 194 {
@@ -175,6 +187,7 @@ pub fn wide(s: &[u8], i: usize) -> usize
 // The size of the character at i that may stand in a comment, or 0.
 pub fn character(s: &[u8], i: usize) -> usize
     requires { ⌜ i < length (now s) ⌝ }
+    ensures { λ r. ⌜ r ≡ characterSize (drop i (now (s .entry))) ⌝ }
 {
     let b = s[i];
     if b < 32 {
@@ -190,7 +203,9 @@ pub fn character(s: &[u8], i: usize) -> usize
 }
 
 // Whether a byte may stand after a backslash, `u` apart.
-pub fn is_escaped(b: u8) -> bool {
+pub fn is_escaped(b: u8) -> bool
+    ensures { λ r. ⌜ r ≡ hitsByte escaped b ⌝ }
+{
     if b == 34 {
         return true;
     }
@@ -218,6 +233,7 @@ pub fn is_escaped(b: u8) -> bool {
 // Whether four hex digits stand at i.
 pub fn four_hex(s: &[u8], i: usize) -> bool
     requires { ⌜ i ≤ length (now s) ⌝ }
+    ensures { λ r. ⌜ r ≡ fits fourHex (drop i (now (s .entry))) ⌝ }
 {
     if s.len() - i < 4 {
         return false;
@@ -235,6 +251,7 @@ pub fn four_hex(s: &[u8], i: usize) -> bool
 // The size of the escape whose backslash stands at i, or 0.
 pub fn escape(s: &[u8], i: usize) -> usize
     requires { ⌜ i < length (now s) ⌝ }
+    ensures { λ r. ⌜ r ≡ withOne (escapedSize (drop (i + 1) (now (s .entry)))) ⌝ }
 {
     if s.len() <= i + 1 {
         return 0;
@@ -255,6 +272,7 @@ pub fn escape(s: &[u8], i: usize) -> usize
 // The size of what stands at i in a string, or 0 where that is no part of one.
 pub fn string_part(s: &[u8], i: usize) -> usize
     requires { ⌜ i < length (now s) ⌝ }
+    ensures { λ r. ⌜ r ≡ partSize (drop i (now (s .entry))) ⌝ }
 {
     let b = s[i];
     if b == 92 {
@@ -269,6 +287,7 @@ pub fn string_part(s: &[u8], i: usize) -> usize
 // One past the last of the characters of a string that stand from `from` on.
 pub fn string_end(s: &[u8], from: usize) -> usize
     requires { ⌜ from ≤ length (now s) ⌝ }
+    ensures { λ r. ⌜ Ended partSize (now (s .entry)) from r ⌝ }
 {
     let mut i = from;
     while i < s.len() {
@@ -283,7 +302,8 @@ pub fn string_end(s: &[u8], from: usize) -> usize
 
 // The string whose quote stands at `at`.
 pub fn string(s: &[u8], at: usize) -> TokenRead
-    requires { ⌜ at < length (now s) ⌝ }
+    requires { ⌜ (at < length (now s)) × (getD (now s) at 0 ≡ 34) ⌝ }
+    ensures { λ r. ⌜ r ≡ tokenHere at (drop at (now (s .entry))) ⌝ }
 {
     let e = string_end(s, at + 1);
     if e < s.len() {
@@ -297,6 +317,7 @@ pub fn string(s: &[u8], at: usize) -> TokenRead
 // One past the last of a comment's characters that stand from `from` on.
 pub fn comment_end(s: &[u8], from: usize) -> usize
     requires { ⌜ from ≤ length (now s) ⌝ }
+    ensures { λ r. ⌜ Ended characterSize (now (s .entry)) from r ⌝ }
 {
     let mut i = from;
     while i < s.len() {
@@ -311,7 +332,8 @@ pub fn comment_end(s: &[u8], from: usize) -> usize
 
 // The size of the comment whose # stands at i, or 0 where it has bad text.
 pub fn comment(s: &[u8], i: usize) -> usize
-    requires { ⌜ i < length (now s) ⌝ }
+    requires { ⌜ (i < length (now s)) × (getD (now s) i 0 ≡ 35) ⌝ }
+    ensures { λ r. ⌜ r ≡ ignoredHere (drop i (now (s .entry))) ⌝ }
 {
     let e = comment_end(s, i + 1);
     if s.len() <= e {
