@@ -1,22 +1,21 @@
 -- What the machine reads at a character of a comment or a string: as many bytes as its size says, and then the rest.
 -- Assumes nothing.
 use mathlib.Core.Path.{_≡_, refl, sym, ap, _∙_, subst}
-use mathlib.Core.Bool.{Bool, true, false, _&&_, _||_, cond}
+use mathlib.Core.Bool.{Bool, true, false, _&&_, cond}
 use mathlib.Core.List.{List, [], _∷_, _++_, List·Memᴰ, List·Memᴰ·head, List·Memᴰ·tail}
-use mathlib.Core.Option.{Option, none, some}
-use Prim.Native.Nat.{ℕ, zero, suc, _+_}
+use mathlib.Core.Option.{none, some}
+use Prim.Native.Nat.{ℕ, zero, suc}
 use lib.Dec.{T}
-use lib.ListN.{length, drop}
-use Rattle.paper.specs.Grammar.{Sym, nt, tm, act, Ev, tok, mark}
-use Rattle.paper.specs.Lexical.{Lex, Set, What, lexical, hitsByte, plain, commented, backslash, escaped, u, hex, lead2, e0, lead3, ed, tail, tailHigh, tailLow}
+use Rattle.paper.specs.Grammar.{nt, tm, tok}
+use Rattle.paper.specs.Lexical.{Lex, Set, lexical, hitsByte, plain, commented, backslash, escaped, u, hex, lead2, e0, lead3, ed, tail, tailHigh, tailLow}
 use Rattle.paper.specs.Lexical.{Wide, Escape, StringCharacter, CommentCharacter}
-use Rattle.paper.proofs.Machine.{Step, took, refused, step, choose, enter}
+use Rattle.paper.proofs.Machine.{took, step, choose, enter}
 use Rattle.paper.proofs.Theory.{step-by, step-none, choose-first, or-l}
 use Rattle.paper.proofs.Longest.{scan}
-use Rattle.paper.proofs.LexTables.{lexer, lexFactored, firstsL}
+use Rattle.paper.proofs.LexTables.{lexer, lexFactored}
 use Rattle.paper.proofs.LexChecked.{fitsL}
-use Rattle.tokens.specs.Characters.{fits, sized, wideSize, characterSize, escapedSize, withOne, partSize, fourHex}
-use Rattle.tokens.proofs.ScanLaws.{Stack, seen, more, grow, orThat, or-none, scan-took, scan-refused, scan-same, taken, choose-none, terms, after, led}
+use Rattle.tokens.specs.Characters.{sized, wideSize, characterSize, escapedSize, withOne, partSize, fourHex}
+use Rattle.tokens.proofs.ScanLaws.{Stack, seen, more, orThat, or-none, scan-took, scan-refused, scan-same, taken, after, led}
 
 pub is-true : (x : Bool) → x ≡ true → T x
 is-true x q = subst T (sym q) tt

@@ -3,13 +3,13 @@
 use mathlib.Core.Path.{_≡_, refl, sym, ap, _∙_, subst}
 use mathlib.Core.Bool.{Bool, true, false, _&&_, _||_}
 use mathlib.Core.List.{List, [], _∷_, List·Memᴰ, List·Memᴰ·head, List·Memᴰ·tail}
-use mathlib.Core.Option.{Option, none, some}
+use mathlib.Core.Option.{none, some}
 use mathlib.Core.Logic.{_⊎_, inl, inr}
 use Prim.Native.Nat.{ℕ, zero, suc}
 use native.Mathlib.Omega.{arith}
 use lib.Dec.{T, leb, ltb, leb→le}
 use lib.ListN.{drop}
-use Rattle.paper.specs.Grammar.{Sym, nt, tm, act}
+use Rattle.paper.specs.Grammar.{nt, tm, act}
 use Rattle.paper.specs.Language.{string}
 use Rattle.paper.specs.Lexical.{Lex, What, span, is, comment, lexical, hitsByte, quote, StringCharacter, StringCharacter*, CommentCharacter, CommentCharacter*}
 use Rattle.paper.proofs.Machine.{step, choose, enter}

@@ -1,20 +1,19 @@
 -- What the machine reads where a character stands: its size and what it is, without the events.
 -- Assumes nothing.
-use mathlib.Core.Path.{_≡_, refl, sym, ap, _∙_, subst}
+use mathlib.Core.Path.{_≡_, refl, sym, _∙_, subst}
 use mathlib.Core.Bool.{Bool, true, false, _&&_, cond}
-use mathlib.Core.List.{List, [], _∷_, _++_, List·Memᴰ, List·Memᴰ·head, List·Memᴰ·tail}
+use mathlib.Core.List.{List, [], _∷_}
 use mathlib.Core.Option.{Option, none, some}
-use Prim.Native.Nat.{ℕ, zero, suc, _+_}
+use Prim.Native.Nat.{ℕ, zero, suc}
 use lib.Dec.{T}
 use lib.ListN.{length, drop}
-use Rattle.paper.specs.Grammar.{Sym, nt, tm, act, Ev, tok, mark}
-use Rattle.paper.specs.Lexical.{Lex, Set, What, lexical, hitsByte}
+use Rattle.paper.specs.Grammar.{Sym, tm, Ev, tok}
+use Rattle.paper.specs.Lexical.{Lex, Set, What, hitsByte}
 use Rattle.paper.specs.Tokens.{whatOf}
-use Rattle.paper.proofs.Machine.{Step, took, emptied, refused, spent, step, choose, enter}
-use Rattle.paper.proofs.Theory.{T→eq, pick-none, step-by, step-none}
+use Rattle.paper.proofs.Machine.{Step, took, emptied, refused, spent, step}
+use Rattle.paper.proofs.Theory.{T→eq}
 use Rattle.paper.proofs.Longest.{Match, scan, longer, further, here}
-use Rattle.paper.proofs.LexTables.{lexer, lexFactored}
-use Rattle.paper.proofs.LexChecked.{fitsL}
+use Rattle.paper.proofs.LexTables.{lexer}
 use Rattle.tokens.specs.Characters.{fits, sized}
 
 abbrev pub Stack : Type 0
@@ -84,14 +83,6 @@ scan-or σ τ b bs q e = rw (q, e) (go (step lexer τ (some b)))
 pub taken : (b : ℕ) (p : Set) (σ : Stack) → T (hitsByte p b) → step lexer (tm p ∷ σ) (some b) ≡ took (tok b ∷ []) σ
 unfolding step
 taken b p σ h = rw (T→eq (hitsByte p b) h) refl
-
--- no production of the part begins with b or is empty
-pub choose-none : (n : Lex) (b : ℕ) → (T (lexer .first n b) → ⊥) → (T (lexer .null n) → ⊥) → choose lexer n (some b) ≡ none
-unfolding choose
-choose-none n b f g =
-    rw
-    (pick-none (λ β. Rattle.paper.proofs.Machine.fst lexer β b) (lexFactored n) (λ β m h. f (fitsL .first-closed n b m h)),
-    pick-none (λ β. Rattle.paper.proofs.Machine.nul lexer β) (lexFactored n) (λ β m h. g (fitsL .null-closed n m h)))
 
 -- sets in a row
 abbrev pub terms : List Set → Stack → Stack

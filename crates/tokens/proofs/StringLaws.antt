@@ -1,21 +1,19 @@
 -- The string and the comment that stand at a place, told by where their characters end.
 -- Assumes nothing.
 use mathlib.Core.Path.{_≡_, refl, sym, ap, _∙_}
-use mathlib.Core.Bool.{Bool, true, false, _||_, cond}
+use mathlib.Core.Bool.{cond}
 use mathlib.Core.List.{List, [], _∷_}
 use mathlib.Core.Option.{Option, none, some}
 use Prim.Native.Nat.{ℕ, zero, suc, _+_, _-_, _<_, _≤_}
 use native.Mathlib.Nat.{zero-add, suc-add}
-use native.Mathlib.Numerals.{add-one}
 use native.Mathlib.Omega.{arith}
-use lib.Dec.{eqb}
 use lib.ListN.{length, drop, getD, drop-of-length-le}
-use lib.Seq.{drop-cons, drop-drop}
-use borrow.Author.Tests.{eq-eqb, ne-eqb}
+use lib.Seq.{drop-drop}
+use borrow.Author.Tests.{ne-eqb}
 use Rattle.paper.specs.Grammar.{nt}
 use Rattle.paper.specs.Language.{string}
-use Rattle.paper.specs.Lexical.{What, is, ignored, comment, lexical, Piece}
-use Rattle.paper.specs.Tokens.{whatOf, lineEnd}
+use Rattle.paper.specs.Lexical.{What, is, comment, lexical, Piece}
+use Rattle.paper.specs.Tokens.{lineEnd}
 use Rattle.paper.proofs.Machine.{step, choose, enter}
 use Rattle.paper.proofs.Longest.{Match, scan}
 use Rattle.paper.proofs.LexTables.{lexer, lexFactored}
@@ -23,6 +21,7 @@ use Rattle.tokens.specs.Piece.{pieceAt, asToken, tokenOf, tokenHere, asI
 use Rattle.tokens.specs.Characters.{Runs, none-yet, one-more, Ended, characterSize, partSize}
 use Rattle.tokens.specs.declared.TokenRead.{TokenRead}
 use Rattle.tokens.specs.declared.TokenRead.the-variants.{Token, Bad}
+use Rattle.tokens.proofs.CharacterLaws.{front}
 use Rattle.tokens.proofs.ScanLaws.{Stack, Seen, seen, more, grow, or-none, scan-took}
 use Rattle.tokens.proofs.RunScan.{inString, inComment, string-end, string-quote, string-more, string-stop, comment-more, comment-stop}
 
@@ -46,9 +45,6 @@ module _ (f : List ℕ → ℕ) (σ : Stack) (law : (bs : List ℕ) (n : ℕ) �
       (omega (arith, h .0),
       h .1 ∙ ap (grow (k - from)) (law (drop k s) n e ∙ ap (λ l. grow (suc n) (seen (scan lexer σ l))) (drop-drop (suc n) k s ∙ ap (λ (x : ℕ). drop x s) q)) ∙
       grow-add (k - from) (suc n) (seen (scan lexer σ (drop i s))) ∙ ap (λ (x : ℕ). grow x (seen (scan lexer σ (drop i s)))) (sym m))
-
-front : (s : List ℕ) (i : ℕ) → i < length s → drop i s ≡ getD s i 0 ∷ drop (i + 1) s
-front s i h = drop-cons s i 0 h ∙ ap (λ (k : ℕ). getD s i 0 ∷ drop k s) (sym (add-one i))
 
 abbrev tokenSeen : ℕ → Seen → TokenRead
 tokenSeen at none = Bad at

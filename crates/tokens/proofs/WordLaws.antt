@@ -3,7 +3,7 @@
 use mathlib.Core.Path.{_≡_, refl, sym, ap, _∙_}
 use mathlib.Core.Bool.{Bool, true, false, _&&_, cond}
 use mathlib.Core.List.{List, [], _∷_}
-use Prim.Native.Nat.{ℕ, zero, suc, _+_, _-_, _<_, _≤_}
+use Prim.Native.Nat.{ℕ, suc, _+_, _-_, _<_, _≤_}
 use native.Mathlib.Omega.{arith}
 use native.Mathlib.Numerals.{add-one}
 use lib.Dec.{eqb}
@@ -11,7 +11,7 @@ use lib.ListN.{length, take, drop, getD, length-drop, drop-of-length-le}
 use lib.Seq.{drop-cons, length-take-le}
 use borrow.Author.Tests.{eq-eqb, ne-eqb}
 use Rattle.paper.specs.Language.{n-query, n-mutation, n-subscription, n-fragment, n-on, n-true, n-false, n-null, n-other}
-use Rattle.paper.specs.Tokens.{same, orElse, nameClass}
+use Rattle.paper.specs.Tokens.{same, orElse}
 use Rattle.tokens.specs.Head.{wordNumber, wordOf}
 
 -- words of different lengths are not the same

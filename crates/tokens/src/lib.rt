@@ -142,13 +142,13 @@ pub fn is_second(lead: u8, b: u8) -> bool
         if b < 160 {
             return false;
         }
-        return b < 192;
+        return is_tail(b);
     }
     if lead == 237 {
-        if b < 128 {
+        if 159 < b {
             return false;
         }
-        return b < 160;
+        return is_tail(b);
     }
     is_tail(b)
 }
@@ -339,11 +339,11 @@ pub fn comment(s: &[u8], i: usize) -> usize
     if s.len() <= e {
         return e - i;
     }
-    let b = s[e];
-    if b == 10 {
+    let after = s[e];
+    if after == 10 {
         return e - i;
     }
-    if b == 13 {
+    if after == 13 {
         return e - i;
     }
     0

@@ -5,9 +5,6 @@ use Rattle.tokens.proofs.StringLaws.{comment-whole, comment-lf, comment
 use borrow.Author.Needs.{needs}
 use Rattle.tokens.proofs.comment.Statement.{statement}
 use Rattle.tokens.proofs.comment.Tie as tie
-use Rattle.tokens.proofs.comment.Reads as reads
-use Rattle.tokens.proofs.comment.Lts as lts
-use Rattle.tokens.proofs.comment_end.Reads as comment-end-reads
 
 add-comment-end : tie.Need-add-comment-end
 add-comment-end c = search needs
@@ -19,25 +16,25 @@ sub-result : tie.Need-sub-result
 sub-result c = search needs
 
 returns : tie.Need-returns
-returns c = comment-whole (c .before .before .before .args .s .now) (c .before .before .before .args .i) (c .before .comment-end .result) (c .before .before .before .pre .0) (c .before .before .before .pre .1) (c .before .comment-end .ensures) (c .if1 .taken)
+returns c = comment-whole (c .before .before .before .args .s .now) (c .before .before .before .args .i) (c .before .comment-end .result) (c .before .before .before .pre .0) (c .before .before .before .pre .1) (c .before .comment-end .ensures) (omega arith)
 
-shared-slice-read-b : tie.Need-shared-slice-read-b
-shared-slice-read-b c = search needs
+shared-slice-read-after : tie.Need-shared-slice-read-after
+shared-slice-read-after c = search needs
 
 sub-result-2 : tie.Need-sub-result-2
 sub-result-2 c = omega (arith, run-past (c .before .before .before .comment-end .ensures .runs))
 
 returns-2 : tie.Need-returns-2
-returns-2 c = comment-lf (c .before .before .before .before .before .args .s .now) (c .before .before .before .before .before .args .i) (c .before .before .before .comment-end .result) (c .before .before .before .before .before .pre .0) (c .before .before .before .before .before .pre .1) (c .before .before .before .comment-end .ensures) (c .before .before .if1 .left) (c .if2 .taken)
+returns-2 c = comment-lf (c .before .before .before .before .before .args .s .now) (c .before .before .before .before .before .args .i) (c .before .before .before .comment-end .result) (c .before .before .before .before .before .pre .0) (c .before .before .before .before .before .pre .1) (c .before .before .before .comment-end .ensures) (omega arith) (omega arith)
 
 sub-result-3 : tie.Need-sub-result-3
 sub-result-3 c = omega (arith, run-past (c .before .before .before .before .comment-end .ensures .runs))
 
 returns-3 : tie.Need-returns-3
-returns-3 c = comment-cr (c .before .before .before .before .before .before .args .s .now) (c .before .before .before .before .before .before .args .i) (c .before .before .before .before .comment-end .result) (c .before .before .before .before .before .before .pre .0) (c .before .before .before .before .before .before .pre .1) (c .before .before .before .before .comment-end .ensures) (c .before .before .before .if1 .left) (c .if3 .taken)
+returns-3 c = comment-cr (c .before .before .before .before .before .before .args .s .now) (c .before .before .before .before .before .before .args .i) (c .before .before .before .before .comment-end .result) (c .before .before .before .before .before .before .pre .0) (c .before .before .before .before .before .before .pre .1) (c .before .before .before .before .comment-end .ensures) (omega arith) (omega arith)
 
 returns-4 : tie.Need-returns-4
-returns-4 c = comment-bad (c .before .before .before .before .before .before .args .s .now) (c .before .before .before .before .before .before .args .i) (c .before .before .before .before .comment-end .result) (c .before .before .before .before .before .before .pre .0) (c .before .before .before .before .before .before .pre .1) (c .before .before .before .before .comment-end .ensures) (c .before .before .before .if1 .left) (c .before .if2 .left) (c .if3 .left)
+returns-4 c = comment-bad (c .before .before .before .before .before .before .args .s .now) (c .before .before .before .before .before .before .args .i) (c .before .before .before .before .comment-end .result) (c .before .before .before .before .before .before .pre .0) (c .before .before .before .before .before .before .pre .1) (c .before .before .before .before .comment-end .ensures) (omega arith) (omega arith) (omega arith)
 
 pub comment-spec : {M : Type 1} → statement M
 comment-spec =
@@ -47,7 +44,7 @@ comment-spec =
     comment-end-requires
     sub-result
     returns
-    shared-slice-read-b
+    shared-slice-read-after
     sub-result-2
     returns-2
     sub-result-3

@@ -2,14 +2,10 @@
 use Prim.Native.Nat.{_≤_, _-_}
 use native.Mathlib.Omega.{arith}
 use lib.ListN.{length}
-use borrow.Author.Needs.{needs}
 use Rattle.tokens.specs.Characters.{Runs, characterSize}
 use Rattle.tokens.proofs.RunLaws.{run-none, run-more, run-stop, run-over, no-character, character-fits}
 use Rattle.tokens.proofs.comment_end.Statement.{statement}
 use Rattle.tokens.proofs.comment_end.Tie as tie
-use Rattle.tokens.proofs.comment_end.Reads as reads
-use Rattle.tokens.proofs.comment_end.Lts as lts
-use Rattle.tokens.proofs.character.Reads as character-reads
 
 abbrev Inv-loop : tie.InvT-loop
 Inv-loop s from i₀ i = Runs characterSize s from i × (i ≤ length s)

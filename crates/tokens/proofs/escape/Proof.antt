@@ -7,10 +7,6 @@ use Rattle.tokens.proofs.CharacterLaws.{escape-none, escape-u, escape-o
 use borrow.Author.Needs.{needs}
 use Rattle.tokens.proofs.escape.Statement.{statement}
 use Rattle.tokens.proofs.escape.Tie as tie
-use Rattle.tokens.proofs.escape.Reads as reads
-use Rattle.tokens.proofs.escape.Lts as lts
-use Rattle.tokens.proofs.four_hex.Reads as four-hex-reads
-use Rattle.tokens.proofs.is_escaped.Reads as is-escaped-reads
 
 add-if1 : tie.Need-add-if1
 add-if1 c = search needs

@@ -6,9 +6,6 @@ use Rattle.tokens.proofs.CharacterLaws.{four-short, four-fit}
 use borrow.Author.Needs.{needs}
 use Rattle.tokens.proofs.four_hex.Statement.{statement}
 use Rattle.tokens.proofs.four_hex.Tie as tie
-use Rattle.tokens.proofs.four_hex.Reads as reads
-use Rattle.tokens.proofs.four_hex.Lts as lts
-use Rattle.tokens.proofs.is_hex.Reads as is-hex-reads
 
 sub-if1 : tie.Need-sub-if1
 sub-if1 c = search needs

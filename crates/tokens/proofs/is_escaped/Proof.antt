@@ -8,8 +8,6 @@ use Rattle.paper.specs.Lexical.{hitsByte, escaped}
 use Rattle.tokens.proofs.SpanLaws.{agree}
 use Rattle.tokens.proofs.is_escaped.Statement.{statement}
 use Rattle.tokens.proofs.is_escaped.Tie as tie
-use Rattle.tokens.proofs.is_escaped.Reads as reads
-use Rattle.tokens.proofs.is_escaped.Lts as lts
 
 returns : tie.Need-returns
 returns c = agree (λ _. true) (hitsByte escaped) 34 1 tt (c .before .args .b) (omega arith) (omega arith)

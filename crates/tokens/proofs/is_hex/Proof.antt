@@ -1,14 +1,11 @@
 -- `is_hex`: span by span.
-use mathlib.Core.Path.{sym, _∙_}
 use mathlib.Core.Bool.{true, false}
 use native.Mathlib.Omega.{arith}
-use lib.Dec.{ltb, eqb}
+use lib.Dec.{ltb}
 use Rattle.paper.specs.Lexical.{hitsByte, hex}
 use Rattle.tokens.proofs.SpanLaws.{agree}
 use Rattle.tokens.proofs.is_hex.Statement.{statement}
 use Rattle.tokens.proofs.is_hex.Tie as tie
-use Rattle.tokens.proofs.is_hex.Reads as reads
-use Rattle.tokens.proofs.is_hex.Lts as lts
 
 returns : tie.Need-returns
 returns c = agree (λ _. false) (hitsByte hex) 0 48 tt (c .before .args .b) (omega arith) (omega arith)

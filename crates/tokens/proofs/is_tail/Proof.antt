@@ -1,14 +1,11 @@
 -- `is_tail`: span by span.
-use mathlib.Core.Path.{sym, _∙_}
-use mathlib.Core.Bool.{true, false}
+use mathlib.Core.Bool.{false}
 use native.Mathlib.Omega.{arith}
-use lib.Dec.{ltb, eqb}
+use lib.Dec.{ltb}
 use Rattle.paper.specs.Lexical.{hitsByte, tail}
 use Rattle.tokens.proofs.SpanLaws.{agree}
 use Rattle.tokens.proofs.is_tail.Statement.{statement}
 use Rattle.tokens.proofs.is_tail.Tie as tie
-use Rattle.tokens.proofs.is_tail.Reads as reads
-use Rattle.tokens.proofs.is_tail.Lts as lts
 
 returns : tie.Need-returns
 returns c = agree (λ _. false) (hitsByte tail) 0 128 tt (c .before .args .b) (omega arith) (omega arith)

@@ -3,9 +3,6 @@ use Rattle.tokens.proofs.StringLaws.{string-found, string-other, string
 use borrow.Author.Needs.{needs}
 use Rattle.tokens.proofs.string.Statement.{statement}
 use Rattle.tokens.proofs.string.Tie as tie
-use Rattle.tokens.proofs.string.Reads as reads
-use Rattle.tokens.proofs.string.Lts as lts
-use Rattle.tokens.proofs.string_end.Reads as string-end-reads
 
 add-string-end : tie.Need-add-string-end
 add-string-end c = search needs

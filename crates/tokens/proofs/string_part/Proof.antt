@@ -5,10 +5,6 @@ use Rattle.tokens.proofs.CharacterLaws.{part-escape, part-quote, part-o
 use borrow.Author.Needs.{needs}
 use Rattle.tokens.proofs.string_part.Statement.{statement}
 use Rattle.tokens.proofs.string_part.Tie as tie
-use Rattle.tokens.proofs.string_part.Reads as reads
-use Rattle.tokens.proofs.string_part.Lts as lts
-use Rattle.tokens.proofs.character.Reads as character-reads
-use Rattle.tokens.proofs.escape.Reads as escape-reads
 
 shared-slice-read-b : tie.Need-shared-slice-read-b
 shared-slice-read-b c = search needs

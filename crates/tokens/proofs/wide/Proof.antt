@@ -6,22 +6,18 @@ use Rattle.tokens.proofs.CharacterLaws.{size-low, size-high, size-alone
 use borrow.Author.Needs.{needs}
 use Rattle.tokens.proofs.wide.Statement.{statement}
 use Rattle.tokens.proofs.wide.Tie as tie
-use Rattle.tokens.proofs.wide.Reads as reads
-use Rattle.tokens.proofs.wide.Lts as lts
-use Rattle.tokens.proofs.is_second.Reads as is-second-reads
-use Rattle.tokens.proofs.is_tail.Reads as is-tail-reads
 
 shared-slice-read-b : tie.Need-shared-slice-read-b
 shared-slice-read-b c = search needs
 
 returns : tie.Need-returns
-returns c = size-low (c .before .before .before .args .s .now) (c .before .before .before .args .i) (c .before .before .before .pre) (c .if1 .taken)
+returns c = size-low (c .before .before .before .args .s .now) (c .before .before .before .args .i) (c .before .before .before .pre) (omega arith)
 
 add-if2 : tie.Need-add-if2
 add-if2 c = search needs
 
 returns-2 : tie.Need-returns-2
-returns-2 c = size-alone (c .before .before .before .before .args .s .now) (c .before .before .before .before .args .i) (c .before .before .before .before .pre) (c .if2 .taken) (omega (arith, c .before .before .shared-slice-known2 .given (c .before .before .before .before .args .i)))
+returns-2 c = size-alone (c .before .before .before .before .args .s .now) (c .before .before .before .before .args .i) (c .before .before .before .before .pre) (omega arith) (omega (arith, c .before .before .shared-slice-known2 .given (c .before .before .before .before .args .i)))
 
 add-is-tail : tie.Need-add-is-tail
 add-is-tail c = search needs
@@ -33,16 +29,16 @@ is-tail-requires : tie.Need-is-tail-requires
 is-tail-requires c κs = search needs
 
 returns-3 : tie.Need-returns-3
-returns-3 c = size-two (c .before .before .before .before .before .before .before .before .args .s .now) (c .before .before .before .before .before .before .before .before .args .i) (c .before .before .before .before .before .before .before .before .pre) true (c .before .before .before .before .before .if1 .left) (c .before .before .before .if3 .taken) (omega arith) (sym (c .before .is-tail .ensures) ∙ c .if4 .taken)
+returns-3 c = size-two (c .before .before .before .before .before .before .before .before .args .s .now) (c .before .before .before .before .before .before .before .before .args .i) (c .before .before .before .before .before .before .before .before .pre) true (omega arith) (omega arith) (omega arith) (sym (c .before .is-tail .ensures) ∙ c .if4 .taken)
 
 returns-4 : tie.Need-returns-4
-returns-4 c = size-two (c .before .before .before .before .before .before .before .before .args .s .now) (c .before .before .before .before .before .before .before .before .args .i) (c .before .before .before .before .before .before .before .before .pre) false (c .before .before .before .before .before .if1 .left) (c .before .before .before .if3 .taken) (omega arith) (sym (c .before .is-tail .ensures) ∙ c .if4 .left)
+returns-4 c = size-two (c .before .before .before .before .before .before .before .before .args .s .now) (c .before .before .before .before .before .before .before .before .args .i) (c .before .before .before .before .before .before .before .before .pre) false (omega arith) (omega arith) (omega arith) (sym (c .before .is-tail .ensures) ∙ c .if4 .left)
 
 add-if5 : tie.Need-add-if5
 add-if5 c = search needs
 
 returns-5 : tie.Need-returns-5
-returns-5 c = size-pair (c .before .before .before .before .before .before .args .s .now) (c .before .before .before .before .before .before .args .i) (c .before .before .before .before .before .before .pre) (c .before .if3 .left) (omega (arith, c .before .before .before .before .shared-slice-known2 .given (c .before .before .before .before .before .before .args .i))) (omega arith) (c .if5 .taken)
+returns-5 c = size-pair (c .before .before .before .before .before .before .args .s .now) (c .before .before .before .before .before .before .args .i) (c .before .before .before .before .before .before .pre) (omega arith) (omega (arith, c .before .before .before .before .shared-slice-known2 .given (c .before .before .before .before .before .before .args .i))) (omega arith) (omega arith)
 
 add-is-second : tie.Need-add-is-second
 add-is-second c = search needs
@@ -63,16 +59,16 @@ is-tail-requires-2 : tie.Need-is-tail-requires-2
 is-tail-requires-2 c κs = search needs
 
 returns-6 : tie.Need-returns-6
-returns-6 c = size-three (c .before .before .before .before .before .before .before .before .before .before .before .before .before .args .s .now) (c .before .before .before .before .before .before .before .before .before .before .before .before .before .args .i) (c .before .before .before .before .before .before .before .before .before .before .before .before .before .pre) true true (c .before .before .before .before .before .before .before .before .if3 .left) (c .before .before .before .before .before .before .if6 .taken) (omega arith) (sym (c .before .before .before .before .is-second .ensures) ∙ c .before .before .before .if7 .taken) (sym (c .before .is-tail2 .ensures) ∙ c .if8 .taken)
+returns-6 c = size-three (c .before .before .before .before .before .before .before .before .before .before .before .before .before .args .s .now) (c .before .before .before .before .before .before .before .before .before .before .before .before .before .args .i) (c .before .before .before .before .before .before .before .before .before .before .before .before .before .pre) true true (omega arith) (omega arith) (omega arith) (sym (c .before .before .before .before .is-second .ensures) ∙ c .before .before .before .if7 .taken) (sym (c .before .is-tail2 .ensures) ∙ c .if8 .taken)
 
 returns-7 : tie.Need-returns-7
-returns-7 c = size-three (c .before .before .before .before .before .before .before .before .before .before .before .before .before .args .s .now) (c .before .before .before .before .before .before .before .before .before .before .before .before .before .args .i) (c .before .before .before .before .before .before .before .before .before .before .before .before .before .pre) true false (c .before .before .before .before .before .before .before .before .if3 .left) (c .before .before .before .before .before .before .if6 .taken) (omega arith) (sym (c .before .before .before .before .is-second .ensures) ∙ c .before .before .before .if7 .taken) (sym (c .before .is-tail2 .ensures) ∙ c .if8 .left)
+returns-7 c = size-three (c .before .before .before .before .before .before .before .before .before .before .before .before .before .args .s .now) (c .before .before .before .before .before .before .before .before .before .before .before .before .before .args .i) (c .before .before .before .before .before .before .before .before .before .before .before .before .before .pre) true false (omega arith) (omega arith) (omega arith) (sym (c .before .before .before .before .is-second .ensures) ∙ c .before .before .before .if7 .taken) (sym (c .before .is-tail2 .ensures) ∙ c .if8 .left)
 
 returns-8 : tie.Need-returns-8
-returns-8 c = size-three (c .before .before .before .before .before .before .before .before .before .before .args .s .now) (c .before .before .before .before .before .before .before .before .before .before .args .i) (c .before .before .before .before .before .before .before .before .before .before .pre) false _ (c .before .before .before .before .before .if3 .left) (c .before .before .before .if6 .taken) (omega arith) (sym (c .before .is-second .ensures) ∙ c .if7 .left) refl
+returns-8 c = size-three (c .before .before .before .before .before .before .before .before .before .before .args .s .now) (c .before .before .before .before .before .before .before .before .before .before .args .i) (c .before .before .before .before .before .before .before .before .before .before .pre) false _ (omega arith) (omega arith) (omega arith) (sym (c .before .is-second .ensures) ∙ c .if7 .left) refl
 
 returns-9 : tie.Need-returns-9
-returns-9 c = size-high (c .before .before .before .before .before .before .before .args .s .now) (c .before .before .before .before .before .before .before .args .i) (c .before .before .before .before .before .before .before .pre) (c .if6 .left) (omega (arith, c .before .before .before .before .before .shared-slice-known2 .given (c .before .before .before .before .before .before .before .args .i)))
+returns-9 c = size-high (c .before .before .before .before .before .before .before .args .s .now) (c .before .before .before .before .before .before .before .args .i) (c .before .before .before .before .before .before .before .pre) (omega arith) (omega (arith, c .before .before .before .before .before .shared-slice-known2 .given (c .before .before .before .before .before .before .before .args .i)))
 
 pub wide-spec : {M : Type 1} → statement M
 wide-spec =
