@@ -55,9 +55,13 @@ wide-three b bs l h = go (ℕ-discrete b 224) (ℕ-discrete b 237)
     go (yes e) d = subst (λ (k : ℕ). wideSize (k ∷ bs) ≡ sized (secondOf k ∷ tail ∷ []) bs) (sym e) refl
     go (no f) (yes e) = subst (λ (k : ℕ). wideSize (k ∷ bs) ≡ sized (secondOf k ∷ tail ∷ []) bs) (sym e) refl
     go (no f) (no g) =
-        rw
-        (agree (hitsByte lead2) (λ _. false) 224 16 tt b l h, agree (hitsByte e0) (λ k. eqb k 224) 224 16 tt b l h,
-        agree (hitsByte lead3) (λ k. not (eqb k 224) && not (eqb k 237)) 224 16 tt b l h, ne-eqb b 224 f, ne-eqb b 237 g)
+        rw (
+          agree (hitsByte lead2) (λ _. false) 224 16 tt b l h,
+          agree (hitsByte e0) (λ k. eqb k 224) 224 16 tt b l h,
+          agree (hitsByte lead3) (λ k. not (eqb k 224) && not (eqb k 237)) 224 16 tt b l h,
+          ne-eqb b 224 f,
+          ne-eqb b 237 g,
+        )
 
 and-nothing : (x : Bool) → x && false ≡ false
 and-nothing true = refl

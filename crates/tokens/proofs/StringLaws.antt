@@ -41,10 +41,11 @@ module _ (f : List ℕ → ℕ) (σ : Stack) (law : (bs : List ℕ) (n : ℕ) �
       (omega arith, rw (n, e))
   run-scan {i} (one-more {i = k} r n e q) =
       let h = run-scan r in
-      let m : i - from ≡ (k - from) + suc n = omega (arith, h .0) in
-      (omega (arith, h .0),
-      h .1 ∙ ap (grow (k - from)) (law (drop k s) n e ∙ ap (λ l. grow (suc n) (seen (scan lexer σ l))) (drop-drop (suc n) k s ∙ ap (λ (x : ℕ). drop x s) q)) ∙
-      grow-add (k - from) (suc n) (seen (scan lexer σ (drop i s))) ∙ ap (λ (x : ℕ). grow x (seen (scan lexer σ (drop i s)))) (sym m))
+      let m : i - from ≡ (k - from) + suc n = omega (arith, h .0) in (
+        omega (arith, h .0),
+        h .1 ∙ ap (grow (k - from)) (law (drop k s) n e ∙ ap (λ l. grow (suc n) (seen (scan lexer σ l))) (drop-drop (suc n) k s ∙ ap (λ (x : ℕ). drop x s) q)) ∙
+            grow-add (k - from) (suc n) (seen (scan lexer σ (drop i s))) ∙ ap (λ (x : ℕ). grow x (seen (scan lexer σ (drop i s)))) (sym m),
+      )
 
 abbrev tokenSeen : ℕ → Seen → TokenRead
 tokenSeen at none = Bad at

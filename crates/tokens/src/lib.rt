@@ -308,7 +308,11 @@ pub fn string(s: &[u8], at: usize) -> TokenRead
     let e = string_end(s, at + 1);
     if e < s.len() {
         if s[e] == 34 {
-            return TokenRead::Token { kind: TOKEN_STRING, start: at, end: e + 1 };
+            return TokenRead::Token {
+                kind: TOKEN_STRING,
+                start: at,
+                end: e + 1,
+            };
         }
     }
     TokenRead::Bad(at)
