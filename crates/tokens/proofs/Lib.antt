@@ -3,7 +3,7 @@ pub mod WordLaws
 pub mod SpanLaws
 pub mod ScanLaws
 pub mod CharacterLaws
-pub mod RunLaws
+pub mod CharacterRuns
 pub mod CharacterScan
 pub mod RunScan
 pub mod StringLaws

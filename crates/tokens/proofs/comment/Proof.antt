@@ -1,6 +1,6 @@
 -- `comment`: by what stands where its characters end.
 use native.Mathlib.Omega.{arith}
-use Rattle.tokens.proofs.RunLaws.{run-past}
+use Rattle.tokens.proofs.CharacterRuns.{run-past}
 use Rattle.tokens.proofs.StringLaws.{comment-whole, comment-lf, comment-cr, comment-bad}
 use borrow.Author.Needs.{needs}
 use Rattle.tokens.proofs.comment.Statement.{statement}

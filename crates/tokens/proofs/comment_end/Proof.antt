@@ -3,7 +3,7 @@ use Prim.Native.Nat.{_≤_, _-_}
 use native.Mathlib.Omega.{arith}
 use lib.ListN.{length}
 use Rattle.tokens.specs.Characters.{Runs, characterSize}
-use Rattle.tokens.proofs.RunLaws.{run-none, run-more, run-stop, run-over, no-character, character-fits}
+use Rattle.tokens.proofs.CharacterRuns.{run-none, run-more, run-stop, run-over, no-character, character-fits}
 use Rattle.tokens.proofs.comment_end.Statement.{statement}
 use Rattle.tokens.proofs.comment_end.Tie as tie
 
