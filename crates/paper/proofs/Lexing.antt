@@ -45,7 +45,7 @@ unfoldable pub from : List ℕ → ℕ → Text
 from s p = text (suc (length s)) p (drop p s)
 
 -- no piece starts, or the longest that does
-pub Found : List ℕ → Option (Match ℕ What) → Type 0
+unfoldable pub Found : List ℕ → Option (Match ℕ What) → Type 0
 Found bs none = (p : List ℕ) (es : List (Ev ℕ What)) → Starts bs p es → ⊥
 Found bs (some m) = Starts bs (take (m .size) bs) (m .events) × ((p : List ℕ) (es : List (Ev ℕ What)) → Starts bs p es → length p ≤ m .size)
 

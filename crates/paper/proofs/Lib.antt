@@ -8,6 +8,10 @@ pub mod LexTables
 pub mod LexChecked
 pub mod LexSame
 pub mod Lexing
+pub mod FromLaws
+pub mod TokensLaws
 pub mod Tables
 pub mod Checked
+pub mod SameLanguage
+pub mod ReadingLaws
 pub mod Going

@@ -1,4 +1,15 @@
--- Laws of the definitions that the token reader's contracts cite.
+-- Laws of the token reader, over plain lists and numbers.
+pub mod ByteLaws
+pub mod RunLaws
+pub mod NumberParts
+pub mod ReadLaws
+pub mod StepLaws
+pub mod WhatLaws
+pub mod PieceLaws
+pub mod NumberLaws
+pub mod Unroll
+pub mod KindLaws
+pub mod HeadLaws
 pub mod WordLaws
 pub mod SpanLaws
 pub mod ScanLaws

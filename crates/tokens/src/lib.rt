@@ -1,12 +1,15 @@
 // Reads one token of a text at a time, by longest match.
 ghost use mathlib.Core.Path.{_≡_};
 ghost use Prim.Native.Nat.{_+_, _-_, _≤_, _<_};
+ghost use mathlib.Core.Bool.{false, cond};
 ghost use lib.ListN.{length, take, drop, getD};
-ghost use Rattle.paper.specs.Lexical.{hitsByte, hex, escaped, tail};
+ghost use Rattle.paper.specs.Lexical.{hitsByte, letter, letterOrDigit, digit, hex, escaped, tail};
 ghost use Rattle.paper.specs.Tokens.{same};
 ghost use Rattle.paper.proofs.Lexing.{from};
 ghost use Rattle.tokens.specs.Head.{headOf, wordOf};
 ghost use Rattle.tokens.specs.Piece.{tokenHere, ignoredHere};
+ghost use Rattle.tokens.specs.Run.{runOf, startsWith, fractionSize, signSize, exponentSize, wholeSize};
+ghost use Rattle.tokens.specs.Skip.{Skipped, punctuatorOf};
 ghost use Rattle.tokens.specs.Characters.{fits, secondOf, fourHex, wideSize, characterSize, escapedSize, withOne, partSize, Ended};
 
 // What stands at a place: a token, or bytes that start none (also a string or a comment with bad text).
@@ -72,7 +75,9 @@ pub const WORD_FALSE: u32 = 7;
 pub const WORD_NULL: u32 = 8;
 
 // Whether a byte may start a name: A to Z, a to z, _ (draft 2.1.9).
-pub fn starts_name(b: u8) -> bool {
+pub fn starts_name(b: u8) -> bool
+    ensures { λ r. ⌜ r ≡ hitsByte letter b ⌝ }
+{
     if b < 65 {
         return false;
     }
@@ -88,7 +93,9 @@ pub fn starts_name(b: u8) -> bool {
     b < 123
 }
 
-pub fn is_digit(b: u8) -> bool {
+pub fn is_digit(b: u8) -> bool
+    ensures { λ r. ⌜ r ≡ hitsByte digit b ⌝ }
+{
     if b < 48 {
         return false;
     }
@@ -96,7 +103,9 @@ pub fn is_digit(b: u8) -> bool {
 }
 
 // Whether a byte may go on with a name.
-pub fn in_name(b: u8) -> bool {
+pub fn in_name(b: u8) -> bool
+    ensures { λ r. ⌜ r ≡ hitsByte letterOrDigit b ⌝ }
+{
     if is_digit(b) {
         return true;
     }
@@ -355,7 +364,8 @@ pub fn comment(s: &[u8], i: usize) -> usize
 
 // Whether the byte order mark stands at i.
 pub fn is_mark(s: &[u8], i: usize) -> bool
-    requires { ⌜ i < length (now s) ⌝ }
+    requires { ⌜ (i < length (now s)) × (getD (now s) i 0 ≡ 239) ⌝ }
+    ensures { λ r. ⌜ cond r 3 0 ≡ ignoredHere (drop i (now (s .entry))) ⌝ }
 {
     if s.len() - i < 3 {
         return false;
@@ -369,6 +379,7 @@ pub fn is_mark(s: &[u8], i: usize) -> bool
 // The size of the ignored piece at i, or 0.
 pub fn ignored(s: &[u8], i: usize) -> usize
     requires { ⌜ i < length (now s) ⌝ }
+    ensures { λ r. ⌜ r ≡ ignoredHere (drop i (now (s .entry))) ⌝ }
 {
     let b = s[i];
     if b == 32 {
@@ -400,6 +411,7 @@ pub fn ignored(s: &[u8], i: usize) -> usize
 // The first place at or after `from` that is not ignored.
 pub fn skip(s: &[u8], from: usize) -> usize
     requires { ⌜ from ≤ length (now s) ⌝ }
+    ensures { λ r. ⌜ Skipped (now (s .entry)) from r ⌝ }
 {
     let mut i = from;
     while i < s.len() {
@@ -415,6 +427,7 @@ pub fn skip(s: &[u8], from: usize) -> usize
 // One past the last of the name's characters that stand from `from` on.
 pub fn name_end(s: &[u8], from: usize) -> usize
     requires { ⌜ from ≤ length (now s) ⌝ }
+    ensures { λ r. ⌜ r ≡ from + runOf letterOrDigit (drop from (now (s .entry))) ⌝ }
 {
     let mut i = from;
     while i < s.len() {
@@ -430,6 +443,7 @@ pub fn name_end(s: &[u8], from: usize) -> usize
 // One past the last of the digits that stand from `from` on.
 pub fn digits_end(s: &[u8], from: usize) -> usize
     requires { ⌜ from ≤ length (now s) ⌝ }
+    ensures { λ r. ⌜ r ≡ from + runOf digit (drop from (now (s .entry))) ⌝ }
 {
     let mut i = from;
     while i < s.len() {
@@ -443,7 +457,9 @@ pub fn digits_end(s: &[u8], from: usize) -> usize
 }
 
 // Whether a digit stands at i.
-pub fn digit_at(s: &[u8], i: usize) -> bool {
+pub fn digit_at(s: &[u8], i: usize) -> bool
+    ensures { λ r. ⌜ r ≡ startsWith digit (drop i (now (s .entry))) ⌝ }
+{
     if i < s.len() {
         return is_digit(s[i]);
     }
@@ -453,6 +469,7 @@ pub fn digit_at(s: &[u8], i: usize) -> bool {
 // One past the fraction at i, or i where there is none.
 pub fn fraction_end(s: &[u8], i: usize) -> usize
     requires { ⌜ i ≤ length (now s) ⌝ }
+    ensures { λ r. ⌜ r ≡ i + fractionSize (drop i (now (s .entry))) ⌝ }
 {
     if i < s.len() {
         if s[i] == 46 {
@@ -467,6 +484,7 @@ pub fn fraction_end(s: &[u8], i: usize) -> usize
 // One past the sign at i, or i where there is none.
 pub fn sign_end(s: &[u8], i: usize) -> usize
     requires { ⌜ i ≤ length (now s) ⌝ }
+    ensures { λ r. ⌜ r ≡ i + signSize (drop i (now (s .entry))) ⌝ }
 {
     if i < s.len() {
         let b = s[i];
@@ -483,6 +501,7 @@ pub fn sign_end(s: &[u8], i: usize) -> usize
 // One past the exponent at i, or i where there is none.
 pub fn exponent_end(s: &[u8], i: usize) -> usize
     requires { ⌜ i ≤ length (now s) ⌝ }
+    ensures { λ r. ⌜ r ≡ i + exponentSize (drop i (now (s .entry))) ⌝ }
 {
     if s.len() <= i {
         return i;
@@ -503,6 +522,7 @@ pub fn exponent_end(s: &[u8], i: usize) -> usize
 // One past the integer part whose first digit stands at i.
 pub fn whole_end(s: &[u8], i: usize) -> usize
     requires { ⌜ i < length (now s) ⌝ }
+    ensures { λ r. ⌜ r ≡ i + wholeSize (drop i (now (s .entry))) ⌝ }
 {
     if s[i] == 48 {
         return i + 1;
@@ -512,7 +532,9 @@ pub fn whole_end(s: &[u8], i: usize) -> usize
 
 // The number at `at`.
 pub fn number(s: &[u8], at: usize) -> TokenRead
-    requires { ⌜ at < length (now s) ⌝ }
+    requires { ⌜ (at < length (now s)) × (hitsByte letter (getD (now s) at 0) ≡ false) × (punctuatorOf (getD (now s) at 0) ≡ 0) ⌝ }
+    requires { ⌜ (getD (now s) at 0 ≡ 34 → ⊥) × (getD (now s) at 0 ≡ 46 → ⊥) ⌝ }
+    ensures { λ r. ⌜ r ≡ tokenHere at (drop at (now (s .entry))) ⌝ }
 {
     let mut d = at;
     if s[at] == 45 {
@@ -532,7 +554,8 @@ pub fn number(s: &[u8], at: usize) -> TokenRead
 
 // The three dots at `at`.
 pub fn spread(s: &[u8], at: usize) -> TokenRead
-    requires { ⌜ at < length (now s) ⌝ }
+    requires { ⌜ (at < length (now s)) × (getD (now s) at 0 ≡ 46) ⌝ }
+    ensures { λ r. ⌜ r ≡ tokenHere at (drop at (now (s .entry))) ⌝ }
 {
     if s.len() - at < 3 {
         return TokenRead::Bad(at);
@@ -546,7 +569,9 @@ pub fn spread(s: &[u8], at: usize) -> TokenRead
 }
 
 // The kind of a punctuator of one byte, or TOKEN_END.
-pub fn punctuator(b: u8) -> u32 {
+pub fn punctuator(b: u8) -> u32
+    ensures { λ r. ⌜ r ≡ punctuatorOf b ⌝ }
+{
     if b == 123 {
         return TOKEN_BRACE_OPEN;
     }
