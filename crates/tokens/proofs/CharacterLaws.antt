@@ -5,20 +5,15 @@ use mathlib.Core.Bool.{Bool, true, false, _&&_, not, cond}
 use mathlib.Core.List.{List, [], _∷_}
 use Prim.Native.Nat.{ℕ, zero, suc, _+_, _-_, _<_, _≤_, zero-le, suc-le-suc}
 use native.Mathlib.Decide.{ℕ-discrete, decLt}
-use native.Mathlib.Numerals.{add-one}
 use native.Mathlib.Omega.{arith}
 use lib.Dec.{eqb}
 use lib.ListN.{length, drop, getD, length-drop, drop-of-length-le}
-use lib.Seq.{drop-cons}
 use borrow.Author.Tests.{ne-eqb}
 use Rattle.paper.specs.Lexical.{Set, hitsByte, plain, commented, backslash, escaped, u, hex, lead2, e0, lead3, ed, tail, tailHigh, tailLow}
 use Rattle.tokens.specs.Characters.{fits, sized, secondOf, fourHex, wideSize, characterSize, escapedSize, withOne, partSize}
-use Rattle.tokens.proofs.SpanLaws.{agree}
+use Rattle.tokens.proofs.ByteLaws.{front, bytes-agree}
 
--- the text from i on, with its first bytes
-pub front : (s : List ℕ) (i : ℕ) → i < length s → drop i s ≡ getD s i 0 ∷ drop (i + 1) s
-front s i h = drop-cons s i 0 h ∙ ap (λ (k : ℕ). getD s i 0 ∷ drop k s) (sym (add-one i))
-
+-- the text from i + k on, with its first byte
 after-front : (s : List ℕ) (i k j : ℕ) → i + k < length s → i + (k + 1) ≡ j → drop (i + k) s ≡ getD s (i + k) 0 ∷ drop j s
 after-front s i k j h e = front s (i + k) h ∙ ap (λ (x : ℕ). getD s (i + k) 0 ∷ drop x s) (let z : i + k + 1 ≡ j = omega arith in z)
 
@@ -36,16 +31,16 @@ fits-short (p ∷ ps) (b ∷ bs) h = rw (fits-short ps bs (omega arith)) (go (hi
 wide-low : (b : ℕ) (bs : List ℕ) → b < 194 → wideSize (b ∷ bs) ≡ 0
 unfolding wideSize
 wide-low b bs h =
-    rw (agree (hitsByte lead2) (λ _. false) 0 194 tt b zero-le h, agree (hitsByte e0) (λ _. false) 0 194 tt b zero-le h, agree (hitsByte lead3) (λ _. false) 0 194 tt b zero-le h, agree (hitsByte ed) (λ _. false) 0 194 tt b zero-le h)
+    rw (bytes-agree (hitsByte lead2) (λ _. false) 0 194 tt b zero-le h, bytes-agree (hitsByte e0) (λ _. false) 0 194 tt b zero-le h, bytes-agree (hitsByte lead3) (λ _. false) 0 194 tt b zero-le h, bytes-agree (hitsByte ed) (λ _. false) 0 194 tt b zero-le h)
 
 wide-high : (b : ℕ) (bs : List ℕ) → 240 ≤ b → b < 256 → wideSize (b ∷ bs) ≡ 0
 unfolding wideSize
 wide-high b bs l h =
-    rw (agree (hitsByte lead2) (λ _. false) 240 16 tt b l h, agree (hitsByte e0) (λ _. false) 240 16 tt b l h, agree (hitsByte lead3) (λ _. false) 240 16 tt b l h, agree (hitsByte ed) (λ _. false) 240 16 tt b l h)
+    rw (bytes-agree (hitsByte lead2) (λ _. false) 240 16 tt b l h, bytes-agree (hitsByte e0) (λ _. false) 240 16 tt b l h, bytes-agree (hitsByte lead3) (λ _. false) 240 16 tt b l h, bytes-agree (hitsByte ed) (λ _. false) 240 16 tt b l h)
 
 wide-two : (b : ℕ) (bs : List ℕ) → 194 ≤ b → b < 224 → wideSize (b ∷ bs) ≡ sized (tail ∷ []) bs
 unfolding wideSize
-wide-two b bs l h = rw (agree (hitsByte lead2) (λ _. true) 194 30 tt b l h)
+wide-two b bs l h = rw (bytes-agree (hitsByte lead2) (λ _. true) 194 30 tt b l h)
 
 wide-three : (b : ℕ) (bs : List ℕ) → 224 ≤ b → b < 240 → wideSize (b ∷ bs) ≡ sized (secondOf b ∷ tail ∷ []) bs
 unfolding wideSize
@@ -56,9 +51,9 @@ wide-three b bs l h = go (ℕ-discrete b 224) (ℕ-discrete b 237)
     go (no f) (yes e) = subst (λ (k : ℕ). wideSize (k ∷ bs) ≡ sized (secondOf k ∷ tail ∷ []) bs) (sym e) refl
     go (no f) (no g) =
         rw (
-          agree (hitsByte lead2) (λ _. false) 224 16 tt b l h,
-          agree (hitsByte e0) (λ k. eqb k 224) 224 16 tt b l h,
-          agree (hitsByte lead3) (λ k. not (eqb k 224) && not (eqb k 237)) 224 16 tt b l h,
+          bytes-agree (hitsByte lead2) (λ _. false) 224 16 tt b l h,
+          bytes-agree (hitsByte e0) (λ k. eqb k 224) 224 16 tt b l h,
+          bytes-agree (hitsByte lead3) (λ k. not (eqb k 224) && not (eqb k 237)) 224 16 tt b l h,
           ne-eqb b 224 f,
           ne-eqb b 237 g,
         )
@@ -129,16 +124,16 @@ module _ (s : List ℕ) (i : ℕ) (h : i < length s) where
   character-at = ap characterSize (front s i h) ∙ ap (λ bs. cond (hitsByte commented (getD s i 0)) 1 (wideSize bs)) (sym (front s i h))
 
   pub character-tab : getD s i 0 ≡ 9 → 1 ≡ characterSize (drop i s)
-  character-tab e = sym (character-at ∙ rw (agree (hitsByte commented) (λ _. true) 9 1 tt (getD s i 0) (omega arith) (omega arith)))
+  character-tab e = sym (character-at ∙ rw (bytes-agree (hitsByte commented) (λ _. true) 9 1 tt (getD s i 0) (omega arith) (omega arith)))
 
   pub character-low : getD s i 0 < 32 → (getD s i 0 ≡ 9 → ⊥) → 0 ≡ characterSize (drop i s)
-  character-low l z = sym (character-at ∙ rw (agree (hitsByte commented) (λ k. eqb k 9) 0 32 tt (getD s i 0) zero-le l, ne-eqb (getD s i 0) 9 z) (sym (size-low s i h (omega arith))))
+  character-low l z = sym (character-at ∙ rw (bytes-agree (hitsByte commented) (λ k. eqb k 9) 0 32 tt (getD s i 0) zero-le l, ne-eqb (getD s i 0) 9 z) (sym (size-low s i h (omega arith))))
 
   pub character-plain : 32 ≤ getD s i 0 → getD s i 0 < 128 → 1 ≡ characterSize (drop i s)
-  character-plain l k = sym (character-at ∙ rw (agree (hitsByte commented) (λ _. true) 32 96 tt (getD s i 0) l k))
+  character-plain l k = sym (character-at ∙ rw (bytes-agree (hitsByte commented) (λ _. true) 32 96 tt (getD s i 0) l k))
 
   pub character-wide : 128 ≤ getD s i 0 → getD s i 0 < 256 → wideSize (drop i s) ≡ characterSize (drop i s)
-  character-wide l k = sym (character-at ∙ rw (agree (hitsByte commented) (λ _. false) 128 128 tt (getD s i 0) l k))
+  character-wide l k = sym (character-at ∙ rw (bytes-agree (hitsByte commented) (λ _. false) 128 128 tt (getD s i 0) l k))
 
 -- four digits at i
 pub four-short : (s : List ℕ) (i : ℕ) → length s - i < 4 → false ≡ fits fourHex (drop i s)
@@ -174,7 +169,7 @@ module _ (s : List ℕ) (i : ℕ) (h : i + 1 < length s) where
       go false = refl
 
   pub escape-other : (r : Bool) → (getD s (i + 1) 0 ≡ 117 → ⊥) → getD s (i + 1) 0 < 256 → hitsByte escaped (getD s (i + 1) 0) ≡ r → cond r 2 0 ≡ withOne (escapedSize (drop (i + 1) s))
-  escape-other r e k q = sym (ap withOne escape-at ∙ rw (q, agree (hitsByte u) (λ b. eqb b 117) 0 256 tt (getD s (i + 1) 0) zero-le k, ne-eqb (getD s (i + 1) 0) 117 e) (go r))
+  escape-other r e k q = sym (ap withOne escape-at ∙ rw (q, bytes-agree (hitsByte u) (λ b. eqb b 117) 0 256 tt (getD s (i + 1) 0) zero-le k, ne-eqb (getD s (i + 1) 0) 117 e) (go r))
     where
       go : (x : Bool) → withOne (cond x 1 0) ≡ cond x 2 0
       go true = refl
@@ -198,7 +193,7 @@ module _ (s : List ℕ) (i : ℕ) (h : i < length s) where
   part-other e f k =
       character-at s i h ∙ sym (part-at ∙
       rw
-      (agree (hitsByte plain) (λ b. hitsByte commented b && (not (eqb b 34) && not (eqb b 92))) 0 256 tt b zero-le k, agree (hitsByte backslash) (λ b. eqb b 92) 0 256 tt b zero-le k, ne-eqb b 34 f, ne-eqb b 92 e)
+      (bytes-agree (hitsByte plain) (λ b. hitsByte commented b && (not (eqb b 34) && not (eqb b 92))) 0 256 tt b zero-le k, bytes-agree (hitsByte backslash) (λ b. eqb b 92) 0 256 tt b zero-le k, ne-eqb b 34 f, ne-eqb b 92 e)
       (go (hitsByte commented b)))
     where
       b : ℕ

@@ -15,7 +15,8 @@ use Rattle.paper.proofs.Longest.{scan}
 use Rattle.paper.proofs.LexTables.{lexer, lexFactored}
 use Rattle.paper.proofs.LexChecked.{fitsL}
 use Rattle.tokens.specs.Characters.{sized, wideSize, characterSize, escapedSize, withOne, partSize, fourHex}
-use Rattle.tokens.proofs.ScanLaws.{Stack, seen, more, orThat, or-none, scan-took, scan-refused, scan-same, taken, after, led}
+use Rattle.tokens.proofs.ReadLaws.{Stack}
+use Rattle.tokens.proofs.ScanLaws.{seen, more, orThat, or-none, scan-took, scan-refused, scan-same, taken, after, led}
 
 pub is-true : (x : Bool) → x ≡ true → T x
 is-true x q = subst T (sym q) tt

@@ -11,7 +11,6 @@ pub mod Unroll
 pub mod KindLaws
 pub mod HeadLaws
 pub mod WordLaws
-pub mod SpanLaws
 pub mod ScanLaws
 pub mod CharacterLaws
 pub mod CharacterRuns

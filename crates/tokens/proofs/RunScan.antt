@@ -18,7 +18,8 @@ use Rattle.paper.proofs.Longest.{scan}
 use Rattle.paper.proofs.LexTables.{lexer, lexFactored}
 use Rattle.paper.proofs.LexChecked.{fitsL}
 use Rattle.tokens.specs.Characters.{characterSize, partSize}
-use Rattle.tokens.proofs.ScanLaws.{Stack, Seen, seen, more, grow, orThat, or-none, scan-same, scan-or, after}
+use Rattle.tokens.proofs.ReadLaws.{Stack}
+use Rattle.tokens.proofs.ScanLaws.{Seen, seen, more, grow, orThat, or-none, scan-same, scan-or, after}
 use Rattle.tokens.proofs.CharacterScan.{is-true, is-false, not-true, scan-comment-character, scan-string-character, character-none, part-none}
 
 -- a repetition r of the part n

@@ -7,7 +7,7 @@ use mathlib.Core.Option.{Option, none, some}
 use Prim.Native.Nat.{ℕ, zero, suc}
 use lib.Dec.{T}
 use lib.ListN.{length, drop}
-use Rattle.paper.specs.Grammar.{Sym, tm, Ev, tok}
+use Rattle.paper.specs.Grammar.{tm, Ev, tok}
 use Rattle.paper.specs.Lexical.{Lex, Set, What, hitsByte}
 use Rattle.paper.specs.Tokens.{whatOf}
 use Rattle.paper.proofs.Machine.{Step, took, emptied, refused, spent, step}
@@ -15,9 +15,7 @@ use Rattle.paper.proofs.Theory.{T→eq}
 use Rattle.paper.proofs.Longest.{Match, scan, longer, further, here}
 use Rattle.paper.proofs.LexTables.{lexer}
 use Rattle.tokens.specs.Characters.{fits, sized}
-
-abbrev pub Stack : Type 0
-Stack = List (Sym Lex Set What)
+use Rattle.tokens.proofs.ReadLaws.{Stack}
 
 -- a match, by its size and what it is
 abbrev pub Seen : Type 0

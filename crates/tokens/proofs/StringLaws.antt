@@ -21,8 +21,9 @@ use Rattle.tokens.specs.Piece.{pieceAt, asToken, tokenOf, tokenHere, asI
 use Rattle.tokens.specs.Characters.{Runs, none-yet, one-more, Ended, characterSize, partSize}
 use Rattle.tokens.specs.declared.TokenRead.{TokenRead}
 use Rattle.tokens.specs.declared.TokenRead.the-variants.{Token, Bad}
-use Rattle.tokens.proofs.CharacterLaws.{front}
-use Rattle.tokens.proofs.ScanLaws.{Stack, Seen, seen, more, grow, or-none, scan-took}
+use Rattle.tokens.proofs.ByteLaws.{front}
+use Rattle.tokens.proofs.ReadLaws.{Stack}
+use Rattle.tokens.proofs.ScanLaws.{Seen, seen, more, grow, or-none, scan-took}
 use Rattle.tokens.proofs.RunScan.{inString, inComment, string-end, string-quote, string-more, string-stop, comment-more, comment-stop}
 
 grow-add : (n m : ℕ) (o : Seen) → grow n (grow m o) ≡ grow (n + m) o
