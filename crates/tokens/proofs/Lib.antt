@@ -11,3 +11,10 @@ pub mod Unroll
 pub mod KindLaws
 pub mod HereLaws
 pub mod HeadLaws
+pub mod WordLaws
+pub mod ScanLaws
+pub mod CharacterLaws
+pub mod CharacterRuns
+pub mod CharacterScan
+pub mod RunScan
+pub mod StringLaws

@@ -2,3 +2,4 @@ pub mod Head
 pub mod Piece
 pub mod Run
 pub mod Skip
+pub mod Characters

@@ -3,12 +3,14 @@ ghost use mathlib.Core.Path.{_≡_};
 ghost use Prim.Native.Nat.{_+_, _-_, _≤_, _<_};
 ghost use mathlib.Core.Bool.{false, cond};
 ghost use lib.ListN.{length, take, drop, getD};
-ghost use Rattle.paper.specs.Lexical.{hitsByte, letter, letterOrDigit, digit};
+ghost use Rattle.paper.specs.Lexical.{hitsByte, letter, letterOrDigit, digit, hex, escaped, tail};
+ghost use Rattle.paper.specs.Tokens.{same};
 ghost use Rattle.paper.proofs.Lexing.{from};
 ghost use Rattle.tokens.specs.Head.{headOf, wordOf};
 ghost use Rattle.tokens.specs.Piece.{tokenHere, ignoredHere};
 ghost use Rattle.tokens.specs.Run.{runOf, startsWith, fractionSize, signSize, exponentSize, wholeSize};
 ghost use Rattle.tokens.specs.Skip.{Skipped, punctuatorOf};
+ghost use Rattle.tokens.specs.Characters.{fits, secondOf, fourHex, wideSize, characterSize, escapedSize, withOne, partSize, Ended};
 
 // What stands at a place: a token, or bytes that start none (also a string or a comment with bad text).
 pub enum TokenRead {
@@ -110,8 +112,13 @@ pub fn in_name(b: u8) -> bool
     starts_name(b)
 }
 
-pub fn is_hex(b: u8) -> bool {
-    if is_digit(b) {
+pub fn is_hex(b: u8) -> bool
+    ensures { λ r. ⌜ r ≡ hitsByte hex b ⌝ }
+{
+    if b < 48 {
+        return false;
+    }
+    if b < 58 {
         return true;
     }
     if b < 65 {
@@ -127,7 +134,9 @@ pub fn is_hex(b: u8) -> bool {
 }
 
 // Whether a byte goes on with a character of UTF-8.
-pub fn is_tail(b: u8) -> bool {
+pub fn is_tail(b: u8) -> bool
+    ensures { λ r. ⌜ r ≡ hitsByte tail b ⌝ }
+{
     if b < 128 {
         return false;
     }
@@ -135,16 +144,20 @@ pub fn is_tail(b: u8) -> bool {
 }
 
 // Whether a byte may stand second in a character of three bytes that starts with `lead`: E0 bars overlong forms, ED surrogates.
-pub fn is_second(lead: u8, b: u8) -> bool {
+pub fn is_second(lead: u8, b: u8) -> bool
+    ensures { λ r. ⌜ r ≡ hitsByte (secondOf lead) b ⌝ }
+{
     if lead == 224 {
         if b < 160 {
             return false;
         }
+        return is_tail(b);
     }
     if lead == 237 {
         if 159 < b {
             return false;
         }
+        return is_tail(b);
     }
     is_tail(b)
 }
@@ -152,6 +165,7 @@ pub fn is_second(lead: u8, b: u8) -> bool {
 // The size of the character of more than one byte at i, or 0.
 pub fn wide(s: &[u8], i: usize) -> usize
     requires { ⌜ i < length (now s) ⌝ }
+    ensures { λ r. ⌜ r ≡ wideSize (drop i (now (s .entry))) ⌝ }
 {
     let b = s[i];
     if b < 194 {
@@ -182,6 +196,7 @@ pub fn wide(s: &[u8], i: usize) -> usize
 // The size of the character at i that may stand in a comment, or 0.
 pub fn character(s: &[u8], i: usize) -> usize
     requires { ⌜ i < length (now s) ⌝ }
+    ensures { λ r. ⌜ r ≡ characterSize (drop i (now (s .entry))) ⌝ }
 {
     let b = s[i];
     if b < 32 {
@@ -197,7 +212,9 @@ pub fn character(s: &[u8], i: usize) -> usize
 }
 
 // Whether a byte may stand after a backslash, `u` apart.
-pub fn is_escaped(b: u8) -> bool {
+pub fn is_escaped(b: u8) -> bool
+    ensures { λ r. ⌜ r ≡ hitsByte escaped b ⌝ }
+{
     if b == 34 {
         return true;
     }
@@ -225,6 +242,7 @@ pub fn is_escaped(b: u8) -> bool {
 // Whether four hex digits stand at i.
 pub fn four_hex(s: &[u8], i: usize) -> bool
     requires { ⌜ i ≤ length (now s) ⌝ }
+    ensures { λ r. ⌜ r ≡ fits fourHex (drop i (now (s .entry))) ⌝ }
 {
     if s.len() - i < 4 {
         return false;
@@ -242,6 +260,7 @@ pub fn four_hex(s: &[u8], i: usize) -> bool
 // The size of the escape whose backslash stands at i, or 0.
 pub fn escape(s: &[u8], i: usize) -> usize
     requires { ⌜ i < length (now s) ⌝ }
+    ensures { λ r. ⌜ r ≡ withOne (escapedSize (drop (i + 1) (now (s .entry)))) ⌝ }
 {
     if s.len() <= i + 1 {
         return 0;
@@ -262,6 +281,7 @@ pub fn escape(s: &[u8], i: usize) -> usize
 // The size of what stands at i in a string, or 0 where that is no part of one.
 pub fn string_part(s: &[u8], i: usize) -> usize
     requires { ⌜ i < length (now s) ⌝ }
+    ensures { λ r. ⌜ r ≡ partSize (drop i (now (s .entry))) ⌝ }
 {
     let b = s[i];
     if b == 92 {
@@ -276,6 +296,7 @@ pub fn string_part(s: &[u8], i: usize) -> usize
 // One past the last of the characters of a string that stand from `from` on.
 pub fn string_end(s: &[u8], from: usize) -> usize
     requires { ⌜ from ≤ length (now s) ⌝ }
+    ensures { λ r. ⌜ Ended partSize (now (s .entry)) from r ⌝ }
 {
     let mut i = from;
     while i < s.len() {
@@ -296,7 +317,11 @@ pub fn string(s: &[u8], at: usize) -> TokenRead
     let e = string_end(s, at + 1);
     if e < s.len() {
         if s[e] == 34 {
-            return TokenRead::Token { kind: TOKEN_STRING, start: at, end: e + 1 };
+            return TokenRead::Token {
+                kind: TOKEN_STRING,
+                start: at,
+                end: e + 1,
+            };
         }
     }
     TokenRead::Bad(at)
@@ -305,6 +330,7 @@ pub fn string(s: &[u8], at: usize) -> TokenRead
 // One past the last of a comment's characters that stand from `from` on.
 pub fn comment_end(s: &[u8], from: usize) -> usize
     requires { ⌜ from ≤ length (now s) ⌝ }
+    ensures { λ r. ⌜ Ended characterSize (now (s .entry)) from r ⌝ }
 {
     let mut i = from;
     while i < s.len() {
@@ -326,11 +352,11 @@ pub fn comment(s: &[u8], i: usize) -> usize
     if s.len() <= e {
         return e - i;
     }
-    let b = s[e];
-    if b == 10 {
+    let after = s[e];
+    if after == 10 {
         return e - i;
     }
-    if b == 13 {
+    if after == 13 {
         return e - i;
     }
     0
@@ -615,6 +641,7 @@ pub fn next(s: &[u8], from: usize) -> TokenRead
 // Whether the bytes of s from `at` on begin with those of w.
 pub fn begins(s: &[u8], at: usize, w: &[u8]) -> bool
     requires { ⌜ at + length (now w) ≤ length (now s) ⌝ }
+    ensures { λ r. ⌜ r ≡ same (take (length (now (w .entry))) (drop at (now (s .entry)))) (now (w .entry)) ⌝ }
 {
     let mut i = 0;
     while i < w.len() {
@@ -657,11 +684,11 @@ pub fn word(s: &[u8], start: usize, end: usize) -> u32
         return WORD_OTHER;
     }
     if n == 8 {
-        if begins(s, start, b"fragment") {
-            return WORD_FRAGMENT;
-        }
         if begins(s, start, b"mutation") {
             return WORD_MUTATION;
+        }
+        if begins(s, start, b"fragment") {
+            return WORD_FRAGMENT;
         }
         return WORD_OTHER;
     }
