@@ -1,5 +1,5 @@
 -- What the answer of the token reader says of the tokens of the text: laws for those who call it.
-use mathlib.Core.Path.{_≡_, refl, sym, ap, _∙_, subst}
+use mathlib.Core.Path.{_≡_, refl, sym, ap, _∙_}
 use mathlib.Core.Bool.{Bool, true, false}
 use mathlib.Core.List.{List, [], _∷_}
 use mathlib.Core.Option.{Option, none, some}
@@ -12,14 +12,13 @@ use lib.ListN.{length, take, drop}
 use Rattle.paper.specs.Grammar.{nt}
 use Rattle.paper.specs.Language.{Class}
 use Rattle.paper.specs.Lexical.{What, is, ignored, comment, Piece}
-use Rattle.paper.specs.Tokens.{Tok, Text, over, bad, token, nameClass, classed, whatOf, lineEnd}
+use Rattle.paper.specs.Tokens.{Text, over, bad, token, nameClass, whatOf, lineEnd}
 use Rattle.paper.proofs.Longest.{Match, scan}
 use Rattle.paper.proofs.LexTables.{lexer}
 use Rattle.paper.proofs.Lexing.{from, found, shown, orBad, piece-byte}
 use Rattle.paper.proofs.FromLaws.{from-token, from-over, from-bad}
 use Rattle.tokens.specs.Head.{kindOf, headOf}
 use Rattle.tokens.specs.Piece.{pieceAt}
-use Rattle.tokens.specs.declared.TokenRead.{TokenRead}
 use Rattle.tokens.specs.declared.TokenRead.the-variants.{Token, Bad}
 use Rattle.tokens.proofs.KindLaws.{classed-kind, kind-some, plain, plain-name, plain-piece}
 use Rattle.tokens.proofs.Unroll.{piece-is, unroll, from-end}

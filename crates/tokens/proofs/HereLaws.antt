@@ -1,21 +1,20 @@
 -- Behind what is ignored stands the first token, or bytes that start none, or the end.
-use mathlib.Core.Path.{_≡_, refl, sym, ap, _∙_, subst}
+use mathlib.Core.Path.{_≡_, refl, sym, ap}
 use mathlib.Core.Bool.{Bool, true, false, cond}
 use mathlib.Core.List.{List, [], _∷_}
 use mathlib.Core.Option.{Option, none, some}
-use Prim.Native.Nat.{ℕ, zero, suc, _+_, _<_, _≤_}
+use Prim.Native.Nat.{ℕ, _+_, _<_, _≤_}
 use native.Mathlib.Omega.{arith}
 use lib.ListN.{length, take, drop, length-drop}
 use Rattle.paper.specs.Grammar.{nt}
 use Rattle.paper.specs.Lexical.{What, is, ignored, comment, Piece}
-use Rattle.paper.specs.Tokens.{Text, over, bad, token, whatOf, lineEnd}
+use Rattle.paper.specs.Tokens.{whatOf, lineEnd}
 use Rattle.paper.proofs.Longest.{Match, scan}
 use Rattle.paper.proofs.LexTables.{lexer}
 use Rattle.paper.proofs.Lexing.{from, found, shown, orBad, piece-byte}
 use Rattle.paper.proofs.FromLaws.{piece-within}
-use Rattle.tokens.specs.Head.{kindOf, headOf}
+use Rattle.tokens.specs.Head.{headOf}
 use Rattle.tokens.specs.Piece.{pieceAt, tokenHere, tokenOf, asToken, ignoredHere, ignoredOf, asIgnored}
-use Rattle.tokens.specs.declared.TokenRead.{TokenRead}
 use Rattle.tokens.specs.declared.TokenRead.the-variants.{Token, Bad}
 use Rattle.tokens.proofs.KindLaws.{classed-kind}
 use Rattle.tokens.proofs.Unroll.{piece-is, unroll, from-end}

@@ -1,13 +1,12 @@
 -- The kinds of tokens: a name has kind 1, no token has kind 0, and what a piece of the lexical language can be.
-use mathlib.Core.Path.{_≡_, refl, sym, ap, _∙_, subst}
+use mathlib.Core.Path.{_≡_, refl, subst}
 use mathlib.Core.Bool.{Bool, true, false, _&&_, _||_, not}
-use mathlib.Core.List.{List, [], _∷_, _++_, List·Memᴰ}
-use mathlib.Core.Option.{Option, none, some}
+use mathlib.Core.List.{List, [], _∷_, _++_}
+use mathlib.Core.Option.{Option, some}
 use Prim.Native.Nat.{ℕ, _<_}
 use native.Mathlib.Omega.{arith}
 use lib.Dec.{T}
-use lib.ListN.{length}
-use Rattle.paper.specs.Grammar.{Sym, nt, tm, act, Ev, tok, mark, Derives, done, take, note, by}
+use Rattle.paper.specs.Grammar.{Sym, nt, tm, act, Ev, Derives, done, take, note, by}
 use Rattle.paper.specs.Language.{Class, sameC, isName, bang, dollar, parenL, parenR, spread, colon, equals, atSign, bracketL, bracketR, braceL, bar, braceR, n-query, n-mutation, n-subscription, n-fragment, n-on, n-true, n-false, n-null, n-other, int, float, string}
 use Rattle.paper.specs.Lexical.{Lex, Set, What, is, ignored, comment, Piece, lexical, hitsByte}
 use Rattle.paper.specs.Tokens.{orElse, same, nameClass, classed, whatOf}

@@ -3,9 +3,9 @@ use mathlib.Core.Path.{_≡_, refl, sym, ap, _∙_, subst}
 use mathlib.Core.Bool.{Bool, true, false, cond, _&&_, _||_}
 use mathlib.Core.List.{List, [], _∷_}
 use mathlib.Core.Logic.{_⊎_, inl, inr, ⊎-elim}
-use mathlib.Core.Option.{Option, none, some}
+use mathlib.Core.Option.{none, some}
 use Prim.Native.Nat.{ℕ, suc, _+_, _-_, _<_, _≤_}
-use native.Mathlib.Nat.{add-zero, zero-add, eq-or-lt-of-le}
+use native.Mathlib.Nat.{zero-add, eq-or-lt-of-le}
 use native.Mathlib.Omega.{arith}
 use borrow.Author.Tests.{leb-true, eq-eqb, ne-eqb}
 use lib.Dec.{leb, ltb, eqb}
@@ -18,9 +18,8 @@ use Rattle.paper.proofs.Machine.{took, refused, step, enter, choose}
 use Rattle.paper.proofs.LexTables.{lexer, lexFactored}
 use Rattle.tokens.specs.Head.{kindOf}
 use Rattle.tokens.specs.Piece.{asToken, tokenHere}
-use Rattle.tokens.specs.Run.{runOf, startsWith, withDigits, fractionSize, signSize, exponentSize, wholeSize}
+use Rattle.tokens.specs.Run.{runOf, startsWith, fractionSize, signSize, exponentSize, wholeSize}
 use Rattle.tokens.specs.Skip.{punctuatorOf}
-use Rattle.tokens.specs.declared.TokenRead.{TokenRead}
 use Rattle.tokens.specs.declared.TokenRead.the-variants.{Token, Bad}
 use Rattle.tokens.proofs.ByteLaws.{front}
 use Rattle.tokens.proofs.RunLaws.{run-yes, starts-at}

@@ -1,16 +1,16 @@
 -- The parts of a number, at a place of a text: how far each goes.
-use mathlib.Core.Path.{_≡_, refl, sym, ap, _∙_}
-use mathlib.Core.Bool.{Bool, true, false, cond, _&&_, _||_}
+use mathlib.Core.Path.{_≡_, refl, sym, _∙_}
+use mathlib.Core.Bool.{Bool, true, false, cond, _&&_}
 use mathlib.Core.List.{List, [], _∷_}
 use mathlib.Core.Logic.{_⊎_, inl, inr}
-use Prim.Native.Nat.{ℕ, zero, suc, _+_, _<_, _≤_}
+use Prim.Native.Nat.{ℕ, suc, _+_, _<_, _≤_}
 use native.Mathlib.Decide.{decLt}
 use native.Mathlib.Omega.{arith}
 use borrow.Author.Tests.{leb-true}
 use lib.Dec.{leb, ltb}
 use lib.ListN.{length, getD, drop, drop-of-length-le, length-drop}
 use lib.Seq.{drop-drop}
-use Rattle.paper.specs.Lexical.{Set, span, within, hitsByte, digit, dot, e, sign}
+use Rattle.paper.specs.Lexical.{Set, span, within, hitsByte, digit, dot, e}
 use Rattle.tokens.specs.Run.{runOf, startsWith, withDigits, fractionSize, signSize, exponentSize, wholeSize}
 use Rattle.tokens.proofs.ByteLaws.{front}
 use Rattle.tokens.proofs.RunLaws.{run-yes, run-within, starts-at, starts-end}

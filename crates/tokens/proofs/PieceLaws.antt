@@ -2,13 +2,12 @@
 use mathlib.Core.Path.{_≡_, refl, sym, ap, _∙_, subst}
 use mathlib.Core.Bool.{Bool, true, false, cond, _||_}
 use mathlib.Core.List.{List, [], _∷_}
-use mathlib.Core.Option.{Option, none, some}
-use Prim.Native.Nat.{ℕ, zero, suc, _+_, _-_, _<_, _≤_}
-use native.Mathlib.Nat.{add-zero}
+use mathlib.Core.Option.{none, some}
+use Prim.Native.Nat.{ℕ, suc, _+_, _-_, _<_, _≤_}
 use native.Mathlib.Omega.{arith}
 use borrow.Author.Tests.{ne-eqb, eqb-true, eqb-false}
-use lib.Dec.{T, eqb}
-use lib.ListN.{length, getD, drop, length-drop, drop-of-length-le}
+use lib.Dec.{eqb}
+use lib.ListN.{length, getD, drop, length-drop}
 use Rattle.paper.specs.Grammar.{nt, tm, act, tok}
 use Rattle.paper.specs.Language.{Class, bang, dollar, parenL, parenR, spread, colon, equals, atSign, bracketL, bracketR, braceL, bar, braceR, n-other}
 use Rattle.paper.specs.Lexical.{Set, What, span, is, ignored, Piece, letter, letterOrDigit, lexical, hitsByte}
@@ -18,11 +17,10 @@ use Rattle.tokens.specs.Head.{kindOf}
 use Rattle.tokens.specs.Piece.{tokenHere, ignoredHere}
 use Rattle.tokens.specs.Run.{runOf}
 use Rattle.tokens.specs.Skip.{lookup, punctuatorOf}
-use Rattle.tokens.specs.declared.TokenRead.{TokenRead}
 use Rattle.tokens.specs.declared.TokenRead.the-variants.{Token, Bad}
 use Rattle.tokens.proofs.ByteLaws.{front, bytes-agree}
 use Rattle.tokens.proofs.NumberParts.{miss-one}
-use Rattle.tokens.proofs.ReadLaws.{Stack, Read, Nothing, read-size, read-take, read-mark, read-run, nothing-take, nothing-refused, nothing-end, read-token, nothing-token, read-ignored, nothing-ignored}
+use Rattle.tokens.proofs.ReadLaws.{Stack, Read, Nothing, read-take, read-mark, read-run, nothing-take, nothing-refused, nothing-end, read-token, nothing-token, read-ignored, nothing-ignored}
 use Rattle.tokens.proofs.StepLaws.{repeats-name, step-letter}
 use Rattle.tokens.proofs.WhatLaws.{blank, kept-byte}
 

@@ -1,26 +1,21 @@
 -- How the machine of the lexical language reads, step by step: the size and the kind of the longest match.
-use mathlib.Core.Path.{_≡_, refl, sym, ap, _∙_, subst}
+use mathlib.Core.Path.{_≡_, refl, sym, _∙_, subst}
 use mathlib.Core.Bool.{Bool, true, false, cond}
-use mathlib.Core.List.{List, [], _∷_, _++_, List·Memᴰ·head, List·Memᴰ·tail}
-use mathlib.Core.Option.{Option, none, some}
-use Prim.Native.Nat.{ℕ, zero, suc, _+_, _<_, _≤_}
+use mathlib.Core.List.{List, [], _∷_}
+use mathlib.Core.Option.{none, some}
+use Prim.Native.Nat.{ℕ, suc, _+_}
 use native.Mathlib.Nat.{zero-add}
 use native.Mathlib.Omega.{arith}
-use lib.Dec.{T}
-use lib.ListN.{length, drop}
-use Rattle.paper.specs.Grammar.{Sym, nt, tm, act, Ev, tok, mark}
-use Rattle.paper.specs.Lexical.{Lex, Set, What, is, ignored, comment, Piece, Digit*, NameRest*, digit, letterOrDigit, lexical, hitsByte}
+use lib.ListN.{drop}
+use Rattle.paper.specs.Grammar.{Sym, nt, act, Ev, tok, mark}
+use Rattle.paper.specs.Lexical.{Lex, Set, What, Piece, hitsByte}
 use Rattle.paper.specs.Tokens.{whatOf}
-use Rattle.paper.proofs.Machine.{Step, took, emptied, refused, step, enter, choose}
-use Rattle.paper.proofs.Longest.{Match, scan, here, longer, further}
-use Rattle.paper.proofs.Theory.{T→eq, step-by, choose-first, choose-null}
-use Rattle.paper.proofs.LexTables.{lexer, lexFactored}
-use Rattle.paper.proofs.LexChecked.{fitsL}
-use Rattle.tokens.specs.Head.{kindOf}
-use Rattle.tokens.specs.Piece.{pieceAt, tokenHere, tokenOf, asToken, ignoredHere, ignoredOf, asIgnored}
+use Rattle.paper.proofs.Machine.{took, emptied, refused, step}
+use Rattle.paper.proofs.Longest.{scan}
+use Rattle.paper.proofs.LexTables.{lexer}
+use Rattle.tokens.specs.Piece.{pieceAt, tokenHere, asToken, ignoredHere, asIgnored}
 use Rattle.tokens.specs.Run.{runOf}
-use Rattle.tokens.specs.declared.TokenRead.{TokenRead}
-use Rattle.tokens.specs.declared.TokenRead.the-variants.{Token, Bad}
+use Rattle.tokens.specs.declared.TokenRead.the-variants.{Bad}
 
 abbrev pub Stack : Type 0
 Stack = List (Sym Lex Set What)

@@ -1,16 +1,13 @@
 -- The steps of the lexical machine that names and numbers take, told by the byte.
-use mathlib.Core.Path.{_≡_, refl, sym, ap, _∙_, subst}
-use mathlib.Core.Bool.{Bool, true, false, _&&_, _||_}
-use mathlib.Core.List.{List, [], _∷_, _++_, List·Memᴰ, List·Memᴰ·head, List·Memᴰ·tail}
-use mathlib.Core.Logic.{⊎-elim}
-use mathlib.Core.Option.{Option, none, some}
-use Prim.Native.Nat.{ℕ, zero, suc, _+_, _<_, _≤_}
-use native.Mathlib.Nat.{eq-or-lt-of-le}
-use native.Mathlib.Omega.{arith}
+use mathlib.Core.Path.{_≡_, refl, sym, _∙_, subst}
+use mathlib.Core.Bool.{Bool, true, false}
+use mathlib.Core.List.{[], _∷_, List·Memᴰ, List·Memᴰ·head, List·Memᴰ·tail}
+use mathlib.Core.Option.{none, some}
+use Prim.Native.Nat.{ℕ}
 use lib.Dec.{T}
-use Rattle.paper.specs.Grammar.{Sym, nt, tm, act, Ev, tok, mark}
+use Rattle.paper.specs.Grammar.{nt, tm, act, tok, mark}
 use Rattle.paper.specs.Language.{n-other, int, float}
-use Rattle.paper.specs.Lexical.{Lex, Set, What, is, Piece, Name, NameRest*, Digit*, Digit+, Sign?, ExponentPart, ExponentPart?, NumberRest, Whole, digit, letter, letterOrDigit, dot, e, sign, lexical, hitsByte}
+use Rattle.paper.specs.Lexical.{Lex, Set, is, Piece, Name, NameRest*, Digit*, Digit+, Sign?, ExponentPart, ExponentPart?, NumberRest, Whole, digit, letter, letterOrDigit, dot, e, sign, lexical, hitsByte}
 use Rattle.paper.proofs.Machine.{took, emptied, refused, pick, fst, nul, step, enter, choose}
 use Rattle.paper.proofs.Theory.{or-l, pick-none, step-by, step-none, choose-first, choose-null}
 use Rattle.paper.proofs.LexTables.{lexer, lexFactored}

@@ -1,15 +1,15 @@
 -- One round of the tokens of a text: what stands at an offset, and the tokens from its end on.
-use mathlib.Core.Path.{_≡_, refl, sym, ap, _∙_, subst}
+use mathlib.Core.Path.{_≡_, refl, sym, ap, _∙_}
 use mathlib.Core.Bool.{Bool, true, false, cond}
 use mathlib.Core.List.{List, [], _∷_}
 use mathlib.Core.Option.{Option, none, some}
-use Prim.Native.Nat.{ℕ, zero, suc, _+_, _-_, _≤_, _<_}
+use Prim.Native.Nat.{ℕ, suc, _+_, _-_, _≤_, _<_}
 use native.Mathlib.Omega.{arith}
-use lib.ListN.{length, take, drop, length-drop, drop-of-length-le}
+use lib.ListN.{length, drop, length-drop, drop-of-length-le}
 use lib.Seq.{drop-drop}
 use Rattle.paper.specs.Grammar.{nt}
 use Rattle.paper.specs.Lexical.{What, is, ignored, comment, Piece}
-use Rattle.paper.specs.Tokens.{Text, over, bad, token, classed, whatOf, lineEnd}
+use Rattle.paper.specs.Tokens.{Text, over, whatOf, lineEnd}
 use Rattle.paper.proofs.Longest.{Match, scan}
 use Rattle.paper.proofs.LexTables.{lexer}
 use Rattle.paper.proofs.Lexing.{text, from, found, shown, orBad, piece-byte, rounds}

@@ -1,26 +1,25 @@
 -- What a piece can be, told by its first byte: of one that begins so, each mark is of one sort.
-use mathlib.Core.Path.{_≡_, refl, sym, ap, _∙_, subst}
+use mathlib.Core.Path.{_≡_, refl, subst}
 use mathlib.Core.Bool.{Bool, true, false, _&&_, _||_, not}
-use mathlib.Core.List.{List, [], _∷_, _++_, List·Memᴰ}
+use mathlib.Core.List.{List, [], _∷_, _++_}
 use mathlib.Core.Option.{Option, none, some}
-use Prim.Native.Nat.{ℕ, zero, suc, _<_}
+use Prim.Native.Nat.{ℕ, _<_}
 use native.Mathlib.Omega.{arith}
 use lib.Dec.{T, eqb, eqb→eq}
-use Rattle.paper.specs.Grammar.{Sym, nt, tm, act, Ev, tok, mark, Derives, done, take, note, by}
+use Rattle.paper.specs.Grammar.{nt, tm, act, Ev, tok, mark, Derives, done, take, note, by}
 use Rattle.paper.specs.Language.{int, float}
 use Rattle.paper.specs.Lexical.{Lex, Set, What, is, ignored, comment, Piece, Number, NumberRest, lexical, hitsByte, letter, digit, span}
-use Rattle.paper.specs.Tokens.{whatOf, lineEnd}
+use Rattle.paper.specs.Tokens.{whatOf}
 use Rattle.paper.proofs.Machine.{Step, took, emptied, refused, spent, step, enter, choose}
 use Rattle.paper.proofs.Theory.{and-l, and-r, and-i, none≢some, Kept, kept-step}
 use Rattle.paper.proofs.Test.{all, all-at, all-mem, implies, implies-out}
-use Rattle.paper.proofs.Longest.{Match, scan, here, longer, further, Best, best}
+use Rattle.paper.proofs.Longest.{Match, scan, longer, further, Best, best}
 use Rattle.paper.proofs.LexTables.{lexer, lexFactored, allL, numL, atL, sameL}
 use Rattle.paper.proofs.LexChecked.{fitsL, followL}
 use Rattle.tokens.specs.Piece.{pieceAt, tokenHere, tokenOf, asToken, ignoredHere, ignoredOf, asIgnored}
 use Rattle.tokens.specs.Skip.{punctuatorOf}
-use Rattle.tokens.specs.declared.TokenRead.{TokenRead}
-use Rattle.tokens.specs.declared.TokenRead.the-variants.{Token, Bad}
-use Rattle.tokens.proofs.ByteLaws.{allFrom, from-all}
+use Rattle.tokens.specs.declared.TokenRead.the-variants.{Bad}
+use Rattle.tokens.proofs.ByteLaws.{from-all}
 use Rattle.tokens.proofs.ReadLaws.{Stack}
 
 -- the parts that write no mark

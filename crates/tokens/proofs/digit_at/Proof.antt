@@ -1,5 +1,5 @@
 -- `tokens::digit_at` meets its contract.
-use mathlib.Core.Path.{_≡_, sym, _∙_}
+use mathlib.Core.Path.{sym, _∙_}
 use Rattle.paper.specs.Lexical.{digit}
 use Rattle.tokens.proofs.RunLaws.{starts-at, starts-end}
 use borrow.Author.Needs.{needs}

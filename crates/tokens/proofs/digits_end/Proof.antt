@@ -1,6 +1,6 @@
 -- `tokens::digits_end` meets its contract: the run from `from` and the run from i end at one place.
 use mathlib.Core.Path.{_≡_, refl, sym, _∙_}
-use Prim.Native.Nat.{ℕ, _+_, _-_, _≤_}
+use Prim.Native.Nat.{_+_, _-_}
 use native.Mathlib.Omega.{arith}
 use lib.ListN.{length, drop}
 use Rattle.paper.specs.Lexical.{digit}

@@ -1,7 +1,6 @@
 -- `tokens::ignored` meets its contract, by the first byte.
-use mathlib.Core.Path.{_≡_, sym, ap, _∙_}
+use mathlib.Core.Path.{sym, ap, _∙_}
 use mathlib.Core.Bool.{Bool, cond}
-use Prim.Native.Nat.{ℕ}
 use native.Mathlib.Omega.{arith}
 use Rattle.tokens.proofs.PieceLaws.{blank-tab, blank-line, blank-return, blank-space, blank-comma, no-blank}
 use borrow.Author.Needs.{needs}

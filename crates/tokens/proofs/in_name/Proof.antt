@@ -1,7 +1,5 @@
 -- `tokens::in_name` meets its contract: a digit or a letter.
-use mathlib.Core.Path.{_≡_, refl, sym, _∙_}
-use mathlib.Core.Bool.{true, false}
-use native.Mathlib.Omega.{arith}
+use mathlib.Core.Path.{sym, _∙_}
 use Rattle.tokens.proofs.ByteLaws.{digit-in-name, letter-in-name}
 use borrow.Author.Needs.{needs}
 use Rattle.tokens.proofs.in_name.Statement.{statement}

@@ -1,5 +1,5 @@
 -- `tokens::is_digit` meets its contract, range by range.
-use mathlib.Core.Bool.{true, false}
+use mathlib.Core.Bool.{false}
 use native.Mathlib.Omega.{arith}
 use lib.Dec.{ltb}
 use Rattle.paper.specs.Lexical.{hitsByte, digit}

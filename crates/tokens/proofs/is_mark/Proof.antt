@@ -1,5 +1,4 @@
 -- `tokens::is_mark` meets its contract.
-use native.Mathlib.Omega.{arith}
 use Rattle.tokens.proofs.PieceLaws.{order-short, order-second, order-third}
 use borrow.Author.Needs.{needs}
 use Rattle.tokens.proofs.is_mark.Statement.{statement}

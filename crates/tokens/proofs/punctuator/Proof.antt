@@ -1,5 +1,5 @@
 -- `tokens::punctuator` meets its contract, byte by byte.
-use borrow.Author.Tests.{eq-eqb, ne-eqb}
+use borrow.Author.Tests.{ne-eqb}
 use Rattle.tokens.specs.Skip.{punctuatorOf}
 use Rattle.tokens.proofs.punctuator.Statement.{statement}
 use Rattle.tokens.proofs.punctuator.Tie as tie

@@ -1,8 +1,8 @@
 -- `tokens::skip` meets its contract: what it has passed over changes nothing.
 use mathlib.Core.Path.{_≡_, refl, sym, _∙_}
-use Prim.Native.Nat.{ℕ, _+_, _-_, _≤_, _<_}
+use Prim.Native.Nat.{_-_, _≤_}
 use native.Mathlib.Omega.{arith}
-use lib.ListN.{length, drop}
+use lib.ListN.{length}
 use Rattle.paper.proofs.Lexing.{from as tokens-from}
 use Rattle.tokens.proofs.HereLaws.{ignored-in}
 use Rattle.tokens.proofs.Unroll.{from-skip}

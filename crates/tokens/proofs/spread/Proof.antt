@@ -1,5 +1,4 @@
 -- `tokens::spread` meets its contract.
-use native.Mathlib.Omega.{arith}
 use Rattle.tokens.proofs.PieceLaws.{spread-short, spread-yes, spread-third, spread-second}
 use borrow.Author.Needs.{needs}
 use Rattle.tokens.proofs.spread.Statement.{statement}
