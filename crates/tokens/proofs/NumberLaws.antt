@@ -24,7 +24,7 @@ use Rattle.tokens.specs.declared.TokenRead.the-variants.{Token, Bad}
 use Rattle.tokens.proofs.ByteLaws.{front}
 use Rattle.tokens.proofs.RunLaws.{run-yes, starts-at}
 use Rattle.tokens.proofs.ReadLaws.{Stack, Read, Nothing, read-size, read-take, read-end, read-stop, read-back, read-mark, read-run, read-alike, nothing-alike, alike-byte, alike-end, nothing-take, nothing-refused, nothing-end, read-token, nothing-token}
-use Rattle.tokens.proofs.StepLaws.{repeats-digit, step-digit, step-no-digit, end-digit, step-sign, step-no-sign, end-sign, step-no-whole, end-whole, Exponent, Exponent?, Rest, step-e, step-no-e, rest-e, rest-none, rest-dot, end-exponent, end-rest}
+use Rattle.tokens.proofs.StepLaws.{end-piece, repeats-digit, step-digit, step-no-digit, end-digit, step-sign, step-no-sign, end-sign, step-no-whole, end-whole, Exponent, Exponent?, Rest, step-e, step-no-e, rest-e, rest-none, rest-dot, end-exponent, end-rest}
 use Rattle.tokens.proofs.WhatLaws.{bad-byte}
 
 false≢true : {X : Type 0} → false ≡ true → X
@@ -182,16 +182,18 @@ Signed = nt Whole ∷ Rest
 wholes-piece : Wholes (nt Piece ∷ [])
 unfolding step enter choose lexFactored lexical
 wholes-piece = record {
-    step-zero = refl;
-    step-more = each (λ b. step lexer (nt Piece ∷ []) (some b) ≡ took (tok b ∷ []) (nt Digit* ∷ Rest)) 49 9
-        (refl, (refl, (refl, (refl, (refl, (refl, (refl, (refl, (refl, tt))))))))) }
+  step-zero = refl;
+  step-more = each (λ b. step lexer (nt Piece ∷ []) (some b) ≡ took (tok b ∷ []) (nt Digit* ∷ Rest)) 49 9
+      (refl, (refl, (refl, (refl, (refl, (refl, (refl, (refl, (refl, tt)))))))));
+}
 
 wholes-signed : Wholes Signed
 unfolding step enter choose lexFactored lexical
 wholes-signed = record {
-    step-zero = refl;
-    step-more = each (λ b. step lexer Signed (some b) ≡ took (tok b ∷ []) (nt Digit* ∷ Rest)) 49 9
-        (refl, (refl, (refl, (refl, (refl, (refl, (refl, (refl, (refl, tt))))))))) }
+  step-zero = refl;
+  step-more = each (λ b. step lexer Signed (some b) ≡ took (tok b ∷ []) (nt Digit* ∷ Rest)) 49 9
+      (refl, (refl, (refl, (refl, (refl, (refl, (refl, (refl, (refl, tt)))))))));
+}
 
 digit-range : (b : ℕ) → hitsByte digit b ≡ true → (48 ≤ b) × (b < 58)
 digit-range b q = go (ltb b 256) (leb 48 b) refl (leb b 57) refl q
@@ -237,10 +239,6 @@ minus : step lexer (nt Piece ∷ []) (some 45) ≡ took (tok 45 ∷ []) Signed
 unfolding step enter choose lexFactored lexical
 minus = refl
 
-piece-end : step lexer (nt Piece ∷ []) none ≡ refused
-unfolding step enter choose lexFactored lexical
-piece-end = refl
-
 -- d is the place behind the sign of the number at `at`
 abbrev pub Behind : List ℕ → ℕ → ℕ → Type 0
 Behind s at d = ((getD s at 0 ≡ 45) × (d ≡ at + 1)) ⊎ ((getD s at 0 ≡ 45 → ⊥) × (d ≡ at))
@@ -259,7 +257,7 @@ module _ (s : List ℕ) (at d : ℕ) (h : at < length s) where
   pub number-bad : getD s at 0 < 256 → hitsByte letter (getD s at 0) ≡ false → punctuatorOf (getD s at 0) ≡ 0 → (getD s at 0 ≡ 34 → ⊥) → (getD s at 0 ≡ 46 → ⊥) →
       Behind s at d → startsWith digit (drop d s) ≡ false → Bad at ≡ tokenHere at (drop at s)
   number-bad b l p x y (inl z) q =
-      sym (rw (front s at h, z .0) (nothing-token (45 ∷ drop (at + 1) s) (nothing-take minus piece-end (signed-none (drop (at + 1) s) (rw (z .1) at q))) at))
+      sym (rw (front s at h, z .0) (nothing-token (45 ∷ drop (at + 1) s) (nothing-take minus end-piece (signed-none (drop (at + 1) s) (rw (z .1) at q))) at))
   number-bad b l p x y (inr z) q =
       let g : hitsByte digit (getD s at 0) ≡ false = sym (starts-at digit s at h) ∙ (rw (z .1) at q) in
       sym (rw (front s at h) (bad-byte (getD s at 0) b (rw (l, g, p, ne-eqb _ _ x, ne-eqb _ _ y, ne-eqb _ _ (z .0)) tt) at (drop (at + 1) s)))

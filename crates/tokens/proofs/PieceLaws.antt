@@ -21,12 +21,8 @@ use Rattle.tokens.specs.declared.TokenRead.the-variants.{Token, Bad}
 use Rattle.tokens.proofs.ByteLaws.{front, bytes-agree}
 use Rattle.tokens.proofs.NumberParts.{miss-one}
 use Rattle.tokens.proofs.ReadLaws.{Stack, Read, Nothing, read-take, read-mark, read-run, nothing-take, nothing-refused, nothing-end, read-token, nothing-token, read-ignored, nothing-ignored}
-use Rattle.tokens.proofs.StepLaws.{repeats-name, step-letter}
+use Rattle.tokens.proofs.StepLaws.{taken, missed, end-tm, end-piece, repeats-name, step-letter}
 use Rattle.tokens.proofs.WhatLaws.{blank, kept-byte}
-
-piece-end : step lexer (nt Piece ∷ []) none ≡ refused
-unfolding step enter choose lexFactored lexical
-piece-end = refl
 
 -- a name goes to the last of its characters
 pub name-here : (b at : ℕ) (bs : List ℕ) → hitsByte letter b ≡ true → tokenHere at (b ∷ bs) ≡ Token 1 at (at + suc (runOf letterOrDigit bs + 0))
@@ -51,9 +47,25 @@ lookup-every P (e ∷ es) t b h = go (eqb b (e .0)) refl h (λ (k : lookup es b 
 marks : (b : ℕ) → (punctuatorOf b ≡ 0 → ⊥) → Mark b (punctuatorOf b)
 unfolding step enter choose lexFactored lexical punctuatorOf Mark
 marks b h =
-    lookup-every Mark ((123, 15) ∷ (125, 17) ∷ (40, 8) ∷ (41, 9) ∷ (58, 10) ∷ (36, 7) ∷ (64, 12) ∷ (91, 13) ∷ (93, 14) ∷ (33, 6) ∷ (61, 11) ∷ (124, 16) ∷ [])
-    ((braceL, refl, refl), ((braceR, refl, refl), ((parenL, refl, refl), ((parenR, refl, refl), ((colon, refl, refl), ((dollar, refl, refl),
-    ((atSign, refl, refl), ((bracketL, refl, refl), ((bracketR, refl, refl), ((bang, refl, refl), ((equals, refl, refl), ((bar, refl, refl), tt)))))))))))) b h
+    lookup-every Mark ((123, 15) ∷ (125, 17) ∷ (40, 8) ∷ (41, 9) ∷ (58, 10) ∷ (36, 7) ∷ (64, 12) ∷ (91, 13) ∷ (93, 14) ∷ (33, 6) ∷ (61, 11) ∷ (124, 16) ∷ []) (
+      (braceL, refl, refl),
+      (
+        (braceR, refl, refl),
+        (
+          (parenL, refl, refl),
+          (
+            (parenR, refl, refl),
+            (
+              (colon, refl, refl),
+              (
+                (dollar, refl, refl),
+                ((atSign, refl, refl), ((bracketL, refl, refl), ((bracketR, refl, refl), ((bang, refl, refl), ((equals, refl, refl), ((bar, refl, refl), tt)))))),
+              ),
+            ),
+          ),
+        ),
+      ),
+    ) b h
 
 pub mark-here : (b at : ℕ) (bs : List ℕ) → (punctuatorOf b ≡ 0 → ⊥) → tokenHere at (b ∷ bs) ≡ Token (punctuatorOf b) at (at + 1)
 unfolding Mark
@@ -67,38 +79,26 @@ module _ (v u : ℕ) (w : What) where
   abbrev Two : Stack
   Two = tm (one v) ∷ tm (one u) ∷ act w ∷ []
 
-  step-tm : (p : Set) (σ : Stack) (b : ℕ) → hitsByte p b ≡ true → step lexer (tm p ∷ σ) (some b) ≡ took (tok b ∷ []) σ
-  unfolding step
-  step-tm p σ b h = rw h
-
-  nothing-tm : (p : Set) (σ : Stack) (b : ℕ) (bs : List ℕ) → hitsByte p b ≡ false → Nothing (tm p ∷ σ) (b ∷ bs)
-  unfolding step
-  nothing-tm p σ b bs h = nothing-refused (rw h) refl
-
-  nothing-tm-end : (p : Set) (σ : Stack) → Nothing (tm p ∷ σ) []
-  unfolding step
-  nothing-tm-end p σ = nothing-end refl
-
-  tm-end : (p : Set) (σ : Stack) → step lexer (tm p ∷ σ) none ≡ refused
-  unfolding step
-  tm-end p σ = refl
+  abbrev Second : Stack
+  Second = tm (one u) ∷ act w ∷ []
 
   two-yes : (bs : List ℕ) → hitsByte (one v) v ≡ true → hitsByte (one u) u ≡ true → Read Two (v ∷ u ∷ bs) 2 w
-  two-yes bs h k = read-take (step-tm (one v) (tm (one u) ∷ act w ∷ []) v h) (read-take (step-tm (one u) (act w ∷ []) u k) (read-mark w bs))
+  two-yes bs h k = read-take (taken v (one v) Second h) (read-take (taken u (one u) (act w ∷ []) k) (read-mark w bs))
 
   two-first : (b : ℕ) (bs : List ℕ) → (b ≡ v → ⊥) → Nothing Two (b ∷ bs)
-  two-first b bs h = nothing-tm (one v) (tm (one u) ∷ act w ∷ []) b bs (miss-one v b h)
+  two-first b bs h = nothing-refused (missed b (one v) Second (miss-one v b h)) (end-tm (one v) Second)
 
   two-second : (b : ℕ) (bs : List ℕ) → hitsByte (one v) v ≡ true → (b ≡ u → ⊥) → Nothing Two (v ∷ b ∷ bs)
-  two-second b bs k h = nothing-take (step-tm (one v) (tm (one u) ∷ act w ∷ []) v k) (tm-end (one v) (tm (one u) ∷ act w ∷ [])) (nothing-tm (one u) (act w ∷ []) b bs (miss-one u b h))
+  two-second b bs k h =
+      nothing-take (taken v (one v) Second k) (end-tm (one v) Second) (nothing-refused (missed b (one u) (act w ∷ []) (miss-one u b h)) (end-tm (one u) (act w ∷ [])))
 
   two-short : (bs : List ℕ) → length bs < 2 → Nothing Two bs
-  two-short [] h = nothing-tm-end (one v) (tm (one u) ∷ act w ∷ [])
+  two-short [] h = nothing-end (end-tm (one v) Second)
   two-short (b ∷ []) h = go (hitsByte (one v) b) refl
     where
       go : (t : Bool) → hitsByte (one v) b ≡ t → Nothing Two (b ∷ [])
-      go true q = nothing-take (step-tm (one v) (tm (one u) ∷ act w ∷ []) b q) (tm-end (one v) (tm (one u) ∷ act w ∷ [])) (nothing-tm-end (one u) (act w ∷ []))
-      go false q = nothing-tm (one v) (tm (one u) ∷ act w ∷ []) b [] q
+      go true q = nothing-take (taken b (one v) Second q) (end-tm (one v) Second) (nothing-end (end-tm (one u) (act w ∷ [])))
+      go false q = nothing-refused (missed b (one v) Second q) (end-tm (one v) Second)
   two-short (b ∷ c ∷ bs) h = let z : ⊥ = omega arith in absurd z
 
 -- three dots, and no fewer
@@ -132,28 +132,28 @@ module _ (s : List ℕ) (i : ℕ) (h : i < length s) where
   short l = simp length-drop (omega arith)
 
   pub spread-short : getD s i 0 ≡ 46 → length s - i < 3 → Bad i ≡ tokenHere i (drop i s)
-  spread-short q l = sym (rw (from-at 46 q) (nothing-token (46 ∷ drop (i + 1) s) (nothing-take dots piece-end (two-short 46 46 (is spread) (drop (i + 1) s) (short l))) i))
+  spread-short q l = sym (rw (from-at 46 q) (nothing-token (46 ∷ drop (i + 1) s) (nothing-take dots end-piece (two-short 46 46 (is spread) (drop (i + 1) s) (short l))) i))
 
   pub spread-yes : getD s i 0 ≡ 46 → 3 ≤ length s - i → At 1 ≡ 46 → At 2 ≡ 46 → Token 5 i (i + 3) ≡ tokenHere i (drop i s)
   spread-yes q l a b = sym (rw (from-at 46 q, next-at (omega arith), third-at (omega arith), a, b) (read-token _ (read-take dots (two-yes 46 46 (is spread) (drop (i + 2 + 1) s) refl refl)) i))
 
   pub spread-third : getD s i 0 ≡ 46 → 3 ≤ length s - i → At 1 ≡ 46 → (At 2 ≡ 46 → ⊥) → Bad i ≡ tokenHere i (drop i s)
-  spread-third q l a b = sym (rw (from-at 46 q, next-at (omega arith), third-at (omega arith), a) (nothing-token _ (nothing-take dots piece-end (two-second 46 46 (is spread) (At 2) (drop (i + 2 + 1) s) refl b)) i))
+  spread-third q l a b = sym (rw (from-at 46 q, next-at (omega arith), third-at (omega arith), a) (nothing-token _ (nothing-take dots end-piece (two-second 46 46 (is spread) (At 2) (drop (i + 2 + 1) s) refl b)) i))
 
   pub spread-second : getD s i 0 ≡ 46 → 3 ≤ length s - i → (At 1 ≡ 46 → ⊥) → Bad i ≡ tokenHere i (drop i s)
-  spread-second q l a = sym (rw (from-at 46 q, next-at (omega arith)) (nothing-token _ (nothing-take dots piece-end (two-first 46 46 (is spread) (At 1) (drop (i + 1 + 1) s) a)) i))
+  spread-second q l a = sym (rw (from-at 46 q, next-at (omega arith)) (nothing-token _ (nothing-take dots end-piece (two-first 46 46 (is spread) (At 1) (drop (i + 1 + 1) s) a)) i))
 
   pub order-short : getD s i 0 ≡ 239 → length s - i < 3 → 0 ≡ ignoredHere (drop i s)
-  order-short q l = sym (rw (from-at 239 q) (nothing-ignored _ (nothing-take order piece-end (two-short 187 191 ignored (drop (i + 1) s) (short l)))))
+  order-short q l = sym (rw (from-at 239 q) (nothing-ignored _ (nothing-take order end-piece (two-short 187 191 ignored (drop (i + 1) s) (short l)))))
 
   pub order-second : getD s i 0 ≡ 239 → 3 ≤ length s - i → (At 1 ≡ 187 → ⊥) → 0 ≡ ignoredHere (drop i s)
-  order-second q l a = sym (rw (from-at 239 q, next-at (omega arith)) (nothing-ignored _ (nothing-take order piece-end (two-first 187 191 ignored (At 1) (drop (i + 1 + 1) s) a))))
+  order-second q l a = sym (rw (from-at 239 q, next-at (omega arith)) (nothing-ignored _ (nothing-take order end-piece (two-first 187 191 ignored (At 1) (drop (i + 1 + 1) s) a))))
 
   order-yes : getD s i 0 ≡ 239 → 3 ≤ length s - i → At 1 ≡ 187 → At 2 ≡ 191 → 3 ≡ ignoredHere (drop i s)
   order-yes q l a b = sym (rw (from-at 239 q, next-at (omega arith), third-at (omega arith), a, b) (read-ignored _ (read-take order (two-yes 187 191 ignored (drop (i + 2 + 1) s) refl refl))))
 
   order-no : getD s i 0 ≡ 239 → 3 ≤ length s - i → At 1 ≡ 187 → (At 2 ≡ 191 → ⊥) → 0 ≡ ignoredHere (drop i s)
-  order-no q l a b = sym (rw (from-at 239 q, next-at (omega arith), third-at (omega arith), a) (nothing-ignored _ (nothing-take order piece-end (two-second 187 191 ignored (At 2) (drop (i + 2 + 1) s) refl b))))
+  order-no q l a b = sym (rw (from-at 239 q, next-at (omega arith), third-at (omega arith), a) (nothing-ignored _ (nothing-take order end-piece (two-second 187 191 ignored (At 2) (drop (i + 2 + 1) s) refl b))))
 
   pub order-third : getD s i 0 ≡ 239 → 3 ≤ length s - i → At 1 ≡ 187 → cond (eqb (At 2) 191) 3 0 ≡ ignoredHere (drop i s)
   order-third q l a = go (eqb (At 2) 191) refl

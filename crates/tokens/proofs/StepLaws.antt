@@ -20,24 +20,39 @@ eq→T b q = subst T (sym q) tt
 not-T : (b : Bool) → b ≡ false → T b → ⊥
 not-T b q t = subst T q t
 
--- a terminal takes a byte that it hits
-taken : (b : ℕ) (p : Set) (σ : Stack) → hitsByte p b ≡ true → step lexer (tm p ∷ σ) (some b) ≡ took (tok b ∷ []) σ
+-- a terminal takes a byte that it hits, and refuses any other
+pub taken : (b : ℕ) (p : Set) (σ : Stack) → hitsByte p b ≡ true → step lexer (tm p ∷ σ) (some b) ≡ took (tok b ∷ []) σ
 unfolding step
 taken b p σ h = rw h
+
+pub missed : (b : ℕ) (p : Set) (σ : Stack) → hitsByte p b ≡ false → step lexer (tm p ∷ σ) (some b) ≡ refused
+unfolding step
+missed b p σ h = rw h
+
+pub end-tm : (p : Set) (σ : Stack) → step lexer (tm p ∷ σ) none ≡ refused
+unfolding step
+end-tm p σ = refl
+
+-- a piece has a byte
+pub end-piece : step lexer (nt Piece ∷ []) none ≡ refused
+unfolding lexical lexFactored step enter choose
+end-piece = refl
 
 pub repeats-name : Repeats NameRest* letterOrDigit
 unfolding lexical lexFactored choose enter step
 repeats-name = record {
-    more = λ b σ h. step-by fitsL NameRest* (some b) σ (choose-first fitsL NameRest* b (List·Memᴰ·tail (List·Memᴰ·head refl)) (eq→T (hitsByte letterOrDigit b) h)) ∙ taken b letterOrDigit (nt NameRest* ∷ σ) h;
-    over = λ b σ h. step-by fitsL NameRest* (some b) σ (choose-null fitsL NameRest* b (List·Memᴰ·head refl) tt (not-T (hitsByte letterOrDigit b) h));
-    end = λ σ. step-by fitsL NameRest* none σ refl }
+  more = λ b σ h. step-by fitsL NameRest* (some b) σ (choose-first fitsL NameRest* b (List·Memᴰ·tail (List·Memᴰ·head refl)) (eq→T (hitsByte letterOrDigit b) h)) ∙ taken b letterOrDigit (nt NameRest* ∷ σ) h;
+  over = λ b σ h. step-by fitsL NameRest* (some b) σ (choose-null fitsL NameRest* b (List·Memᴰ·head refl) tt (not-T (hitsByte letterOrDigit b) h));
+  end = λ σ. step-by fitsL NameRest* none σ refl;
+}
 
 pub repeats-digit : Repeats Digit* digit
 unfolding lexical lexFactored choose enter step
 repeats-digit = record {
-    more = λ b σ h. step-by fitsL Digit* (some b) σ (choose-first fitsL Digit* b (List·Memᴰ·tail (List·Memᴰ·head refl)) (eq→T (hitsByte digit b) h)) ∙ taken b digit (nt Digit* ∷ σ) h;
-    over = λ b σ h. step-by fitsL Digit* (some b) σ (choose-null fitsL Digit* b (List·Memᴰ·head refl) tt (not-T (hitsByte digit b) h));
-    end = λ σ. step-by fitsL Digit* none σ refl }
+  more = λ b σ h. step-by fitsL Digit* (some b) σ (choose-first fitsL Digit* b (List·Memᴰ·tail (List·Memᴰ·head refl)) (eq→T (hitsByte digit b) h)) ∙ taken b digit (nt Digit* ∷ σ) h;
+  over = λ b σ h. step-by fitsL Digit* (some b) σ (choose-null fitsL Digit* b (List·Memᴰ·head refl) tt (not-T (hitsByte digit b) h));
+  end = λ σ. step-by fitsL Digit* none σ refl;
+}
 
 -- a part that begins with none of its bytes
 pub step-not-first : (n : Lex) (b : ℕ) (σ : Stack) → pick (λ α. nul lexer α) (lexFactored n) ≡ none → (T (lexer .first n b) → ⊥) → step lexer (nt n ∷ σ) (some b) ≡ refused

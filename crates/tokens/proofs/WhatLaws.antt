@@ -21,6 +21,7 @@ use Rattle.tokens.specs.Skip.{punctuatorOf}
 use Rattle.tokens.specs.declared.TokenRead.the-variants.{Bad}
 use Rattle.tokens.proofs.ByteLaws.{from-all}
 use Rattle.tokens.proofs.ReadLaws.{Stack}
+use Rattle.tokens.proofs.StepLaws.{end-piece}
 
 -- the parts that write no mark
 abbrev silent : Lex → Bool
@@ -125,13 +126,9 @@ module _ (good : What → Bool) where
   bare-what (tok c ∷ es) fs h = bare-what es fs h
   bare-what (mark w ∷ es) fs h = absurd h
 
-  piece-end : step lexer (nt Piece ∷ []) none ≡ refused
-  unfolding step enter choose lexFactored lexical
-  piece-end = refl
-
   piece-good : (b : ℕ) (bs : List ℕ) → T (goodStep (step lexer (nt Piece ∷ []) (some b))) → (m : Match ℕ What) → scan lexer (nt Piece ∷ []) (b ∷ bs) ≡ some m → T (good (whatOf (m .events)))
   unfolding scan
-  piece-good b bs h m q = go (step lexer (nt Piece ∷ []) (some b)) refl h (rw piece-end at q)
+  piece-good b bs h m q = go (step lexer (nt Piece ∷ []) (some b)) refl h (rw end-piece at q)
     where
       deep : (es : List (Ev ℕ What)) (σ : Stack) → T (bare es) → ((m : Match ℕ What) → scan lexer σ bs ≡ some m → T (good (whatOf (m .events)))) →
           (o : Option (Match ℕ What)) → scan lexer σ bs ≡ o → longer lexer es o none ≡ some m → T (good (whatOf (m .events)))

@@ -545,9 +545,17 @@ pub fn number(s: &[u8], at: usize) -> TokenRead
         let f = fraction_end(s, w);
         let e = exponent_end(s, f);
         if e == w {
-            return TokenRead::Token { kind: TOKEN_INT, start: at, end: e };
+            return TokenRead::Token {
+                kind: TOKEN_INT,
+                start: at,
+                end: e,
+            };
         }
-        return TokenRead::Token { kind: TOKEN_FLOAT, start: at, end: e };
+        return TokenRead::Token {
+            kind: TOKEN_FLOAT,
+            start: at,
+            end: e,
+        };
     }
     TokenRead::Bad(at)
 }
@@ -562,7 +570,11 @@ pub fn spread(s: &[u8], at: usize) -> TokenRead
     }
     if s[at + 1] == 46 {
         if s[at + 2] == 46 {
-            return TokenRead::Token { kind: TOKEN_SPREAD, start: at, end: at + 3 };
+            return TokenRead::Token {
+                kind: TOKEN_SPREAD,
+                start: at,
+                end: at + 3,
+            };
         }
     }
     TokenRead::Bad(at)
@@ -618,16 +630,28 @@ pub fn next(s: &[u8], from: usize) -> TokenRead
 {
     let at = skip(s, from);
     if s.len() <= at {
-        return TokenRead::Token { kind: TOKEN_END, start: at, end: at };
+        return TokenRead::Token {
+            kind: TOKEN_END,
+            start: at,
+            end: at,
+        };
     }
     let b = s[at];
     if starts_name(b) {
         let e = name_end(s, at + 1);
-        return TokenRead::Token { kind: TOKEN_NAME, start: at, end: e };
+        return TokenRead::Token {
+            kind: TOKEN_NAME,
+            start: at,
+            end: e,
+        };
     }
     let k = punctuator(b);
     if k != TOKEN_END {
-        return TokenRead::Token { kind: k, start: at, end: at + 1 };
+        return TokenRead::Token {
+            kind: k,
+            start: at,
+            end: at + 1,
+        };
     }
     if b == 34 {
         return string(s, at);
