@@ -17,10 +17,11 @@ use Rattle.paper.proofs.Longest.{Match, scan}
 use Rattle.paper.proofs.LexTables.{lexer}
 use Rattle.paper.proofs.Lexing.{from, found, shown, orBad, piece-byte}
 use Rattle.paper.proofs.FromLaws.{from-token, from-over, from-bad}
-use Rattle.tokens.specs.Head.{kindOf, headOf}
+use Rattle.tokens.specs.Head.{kindOf, headOf, wordOf}
 use Rattle.tokens.specs.Piece.{pieceAt}
 use Rattle.tokens.specs.declared.TokenRead.the-variants.{Token, Bad}
-use Rattle.tokens.proofs.KindLaws.{classed-kind, kind-some, plain, plain-name, plain-piece}
+use Rattle.tokens.proofs.ClassLaws.{classOfKind, kind-class, classOfWord, word-class}
+use Rattle.tokens.proofs.KindLaws.{name-kind, classed-kind, kind-some, plain, plain-name, plain-piece}
 use Rattle.tokens.proofs.Unroll.{piece-is, unroll, from-end}
 
 -- a token: its class is one of that kind, it stands at or after p, and the rest is what stands from its end on
@@ -98,3 +99,17 @@ head-name s p a e h q =
     let r = head-token s p 1 a e h q (λ z. omega arith) in
     let n : r .0 ≡ nameClass (take (e - a) (drop a s)) = (rw (r .2) at (named (length s) s p (omega arith))) (r .1) in
     r .2 ∙ ap (λ (c : Class). token (record { class = c; start = a; stop = e }) (from s e)) n
+
+-- the same by the word that it is, and of a token that is no name by its kind
+pub head-word : (s : List ℕ) (p a e : ℕ) → p ≤ length s → headOf (from s p) ≡ Token 1 a e →
+    from s p ≡ token (record { class = classOfWord (wordOf (take (e - a) (drop a s))); start = a; stop = e }) (from s e)
+unfolding wordOf
+head-word s p a e h q =
+    head-name s p a e h q ∙ ap (λ (c : Class). token (record { class = c; start = a; stop = e }) (from s e)) (word-class (nameClass (take (e - a) (drop a s))) (name-kind (take (e - a) (drop a s))))
+
+pub head-class : (s : List ℕ) (p k a e : ℕ) → p ≤ length s → headOf (from s p) ≡ Token k a e → 1 < k →
+    from s p ≡ token (record { class = classOfKind k; start = a; stop = e }) (from s e)
+head-class s p k a e h q l =
+    let r = head-token s p k a e h q (λ z. omega arith) in
+    let c : r .0 ≡ classOfKind k = kind-class (r .0) (omega (arith, r .1)) ∙ ap (λ (i : ℕ). classOfKind i) (r .1) in
+    r .2 ∙ ap (λ (c : Class). token (record { class = c; start = a; stop = e }) (from s e)) c

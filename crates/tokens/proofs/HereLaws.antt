@@ -41,8 +41,8 @@ pub ignored-in : (s : List ℕ) (i : ℕ) → i ≤ length s → i + ignoredHere
 ignored-in s i h = omega (arith, ignored-within (drop i s), length-drop i s)
 
 module _ (s : List ℕ) (p : ℕ) where
-  pub here-end : p ≤ length s → length s ≤ p → Token 0 p p ≡ headOf (from s p)
-  here-end h k = rw (from-end s p k)
+  pub here-end : length s ≤ p → Token 0 p p ≡ headOf (from s p)
+  here-end k = rw (from-end s p k)
 
   -- where nothing is ignored the token that stands there is the first
   pub here-token : p < length s → ignoredHere (drop p s) ≡ 0 → tokenHere p (drop p s) ≡ headOf (from s p)

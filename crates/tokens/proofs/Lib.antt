@@ -9,6 +9,7 @@ pub mod PieceLaws
 pub mod NumberLaws
 pub mod Unroll
 pub mod KindLaws
+pub mod ClassLaws
 pub mod HereLaws
 pub mod HeadLaws
 pub mod WordLaws

@@ -2,7 +2,7 @@
 use mathlib.Core.Path.{_≡_, refl, sym, ap, _∙_, subst}
 use mathlib.Core.Bool.{Bool, true, false, cond, _||_}
 use mathlib.Core.List.{List, [], _∷_}
-use mathlib.Core.Option.{none, some}
+use mathlib.Core.Option.{some}
 use Prim.Native.Nat.{ℕ, suc, _+_, _-_, _<_, _≤_}
 use native.Mathlib.Omega.{arith}
 use borrow.Author.Tests.{ne-eqb, eqb-true, eqb-false}
@@ -11,7 +11,7 @@ use lib.ListN.{length, getD, drop, length-drop}
 use Rattle.paper.specs.Grammar.{nt, tm, act, tok}
 use Rattle.paper.specs.Language.{Class, bang, dollar, parenL, parenR, spread, colon, equals, atSign, bracketL, bracketR, braceL, bar, braceR, n-other}
 use Rattle.paper.specs.Lexical.{Set, What, span, is, ignored, Piece, letter, letterOrDigit, lexical, hitsByte}
-use Rattle.paper.proofs.Machine.{took, refused, step, enter, choose}
+use Rattle.paper.proofs.Machine.{took, step, enter, choose}
 use Rattle.paper.proofs.LexTables.{lexer, lexFactored}
 use Rattle.tokens.specs.Head.{kindOf}
 use Rattle.tokens.specs.Piece.{tokenHere, ignoredHere}

@@ -5,7 +5,7 @@ use mathlib.Core.List.{List, [], _∷_}
 use Prim.Native.Nat.{ℕ, suc, _+_, _<_, _≤_}
 use native.Mathlib.Nat.{add-zero, add-assoc}
 use native.Mathlib.Omega.{arith}
-use lib.ListN.{length, getD, drop, drop-of-length-le, length-drop}
+use lib.ListN.{length, getD, drop, drop-of-length-le}
 use Rattle.paper.specs.Lexical.{Set, hitsByte}
 use Rattle.tokens.specs.Run.{runOf, startsWith}
 use Rattle.tokens.proofs.ByteLaws.{front}
@@ -40,9 +40,6 @@ module _ (p : Set) where
     pub run-end : length s ≤ i → i ≡ i + runOf p (drop i s)
     unfolding runOf
     run-end h = rw (drop-of-length-le s h) (sym (add-zero i))
-
-    pub run-in : i ≤ length s → i + runOf p (drop i s) ≤ length s
-    run-in h = omega (arith, run-within (drop i s), length-drop i s)
 
     -- whether a byte of the set stands at i
     pub starts-at : i < length s → startsWith p (drop i s) ≡ hitsByte p (getD s i 0)

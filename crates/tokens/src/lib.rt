@@ -1,7 +1,7 @@
 // Reads one token of a text at a time, by longest match.
 ghost use mathlib.Core.Path.{_≡_};
 ghost use Prim.Native.Nat.{_+_, _-_, _≤_, _<_};
-ghost use mathlib.Core.Bool.{false, cond};
+ghost use mathlib.Core.Bool.{cond};
 ghost use lib.ListN.{length, take, drop, getD};
 ghost use Rattle.paper.specs.Lexical.{hitsByte, letter, letterOrDigit, digit, hex, escaped, tail};
 ghost use Rattle.paper.specs.Tokens.{same};
@@ -9,7 +9,7 @@ ghost use Rattle.paper.proofs.Lexing.{from};
 ghost use Rattle.tokens.specs.Head.{headOf, wordOf};
 ghost use Rattle.tokens.specs.Piece.{tokenHere, ignoredHere};
 ghost use Rattle.tokens.specs.Run.{runOf, startsWith, fractionSize, signSize, exponentSize, wholeSize};
-ghost use Rattle.tokens.specs.Skip.{Skipped, punctuatorOf};
+ghost use Rattle.tokens.specs.Skip.{Skipped, Numeric, punctuatorOf};
 ghost use Rattle.tokens.specs.Characters.{fits, secondOf, fourHex, wideSize, characterSize, escapedSize, withOne, partSize, Ended};
 
 // What stands at a place: a token, or bytes that start none (also a string or a comment with bad text).
@@ -530,10 +530,9 @@ pub fn whole_end(s: &[u8], i: usize) -> usize
     digits_end(s, i + 1)
 }
 
-// The number at `at`.
+// The number at `at`, where no name, punctuator or string stands.
 pub fn number(s: &[u8], at: usize) -> TokenRead
-    requires { ⌜ (at < length (now s)) × (hitsByte letter (getD (now s) at 0) ≡ false) × (punctuatorOf (getD (now s) at 0) ≡ 0) ⌝ }
-    requires { ⌜ (getD (now s) at 0 ≡ 34 → ⊥) × (getD (now s) at 0 ≡ 46 → ⊥) ⌝ }
+    requires { ⌜ Numeric (now s) at ⌝ }
     ensures { λ r. ⌜ r ≡ tokenHere at (drop at (now (s .entry))) ⌝ }
 {
     let mut d = at;

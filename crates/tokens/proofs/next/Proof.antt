@@ -22,7 +22,7 @@ skip-requires c κs = search needs
 returns : tie.Need-returns
 returns c =
     let k = c .before .skip .ensures in
-    here-end _ _ (k .high) (c .if1 .taken) ∙ ap (λ (t : Text). headOf t) (sym (k .same))
+    here-end _ _ (c .if1 .taken) ∙ ap (λ (t : Text). headOf t) (sym (k .same))
 
 shared-slice-read-b : tie.Need-shared-slice-read-b
 shared-slice-read-b c = search needs
@@ -61,7 +61,14 @@ returns-5 : tie.Need-returns-5
 returns-5 c = c .spread .ensures ∙ here (c .before .before .before .before .before .before .before .before)
 
 number-requires : tie.Need-number-requires
-number-requires c κs = ((c .before .before .before .before .before .before .before .if1 .left, sym (c .before .before .before .before .before .starts-name .ensures) ∙ c .before .before .before .before .if2 .left, sym (c .before .before .before .punctuator .ensures) ∙ c .before .before .if3 .left), (c .before .if4 .left, c .if5 .left))
+number-requires c κs =
+    record {
+      within = c .before .before .before .before .before .before .before .if1 .left;
+      no-letter = sym (c .before .before .before .before .before .starts-name .ensures) ∙ c .before .before .before .before .if2 .left;
+      no-mark = sym (c .before .before .before .punctuator .ensures) ∙ c .before .before .if3 .left;
+      no-quote = c .before .if4 .left;
+      no-dot = c .if5 .left;
+    }
 
 returns-6 : tie.Need-returns-6
 returns-6 c = c .number .ensures ∙ here (c .before .before .before .before .before .before .before .before)

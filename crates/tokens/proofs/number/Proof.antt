@@ -34,15 +34,15 @@ exponent-end-requires c κs =
     omega (arith, c .fraction-end .ensures, fraction-in (c .before .before .before .before .before .before .before .args .s .now) (w .result) (omega (arith, w .ensures, l)))
 
 returns : tie.Need-returns
-returns c = number-int _ (c .before .before .before .before .before .before .before .before .before .args .at) _ (c .before .before .before .before .before .before .before .before .before .pre .0 .0) _ _ _ (c .before .before .before .whole-end .ensures) (c .before .before .fraction-end .ensures) (c .before .exponent-end .ensures) (sym (c .before .before .before .before .before .digit-at .ensures) ∙ c .before .before .before .before .if2 .taken) (signed (c .before .before .before .before .before .before)) (c .if3 .taken)
+returns c = number-int _ (c .before .before .before .before .before .before .before .before .before .args .at) _ (c .before .before .before .before .before .before .before .before .before .pre .within) _ _ _ (c .before .before .before .whole-end .ensures) (c .before .before .fraction-end .ensures) (c .before .exponent-end .ensures) (sym (c .before .before .before .before .before .digit-at .ensures) ∙ c .before .before .before .before .if2 .taken) (signed (c .before .before .before .before .before .before)) (c .if3 .taken)
 
 returns-2 : tie.Need-returns-2
-returns-2 c = number-float _ (c .before .before .before .before .before .before .before .before .before .args .at) _ (c .before .before .before .before .before .before .before .before .before .pre .0 .0) _ _ _ (c .before .before .before .whole-end .ensures) (c .before .before .fraction-end .ensures) (c .before .exponent-end .ensures) (sym (c .before .before .before .before .before .digit-at .ensures) ∙ c .before .before .before .before .if2 .taken) (signed (c .before .before .before .before .before .before)) (c .if3 .left)
+returns-2 c = number-float _ (c .before .before .before .before .before .before .before .before .before .args .at) _ (c .before .before .before .before .before .before .before .before .before .pre .within) _ _ _ (c .before .before .before .whole-end .ensures) (c .before .before .fraction-end .ensures) (c .before .exponent-end .ensures) (sym (c .before .before .before .before .before .digit-at .ensures) ∙ c .before .before .before .before .if2 .taken) (signed (c .before .before .before .before .before .before)) (c .if3 .left)
 
 returns-3 : tie.Need-returns-3
 returns-3 c =
     let p = c .before .before .before .before .before .pre in
-    number-bad _ (c .before .before .before .before .before .args .at) _ (p .0 .0) (omega (arith, c .before .before .before .shared-slice-known2 .given (c .before .before .before .before .before .args .at))) (p .0 .1) (p .0 .2) (p .1 .0) (p .1 .1) (signed (c .before .before)) (sym (c .before .digit-at .ensures) ∙ c .if2 .left)
+    number-bad _ (c .before .before .before .before .before .args .at) _ (p .within) (omega (arith, c .before .before .before .shared-slice-known2 .given (c .before .before .before .before .before .args .at))) (p .no-letter) (p .no-mark) (p .no-quote) (p .no-dot) (signed (c .before .before)) (sym (c .before .digit-at .ensures) ∙ c .if2 .left)
 
 pub number-spec : {M : Type 1} → statement M
 number-spec =
