@@ -1,2 +1,5 @@
 pub mod Head
 pub mod Piece
+pub mod Run
+pub mod Skip
+pub mod Characters

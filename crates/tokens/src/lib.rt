@@ -1,9 +1,16 @@
 // Reads one token of a text at a time, by longest match.
 ghost use mathlib.Core.Path.{_≡_};
 ghost use Prim.Native.Nat.{_+_, _-_, _≤_, _<_};
-ghost use lib.ListN.{length, take, drop};
+ghost use mathlib.Core.Bool.{cond};
+ghost use lib.ListN.{length, take, drop, getD};
+ghost use Rattle.paper.specs.Lexical.{hitsByte, letter, letterOrDigit, digit, hex, escaped, tail};
+ghost use Rattle.paper.specs.Tokens.{same};
 ghost use Rattle.paper.proofs.Lexing.{from};
 ghost use Rattle.tokens.specs.Head.{headOf, wordOf};
+ghost use Rattle.tokens.specs.Piece.{tokenHere, ignoredHere};
+ghost use Rattle.tokens.specs.Run.{runOf, startsWith, fractionSize, signSize, exponentSize, wholeSize};
+ghost use Rattle.tokens.specs.Skip.{Skipped, Numeric, punctuatorOf};
+ghost use Rattle.tokens.specs.Characters.{fits, secondOf, fourHex, wideSize, characterSize, escapedSize, withOne, partSize, Ended};
 
 // What stands at a place: a token, or bytes that start none (also a string or a comment with bad text).
 pub enum TokenRead {
@@ -67,8 +74,10 @@ pub const WORD_FALSE: u32 = 7;
 
 pub const WORD_NULL: u32 = 8;
 
-// Whether a byte may start a name: A to Z, a to z, _ (draft 2.1.9).
-pub fn starts_name(b: u8) -> bool {
+// Whether a byte may start a name: A to Z, a to z, _ (draft 2.1.9). The most frequent come first.
+pub fn starts_name(b: u8) -> bool
+    ensures { λ r. ⌜ r ≡ hitsByte letter b ⌝ }
+{
     if 96 < b {
         return b < 123;
     }
@@ -78,7 +87,9 @@ pub fn starts_name(b: u8) -> bool {
     64 < b
 }
 
-pub fn is_digit(b: u8) -> bool {
+pub fn is_digit(b: u8) -> bool
+    ensures { λ r. ⌜ r ≡ hitsByte digit b ⌝ }
+{
     if b < 48 {
         return false;
     }
@@ -86,15 +97,28 @@ pub fn is_digit(b: u8) -> bool {
 }
 
 // Whether a byte may go on with a name.
-pub fn in_name(b: u8) -> bool {
+pub fn in_name(b: u8) -> bool
+    ensures { λ r. ⌜ r ≡ hitsByte letterOrDigit b ⌝ }
+{
+    if 96 < b {
+        return b < 123;
+    }
     if b < 58 {
         return 47 < b;
     }
-    starts_name(b)
+    if 90 < b {
+        return b == 95;
+    }
+    64 < b
 }
 
-pub fn is_hex(b: u8) -> bool {
-    if is_digit(b) {
+pub fn is_hex(b: u8) -> bool
+    ensures { λ r. ⌜ r ≡ hitsByte hex b ⌝ }
+{
+    if b < 48 {
+        return false;
+    }
+    if b < 58 {
         return true;
     }
     if b < 65 {
@@ -110,7 +134,9 @@ pub fn is_hex(b: u8) -> bool {
 }
 
 // Whether a byte goes on with a character of UTF-8.
-pub fn is_tail(b: u8) -> bool {
+pub fn is_tail(b: u8) -> bool
+    ensures { λ r. ⌜ r ≡ hitsByte tail b ⌝ }
+{
     if b < 128 {
         return false;
     }
@@ -118,16 +144,20 @@ pub fn is_tail(b: u8) -> bool {
 }
 
 // Whether a byte may stand second in a character of three bytes that starts with `lead`: E0 bars overlong forms, ED surrogates.
-pub fn is_second(lead: u8, b: u8) -> bool {
+pub fn is_second(lead: u8, b: u8) -> bool
+    ensures { λ r. ⌜ r ≡ hitsByte (secondOf lead) b ⌝ }
+{
     if lead == 224 {
         if b < 160 {
             return false;
         }
+        return is_tail(b);
     }
     if lead == 237 {
         if 159 < b {
             return false;
         }
+        return is_tail(b);
     }
     is_tail(b)
 }
@@ -135,6 +165,7 @@ pub fn is_second(lead: u8, b: u8) -> bool {
 // The size of the character of more than one byte at i, or 0.
 pub fn wide(s: &[u8], i: usize) -> usize
     requires { ⌜ i < length (now s) ⌝ }
+    ensures { λ r. ⌜ r ≡ wideSize (drop i (now (s .entry))) ⌝ }
 {
     let b = s[i];
     if b < 194 {
@@ -165,6 +196,7 @@ pub fn wide(s: &[u8], i: usize) -> usize
 // The size of the character at i that may stand in a comment, or 0.
 pub fn character(s: &[u8], i: usize) -> usize
     requires { ⌜ i < length (now s) ⌝ }
+    ensures { λ r. ⌜ r ≡ characterSize (drop i (now (s .entry))) ⌝ }
 {
     let b = s[i];
     if b < 32 {
@@ -180,7 +212,9 @@ pub fn character(s: &[u8], i: usize) -> usize
 }
 
 // Whether a byte may stand after a backslash, `u` apart.
-pub fn is_escaped(b: u8) -> bool {
+pub fn is_escaped(b: u8) -> bool
+    ensures { λ r. ⌜ r ≡ hitsByte escaped b ⌝ }
+{
     if b == 34 {
         return true;
     }
@@ -208,6 +242,7 @@ pub fn is_escaped(b: u8) -> bool {
 // Whether four hex digits stand at i.
 pub fn four_hex(s: &[u8], i: usize) -> bool
     requires { ⌜ i ≤ length (now s) ⌝ }
+    ensures { λ r. ⌜ r ≡ fits fourHex (drop i (now (s .entry))) ⌝ }
 {
     if s.len() - i < 4 {
         return false;
@@ -225,6 +260,7 @@ pub fn four_hex(s: &[u8], i: usize) -> bool
 // The size of the escape whose backslash stands at i, or 0.
 pub fn escape(s: &[u8], i: usize) -> usize
     requires { ⌜ i < length (now s) ⌝ }
+    ensures { λ r. ⌜ r ≡ withOne (escapedSize (drop (i + 1) (now (s .entry)))) ⌝ }
 {
     if s.len() <= i + 1 {
         return 0;
@@ -245,6 +281,7 @@ pub fn escape(s: &[u8], i: usize) -> usize
 // The size of what stands at i in a string, or 0 where that is no part of one.
 pub fn string_part(s: &[u8], i: usize) -> usize
     requires { ⌜ i < length (now s) ⌝ }
+    ensures { λ r. ⌜ r ≡ partSize (drop i (now (s .entry))) ⌝ }
 {
     let b = s[i];
     if b == 92 {
@@ -259,6 +296,7 @@ pub fn string_part(s: &[u8], i: usize) -> usize
 // One past the last of the characters of a string that stand from `from` on.
 pub fn string_end(s: &[u8], from: usize) -> usize
     requires { ⌜ from ≤ length (now s) ⌝ }
+    ensures { λ r. ⌜ Ended partSize (now (s .entry)) from r ⌝ }
 {
     let mut i = from;
     while i < s.len() {
@@ -273,12 +311,17 @@ pub fn string_end(s: &[u8], from: usize) -> usize
 
 // The string whose quote stands at `at`.
 pub fn string(s: &[u8], at: usize) -> TokenRead
-    requires { ⌜ at < length (now s) ⌝ }
+    requires { ⌜ (at < length (now s)) × (getD (now s) at 0 ≡ 34) ⌝ }
+    ensures { λ r. ⌜ r ≡ tokenHere at (drop at (now (s .entry))) ⌝ }
 {
     let e = string_end(s, at + 1);
     if e < s.len() {
         if s[e] == 34 {
-            return TokenRead::Token { kind: TOKEN_STRING, start: at, end: e + 1 };
+            return TokenRead::Token {
+                kind: TOKEN_STRING,
+                start: at,
+                end: e + 1,
+            };
         }
     }
     TokenRead::Bad(at)
@@ -287,6 +330,7 @@ pub fn string(s: &[u8], at: usize) -> TokenRead
 // One past the last of a comment's characters that stand from `from` on.
 pub fn comment_end(s: &[u8], from: usize) -> usize
     requires { ⌜ from ≤ length (now s) ⌝ }
+    ensures { λ r. ⌜ Ended characterSize (now (s .entry)) from r ⌝ }
 {
     let mut i = from;
     while i < s.len() {
@@ -301,17 +345,18 @@ pub fn comment_end(s: &[u8], from: usize) -> usize
 
 // The size of the comment whose # stands at i, or 0 where it has bad text.
 pub fn comment(s: &[u8], i: usize) -> usize
-    requires { ⌜ i < length (now s) ⌝ }
+    requires { ⌜ (i < length (now s)) × (getD (now s) i 0 ≡ 35) ⌝ }
+    ensures { λ r. ⌜ r ≡ ignoredHere (drop i (now (s .entry))) ⌝ }
 {
     let e = comment_end(s, i + 1);
     if s.len() <= e {
         return e - i;
     }
-    let b = s[e];
-    if b == 10 {
+    let after = s[e];
+    if after == 10 {
         return e - i;
     }
-    if b == 13 {
+    if after == 13 {
         return e - i;
     }
     0
@@ -319,7 +364,8 @@ pub fn comment(s: &[u8], i: usize) -> usize
 
 // Whether the byte order mark stands at i.
 pub fn is_mark(s: &[u8], i: usize) -> bool
-    requires { ⌜ i < length (now s) ⌝ }
+    requires { ⌜ (i < length (now s)) × (getD (now s) i 0 ≡ 239) ⌝ }
+    ensures { λ r. ⌜ cond r 3 0 ≡ ignoredHere (drop i (now (s .entry))) ⌝ }
 {
     if s.len() - i < 3 {
         return false;
@@ -333,6 +379,7 @@ pub fn is_mark(s: &[u8], i: usize) -> bool
 // The size of the ignored piece at i, or 0.
 pub fn ignored(s: &[u8], i: usize) -> usize
     requires { ⌜ i < length (now s) ⌝ }
+    ensures { λ r. ⌜ r ≡ ignoredHere (drop i (now (s .entry))) ⌝ }
 {
     let b = s[i];
     if b == 32 {
@@ -364,6 +411,7 @@ pub fn ignored(s: &[u8], i: usize) -> usize
 // The first place at or after `from` that is not ignored.
 pub fn skip(s: &[u8], from: usize) -> usize
     requires { ⌜ from ≤ length (now s) ⌝ }
+    ensures { λ r. ⌜ Skipped (now (s .entry)) from r ⌝ }
 {
     let mut i = from;
     while i < s.len() {
@@ -379,6 +427,7 @@ pub fn skip(s: &[u8], from: usize) -> usize
 // One past the last of the name's characters that stand from `from` on.
 pub fn name_end(s: &[u8], from: usize) -> usize
     requires { ⌜ from ≤ length (now s) ⌝ }
+    ensures { λ r. ⌜ r ≡ from + runOf letterOrDigit (drop from (now (s .entry))) ⌝ }
 {
     let mut i = from;
     while i < s.len() {
@@ -394,6 +443,7 @@ pub fn name_end(s: &[u8], from: usize) -> usize
 // One past the last of the digits that stand from `from` on.
 pub fn digits_end(s: &[u8], from: usize) -> usize
     requires { ⌜ from ≤ length (now s) ⌝ }
+    ensures { λ r. ⌜ r ≡ from + runOf digit (drop from (now (s .entry))) ⌝ }
 {
     let mut i = from;
     while i < s.len() {
@@ -407,7 +457,9 @@ pub fn digits_end(s: &[u8], from: usize) -> usize
 }
 
 // Whether a digit stands at i.
-pub fn digit_at(s: &[u8], i: usize) -> bool {
+pub fn digit_at(s: &[u8], i: usize) -> bool
+    ensures { λ r. ⌜ r ≡ startsWith digit (drop i (now (s .entry))) ⌝ }
+{
     if i < s.len() {
         return is_digit(s[i]);
     }
@@ -417,6 +469,7 @@ pub fn digit_at(s: &[u8], i: usize) -> bool {
 // One past the fraction at i, or i where there is none.
 pub fn fraction_end(s: &[u8], i: usize) -> usize
     requires { ⌜ i ≤ length (now s) ⌝ }
+    ensures { λ r. ⌜ r ≡ i + fractionSize (drop i (now (s .entry))) ⌝ }
 {
     if i < s.len() {
         if s[i] == 46 {
@@ -431,6 +484,7 @@ pub fn fraction_end(s: &[u8], i: usize) -> usize
 // One past the sign at i, or i where there is none.
 pub fn sign_end(s: &[u8], i: usize) -> usize
     requires { ⌜ i ≤ length (now s) ⌝ }
+    ensures { λ r. ⌜ r ≡ i + signSize (drop i (now (s .entry))) ⌝ }
 {
     if i < s.len() {
         let b = s[i];
@@ -447,6 +501,7 @@ pub fn sign_end(s: &[u8], i: usize) -> usize
 // One past the exponent at i, or i where there is none.
 pub fn exponent_end(s: &[u8], i: usize) -> usize
     requires { ⌜ i ≤ length (now s) ⌝ }
+    ensures { λ r. ⌜ r ≡ i + exponentSize (drop i (now (s .entry))) ⌝ }
 {
     if s.len() <= i {
         return i;
@@ -467,6 +522,7 @@ pub fn exponent_end(s: &[u8], i: usize) -> usize
 // One past the integer part whose first digit stands at i.
 pub fn whole_end(s: &[u8], i: usize) -> usize
     requires { ⌜ i < length (now s) ⌝ }
+    ensures { λ r. ⌜ r ≡ i + wholeSize (drop i (now (s .entry))) ⌝ }
 {
     if s[i] == 48 {
         return i + 1;
@@ -474,9 +530,10 @@ pub fn whole_end(s: &[u8], i: usize) -> usize
     digits_end(s, i + 1)
 }
 
-// The number at `at`.
+// The number at `at`, where no name, punctuator or string stands.
 pub fn number(s: &[u8], at: usize) -> TokenRead
-    requires { ⌜ at < length (now s) ⌝ }
+    requires { ⌜ Numeric (now s) at ⌝ }
+    ensures { λ r. ⌜ r ≡ tokenHere at (drop at (now (s .entry))) ⌝ }
 {
     let mut d = at;
     if s[at] == 45 {
@@ -487,30 +544,45 @@ pub fn number(s: &[u8], at: usize) -> TokenRead
         let f = fraction_end(s, w);
         let e = exponent_end(s, f);
         if e == w {
-            return TokenRead::Token { kind: TOKEN_INT, start: at, end: e };
+            return TokenRead::Token {
+                kind: TOKEN_INT,
+                start: at,
+                end: e,
+            };
         }
-        return TokenRead::Token { kind: TOKEN_FLOAT, start: at, end: e };
+        return TokenRead::Token {
+            kind: TOKEN_FLOAT,
+            start: at,
+            end: e,
+        };
     }
     TokenRead::Bad(at)
 }
 
 // The three dots at `at`.
 pub fn spread(s: &[u8], at: usize) -> TokenRead
-    requires { ⌜ at < length (now s) ⌝ }
+    requires { ⌜ (at < length (now s)) × (getD (now s) at 0 ≡ 46) ⌝ }
+    ensures { λ r. ⌜ r ≡ tokenHere at (drop at (now (s .entry))) ⌝ }
 {
     if s.len() - at < 3 {
         return TokenRead::Bad(at);
     }
     if s[at + 1] == 46 {
         if s[at + 2] == 46 {
-            return TokenRead::Token { kind: TOKEN_SPREAD, start: at, end: at + 3 };
+            return TokenRead::Token {
+                kind: TOKEN_SPREAD,
+                start: at,
+                end: at + 3,
+            };
         }
     }
     TokenRead::Bad(at)
 }
 
 // The kind of a punctuator of one byte, or TOKEN_END.
-pub fn punctuator(b: u8) -> u32 {
+pub fn punctuator(b: u8) -> u32
+    ensures { λ r. ⌜ r ≡ punctuatorOf b ⌝ }
+{
     if b == 123 {
         return TOKEN_BRACE_OPEN;
     }
@@ -557,16 +629,28 @@ pub fn next(s: &[u8], from: usize) -> TokenRead
 {
     let at = skip(s, from);
     if s.len() <= at {
-        return TokenRead::Token { kind: TOKEN_END, start: at, end: at };
+        return TokenRead::Token {
+            kind: TOKEN_END,
+            start: at,
+            end: at,
+        };
     }
     let b = s[at];
     if starts_name(b) {
         let e = name_end(s, at + 1);
-        return TokenRead::Token { kind: TOKEN_NAME, start: at, end: e };
+        return TokenRead::Token {
+            kind: TOKEN_NAME,
+            start: at,
+            end: e,
+        };
     }
     let k = punctuator(b);
     if k != TOKEN_END {
-        return TokenRead::Token { kind: k, start: at, end: at + 1 };
+        return TokenRead::Token {
+            kind: k,
+            start: at,
+            end: at + 1,
+        };
     }
     if b == 34 {
         return string(s, at);
@@ -580,6 +664,7 @@ pub fn next(s: &[u8], from: usize) -> TokenRead
 // Whether the bytes of s from `at` on begin with those of w.
 pub fn begins(s: &[u8], at: usize, w: &[u8]) -> bool
     requires { ⌜ at + length (now w) ≤ length (now s) ⌝ }
+    ensures { λ r. ⌜ r ≡ same (take (length (now (w .entry))) (drop at (now (s .entry)))) (now (w .entry)) ⌝ }
 {
     let mut i = 0;
     while i < w.len() {
@@ -622,11 +707,11 @@ pub fn word(s: &[u8], start: usize, end: usize) -> u32
         return WORD_OTHER;
     }
     if n == 8 {
-        if begins(s, start, b"fragment") {
-            return WORD_FRAGMENT;
-        }
         if begins(s, start, b"mutation") {
             return WORD_MUTATION;
+        }
+        if begins(s, start, b"fragment") {
+            return WORD_FRAGMENT;
         }
         return WORD_OTHER;
     }
