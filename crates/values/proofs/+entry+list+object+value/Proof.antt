@@ -1,0 +1,1390 @@
+use Prim.Native.Nat.{ℕ, _<_}
+use borrow.Fn.Kinds.{In}
+use borrow.Fn.PlainCycle.{Measures, is, falls, and}
+use Rattle.values.proofs.entry.Reads as entry
+use Rattle.values.proofs.entry.Kinds as entry-kinds
+use Rattle.values.proofs.+entry+list+object+value.Lts-entry as entry-lts
+use Rattle.values.proofs.list.Reads as list
+use Rattle.values.proofs.list.Kinds as list-kinds
+use Rattle.values.proofs.+entry+list+object+value.Lts-list as list-lts
+use Rattle.values.proofs.object.Reads as object
+use Rattle.values.proofs.object.Kinds as object-kinds
+use Rattle.values.proofs.+entry+list+object+value.Lts-object as object-lts
+use Rattle.values.proofs.value.Reads as value
+use Rattle.values.proofs.value.Kinds as value-kinds
+use Rattle.values.proofs.+entry+list+object+value.Lts-value as value-lts
+use Rattle.reader.proofs.Cursor.past.Reads as past-reads
+use Rattle.reader.proofs.no_going.Reads as no-going-reads
+use Rattle.reader.proofs.put_end.Reads as put-end-reads
+use Rattle.reader.proofs.put_row.Reads as put-row-reads
+use Rattle.values.proofs.close.Reads as close-reads
+use Rattle.values.proofs.scalar.Reads as scalar-reads
+use Rattle.values.proofs.variable.Reads as variable-reads
+use Rattle.values.proofs.+entry+list+object+value.{statement}
+use Rattle.values.proofs.+entry+list+object+value.Tie.{close}
+
+abbrev μ-entry : Measures 2 entry-kinds.ps ℕ
+μ-entry κs a = ?
+
+abbrev μ-list : Measures 2 list-kinds.ps ℕ
+μ-list κs a = ?
+
+abbrev μ-object : Measures 2 object-kinds.ps ℕ
+μ-object κs a = ?
+
+abbrev μ-value : Measures 2 value-kinds.ps ℕ
+μ-value κs a = ?
+
+abbrev entry-at : ℕ → In 2 entry-kinds.ps
+entry-at t = and 2 entry-kinds.ps (is 2 entry-kinds.ps μ-entry t) entry.Pre
+
+abbrev entry-below : ℕ → In 2 entry-kinds.ps
+entry-below t = and 2 entry-kinds.ps (falls 2 entry-kinds.ps _<_ μ-entry t) entry.Pre
+
+abbrev list-at : ℕ → In 2 list-kinds.ps
+list-at t = and 2 list-kinds.ps (is 2 list-kinds.ps μ-list t) list.Pre
+
+abbrev list-below : ℕ → In 2 list-kinds.ps
+list-below t = and 2 list-kinds.ps (falls 2 list-kinds.ps _<_ μ-list t) list.Pre
+
+abbrev object-at : ℕ → In 2 object-kinds.ps
+object-at t = and 2 object-kinds.ps (is 2 object-kinds.ps μ-object t) object.Pre
+
+abbrev object-below : ℕ → In 2 object-kinds.ps
+object-below t = and 2 object-kinds.ps (falls 2 object-kinds.ps _<_ μ-object t) object.Pre
+
+abbrev value-at : ℕ → In 2 value-kinds.ps
+value-at t = and 2 value-kinds.ps (is 2 value-kinds.ps μ-value t) value.Pre
+
+abbrev value-below : ℕ → In 2 value-kinds.ps
+value-below t = and 2 value-kinds.ps (falls 2 value-kinds.ps _<_ μ-value t) value.Pre
+
+-- src/lib.rt:217:9
+entry-no-going-requires : (t : ℕ) → entry-lts.Need-no-going-requires (
+  no-going-reads.Asked,
+  no-going-reads.Learnt,
+  put-row-reads.Asked,
+  put-row-reads.Learnt,
+  past-reads.Asked,
+  past-reads.Learnt,
+  value-below t,
+  value.Post,
+  put-end-reads.Asked,
+  put-end-reads.Learnt,
+) (entry-at t) entry.Post
+entry-no-going-requires t c κs = ?
+
+-- src/lib.rt:217:9
+entry-returns : (t : ℕ) → entry-lts.Need-returns (
+  no-going-reads.Asked,
+  no-going-reads.Learnt,
+  put-row-reads.Asked,
+  put-row-reads.Learnt,
+  past-reads.Asked,
+  past-reads.Learnt,
+  value-below t,
+  value.Post,
+  put-end-reads.Asked,
+  put-end-reads.Learnt,
+) (entry-at t) entry.Post
+entry-returns t c = ?
+
+-- src/lib.rt:221:9
+entry-returns-2 : (t : ℕ) → entry-lts.Need-returns-2 (
+  no-going-reads.Asked,
+  no-going-reads.Learnt,
+  put-row-reads.Asked,
+  put-row-reads.Learnt,
+  past-reads.Asked,
+  past-reads.Learnt,
+  value-below t,
+  value.Post,
+  put-end-reads.Asked,
+  put-end-reads.Learnt,
+) (entry-at t) entry.Post
+entry-returns-2 t c = ?
+
+-- src/lib.rt:223:57
+entry-sub-put-row : (t : ℕ) → entry-lts.Need-sub-put-row (
+  no-going-reads.Asked,
+  no-going-reads.Learnt,
+  put-row-reads.Asked,
+  put-row-reads.Learnt,
+  past-reads.Asked,
+  past-reads.Learnt,
+  value-below t,
+  value.Post,
+  put-end-reads.Asked,
+  put-end-reads.Learnt,
+) (entry-at t) entry.Post
+entry-sub-put-row t c = ?
+
+-- src/lib.rt:223:5
+entry-put-row-requires : (t : ℕ) → entry-lts.Need-put-row-requires (
+  no-going-reads.Asked,
+  no-going-reads.Learnt,
+  put-row-reads.Asked,
+  put-row-reads.Learnt,
+  past-reads.Asked,
+  past-reads.Learnt,
+  value-below t,
+  value.Post,
+  put-end-reads.Asked,
+  put-end-reads.Learnt,
+) (entry-at t) entry.Post
+entry-put-row-requires t c κs = ?
+
+-- src/lib.rt:224:23
+entry-add-past : (t : ℕ) → entry-lts.Need-add-past (
+  no-going-reads.Asked,
+  no-going-reads.Learnt,
+  put-row-reads.Asked,
+  put-row-reads.Learnt,
+  past-reads.Asked,
+  past-reads.Learnt,
+  value-below t,
+  value.Post,
+  put-end-reads.Asked,
+  put-end-reads.Learnt,
+) (entry-at t) entry.Post
+entry-add-past t c = ?
+
+-- src/lib.rt:224:9
+entry-past-requires : (t : ℕ) → entry-lts.Need-past-requires (
+  no-going-reads.Asked,
+  no-going-reads.Learnt,
+  put-row-reads.Asked,
+  put-row-reads.Learnt,
+  past-reads.Asked,
+  past-reads.Learnt,
+  value-below t,
+  value.Post,
+  put-end-reads.Asked,
+  put-end-reads.Learnt,
+) (entry-at t) entry.Post
+entry-past-requires t c κs = ?
+
+-- src/lib.rt:225:20
+entry-enum-known-r : (t : ℕ) → entry-lts.Need-enum-known-r (
+  no-going-reads.Asked,
+  no-going-reads.Learnt,
+  put-row-reads.Asked,
+  put-row-reads.Learnt,
+  past-reads.Asked,
+  past-reads.Learnt,
+  value-below t,
+  value.Post,
+  put-end-reads.Asked,
+  put-end-reads.Learnt,
+) (entry-at t) entry.Post
+entry-enum-known-r t c = ?
+
+-- src/lib.rt:226:9
+entry-enum-told : (t : ℕ) → entry-lts.Need-enum-told (
+  no-going-reads.Asked,
+  no-going-reads.Learnt,
+  put-row-reads.Asked,
+  put-row-reads.Learnt,
+  past-reads.Asked,
+  past-reads.Learnt,
+  value-below t,
+  value.Post,
+  put-end-reads.Asked,
+  put-end-reads.Learnt,
+) (entry-at t) entry.Post
+entry-enum-told t c = ?
+
+-- src/lib.rt:226:9
+entry-same-length : (t : ℕ) → entry-lts.Need-same-length (
+  no-going-reads.Asked,
+  no-going-reads.Learnt,
+  put-row-reads.Asked,
+  put-row-reads.Learnt,
+  past-reads.Asked,
+  past-reads.Learnt,
+  value-below t,
+  value.Post,
+  put-end-reads.Asked,
+  put-end-reads.Learnt,
+) (entry-at t) entry.Post
+entry-same-length t c = ?
+
+-- src/lib.rt:226:9
+entry-returns-3 : (t : ℕ) → entry-lts.Need-returns-3 (
+  no-going-reads.Asked,
+  no-going-reads.Learnt,
+  put-row-reads.Asked,
+  put-row-reads.Learnt,
+  past-reads.Asked,
+  past-reads.Learnt,
+  value-below t,
+  value.Post,
+  put-end-reads.Asked,
+  put-end-reads.Learnt,
+) (entry-at t) entry.Post
+entry-returns-3 t c = ?
+
+-- src/lib.rt:229:9
+entry-no-going-requires-2 : (t : ℕ) → entry-lts.Need-no-going-requires-2 (
+  no-going-reads.Asked,
+  no-going-reads.Learnt,
+  put-row-reads.Asked,
+  put-row-reads.Learnt,
+  past-reads.Asked,
+  past-reads.Learnt,
+  value-below t,
+  value.Post,
+  put-end-reads.Asked,
+  put-end-reads.Learnt,
+) (entry-at t) entry.Post
+entry-no-going-requires-2 t c κs = ?
+
+-- src/lib.rt:229:9
+entry-same-length-2 : (t : ℕ) → entry-lts.Need-same-length-2 (
+  no-going-reads.Asked,
+  no-going-reads.Learnt,
+  put-row-reads.Asked,
+  put-row-reads.Learnt,
+  past-reads.Asked,
+  past-reads.Learnt,
+  value-below t,
+  value.Post,
+  put-end-reads.Asked,
+  put-end-reads.Learnt,
+) (entry-at t) entry.Post
+entry-same-length-2 t c = ?
+
+-- src/lib.rt:229:9
+entry-returns-4 : (t : ℕ) → entry-lts.Need-returns-4 (
+  no-going-reads.Asked,
+  no-going-reads.Learnt,
+  put-row-reads.Asked,
+  put-row-reads.Learnt,
+  past-reads.Asked,
+  past-reads.Learnt,
+  value-below t,
+  value.Post,
+  put-end-reads.Asked,
+  put-end-reads.Learnt,
+) (entry-at t) entry.Post
+entry-returns-4 t c = ?
+
+-- src/lib.rt:231:27
+entry-add-past-2 : (t : ℕ) → entry-lts.Need-add-past-2 (
+  no-going-reads.Asked,
+  no-going-reads.Learnt,
+  put-row-reads.Asked,
+  put-row-reads.Learnt,
+  past-reads.Asked,
+  past-reads.Learnt,
+  value-below t,
+  value.Post,
+  put-end-reads.Asked,
+  put-end-reads.Learnt,
+) (entry-at t) entry.Post
+entry-add-past-2 t c = ?
+
+-- src/lib.rt:231:9
+entry-past-requires-2 : (t : ℕ) → entry-lts.Need-past-requires-2 (
+  no-going-reads.Asked,
+  no-going-reads.Learnt,
+  put-row-reads.Asked,
+  put-row-reads.Learnt,
+  past-reads.Asked,
+  past-reads.Learnt,
+  value-below t,
+  value.Post,
+  put-end-reads.Asked,
+  put-end-reads.Learnt,
+) (entry-at t) entry.Post
+entry-past-requires-2 t c κs = ?
+
+-- src/lib.rt:232:20
+entry-enum-known-t : (t : ℕ) → entry-lts.Need-enum-known-t (
+  no-going-reads.Asked,
+  no-going-reads.Learnt,
+  put-row-reads.Asked,
+  put-row-reads.Learnt,
+  past-reads.Asked,
+  past-reads.Learnt,
+  value-below t,
+  value.Post,
+  put-end-reads.Asked,
+  put-end-reads.Learnt,
+) (entry-at t) entry.Post
+entry-enum-known-t t c = ?
+
+-- src/lib.rt:233:9
+entry-enum-told-2 : (t : ℕ) → entry-lts.Need-enum-told-2 (
+  no-going-reads.Asked,
+  no-going-reads.Learnt,
+  put-row-reads.Asked,
+  put-row-reads.Learnt,
+  past-reads.Asked,
+  past-reads.Learnt,
+  value-below t,
+  value.Post,
+  put-end-reads.Asked,
+  put-end-reads.Learnt,
+) (entry-at t) entry.Post
+entry-enum-told-2 t c = ?
+
+-- src/lib.rt:233:9
+entry-same-length-3 : (t : ℕ) → entry-lts.Need-same-length-3 (
+  no-going-reads.Asked,
+  no-going-reads.Learnt,
+  put-row-reads.Asked,
+  put-row-reads.Learnt,
+  past-reads.Asked,
+  past-reads.Learnt,
+  value-below t,
+  value.Post,
+  put-end-reads.Asked,
+  put-end-reads.Learnt,
+) (entry-at t) entry.Post
+entry-same-length-3 t c = ?
+
+-- src/lib.rt:233:9
+entry-returns-5 : (t : ℕ) → entry-lts.Need-returns-5 (
+  no-going-reads.Asked,
+  no-going-reads.Learnt,
+  put-row-reads.Asked,
+  put-row-reads.Learnt,
+  past-reads.Asked,
+  past-reads.Learnt,
+  value-below t,
+  value.Post,
+  put-end-reads.Asked,
+  put-end-reads.Learnt,
+) (entry-at t) entry.Post
+entry-returns-5 t c = ?
+
+-- src/lib.rt:235:9
+entry-value-requires : (t : ℕ) → entry-lts.Need-value-requires (
+  no-going-reads.Asked,
+  no-going-reads.Learnt,
+  put-row-reads.Asked,
+  put-row-reads.Learnt,
+  past-reads.Asked,
+  past-reads.Learnt,
+  value-below t,
+  value.Post,
+  put-end-reads.Asked,
+  put-end-reads.Learnt,
+) (entry-at t) entry.Post
+entry-value-requires t c κs = ?
+
+-- src/lib.rt:236:20
+entry-enum-known-v : (t : ℕ) → entry-lts.Need-enum-known-v (
+  no-going-reads.Asked,
+  no-going-reads.Learnt,
+  put-row-reads.Asked,
+  put-row-reads.Learnt,
+  past-reads.Asked,
+  past-reads.Learnt,
+  value-below t,
+  value.Post,
+  put-end-reads.Asked,
+  put-end-reads.Learnt,
+) (entry-at t) entry.Post
+entry-enum-known-v t c = ?
+
+-- src/lib.rt:237:9
+entry-enum-told-3 : (t : ℕ) → entry-lts.Need-enum-told-3 (
+  no-going-reads.Asked,
+  no-going-reads.Learnt,
+  put-row-reads.Asked,
+  put-row-reads.Learnt,
+  past-reads.Asked,
+  past-reads.Learnt,
+  value-below t,
+  value.Post,
+  put-end-reads.Asked,
+  put-end-reads.Learnt,
+) (entry-at t) entry.Post
+entry-enum-told-3 t c = ?
+
+-- src/lib.rt:237:9
+entry-same-length-4 : (t : ℕ) → entry-lts.Need-same-length-4 (
+  no-going-reads.Asked,
+  no-going-reads.Learnt,
+  put-row-reads.Asked,
+  put-row-reads.Learnt,
+  past-reads.Asked,
+  past-reads.Learnt,
+  value-below t,
+  value.Post,
+  put-end-reads.Asked,
+  put-end-reads.Learnt,
+) (entry-at t) entry.Post
+entry-same-length-4 t c = ?
+
+-- src/lib.rt:237:9
+entry-returns-6 : (t : ℕ) → entry-lts.Need-returns-6 (
+  no-going-reads.Asked,
+  no-going-reads.Learnt,
+  put-row-reads.Asked,
+  put-row-reads.Learnt,
+  past-reads.Asked,
+  past-reads.Learnt,
+  value-below t,
+  value.Post,
+  put-end-reads.Asked,
+  put-end-reads.Learnt,
+) (entry-at t) entry.Post
+entry-returns-6 t c = ?
+
+-- src/lib.rt:239:5
+entry-put-end-requires : (t : ℕ) → entry-lts.Need-put-end-requires (
+  no-going-reads.Asked,
+  no-going-reads.Learnt,
+  put-row-reads.Asked,
+  put-row-reads.Learnt,
+  past-reads.Asked,
+  past-reads.Learnt,
+  value-below t,
+  value.Post,
+  put-end-reads.Asked,
+  put-end-reads.Learnt,
+) (entry-at t) entry.Post
+entry-put-end-requires t c κs = ?
+
+-- src/lib.rt:212:1
+entry-same-length-5 : (t : ℕ) → entry-lts.Need-same-length-5 (
+  no-going-reads.Asked,
+  no-going-reads.Learnt,
+  put-row-reads.Asked,
+  put-row-reads.Learnt,
+  past-reads.Asked,
+  past-reads.Learnt,
+  value-below t,
+  value.Post,
+  put-end-reads.Asked,
+  put-end-reads.Learnt,
+) (entry-at t) entry.Post
+entry-same-length-5 t c = ?
+
+-- src/lib.rt:212:1
+entry-returns-7 : (t : ℕ) → entry-lts.Need-returns-7 (
+  no-going-reads.Asked,
+  no-going-reads.Learnt,
+  put-row-reads.Asked,
+  put-row-reads.Learnt,
+  past-reads.Asked,
+  past-reads.Learnt,
+  value-below t,
+  value.Post,
+  put-end-reads.Asked,
+  put-end-reads.Learnt,
+) (entry-at t) entry.Post
+entry-returns-7 t c = ?
+
+abbrev list-Inv-loop : list-lts.InvT-loop
+list-Inv-loop s rows₀ parent left constant n d₀ rows d = ?
+
+abbrev list-μ-loop : list-lts.MeasureT-loop
+list-μ-loop s rows₀ parent left constant n d₀ rows d = ?
+
+-- src/lib.rt:155:9
+list-returns : (t : ℕ) → list-lts.Need-returns (
+  put-row-reads.Asked,
+  put-row-reads.Learnt,
+  past-reads.Asked,
+  past-reads.Learnt,
+  close-reads.Asked,
+  close-reads.Learnt,
+  value-below t,
+  value.Post,
+) (list-at t) list.Post list-Inv-loop list-μ-loop
+list-returns t c = ?
+
+-- src/lib.rt:159:9
+list-returns-2 : (t : ℕ) → list-lts.Need-returns-2 (
+  put-row-reads.Asked,
+  put-row-reads.Learnt,
+  past-reads.Asked,
+  past-reads.Learnt,
+  close-reads.Asked,
+  close-reads.Learnt,
+  value-below t,
+  value.Post,
+) (list-at t) list.Post list-Inv-loop list-μ-loop
+list-returns-2 t c = ?
+
+-- src/lib.rt:161:5
+list-put-row-requires : (t : ℕ) → list-lts.Need-put-row-requires (
+  put-row-reads.Asked,
+  put-row-reads.Learnt,
+  past-reads.Asked,
+  past-reads.Learnt,
+  close-reads.Asked,
+  close-reads.Learnt,
+  value-below t,
+  value.Post,
+) (list-at t) list.Post list-Inv-loop list-μ-loop
+list-put-row-requires t c κs = ?
+
+-- src/lib.rt:162:23
+list-add-past : (t : ℕ) → list-lts.Need-add-past (
+  put-row-reads.Asked,
+  put-row-reads.Learnt,
+  past-reads.Asked,
+  past-reads.Learnt,
+  close-reads.Asked,
+  close-reads.Learnt,
+  value-below t,
+  value.Post,
+) (list-at t) list.Post list-Inv-loop list-μ-loop
+list-add-past t c = ?
+
+-- src/lib.rt:162:9
+list-past-requires : (t : ℕ) → list-lts.Need-past-requires (
+  put-row-reads.Asked,
+  put-row-reads.Learnt,
+  past-reads.Asked,
+  past-reads.Learnt,
+  close-reads.Asked,
+  close-reads.Learnt,
+  value-below t,
+  value.Post,
+) (list-at t) list.Post list-Inv-loop list-μ-loop
+list-past-requires t c κs = ?
+
+-- src/lib.rt:163:20
+list-enum-known-r : (t : ℕ) → list-lts.Need-enum-known-r (
+  put-row-reads.Asked,
+  put-row-reads.Learnt,
+  past-reads.Asked,
+  past-reads.Learnt,
+  close-reads.Asked,
+  close-reads.Learnt,
+  value-below t,
+  value.Post,
+) (list-at t) list.Post list-Inv-loop list-μ-loop
+list-enum-known-r t c = ?
+
+-- src/lib.rt:164:9
+list-enum-told : (t : ℕ) → list-lts.Need-enum-told (
+  put-row-reads.Asked,
+  put-row-reads.Learnt,
+  past-reads.Asked,
+  past-reads.Learnt,
+  close-reads.Asked,
+  close-reads.Learnt,
+  value-below t,
+  value.Post,
+) (list-at t) list.Post list-Inv-loop list-μ-loop
+list-enum-told t c = ?
+
+-- src/lib.rt:164:9
+list-same-length : (t : ℕ) → list-lts.Need-same-length (
+  put-row-reads.Asked,
+  put-row-reads.Learnt,
+  past-reads.Asked,
+  past-reads.Learnt,
+  close-reads.Asked,
+  close-reads.Learnt,
+  value-below t,
+  value.Post,
+) (list-at t) list.Post list-Inv-loop list-μ-loop
+list-same-length t c = ?
+
+-- src/lib.rt:164:9
+list-returns-3 : (t : ℕ) → list-lts.Need-returns-3 (
+  put-row-reads.Asked,
+  put-row-reads.Learnt,
+  past-reads.Asked,
+  past-reads.Learnt,
+  close-reads.Asked,
+  close-reads.Learnt,
+  value-below t,
+  value.Post,
+) (list-at t) list.Post list-Inv-loop list-μ-loop
+list-returns-3 t c = ?
+
+-- src/lib.rt:167:5
+list-loop-holds : (t : ℕ) → list-lts.Need-loop-holds (
+  put-row-reads.Asked,
+  put-row-reads.Learnt,
+  past-reads.Asked,
+  past-reads.Learnt,
+  close-reads.Asked,
+  close-reads.Learnt,
+  value-below t,
+  value.Post,
+) (list-at t) list.Post list-Inv-loop list-μ-loop
+list-loop-holds t c = ?
+
+-- src/lib.rt:170:13
+list-close-requires : (t : ℕ) → list-lts.Need-close-requires (
+  put-row-reads.Asked,
+  put-row-reads.Learnt,
+  past-reads.Asked,
+  past-reads.Learnt,
+  close-reads.Asked,
+  close-reads.Learnt,
+  value-below t,
+  value.Post,
+) (list-at t) list.Post list-Inv-loop list-μ-loop
+list-close-requires t c κs = ?
+
+-- src/lib.rt:170:13
+list-same-length-2 : (t : ℕ) → list-lts.Need-same-length-2 (
+  put-row-reads.Asked,
+  put-row-reads.Learnt,
+  past-reads.Asked,
+  past-reads.Learnt,
+  close-reads.Asked,
+  close-reads.Learnt,
+  value-below t,
+  value.Post,
+) (list-at t) list.Post list-Inv-loop list-μ-loop
+list-same-length-2 t c = ?
+
+-- src/lib.rt:170:13
+list-returns-4 : (t : ℕ) → list-lts.Need-returns-4 (
+  put-row-reads.Asked,
+  put-row-reads.Learnt,
+  past-reads.Asked,
+  past-reads.Learnt,
+  close-reads.Asked,
+  close-reads.Learnt,
+  value-below t,
+  value.Post,
+) (list-at t) list.Post list-Inv-loop list-μ-loop
+list-returns-4 t c = ?
+
+-- src/lib.rt:172:38
+list-sub-value : (t : ℕ) → list-lts.Need-sub-value (
+  put-row-reads.Asked,
+  put-row-reads.Learnt,
+  past-reads.Asked,
+  past-reads.Learnt,
+  close-reads.Asked,
+  close-reads.Learnt,
+  value-below t,
+  value.Post,
+) (list-at t) list.Post list-Inv-loop list-μ-loop
+list-sub-value t c = ?
+
+-- src/lib.rt:172:13
+list-value-requires : (t : ℕ) → list-lts.Need-value-requires (
+  put-row-reads.Asked,
+  put-row-reads.Learnt,
+  past-reads.Asked,
+  past-reads.Learnt,
+  close-reads.Asked,
+  close-reads.Learnt,
+  value-below t,
+  value.Post,
+) (list-at t) list.Post list-Inv-loop list-μ-loop
+list-value-requires t c κs = ?
+
+-- src/lib.rt:173:24
+list-enum-known-t : (t : ℕ) → list-lts.Need-enum-known-t (
+  put-row-reads.Asked,
+  put-row-reads.Learnt,
+  past-reads.Asked,
+  past-reads.Learnt,
+  close-reads.Asked,
+  close-reads.Learnt,
+  value-below t,
+  value.Post,
+) (list-at t) list.Post list-Inv-loop list-μ-loop
+list-enum-known-t t c = ?
+
+-- src/lib.rt:174:13
+list-enum-told-2 : (t : ℕ) → list-lts.Need-enum-told-2 (
+  put-row-reads.Asked,
+  put-row-reads.Learnt,
+  past-reads.Asked,
+  past-reads.Learnt,
+  close-reads.Asked,
+  close-reads.Learnt,
+  value-below t,
+  value.Post,
+) (list-at t) list.Post list-Inv-loop list-μ-loop
+list-enum-told-2 t c = ?
+
+-- src/lib.rt:174:13
+list-same-length-3 : (t : ℕ) → list-lts.Need-same-length-3 (
+  put-row-reads.Asked,
+  put-row-reads.Learnt,
+  past-reads.Asked,
+  past-reads.Learnt,
+  close-reads.Asked,
+  close-reads.Learnt,
+  value-below t,
+  value.Post,
+) (list-at t) list.Post list-Inv-loop list-μ-loop
+list-same-length-3 t c = ?
+
+-- src/lib.rt:174:13
+list-returns-5 : (t : ℕ) → list-lts.Need-returns-5 (
+  put-row-reads.Asked,
+  put-row-reads.Learnt,
+  past-reads.Asked,
+  past-reads.Learnt,
+  close-reads.Asked,
+  close-reads.Learnt,
+  value-below t,
+  value.Post,
+) (list-at t) list.Post list-Inv-loop list-μ-loop
+list-returns-5 t c = ?
+
+-- src/lib.rt:167:5
+list-loop-less : (t : ℕ) → list-lts.Need-loop-less (
+  put-row-reads.Asked,
+  put-row-reads.Learnt,
+  past-reads.Asked,
+  past-reads.Learnt,
+  close-reads.Asked,
+  close-reads.Learnt,
+  value-below t,
+  value.Post,
+) (list-at t) list.Post list-Inv-loop list-μ-loop
+list-loop-less t c = ?
+
+-- src/lib.rt:167:5
+list-loop-again : (t : ℕ) → list-lts.Need-loop-again (
+  put-row-reads.Asked,
+  put-row-reads.Learnt,
+  past-reads.Asked,
+  past-reads.Learnt,
+  close-reads.Asked,
+  close-reads.Learnt,
+  value-below t,
+  value.Post,
+) (list-at t) list.Post list-Inv-loop list-μ-loop
+list-loop-again t c = ?
+
+abbrev object-Inv-loop : object-lts.InvT-loop
+object-Inv-loop s rows₀ parent left constant n d₀ rows d = ?
+
+abbrev object-μ-loop : object-lts.MeasureT-loop
+object-μ-loop s rows₀ parent left constant n d₀ rows d = ?
+
+-- src/lib.rt:186:9
+object-returns : (t : ℕ) → object-lts.Need-returns (
+  put-row-reads.Asked,
+  put-row-reads.Learnt,
+  past-reads.Asked,
+  past-reads.Learnt,
+  close-reads.Asked,
+  close-reads.Learnt,
+  entry-below t,
+  entry.Post,
+) (object-at t) object.Post object-Inv-loop object-μ-loop
+object-returns t c = ?
+
+-- src/lib.rt:190:9
+object-returns-2 : (t : ℕ) → object-lts.Need-returns-2 (
+  put-row-reads.Asked,
+  put-row-reads.Learnt,
+  past-reads.Asked,
+  past-reads.Learnt,
+  close-reads.Asked,
+  close-reads.Learnt,
+  entry-below t,
+  entry.Post,
+) (object-at t) object.Post object-Inv-loop object-μ-loop
+object-returns-2 t c = ?
+
+-- src/lib.rt:192:5
+object-put-row-requires : (t : ℕ) → object-lts.Need-put-row-requires (
+  put-row-reads.Asked,
+  put-row-reads.Learnt,
+  past-reads.Asked,
+  past-reads.Learnt,
+  close-reads.Asked,
+  close-reads.Learnt,
+  entry-below t,
+  entry.Post,
+) (object-at t) object.Post object-Inv-loop object-μ-loop
+object-put-row-requires t c κs = ?
+
+-- src/lib.rt:193:23
+object-add-past : (t : ℕ) → object-lts.Need-add-past (
+  put-row-reads.Asked,
+  put-row-reads.Learnt,
+  past-reads.Asked,
+  past-reads.Learnt,
+  close-reads.Asked,
+  close-reads.Learnt,
+  entry-below t,
+  entry.Post,
+) (object-at t) object.Post object-Inv-loop object-μ-loop
+object-add-past t c = ?
+
+-- src/lib.rt:193:9
+object-past-requires : (t : ℕ) → object-lts.Need-past-requires (
+  put-row-reads.Asked,
+  put-row-reads.Learnt,
+  past-reads.Asked,
+  past-reads.Learnt,
+  close-reads.Asked,
+  close-reads.Learnt,
+  entry-below t,
+  entry.Post,
+) (object-at t) object.Post object-Inv-loop object-μ-loop
+object-past-requires t c κs = ?
+
+-- src/lib.rt:194:20
+object-enum-known-r : (t : ℕ) → object-lts.Need-enum-known-r (
+  put-row-reads.Asked,
+  put-row-reads.Learnt,
+  past-reads.Asked,
+  past-reads.Learnt,
+  close-reads.Asked,
+  close-reads.Learnt,
+  entry-below t,
+  entry.Post,
+) (object-at t) object.Post object-Inv-loop object-μ-loop
+object-enum-known-r t c = ?
+
+-- src/lib.rt:195:9
+object-enum-told : (t : ℕ) → object-lts.Need-enum-told (
+  put-row-reads.Asked,
+  put-row-reads.Learnt,
+  past-reads.Asked,
+  past-reads.Learnt,
+  close-reads.Asked,
+  close-reads.Learnt,
+  entry-below t,
+  entry.Post,
+) (object-at t) object.Post object-Inv-loop object-μ-loop
+object-enum-told t c = ?
+
+-- src/lib.rt:195:9
+object-same-length : (t : ℕ) → object-lts.Need-same-length (
+  put-row-reads.Asked,
+  put-row-reads.Learnt,
+  past-reads.Asked,
+  past-reads.Learnt,
+  close-reads.Asked,
+  close-reads.Learnt,
+  entry-below t,
+  entry.Post,
+) (object-at t) object.Post object-Inv-loop object-μ-loop
+object-same-length t c = ?
+
+-- src/lib.rt:195:9
+object-returns-3 : (t : ℕ) → object-lts.Need-returns-3 (
+  put-row-reads.Asked,
+  put-row-reads.Learnt,
+  past-reads.Asked,
+  past-reads.Learnt,
+  close-reads.Asked,
+  close-reads.Learnt,
+  entry-below t,
+  entry.Post,
+) (object-at t) object.Post object-Inv-loop object-μ-loop
+object-returns-3 t c = ?
+
+-- src/lib.rt:198:5
+object-loop-holds : (t : ℕ) → object-lts.Need-loop-holds (
+  put-row-reads.Asked,
+  put-row-reads.Learnt,
+  past-reads.Asked,
+  past-reads.Learnt,
+  close-reads.Asked,
+  close-reads.Learnt,
+  entry-below t,
+  entry.Post,
+) (object-at t) object.Post object-Inv-loop object-μ-loop
+object-loop-holds t c = ?
+
+-- src/lib.rt:201:13
+object-close-requires : (t : ℕ) → object-lts.Need-close-requires (
+  put-row-reads.Asked,
+  put-row-reads.Learnt,
+  past-reads.Asked,
+  past-reads.Learnt,
+  close-reads.Asked,
+  close-reads.Learnt,
+  entry-below t,
+  entry.Post,
+) (object-at t) object.Post object-Inv-loop object-μ-loop
+object-close-requires t c κs = ?
+
+-- src/lib.rt:201:13
+object-same-length-2 : (t : ℕ) → object-lts.Need-same-length-2 (
+  put-row-reads.Asked,
+  put-row-reads.Learnt,
+  past-reads.Asked,
+  past-reads.Learnt,
+  close-reads.Asked,
+  close-reads.Learnt,
+  entry-below t,
+  entry.Post,
+) (object-at t) object.Post object-Inv-loop object-μ-loop
+object-same-length-2 t c = ?
+
+-- src/lib.rt:201:13
+object-returns-4 : (t : ℕ) → object-lts.Need-returns-4 (
+  put-row-reads.Asked,
+  put-row-reads.Learnt,
+  past-reads.Asked,
+  past-reads.Learnt,
+  close-reads.Asked,
+  close-reads.Learnt,
+  entry-below t,
+  entry.Post,
+) (object-at t) object.Post object-Inv-loop object-μ-loop
+object-returns-4 t c = ?
+
+-- src/lib.rt:203:38
+object-sub-entry : (t : ℕ) → object-lts.Need-sub-entry (
+  put-row-reads.Asked,
+  put-row-reads.Learnt,
+  past-reads.Asked,
+  past-reads.Learnt,
+  close-reads.Asked,
+  close-reads.Learnt,
+  entry-below t,
+  entry.Post,
+) (object-at t) object.Post object-Inv-loop object-μ-loop
+object-sub-entry t c = ?
+
+-- src/lib.rt:203:13
+object-entry-requires : (t : ℕ) → object-lts.Need-entry-requires (
+  put-row-reads.Asked,
+  put-row-reads.Learnt,
+  past-reads.Asked,
+  past-reads.Learnt,
+  close-reads.Asked,
+  close-reads.Learnt,
+  entry-below t,
+  entry.Post,
+) (object-at t) object.Post object-Inv-loop object-μ-loop
+object-entry-requires t c κs = ?
+
+-- src/lib.rt:204:24
+object-enum-known-t : (t : ℕ) → object-lts.Need-enum-known-t (
+  put-row-reads.Asked,
+  put-row-reads.Learnt,
+  past-reads.Asked,
+  past-reads.Learnt,
+  close-reads.Asked,
+  close-reads.Learnt,
+  entry-below t,
+  entry.Post,
+) (object-at t) object.Post object-Inv-loop object-μ-loop
+object-enum-known-t t c = ?
+
+-- src/lib.rt:205:13
+object-enum-told-2 : (t : ℕ) → object-lts.Need-enum-told-2 (
+  put-row-reads.Asked,
+  put-row-reads.Learnt,
+  past-reads.Asked,
+  past-reads.Learnt,
+  close-reads.Asked,
+  close-reads.Learnt,
+  entry-below t,
+  entry.Post,
+) (object-at t) object.Post object-Inv-loop object-μ-loop
+object-enum-told-2 t c = ?
+
+-- src/lib.rt:205:13
+object-same-length-3 : (t : ℕ) → object-lts.Need-same-length-3 (
+  put-row-reads.Asked,
+  put-row-reads.Learnt,
+  past-reads.Asked,
+  past-reads.Learnt,
+  close-reads.Asked,
+  close-reads.Learnt,
+  entry-below t,
+  entry.Post,
+) (object-at t) object.Post object-Inv-loop object-μ-loop
+object-same-length-3 t c = ?
+
+-- src/lib.rt:205:13
+object-returns-5 : (t : ℕ) → object-lts.Need-returns-5 (
+  put-row-reads.Asked,
+  put-row-reads.Learnt,
+  past-reads.Asked,
+  past-reads.Learnt,
+  close-reads.Asked,
+  close-reads.Learnt,
+  entry-below t,
+  entry.Post,
+) (object-at t) object.Post object-Inv-loop object-μ-loop
+object-returns-5 t c = ?
+
+-- src/lib.rt:198:5
+object-loop-less : (t : ℕ) → object-lts.Need-loop-less (
+  put-row-reads.Asked,
+  put-row-reads.Learnt,
+  past-reads.Asked,
+  past-reads.Learnt,
+  close-reads.Asked,
+  close-reads.Learnt,
+  entry-below t,
+  entry.Post,
+) (object-at t) object.Post object-Inv-loop object-μ-loop
+object-loop-less t c = ?
+
+-- src/lib.rt:198:5
+object-loop-again : (t : ℕ) → object-lts.Need-loop-again (
+  put-row-reads.Asked,
+  put-row-reads.Learnt,
+  past-reads.Asked,
+  past-reads.Learnt,
+  close-reads.Asked,
+  close-reads.Learnt,
+  entry-below t,
+  entry.Post,
+) (object-at t) object.Post object-Inv-loop object-μ-loop
+object-loop-again t c = ?
+
+-- src/lib.rt:125:9
+value-list-requires : (t : ℕ) → value-lts.Need-list-requires (
+  list-below t,
+  list.Post,
+  object-below t,
+  object.Post,
+  no-going-reads.Asked,
+  no-going-reads.Learnt,
+  variable-reads.Asked,
+  variable-reads.Learnt,
+  scalar-reads.Asked,
+  scalar-reads.Learnt,
+) (value-at t) value.Post
+value-list-requires t c κs = ?
+
+-- src/lib.rt:125:9
+value-same-length : (t : ℕ) → value-lts.Need-same-length (
+  list-below t,
+  list.Post,
+  object-below t,
+  object.Post,
+  no-going-reads.Asked,
+  no-going-reads.Learnt,
+  variable-reads.Asked,
+  variable-reads.Learnt,
+  scalar-reads.Asked,
+  scalar-reads.Learnt,
+) (value-at t) value.Post
+value-same-length t c = ?
+
+-- src/lib.rt:125:9
+value-returns : (t : ℕ) → value-lts.Need-returns (
+  list-below t,
+  list.Post,
+  object-below t,
+  object.Post,
+  no-going-reads.Asked,
+  no-going-reads.Learnt,
+  variable-reads.Asked,
+  variable-reads.Learnt,
+  scalar-reads.Asked,
+  scalar-reads.Learnt,
+) (value-at t) value.Post
+value-returns t c = ?
+
+-- src/lib.rt:128:9
+value-object-requires : (t : ℕ) → value-lts.Need-object-requires (
+  list-below t,
+  list.Post,
+  object-below t,
+  object.Post,
+  no-going-reads.Asked,
+  no-going-reads.Learnt,
+  variable-reads.Asked,
+  variable-reads.Learnt,
+  scalar-reads.Asked,
+  scalar-reads.Learnt,
+) (value-at t) value.Post
+value-object-requires t c κs = ?
+
+-- src/lib.rt:128:9
+value-same-length-2 : (t : ℕ) → value-lts.Need-same-length-2 (
+  list-below t,
+  list.Post,
+  object-below t,
+  object.Post,
+  no-going-reads.Asked,
+  no-going-reads.Learnt,
+  variable-reads.Asked,
+  variable-reads.Learnt,
+  scalar-reads.Asked,
+  scalar-reads.Learnt,
+) (value-at t) value.Post
+value-same-length-2 t c = ?
+
+-- src/lib.rt:128:9
+value-returns-2 : (t : ℕ) → value-lts.Need-returns-2 (
+  list-below t,
+  list.Post,
+  object-below t,
+  object.Post,
+  no-going-reads.Asked,
+  no-going-reads.Learnt,
+  variable-reads.Asked,
+  variable-reads.Learnt,
+  scalar-reads.Asked,
+  scalar-reads.Learnt,
+) (value-at t) value.Post
+value-returns-2 t c = ?
+
+-- src/lib.rt:132:13
+value-no-going-requires : (t : ℕ) → value-lts.Need-no-going-requires (
+  list-below t,
+  list.Post,
+  object-below t,
+  object.Post,
+  no-going-reads.Asked,
+  no-going-reads.Learnt,
+  variable-reads.Asked,
+  variable-reads.Learnt,
+  scalar-reads.Asked,
+  scalar-reads.Learnt,
+) (value-at t) value.Post
+value-no-going-requires t c κs = ?
+
+-- src/lib.rt:132:13
+value-returns-3 : (t : ℕ) → value-lts.Need-returns-3 (
+  list-below t,
+  list.Post,
+  object-below t,
+  object.Post,
+  no-going-reads.Asked,
+  no-going-reads.Learnt,
+  variable-reads.Asked,
+  variable-reads.Learnt,
+  scalar-reads.Asked,
+  scalar-reads.Learnt,
+) (value-at t) value.Post
+value-returns-3 t c = ?
+
+-- src/lib.rt:134:9
+value-variable-requires : (t : ℕ) → value-lts.Need-variable-requires (
+  list-below t,
+  list.Post,
+  object-below t,
+  object.Post,
+  no-going-reads.Asked,
+  no-going-reads.Learnt,
+  variable-reads.Asked,
+  variable-reads.Learnt,
+  scalar-reads.Asked,
+  scalar-reads.Learnt,
+) (value-at t) value.Post
+value-variable-requires t c κs = ?
+
+-- src/lib.rt:134:9
+value-same-length-3 : (t : ℕ) → value-lts.Need-same-length-3 (
+  list-below t,
+  list.Post,
+  object-below t,
+  object.Post,
+  no-going-reads.Asked,
+  no-going-reads.Learnt,
+  variable-reads.Asked,
+  variable-reads.Learnt,
+  scalar-reads.Asked,
+  scalar-reads.Learnt,
+) (value-at t) value.Post
+value-same-length-3 t c = ?
+
+-- src/lib.rt:134:9
+value-returns-4 : (t : ℕ) → value-lts.Need-returns-4 (
+  list-below t,
+  list.Post,
+  object-below t,
+  object.Post,
+  no-going-reads.Asked,
+  no-going-reads.Learnt,
+  variable-reads.Asked,
+  variable-reads.Learnt,
+  scalar-reads.Asked,
+  scalar-reads.Learnt,
+) (value-at t) value.Post
+value-returns-4 t c = ?
+
+-- src/lib.rt:136:5
+value-scalar-requires : (t : ℕ) → value-lts.Need-scalar-requires (
+  list-below t,
+  list.Post,
+  object-below t,
+  object.Post,
+  no-going-reads.Asked,
+  no-going-reads.Learnt,
+  variable-reads.Asked,
+  variable-reads.Learnt,
+  scalar-reads.Asked,
+  scalar-reads.Learnt,
+) (value-at t) value.Post
+value-scalar-requires t c κs = ?
+
+-- src/lib.rt:119:1
+value-same-length-4 : (t : ℕ) → value-lts.Need-same-length-4 (
+  list-below t,
+  list.Post,
+  object-below t,
+  object.Post,
+  no-going-reads.Asked,
+  no-going-reads.Learnt,
+  variable-reads.Asked,
+  variable-reads.Learnt,
+  scalar-reads.Asked,
+  scalar-reads.Learnt,
+) (value-at t) value.Post
+value-same-length-4 t c = ?
+
+-- src/lib.rt:119:1
+value-returns-5 : (t : ℕ) → value-lts.Need-returns-5 (
+  list-below t,
+  list.Post,
+  object-below t,
+  object.Post,
+  no-going-reads.Asked,
+  no-going-reads.Learnt,
+  variable-reads.Asked,
+  variable-reads.Learnt,
+  scalar-reads.Asked,
+  scalar-reads.Learnt,
+) (value-at t) value.Post
+value-returns-5 t c = ?
+
+pub +entry+list+object+value-spec : {M : Type 1} → statement M
++entry+list+object+value-spec = close μ-entry μ-list μ-object μ-value (λ t. entry-lts.spec (
+  no-going-reads.Asked,
+  no-going-reads.Learnt,
+  put-row-reads.Asked,
+  put-row-reads.Learnt,
+  past-reads.Asked,
+  past-reads.Learnt,
+  value-below t,
+  value.Post,
+  put-end-reads.Asked,
+  put-end-reads.Learnt,
+)
+    (entry-at t)
+    entry.Post
+    (entry-no-going-requires t)
+    (entry-returns t)
+    (entry-returns-2 t)
+    (entry-sub-put-row t)
+    (entry-put-row-requires t)
+    (entry-add-past t)
+    (entry-past-requires t)
+    (entry-enum-known-r t)
+    (entry-enum-told t)
+    (entry-same-length t)
+    (entry-returns-3 t)
+    (entry-no-going-requires-2 t)
+    (entry-same-length-2 t)
+    (entry-returns-4 t)
+    (entry-add-past-2 t)
+    (entry-past-requires-2 t)
+    (entry-enum-known-t t)
+    (entry-enum-told-2 t)
+    (entry-same-length-3 t)
+    (entry-returns-5 t)
+    (entry-value-requires t)
+    (entry-enum-known-v t)
+    (entry-enum-told-3 t)
+    (entry-same-length-4 t)
+    (entry-returns-6 t)
+    (entry-put-end-requires t)
+    (entry-same-length-5 t)
+    (entry-returns-7 t))
+    (λ t. list-lts.spec (
+      put-row-reads.Asked,
+      put-row-reads.Learnt,
+      past-reads.Asked,
+      past-reads.Learnt,
+      close-reads.Asked,
+      close-reads.Learnt,
+      value-below t,
+      value.Post,
+    )
+    (list-at t)
+    list.Post
+    list-Inv-loop
+    list-μ-loop
+    (list-returns t)
+    (list-returns-2 t)
+    (list-put-row-requires t)
+    (list-add-past t)
+    (list-past-requires t)
+    (list-enum-known-r t)
+    (list-enum-told t)
+    (list-same-length t)
+    (list-returns-3 t)
+    (list-loop-holds t)
+    (list-close-requires t)
+    (list-same-length-2 t)
+    (list-returns-4 t)
+    (list-sub-value t)
+    (list-value-requires t)
+    (list-enum-known-t t)
+    (list-enum-told-2 t)
+    (list-same-length-3 t)
+    (list-returns-5 t)
+    (list-loop-less t)
+    (list-loop-again t))
+    (λ t. object-lts.spec (
+      put-row-reads.Asked,
+      put-row-reads.Learnt,
+      past-reads.Asked,
+      past-reads.Learnt,
+      close-reads.Asked,
+      close-reads.Learnt,
+      entry-below t,
+      entry.Post,
+    )
+    (object-at t)
+    object.Post
+    object-Inv-loop
+    object-μ-loop
+    (object-returns t)
+    (object-returns-2 t)
+    (object-put-row-requires t)
+    (object-add-past t)
+    (object-past-requires t)
+    (object-enum-known-r t)
+    (object-enum-told t)
+    (object-same-length t)
+    (object-returns-3 t)
+    (object-loop-holds t)
+    (object-close-requires t)
+    (object-same-length-2 t)
+    (object-returns-4 t)
+    (object-sub-entry t)
+    (object-entry-requires t)
+    (object-enum-known-t t)
+    (object-enum-told-2 t)
+    (object-same-length-3 t)
+    (object-returns-5 t)
+    (object-loop-less t)
+    (object-loop-again t))
+    λ t. value-lts.spec (
+      list-below t,
+      list.Post,
+      object-below t,
+      object.Post,
+      no-going-reads.Asked,
+      no-going-reads.Learnt,
+      variable-reads.Asked,
+      variable-reads.Learnt,
+      scalar-reads.Asked,
+      scalar-reads.Learnt,
+    )
+    (value-at t)
+    value.Post
+    (value-list-requires t)
+    (value-same-length t)
+    (value-returns t)
+    (value-object-requires t)
+    (value-same-length-2 t)
+    (value-returns-2 t)
+    (value-no-going-requires t)
+    (value-returns-3 t)
+    (value-variable-requires t)
+    (value-same-length-3 t)
+    (value-returns-4 t)
+    (value-scalar-requires t)
+    (value-same-length-4 t)
+    (value-returns-5 t)

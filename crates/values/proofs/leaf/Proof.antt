@@ -1,0 +1,35 @@
+use borrow.Author.Needs.{needs}
+use Rattle.values.proofs.leaf.Statement.{statement}
+use Rattle.values.proofs.leaf.Tie as tie
+use Rattle.values.proofs.leaf.Reads as reads
+use Rattle.values.proofs.leaf.Lts as lts
+use Rattle.reader.proofs.Cursor.past.Reads as past-reads
+use Rattle.reader.proofs.put_row.Reads as put-row-reads
+
+-- src/lib.rt:52:9
+returns : tie.Need-returns
+returns c = ?
+
+-- src/lib.rt:54:5
+put-row-requires : tie.Need-put-row-requires
+put-row-requires c κs = search needs
+
+-- src/lib.rt:55:15
+add-past : tie.Need-add-past
+add-past c = search needs
+
+-- src/lib.rt:55:5
+past-requires : tie.Need-past-requires
+past-requires c κs = ?
+
+-- src/lib.rt:46:1
+same-length : tie.Need-same-length
+same-length c = search needs
+
+-- src/lib.rt:46:1
+returns-2 : tie.Need-returns-2
+returns-2 c = ?
+
+pub leaf-spec : {M : Type 1} → statement M
+leaf-spec =
+    tie.close (tie.spec returns put-row-requires add-past past-requires same-length returns-2)

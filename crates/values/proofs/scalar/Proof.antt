@@ -1,0 +1,83 @@
+use borrow.Author.Needs.{needs}
+use Rattle.values.proofs.scalar.Statement.{statement}
+use Rattle.values.proofs.scalar.Tie as tie
+use Rattle.values.proofs.scalar.Reads as reads
+use Rattle.values.proofs.scalar.Lts as lts
+use Rattle.reader.proofs.no_going.Reads as no-going-reads
+use Rattle.values.proofs.leaf.Reads as leaf-reads
+use Rattle.values.proofs.word_value.Reads as word-value-reads
+
+-- src/lib.rt:84:9
+word-value-requires : tie.Need-word-value-requires
+word-value-requires c κs = search needs
+
+-- src/lib.rt:84:9
+same-length : tie.Need-same-length
+same-length c = search needs
+
+-- src/lib.rt:84:9
+returns : tie.Need-returns
+returns c = search needs
+
+-- src/lib.rt:87:9
+leaf-requires : tie.Need-leaf-requires
+leaf-requires c κs = search needs
+
+-- src/lib.rt:87:9
+same-length-2 : tie.Need-same-length-2
+same-length-2 c = search needs
+
+-- src/lib.rt:87:9
+returns-2 : tie.Need-returns-2
+returns-2 c = ?
+
+-- src/lib.rt:90:9
+leaf-requires-2 : tie.Need-leaf-requires-2
+leaf-requires-2 c κs = search needs
+
+-- src/lib.rt:90:9
+same-length-3 : tie.Need-same-length-3
+same-length-3 c = search needs
+
+-- src/lib.rt:90:9
+returns-3 : tie.Need-returns-3
+returns-3 c = ?
+
+-- src/lib.rt:93:9
+leaf-requires-3 : tie.Need-leaf-requires-3
+leaf-requires-3 c κs = search needs
+
+-- src/lib.rt:93:9
+same-length-4 : tie.Need-same-length-4
+same-length-4 c = search needs
+
+-- src/lib.rt:93:9
+returns-4 : tie.Need-returns-4
+returns-4 c = ?
+
+-- src/lib.rt:95:5
+no-going-requires : tie.Need-no-going-requires
+no-going-requires c κs = search needs
+
+-- src/lib.rt:78:1
+returns-5 : tie.Need-returns-5
+returns-5 c = ?
+
+pub scalar-spec : {M : Type 1} → statement M
+scalar-spec =
+    tie.close
+    (tie.spec
+    word-value-requires
+    same-length
+    returns
+    leaf-requires
+    same-length-2
+    returns-2
+    leaf-requires-2
+    same-length-3
+    returns-3
+    leaf-requires-3
+    same-length-4
+    returns-4
+    no-going-requires
+    returns-5)

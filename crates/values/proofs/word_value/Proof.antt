@@ -1,0 +1,92 @@
+use borrow.Author.Needs.{needs}
+use Rattle.values.proofs.word_value.Statement.{statement}
+use Rattle.values.proofs.word_value.Tie as tie
+use Rattle.values.proofs.word_value.Reads as reads
+use Rattle.values.proofs.word_value.Lts as lts
+use Rattle.tokens.proofs.word.Reads as word-reads
+use Rattle.values.proofs.leaf.Reads as leaf-reads
+
+-- src/lib.rt:64:29
+cast-word : tie.Need-cast-word
+cast-word c = search needs
+
+-- src/lib.rt:64:45
+cast-word-2 : tie.Need-cast-word-2
+cast-word-2 c = search needs
+
+-- src/lib.rt:64:9
+word-requires : tie.Need-word-requires
+word-requires c κs = ?
+
+-- src/lib.rt:66:9
+leaf-requires : tie.Need-leaf-requires
+leaf-requires c κs = search needs
+
+-- src/lib.rt:66:9
+same-length : tie.Need-same-length
+same-length c = search needs
+
+-- src/lib.rt:66:9
+returns : tie.Need-returns
+returns c = ?
+
+-- src/lib.rt:69:9
+leaf-requires-2 : tie.Need-leaf-requires-2
+leaf-requires-2 c κs = search needs
+
+-- src/lib.rt:69:9
+same-length-2 : tie.Need-same-length-2
+same-length-2 c = search needs
+
+-- src/lib.rt:69:9
+returns-2 : tie.Need-returns-2
+returns-2 c = ?
+
+-- src/lib.rt:72:9
+leaf-requires-3 : tie.Need-leaf-requires-3
+leaf-requires-3 c κs = search needs
+
+-- src/lib.rt:72:9
+same-length-3 : tie.Need-same-length-3
+same-length-3 c = search needs
+
+-- src/lib.rt:72:9
+returns-3 : tie.Need-returns-3
+returns-3 c = ?
+
+-- src/lib.rt:74:48
+sub-leaf : tie.Need-sub-leaf
+sub-leaf c = ?
+
+-- src/lib.rt:74:5
+leaf-requires-4 : tie.Need-leaf-requires-4
+leaf-requires-4 c κs = search needs
+
+-- src/lib.rt:58:1
+same-length-4 : tie.Need-same-length-4
+same-length-4 c = search needs
+
+-- src/lib.rt:58:1
+returns-4 : tie.Need-returns-4
+returns-4 c = ?
+
+pub word-value-spec : {M : Type 1} → statement M
+word-value-spec =
+    tie.close
+    (tie.spec
+    cast-word
+    cast-word-2
+    word-requires
+    leaf-requires
+    same-length
+    returns
+    leaf-requires-2
+    same-length-2
+    returns-2
+    leaf-requires-3
+    same-length-3
+    returns-3
+    sub-leaf
+    leaf-requires-4
+    same-length-4
+    returns-4)
