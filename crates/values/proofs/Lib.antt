@@ -1,0 +1,4 @@
+pub mod HeadName
+pub mod MovedLaws
+pub mod StackSteps
+pub mod LeafLaws
