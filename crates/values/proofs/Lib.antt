@@ -2,3 +2,4 @@ pub mod HeadName
 pub mod MovedLaws
 pub mod StackSteps
 pub mod LeafLaws
+pub mod VariableLaws

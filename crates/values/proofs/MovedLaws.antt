@@ -19,7 +19,8 @@ use Rattle.tokens.specs.declared.TokenRead.the-variants.{Token, Bad}
 use Rattle.reader.specs.declared.Cursor.{Cursor}
 use Rattle.reader.specs.declared.Read.{Read}
 use Rattle.reader.specs.declared.Read.the-variants.{Done, Refused}
-use Rattle.reader.specs.Reader.{Looks, movedTo, at, Went, Halts, Said}
+use Rattle.reader.specs.Reader.{Looks, Ready, movedTo, at, Went, Halts, Said}
+use Rattle.reader.proofs.ReaderLaws.{token-lies}
 
 -- the ends of the token that a cursor looks at
 pub start-in : (s : List ℕ) (c : Cursor) → Looks s c → startIn (from s (c .stop)) ≡ c .start
@@ -37,6 +38,10 @@ stop-in s c l = cases (from s (c .stop)) l
     cases (over n) e = cc
     cases (bad n) e = let z : _≡_ {A = ℕ} 0 1 = cc in let w : ⊥ = omega arith in absurd w
     cases (token k t) e = cc
+
+-- where that token lies
+pub ready-lies : (s rows : List ℕ) (c : Cursor) (parent : ℕ) → Ready s rows c parent → (c .stop ≤ c .start) × (c .start ≤ c .end) × (c .end ≤ length s)
+ready-lies s rows c parent r = token-lies s (c .stop) (c .kind) (c .start) (c .end) (r .within) (r .looks)
 
 -- a cursor that moved to the first token from e on
 pub record Moved (s : List ℕ) (e n : ℕ) (d : Cursor) : Type 0 where

@@ -1,3 +1,4 @@
+use Rattle.values.proofs.MovedLaws.{ready-lies}
 use borrow.Author.Needs.{needs}
 use Rattle.values.proofs.close.Statement.{statement}
 use Rattle.values.proofs.close.Tie as tie
@@ -12,7 +13,7 @@ put-end-requires c κs = search needs
 
 -- src/lib.rt:147:5
 past-requires : tie.Need-past-requires
-past-requires c κs = ?
+past-requires c κs = (c .before .before .before .before .before .before .pre .0 .short, ready-lies _ _ _ _ (c .before .before .before .before .before .before .pre .0) .2)
 
 -- src/lib.rt:141:1
 same-length : tie.Need-same-length
@@ -20,7 +21,7 @@ same-length c = search needs
 
 -- src/lib.rt:141:1
 returns : tie.Need-returns
-returns c = search needs
+returns c = record { ended = c .before .before .before .put-end .ensures; moved = c .past .ensures }
 
 pub close-spec : {M : Type 1} → statement M
 close-spec = tie.close (tie.spec put-end-requires past-requires same-length returns)

@@ -1,3 +1,5 @@
+use mathlib.Core.List.{[]}
+use Rattle.values.proofs.LeafLaws.{int-said, float-said, string-said, no-value}
 use borrow.Author.Needs.{needs}
 use Rattle.values.proofs.scalar.Statement.{statement}
 use Rattle.values.proofs.scalar.Tie as tie
@@ -29,7 +31,7 @@ same-length-2 c = search needs
 
 -- src/lib.rt:87:9
 returns-2 : tie.Need-returns-2
-returns-2 c = ?
+returns-2 c = int-said _ _ _ _ _ (c .before .before .before .before .before .before .before .before .pre .0) _ (c .before .before .before .before .if2 .taken) (c .before .before .leaf .ensures)
 
 -- src/lib.rt:90:9
 leaf-requires-2 : tie.Need-leaf-requires-2
@@ -41,7 +43,7 @@ same-length-3 c = search needs
 
 -- src/lib.rt:90:9
 returns-3 : tie.Need-returns-3
-returns-3 c = ?
+returns-3 c = float-said _ _ _ _ _ (c .before .before .before .before .before .before .before .before .before .pre .0) _ (c .before .before .before .before .if3 .taken) (c .before .before .leaf2 .ensures)
 
 -- src/lib.rt:93:9
 leaf-requires-3 : tie.Need-leaf-requires-3
@@ -53,7 +55,7 @@ same-length-4 c = search needs
 
 -- src/lib.rt:93:9
 returns-4 : tie.Need-returns-4
-returns-4 c = ?
+returns-4 c = string-said _ _ _ _ _ (c .before .before .before .before .before .before .before .before .before .before .pre .0) _ (c .before .before .before .before .if4 .taken) (c .before .before .leaf3 .ensures)
 
 -- src/lib.rt:95:5
 no-going-requires : tie.Need-no-going-requires
@@ -61,7 +63,7 @@ no-going-requires c κs = search needs
 
 -- src/lib.rt:78:1
 returns-5 : tie.Need-returns-5
-returns-5 c = ?
+returns-5 c = rw (c .no-going .ensures) (no-value _ _ [] _ _ (c .before .before .before .before .before .before .before .pre .0) (c .no-going .result) (c .before .before .before .before .if1 .left) (c .before .before .before .if2 .left) (c .before .before .if3 .left) (c .before .if4 .left) (c .before .before .before .before .before .before .before .pre .1) (c .before .before .before .before .before .before .before .pre .2) (c .before .before .before .before .before .before .before .pre .3))
 
 pub scalar-spec : {M : Type 1} → statement M
 scalar-spec =

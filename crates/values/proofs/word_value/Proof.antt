@@ -1,3 +1,6 @@
+use mathlib.Core.Path.{sym, _∙_}
+use Rattle.values.proofs.MovedLaws.{ready-lies}
+use Rattle.values.proofs.LeafLaws.{true-said, false-said, null-said, name-said}
 use borrow.Author.Needs.{needs}
 use Rattle.values.proofs.word_value.Statement.{statement}
 use Rattle.values.proofs.word_value.Tie as tie
@@ -16,7 +19,7 @@ cast-word-2 c = search needs
 
 -- src/lib.rt:64:9
 word-requires : tie.Need-word-requires
-word-requires c κs = ?
+word-requires c κs = let l = ready-lies _ _ _ _ (c .before .before .pre .0) in (l .1, l .2)
 
 -- src/lib.rt:66:9
 leaf-requires : tie.Need-leaf-requires
@@ -28,7 +31,7 @@ same-length c = search needs
 
 -- src/lib.rt:66:9
 returns : tie.Need-returns
-returns c = ?
+returns c = true-said _ _ _ _ _ (c .before .before .before .before .before .before .before .before .pre .0) _ (c .before .before .before .before .before .before .before .before .pre .1) (sym (c .before .before .before .before .before .word .ensures) ∙ c .before .before .before .before .if1 .taken) (c .before .before .leaf .ensures)
 
 -- src/lib.rt:69:9
 leaf-requires-2 : tie.Need-leaf-requires-2
@@ -40,7 +43,7 @@ same-length-2 c = search needs
 
 -- src/lib.rt:69:9
 returns-2 : tie.Need-returns-2
-returns-2 c = ?
+returns-2 c = false-said _ _ _ _ _ (c .before .before .before .before .before .before .before .before .before .pre .0) _ (c .before .before .before .before .before .before .before .before .before .pre .1) (sym (c .before .before .before .before .before .before .word .ensures) ∙ c .before .before .before .before .if2 .taken) (c .before .before .leaf2 .ensures)
 
 -- src/lib.rt:72:9
 leaf-requires-3 : tie.Need-leaf-requires-3
@@ -52,11 +55,11 @@ same-length-3 c = search needs
 
 -- src/lib.rt:72:9
 returns-3 : tie.Need-returns-3
-returns-3 c = ?
+returns-3 c = null-said _ _ _ _ _ (c .before .before .before .before .before .before .before .before .before .before .pre .0) _ (c .before .before .before .before .before .before .before .before .before .before .pre .1) (sym (c .before .before .before .before .before .before .before .word .ensures) ∙ c .before .before .before .before .if3 .taken) (c .before .before .leaf3 .ensures)
 
 -- src/lib.rt:74:48
 sub-leaf : tie.Need-sub-leaf
-sub-leaf c = ?
+sub-leaf c = ready-lies _ _ _ _ (c .before .before .before .before .before .before .before .pre .0) .1
 
 -- src/lib.rt:74:5
 leaf-requires-4 : tie.Need-leaf-requires-4
@@ -68,7 +71,7 @@ same-length-4 c = search needs
 
 -- src/lib.rt:58:1
 returns-4 : tie.Need-returns-4
-returns-4 c = ?
+returns-4 c = name-said _ _ _ _ _ (c .before .before .before .before .before .before .before .before .before .before .pre .0) _ (c .before .before .before .before .before .before .before .before .before .before .pre .1) (λ e. c .before .before .before .before .before .before .if1 .left (c .before .before .before .before .before .before .before .word .ensures ∙ e)) (λ e. c .before .before .before .before .before .if2 .left (c .before .before .before .before .before .before .before .word .ensures ∙ e)) (λ e. c .before .before .before .before .if3 .left (c .before .before .before .before .before .before .before .word .ensures ∙ e)) (c .before .before .leaf4 .ensures)
 
 pub word-value-spec : {M : Type 1} → statement M
 word-value-spec =
