@@ -2,6 +2,7 @@
 use mathlib.Core.Path.{_≡_, refl, sym, ap, _∙_, subst}
 use mathlib.Core.Bool.{false}
 use mathlib.Core.List.{List, _++_}
+use mathlib.Core.Logic.{_≢_}
 use Prim.Native.Nat.{ℕ, _+_, _≤_, _<_}
 use native.Mathlib.Omega.{arith}
 use lib.ListN.{length}
@@ -21,6 +22,7 @@ use Rattle.reader.specs.declared.Read.{Read}
 use Rattle.reader.specs.declared.Read.the-variants.{Done, Refused}
 use Rattle.reader.specs.Reader.{Looks, Ready, movedTo, at, Went, Halts, Said}
 use Rattle.reader.proofs.ReaderLaws.{token-lies}
+use Rattle.reader.proofs.Steps.{Front, a-token, the-end, front}
 
 -- the ends of the token that a cursor looks at
 pub start-in : (s : List ℕ) (c : Cursor) → Looks s c → startIn (from s (c .stop)) ≡ c .start
@@ -42,6 +44,14 @@ stop-in s c l = cases (from s (c .stop)) l
 -- where that token lies
 pub ready-lies : (s rows : List ℕ) (c : Cursor) (parent : ℕ) → Ready s rows c parent → (c .stop ≤ c .start) × (c .start ≤ c .end) × (c .end ≤ length s)
 ready-lies s rows c parent r = token-lies s (c .stop) (c .kind) (c .start) (c .end) (r .within) (r .looks)
+
+-- a token, where the text does not end, has a byte
+pub ready-moves : (s rows : List ℕ) (c : Cursor) (parent : ℕ) → Ready s rows c parent → c .kind ≢ 0 → c .stop < c .end
+ready-moves s rows c parent r n = cases (front s c (r .within) (r .looks))
+  where
+    cases : Front s c → c .stop < c .end
+    cases (a-token k e f a b d) = omega (arith, a, b)
+    cases (the-end e f a b) = absurd (n e)
 
 -- a cursor that moved to the first token from e on
 pub record Moved (s : List ℕ) (e n : ℕ) (d : Cursor) : Type 0 where
