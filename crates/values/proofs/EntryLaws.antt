@@ -144,9 +144,9 @@ module _ (s rows : List ℕ) (c : Cursor) (parent : ℕ) (ready : Ready s rows c
                 step : Went 1 s rows₁ rows₂ g l (c .rows) left (nt (valuePart b) ∷ []) → length rows₂ ≡ rowsSize
                 step a = a .size
 
-            pub entry-said : (rows₂ rows′ : List ℕ) (z : Read) (l : Cursor) → Said 1 s rows₁ rows₂ g (c .rows) left (nt (valuePart b) ∷ []) z → z ≡ Done l → rows′ ≡ set rows₂ (7 * c .rows + 2) (l .stop) →
-                Said 1 s rows rows′ c parent left (entryStack K b) z
-            entry-said rows₂ rows′ z l i j n = rw j (step (subst (Said 1 s rows₁ rows₂ g (c .rows) left (nt (valuePart b) ∷ [])) j i))
+            pub entry-went : (rows₂ rows′ : List ℕ) (z : Read) (l : Cursor) → Said 1 s rows₁ rows₂ g (c .rows) left (nt (valuePart b) ∷ []) z → z ≡ Done l → rows′ ≡ set rows₂ (7 * c .rows + 2) (l .stop) →
+                Went 1 s rows rows′ c l parent left (entryStack K b)
+            entry-went rows₂ rows′ z l i j n = step (subst (Said 1 s rows₁ rows₂ g (c .rows) left (nt (valuePart b) ∷ [])) j i)
               where
                 step : Went 1 s rows₁ rows₂ g l (c .rows) left (nt (valuePart b) ∷ []) → Went 1 s rows rows′ c l parent left (entryStack K b)
                 step a =

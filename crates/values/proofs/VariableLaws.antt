@@ -6,9 +6,10 @@ use mathlib.Core.Logic.{_≢_}
 use Prim.Native.Nat.{ℕ, _+_, _-_, _*_, _≤_, _<_}
 use native.Mathlib.Omega.{arith}
 use lib.ListN.{length}
+use borrow.Author.Tests.{eq-eqb}
 use Rattle.paper.specs.Grammar.{nt, tm, act}
 use Rattle.paper.specs.Numbers.{mostRows, rowsSize, kindVariable}
-use Rattle.paper.specs.Language.{the, anyName, row, kind, named, end, Value, Name, language, dollar, n-other}
+use Rattle.paper.specs.Language.{the, anyName, row, kind, named, end, Value, ConstValue, Name, language, dollar, n-other}
 use Rattle.paper.specs.Rows.{top}
 use Rattle.paper.specs.Sizes.{Counts, overCounts}
 use Rattle.paper.specs.declared.Refusal.{Refusal}
@@ -25,6 +26,7 @@ use Rattle.reader.specs.Reader.{Ready, at, Said, noGoingOf}
 use Rattle.reader.proofs.ReaderLaws.{token-lies}
 use Rattle.reader.proofs.Steps.{is, not-is, first, refuse, plain, too-many-rows, refuses, refusesEnd, front, Front, a-token, the-end}
 use Rattle.reader.proofs.Cells.{put, put-length, row-opens, name-told, row-ends}
+use Rattle.values.specs.Stacks.{valueStack}
 use Rattle.values.specs.Ends.{past, SaidVariable}
 use Rattle.values.proofs.MovedLaws.{start-in, stop-in, Moved, moved-done, moved-halts, moved-said}
 
@@ -114,3 +116,12 @@ module _ (s rows rows′ : List ℕ) (c : Cursor) (parent : ℕ) (ready : Ready 
               ∙ row-ends rows (c .rows + 1) o (d .end) left y σ (from s (d .end)) (c .rows) kindVariable (c .start) 0 parent (d .start) (d .end - d .start) 0
               ∙ rw u refl)
             r′ v
+
+-- in a value that may be constant or not
+module _ (s rows : List ℕ) (c : Cursor) (parent left : ℕ) (b : Bool) where
+  pub variable-value : (rows′ : List ℕ) (r : Read) → b ≡ false → SaidVariable s rows rows′ c parent r → Said 1 s rows rows′ c parent left (valueStack b) r
+  variable-value rows′ r e h = rw e (h left)
+
+  pub no-variable : Ready s rows c parent → c .kind ≡ kindOf dollar → b ≡ true → Said 1 s rows rows c parent left (valueStack b) (noGoingOf c)
+  unfolding refuses refusesEnd choose factored language
+  no-variable ready e k = rw k (λ σ o q h f. refuse s c (ready .within) (ready .looks) rows (c .rows) o left q σ ConstValue (is 7) (rw (eq-eqb (c .kind) 7 e) tt) tt tt)

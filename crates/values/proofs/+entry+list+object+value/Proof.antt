@@ -1,4 +1,17 @@
-use Prim.Native.Nat.{ℕ, _<_}
+use mathlib.Core.Path.{refl, _∙_}
+use mathlib.Core.Logic.{inr}
+use Prim.Native.Nat.{ℕ, _+_, _-_, _*_, _<_}
+use native.Mathlib.Omega.{arith}
+use lib.ListN.{length}
+use borrow.Author.Needs.{needs}
+use Rattle.paper.specs.Numbers.{kindObjectField}
+use Rattle.paper.specs.Language.{bracketR, braceR}
+use Rattle.values.specs.Stacks.{valueStack, entryStack}
+use Rattle.values.proofs.MovedLaws.{ready-lies}
+use Rattle.values.proofs.VariableLaws.{variable-value, no-variable}
+use Rattle.values.proofs.NestLaws.{InNest, in-ready, nest-deep, nest-full, nest-bad, nest-begins, nest-closes, nest-more, nest-less, nest-stops}
+use Rattle.values.proofs.NestParts.{valuesPart, fieldsPart, list-nest, object-nest}
+use Rattle.values.proofs.EntryLaws.{entry-no-name, entry-full, entry-bad, colon-lies, entry-no-colon, entry-colon-bad, entry-ready, entry-stops, entry-size, entry-went, field-is}
 use borrow.Fn.Kinds.{In}
 use borrow.Fn.PlainCycle.{Measures, is, falls, and}
 use Rattle.values.proofs.entry.Reads as entry
@@ -24,16 +37,16 @@ use Rattle.values.proofs.+entry+list+object+value.{statement}
 use Rattle.values.proofs.+entry+list+object+value.Tie.{close}
 
 abbrev μ-entry : Measures 2 entry-kinds.ps ℕ
-μ-entry κs a = ?
+μ-entry κs a = 3 * a .1 .1 .1 .1 .0 + 2
 
 abbrev μ-list : Measures 2 list-kinds.ps ℕ
-μ-list κs a = ?
+μ-list κs a = 3 * a .1 .1 .1 .1 .0
 
 abbrev μ-object : Measures 2 object-kinds.ps ℕ
-μ-object κs a = ?
+μ-object κs a = 3 * a .1 .1 .1 .1 .0
 
 abbrev μ-value : Measures 2 value-kinds.ps ℕ
-μ-value κs a = ?
+μ-value κs a = 3 * a .1 .1 .1 .1 .0 + 1
 
 abbrev entry-at : ℕ → In 2 entry-kinds.ps
 entry-at t = and 2 entry-kinds.ps (is 2 entry-kinds.ps μ-entry t) entry.Pre
@@ -59,1208 +72,368 @@ value-at t = and 2 value-kinds.ps (is 2 value-kinds.ps μ-value t) value.Pre
 abbrev value-below : ℕ → In 2 value-kinds.ps
 value-below t = and 2 value-kinds.ps (falls 2 value-kinds.ps _<_ μ-value t) value.Pre
 
--- src/lib.rt:217:9
-entry-no-going-requires : (t : ℕ) → entry-lts.Need-no-going-requires (
-  no-going-reads.Asked,
-  no-going-reads.Learnt,
-  put-row-reads.Asked,
-  put-row-reads.Learnt,
-  past-reads.Asked,
-  past-reads.Learnt,
-  value-below t,
-  value.Post,
-  put-end-reads.Asked,
-  put-end-reads.Learnt,
-) (entry-at t) entry.Post
-entry-no-going-requires t c κs = ?
+abbrev entry-calls : ℕ → entry-lts.Claims
+entry-calls t = (no-going-reads.Asked, no-going-reads.Learnt, put-row-reads.Asked, put-row-reads.Learnt, past-reads.Asked, past-reads.Learnt, value-below t, value.Post, put-end-reads.Asked, put-end-reads.Learnt)
+
+abbrev list-calls : ℕ → list-lts.Claims
+list-calls t = (put-row-reads.Asked, put-row-reads.Learnt, past-reads.Asked, past-reads.Learnt, close-reads.Asked, close-reads.Learnt, value-below t, value.Post)
+
+abbrev object-calls : ℕ → object-lts.Claims
+object-calls t = (put-row-reads.Asked, put-row-reads.Learnt, past-reads.Asked, past-reads.Learnt, close-reads.Asked, close-reads.Learnt, entry-below t, entry.Post)
+
+abbrev value-calls : ℕ → value-lts.Claims
+value-calls t = (list-below t, list.Post, object-below t, object.Post, no-going-reads.Asked, no-going-reads.Learnt, variable-reads.Asked, variable-reads.Learnt, scalar-reads.Asked, scalar-reads.Learnt)
 
 -- src/lib.rt:217:9
-entry-returns : (t : ℕ) → entry-lts.Need-returns (
-  no-going-reads.Asked,
-  no-going-reads.Learnt,
-  put-row-reads.Asked,
-  put-row-reads.Learnt,
-  past-reads.Asked,
-  past-reads.Learnt,
-  value-below t,
-  value.Post,
-  put-end-reads.Asked,
-  put-end-reads.Learnt,
-) (entry-at t) entry.Post
-entry-returns t c = ?
+entry-no-going-requires : (t : ℕ) → entry-lts.Need-no-going-requires (entry-calls t) (entry-at t) entry.Post
+entry-no-going-requires t c κs = search needs
+
+-- src/lib.rt:217:9
+entry-returns : (t : ℕ) → entry-lts.Need-returns (entry-calls t) (entry-at t) entry.Post
+entry-returns t c = rw (c .no-going .ensures) (entry-no-name _ _ _ _ (c .before .before .before .before .before .pre .1 .0) (c .before .before .before .before .before .args .left) (c .before .before .before .before .before .args .kind) (c .before .before .before .before .before .pre .1 .1) (c .before .before .before .before .before .args .constant) (c .before .if1 .taken))
 
 -- src/lib.rt:221:9
-entry-returns-2 : (t : ℕ) → entry-lts.Need-returns-2 (
-  no-going-reads.Asked,
-  no-going-reads.Learnt,
-  put-row-reads.Asked,
-  put-row-reads.Learnt,
-  past-reads.Asked,
-  past-reads.Learnt,
-  value-below t,
-  value.Post,
-  put-end-reads.Asked,
-  put-end-reads.Learnt,
-) (entry-at t) entry.Post
-entry-returns-2 t c = ?
+entry-returns-2 : (t : ℕ) → entry-lts.Need-returns-2 (entry-calls t) (entry-at t) entry.Post
+entry-returns-2 t c = entry-full _ _ _ _ (c .before .before .before .before .before .pre .1 .0) (c .before .before .before .before .before .args .left) (c .before .before .before .before .before .args .kind) (c .before .before .before .before .before .pre .1 .1) (c .before .before .before .before .before .args .constant) (c .before .if1 .left) (c .if2 .taken)
 
 -- src/lib.rt:223:57
-entry-sub-put-row : (t : ℕ) → entry-lts.Need-sub-put-row (
-  no-going-reads.Asked,
-  no-going-reads.Learnt,
-  put-row-reads.Asked,
-  put-row-reads.Learnt,
-  past-reads.Asked,
-  past-reads.Learnt,
-  value-below t,
-  value.Post,
-  put-end-reads.Asked,
-  put-end-reads.Learnt,
-) (entry-at t) entry.Post
-entry-sub-put-row t c = ?
+entry-sub-put-row : (t : ℕ) → entry-lts.Need-sub-put-row (entry-calls t) (entry-at t) entry.Post
+entry-sub-put-row t c = ready-lies _ _ _ _ (c .before .before .before .before .before .before .before .pre .1 .0) .1
 
 -- src/lib.rt:223:5
-entry-put-row-requires : (t : ℕ) → entry-lts.Need-put-row-requires (
-  no-going-reads.Asked,
-  no-going-reads.Learnt,
-  put-row-reads.Asked,
-  put-row-reads.Learnt,
-  past-reads.Asked,
-  past-reads.Learnt,
-  value-below t,
-  value.Post,
-  put-end-reads.Asked,
-  put-end-reads.Learnt,
-) (entry-at t) entry.Post
-entry-put-row-requires t c κs = ?
+entry-put-row-requires : (t : ℕ) → entry-lts.Need-put-row-requires (entry-calls t) (entry-at t) entry.Post
+entry-put-row-requires t c κs = search needs
 
 -- src/lib.rt:224:23
-entry-add-past : (t : ℕ) → entry-lts.Need-add-past (
-  no-going-reads.Asked,
-  no-going-reads.Learnt,
-  put-row-reads.Asked,
-  put-row-reads.Learnt,
-  past-reads.Asked,
-  past-reads.Learnt,
-  value-below t,
-  value.Post,
-  put-end-reads.Asked,
-  put-end-reads.Learnt,
-) (entry-at t) entry.Post
-entry-add-past t c = ?
+entry-add-past : (t : ℕ) → entry-lts.Need-add-past (entry-calls t) (entry-at t) entry.Post
+entry-add-past t c = search needs
 
 -- src/lib.rt:224:9
-entry-past-requires : (t : ℕ) → entry-lts.Need-past-requires (
-  no-going-reads.Asked,
-  no-going-reads.Learnt,
-  put-row-reads.Asked,
-  put-row-reads.Learnt,
-  past-reads.Asked,
-  past-reads.Learnt,
-  value-below t,
-  value.Post,
-  put-end-reads.Asked,
-  put-end-reads.Learnt,
-) (entry-at t) entry.Post
-entry-past-requires t c κs = ?
+entry-past-requires : (t : ℕ) → entry-lts.Need-past-requires (entry-calls t) (entry-at t) entry.Post
+entry-past-requires t c κs = (c .before .before .before .before .before .before .before .before .before .before .pre .1 .0 .short, ready-lies _ _ _ _ (c .before .before .before .before .before .before .before .before .before .before .pre .1 .0) .2)
 
 -- src/lib.rt:225:20
-entry-enum-known-r : (t : ℕ) → entry-lts.Need-enum-known-r (
-  no-going-reads.Asked,
-  no-going-reads.Learnt,
-  put-row-reads.Asked,
-  put-row-reads.Learnt,
-  past-reads.Asked,
-  past-reads.Learnt,
-  value-below t,
-  value.Post,
-  put-end-reads.Asked,
-  put-end-reads.Learnt,
-) (entry-at t) entry.Post
-entry-enum-known-r t c = ?
+entry-enum-known-r : (t : ℕ) → entry-lts.Need-enum-known-r (entry-calls t) (entry-at t) entry.Post
+entry-enum-known-r t c = search needs
 
 -- src/lib.rt:226:9
-entry-enum-told : (t : ℕ) → entry-lts.Need-enum-told (
-  no-going-reads.Asked,
-  no-going-reads.Learnt,
-  put-row-reads.Asked,
-  put-row-reads.Learnt,
-  past-reads.Asked,
-  past-reads.Learnt,
-  value-below t,
-  value.Post,
-  put-end-reads.Asked,
-  put-end-reads.Learnt,
-) (entry-at t) entry.Post
-entry-enum-told t c = ?
+entry-enum-told : (t : ℕ) → entry-lts.Need-enum-told (entry-calls t) (entry-at t) entry.Post
+entry-enum-told t c = search needs
 
 -- src/lib.rt:226:9
-entry-same-length : (t : ℕ) → entry-lts.Need-same-length (
-  no-going-reads.Asked,
-  no-going-reads.Learnt,
-  put-row-reads.Asked,
-  put-row-reads.Learnt,
-  past-reads.Asked,
-  past-reads.Learnt,
-  value-below t,
-  value.Post,
-  put-end-reads.Asked,
-  put-end-reads.Learnt,
-) (entry-at t) entry.Post
-entry-same-length t c = ?
+entry-same-length : (t : ℕ) → entry-lts.Need-same-length (entry-calls t) (entry-at t) entry.Post
+entry-same-length t c = search needs
 
 -- src/lib.rt:226:9
-entry-returns-3 : (t : ℕ) → entry-lts.Need-returns-3 (
-  no-going-reads.Asked,
-  no-going-reads.Learnt,
-  put-row-reads.Asked,
-  put-row-reads.Learnt,
-  past-reads.Asked,
-  past-reads.Learnt,
-  value-below t,
-  value.Post,
-  put-end-reads.Asked,
-  put-end-reads.Learnt,
-) (entry-at t) entry.Post
-entry-returns-3 t c = ?
+entry-returns-3 : (t : ℕ) → entry-lts.Need-returns-3 (entry-calls t) (entry-at t) entry.Post
+entry-returns-3 t c = entry-bad _ _ _ _ (c .before .before .before .before .before .before .before .before .before .before .before .before .before .pre .1 .0) (c .before .before .before .before .before .before .before .before .before .before .before .before .before .args .left) (c .before .before .before .before .before .before .before .before .before .before .before .before .before .args .kind) (c .before .before .before .before .before .before .before .before .before .before .before .before .before .pre .1 .1) (c .before .before .before .before .before .before .before .before .before .before .before .before .before .args .constant) (c .before .before .before .before .before .before .before .before .before .if1 .left) (c .before .before .before .before .before .before .before .before .if2 .left) _ _ _ (c .before .before .past .ensures) (c .enum-told .given .1)
 
 -- src/lib.rt:229:9
-entry-no-going-requires-2 : (t : ℕ) → entry-lts.Need-no-going-requires-2 (
-  no-going-reads.Asked,
-  no-going-reads.Learnt,
-  put-row-reads.Asked,
-  put-row-reads.Learnt,
-  past-reads.Asked,
-  past-reads.Learnt,
-  value-below t,
-  value.Post,
-  put-end-reads.Asked,
-  put-end-reads.Learnt,
-) (entry-at t) entry.Post
-entry-no-going-requires-2 t c κs = ?
+entry-no-going-requires-2 : (t : ℕ) → entry-lts.Need-no-going-requires-2 (entry-calls t) (entry-at t) entry.Post
+entry-no-going-requires-2 t c κs = search needs
 
 -- src/lib.rt:229:9
-entry-same-length-2 : (t : ℕ) → entry-lts.Need-same-length-2 (
-  no-going-reads.Asked,
-  no-going-reads.Learnt,
-  put-row-reads.Asked,
-  put-row-reads.Learnt,
-  past-reads.Asked,
-  past-reads.Learnt,
-  value-below t,
-  value.Post,
-  put-end-reads.Asked,
-  put-end-reads.Learnt,
-) (entry-at t) entry.Post
-entry-same-length-2 t c = ?
+entry-same-length-2 : (t : ℕ) → entry-lts.Need-same-length-2 (entry-calls t) (entry-at t) entry.Post
+entry-same-length-2 t c = search needs
 
 -- src/lib.rt:229:9
-entry-returns-4 : (t : ℕ) → entry-lts.Need-returns-4 (
-  no-going-reads.Asked,
-  no-going-reads.Learnt,
-  put-row-reads.Asked,
-  put-row-reads.Learnt,
-  past-reads.Asked,
-  past-reads.Learnt,
-  value-below t,
-  value.Post,
-  put-end-reads.Asked,
-  put-end-reads.Learnt,
-) (entry-at t) entry.Post
-entry-returns-4 t c = ?
+entry-returns-4 : (t : ℕ) → entry-lts.Need-returns-4 (entry-calls t) (entry-at t) entry.Post
+entry-returns-4 t c = rw (c .no-going2 .ensures) (entry-no-colon _ _ _ _ (c .before .before .before .before .before .before .before .before .before .before .before .before .before .before .before .before .before .pre .1 .0) (c .before .before .before .before .before .before .before .before .before .before .before .before .before .before .before .before .before .args .left) (c .before .before .before .before .before .before .before .before .before .before .before .before .before .before .before .before .before .args .kind) (c .before .before .before .before .before .before .before .before .before .before .before .before .before .before .before .before .before .pre .1 .1) (c .before .before .before .before .before .before .before .before .before .before .before .before .before .before .before .before .before .args .constant) (c .before .before .before .before .before .before .before .before .before .before .before .before .before .if1 .left) (c .before .before .before .before .before .before .before .before .before .before .before .before .if2 .left) _ _ (c .before .before .before .before .before .before .past .ensures) (c .before .before .before .before .r .given .1) (c .before .if3 .taken))
 
 -- src/lib.rt:231:27
-entry-add-past-2 : (t : ℕ) → entry-lts.Need-add-past-2 (
-  no-going-reads.Asked,
-  no-going-reads.Learnt,
-  put-row-reads.Asked,
-  put-row-reads.Learnt,
-  past-reads.Asked,
-  past-reads.Learnt,
-  value-below t,
-  value.Post,
-  put-end-reads.Asked,
-  put-end-reads.Learnt,
-) (entry-at t) entry.Post
-entry-add-past-2 t c = ?
+entry-add-past-2 : (t : ℕ) → entry-lts.Need-add-past-2 (entry-calls t) (entry-at t) entry.Post
+entry-add-past-2 t c = record { fits = omega (arith, c .before .before .before .before .before .before .before .before .before .before .before .before .before .before .before .before .pre .1 .0 .few) }
 
 -- src/lib.rt:231:9
-entry-past-requires-2 : (t : ℕ) → entry-lts.Need-past-requires-2 (
-  no-going-reads.Asked,
-  no-going-reads.Learnt,
-  put-row-reads.Asked,
-  put-row-reads.Learnt,
-  past-reads.Asked,
-  past-reads.Learnt,
-  value-below t,
-  value.Post,
-  put-end-reads.Asked,
-  put-end-reads.Learnt,
-) (entry-at t) entry.Post
-entry-past-requires-2 t c κs = ?
+entry-past-requires-2 : (t : ℕ) → entry-lts.Need-past-requires-2 (entry-calls t) (entry-at t) entry.Post
+entry-past-requires-2 t c κs = (c .before .before .before .before .before .before .before .before .before .before .before .before .before .before .before .before .pre .1 .0 .short, colon-lies _ _ _ _ (c .before .before .before .before .before .before .before .before .before .before .before .before .before .before .before .before .pre .1 .0) (c .before .before .before .before .before .before .before .before .before .before .before .before .before .before .before .before .args .left) (c .before .before .before .before .before .before .before .before .before .before .before .before .before .before .before .before .args .kind) (c .before .before .before .before .before .before .before .before .before .before .before .before .before .before .before .before .pre .1 .1) (c .before .before .before .before .before .before .before .before .before .before .before .before .before .before .before .before .args .constant) (c .before .before .before .before .before .before .before .before .before .before .before .before .if1 .left) (c .before .before .before .before .before .before .before .before .before .before .before .if2 .left) _ _ (c .before .before .before .before .before .past .ensures) (c .before .before .before .r .given .1) .2)
 
 -- src/lib.rt:232:20
-entry-enum-known-t : (t : ℕ) → entry-lts.Need-enum-known-t (
-  no-going-reads.Asked,
-  no-going-reads.Learnt,
-  put-row-reads.Asked,
-  put-row-reads.Learnt,
-  past-reads.Asked,
-  past-reads.Learnt,
-  value-below t,
-  value.Post,
-  put-end-reads.Asked,
-  put-end-reads.Learnt,
-) (entry-at t) entry.Post
-entry-enum-known-t t c = ?
+entry-enum-known-t : (t : ℕ) → entry-lts.Need-enum-known-t (entry-calls t) (entry-at t) entry.Post
+entry-enum-known-t t c = search needs
 
 -- src/lib.rt:233:9
-entry-enum-told-2 : (t : ℕ) → entry-lts.Need-enum-told-2 (
-  no-going-reads.Asked,
-  no-going-reads.Learnt,
-  put-row-reads.Asked,
-  put-row-reads.Learnt,
-  past-reads.Asked,
-  past-reads.Learnt,
-  value-below t,
-  value.Post,
-  put-end-reads.Asked,
-  put-end-reads.Learnt,
-) (entry-at t) entry.Post
-entry-enum-told-2 t c = ?
+entry-enum-told-2 : (t : ℕ) → entry-lts.Need-enum-told-2 (entry-calls t) (entry-at t) entry.Post
+entry-enum-told-2 t c = search needs
 
 -- src/lib.rt:233:9
-entry-same-length-3 : (t : ℕ) → entry-lts.Need-same-length-3 (
-  no-going-reads.Asked,
-  no-going-reads.Learnt,
-  put-row-reads.Asked,
-  put-row-reads.Learnt,
-  past-reads.Asked,
-  past-reads.Learnt,
-  value-below t,
-  value.Post,
-  put-end-reads.Asked,
-  put-end-reads.Learnt,
-) (entry-at t) entry.Post
-entry-same-length-3 t c = ?
+entry-same-length-3 : (t : ℕ) → entry-lts.Need-same-length-3 (entry-calls t) (entry-at t) entry.Post
+entry-same-length-3 t c = search needs
 
 -- src/lib.rt:233:9
-entry-returns-5 : (t : ℕ) → entry-lts.Need-returns-5 (
-  no-going-reads.Asked,
-  no-going-reads.Learnt,
-  put-row-reads.Asked,
-  put-row-reads.Learnt,
-  past-reads.Asked,
-  past-reads.Learnt,
-  value-below t,
-  value.Post,
-  put-end-reads.Asked,
-  put-end-reads.Learnt,
-) (entry-at t) entry.Post
-entry-returns-5 t c = ?
+entry-returns-5 : (t : ℕ) → entry-lts.Need-returns-5 (entry-calls t) (entry-at t) entry.Post
+entry-returns-5 t c = entry-colon-bad _ _ _ _ (c .before .before .before .before .before .before .before .before .before .before .before .before .before .before .before .before .before .before .before .pre .1 .0) (c .before .before .before .before .before .before .before .before .before .before .before .before .before .before .before .before .before .before .before .args .left) (c .before .before .before .before .before .before .before .before .before .before .before .before .before .before .before .before .before .before .before .args .kind) (c .before .before .before .before .before .before .before .before .before .before .before .before .before .before .before .before .before .before .before .pre .1 .1) (c .before .before .before .before .before .before .before .before .before .before .before .before .before .before .before .before .before .before .before .args .constant) (c .before .before .before .before .before .before .before .before .before .before .before .before .before .before .before .if1 .left) (c .before .before .before .before .before .before .before .before .before .before .before .before .before .before .if2 .left) _ _ (c .before .before .before .before .before .before .before .before .past .ensures) (c .before .before .before .before .before .before .r .given .1) (c .before .before .before .if3 .left) _ _ _ (c .before .before .past2 .ensures) (c .enum-told2 .given .1)
 
 -- src/lib.rt:235:9
-entry-value-requires : (t : ℕ) → entry-lts.Need-value-requires (
-  no-going-reads.Asked,
-  no-going-reads.Learnt,
-  put-row-reads.Asked,
-  put-row-reads.Learnt,
-  past-reads.Asked,
-  past-reads.Learnt,
-  value-below t,
-  value.Post,
-  put-end-reads.Asked,
-  put-end-reads.Learnt,
-) (entry-at t) entry.Post
-entry-value-requires t c κs = ?
+entry-value-requires : (t : ℕ) → entry-lts.Need-value-requires (entry-calls t) (entry-at t) entry.Post
+entry-value-requires t c κs = (omega (arith, c .before .before .before .before .before .before .before .before .before .before .before .before .before .before .before .before .before .before .before .before .before .pre .0), entry-ready _ _ _ _ (c .before .before .before .before .before .before .before .before .before .before .before .before .before .before .before .before .before .before .before .before .before .pre .1 .0) (c .before .before .before .before .before .before .before .before .before .before .before .before .before .before .before .before .before .before .before .before .before .args .left) (c .before .before .before .before .before .before .before .before .before .before .before .before .before .before .before .before .before .before .before .before .before .args .kind) (c .before .before .before .before .before .before .before .before .before .before .before .before .before .before .before .before .before .before .before .before .before .pre .1 .1) (c .before .before .before .before .before .before .before .before .before .before .before .before .before .before .before .before .before .before .before .before .before .args .constant) (c .before .before .before .before .before .before .before .before .before .before .before .before .before .before .before .before .before .if1 .left) (c .before .before .before .before .before .before .before .before .before .before .before .before .before .before .before .before .if2 .left) _ _ (c .before .before .before .before .before .before .before .before .before .before .past .ensures) (c .before .before .before .before .before .before .before .before .r .given .1) (c .before .before .before .before .before .if3 .left) _ _ (c .before .before .before .before .past2 .ensures) (c .before .before .t .given .1) _ (c .before .before .before .before .before .before .before .before .before .before .before .before .before .put-row .ensures))
 
 -- src/lib.rt:236:20
-entry-enum-known-v : (t : ℕ) → entry-lts.Need-enum-known-v (
-  no-going-reads.Asked,
-  no-going-reads.Learnt,
-  put-row-reads.Asked,
-  put-row-reads.Learnt,
-  past-reads.Asked,
-  past-reads.Learnt,
-  value-below t,
-  value.Post,
-  put-end-reads.Asked,
-  put-end-reads.Learnt,
-) (entry-at t) entry.Post
-entry-enum-known-v t c = ?
+entry-enum-known-v : (t : ℕ) → entry-lts.Need-enum-known-v (entry-calls t) (entry-at t) entry.Post
+entry-enum-known-v t c = search needs
 
 -- src/lib.rt:237:9
-entry-enum-told-3 : (t : ℕ) → entry-lts.Need-enum-told-3 (
-  no-going-reads.Asked,
-  no-going-reads.Learnt,
-  put-row-reads.Asked,
-  put-row-reads.Learnt,
-  past-reads.Asked,
-  past-reads.Learnt,
-  value-below t,
-  value.Post,
-  put-end-reads.Asked,
-  put-end-reads.Learnt,
-) (entry-at t) entry.Post
-entry-enum-told-3 t c = ?
+entry-enum-told-3 : (t : ℕ) → entry-lts.Need-enum-told-3 (entry-calls t) (entry-at t) entry.Post
+entry-enum-told-3 t c = search needs
 
 -- src/lib.rt:237:9
-entry-same-length-4 : (t : ℕ) → entry-lts.Need-same-length-4 (
-  no-going-reads.Asked,
-  no-going-reads.Learnt,
-  put-row-reads.Asked,
-  put-row-reads.Learnt,
-  past-reads.Asked,
-  past-reads.Learnt,
-  value-below t,
-  value.Post,
-  put-end-reads.Asked,
-  put-end-reads.Learnt,
-) (entry-at t) entry.Post
-entry-same-length-4 t c = ?
+entry-same-length-4 : (t : ℕ) → entry-lts.Need-same-length-4 (entry-calls t) (entry-at t) entry.Post
+entry-same-length-4 t c = search needs
 
 -- src/lib.rt:237:9
-entry-returns-6 : (t : ℕ) → entry-lts.Need-returns-6 (
-  no-going-reads.Asked,
-  no-going-reads.Learnt,
-  put-row-reads.Asked,
-  put-row-reads.Learnt,
-  past-reads.Asked,
-  past-reads.Learnt,
-  value-below t,
-  value.Post,
-  put-end-reads.Asked,
-  put-end-reads.Learnt,
-) (entry-at t) entry.Post
-entry-returns-6 t c = ?
+entry-returns-6 : (t : ℕ) → entry-lts.Need-returns-6 (entry-calls t) (entry-at t) entry.Post
+entry-returns-6 t c = entry-stops _ _ _ _ (c .before .before .before .before .before .before .before .before .before .before .before .before .before .before .before .before .before .before .before .before .before .before .before .before .before .before .pre .1 .0) (c .before .before .before .before .before .before .before .before .before .before .before .before .before .before .before .before .before .before .before .before .before .before .before .before .before .before .args .left) (c .before .before .before .before .before .before .before .before .before .before .before .before .before .before .before .before .before .before .before .before .before .before .before .before .before .before .args .kind) (c .before .before .before .before .before .before .before .before .before .before .before .before .before .before .before .before .before .before .before .before .before .before .before .before .before .before .pre .1 .1) (c .before .before .before .before .before .before .before .before .before .before .before .before .before .before .before .before .before .before .before .before .before .before .before .before .before .before .args .constant) (c .before .before .before .before .before .before .before .before .before .before .before .before .before .before .before .before .before .before .before .before .before .before .if1 .left) (c .before .before .before .before .before .before .before .before .before .before .before .before .before .before .before .before .before .before .before .before .before .if2 .left) _ _ (c .before .before .before .before .before .before .before .before .before .before .before .before .before .before .before .past .ensures) (c .before .before .before .before .before .before .before .before .before .before .before .before .before .r .given .1) (c .before .before .before .before .before .before .before .before .before .before .if3 .left) _ _ (c .before .before .before .before .before .before .before .before .before .past2 .ensures) (c .before .before .before .before .before .before .before .t .given .1) _ (c .before .before .before .before .before .before .before .before .before .before .before .before .before .before .before .before .before .before .put-row .ensures) _ _ _ _ (c .before .before .before .before .value .ensures) (c .enum-told3 .given .1)
 
 -- src/lib.rt:239:5
-entry-put-end-requires : (t : ℕ) → entry-lts.Need-put-end-requires (
-  no-going-reads.Asked,
-  no-going-reads.Learnt,
-  put-row-reads.Asked,
-  put-row-reads.Learnt,
-  past-reads.Asked,
-  past-reads.Learnt,
-  value-below t,
-  value.Post,
-  put-end-reads.Asked,
-  put-end-reads.Learnt,
-) (entry-at t) entry.Post
-entry-put-end-requires t c κs = ?
+entry-put-end-requires : (t : ℕ) → entry-lts.Need-put-end-requires (entry-calls t) (entry-at t) entry.Post
+entry-put-end-requires t c κs = (omega (arith, c .before .before .before .before .before .before .before .before .before .before .before .before .before .before .before .before .before .before .before .before .before .before .before .before .before .before .before .before .pre .1 .0 .few, c .before .before .before .before .before .before .before .before .before .before .before .before .before .before .before .before .before .before .before .before .before .before .before .if2 .left), entry-size _ _ _ _ (c .before .before .before .before .before .before .before .before .before .before .before .before .before .before .before .before .before .before .before .before .before .before .before .before .before .before .before .before .pre .1 .0) (c .before .before .before .before .before .before .before .before .before .before .before .before .before .before .before .before .before .before .before .before .before .before .before .before .before .before .before .before .args .left) (c .before .before .before .before .before .before .before .before .before .before .before .before .before .before .before .before .before .before .before .before .before .before .before .before .before .before .before .before .args .kind) (c .before .before .before .before .before .before .before .before .before .before .before .before .before .before .before .before .before .before .before .before .before .before .before .before .before .before .before .before .pre .1 .1) (c .before .before .before .before .before .before .before .before .before .before .before .before .before .before .before .before .before .before .before .before .before .before .before .before .before .before .before .before .args .constant) (c .before .before .before .before .before .before .before .before .before .before .before .before .before .before .before .before .before .before .before .before .before .before .before .before .if1 .left) (c .before .before .before .before .before .before .before .before .before .before .before .before .before .before .before .before .before .before .before .before .before .before .before .if2 .left) _ _ (c .before .before .before .before .before .before .before .before .before .before .before .before .before .before .before .before .before .past .ensures) (c .before .before .before .before .before .before .before .before .before .before .before .before .before .before .before .r .given .1) (c .before .before .before .before .before .before .before .before .before .before .before .before .if3 .left) _ _ (c .before .before .before .before .before .before .before .before .before .before .before .past2 .ensures) (c .before .before .before .before .before .before .before .before .before .t .given .1) _ (c .before .before .before .before .before .before .before .before .before .before .before .before .before .before .before .before .before .before .before .before .put-row .ensures) _ _ _ (c .before .before .before .before .before .before .value .ensures) (c .before .before .v .given .1))
 
 -- src/lib.rt:212:1
-entry-same-length-5 : (t : ℕ) → entry-lts.Need-same-length-5 (
-  no-going-reads.Asked,
-  no-going-reads.Learnt,
-  put-row-reads.Asked,
-  put-row-reads.Learnt,
-  past-reads.Asked,
-  past-reads.Learnt,
-  value-below t,
-  value.Post,
-  put-end-reads.Asked,
-  put-end-reads.Learnt,
-) (entry-at t) entry.Post
-entry-same-length-5 t c = ?
+entry-same-length-5 : (t : ℕ) → entry-lts.Need-same-length-5 (entry-calls t) (entry-at t) entry.Post
+entry-same-length-5 t c = c .before .before .put-end .kept .0 ∙ c .before .before .before .before .before .before .before .before .before .value .kept .1 .0 ∙ c .before .before .before .before .before .before .before .before .before .before .before .before .before .before .before .before .before .before .before .before .before .before .before .put-row .kept .0
 
 -- src/lib.rt:212:1
-entry-returns-7 : (t : ℕ) → entry-lts.Need-returns-7 (
-  no-going-reads.Asked,
-  no-going-reads.Learnt,
-  put-row-reads.Asked,
-  put-row-reads.Learnt,
-  past-reads.Asked,
-  past-reads.Learnt,
-  value-below t,
-  value.Post,
-  put-end-reads.Asked,
-  put-end-reads.Learnt,
-) (entry-at t) entry.Post
-entry-returns-7 t c = ?
+entry-returns-7 : (t : ℕ) → entry-lts.Need-returns-7 (entry-calls t) (entry-at t) entry.Post
+entry-returns-7 t c = entry-went _ _ _ _ (c .before .before .before .before .before .before .before .before .before .before .before .before .before .before .before .before .before .before .before .before .before .before .before .before .before .before .before .before .before .before .before .pre .1 .0) (c .before .before .before .before .before .before .before .before .before .before .before .before .before .before .before .before .before .before .before .before .before .before .before .before .before .before .before .before .before .before .before .args .left) (c .before .before .before .before .before .before .before .before .before .before .before .before .before .before .before .before .before .before .before .before .before .before .before .before .before .before .before .before .before .before .before .args .kind) (c .before .before .before .before .before .before .before .before .before .before .before .before .before .before .before .before .before .before .before .before .before .before .before .before .before .before .before .before .before .before .before .pre .1 .1) (c .before .before .before .before .before .before .before .before .before .before .before .before .before .before .before .before .before .before .before .before .before .before .before .before .before .before .before .before .before .before .before .args .constant) (c .before .before .before .before .before .before .before .before .before .before .before .before .before .before .before .before .before .before .before .before .before .before .before .before .before .before .before .if1 .left) (c .before .before .before .before .before .before .before .before .before .before .before .before .before .before .before .before .before .before .before .before .before .before .before .before .before .before .if2 .left) _ _ (c .before .before .before .before .before .before .before .before .before .before .before .before .before .before .before .before .before .before .before .before .past .ensures) (c .before .before .before .before .before .before .before .before .before .before .before .before .before .before .before .before .before .before .r .given .1) (c .before .before .before .before .before .before .before .before .before .before .before .before .before .before .before .if3 .left) _ _ (c .before .before .before .before .before .before .before .before .before .before .before .before .before .before .past2 .ensures) (c .before .before .before .before .before .before .before .before .before .before .before .before .t .given .1) _ (c .before .before .before .before .before .before .before .before .before .before .before .before .before .before .before .before .before .before .before .before .before .before .before .put-row .ensures) _ _ _ _ (c .before .before .before .before .before .before .before .before .before .value .ensures) (c .before .before .before .before .before .v .given .1) (c .before .before .put-end .ensures)
 
 abbrev list-Inv-loop : list-lts.InvT-loop
-list-Inv-loop s rows₀ parent left constant n d₀ rows d = ?
+list-Inv-loop s rows₀ parent left constant n d₀ rows d = InNest s rows₀ rows d₀ d n (left - 1) (valuesPart constant) bracketR
 
 abbrev list-μ-loop : list-lts.MeasureT-loop
-list-μ-loop s rows₀ parent left constant n d₀ rows d = ?
+list-μ-loop s rows₀ parent left constant n d₀ rows d = length s - d .stop
 
 -- src/lib.rt:155:9
-list-returns : (t : ℕ) → list-lts.Need-returns (
-  put-row-reads.Asked,
-  put-row-reads.Learnt,
-  past-reads.Asked,
-  past-reads.Learnt,
-  close-reads.Asked,
-  close-reads.Learnt,
-  value-below t,
-  value.Post,
-) (list-at t) list.Post list-Inv-loop list-μ-loop
-list-returns t c = ?
+list-returns : (t : ℕ) → list-lts.Need-returns (list-calls t) (list-at t) list.Post list-Inv-loop list-μ-loop
+list-returns t c = nest-deep (list-nest (c .before .before .before .args .constant)) _ _ _ _ (c .before .before .before .pre .1 .0) (c .before .before .before .pre .1 .1) (c .before .before .before .args .left) (c .if1 .taken)
 
 -- src/lib.rt:159:9
-list-returns-2 : (t : ℕ) → list-lts.Need-returns-2 (
-  put-row-reads.Asked,
-  put-row-reads.Learnt,
-  past-reads.Asked,
-  past-reads.Learnt,
-  close-reads.Asked,
-  close-reads.Learnt,
-  value-below t,
-  value.Post,
-) (list-at t) list.Post list-Inv-loop list-μ-loop
-list-returns-2 t c = ?
+list-returns-2 : (t : ℕ) → list-lts.Need-returns-2 (list-calls t) (list-at t) list.Post list-Inv-loop list-μ-loop
+list-returns-2 t c = nest-full (list-nest (c .before .before .before .before .args .constant)) _ _ _ _ (c .before .before .before .before .pre .1 .0) (c .before .before .before .before .pre .1 .1) (c .before .before .before .before .args .left) (c .before .if1 .left) (c .if2 .taken)
 
 -- src/lib.rt:161:5
-list-put-row-requires : (t : ℕ) → list-lts.Need-put-row-requires (
-  put-row-reads.Asked,
-  put-row-reads.Learnt,
-  past-reads.Asked,
-  past-reads.Learnt,
-  close-reads.Asked,
-  close-reads.Learnt,
-  value-below t,
-  value.Post,
-) (list-at t) list.Post list-Inv-loop list-μ-loop
-list-put-row-requires t c κs = ?
+list-put-row-requires : (t : ℕ) → list-lts.Need-put-row-requires (list-calls t) (list-at t) list.Post list-Inv-loop list-μ-loop
+list-put-row-requires t c κs = search needs
 
 -- src/lib.rt:162:23
-list-add-past : (t : ℕ) → list-lts.Need-add-past (
-  put-row-reads.Asked,
-  put-row-reads.Learnt,
-  past-reads.Asked,
-  past-reads.Learnt,
-  close-reads.Asked,
-  close-reads.Learnt,
-  value-below t,
-  value.Post,
-) (list-at t) list.Post list-Inv-loop list-μ-loop
-list-add-past t c = ?
+list-add-past : (t : ℕ) → list-lts.Need-add-past (list-calls t) (list-at t) list.Post list-Inv-loop list-μ-loop
+list-add-past t c = search needs
 
 -- src/lib.rt:162:9
-list-past-requires : (t : ℕ) → list-lts.Need-past-requires (
-  put-row-reads.Asked,
-  put-row-reads.Learnt,
-  past-reads.Asked,
-  past-reads.Learnt,
-  close-reads.Asked,
-  close-reads.Learnt,
-  value-below t,
-  value.Post,
-) (list-at t) list.Post list-Inv-loop list-μ-loop
-list-past-requires t c κs = ?
+list-past-requires : (t : ℕ) → list-lts.Need-past-requires (list-calls t) (list-at t) list.Post list-Inv-loop list-μ-loop
+list-past-requires t c κs = (c .before .before .before .before .before .before .before .before .pre .1 .0 .short, ready-lies _ _ _ _ (c .before .before .before .before .before .before .before .before .pre .1 .0) .2)
 
 -- src/lib.rt:163:20
-list-enum-known-r : (t : ℕ) → list-lts.Need-enum-known-r (
-  put-row-reads.Asked,
-  put-row-reads.Learnt,
-  past-reads.Asked,
-  past-reads.Learnt,
-  close-reads.Asked,
-  close-reads.Learnt,
-  value-below t,
-  value.Post,
-) (list-at t) list.Post list-Inv-loop list-μ-loop
-list-enum-known-r t c = ?
+list-enum-known-r : (t : ℕ) → list-lts.Need-enum-known-r (list-calls t) (list-at t) list.Post list-Inv-loop list-μ-loop
+list-enum-known-r t c = search needs
 
 -- src/lib.rt:164:9
-list-enum-told : (t : ℕ) → list-lts.Need-enum-told (
-  put-row-reads.Asked,
-  put-row-reads.Learnt,
-  past-reads.Asked,
-  past-reads.Learnt,
-  close-reads.Asked,
-  close-reads.Learnt,
-  value-below t,
-  value.Post,
-) (list-at t) list.Post list-Inv-loop list-μ-loop
-list-enum-told t c = ?
+list-enum-told : (t : ℕ) → list-lts.Need-enum-told (list-calls t) (list-at t) list.Post list-Inv-loop list-μ-loop
+list-enum-told t c = search needs
 
 -- src/lib.rt:164:9
-list-same-length : (t : ℕ) → list-lts.Need-same-length (
-  put-row-reads.Asked,
-  put-row-reads.Learnt,
-  past-reads.Asked,
-  past-reads.Learnt,
-  close-reads.Asked,
-  close-reads.Learnt,
-  value-below t,
-  value.Post,
-) (list-at t) list.Post list-Inv-loop list-μ-loop
-list-same-length t c = ?
+list-same-length : (t : ℕ) → list-lts.Need-same-length (list-calls t) (list-at t) list.Post list-Inv-loop list-μ-loop
+list-same-length t c = search needs
 
 -- src/lib.rt:164:9
-list-returns-3 : (t : ℕ) → list-lts.Need-returns-3 (
-  put-row-reads.Asked,
-  put-row-reads.Learnt,
-  past-reads.Asked,
-  past-reads.Learnt,
-  close-reads.Asked,
-  close-reads.Learnt,
-  value-below t,
-  value.Post,
-) (list-at t) list.Post list-Inv-loop list-μ-loop
-list-returns-3 t c = ?
+list-returns-3 : (t : ℕ) → list-lts.Need-returns-3 (list-calls t) (list-at t) list.Post list-Inv-loop list-μ-loop
+list-returns-3 t c = nest-bad (list-nest (c .before .before .before .before .before .before .before .before .before .before .before .args .constant)) _ _ _ _ (c .before .before .before .before .before .before .before .before .before .before .before .pre .1 .0) (c .before .before .before .before .before .before .before .before .before .before .before .pre .1 .1) (c .before .before .before .before .before .before .before .before .before .before .before .args .left) (c .before .before .before .before .before .before .before .before .if1 .left) (c .before .before .before .before .before .before .before .if2 .left) _ _ _ (c .before .before .past .ensures) (c .enum-told .given .1)
 
 -- src/lib.rt:167:5
-list-loop-holds : (t : ℕ) → list-lts.Need-loop-holds (
-  put-row-reads.Asked,
-  put-row-reads.Learnt,
-  past-reads.Asked,
-  past-reads.Learnt,
-  close-reads.Asked,
-  close-reads.Learnt,
-  value-below t,
-  value.Post,
-) (list-at t) list.Post list-Inv-loop list-μ-loop
-list-loop-holds t c = ?
+list-loop-holds : (t : ℕ) → list-lts.Need-loop-holds (list-calls t) (list-at t) list.Post list-Inv-loop list-μ-loop
+list-loop-holds t c = nest-begins (list-nest (c .before .before .before .before .before .before .before .before .before .before .before .before .args .constant)) _ _ _ _ (c .before .before .before .before .before .before .before .before .before .before .before .before .pre .1 .0) (c .before .before .before .before .before .before .before .before .before .before .before .before .pre .1 .1) (c .before .before .before .before .before .before .before .before .before .before .before .before .args .left) (c .before .before .before .before .before .before .before .before .before .if1 .left) (c .before .before .before .before .before .before .before .before .if2 .left) _ _ (c .before .before .before .past .ensures) (c .before .r .given .1) _ (c .before .before .before .before .before .before .put-row .ensures)
 
 -- src/lib.rt:170:13
-list-close-requires : (t : ℕ) → list-lts.Need-close-requires (
-  put-row-reads.Asked,
-  put-row-reads.Learnt,
-  past-reads.Asked,
-  past-reads.Learnt,
-  close-reads.Asked,
-  close-reads.Learnt,
-  value-below t,
-  value.Post,
-) (list-at t) list.Post list-Inv-loop list-μ-loop
-list-close-requires t c κs = ?
+list-close-requires : (t : ℕ) → list-lts.Need-close-requires (list-calls t) (list-at t) list.Post list-Inv-loop list-μ-loop
+list-close-requires t c κs = (in-ready _ _ _ _ _ _ _ _ _ (c .before .before .loop .inv) (c .before .before .before .before .before .before .before .before .before .before .before .before .before .before .before .pre .1 .0 .short) (c .before .before .before .before .before .before .before .before .before .before .before .before .before .before .before .pre .1 .0 .few), omega (arith, c .before .before .before .before .before .before .before .before .before .before .before .before .before .before .before .pre .1 .0 .few, c .before .before .before .before .before .before .before .before .before .before .before .if2 .left))
 
 -- src/lib.rt:170:13
-list-same-length-2 : (t : ℕ) → list-lts.Need-same-length-2 (
-  put-row-reads.Asked,
-  put-row-reads.Learnt,
-  past-reads.Asked,
-  past-reads.Learnt,
-  close-reads.Asked,
-  close-reads.Learnt,
-  value-below t,
-  value.Post,
-) (list-at t) list.Post list-Inv-loop list-μ-loop
-list-same-length-2 t c = ?
+list-same-length-2 : (t : ℕ) → list-lts.Need-same-length-2 (list-calls t) (list-at t) list.Post list-Inv-loop list-μ-loop
+list-same-length-2 t c = search needs
 
 -- src/lib.rt:170:13
-list-returns-4 : (t : ℕ) → list-lts.Need-returns-4 (
-  put-row-reads.Asked,
-  put-row-reads.Learnt,
-  past-reads.Asked,
-  past-reads.Learnt,
-  close-reads.Asked,
-  close-reads.Learnt,
-  value-below t,
-  value.Post,
-) (list-at t) list.Post list-Inv-loop list-μ-loop
-list-returns-4 t c = ?
+list-returns-4 : (t : ℕ) → list-lts.Need-returns-4 (list-calls t) (list-at t) list.Post list-Inv-loop list-μ-loop
+list-returns-4 t c = nest-closes (list-nest (c .before .before .before .before .before .before .before .before .before .before .before .before .before .before .before .before .before .before .args .constant)) _ _ _ _ (c .before .before .before .before .before .before .before .before .before .before .before .before .before .before .before .before .before .before .pre .1 .0) (c .before .before .before .before .before .before .before .before .before .before .before .before .before .before .before .before .before .before .pre .1 .1) (c .before .before .before .before .before .before .before .before .before .before .before .before .before .before .before .before .before .before .args .left) (c .before .before .before .before .before .before .before .before .before .before .before .before .before .before .before .if1 .left) (c .before .before .before .before .before .before .before .before .before .before .before .before .before .before .if2 .left) _ _ (c .before .before .before .before .before .before .before .before .before .past .ensures) (c .before .before .before .before .before .before .before .r .given .1) _ (c .before .before .before .before .before .before .before .before .before .before .before .before .put-row .ensures) _ _ (c .before .before .before .before .before .loop .inv) (c .before .before .before .before .if3 .taken) _ _ (c .before .before .close .ensures)
 
 -- src/lib.rt:172:38
-list-sub-value : (t : ℕ) → list-lts.Need-sub-value (
-  put-row-reads.Asked,
-  put-row-reads.Learnt,
-  past-reads.Asked,
-  past-reads.Learnt,
-  close-reads.Asked,
-  close-reads.Learnt,
-  value-below t,
-  value.Post,
-) (list-at t) list.Post list-Inv-loop list-μ-loop
-list-sub-value t c = ?
+list-sub-value : (t : ℕ) → list-lts.Need-sub-value (list-calls t) (list-at t) list.Post list-Inv-loop list-μ-loop
+list-sub-value t c = search needs
 
 -- src/lib.rt:172:13
-list-value-requires : (t : ℕ) → list-lts.Need-value-requires (
-  put-row-reads.Asked,
-  put-row-reads.Learnt,
-  past-reads.Asked,
-  past-reads.Learnt,
-  close-reads.Asked,
-  close-reads.Learnt,
-  value-below t,
-  value.Post,
-) (list-at t) list.Post list-Inv-loop list-μ-loop
-list-value-requires t c κs = ?
+list-value-requires : (t : ℕ) → list-lts.Need-value-requires (list-calls t) (list-at t) list.Post list-Inv-loop list-μ-loop
+list-value-requires t c κs = (omega (arith, c .before .before .before .before .before .before .before .before .before .before .before .before .before .before .before .pre .0, c .before .before .before .before .before .before .before .before .before .before .before .before .if1 .left), in-ready _ _ _ _ _ _ _ _ _ (c .before .before .loop .inv) (c .before .before .before .before .before .before .before .before .before .before .before .before .before .before .before .pre .1 .0 .short) (c .before .before .before .before .before .before .before .before .before .before .before .before .before .before .before .pre .1 .0 .few))
 
 -- src/lib.rt:173:24
-list-enum-known-t : (t : ℕ) → list-lts.Need-enum-known-t (
-  put-row-reads.Asked,
-  put-row-reads.Learnt,
-  past-reads.Asked,
-  past-reads.Learnt,
-  close-reads.Asked,
-  close-reads.Learnt,
-  value-below t,
-  value.Post,
-) (list-at t) list.Post list-Inv-loop list-μ-loop
-list-enum-known-t t c = ?
+list-enum-known-t : (t : ℕ) → list-lts.Need-enum-known-t (list-calls t) (list-at t) list.Post list-Inv-loop list-μ-loop
+list-enum-known-t t c = search needs
 
 -- src/lib.rt:174:13
-list-enum-told-2 : (t : ℕ) → list-lts.Need-enum-told-2 (
-  put-row-reads.Asked,
-  put-row-reads.Learnt,
-  past-reads.Asked,
-  past-reads.Learnt,
-  close-reads.Asked,
-  close-reads.Learnt,
-  value-below t,
-  value.Post,
-) (list-at t) list.Post list-Inv-loop list-μ-loop
-list-enum-told-2 t c = ?
+list-enum-told-2 : (t : ℕ) → list-lts.Need-enum-told-2 (list-calls t) (list-at t) list.Post list-Inv-loop list-μ-loop
+list-enum-told-2 t c = search needs
 
 -- src/lib.rt:174:13
-list-same-length-3 : (t : ℕ) → list-lts.Need-same-length-3 (
-  put-row-reads.Asked,
-  put-row-reads.Learnt,
-  past-reads.Asked,
-  past-reads.Learnt,
-  close-reads.Asked,
-  close-reads.Learnt,
-  value-below t,
-  value.Post,
-) (list-at t) list.Post list-Inv-loop list-μ-loop
-list-same-length-3 t c = ?
+list-same-length-3 : (t : ℕ) → list-lts.Need-same-length-3 (list-calls t) (list-at t) list.Post list-Inv-loop list-μ-loop
+list-same-length-3 t c = search needs
 
 -- src/lib.rt:174:13
-list-returns-5 : (t : ℕ) → list-lts.Need-returns-5 (
-  put-row-reads.Asked,
-  put-row-reads.Learnt,
-  past-reads.Asked,
-  past-reads.Learnt,
-  close-reads.Asked,
-  close-reads.Learnt,
-  value-below t,
-  value.Post,
-) (list-at t) list.Post list-Inv-loop list-μ-loop
-list-returns-5 t c = ?
+list-returns-5 : (t : ℕ) → list-lts.Need-returns-5 (list-calls t) (list-at t) list.Post list-Inv-loop list-μ-loop
+list-returns-5 t c = nest-stops (list-nest (c .before .before .before .before .before .before .before .before .before .before .before .before .before .before .before .before .before .before .before .before .args .constant)) _ _ _ _ (c .before .before .before .before .before .before .before .before .before .before .before .before .before .before .before .before .before .before .before .before .pre .1 .0) (c .before .before .before .before .before .before .before .before .before .before .before .before .before .before .before .before .before .before .before .before .pre .1 .1) (c .before .before .before .before .before .before .before .before .before .before .before .before .before .before .before .before .before .before .before .before .args .left) (c .before .before .before .before .before .before .before .before .before .before .before .before .before .before .before .before .before .if1 .left) (c .before .before .before .before .before .before .before .before .before .before .before .before .before .before .before .before .if2 .left) _ _ (c .before .before .before .before .before .before .before .before .before .before .before .past .ensures) (c .before .before .before .before .before .before .before .before .before .r .given .1) _ (c .before .before .before .before .before .before .before .before .before .before .before .before .before .before .put-row .ensures) _ _ (c .before .before .before .before .before .before .before .loop .inv) (c .before .before .before .before .before .before .if3 .left) (valueStack (c .before .before .before .before .before .before .before .before .before .before .before .before .before .before .before .before .before .before .before .before .args .constant)) (λ σ o q h f. refl) _ _ _ _ (c .before .before .before .before .value .ensures) (c .enum-told2 .given .1)
 
 -- src/lib.rt:167:5
-list-loop-less : (t : ℕ) → list-lts.Need-loop-less (
-  put-row-reads.Asked,
-  put-row-reads.Learnt,
-  past-reads.Asked,
-  past-reads.Learnt,
-  close-reads.Asked,
-  close-reads.Learnt,
-  value-below t,
-  value.Post,
-) (list-at t) list.Post list-Inv-loop list-μ-loop
-list-loop-less t c = ?
+list-loop-less : (t : ℕ) → list-lts.Need-loop-less (list-calls t) (list-at t) list.Post list-Inv-loop list-μ-loop
+list-loop-less t c = nest-less (list-nest (c .before .before .before .before .before .before .before .before .before .before .before .before .before .before .before .before .before .before .before .before .before .args .constant)) _ _ _ _ (c .before .before .before .before .before .before .before .before .before .before .before .before .before .before .before .before .before .before .before .before .before .pre .1 .0) (c .before .before .before .before .before .before .before .before .before .before .before .before .before .before .before .before .before .before .before .before .before .pre .1 .1) (c .before .before .before .before .before .before .before .before .before .before .before .before .before .before .before .before .before .before .before .before .before .args .left) (c .before .before .before .before .before .before .before .before .before .before .before .before .before .before .before .before .before .before .if1 .left) (c .before .before .before .before .before .before .before .before .before .before .before .before .before .before .before .before .before .if2 .left) _ _ (c .before .before .before .before .before .before .before .before .before .before .before .before .past .ensures) (c .before .before .before .before .before .before .before .before .before .before .r .given .1) _ (c .before .before .before .before .before .before .before .before .before .before .before .before .before .before .before .put-row .ensures) _ _ (c .before .before .before .before .before .before .before .before .loop .inv) (c .before .before .before .before .before .before .before .if3 .left) (valueStack (c .before .before .before .before .before .before .before .before .before .before .before .before .before .before .before .before .before .before .before .before .before .args .constant)) (λ σ o q h f. refl) _ _ _ (c .before .before .before .before .before .value .ensures) (c .before .t .given .1)
 
 -- src/lib.rt:167:5
-list-loop-again : (t : ℕ) → list-lts.Need-loop-again (
-  put-row-reads.Asked,
-  put-row-reads.Learnt,
-  past-reads.Asked,
-  past-reads.Learnt,
-  close-reads.Asked,
-  close-reads.Learnt,
-  value-below t,
-  value.Post,
-) (list-at t) list.Post list-Inv-loop list-μ-loop
-list-loop-again t c = ?
+list-loop-again : (t : ℕ) → list-lts.Need-loop-again (list-calls t) (list-at t) list.Post list-Inv-loop list-μ-loop
+list-loop-again t c = nest-more (list-nest (c .before .before .before .before .before .before .before .before .before .before .before .before .before .before .before .before .before .before .before .before .before .args .constant)) _ _ _ _ (c .before .before .before .before .before .before .before .before .before .before .before .before .before .before .before .before .before .before .before .before .before .pre .1 .0) (c .before .before .before .before .before .before .before .before .before .before .before .before .before .before .before .before .before .before .before .before .before .pre .1 .1) (c .before .before .before .before .before .before .before .before .before .before .before .before .before .before .before .before .before .before .before .before .before .args .left) (c .before .before .before .before .before .before .before .before .before .before .before .before .before .before .before .before .before .before .if1 .left) (c .before .before .before .before .before .before .before .before .before .before .before .before .before .before .before .before .before .if2 .left) _ _ (c .before .before .before .before .before .before .before .before .before .before .before .before .past .ensures) (c .before .before .before .before .before .before .before .before .before .before .r .given .1) _ (c .before .before .before .before .before .before .before .before .before .before .before .before .before .before .before .put-row .ensures) _ _ (c .before .before .before .before .before .before .before .before .loop .inv) (c .before .before .before .before .before .before .before .if3 .left) (valueStack (c .before .before .before .before .before .before .before .before .before .before .before .before .before .before .before .before .before .before .before .before .before .args .constant)) (λ σ o q h f. refl) _ _ _ (c .before .before .before .before .before .value .ensures) (c .before .t .given .1)
 
 abbrev object-Inv-loop : object-lts.InvT-loop
-object-Inv-loop s rows₀ parent left constant n d₀ rows d = ?
+object-Inv-loop s rows₀ parent left constant n d₀ rows d = InNest s rows₀ rows d₀ d n (left - 1) (fieldsPart constant) braceR
 
 abbrev object-μ-loop : object-lts.MeasureT-loop
-object-μ-loop s rows₀ parent left constant n d₀ rows d = ?
+object-μ-loop s rows₀ parent left constant n d₀ rows d = length s - d .stop
 
 -- src/lib.rt:186:9
-object-returns : (t : ℕ) → object-lts.Need-returns (
-  put-row-reads.Asked,
-  put-row-reads.Learnt,
-  past-reads.Asked,
-  past-reads.Learnt,
-  close-reads.Asked,
-  close-reads.Learnt,
-  entry-below t,
-  entry.Post,
-) (object-at t) object.Post object-Inv-loop object-μ-loop
-object-returns t c = ?
+object-returns : (t : ℕ) → object-lts.Need-returns (object-calls t) (object-at t) object.Post object-Inv-loop object-μ-loop
+object-returns t c = nest-deep (object-nest (c .before .before .before .args .constant)) _ _ _ _ (c .before .before .before .pre .1 .0) (c .before .before .before .pre .1 .1) (c .before .before .before .args .left) (c .if1 .taken)
 
 -- src/lib.rt:190:9
-object-returns-2 : (t : ℕ) → object-lts.Need-returns-2 (
-  put-row-reads.Asked,
-  put-row-reads.Learnt,
-  past-reads.Asked,
-  past-reads.Learnt,
-  close-reads.Asked,
-  close-reads.Learnt,
-  entry-below t,
-  entry.Post,
-) (object-at t) object.Post object-Inv-loop object-μ-loop
-object-returns-2 t c = ?
+object-returns-2 : (t : ℕ) → object-lts.Need-returns-2 (object-calls t) (object-at t) object.Post object-Inv-loop object-μ-loop
+object-returns-2 t c = nest-full (object-nest (c .before .before .before .before .args .constant)) _ _ _ _ (c .before .before .before .before .pre .1 .0) (c .before .before .before .before .pre .1 .1) (c .before .before .before .before .args .left) (c .before .if1 .left) (c .if2 .taken)
 
 -- src/lib.rt:192:5
-object-put-row-requires : (t : ℕ) → object-lts.Need-put-row-requires (
-  put-row-reads.Asked,
-  put-row-reads.Learnt,
-  past-reads.Asked,
-  past-reads.Learnt,
-  close-reads.Asked,
-  close-reads.Learnt,
-  entry-below t,
-  entry.Post,
-) (object-at t) object.Post object-Inv-loop object-μ-loop
-object-put-row-requires t c κs = ?
+object-put-row-requires : (t : ℕ) → object-lts.Need-put-row-requires (object-calls t) (object-at t) object.Post object-Inv-loop object-μ-loop
+object-put-row-requires t c κs = search needs
 
 -- src/lib.rt:193:23
-object-add-past : (t : ℕ) → object-lts.Need-add-past (
-  put-row-reads.Asked,
-  put-row-reads.Learnt,
-  past-reads.Asked,
-  past-reads.Learnt,
-  close-reads.Asked,
-  close-reads.Learnt,
-  entry-below t,
-  entry.Post,
-) (object-at t) object.Post object-Inv-loop object-μ-loop
-object-add-past t c = ?
+object-add-past : (t : ℕ) → object-lts.Need-add-past (object-calls t) (object-at t) object.Post object-Inv-loop object-μ-loop
+object-add-past t c = search needs
 
 -- src/lib.rt:193:9
-object-past-requires : (t : ℕ) → object-lts.Need-past-requires (
-  put-row-reads.Asked,
-  put-row-reads.Learnt,
-  past-reads.Asked,
-  past-reads.Learnt,
-  close-reads.Asked,
-  close-reads.Learnt,
-  entry-below t,
-  entry.Post,
-) (object-at t) object.Post object-Inv-loop object-μ-loop
-object-past-requires t c κs = ?
+object-past-requires : (t : ℕ) → object-lts.Need-past-requires (object-calls t) (object-at t) object.Post object-Inv-loop object-μ-loop
+object-past-requires t c κs = (c .before .before .before .before .before .before .before .before .pre .1 .0 .short, ready-lies _ _ _ _ (c .before .before .before .before .before .before .before .before .pre .1 .0) .2)
 
 -- src/lib.rt:194:20
-object-enum-known-r : (t : ℕ) → object-lts.Need-enum-known-r (
-  put-row-reads.Asked,
-  put-row-reads.Learnt,
-  past-reads.Asked,
-  past-reads.Learnt,
-  close-reads.Asked,
-  close-reads.Learnt,
-  entry-below t,
-  entry.Post,
-) (object-at t) object.Post object-Inv-loop object-μ-loop
-object-enum-known-r t c = ?
+object-enum-known-r : (t : ℕ) → object-lts.Need-enum-known-r (object-calls t) (object-at t) object.Post object-Inv-loop object-μ-loop
+object-enum-known-r t c = search needs
 
 -- src/lib.rt:195:9
-object-enum-told : (t : ℕ) → object-lts.Need-enum-told (
-  put-row-reads.Asked,
-  put-row-reads.Learnt,
-  past-reads.Asked,
-  past-reads.Learnt,
-  close-reads.Asked,
-  close-reads.Learnt,
-  entry-below t,
-  entry.Post,
-) (object-at t) object.Post object-Inv-loop object-μ-loop
-object-enum-told t c = ?
+object-enum-told : (t : ℕ) → object-lts.Need-enum-told (object-calls t) (object-at t) object.Post object-Inv-loop object-μ-loop
+object-enum-told t c = search needs
 
 -- src/lib.rt:195:9
-object-same-length : (t : ℕ) → object-lts.Need-same-length (
-  put-row-reads.Asked,
-  put-row-reads.Learnt,
-  past-reads.Asked,
-  past-reads.Learnt,
-  close-reads.Asked,
-  close-reads.Learnt,
-  entry-below t,
-  entry.Post,
-) (object-at t) object.Post object-Inv-loop object-μ-loop
-object-same-length t c = ?
+object-same-length : (t : ℕ) → object-lts.Need-same-length (object-calls t) (object-at t) object.Post object-Inv-loop object-μ-loop
+object-same-length t c = search needs
 
 -- src/lib.rt:195:9
-object-returns-3 : (t : ℕ) → object-lts.Need-returns-3 (
-  put-row-reads.Asked,
-  put-row-reads.Learnt,
-  past-reads.Asked,
-  past-reads.Learnt,
-  close-reads.Asked,
-  close-reads.Learnt,
-  entry-below t,
-  entry.Post,
-) (object-at t) object.Post object-Inv-loop object-μ-loop
-object-returns-3 t c = ?
+object-returns-3 : (t : ℕ) → object-lts.Need-returns-3 (object-calls t) (object-at t) object.Post object-Inv-loop object-μ-loop
+object-returns-3 t c = nest-bad (object-nest (c .before .before .before .before .before .before .before .before .before .before .before .args .constant)) _ _ _ _ (c .before .before .before .before .before .before .before .before .before .before .before .pre .1 .0) (c .before .before .before .before .before .before .before .before .before .before .before .pre .1 .1) (c .before .before .before .before .before .before .before .before .before .before .before .args .left) (c .before .before .before .before .before .before .before .before .if1 .left) (c .before .before .before .before .before .before .before .if2 .left) _ _ _ (c .before .before .past .ensures) (c .enum-told .given .1)
 
 -- src/lib.rt:198:5
-object-loop-holds : (t : ℕ) → object-lts.Need-loop-holds (
-  put-row-reads.Asked,
-  put-row-reads.Learnt,
-  past-reads.Asked,
-  past-reads.Learnt,
-  close-reads.Asked,
-  close-reads.Learnt,
-  entry-below t,
-  entry.Post,
-) (object-at t) object.Post object-Inv-loop object-μ-loop
-object-loop-holds t c = ?
+object-loop-holds : (t : ℕ) → object-lts.Need-loop-holds (object-calls t) (object-at t) object.Post object-Inv-loop object-μ-loop
+object-loop-holds t c = nest-begins (object-nest (c .before .before .before .before .before .before .before .before .before .before .before .before .args .constant)) _ _ _ _ (c .before .before .before .before .before .before .before .before .before .before .before .before .pre .1 .0) (c .before .before .before .before .before .before .before .before .before .before .before .before .pre .1 .1) (c .before .before .before .before .before .before .before .before .before .before .before .before .args .left) (c .before .before .before .before .before .before .before .before .before .if1 .left) (c .before .before .before .before .before .before .before .before .if2 .left) _ _ (c .before .before .before .past .ensures) (c .before .r .given .1) _ (c .before .before .before .before .before .before .put-row .ensures)
 
 -- src/lib.rt:201:13
-object-close-requires : (t : ℕ) → object-lts.Need-close-requires (
-  put-row-reads.Asked,
-  put-row-reads.Learnt,
-  past-reads.Asked,
-  past-reads.Learnt,
-  close-reads.Asked,
-  close-reads.Learnt,
-  entry-below t,
-  entry.Post,
-) (object-at t) object.Post object-Inv-loop object-μ-loop
-object-close-requires t c κs = ?
+object-close-requires : (t : ℕ) → object-lts.Need-close-requires (object-calls t) (object-at t) object.Post object-Inv-loop object-μ-loop
+object-close-requires t c κs = (in-ready _ _ _ _ _ _ _ _ _ (c .before .before .loop .inv) (c .before .before .before .before .before .before .before .before .before .before .before .before .before .before .before .pre .1 .0 .short) (c .before .before .before .before .before .before .before .before .before .before .before .before .before .before .before .pre .1 .0 .few), omega (arith, c .before .before .before .before .before .before .before .before .before .before .before .before .before .before .before .pre .1 .0 .few, c .before .before .before .before .before .before .before .before .before .before .before .if2 .left))
 
 -- src/lib.rt:201:13
-object-same-length-2 : (t : ℕ) → object-lts.Need-same-length-2 (
-  put-row-reads.Asked,
-  put-row-reads.Learnt,
-  past-reads.Asked,
-  past-reads.Learnt,
-  close-reads.Asked,
-  close-reads.Learnt,
-  entry-below t,
-  entry.Post,
-) (object-at t) object.Post object-Inv-loop object-μ-loop
-object-same-length-2 t c = ?
+object-same-length-2 : (t : ℕ) → object-lts.Need-same-length-2 (object-calls t) (object-at t) object.Post object-Inv-loop object-μ-loop
+object-same-length-2 t c = search needs
 
 -- src/lib.rt:201:13
-object-returns-4 : (t : ℕ) → object-lts.Need-returns-4 (
-  put-row-reads.Asked,
-  put-row-reads.Learnt,
-  past-reads.Asked,
-  past-reads.Learnt,
-  close-reads.Asked,
-  close-reads.Learnt,
-  entry-below t,
-  entry.Post,
-) (object-at t) object.Post object-Inv-loop object-μ-loop
-object-returns-4 t c = ?
+object-returns-4 : (t : ℕ) → object-lts.Need-returns-4 (object-calls t) (object-at t) object.Post object-Inv-loop object-μ-loop
+object-returns-4 t c = nest-closes (object-nest (c .before .before .before .before .before .before .before .before .before .before .before .before .before .before .before .before .before .before .args .constant)) _ _ _ _ (c .before .before .before .before .before .before .before .before .before .before .before .before .before .before .before .before .before .before .pre .1 .0) (c .before .before .before .before .before .before .before .before .before .before .before .before .before .before .before .before .before .before .pre .1 .1) (c .before .before .before .before .before .before .before .before .before .before .before .before .before .before .before .before .before .before .args .left) (c .before .before .before .before .before .before .before .before .before .before .before .before .before .before .before .if1 .left) (c .before .before .before .before .before .before .before .before .before .before .before .before .before .before .if2 .left) _ _ (c .before .before .before .before .before .before .before .before .before .past .ensures) (c .before .before .before .before .before .before .before .r .given .1) _ (c .before .before .before .before .before .before .before .before .before .before .before .before .put-row .ensures) _ _ (c .before .before .before .before .before .loop .inv) (c .before .before .before .before .if3 .taken) _ _ (c .before .before .close .ensures)
 
 -- src/lib.rt:203:38
-object-sub-entry : (t : ℕ) → object-lts.Need-sub-entry (
-  put-row-reads.Asked,
-  put-row-reads.Learnt,
-  past-reads.Asked,
-  past-reads.Learnt,
-  close-reads.Asked,
-  close-reads.Learnt,
-  entry-below t,
-  entry.Post,
-) (object-at t) object.Post object-Inv-loop object-μ-loop
-object-sub-entry t c = ?
+object-sub-entry : (t : ℕ) → object-lts.Need-sub-entry (object-calls t) (object-at t) object.Post object-Inv-loop object-μ-loop
+object-sub-entry t c = search needs
 
 -- src/lib.rt:203:13
-object-entry-requires : (t : ℕ) → object-lts.Need-entry-requires (
-  put-row-reads.Asked,
-  put-row-reads.Learnt,
-  past-reads.Asked,
-  past-reads.Learnt,
-  close-reads.Asked,
-  close-reads.Learnt,
-  entry-below t,
-  entry.Post,
-) (object-at t) object.Post object-Inv-loop object-μ-loop
-object-entry-requires t c κs = ?
+object-entry-requires : (t : ℕ) → object-lts.Need-entry-requires (object-calls t) (object-at t) object.Post object-Inv-loop object-μ-loop
+object-entry-requires t c κs = (omega (arith, c .before .before .before .before .before .before .before .before .before .before .before .before .before .before .before .pre .0, c .before .before .before .before .before .before .before .before .before .before .before .before .if1 .left), (in-ready _ _ _ _ _ _ _ _ _ (c .before .before .loop .inv) (c .before .before .before .before .before .before .before .before .before .before .before .before .before .before .before .pre .1 .0 .short) (c .before .before .before .before .before .before .before .before .before .before .before .before .before .before .before .pre .1 .0 .few), inr refl))
 
 -- src/lib.rt:204:24
-object-enum-known-t : (t : ℕ) → object-lts.Need-enum-known-t (
-  put-row-reads.Asked,
-  put-row-reads.Learnt,
-  past-reads.Asked,
-  past-reads.Learnt,
-  close-reads.Asked,
-  close-reads.Learnt,
-  entry-below t,
-  entry.Post,
-) (object-at t) object.Post object-Inv-loop object-μ-loop
-object-enum-known-t t c = ?
+object-enum-known-t : (t : ℕ) → object-lts.Need-enum-known-t (object-calls t) (object-at t) object.Post object-Inv-loop object-μ-loop
+object-enum-known-t t c = search needs
 
 -- src/lib.rt:205:13
-object-enum-told-2 : (t : ℕ) → object-lts.Need-enum-told-2 (
-  put-row-reads.Asked,
-  put-row-reads.Learnt,
-  past-reads.Asked,
-  past-reads.Learnt,
-  close-reads.Asked,
-  close-reads.Learnt,
-  entry-below t,
-  entry.Post,
-) (object-at t) object.Post object-Inv-loop object-μ-loop
-object-enum-told-2 t c = ?
+object-enum-told-2 : (t : ℕ) → object-lts.Need-enum-told-2 (object-calls t) (object-at t) object.Post object-Inv-loop object-μ-loop
+object-enum-told-2 t c = search needs
 
 -- src/lib.rt:205:13
-object-same-length-3 : (t : ℕ) → object-lts.Need-same-length-3 (
-  put-row-reads.Asked,
-  put-row-reads.Learnt,
-  past-reads.Asked,
-  past-reads.Learnt,
-  close-reads.Asked,
-  close-reads.Learnt,
-  entry-below t,
-  entry.Post,
-) (object-at t) object.Post object-Inv-loop object-μ-loop
-object-same-length-3 t c = ?
+object-same-length-3 : (t : ℕ) → object-lts.Need-same-length-3 (object-calls t) (object-at t) object.Post object-Inv-loop object-μ-loop
+object-same-length-3 t c = search needs
 
 -- src/lib.rt:205:13
-object-returns-5 : (t : ℕ) → object-lts.Need-returns-5 (
-  put-row-reads.Asked,
-  put-row-reads.Learnt,
-  past-reads.Asked,
-  past-reads.Learnt,
-  close-reads.Asked,
-  close-reads.Learnt,
-  entry-below t,
-  entry.Post,
-) (object-at t) object.Post object-Inv-loop object-μ-loop
-object-returns-5 t c = ?
+object-returns-5 : (t : ℕ) → object-lts.Need-returns-5 (object-calls t) (object-at t) object.Post object-Inv-loop object-μ-loop
+object-returns-5 t c = nest-stops (object-nest (c .before .before .before .before .before .before .before .before .before .before .before .before .before .before .before .before .before .before .before .before .args .constant)) _ _ _ _ (c .before .before .before .before .before .before .before .before .before .before .before .before .before .before .before .before .before .before .before .before .pre .1 .0) (c .before .before .before .before .before .before .before .before .before .before .before .before .before .before .before .before .before .before .before .before .pre .1 .1) (c .before .before .before .before .before .before .before .before .before .before .before .before .before .before .before .before .before .before .before .before .args .left) (c .before .before .before .before .before .before .before .before .before .before .before .before .before .before .before .before .before .if1 .left) (c .before .before .before .before .before .before .before .before .before .before .before .before .before .before .before .before .if2 .left) _ _ (c .before .before .before .before .before .before .before .before .before .before .before .past .ensures) (c .before .before .before .before .before .before .before .before .before .r .given .1) _ (c .before .before .before .before .before .before .before .before .before .before .before .before .before .before .put-row .ensures) _ _ (c .before .before .before .before .before .before .before .loop .inv) (c .before .before .before .before .before .before .if3 .left) (entryStack kindObjectField (c .before .before .before .before .before .before .before .before .before .before .before .before .before .before .before .before .before .before .before .before .args .constant)) (field-is _ _ _ _ (in-ready _ _ _ _ _ _ _ _ _ (c .before .before .before .before .before .before .before .loop .inv) (c .before .before .before .before .before .before .before .before .before .before .before .before .before .before .before .before .before .before .before .before .pre .1 .0 .short) (c .before .before .before .before .before .before .before .before .before .before .before .before .before .before .before .before .before .before .before .before .pre .1 .0 .few)) _ (c .before .before .before .before .before .before .before .before .before .before .before .before .before .before .before .before .before .before .before .before .args .constant)) _ _ _ _ (c .before .before .before .before .entry .ensures) (c .enum-told2 .given .1)
 
 -- src/lib.rt:198:5
-object-loop-less : (t : ℕ) → object-lts.Need-loop-less (
-  put-row-reads.Asked,
-  put-row-reads.Learnt,
-  past-reads.Asked,
-  past-reads.Learnt,
-  close-reads.Asked,
-  close-reads.Learnt,
-  entry-below t,
-  entry.Post,
-) (object-at t) object.Post object-Inv-loop object-μ-loop
-object-loop-less t c = ?
+object-loop-less : (t : ℕ) → object-lts.Need-loop-less (object-calls t) (object-at t) object.Post object-Inv-loop object-μ-loop
+object-loop-less t c = nest-less (object-nest (c .before .before .before .before .before .before .before .before .before .before .before .before .before .before .before .before .before .before .before .before .before .args .constant)) _ _ _ _ (c .before .before .before .before .before .before .before .before .before .before .before .before .before .before .before .before .before .before .before .before .before .pre .1 .0) (c .before .before .before .before .before .before .before .before .before .before .before .before .before .before .before .before .before .before .before .before .before .pre .1 .1) (c .before .before .before .before .before .before .before .before .before .before .before .before .before .before .before .before .before .before .before .before .before .args .left) (c .before .before .before .before .before .before .before .before .before .before .before .before .before .before .before .before .before .before .if1 .left) (c .before .before .before .before .before .before .before .before .before .before .before .before .before .before .before .before .before .if2 .left) _ _ (c .before .before .before .before .before .before .before .before .before .before .before .before .past .ensures) (c .before .before .before .before .before .before .before .before .before .before .r .given .1) _ (c .before .before .before .before .before .before .before .before .before .before .before .before .before .before .before .put-row .ensures) _ _ (c .before .before .before .before .before .before .before .before .loop .inv) (c .before .before .before .before .before .before .before .if3 .left) (entryStack kindObjectField (c .before .before .before .before .before .before .before .before .before .before .before .before .before .before .before .before .before .before .before .before .before .args .constant)) (field-is _ _ _ _ (in-ready _ _ _ _ _ _ _ _ _ (c .before .before .before .before .before .before .before .before .loop .inv) (c .before .before .before .before .before .before .before .before .before .before .before .before .before .before .before .before .before .before .before .before .before .pre .1 .0 .short) (c .before .before .before .before .before .before .before .before .before .before .before .before .before .before .before .before .before .before .before .before .before .pre .1 .0 .few)) _ (c .before .before .before .before .before .before .before .before .before .before .before .before .before .before .before .before .before .before .before .before .before .args .constant)) _ _ _ (c .before .before .before .before .before .entry .ensures) (c .before .t .given .1)
 
 -- src/lib.rt:198:5
-object-loop-again : (t : ℕ) → object-lts.Need-loop-again (
-  put-row-reads.Asked,
-  put-row-reads.Learnt,
-  past-reads.Asked,
-  past-reads.Learnt,
-  close-reads.Asked,
-  close-reads.Learnt,
-  entry-below t,
-  entry.Post,
-) (object-at t) object.Post object-Inv-loop object-μ-loop
-object-loop-again t c = ?
+object-loop-again : (t : ℕ) → object-lts.Need-loop-again (object-calls t) (object-at t) object.Post object-Inv-loop object-μ-loop
+object-loop-again t c = nest-more (object-nest (c .before .before .before .before .before .before .before .before .before .before .before .before .before .before .before .before .before .before .before .before .before .args .constant)) _ _ _ _ (c .before .before .before .before .before .before .before .before .before .before .before .before .before .before .before .before .before .before .before .before .before .pre .1 .0) (c .before .before .before .before .before .before .before .before .before .before .before .before .before .before .before .before .before .before .before .before .before .pre .1 .1) (c .before .before .before .before .before .before .before .before .before .before .before .before .before .before .before .before .before .before .before .before .before .args .left) (c .before .before .before .before .before .before .before .before .before .before .before .before .before .before .before .before .before .before .if1 .left) (c .before .before .before .before .before .before .before .before .before .before .before .before .before .before .before .before .before .if2 .left) _ _ (c .before .before .before .before .before .before .before .before .before .before .before .before .past .ensures) (c .before .before .before .before .before .before .before .before .before .before .r .given .1) _ (c .before .before .before .before .before .before .before .before .before .before .before .before .before .before .before .put-row .ensures) _ _ (c .before .before .before .before .before .before .before .before .loop .inv) (c .before .before .before .before .before .before .before .if3 .left) (entryStack kindObjectField (c .before .before .before .before .before .before .before .before .before .before .before .before .before .before .before .before .before .before .before .before .before .args .constant)) (field-is _ _ _ _ (in-ready _ _ _ _ _ _ _ _ _ (c .before .before .before .before .before .before .before .before .loop .inv) (c .before .before .before .before .before .before .before .before .before .before .before .before .before .before .before .before .before .before .before .before .before .pre .1 .0 .short) (c .before .before .before .before .before .before .before .before .before .before .before .before .before .before .before .before .before .before .before .before .before .pre .1 .0 .few)) _ (c .before .before .before .before .before .before .before .before .before .before .before .before .before .before .before .before .before .before .before .before .before .args .constant)) _ _ _ (c .before .before .before .before .before .entry .ensures) (c .before .t .given .1)
 
 -- src/lib.rt:125:9
-value-list-requires : (t : ℕ) → value-lts.Need-list-requires (
-  list-below t,
-  list.Post,
-  object-below t,
-  object.Post,
-  no-going-reads.Asked,
-  no-going-reads.Learnt,
-  variable-reads.Asked,
-  variable-reads.Learnt,
-  scalar-reads.Asked,
-  scalar-reads.Learnt,
-) (value-at t) value.Post
-value-list-requires t c κs = ?
+value-list-requires : (t : ℕ) → value-lts.Need-list-requires (value-calls t) (value-at t) value.Post
+value-list-requires t c κs = (omega (arith, c .before .before .before .before .pre .0), (c .before .before .before .before .pre .1, c .before .if1 .taken))
 
 -- src/lib.rt:125:9
-value-same-length : (t : ℕ) → value-lts.Need-same-length (
-  list-below t,
-  list.Post,
-  object-below t,
-  object.Post,
-  no-going-reads.Asked,
-  no-going-reads.Learnt,
-  variable-reads.Asked,
-  variable-reads.Learnt,
-  scalar-reads.Asked,
-  scalar-reads.Learnt,
-) (value-at t) value.Post
-value-same-length t c = ?
+value-same-length : (t : ℕ) → value-lts.Need-same-length (value-calls t) (value-at t) value.Post
+value-same-length t c = search needs
 
 -- src/lib.rt:125:9
-value-returns : (t : ℕ) → value-lts.Need-returns (
-  list-below t,
-  list.Post,
-  object-below t,
-  object.Post,
-  no-going-reads.Asked,
-  no-going-reads.Learnt,
-  variable-reads.Asked,
-  variable-reads.Learnt,
-  scalar-reads.Asked,
-  scalar-reads.Learnt,
-) (value-at t) value.Post
-value-returns t c = ?
+value-returns : (t : ℕ) → value-lts.Need-returns (value-calls t) (value-at t) value.Post
+value-returns t c = c .before .before .list .ensures
 
 -- src/lib.rt:128:9
-value-object-requires : (t : ℕ) → value-lts.Need-object-requires (
-  list-below t,
-  list.Post,
-  object-below t,
-  object.Post,
-  no-going-reads.Asked,
-  no-going-reads.Learnt,
-  variable-reads.Asked,
-  variable-reads.Learnt,
-  scalar-reads.Asked,
-  scalar-reads.Learnt,
-) (value-at t) value.Post
-value-object-requires t c κs = ?
+value-object-requires : (t : ℕ) → value-lts.Need-object-requires (value-calls t) (value-at t) value.Post
+value-object-requires t c κs = (omega (arith, c .before .before .before .before .before .pre .0), (c .before .before .before .before .before .pre .1, c .before .if2 .taken))
 
 -- src/lib.rt:128:9
-value-same-length-2 : (t : ℕ) → value-lts.Need-same-length-2 (
-  list-below t,
-  list.Post,
-  object-below t,
-  object.Post,
-  no-going-reads.Asked,
-  no-going-reads.Learnt,
-  variable-reads.Asked,
-  variable-reads.Learnt,
-  scalar-reads.Asked,
-  scalar-reads.Learnt,
-) (value-at t) value.Post
-value-same-length-2 t c = ?
+value-same-length-2 : (t : ℕ) → value-lts.Need-same-length-2 (value-calls t) (value-at t) value.Post
+value-same-length-2 t c = search needs
 
 -- src/lib.rt:128:9
-value-returns-2 : (t : ℕ) → value-lts.Need-returns-2 (
-  list-below t,
-  list.Post,
-  object-below t,
-  object.Post,
-  no-going-reads.Asked,
-  no-going-reads.Learnt,
-  variable-reads.Asked,
-  variable-reads.Learnt,
-  scalar-reads.Asked,
-  scalar-reads.Learnt,
-) (value-at t) value.Post
-value-returns-2 t c = ?
+value-returns-2 : (t : ℕ) → value-lts.Need-returns-2 (value-calls t) (value-at t) value.Post
+value-returns-2 t c = c .before .before .object .ensures
 
 -- src/lib.rt:132:13
-value-no-going-requires : (t : ℕ) → value-lts.Need-no-going-requires (
-  list-below t,
-  list.Post,
-  object-below t,
-  object.Post,
-  no-going-reads.Asked,
-  no-going-reads.Learnt,
-  variable-reads.Asked,
-  variable-reads.Learnt,
-  scalar-reads.Asked,
-  scalar-reads.Learnt,
-) (value-at t) value.Post
-value-no-going-requires t c κs = ?
+value-no-going-requires : (t : ℕ) → value-lts.Need-no-going-requires (value-calls t) (value-at t) value.Post
+value-no-going-requires t c κs = search needs
 
 -- src/lib.rt:132:13
-value-returns-3 : (t : ℕ) → value-lts.Need-returns-3 (
-  list-below t,
-  list.Post,
-  object-below t,
-  object.Post,
-  no-going-reads.Asked,
-  no-going-reads.Learnt,
-  variable-reads.Asked,
-  variable-reads.Learnt,
-  scalar-reads.Asked,
-  scalar-reads.Learnt,
-) (value-at t) value.Post
-value-returns-3 t c = ?
+value-returns-3 : (t : ℕ) → value-lts.Need-returns-3 (value-calls t) (value-at t) value.Post
+value-returns-3 t c = rw (c .no-going .ensures) (no-variable _ _ _ _ _ _ (c .before .before .before .before .before .before .before .pre .1) (c .before .before .if3 .taken) (c .before .if4 .taken))
 
 -- src/lib.rt:134:9
-value-variable-requires : (t : ℕ) → value-lts.Need-variable-requires (
-  list-below t,
-  list.Post,
-  object-below t,
-  object.Post,
-  no-going-reads.Asked,
-  no-going-reads.Learnt,
-  variable-reads.Asked,
-  variable-reads.Learnt,
-  scalar-reads.Asked,
-  scalar-reads.Learnt,
-) (value-at t) value.Post
-value-variable-requires t c κs = ?
+value-variable-requires : (t : ℕ) → value-lts.Need-variable-requires (value-calls t) (value-at t) value.Post
+value-variable-requires t c κs = (c .before .before .before .before .before .before .before .pre .1, c .before .before .if3 .taken)
 
 -- src/lib.rt:134:9
-value-same-length-3 : (t : ℕ) → value-lts.Need-same-length-3 (
-  list-below t,
-  list.Post,
-  object-below t,
-  object.Post,
-  no-going-reads.Asked,
-  no-going-reads.Learnt,
-  variable-reads.Asked,
-  variable-reads.Learnt,
-  scalar-reads.Asked,
-  scalar-reads.Learnt,
-) (value-at t) value.Post
-value-same-length-3 t c = ?
+value-same-length-3 : (t : ℕ) → value-lts.Need-same-length-3 (value-calls t) (value-at t) value.Post
+value-same-length-3 t c = search needs
 
 -- src/lib.rt:134:9
-value-returns-4 : (t : ℕ) → value-lts.Need-returns-4 (
-  list-below t,
-  list.Post,
-  object-below t,
-  object.Post,
-  no-going-reads.Asked,
-  no-going-reads.Learnt,
-  variable-reads.Asked,
-  variable-reads.Learnt,
-  scalar-reads.Asked,
-  scalar-reads.Learnt,
-) (value-at t) value.Post
-value-returns-4 t c = ?
+value-returns-4 : (t : ℕ) → value-lts.Need-returns-4 (value-calls t) (value-at t) value.Post
+value-returns-4 t c = variable-value _ _ _ _ _ _ _ _ (c .before .before .before .before .if4 .left) (c .before .before .variable .ensures)
 
 -- src/lib.rt:136:5
-value-scalar-requires : (t : ℕ) → value-lts.Need-scalar-requires (
-  list-below t,
-  list.Post,
-  object-below t,
-  object.Post,
-  no-going-reads.Asked,
-  no-going-reads.Learnt,
-  variable-reads.Asked,
-  variable-reads.Learnt,
-  scalar-reads.Asked,
-  scalar-reads.Learnt,
-) (value-at t) value.Post
-value-scalar-requires t c κs = ?
+value-scalar-requires : (t : ℕ) → value-lts.Need-scalar-requires (value-calls t) (value-at t) value.Post
+value-scalar-requires t c κs = (c .before .before .before .before .before .before .pre .1, c .before .if3 .left, c .before .before .before .if1 .left, c .before .before .if2 .left)
 
 -- src/lib.rt:119:1
-value-same-length-4 : (t : ℕ) → value-lts.Need-same-length-4 (
-  list-below t,
-  list.Post,
-  object-below t,
-  object.Post,
-  no-going-reads.Asked,
-  no-going-reads.Learnt,
-  variable-reads.Asked,
-  variable-reads.Learnt,
-  scalar-reads.Asked,
-  scalar-reads.Learnt,
-) (value-at t) value.Post
-value-same-length-4 t c = ?
+value-same-length-4 : (t : ℕ) → value-lts.Need-same-length-4 (value-calls t) (value-at t) value.Post
+value-same-length-4 t c = search needs
 
 -- src/lib.rt:119:1
-value-returns-5 : (t : ℕ) → value-lts.Need-returns-5 (
-  list-below t,
-  list.Post,
-  object-below t,
-  object.Post,
-  no-going-reads.Asked,
-  no-going-reads.Learnt,
-  variable-reads.Asked,
-  variable-reads.Learnt,
-  scalar-reads.Asked,
-  scalar-reads.Learnt,
-) (value-at t) value.Post
-value-returns-5 t c = ?
+value-returns-5 : (t : ℕ) → value-lts.Need-returns-5 (value-calls t) (value-at t) value.Post
+value-returns-5 t c = c .before .before .scalar .ensures _ _
 
 pub +entry+list+object+value-spec : {M : Type 1} → statement M
-+entry+list+object+value-spec = close μ-entry μ-list μ-object μ-value (λ t. entry-lts.spec (
-  no-going-reads.Asked,
-  no-going-reads.Learnt,
-  put-row-reads.Asked,
-  put-row-reads.Learnt,
-  past-reads.Asked,
-  past-reads.Learnt,
-  value-below t,
-  value.Post,
-  put-end-reads.Asked,
-  put-end-reads.Learnt,
-)
-    (entry-at t)
++entry+list+object+value-spec = close μ-entry μ-list μ-object μ-value (λ t. entry-lts.spec (entry-calls t) (entry-at t)
     entry.Post
     (entry-no-going-requires t)
     (entry-returns t)
@@ -1290,17 +463,7 @@ pub +entry+list+object+value-spec : {M : Type 1} → statement M
     (entry-put-end-requires t)
     (entry-same-length-5 t)
     (entry-returns-7 t))
-    (λ t. list-lts.spec (
-      put-row-reads.Asked,
-      put-row-reads.Learnt,
-      past-reads.Asked,
-      past-reads.Learnt,
-      close-reads.Asked,
-      close-reads.Learnt,
-      value-below t,
-      value.Post,
-    )
-    (list-at t)
+    (λ t. list-lts.spec (list-calls t) (list-at t)
     list.Post
     list-Inv-loop
     list-μ-loop
@@ -1325,17 +488,7 @@ pub +entry+list+object+value-spec : {M : Type 1} → statement M
     (list-returns-5 t)
     (list-loop-less t)
     (list-loop-again t))
-    (λ t. object-lts.spec (
-      put-row-reads.Asked,
-      put-row-reads.Learnt,
-      past-reads.Asked,
-      past-reads.Learnt,
-      close-reads.Asked,
-      close-reads.Learnt,
-      entry-below t,
-      entry.Post,
-    )
-    (object-at t)
+    (λ t. object-lts.spec (object-calls t) (object-at t)
     object.Post
     object-Inv-loop
     object-μ-loop
@@ -1360,19 +513,7 @@ pub +entry+list+object+value-spec : {M : Type 1} → statement M
     (object-returns-5 t)
     (object-loop-less t)
     (object-loop-again t))
-    λ t. value-lts.spec (
-      list-below t,
-      list.Post,
-      object-below t,
-      object.Post,
-      no-going-reads.Asked,
-      no-going-reads.Learnt,
-      variable-reads.Asked,
-      variable-reads.Learnt,
-      scalar-reads.Asked,
-      scalar-reads.Learnt,
-    )
-    (value-at t)
+    λ t. value-lts.spec (value-calls t) (value-at t)
     value.Post
     (value-list-requires t)
     (value-same-length t)
