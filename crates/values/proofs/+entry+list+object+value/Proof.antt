@@ -418,7 +418,7 @@ value-same-length-3 t c = search needs
 
 -- src/lib.rt:134:9
 value-returns-4 : (t : ℕ) → value-lts.Need-returns-4 (value-calls t) (value-at t) value.Post
-value-returns-4 t c = variable-value _ _ _ _ _ _ _ _ (c .before .before .before .before .if4 .left) (c .before .before .variable .ensures)
+value-returns-4 t c = rw (c .before .before .before .before .if4 .left) (c .before .before .variable .ensures (c .before .before .before .before .before .before .before .before .before .before .args .left))
 
 -- src/lib.rt:136:5
 value-scalar-requires : (t : ℕ) → value-lts.Need-scalar-requires (value-calls t) (value-at t) value.Post
@@ -430,7 +430,7 @@ value-same-length-4 t c = search needs
 
 -- src/lib.rt:119:1
 value-returns-5 : (t : ℕ) → value-lts.Need-returns-5 (value-calls t) (value-at t) value.Post
-value-returns-5 t c = c .before .before .scalar .ensures _ _
+value-returns-5 t c = c .before .before .scalar .ensures (c .before .before .before .before .before .before .before .before .before .args .left) (c .before .before .before .before .before .before .before .before .before .args .constant)
 
 pub +entry+list+object+value-spec : {M : Type 1} → statement M
 +entry+list+object+value-spec = close μ-entry μ-list μ-object μ-value (λ t. entry-lts.spec (entry-calls t) (entry-at t)
