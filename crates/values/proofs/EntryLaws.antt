@@ -1,8 +1,8 @@
 -- Laws of entries: the machine reads Name : Value below a row of its own as the code does.
-use mathlib.Core.Path.{_≡_, refl, sym, ap, _∙_, subst}
+use mathlib.Core.Path.{_≡_, refl, sym, _∙_, subst}
 use mathlib.Core.Bool.{Bool, true, false, not}
 use mathlib.Core.List.{List, [], _∷_, _++_, List·Memᴰ, List·Memᴰ·head}
-use mathlib.Core.Logic.{_≢_, _⊎_, inl, inr}
+use mathlib.Core.Logic.{_≢_, inl, inr}
 use Prim.Native.Nat.{ℕ, _+_, _-_, _*_, _≤_, _<_}
 use native.Mathlib.Omega.{arith}
 use lib.Dec.{T, eqb}
@@ -19,8 +19,8 @@ use Rattle.paper.proofs.Lexing.{from}
 use Rattle.paper.proofs.Machine.{fst, choose}
 use Rattle.paper.proofs.Test.{all, implies}
 use Rattle.paper.proofs.Tables.{graphql, factored, allC}
-use Rattle.paper.proofs.Going.{Stack, st, go, halt}
-use Rattle.tokens.specs.Head.{headOf, kindOf}
+use Rattle.paper.proofs.Going.{Stack, st, go}
+use Rattle.tokens.specs.Head.{kindOf}
 use Rattle.reader.specs.declared.Cursor.{Cursor}
 use Rattle.reader.specs.declared.Read.{Read}
 use Rattle.reader.specs.declared.Read.the-variants.{Done, Refused}
@@ -30,7 +30,7 @@ use Rattle.reader.proofs.Steps.{is, not-is, first, refuse, lacks, plain, too-ma
 use Rattle.reader.proofs.Cells.{put, put-length, row-opens, name-told, ends-row}
 use Rattle.values.specs.Stacks.{valuePart, entryStack, EntryKind}
 use Rattle.values.specs.Ends.{past}
-use Rattle.values.proofs.MovedLaws.{start-in, stop-in, ready-lies, ready-moves, Moved, moved-done, moved-halts}
+use Rattle.values.proofs.MovedLaws.{start-in, stop-in, ready-lies, Moved, moved-done, moved-halts}
 use Rattle.values.proofs.NestParts.{fieldPart}
 use Rattle.values.proofs.VariableLaws.{name-in}
 
@@ -55,7 +55,7 @@ module _ (s rows : List ℕ) (c : Cursor) (parent : ℕ) (ready : Ready s rows c
   unfolding refuses refusesEnd choose factored language
   entry-no-name n σ o q h f =
       begins σ o q h
-      ∙ refuse s c (ready .within) (ready .looks) opened (c .rows + 1) (c .rows ∷ o) left q (tm (the colon) ∷ nt (valuePart b) ∷ act end ∷ σ) Name (λ x. not (is 1 x)) (not-is 1 (c .kind) n) tt tt
+      ∙ refuse s c (ready .within) (ready .looks) opened (c .rows + 1) (c .rows ∷ o) left q (tm (the colon) ∷ nt (valuePart b) ∷ act end ∷ σ) Name (λ x. not (is (kindOf n-other) x)) (not-is (kindOf n-other) (c .kind) n) tt tt
 
   module _ (e : c .kind ≡ kindOf n-other) where
     named-goes : (σ : Stack) (o : List ℕ) (q : Counts) → top o ≡ parent →
@@ -101,7 +101,7 @@ module _ (s rows : List ℕ) (c : Cursor) (parent : ℕ) (ready : Ready s rows c
         pub entry-no-colon : d .kind ≢ kindOf colon → Halts s rows c parent left (entryStack K b) (NoGoing (d .start))
         entry-no-colon n σ o y h f =
             at-colon σ o y h f
-            ∙ lacks s d within (m .looks) opened (c .rows + 1) (c .rows ∷ o) left y (nt (valuePart b) ∷ act end ∷ σ) (the colon) (λ x. not (is 10 x)) (not-is 10 (d .kind) n) tt
+            ∙ lacks s d within (m .looks) opened (c .rows + 1) (c .rows ∷ o) left y (nt (valuePart b) ∷ act end ∷ σ) (the colon) (λ x. not (is (kindOf colon) x)) (not-is (kindOf colon) (d .kind) n) tt
 
         module _ (k : d .kind ≡ kindOf colon) where
           colon-goes : (σ : Stack) (o : List ℕ) (y : Counts) → top o ≡ parent → overCounts y ≡ false →
@@ -161,18 +161,18 @@ module _ (s rows : List ℕ) (c : Cursor) (parent : ℕ) (ready : Ready s rows c
 
 -- a part whose one production is an entry: it may as well be read as that, at any token
 module _ (field : Part) (K : ℕ) (counted : EntryKind K) (b : Bool) (mem : List·Memᴰ (entryStack K b) (factored field))
-    (begins-it : T (all (λ k. implies (is 1 (kindOf k)) (fst graphql (entryStack K b) k)) allC))
-    (refuses-it : T (all (λ k. implies (not (is 1 (kindOf k))) (refuses field k)) allC))
+    (begins-it : T (all (λ k. implies (is (kindOf n-other) (kindOf k)) (fst graphql (entryStack K b) k)) allC))
+    (refuses-it : T (all (λ k. implies (not (is (kindOf n-other) (kindOf k))) (refuses field k)) allC))
     (refuses-end : T (refusesEnd field))
     (s rows : List ℕ) (c : Cursor) (parent : ℕ) (ready : Ready s rows c parent) (left : ℕ) where
   entry-is : (σ : Stack) (o : List ℕ) (q : Counts) → top o ≡ parent → overCounts q ≡ false → at s rows c o left q (nt field ∷ σ) ≡ at s rows c o left q (entryStack K b ++ σ)
-  entry-is σ o q h f = cases (eqb (c .kind) 1) refl
+  entry-is σ o q h f = cases (eqb (c .kind) (kindOf n-other)) refl
     where
-      cases : (x : Bool) → eqb (c .kind) 1 ≡ x → at s rows c o left q (nt field ∷ σ) ≡ at s rows c o left q (entryStack K b ++ σ)
-      cases true e = first s c (ready .within) (ready .looks) rows (c .rows) o left q σ field mem 0 (eqb-true (c .kind) 1 e) begins-it
+      cases : (x : Bool) → eqb (c .kind) (kindOf n-other) ≡ x → at s rows c o left q (nt field ∷ σ) ≡ at s rows c o left q (entryStack K b ++ σ)
+      cases true e = first s c (ready .within) (ready .looks) rows (c .rows) o left q σ field mem 0 (eqb-true (c .kind) (kindOf n-other) e) begins-it
       cases false e =
-          refuse s c (ready .within) (ready .looks) rows (c .rows) o left q σ field (λ x. not (is 1 x)) (not-is 1 (c .kind) (eqb-false (c .kind) 1 e)) refuses-it refuses-end
-          ∙ sym (entry-no-name s rows c parent ready left K counted b (eqb-false (c .kind) 1 e) σ o q h f)
+          refuse s c (ready .within) (ready .looks) rows (c .rows) o left q σ field (λ x. not (is (kindOf n-other) x)) (not-is (kindOf n-other) (c .kind) (eqb-false (c .kind) (kindOf n-other) e)) refuses-it refuses-end
+          ∙ sym (entry-no-name s rows c parent ready left K counted b (eqb-false (c .kind) (kindOf n-other) e) σ o q h f)
 
 module _ (s rows : List ℕ) (c : Cursor) (parent : ℕ) (ready : Ready s rows c parent) (left : ℕ) where
   pub argument-is : (σ : Stack) (o : List ℕ) (q : Counts) → top o ≡ parent → overCounts q ≡ false → at s rows c o left q (nt Argument ∷ σ) ≡ at s rows c o left q (entryStack kindArgument false ++ σ)

@@ -1,41 +1,38 @@
--- Laws of values of one token, and of variables: the machine reads them as the code does.
-use mathlib.Core.Path.{_≡_, refl, sym, ap, _∙_, subst}
-use mathlib.Core.Bool.{Bool, true, false, not, _&&_, _||_}
-use mathlib.Core.List.{List, [], _∷_, _++_, List·Memᴰ, List·Memᴰ·head, List·Memᴰ·tail}
+-- Laws of values of one token: the machine reads them as the code does.
+use mathlib.Core.Path.{_≡_, refl, sym, ap, _∙_}
+use mathlib.Core.Bool.{Bool, true, false, not, _&&_}
+use mathlib.Core.List.{List, [], _∷_, List·Memᴰ, List·Memᴰ·head, List·Memᴰ·tail}
 use mathlib.Core.Logic.{_≢_}
-use Prim.Native.Nat.{ℕ, zero, suc, _+_, _-_, _*_, _≤_, _<_}
+use Prim.Native.Nat.{ℕ, suc, _+_, _-_, _≤_, _<_}
 use native.Mathlib.Omega.{arith}
-use lib.Dec.{T, eqb}
-use lib.ListN.{length, set, take, drop}
-use lib.Seq.{sets}
+use lib.Dec.{T}
+use lib.ListN.{length, take, drop}
 use borrow.Author.Tests.{eq-eqb, ne-eqb}
 use Rattle.paper.specs.Grammar.{nt, tm, act}
-use Rattle.paper.specs.Numbers.{mostRows, rowsSize, kindVariable, kindInteger, kindFloat, kindString, kindBoolean, kindNull, kindEnum, extraTrue, extraFalse}
-use Rattle.paper.specs.Language.{Class, numC, Terminal, the, anyName, nameButLiteral, hits, t, Mark, row, kind, named, end, Part, Value, ConstValue, EnumValue, Name, language, dollar, int, float, string, n-true, n-false, n-null, n-other, bracketL, braceL}
-use Rattle.paper.specs.Tokens.{Text, over, bad, token, nameClass}
+use Rattle.paper.specs.Numbers.{mostRows, kindInteger, kindFloat, kindString, kindBoolean, kindNull, kindEnum, extraTrue, extraFalse}
+use Rattle.paper.specs.Language.{Class, numC, Terminal, the, nameButLiteral, hits, row, kind, named, end, Part, Value, ConstValue, EnumValue, language, dollar, int, float, string, n-true, n-false, n-null, n-other, bracketL, braceL}
+use Rattle.paper.specs.Tokens.{token, nameClass}
 use Rattle.paper.specs.Rows.{top}
 use Rattle.paper.specs.Sizes.{Counts, kinded, overCounts, opens, closes}
-use Rattle.paper.specs.declared.Refusal.the-variants.{NoGoing, TooManyRows}
+use Rattle.paper.specs.declared.Refusal.the-variants.{TooManyRows}
 use Rattle.paper.proofs.Lexing.{from}
 use Rattle.paper.proofs.FromLaws.{from-token}
 use Rattle.paper.proofs.Machine.{fst, choose}
-use Rattle.paper.proofs.Theory.{and-l, and-r}
+use Rattle.paper.proofs.Theory.{and-l}
 use Rattle.paper.proofs.Test.{all, implies, implies-out, all-at}
 use Rattle.paper.proofs.Tables.{graphql, factored, allC, atC}
-use Rattle.paper.proofs.Going.{Stack, st, go, startIn, stopIn, halt}
+use Rattle.paper.proofs.Going.{Stack, st, go, halt}
 use Rattle.tokens.specs.Head.{headOf, kindOf, wordOf, wordNumber}
 use Rattle.tokens.specs.declared.TokenRead.the-variants.{Token}
 use Rattle.reader.specs.declared.Cursor.{Cursor}
 use Rattle.reader.specs.declared.Read.{Read}
-use Rattle.reader.specs.declared.Read.the-variants.{Done, Refused}
-use Rattle.reader.specs.Reader.{Looks, Ready, at, Went, Halts, Said, noGoingOf}
-use Rattle.reader.proofs.ReaderLaws.{token-lies}
+use Rattle.reader.specs.Reader.{Ready, at, Said, noGoingOf}
 use Rattle.reader.proofs.Steps.{tokenOf, front-token, by-kind, is, refuse, refuses, refusesEnd}
 use Rattle.reader.proofs.Cells.{put, put-length, row-opens, name-told, row-ends}
-use Rattle.values.specs.Stacks.{valuePart, valueStack}
-use Rattle.values.specs.Ends.{Leaf, full, wrote, past, SaidScalar}
+use Rattle.values.specs.Stacks.{valuePart}
+use Rattle.values.specs.Ends.{Leaf, full, wrote, SaidScalar}
 use Rattle.values.proofs.HeadName.{head-name}
-use Rattle.values.proofs.MovedLaws.{start-in, stop-in, moved-said}
+use Rattle.values.proofs.MovedLaws.{moved-said}
 use Rattle.values.proofs.StackSteps.{plainHit, class-first, class-plain, class-rows}
 
 -- the token that c looks at, of class k
@@ -59,13 +56,13 @@ named-first k h = implies-out (plainHit nameButLiteral k) (fst graphql enumeral 
 
 -- a name that is no literal
 abbrev enumeralTest : Class → Bool
-enumeralTest k = is 1 (kindOf k) && (not (is 6 (wordNumber k)) && (not (is 7 (wordNumber k)) && not (is 8 (wordNumber k))))
+enumeralTest k = is (kindOf n-other) (kindOf k) && (not (is (wordNumber n-true) (wordNumber k)) && (not (is (wordNumber n-false) (wordNumber k)) && not (is (wordNumber n-null) (wordNumber k))))
 
 -- a kind of token that begins no value
 abbrev noValueTest : ℕ → Bool
-noValueTest x = not (is 1 x) && (not (is 2 x) && (not (is 3 x) && (not (is 4 x) && (not (is 7 x) && (not (is 13 x) && not (is 15 x))))))
+noValueTest x = not (is (kindOf n-other) x) && (not (is (kindOf int) x) && (not (is (kindOf float) x) && (not (is (kindOf string) x) && (not (is (kindOf dollar) x) && (not (is (kindOf bracketL) x) && not (is (kindOf braceL) x))))))
 
-no-test : {x : ℕ} → x ≢ 1 → x ≢ 2 → x ≢ 3 → x ≢ 4 → x ≢ 7 → x ≢ 13 → x ≢ 15 → T (noValueTest x)
+no-test : {x : ℕ} → x ≢ kindOf n-other → x ≢ kindOf int → x ≢ kindOf float → x ≢ kindOf string → x ≢ kindOf dollar → x ≢ kindOf bracketL → x ≢ kindOf braceL → T (noValueTest x)
 no-test {x} n1 n2 n3 n4 n7 n13 n15 = rw (ne-eqb x 1 n1, ne-eqb x 2 n2, ne-eqb x 3 n3, ne-eqb x 4 n4, ne-eqb x 7 n7, ne-eqb x 13 n13, ne-eqb x 15 n15) tt
 
 is-T : (x : ℕ) → T (is x x)
@@ -204,17 +201,17 @@ module _ (s rows rows′ : List ℕ) (c : Cursor) (parent : ℕ) (ready : Ready 
           literal-said s rows c parent ready class looks (valuePart b) K X w (mem b) same
             (implies-out (is x (wordNumber class)) (plainHit w class) (all-at (λ k. implies (is x (wordNumber k)) (plainHit w k)) allC (numC class) t (atC class)) (rw v (is-T x))) left rows′ r h
 
-    pub true-said : wordOf (take (c .end - c .start) (drop (c .start) s)) ≡ 6 → Leaf s rows rows′ c parent kindBoolean 0 0 extraTrue r → SaidScalar s rows rows′ c parent r
-    true-said = word-said 6 kindBoolean extraTrue (the n-true) true-in (λ q. refl) tt
+    pub true-said : wordOf (take (c .end - c .start) (drop (c .start) s)) ≡ wordNumber n-true → Leaf s rows rows′ c parent kindBoolean 0 0 extraTrue r → SaidScalar s rows rows′ c parent r
+    true-said = word-said (wordNumber n-true) kindBoolean extraTrue (the n-true) true-in (λ q. refl) tt
 
-    pub false-said : wordOf (take (c .end - c .start) (drop (c .start) s)) ≡ 7 → Leaf s rows rows′ c parent kindBoolean 0 0 extraFalse r → SaidScalar s rows rows′ c parent r
-    false-said = word-said 7 kindBoolean extraFalse (the n-false) false-in (λ q. refl) tt
+    pub false-said : wordOf (take (c .end - c .start) (drop (c .start) s)) ≡ wordNumber n-false → Leaf s rows rows′ c parent kindBoolean 0 0 extraFalse r → SaidScalar s rows rows′ c parent r
+    false-said = word-said (wordNumber n-false) kindBoolean extraFalse (the n-false) false-in (λ q. refl) tt
 
-    pub null-said : wordOf (take (c .end - c .start) (drop (c .start) s)) ≡ 8 → Leaf s rows rows′ c parent kindNull 0 0 0 r → SaidScalar s rows rows′ c parent r
-    null-said = word-said 8 kindNull 0 (the n-null) null-in (λ q. refl) tt
+    pub null-said : wordOf (take (c .end - c .start) (drop (c .start) s)) ≡ wordNumber n-null → Leaf s rows rows′ c parent kindNull 0 0 0 r → SaidScalar s rows rows′ c parent r
+    null-said = word-said (wordNumber n-null) kindNull 0 (the n-null) null-in (λ q. refl) tt
 
     -- any other name
-    pub name-said : wordOf (take (c .end - c .start) (drop (c .start) s)) ≢ 6 → wordOf (take (c .end - c .start) (drop (c .start) s)) ≢ 7 → wordOf (take (c .end - c .start) (drop (c .start) s)) ≢ 8 →
+    pub name-said : wordOf (take (c .end - c .start) (drop (c .start) s)) ≢ wordNumber n-true → wordOf (take (c .end - c .start) (drop (c .start) s)) ≢ wordNumber n-false → wordOf (take (c .end - c .start) (drop (c .start) s)) ≢ wordNumber n-null →
         Leaf s rows rows′ c parent kindEnum (c .start) (c .end - c .start) 0 r → SaidScalar s rows rows′ c parent r
     unfolding wordOf
     name-said n6 n7 n8 h left b =

@@ -1,5 +1,5 @@
 -- Laws of a cursor that goes past its token: where it looks then, and what the machine does there.
-use mathlib.Core.Path.{_≡_, refl, sym, ap, _∙_, subst}
+use mathlib.Core.Path.{_≡_, refl, sym, ap, _∙_}
 use mathlib.Core.Bool.{false}
 use mathlib.Core.List.{List, _++_}
 use mathlib.Core.Logic.{_≢_}
@@ -13,14 +13,14 @@ use Rattle.paper.specs.Sizes.{Counts, overCounts}
 use Rattle.paper.specs.declared.Refusal.{Refusal}
 use Rattle.paper.specs.declared.Refusal.the-variants.{NoToken}
 use Rattle.paper.proofs.Lexing.{from}
-use Rattle.paper.proofs.Going.{Stack, State, st, Out, halt, go, startIn, stopIn}
+use Rattle.paper.proofs.Going.{Stack, State, st, halt, go, startIn, stopIn}
 use Rattle.tokens.specs.Head.{headOf}
 use Rattle.tokens.specs.declared.TokenRead.{TokenRead}
 use Rattle.tokens.specs.declared.TokenRead.the-variants.{Token, Bad}
 use Rattle.reader.specs.declared.Cursor.{Cursor}
 use Rattle.reader.specs.declared.Read.{Read}
 use Rattle.reader.specs.declared.Read.the-variants.{Done, Refused}
-use Rattle.reader.specs.Reader.{Looks, Ready, movedTo, at, Went, Halts, Said}
+use Rattle.reader.specs.Reader.{Looks, Ready, movedTo, at, Said}
 use Rattle.reader.proofs.ReaderLaws.{token-lies}
 use Rattle.reader.proofs.Steps.{Front, a-token, the-end, front}
 

@@ -1,6 +1,6 @@
 -- Laws of lists and objects: an opening mark, a run of items, a closing mark. Both are read alike, so the laws are over any part of this form.
 use mathlib.Core.Path.{_≡_, refl, sym, ap, _∙_, subst}
-use mathlib.Core.Bool.{Bool, true, false, not, _&&_}
+use mathlib.Core.Bool.{true, false, not, _&&_}
 use mathlib.Core.List.{List, [], _∷_, _++_, List·Memᴰ}
 use mathlib.Core.Logic.{_≢_}
 use mathlib.Core.Option.{none, some}
@@ -20,8 +20,8 @@ use Rattle.paper.proofs.Lexing.{from}
 use Rattle.paper.proofs.Machine.{fst, choose}
 use Rattle.paper.proofs.Test.{all, implies}
 use Rattle.paper.proofs.Tables.{graphql, factored, allC}
-use Rattle.paper.proofs.Going.{Stack, st, go, halt}
-use Rattle.tokens.specs.Head.{headOf, kindOf}
+use Rattle.paper.proofs.Going.{Stack, st, go}
+use Rattle.tokens.specs.Head.{kindOf}
 use Rattle.reader.specs.declared.Cursor.{Cursor}
 use Rattle.reader.specs.declared.Read.{Read}
 use Rattle.reader.specs.declared.Read.the-variants.{Done, Refused}

@@ -1,7 +1,7 @@
 -- Lists and objects, constant or not, are of the form that `NestLaws` speaks of.
 use mathlib.Core.Path.{refl}
 use mathlib.Core.Bool.{Bool, true, false}
-use mathlib.Core.List.{List·Memᴰ, List·Memᴰ·head, List·Memᴰ·tail}
+use mathlib.Core.List.{List·Memᴰ·head, List·Memᴰ·tail}
 use Rattle.paper.specs.Numbers.{kindList, kindObject}
 use Rattle.paper.specs.Language.{Part, language, bracketL, bracketR, braceL, braceR, ListValue, Value*, ObjectValue, ObjectField, ObjectField*, ConstListValue, ConstValue*, ConstObjectValue, ConstObjectField, ConstObjectField*}
 use Rattle.paper.proofs.Machine.{choose}

@@ -1,25 +1,25 @@
 -- What the machine does at a token whose class is known, and where one of a run of parts may follow.
-use mathlib.Core.Path.{_≡_, refl, sym, ap, _∙_, subst}
+use mathlib.Core.Path.{_≡_, refl, sym, ap, _∙_}
 use mathlib.Core.Bool.{Bool, true, false, not, _&&_, _||_}
 use mathlib.Core.List.{List, [], _∷_, _++_, List·Memᴰ}
 use mathlib.Core.Option.{Option, none, some}
 use Prim.Native.Nat.{ℕ, _≤_, _<_}
-use lib.Dec.{T, ltb}
+use lib.Dec.{T}
 use lib.ListN.{length}
 use borrow.Author.Tests.{le-ltb, lt-ltb}
 use Rattle.paper.specs.Grammar.{nt, tm}
 use Rattle.paper.specs.Numbers.{mostRows}
 use Rattle.paper.specs.Language.{Class, Terminal, hits, Part}
-use Rattle.paper.specs.Tokens.{Tok, Text, over, bad, token}
+use Rattle.paper.specs.Tokens.{Text, token}
 use Rattle.paper.specs.Sizes.{Counts, opens, closes, overCounts}
-use Rattle.paper.specs.declared.Refusal.the-variants.{NoGoing, TooManyRows}
+use Rattle.paper.specs.declared.Refusal.the-variants.{TooManyRows}
 use Rattle.paper.proofs.Lexing.{from}
-use Rattle.paper.proofs.Machine.{fst, nul, choose, step}
+use Rattle.paper.proofs.Machine.{fst, choose, step}
 use Rattle.paper.proofs.Theory.{T→eq, and-l, and-r, choose-first, choose-null, step-by, step-none}
-use Rattle.paper.proofs.Test.{all, implies, implies-out, all-at}
-use Rattle.paper.proofs.Tables.{graphql, factored, allC, atC}
+use Rattle.paper.proofs.Test.{all, implies}
+use Rattle.paper.proofs.Tables.{graphql, factored, allC}
 use Rattle.paper.proofs.Checked.{fits}
-use Rattle.paper.proofs.Going.{Stack, State, st, Out, halt, go, goes, ended}
+use Rattle.paper.proofs.Going.{Stack, State, st, halt, go, goes, ended}
 use Rattle.reader.specs.declared.Cursor.{Cursor}
 use Rattle.reader.specs.Reader.{Looks}
 use Rattle.reader.proofs.Steps.{tokenOf, refuses, refusesEnd, isNone, Front, a-token, the-end, front, by-kind}

@@ -1,24 +1,24 @@
 -- Laws of variables: the machine reads `$` and a name as the code does.
 use mathlib.Core.Path.{_≡_, refl, sym, ap, _∙_}
 use mathlib.Core.Bool.{Bool, true, false, not}
-use mathlib.Core.List.{List, [], _∷_, _++_, List·Memᴰ, List·Memᴰ·head}
+use mathlib.Core.List.{List, [], _∷_, List·Memᴰ, List·Memᴰ·head}
 use mathlib.Core.Logic.{_≢_}
-use Prim.Native.Nat.{ℕ, _+_, _-_, _*_, _≤_, _<_}
+use Prim.Native.Nat.{ℕ, _+_, _-_, _≤_, _<_}
 use native.Mathlib.Omega.{arith}
 use lib.ListN.{length}
 use borrow.Author.Tests.{eq-eqb}
 use Rattle.paper.specs.Grammar.{nt, tm, act}
-use Rattle.paper.specs.Numbers.{mostRows, rowsSize, kindVariable}
+use Rattle.paper.specs.Numbers.{mostRows, kindVariable}
 use Rattle.paper.specs.Language.{the, anyName, row, kind, named, end, Value, ConstValue, Name, language, dollar, n-other}
 use Rattle.paper.specs.Rows.{top}
 use Rattle.paper.specs.Sizes.{Counts, overCounts}
 use Rattle.paper.specs.declared.Refusal.{Refusal}
-use Rattle.paper.specs.declared.Refusal.the-variants.{NoGoing, TooManyRows}
+use Rattle.paper.specs.declared.Refusal.the-variants.{TooManyRows}
 use Rattle.paper.proofs.Lexing.{from}
 use Rattle.paper.proofs.Machine.{choose}
 use Rattle.paper.proofs.Tables.{factored}
-use Rattle.paper.proofs.Going.{Stack, st, go, halt}
-use Rattle.tokens.specs.Head.{headOf, kindOf}
+use Rattle.paper.proofs.Going.{Stack, st, go}
+use Rattle.tokens.specs.Head.{kindOf}
 use Rattle.reader.specs.declared.Cursor.{Cursor}
 use Rattle.reader.specs.declared.Read.{Read}
 use Rattle.reader.specs.declared.Read.the-variants.{Done, Refused}
@@ -99,7 +99,7 @@ module _ (s rows rows′ : List ℕ) (c : Cursor) (parent : ℕ) (ready : Ready 
       unfolding refuses refusesEnd choose factored language
       variable-no-name n left = λ σ o y h f.
           name-opens σ o left y h f
-          ∙ refuse s d name-within (m .looks) (put rows (c .rows) kindVariable (c .start) 0 parent (d .start) (d .end - d .start) 0) (c .rows + 1) (c .rows ∷ o) left y (act end ∷ σ) Name (λ x. not (is 1 x)) (not-is 1 (d .kind) n) tt tt
+          ∙ refuse s d name-within (m .looks) (put rows (c .rows) kindVariable (c .start) 0 parent (d .start) (d .end - d .start) 0) (c .rows + 1) (c .rows ∷ o) left y (act end ∷ σ) Name (λ x. not (is (kindOf n-other) x)) (not-is (kindOf n-other) (d .kind) n) tt tt
 
       -- with its name
       abbrev whole : List ℕ
@@ -117,11 +117,7 @@ module _ (s rows rows′ : List ℕ) (c : Cursor) (parent : ℕ) (ready : Ready 
               ∙ rw u refl)
             r′ v
 
--- in a value that may be constant or not
-module _ (s rows : List ℕ) (c : Cursor) (parent left : ℕ) (b : Bool) where
-  pub variable-value : (rows′ : List ℕ) (r : Read) → b ≡ false → SaidVariable s rows rows′ c parent r → Said 1 s rows rows′ c parent left (valueStack b) r
-  variable-value rows′ r e h = rw e (h left)
-
-  pub no-variable : Ready s rows c parent → c .kind ≡ kindOf dollar → b ≡ true → Said 1 s rows rows c parent left (valueStack b) (noGoingOf c)
-  unfolding refuses refusesEnd choose factored language
-  no-variable ready e k = rw k (λ σ o q h f. refuse s c (ready .within) (ready .looks) rows (c .rows) o left q σ ConstValue (is 7) (rw (eq-eqb (c .kind) 7 e) tt) tt tt)
+-- in a constant value
+pub no-variable : (s rows : List ℕ) (c : Cursor) (parent left : ℕ) (b : Bool) → Ready s rows c parent → c .kind ≡ kindOf dollar → b ≡ true → Said 1 s rows rows c parent left (valueStack b) (noGoingOf c)
+unfolding refuses refusesEnd choose factored language
+no-variable s rows c parent left b ready e k = rw k (λ σ o q h f. refuse s c (ready .within) (ready .looks) rows (c .rows) o left q σ ConstValue (is (kindOf dollar)) (rw (eq-eqb (c .kind) (kindOf dollar) e) tt) tt tt)

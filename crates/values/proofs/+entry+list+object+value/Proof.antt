@@ -1,3 +1,4 @@
+-- value, list, object and entry call each other: the levels left fall where a mark opens, and within a level entry is above value, and value above list and object.
 use mathlib.Core.Path.{refl, _∙_}
 use mathlib.Core.Logic.{inr}
 use Prim.Native.Nat.{ℕ, _+_, _-_, _*_, _<_}
@@ -8,7 +9,7 @@ use Rattle.paper.specs.Numbers.{kindObjectField}
 use Rattle.paper.specs.Language.{bracketR, braceR}
 use Rattle.values.specs.Stacks.{valueStack, entryStack}
 use Rattle.values.proofs.MovedLaws.{ready-lies}
-use Rattle.values.proofs.VariableLaws.{variable-value, no-variable}
+use Rattle.values.proofs.VariableLaws.{no-variable}
 use Rattle.values.proofs.NestLaws.{InNest, in-ready, nest-deep, nest-full, nest-bad, nest-begins, nest-closes, nest-more, nest-less, nest-stops}
 use Rattle.values.proofs.NestParts.{valuesPart, fieldsPart, list-nest, object-nest}
 use Rattle.values.proofs.EntryLaws.{entry-no-name, entry-full, entry-bad, colon-lies, entry-no-colon, entry-colon-bad, entry-ready, entry-stops, entry-size, entry-went, field-is}
@@ -84,115 +85,87 @@ object-calls t = (put-row-reads.Asked, put-row-reads.Learnt, past-reads.Asked, p
 abbrev value-calls : ℕ → value-lts.Claims
 value-calls t = (list-below t, list.Post, object-below t, object.Post, no-going-reads.Asked, no-going-reads.Learnt, variable-reads.Asked, variable-reads.Learnt, scalar-reads.Asked, scalar-reads.Learnt)
 
--- src/lib.rt:217:9
 entry-no-going-requires : (t : ℕ) → entry-lts.Need-no-going-requires (entry-calls t) (entry-at t) entry.Post
 entry-no-going-requires t c κs = search needs
 
--- src/lib.rt:217:9
 entry-returns : (t : ℕ) → entry-lts.Need-returns (entry-calls t) (entry-at t) entry.Post
 entry-returns t c = rw (c .no-going .ensures) (entry-no-name _ _ _ _ (c .before .before .before .before .before .pre .1 .0) (c .before .before .before .before .before .args .left) (c .before .before .before .before .before .args .kind) (c .before .before .before .before .before .pre .1 .1) (c .before .before .before .before .before .args .constant) (c .before .if1 .taken))
 
--- src/lib.rt:221:9
 entry-returns-2 : (t : ℕ) → entry-lts.Need-returns-2 (entry-calls t) (entry-at t) entry.Post
 entry-returns-2 t c = entry-full _ _ _ _ (c .before .before .before .before .before .pre .1 .0) (c .before .before .before .before .before .args .left) (c .before .before .before .before .before .args .kind) (c .before .before .before .before .before .pre .1 .1) (c .before .before .before .before .before .args .constant) (c .before .if1 .left) (c .if2 .taken)
 
--- src/lib.rt:223:57
 entry-sub-put-row : (t : ℕ) → entry-lts.Need-sub-put-row (entry-calls t) (entry-at t) entry.Post
 entry-sub-put-row t c = ready-lies _ _ _ _ (c .before .before .before .before .before .before .before .pre .1 .0) .1
 
--- src/lib.rt:223:5
 entry-put-row-requires : (t : ℕ) → entry-lts.Need-put-row-requires (entry-calls t) (entry-at t) entry.Post
 entry-put-row-requires t c κs = search needs
 
--- src/lib.rt:224:23
 entry-add-past : (t : ℕ) → entry-lts.Need-add-past (entry-calls t) (entry-at t) entry.Post
 entry-add-past t c = search needs
 
--- src/lib.rt:224:9
 entry-past-requires : (t : ℕ) → entry-lts.Need-past-requires (entry-calls t) (entry-at t) entry.Post
 entry-past-requires t c κs = (c .before .before .before .before .before .before .before .before .before .before .pre .1 .0 .short, ready-lies _ _ _ _ (c .before .before .before .before .before .before .before .before .before .before .pre .1 .0) .2)
 
--- src/lib.rt:225:20
 entry-enum-known-r : (t : ℕ) → entry-lts.Need-enum-known-r (entry-calls t) (entry-at t) entry.Post
 entry-enum-known-r t c = search needs
 
--- src/lib.rt:226:9
 entry-enum-told : (t : ℕ) → entry-lts.Need-enum-told (entry-calls t) (entry-at t) entry.Post
 entry-enum-told t c = search needs
 
--- src/lib.rt:226:9
 entry-same-length : (t : ℕ) → entry-lts.Need-same-length (entry-calls t) (entry-at t) entry.Post
 entry-same-length t c = search needs
 
--- src/lib.rt:226:9
 entry-returns-3 : (t : ℕ) → entry-lts.Need-returns-3 (entry-calls t) (entry-at t) entry.Post
 entry-returns-3 t c = entry-bad _ _ _ _ (c .before .before .before .before .before .before .before .before .before .before .before .before .before .pre .1 .0) (c .before .before .before .before .before .before .before .before .before .before .before .before .before .args .left) (c .before .before .before .before .before .before .before .before .before .before .before .before .before .args .kind) (c .before .before .before .before .before .before .before .before .before .before .before .before .before .pre .1 .1) (c .before .before .before .before .before .before .before .before .before .before .before .before .before .args .constant) (c .before .before .before .before .before .before .before .before .before .if1 .left) (c .before .before .before .before .before .before .before .before .if2 .left) _ _ _ (c .before .before .past .ensures) (c .enum-told .given .1)
 
--- src/lib.rt:229:9
 entry-no-going-requires-2 : (t : ℕ) → entry-lts.Need-no-going-requires-2 (entry-calls t) (entry-at t) entry.Post
 entry-no-going-requires-2 t c κs = search needs
 
--- src/lib.rt:229:9
 entry-same-length-2 : (t : ℕ) → entry-lts.Need-same-length-2 (entry-calls t) (entry-at t) entry.Post
 entry-same-length-2 t c = search needs
 
--- src/lib.rt:229:9
 entry-returns-4 : (t : ℕ) → entry-lts.Need-returns-4 (entry-calls t) (entry-at t) entry.Post
 entry-returns-4 t c = rw (c .no-going2 .ensures) (entry-no-colon _ _ _ _ (c .before .before .before .before .before .before .before .before .before .before .before .before .before .before .before .before .before .pre .1 .0) (c .before .before .before .before .before .before .before .before .before .before .before .before .before .before .before .before .before .args .left) (c .before .before .before .before .before .before .before .before .before .before .before .before .before .before .before .before .before .args .kind) (c .before .before .before .before .before .before .before .before .before .before .before .before .before .before .before .before .before .pre .1 .1) (c .before .before .before .before .before .before .before .before .before .before .before .before .before .before .before .before .before .args .constant) (c .before .before .before .before .before .before .before .before .before .before .before .before .before .if1 .left) (c .before .before .before .before .before .before .before .before .before .before .before .before .if2 .left) _ _ (c .before .before .before .before .before .before .past .ensures) (c .before .before .before .before .r .given .1) (c .before .if3 .taken))
 
--- src/lib.rt:231:27
 entry-add-past-2 : (t : ℕ) → entry-lts.Need-add-past-2 (entry-calls t) (entry-at t) entry.Post
 entry-add-past-2 t c = record { fits = omega (arith, c .before .before .before .before .before .before .before .before .before .before .before .before .before .before .before .before .pre .1 .0 .few) }
 
--- src/lib.rt:231:9
 entry-past-requires-2 : (t : ℕ) → entry-lts.Need-past-requires-2 (entry-calls t) (entry-at t) entry.Post
 entry-past-requires-2 t c κs = (c .before .before .before .before .before .before .before .before .before .before .before .before .before .before .before .before .pre .1 .0 .short, colon-lies _ _ _ _ (c .before .before .before .before .before .before .before .before .before .before .before .before .before .before .before .before .pre .1 .0) (c .before .before .before .before .before .before .before .before .before .before .before .before .before .before .before .before .args .left) (c .before .before .before .before .before .before .before .before .before .before .before .before .before .before .before .before .args .kind) (c .before .before .before .before .before .before .before .before .before .before .before .before .before .before .before .before .pre .1 .1) (c .before .before .before .before .before .before .before .before .before .before .before .before .before .before .before .before .args .constant) (c .before .before .before .before .before .before .before .before .before .before .before .before .if1 .left) (c .before .before .before .before .before .before .before .before .before .before .before .if2 .left) _ _ (c .before .before .before .before .before .past .ensures) (c .before .before .before .r .given .1) .2)
 
--- src/lib.rt:232:20
 entry-enum-known-t : (t : ℕ) → entry-lts.Need-enum-known-t (entry-calls t) (entry-at t) entry.Post
 entry-enum-known-t t c = search needs
 
--- src/lib.rt:233:9
 entry-enum-told-2 : (t : ℕ) → entry-lts.Need-enum-told-2 (entry-calls t) (entry-at t) entry.Post
 entry-enum-told-2 t c = search needs
 
--- src/lib.rt:233:9
 entry-same-length-3 : (t : ℕ) → entry-lts.Need-same-length-3 (entry-calls t) (entry-at t) entry.Post
 entry-same-length-3 t c = search needs
 
--- src/lib.rt:233:9
 entry-returns-5 : (t : ℕ) → entry-lts.Need-returns-5 (entry-calls t) (entry-at t) entry.Post
 entry-returns-5 t c = entry-colon-bad _ _ _ _ (c .before .before .before .before .before .before .before .before .before .before .before .before .before .before .before .before .before .before .before .pre .1 .0) (c .before .before .before .before .before .before .before .before .before .before .before .before .before .before .before .before .before .before .before .args .left) (c .before .before .before .before .before .before .before .before .before .before .before .before .before .before .before .before .before .before .before .args .kind) (c .before .before .before .before .before .before .before .before .before .before .before .before .before .before .before .before .before .before .before .pre .1 .1) (c .before .before .before .before .before .before .before .before .before .before .before .before .before .before .before .before .before .before .before .args .constant) (c .before .before .before .before .before .before .before .before .before .before .before .before .before .before .before .if1 .left) (c .before .before .before .before .before .before .before .before .before .before .before .before .before .before .if2 .left) _ _ (c .before .before .before .before .before .before .before .before .past .ensures) (c .before .before .before .before .before .before .r .given .1) (c .before .before .before .if3 .left) _ _ _ (c .before .before .past2 .ensures) (c .enum-told2 .given .1)
 
--- src/lib.rt:235:9
 entry-value-requires : (t : ℕ) → entry-lts.Need-value-requires (entry-calls t) (entry-at t) entry.Post
 entry-value-requires t c κs = (omega (arith, c .before .before .before .before .before .before .before .before .before .before .before .before .before .before .before .before .before .before .before .before .before .pre .0), entry-ready _ _ _ _ (c .before .before .before .before .before .before .before .before .before .before .before .before .before .before .before .before .before .before .before .before .before .pre .1 .0) (c .before .before .before .before .before .before .before .before .before .before .before .before .before .before .before .before .before .before .before .before .before .args .left) (c .before .before .before .before .before .before .before .before .before .before .before .before .before .before .before .before .before .before .before .before .before .args .kind) (c .before .before .before .before .before .before .before .before .before .before .before .before .before .before .before .before .before .before .before .before .before .pre .1 .1) (c .before .before .before .before .before .before .before .before .before .before .before .before .before .before .before .before .before .before .before .before .before .args .constant) (c .before .before .before .before .before .before .before .before .before .before .before .before .before .before .before .before .before .if1 .left) (c .before .before .before .before .before .before .before .before .before .before .before .before .before .before .before .before .if2 .left) _ _ (c .before .before .before .before .before .before .before .before .before .before .past .ensures) (c .before .before .before .before .before .before .before .before .r .given .1) (c .before .before .before .before .before .if3 .left) _ _ (c .before .before .before .before .past2 .ensures) (c .before .before .t .given .1) _ (c .before .before .before .before .before .before .before .before .before .before .before .before .before .put-row .ensures))
 
--- src/lib.rt:236:20
 entry-enum-known-v : (t : ℕ) → entry-lts.Need-enum-known-v (entry-calls t) (entry-at t) entry.Post
 entry-enum-known-v t c = search needs
 
--- src/lib.rt:237:9
 entry-enum-told-3 : (t : ℕ) → entry-lts.Need-enum-told-3 (entry-calls t) (entry-at t) entry.Post
 entry-enum-told-3 t c = search needs
 
--- src/lib.rt:237:9
 entry-same-length-4 : (t : ℕ) → entry-lts.Need-same-length-4 (entry-calls t) (entry-at t) entry.Post
 entry-same-length-4 t c = search needs
 
--- src/lib.rt:237:9
 entry-returns-6 : (t : ℕ) → entry-lts.Need-returns-6 (entry-calls t) (entry-at t) entry.Post
 entry-returns-6 t c = entry-stops _ _ _ _ (c .before .before .before .before .before .before .before .before .before .before .before .before .before .before .before .before .before .before .before .before .before .before .before .before .before .before .pre .1 .0) (c .before .before .before .before .before .before .before .before .before .before .before .before .before .before .before .before .before .before .before .before .before .before .before .before .before .before .args .left) (c .before .before .before .before .before .before .before .before .before .before .before .before .before .before .before .before .before .before .before .before .before .before .before .before .before .before .args .kind) (c .before .before .before .before .before .before .before .before .before .before .before .before .before .before .before .before .before .before .before .before .before .before .before .before .before .before .pre .1 .1) (c .before .before .before .before .before .before .before .before .before .before .before .before .before .before .before .before .before .before .before .before .before .before .before .before .before .before .args .constant) (c .before .before .before .before .before .before .before .before .before .before .before .before .before .before .before .before .before .before .before .before .before .before .if1 .left) (c .before .before .before .before .before .before .before .before .before .before .before .before .before .before .before .before .before .before .before .before .before .if2 .left) _ _ (c .before .before .before .before .before .before .before .before .before .before .before .before .before .before .before .past .ensures) (c .before .before .before .before .before .before .before .before .before .before .before .before .before .r .given .1) (c .before .before .before .before .before .before .before .before .before .before .if3 .left) _ _ (c .before .before .before .before .before .before .before .before .before .past2 .ensures) (c .before .before .before .before .before .before .before .t .given .1) _ (c .before .before .before .before .before .before .before .before .before .before .before .before .before .before .before .before .before .before .put-row .ensures) _ _ _ _ (c .before .before .before .before .value .ensures) (c .enum-told3 .given .1)
 
--- src/lib.rt:239:5
 entry-put-end-requires : (t : ℕ) → entry-lts.Need-put-end-requires (entry-calls t) (entry-at t) entry.Post
 entry-put-end-requires t c κs = (omega (arith, c .before .before .before .before .before .before .before .before .before .before .before .before .before .before .before .before .before .before .before .before .before .before .before .before .before .before .before .before .pre .1 .0 .few, c .before .before .before .before .before .before .before .before .before .before .before .before .before .before .before .before .before .before .before .before .before .before .before .if2 .left), entry-size _ _ _ _ (c .before .before .before .before .before .before .before .before .before .before .before .before .before .before .before .before .before .before .before .before .before .before .before .before .before .before .before .before .pre .1 .0) (c .before .before .before .before .before .before .before .before .before .before .before .before .before .before .before .before .before .before .before .before .before .before .before .before .before .before .before .before .args .left) (c .before .before .before .before .before .before .before .before .before .before .before .before .before .before .before .before .before .before .before .before .before .before .before .before .before .before .before .before .args .kind) (c .before .before .before .before .before .before .before .before .before .before .before .before .before .before .before .before .before .before .before .before .before .before .before .before .before .before .before .before .pre .1 .1) (c .before .before .before .before .before .before .before .before .before .before .before .before .before .before .before .before .before .before .before .before .before .before .before .before .before .before .before .before .args .constant) (c .before .before .before .before .before .before .before .before .before .before .before .before .before .before .before .before .before .before .before .before .before .before .before .before .if1 .left) (c .before .before .before .before .before .before .before .before .before .before .before .before .before .before .before .before .before .before .before .before .before .before .before .if2 .left) _ _ (c .before .before .before .before .before .before .before .before .before .before .before .before .before .before .before .before .before .past .ensures) (c .before .before .before .before .before .before .before .before .before .before .before .before .before .before .before .r .given .1) (c .before .before .before .before .before .before .before .before .before .before .before .before .if3 .left) _ _ (c .before .before .before .before .before .before .before .before .before .before .before .past2 .ensures) (c .before .before .before .before .before .before .before .before .before .t .given .1) _ (c .before .before .before .before .before .before .before .before .before .before .before .before .before .before .before .before .before .before .before .before .put-row .ensures) _ _ _ (c .before .before .before .before .before .before .value .ensures) (c .before .before .v .given .1))
 
--- src/lib.rt:212:1
 entry-same-length-5 : (t : ℕ) → entry-lts.Need-same-length-5 (entry-calls t) (entry-at t) entry.Post
 entry-same-length-5 t c = c .before .before .put-end .kept .0 ∙ c .before .before .before .before .before .before .before .before .before .value .kept .1 .0 ∙ c .before .before .before .before .before .before .before .before .before .before .before .before .before .before .before .before .before .before .before .before .before .before .before .put-row .kept .0
 
--- src/lib.rt:212:1
 entry-returns-7 : (t : ℕ) → entry-lts.Need-returns-7 (entry-calls t) (entry-at t) entry.Post
 entry-returns-7 t c = entry-went _ _ _ _ (c .before .before .before .before .before .before .before .before .before .before .before .before .before .before .before .before .before .before .before .before .before .before .before .before .before .before .before .before .before .before .before .pre .1 .0) (c .before .before .before .before .before .before .before .before .before .before .before .before .before .before .before .before .before .before .before .before .before .before .before .before .before .before .before .before .before .before .before .args .left) (c .before .before .before .before .before .before .before .before .before .before .before .before .before .before .before .before .before .before .before .before .before .before .before .before .before .before .before .before .before .before .before .args .kind) (c .before .before .before .before .before .before .before .before .before .before .before .before .before .before .before .before .before .before .before .before .before .before .before .before .before .before .before .before .before .before .before .pre .1 .1) (c .before .before .before .before .before .before .before .before .before .before .before .before .before .before .before .before .before .before .before .before .before .before .before .before .before .before .before .before .before .before .before .args .constant) (c .before .before .before .before .before .before .before .before .before .before .before .before .before .before .before .before .before .before .before .before .before .before .before .before .before .before .before .if1 .left) (c .before .before .before .before .before .before .before .before .before .before .before .before .before .before .before .before .before .before .before .before .before .before .before .before .before .before .if2 .left) _ _ (c .before .before .before .before .before .before .before .before .before .before .before .before .before .before .before .before .before .before .before .before .past .ensures) (c .before .before .before .before .before .before .before .before .before .before .before .before .before .before .before .before .before .before .r .given .1) (c .before .before .before .before .before .before .before .before .before .before .before .before .before .before .before .if3 .left) _ _ (c .before .before .before .before .before .before .before .before .before .before .before .before .before .before .past2 .ensures) (c .before .before .before .before .before .before .before .before .before .before .before .before .t .given .1) _ (c .before .before .before .before .before .before .before .before .before .before .before .before .before .before .before .before .before .before .before .before .before .before .before .put-row .ensures) _ _ _ _ (c .before .before .before .before .before .before .before .before .before .value .ensures) (c .before .before .before .before .before .v .given .1) (c .before .before .put-end .ensures)
 
@@ -202,87 +175,66 @@ list-Inv-loop s rows₀ parent left constant n d₀ rows d = InNest s rows₀ ro
 abbrev list-μ-loop : list-lts.MeasureT-loop
 list-μ-loop s rows₀ parent left constant n d₀ rows d = length s - d .stop
 
--- src/lib.rt:155:9
 list-returns : (t : ℕ) → list-lts.Need-returns (list-calls t) (list-at t) list.Post list-Inv-loop list-μ-loop
 list-returns t c = nest-deep (list-nest (c .before .before .before .args .constant)) _ _ _ _ (c .before .before .before .pre .1 .0) (c .before .before .before .pre .1 .1) (c .before .before .before .args .left) (c .if1 .taken)
 
--- src/lib.rt:159:9
 list-returns-2 : (t : ℕ) → list-lts.Need-returns-2 (list-calls t) (list-at t) list.Post list-Inv-loop list-μ-loop
 list-returns-2 t c = nest-full (list-nest (c .before .before .before .before .args .constant)) _ _ _ _ (c .before .before .before .before .pre .1 .0) (c .before .before .before .before .pre .1 .1) (c .before .before .before .before .args .left) (c .before .if1 .left) (c .if2 .taken)
 
--- src/lib.rt:161:5
 list-put-row-requires : (t : ℕ) → list-lts.Need-put-row-requires (list-calls t) (list-at t) list.Post list-Inv-loop list-μ-loop
 list-put-row-requires t c κs = search needs
 
--- src/lib.rt:162:23
 list-add-past : (t : ℕ) → list-lts.Need-add-past (list-calls t) (list-at t) list.Post list-Inv-loop list-μ-loop
 list-add-past t c = search needs
 
--- src/lib.rt:162:9
 list-past-requires : (t : ℕ) → list-lts.Need-past-requires (list-calls t) (list-at t) list.Post list-Inv-loop list-μ-loop
 list-past-requires t c κs = (c .before .before .before .before .before .before .before .before .pre .1 .0 .short, ready-lies _ _ _ _ (c .before .before .before .before .before .before .before .before .pre .1 .0) .2)
 
--- src/lib.rt:163:20
 list-enum-known-r : (t : ℕ) → list-lts.Need-enum-known-r (list-calls t) (list-at t) list.Post list-Inv-loop list-μ-loop
 list-enum-known-r t c = search needs
 
--- src/lib.rt:164:9
 list-enum-told : (t : ℕ) → list-lts.Need-enum-told (list-calls t) (list-at t) list.Post list-Inv-loop list-μ-loop
 list-enum-told t c = search needs
 
--- src/lib.rt:164:9
 list-same-length : (t : ℕ) → list-lts.Need-same-length (list-calls t) (list-at t) list.Post list-Inv-loop list-μ-loop
 list-same-length t c = search needs
 
--- src/lib.rt:164:9
 list-returns-3 : (t : ℕ) → list-lts.Need-returns-3 (list-calls t) (list-at t) list.Post list-Inv-loop list-μ-loop
 list-returns-3 t c = nest-bad (list-nest (c .before .before .before .before .before .before .before .before .before .before .before .args .constant)) _ _ _ _ (c .before .before .before .before .before .before .before .before .before .before .before .pre .1 .0) (c .before .before .before .before .before .before .before .before .before .before .before .pre .1 .1) (c .before .before .before .before .before .before .before .before .before .before .before .args .left) (c .before .before .before .before .before .before .before .before .if1 .left) (c .before .before .before .before .before .before .before .if2 .left) _ _ _ (c .before .before .past .ensures) (c .enum-told .given .1)
 
--- src/lib.rt:167:5
 list-loop-holds : (t : ℕ) → list-lts.Need-loop-holds (list-calls t) (list-at t) list.Post list-Inv-loop list-μ-loop
 list-loop-holds t c = nest-begins (list-nest (c .before .before .before .before .before .before .before .before .before .before .before .before .args .constant)) _ _ _ _ (c .before .before .before .before .before .before .before .before .before .before .before .before .pre .1 .0) (c .before .before .before .before .before .before .before .before .before .before .before .before .pre .1 .1) (c .before .before .before .before .before .before .before .before .before .before .before .before .args .left) (c .before .before .before .before .before .before .before .before .before .if1 .left) (c .before .before .before .before .before .before .before .before .if2 .left) _ _ (c .before .before .before .past .ensures) (c .before .r .given .1) _ (c .before .before .before .before .before .before .put-row .ensures)
 
--- src/lib.rt:170:13
 list-close-requires : (t : ℕ) → list-lts.Need-close-requires (list-calls t) (list-at t) list.Post list-Inv-loop list-μ-loop
 list-close-requires t c κs = (in-ready _ _ _ _ _ _ _ _ _ (c .before .before .loop .inv) (c .before .before .before .before .before .before .before .before .before .before .before .before .before .before .before .pre .1 .0 .short) (c .before .before .before .before .before .before .before .before .before .before .before .before .before .before .before .pre .1 .0 .few), omega (arith, c .before .before .before .before .before .before .before .before .before .before .before .before .before .before .before .pre .1 .0 .few, c .before .before .before .before .before .before .before .before .before .before .before .if2 .left))
 
--- src/lib.rt:170:13
 list-same-length-2 : (t : ℕ) → list-lts.Need-same-length-2 (list-calls t) (list-at t) list.Post list-Inv-loop list-μ-loop
 list-same-length-2 t c = search needs
 
--- src/lib.rt:170:13
 list-returns-4 : (t : ℕ) → list-lts.Need-returns-4 (list-calls t) (list-at t) list.Post list-Inv-loop list-μ-loop
 list-returns-4 t c = nest-closes (list-nest (c .before .before .before .before .before .before .before .before .before .before .before .before .before .before .before .before .before .before .args .constant)) _ _ _ _ (c .before .before .before .before .before .before .before .before .before .before .before .before .before .before .before .before .before .before .pre .1 .0) (c .before .before .before .before .before .before .before .before .before .before .before .before .before .before .before .before .before .before .pre .1 .1) (c .before .before .before .before .before .before .before .before .before .before .before .before .before .before .before .before .before .before .args .left) (c .before .before .before .before .before .before .before .before .before .before .before .before .before .before .before .if1 .left) (c .before .before .before .before .before .before .before .before .before .before .before .before .before .before .if2 .left) _ _ (c .before .before .before .before .before .before .before .before .before .past .ensures) (c .before .before .before .before .before .before .before .r .given .1) _ (c .before .before .before .before .before .before .before .before .before .before .before .before .put-row .ensures) _ _ (c .before .before .before .before .before .loop .inv) (c .before .before .before .before .if3 .taken) _ _ (c .before .before .close .ensures)
 
--- src/lib.rt:172:38
 list-sub-value : (t : ℕ) → list-lts.Need-sub-value (list-calls t) (list-at t) list.Post list-Inv-loop list-μ-loop
 list-sub-value t c = search needs
 
--- src/lib.rt:172:13
 list-value-requires : (t : ℕ) → list-lts.Need-value-requires (list-calls t) (list-at t) list.Post list-Inv-loop list-μ-loop
 list-value-requires t c κs = (omega (arith, c .before .before .before .before .before .before .before .before .before .before .before .before .before .before .before .pre .0, c .before .before .before .before .before .before .before .before .before .before .before .before .if1 .left), in-ready _ _ _ _ _ _ _ _ _ (c .before .before .loop .inv) (c .before .before .before .before .before .before .before .before .before .before .before .before .before .before .before .pre .1 .0 .short) (c .before .before .before .before .before .before .before .before .before .before .before .before .before .before .before .pre .1 .0 .few))
 
--- src/lib.rt:173:24
 list-enum-known-t : (t : ℕ) → list-lts.Need-enum-known-t (list-calls t) (list-at t) list.Post list-Inv-loop list-μ-loop
 list-enum-known-t t c = search needs
 
--- src/lib.rt:174:13
 list-enum-told-2 : (t : ℕ) → list-lts.Need-enum-told-2 (list-calls t) (list-at t) list.Post list-Inv-loop list-μ-loop
 list-enum-told-2 t c = search needs
 
--- src/lib.rt:174:13
 list-same-length-3 : (t : ℕ) → list-lts.Need-same-length-3 (list-calls t) (list-at t) list.Post list-Inv-loop list-μ-loop
 list-same-length-3 t c = search needs
 
--- src/lib.rt:174:13
 list-returns-5 : (t : ℕ) → list-lts.Need-returns-5 (list-calls t) (list-at t) list.Post list-Inv-loop list-μ-loop
 list-returns-5 t c = nest-stops (list-nest (c .before .before .before .before .before .before .before .before .before .before .before .before .before .before .before .before .before .before .before .before .args .constant)) _ _ _ _ (c .before .before .before .before .before .before .before .before .before .before .before .before .before .before .before .before .before .before .before .before .pre .1 .0) (c .before .before .before .before .before .before .before .before .before .before .before .before .before .before .before .before .before .before .before .before .pre .1 .1) (c .before .before .before .before .before .before .before .before .before .before .before .before .before .before .before .before .before .before .before .before .args .left) (c .before .before .before .before .before .before .before .before .before .before .before .before .before .before .before .before .before .if1 .left) (c .before .before .before .before .before .before .before .before .before .before .before .before .before .before .before .before .if2 .left) _ _ (c .before .before .before .before .before .before .before .before .before .before .before .past .ensures) (c .before .before .before .before .before .before .before .before .before .r .given .1) _ (c .before .before .before .before .before .before .before .before .before .before .before .before .before .before .put-row .ensures) _ _ (c .before .before .before .before .before .before .before .loop .inv) (c .before .before .before .before .before .before .if3 .left) (valueStack (c .before .before .before .before .before .before .before .before .before .before .before .before .before .before .before .before .before .before .before .before .args .constant)) (λ σ o q h f. refl) _ _ _ _ (c .before .before .before .before .value .ensures) (c .enum-told2 .given .1)
 
--- src/lib.rt:167:5
 list-loop-less : (t : ℕ) → list-lts.Need-loop-less (list-calls t) (list-at t) list.Post list-Inv-loop list-μ-loop
 list-loop-less t c = nest-less (list-nest (c .before .before .before .before .before .before .before .before .before .before .before .before .before .before .before .before .before .before .before .before .before .args .constant)) _ _ _ _ (c .before .before .before .before .before .before .before .before .before .before .before .before .before .before .before .before .before .before .before .before .before .pre .1 .0) (c .before .before .before .before .before .before .before .before .before .before .before .before .before .before .before .before .before .before .before .before .before .pre .1 .1) (c .before .before .before .before .before .before .before .before .before .before .before .before .before .before .before .before .before .before .before .before .before .args .left) (c .before .before .before .before .before .before .before .before .before .before .before .before .before .before .before .before .before .before .if1 .left) (c .before .before .before .before .before .before .before .before .before .before .before .before .before .before .before .before .before .if2 .left) _ _ (c .before .before .before .before .before .before .before .before .before .before .before .before .past .ensures) (c .before .before .before .before .before .before .before .before .before .before .r .given .1) _ (c .before .before .before .before .before .before .before .before .before .before .before .before .before .before .before .put-row .ensures) _ _ (c .before .before .before .before .before .before .before .before .loop .inv) (c .before .before .before .before .before .before .before .if3 .left) (valueStack (c .before .before .before .before .before .before .before .before .before .before .before .before .before .before .before .before .before .before .before .before .before .args .constant)) (λ σ o q h f. refl) _ _ _ (c .before .before .before .before .before .value .ensures) (c .before .t .given .1)
 
--- src/lib.rt:167:5
 list-loop-again : (t : ℕ) → list-lts.Need-loop-again (list-calls t) (list-at t) list.Post list-Inv-loop list-μ-loop
 list-loop-again t c = nest-more (list-nest (c .before .before .before .before .before .before .before .before .before .before .before .before .before .before .before .before .before .before .before .before .before .args .constant)) _ _ _ _ (c .before .before .before .before .before .before .before .before .before .before .before .before .before .before .before .before .before .before .before .before .before .pre .1 .0) (c .before .before .before .before .before .before .before .before .before .before .before .before .before .before .before .before .before .before .before .before .before .pre .1 .1) (c .before .before .before .before .before .before .before .before .before .before .before .before .before .before .before .before .before .before .before .before .before .args .left) (c .before .before .before .before .before .before .before .before .before .before .before .before .before .before .before .before .before .before .if1 .left) (c .before .before .before .before .before .before .before .before .before .before .before .before .before .before .before .before .before .if2 .left) _ _ (c .before .before .before .before .before .before .before .before .before .before .before .before .past .ensures) (c .before .before .before .before .before .before .before .before .before .before .r .given .1) _ (c .before .before .before .before .before .before .before .before .before .before .before .before .before .before .before .put-row .ensures) _ _ (c .before .before .before .before .before .before .before .before .loop .inv) (c .before .before .before .before .before .before .before .if3 .left) (valueStack (c .before .before .before .before .before .before .before .before .before .before .before .before .before .before .before .before .before .before .before .before .before .args .constant)) (λ σ o q h f. refl) _ _ _ (c .before .before .before .before .before .value .ensures) (c .before .t .given .1)
 
@@ -292,143 +244,108 @@ object-Inv-loop s rows₀ parent left constant n d₀ rows d = InNest s rows₀ 
 abbrev object-μ-loop : object-lts.MeasureT-loop
 object-μ-loop s rows₀ parent left constant n d₀ rows d = length s - d .stop
 
--- src/lib.rt:186:9
 object-returns : (t : ℕ) → object-lts.Need-returns (object-calls t) (object-at t) object.Post object-Inv-loop object-μ-loop
 object-returns t c = nest-deep (object-nest (c .before .before .before .args .constant)) _ _ _ _ (c .before .before .before .pre .1 .0) (c .before .before .before .pre .1 .1) (c .before .before .before .args .left) (c .if1 .taken)
 
--- src/lib.rt:190:9
 object-returns-2 : (t : ℕ) → object-lts.Need-returns-2 (object-calls t) (object-at t) object.Post object-Inv-loop object-μ-loop
 object-returns-2 t c = nest-full (object-nest (c .before .before .before .before .args .constant)) _ _ _ _ (c .before .before .before .before .pre .1 .0) (c .before .before .before .before .pre .1 .1) (c .before .before .before .before .args .left) (c .before .if1 .left) (c .if2 .taken)
 
--- src/lib.rt:192:5
 object-put-row-requires : (t : ℕ) → object-lts.Need-put-row-requires (object-calls t) (object-at t) object.Post object-Inv-loop object-μ-loop
 object-put-row-requires t c κs = search needs
 
--- src/lib.rt:193:23
 object-add-past : (t : ℕ) → object-lts.Need-add-past (object-calls t) (object-at t) object.Post object-Inv-loop object-μ-loop
 object-add-past t c = search needs
 
--- src/lib.rt:193:9
 object-past-requires : (t : ℕ) → object-lts.Need-past-requires (object-calls t) (object-at t) object.Post object-Inv-loop object-μ-loop
 object-past-requires t c κs = (c .before .before .before .before .before .before .before .before .pre .1 .0 .short, ready-lies _ _ _ _ (c .before .before .before .before .before .before .before .before .pre .1 .0) .2)
 
--- src/lib.rt:194:20
 object-enum-known-r : (t : ℕ) → object-lts.Need-enum-known-r (object-calls t) (object-at t) object.Post object-Inv-loop object-μ-loop
 object-enum-known-r t c = search needs
 
--- src/lib.rt:195:9
 object-enum-told : (t : ℕ) → object-lts.Need-enum-told (object-calls t) (object-at t) object.Post object-Inv-loop object-μ-loop
 object-enum-told t c = search needs
 
--- src/lib.rt:195:9
 object-same-length : (t : ℕ) → object-lts.Need-same-length (object-calls t) (object-at t) object.Post object-Inv-loop object-μ-loop
 object-same-length t c = search needs
 
--- src/lib.rt:195:9
 object-returns-3 : (t : ℕ) → object-lts.Need-returns-3 (object-calls t) (object-at t) object.Post object-Inv-loop object-μ-loop
 object-returns-3 t c = nest-bad (object-nest (c .before .before .before .before .before .before .before .before .before .before .before .args .constant)) _ _ _ _ (c .before .before .before .before .before .before .before .before .before .before .before .pre .1 .0) (c .before .before .before .before .before .before .before .before .before .before .before .pre .1 .1) (c .before .before .before .before .before .before .before .before .before .before .before .args .left) (c .before .before .before .before .before .before .before .before .if1 .left) (c .before .before .before .before .before .before .before .if2 .left) _ _ _ (c .before .before .past .ensures) (c .enum-told .given .1)
 
--- src/lib.rt:198:5
 object-loop-holds : (t : ℕ) → object-lts.Need-loop-holds (object-calls t) (object-at t) object.Post object-Inv-loop object-μ-loop
 object-loop-holds t c = nest-begins (object-nest (c .before .before .before .before .before .before .before .before .before .before .before .before .args .constant)) _ _ _ _ (c .before .before .before .before .before .before .before .before .before .before .before .before .pre .1 .0) (c .before .before .before .before .before .before .before .before .before .before .before .before .pre .1 .1) (c .before .before .before .before .before .before .before .before .before .before .before .before .args .left) (c .before .before .before .before .before .before .before .before .before .if1 .left) (c .before .before .before .before .before .before .before .before .if2 .left) _ _ (c .before .before .before .past .ensures) (c .before .r .given .1) _ (c .before .before .before .before .before .before .put-row .ensures)
 
--- src/lib.rt:201:13
 object-close-requires : (t : ℕ) → object-lts.Need-close-requires (object-calls t) (object-at t) object.Post object-Inv-loop object-μ-loop
 object-close-requires t c κs = (in-ready _ _ _ _ _ _ _ _ _ (c .before .before .loop .inv) (c .before .before .before .before .before .before .before .before .before .before .before .before .before .before .before .pre .1 .0 .short) (c .before .before .before .before .before .before .before .before .before .before .before .before .before .before .before .pre .1 .0 .few), omega (arith, c .before .before .before .before .before .before .before .before .before .before .before .before .before .before .before .pre .1 .0 .few, c .before .before .before .before .before .before .before .before .before .before .before .if2 .left))
 
--- src/lib.rt:201:13
 object-same-length-2 : (t : ℕ) → object-lts.Need-same-length-2 (object-calls t) (object-at t) object.Post object-Inv-loop object-μ-loop
 object-same-length-2 t c = search needs
 
--- src/lib.rt:201:13
 object-returns-4 : (t : ℕ) → object-lts.Need-returns-4 (object-calls t) (object-at t) object.Post object-Inv-loop object-μ-loop
 object-returns-4 t c = nest-closes (object-nest (c .before .before .before .before .before .before .before .before .before .before .before .before .before .before .before .before .before .before .args .constant)) _ _ _ _ (c .before .before .before .before .before .before .before .before .before .before .before .before .before .before .before .before .before .before .pre .1 .0) (c .before .before .before .before .before .before .before .before .before .before .before .before .before .before .before .before .before .before .pre .1 .1) (c .before .before .before .before .before .before .before .before .before .before .before .before .before .before .before .before .before .before .args .left) (c .before .before .before .before .before .before .before .before .before .before .before .before .before .before .before .if1 .left) (c .before .before .before .before .before .before .before .before .before .before .before .before .before .before .if2 .left) _ _ (c .before .before .before .before .before .before .before .before .before .past .ensures) (c .before .before .before .before .before .before .before .r .given .1) _ (c .before .before .before .before .before .before .before .before .before .before .before .before .put-row .ensures) _ _ (c .before .before .before .before .before .loop .inv) (c .before .before .before .before .if3 .taken) _ _ (c .before .before .close .ensures)
 
--- src/lib.rt:203:38
 object-sub-entry : (t : ℕ) → object-lts.Need-sub-entry (object-calls t) (object-at t) object.Post object-Inv-loop object-μ-loop
 object-sub-entry t c = search needs
 
--- src/lib.rt:203:13
 object-entry-requires : (t : ℕ) → object-lts.Need-entry-requires (object-calls t) (object-at t) object.Post object-Inv-loop object-μ-loop
 object-entry-requires t c κs = (omega (arith, c .before .before .before .before .before .before .before .before .before .before .before .before .before .before .before .pre .0, c .before .before .before .before .before .before .before .before .before .before .before .before .if1 .left), (in-ready _ _ _ _ _ _ _ _ _ (c .before .before .loop .inv) (c .before .before .before .before .before .before .before .before .before .before .before .before .before .before .before .pre .1 .0 .short) (c .before .before .before .before .before .before .before .before .before .before .before .before .before .before .before .pre .1 .0 .few), inr refl))
 
--- src/lib.rt:204:24
 object-enum-known-t : (t : ℕ) → object-lts.Need-enum-known-t (object-calls t) (object-at t) object.Post object-Inv-loop object-μ-loop
 object-enum-known-t t c = search needs
 
--- src/lib.rt:205:13
 object-enum-told-2 : (t : ℕ) → object-lts.Need-enum-told-2 (object-calls t) (object-at t) object.Post object-Inv-loop object-μ-loop
 object-enum-told-2 t c = search needs
 
--- src/lib.rt:205:13
 object-same-length-3 : (t : ℕ) → object-lts.Need-same-length-3 (object-calls t) (object-at t) object.Post object-Inv-loop object-μ-loop
 object-same-length-3 t c = search needs
 
--- src/lib.rt:205:13
 object-returns-5 : (t : ℕ) → object-lts.Need-returns-5 (object-calls t) (object-at t) object.Post object-Inv-loop object-μ-loop
 object-returns-5 t c = nest-stops (object-nest (c .before .before .before .before .before .before .before .before .before .before .before .before .before .before .before .before .before .before .before .before .args .constant)) _ _ _ _ (c .before .before .before .before .before .before .before .before .before .before .before .before .before .before .before .before .before .before .before .before .pre .1 .0) (c .before .before .before .before .before .before .before .before .before .before .before .before .before .before .before .before .before .before .before .before .pre .1 .1) (c .before .before .before .before .before .before .before .before .before .before .before .before .before .before .before .before .before .before .before .before .args .left) (c .before .before .before .before .before .before .before .before .before .before .before .before .before .before .before .before .before .if1 .left) (c .before .before .before .before .before .before .before .before .before .before .before .before .before .before .before .before .if2 .left) _ _ (c .before .before .before .before .before .before .before .before .before .before .before .past .ensures) (c .before .before .before .before .before .before .before .before .before .r .given .1) _ (c .before .before .before .before .before .before .before .before .before .before .before .before .before .before .put-row .ensures) _ _ (c .before .before .before .before .before .before .before .loop .inv) (c .before .before .before .before .before .before .if3 .left) (entryStack kindObjectField (c .before .before .before .before .before .before .before .before .before .before .before .before .before .before .before .before .before .before .before .before .args .constant)) (field-is _ _ _ _ (in-ready _ _ _ _ _ _ _ _ _ (c .before .before .before .before .before .before .before .loop .inv) (c .before .before .before .before .before .before .before .before .before .before .before .before .before .before .before .before .before .before .before .before .pre .1 .0 .short) (c .before .before .before .before .before .before .before .before .before .before .before .before .before .before .before .before .before .before .before .before .pre .1 .0 .few)) _ (c .before .before .before .before .before .before .before .before .before .before .before .before .before .before .before .before .before .before .before .before .args .constant)) _ _ _ _ (c .before .before .before .before .entry .ensures) (c .enum-told2 .given .1)
 
--- src/lib.rt:198:5
 object-loop-less : (t : ℕ) → object-lts.Need-loop-less (object-calls t) (object-at t) object.Post object-Inv-loop object-μ-loop
 object-loop-less t c = nest-less (object-nest (c .before .before .before .before .before .before .before .before .before .before .before .before .before .before .before .before .before .before .before .before .before .args .constant)) _ _ _ _ (c .before .before .before .before .before .before .before .before .before .before .before .before .before .before .before .before .before .before .before .before .before .pre .1 .0) (c .before .before .before .before .before .before .before .before .before .before .before .before .before .before .before .before .before .before .before .before .before .pre .1 .1) (c .before .before .before .before .before .before .before .before .before .before .before .before .before .before .before .before .before .before .before .before .before .args .left) (c .before .before .before .before .before .before .before .before .before .before .before .before .before .before .before .before .before .before .if1 .left) (c .before .before .before .before .before .before .before .before .before .before .before .before .before .before .before .before .before .if2 .left) _ _ (c .before .before .before .before .before .before .before .before .before .before .before .before .past .ensures) (c .before .before .before .before .before .before .before .before .before .before .r .given .1) _ (c .before .before .before .before .before .before .before .before .before .before .before .before .before .before .before .put-row .ensures) _ _ (c .before .before .before .before .before .before .before .before .loop .inv) (c .before .before .before .before .before .before .before .if3 .left) (entryStack kindObjectField (c .before .before .before .before .before .before .before .before .before .before .before .before .before .before .before .before .before .before .before .before .before .args .constant)) (field-is _ _ _ _ (in-ready _ _ _ _ _ _ _ _ _ (c .before .before .before .before .before .before .before .before .loop .inv) (c .before .before .before .before .before .before .before .before .before .before .before .before .before .before .before .before .before .before .before .before .before .pre .1 .0 .short) (c .before .before .before .before .before .before .before .before .before .before .before .before .before .before .before .before .before .before .before .before .before .pre .1 .0 .few)) _ (c .before .before .before .before .before .before .before .before .before .before .before .before .before .before .before .before .before .before .before .before .before .args .constant)) _ _ _ (c .before .before .before .before .before .entry .ensures) (c .before .t .given .1)
 
--- src/lib.rt:198:5
 object-loop-again : (t : ℕ) → object-lts.Need-loop-again (object-calls t) (object-at t) object.Post object-Inv-loop object-μ-loop
 object-loop-again t c = nest-more (object-nest (c .before .before .before .before .before .before .before .before .before .before .before .before .before .before .before .before .before .before .before .before .before .args .constant)) _ _ _ _ (c .before .before .before .before .before .before .before .before .before .before .before .before .before .before .before .before .before .before .before .before .before .pre .1 .0) (c .before .before .before .before .before .before .before .before .before .before .before .before .before .before .before .before .before .before .before .before .before .pre .1 .1) (c .before .before .before .before .before .before .before .before .before .before .before .before .before .before .before .before .before .before .before .before .before .args .left) (c .before .before .before .before .before .before .before .before .before .before .before .before .before .before .before .before .before .before .if1 .left) (c .before .before .before .before .before .before .before .before .before .before .before .before .before .before .before .before .before .if2 .left) _ _ (c .before .before .before .before .before .before .before .before .before .before .before .before .past .ensures) (c .before .before .before .before .before .before .before .before .before .before .r .given .1) _ (c .before .before .before .before .before .before .before .before .before .before .before .before .before .before .before .put-row .ensures) _ _ (c .before .before .before .before .before .before .before .before .loop .inv) (c .before .before .before .before .before .before .before .if3 .left) (entryStack kindObjectField (c .before .before .before .before .before .before .before .before .before .before .before .before .before .before .before .before .before .before .before .before .before .args .constant)) (field-is _ _ _ _ (in-ready _ _ _ _ _ _ _ _ _ (c .before .before .before .before .before .before .before .before .loop .inv) (c .before .before .before .before .before .before .before .before .before .before .before .before .before .before .before .before .before .before .before .before .before .pre .1 .0 .short) (c .before .before .before .before .before .before .before .before .before .before .before .before .before .before .before .before .before .before .before .before .before .pre .1 .0 .few)) _ (c .before .before .before .before .before .before .before .before .before .before .before .before .before .before .before .before .before .before .before .before .before .args .constant)) _ _ _ (c .before .before .before .before .before .entry .ensures) (c .before .t .given .1)
 
--- src/lib.rt:125:9
 value-list-requires : (t : ℕ) → value-lts.Need-list-requires (value-calls t) (value-at t) value.Post
 value-list-requires t c κs = (omega (arith, c .before .before .before .before .pre .0), (c .before .before .before .before .pre .1, c .before .if1 .taken))
 
--- src/lib.rt:125:9
 value-same-length : (t : ℕ) → value-lts.Need-same-length (value-calls t) (value-at t) value.Post
 value-same-length t c = search needs
 
--- src/lib.rt:125:9
 value-returns : (t : ℕ) → value-lts.Need-returns (value-calls t) (value-at t) value.Post
 value-returns t c = c .before .before .list .ensures
 
--- src/lib.rt:128:9
 value-object-requires : (t : ℕ) → value-lts.Need-object-requires (value-calls t) (value-at t) value.Post
 value-object-requires t c κs = (omega (arith, c .before .before .before .before .before .pre .0), (c .before .before .before .before .before .pre .1, c .before .if2 .taken))
 
--- src/lib.rt:128:9
 value-same-length-2 : (t : ℕ) → value-lts.Need-same-length-2 (value-calls t) (value-at t) value.Post
 value-same-length-2 t c = search needs
 
--- src/lib.rt:128:9
 value-returns-2 : (t : ℕ) → value-lts.Need-returns-2 (value-calls t) (value-at t) value.Post
 value-returns-2 t c = c .before .before .object .ensures
 
--- src/lib.rt:132:13
 value-no-going-requires : (t : ℕ) → value-lts.Need-no-going-requires (value-calls t) (value-at t) value.Post
 value-no-going-requires t c κs = search needs
 
--- src/lib.rt:132:13
 value-returns-3 : (t : ℕ) → value-lts.Need-returns-3 (value-calls t) (value-at t) value.Post
 value-returns-3 t c = rw (c .no-going .ensures) (no-variable _ _ _ _ _ _ (c .before .before .before .before .before .before .before .pre .1) (c .before .before .if3 .taken) (c .before .if4 .taken))
 
--- src/lib.rt:134:9
 value-variable-requires : (t : ℕ) → value-lts.Need-variable-requires (value-calls t) (value-at t) value.Post
 value-variable-requires t c κs = (c .before .before .before .before .before .before .before .pre .1, c .before .before .if3 .taken)
 
--- src/lib.rt:134:9
 value-same-length-3 : (t : ℕ) → value-lts.Need-same-length-3 (value-calls t) (value-at t) value.Post
 value-same-length-3 t c = search needs
 
--- src/lib.rt:134:9
 value-returns-4 : (t : ℕ) → value-lts.Need-returns-4 (value-calls t) (value-at t) value.Post
 value-returns-4 t c = rw (c .before .before .before .before .if4 .left) (c .before .before .variable .ensures (c .before .before .before .before .before .before .before .before .before .before .args .left))
 
--- src/lib.rt:136:5
 value-scalar-requires : (t : ℕ) → value-lts.Need-scalar-requires (value-calls t) (value-at t) value.Post
 value-scalar-requires t c κs = (c .before .before .before .before .before .before .pre .1, c .before .if3 .left, c .before .before .before .if1 .left, c .before .before .if2 .left)
 
--- src/lib.rt:119:1
 value-same-length-4 : (t : ℕ) → value-lts.Need-same-length-4 (value-calls t) (value-at t) value.Post
 value-same-length-4 t c = search needs
 
--- src/lib.rt:119:1
 value-returns-5 : (t : ℕ) → value-lts.Need-returns-5 (value-calls t) (value-at t) value.Post
 value-returns-5 t c = c .before .before .scalar .ensures (c .before .before .before .before .before .before .before .before .before .args .left) (c .before .before .before .before .before .before .before .before .before .args .constant)
 
