@@ -32,13 +32,19 @@ use tokens::WORD_FALSE;
 use tokens::WORD_NULL;
 use tokens::WORD_TRUE;
 ghost use mathlib.Core.Path.{_≡_};
-ghost use Prim.Native.Nat.{_+_, _*_, _≤_, _<_};
-ghost use lib.ListN.{length};
+ghost use mathlib.Core.Logic.{_≢_};
+ghost use Prim.Native.Nat.{_<_};
+ghost use Rattle.paper.specs.Numbers.{mostRows};
+ghost use Rattle.paper.specs.Language.{dollar, bracketL, braceL, n-other};
+ghost use Rattle.tokens.specs.Head.{kindOf};
 ghost use Rattle.reader.specs.Reader.{Ready, Said};
-ghost use Rattle.values.specs.Stacks.{valueStack, entryStack};
+ghost use Rattle.values.specs.Stacks.{valueStack, entryStack, EntryKind};
+ghost use Rattle.values.specs.Ends.{Leaf, Close, SaidScalar, SaidVariable};
 
 // A value that is one token: its row.
 fn leaf(s: &[u8], rows: &mut [u32], c: Cursor, parent: u32, kind: u32, name: u32, size: u32, extra: u32) -> Read
+    requires { ⌜ Ready (now s) (now rows) c parent ⌝ }
+    ensures { λ r. ⌜ Leaf (now (s .entry)) (now (rows .entry)) (now (rows .exit)) c parent kind name size extra r ⌝ }
 {
     let n = c.rows;
     if n == MOST_ROWS {
@@ -50,6 +56,8 @@ fn leaf(s: &[u8], rows: &mut [u32], c: Cursor, parent: u32, kind: u32, name: u32
 
 // A name as a value: true, false, null or an enum value.
 fn word_value(s: &[u8], rows: &mut [u32], c: Cursor, parent: u32) -> Read
+    requires { ⌜ Ready (now s) (now rows) c parent × (c .kind ≡ kindOf n-other) ⌝ }
+    ensures { λ r. ⌜ SaidScalar (now (s .entry)) (now (rows .entry)) (now (rows .exit)) c parent r ⌝ }
 {
     let start = c.start;
     let end = c.end;
@@ -68,6 +76,8 @@ fn word_value(s: &[u8], rows: &mut [u32], c: Cursor, parent: u32) -> Read
 
 // A value of one token, or none at all.
 fn scalar(s: &[u8], rows: &mut [u32], c: Cursor, parent: u32) -> Read
+    requires { ⌜ Ready (now s) (now rows) c parent × (c .kind ≢ kindOf dollar) × (c .kind ≢ kindOf bracketL) × (c .kind ≢ kindOf braceL) ⌝ }
+    ensures { λ r. ⌜ SaidScalar (now (s .entry)) (now (rows .entry)) (now (rows .exit)) c parent r ⌝ }
 {
     let kind = c.kind;
     if kind == TOKEN_NAME {
@@ -87,6 +97,8 @@ fn scalar(s: &[u8], rows: &mut [u32], c: Cursor, parent: u32) -> Read
 
 // Variable: $ Name
 fn variable(s: &[u8], rows: &mut [u32], c: Cursor, parent: u32) -> Read
+    requires { ⌜ Ready (now s) (now rows) c parent × (c .kind ≡ kindOf dollar) ⌝ }
+    ensures { λ r. ⌜ SaidVariable (now (s .entry)) (now (rows .entry)) (now (rows .exit)) c parent r ⌝ }
 {
     let n = c.rows;
     if n == MOST_ROWS {
@@ -126,6 +138,8 @@ pub fn value(s: &[u8], rows: &mut [u32], c: Cursor, parent: u32, left: u32, cons
 
 // The closing mark of row n, at which the cursor stands.
 fn close(s: &[u8], rows: &mut [u32], c: Cursor, n: u32) -> Read
+    requires { ⌜ Ready (now s) (now rows) c n × (n < mostRows) ⌝ }
+    ensures { λ r. ⌜ Close (now (s .entry)) (now (rows .entry)) (now (rows .exit)) c n r ⌝ }
 {
     put_end(rows, n, c.end);
     let m = c.rows;
@@ -134,6 +148,8 @@ fn close(s: &[u8], rows: &mut [u32], c: Cursor, n: u32) -> Read
 
 // ListValue, at its [
 fn list(s: &[u8], rows: &mut [u32], c: Cursor, parent: u32, left: u32, constant: bool) -> Read
+    requires { ⌜ Ready (now s) (now rows) c parent × (c .kind ≡ kindOf bracketL) ⌝ }
+    ensures { λ r. ⌜ Said 1 (now (s .entry)) (now (rows .entry)) (now (rows .exit)) c parent left (valueStack constant) r ⌝ }
 {
     if left == 0 {
         return Read::Refused(Refusal::TooDeep(c.start));
@@ -163,6 +179,8 @@ fn list(s: &[u8], rows: &mut [u32], c: Cursor, parent: u32, left: u32, constant:
 
 // ObjectValue, at its {
 fn object(s: &[u8], rows: &mut [u32], c: Cursor, parent: u32, left: u32, constant: bool) -> Read
+    requires { ⌜ Ready (now s) (now rows) c parent × (c .kind ≡ kindOf braceL) ⌝ }
+    ensures { λ r. ⌜ Said 1 (now (s .entry)) (now (rows .entry)) (now (rows .exit)) c parent left (valueStack constant) r ⌝ }
 {
     if left == 0 {
         return Read::Refused(Refusal::TooDeep(c.start));
@@ -192,7 +210,7 @@ fn object(s: &[u8], rows: &mut [u32], c: Cursor, parent: u32, left: u32, constan
 
 // Argument or ObjectField, by its row's kind: Name : Value
 pub fn entry(s: &[u8], rows: &mut [u32], c: Cursor, parent: u32, left: u32, kind: u32, constant: bool) -> Read
-    requires { ⌜ Ready (now s) (now rows) c parent ⌝ }
+    requires { ⌜ Ready (now s) (now rows) c parent × EntryKind kind ⌝ }
     ensures { λ r. ⌜ Said 1 (now (s .entry)) (now (rows .entry)) (now (rows .exit)) c parent left (entryStack kind constant) r ⌝ }
 {
     if c.kind != TOKEN_NAME {

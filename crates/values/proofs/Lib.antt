@@ -1,0 +1,8 @@
+pub mod HeadName
+pub mod MovedLaws
+pub mod StackSteps
+pub mod LeafLaws
+pub mod VariableLaws
+pub mod NestLaws
+pub mod NestParts
+pub mod EntryLaws

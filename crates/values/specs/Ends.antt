@@ -1,0 +1,37 @@
+-- What the readers of one token do: they write, and the cursor goes past it.
+use mathlib.Core.Path.{_≡_}
+use mathlib.Core.Bool.{Bool, false}
+use mathlib.Core.List.{List, [], _∷_}
+use Prim.Native.Nat.{ℕ, _+_, _*_, _<_}
+use lib.ListN.{set}
+use lib.Seq.{sets}
+use Rattle.paper.specs.Numbers.{mostRows}
+use Rattle.paper.specs.declared.Refusal.the-variants.{TooManyRows}
+use Rattle.paper.proofs.Lexing.{from}
+use Rattle.tokens.specs.Head.{headOf}
+use Rattle.reader.specs.declared.Cursor.{Cursor}
+use Rattle.reader.specs.declared.Read.{Read}
+use Rattle.reader.specs.declared.Read.the-variants.{Refused}
+use Rattle.reader.specs.Reader.{movedTo, Said}
+use Rattle.values.specs.Stacks.{valueStack}
+
+-- the cursor past c's token, with n rows
+abbrev pub past : List ℕ → Cursor → ℕ → Read
+past s c n = movedTo (c .end) n (headOf (from s (c .end)))
+
+-- a row of one token: its kind k, name m, size z and extra x; there is room for it or not
+pub data Leaf (s rows rows′ : List ℕ) (c : Cursor) (parent k m z x : ℕ) (r : Read) : Type 0 where
+  full : c .rows ≡ mostRows → r ≡ Refused (TooManyRows (c .start)) → Leaf s rows rows′ c parent k m z x r
+  wrote : c .rows < mostRows → rows′ ≡ sets rows (7 * c .rows) (k ∷ c .start ∷ c .end ∷ parent ∷ m ∷ z ∷ x ∷ []) → r ≡ past s c (c .rows + 1) → Leaf s rows rows′ c parent k m z x r
+
+-- row n ends with c's token
+pub record Close (s rows rows′ : List ℕ) (c : Cursor) (n : ℕ) (r : Read) : Type 0 where
+  pub ended : rows′ ≡ set rows (7 * n + 2) (c .end)
+  pub moved : r ≡ past s c (c .rows)
+
+-- a value without a level of its own reads alike at every level: a scalar, constant or not; a variable
+abbrev pub SaidScalar : List ℕ → List ℕ → List ℕ → Cursor → ℕ → Read → Type 0
+SaidScalar s rows rows′ c parent r = (left : ℕ) (constant : Bool) → Said 1 s rows rows′ c parent left (valueStack constant) r
+
+abbrev pub SaidVariable : List ℕ → List ℕ → List ℕ → Cursor → ℕ → Read → Type 0
+SaidVariable s rows rows′ c parent r = (left : ℕ) → Said 1 s rows rows′ c parent left (valueStack false) r
