@@ -1,8 +1,6 @@
 -- Laws of the token reader, over plain lists and numbers.
-pub mod ByteLaws
 pub mod RunLaws
 pub mod NumberParts
-pub mod ReadLaws
 pub mod StepLaws
 pub mod WhatLaws
 pub mod PieceLaws
@@ -12,10 +10,3 @@ pub mod KindLaws
 pub mod ClassLaws
 pub mod HereLaws
 pub mod HeadLaws
-pub mod WordLaws
-pub mod ScanLaws
-pub mod CharacterLaws
-pub mod CharacterRuns
-pub mod CharacterScan
-pub mod RunScan
-pub mod StringLaws

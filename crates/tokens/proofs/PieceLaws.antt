@@ -13,14 +13,14 @@ use Rattle.paper.specs.Language.{Class, bang, dollar, parenL, parenR, spread, c
 use Rattle.paper.specs.Lexical.{Set, What, span, is, ignored, Piece, letter, letterOrDigit, lexical, hitsByte}
 use Rattle.paper.proofs.Machine.{took, step, enter, choose}
 use Rattle.paper.proofs.LexTables.{lexer, lexFactored}
-use Rattle.tokens.specs.Head.{kindOf}
-use Rattle.tokens.specs.Piece.{tokenHere, ignoredHere}
-use Rattle.tokens.specs.Run.{runOf}
+use Rattle.characters.specs.Head.{kindOf}
+use Rattle.characters.specs.Piece.{tokenHere, ignoredHere}
+use Rattle.characters.specs.Run.{runOf}
 use Rattle.tokens.specs.Skip.{lookup, punctuatorOf}
-use Rattle.tokens.specs.declared.TokenRead.the-variants.{Token, Bad}
-use Rattle.tokens.proofs.ByteLaws.{front, bytes-agree}
+use Rattle.characters.specs.declared.TokenRead.the-variants.{Token, Bad}
+use Rattle.characters.proofs.ByteLaws.{front, bytes-agree}
 use Rattle.tokens.proofs.NumberParts.{miss-one}
-use Rattle.tokens.proofs.ReadLaws.{Stack, Read, Nothing, read-take, read-mark, read-run, nothing-take, nothing-refused, nothing-end, read-token, nothing-token, read-ignored, nothing-ignored}
+use Rattle.characters.proofs.ReadLaws.{Stack, Read, Nothing, read-take, read-mark, read-run, nothing-take, nothing-refused, nothing-end, read-token, nothing-token, read-ignored, nothing-ignored}
 use Rattle.tokens.proofs.StepLaws.{taken, missed, end-tm, end-piece, repeats-name, step-letter}
 use Rattle.tokens.proofs.WhatLaws.{blank, kept-byte}
 

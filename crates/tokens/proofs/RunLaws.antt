@@ -7,8 +7,8 @@ use native.Mathlib.Nat.{add-zero, add-assoc}
 use native.Mathlib.Omega.{arith}
 use lib.ListN.{length, getD, drop, drop-of-length-le}
 use Rattle.paper.specs.Lexical.{Set, hitsByte}
-use Rattle.tokens.specs.Run.{runOf, startsWith}
-use Rattle.tokens.proofs.ByteLaws.{front}
+use Rattle.characters.specs.Run.{runOf, startsWith}
+use Rattle.characters.proofs.ByteLaws.{front}
 
 module _ (p : Set) where
   pub run-yes : (b : ℕ) (bs : List ℕ) → hitsByte p b ≡ true → runOf p (b ∷ bs) ≡ 1 + runOf p bs

@@ -1,5 +1,1 @@
-pub mod Head
-pub mod Piece
-pub mod Run
 pub mod Skip
-pub mod Characters

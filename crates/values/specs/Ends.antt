@@ -8,7 +8,7 @@ use lib.Seq.{sets}
 use Rattle.paper.specs.Numbers.{mostRows}
 use Rattle.paper.specs.declared.Refusal.the-variants.{TooManyRows}
 use Rattle.paper.proofs.Lexing.{from}
-use Rattle.tokens.specs.Head.{headOf}
+use Rattle.characters.specs.Head.{headOf}
 use Rattle.reader.specs.declared.Cursor.{Cursor}
 use Rattle.reader.specs.declared.Read.{Read}
 use Rattle.reader.specs.declared.Read.the-variants.{Refused}

@@ -5,7 +5,7 @@ use lib.Dec.{ltb, eqb}
 use borrow.Author.Tests.{ne-eqb}
 use mathlib.Core.Path.{sym, _∙_}
 use Rattle.paper.specs.Lexical.{hitsByte, letterOrDigit}
-use Rattle.tokens.proofs.ByteLaws.{bytes-agree}
+use Rattle.characters.proofs.ByteLaws.{bytes-agree}
 use Rattle.tokens.proofs.in_name.Statement.{statement}
 use Rattle.tokens.proofs.in_name.Tie as tie
 

@@ -3,7 +3,7 @@ use mathlib.Core.Bool.{false}
 use native.Mathlib.Omega.{arith}
 use lib.Dec.{ltb}
 use Rattle.paper.specs.Lexical.{hitsByte, digit}
-use Rattle.tokens.proofs.ByteLaws.{bytes-agree}
+use Rattle.characters.proofs.ByteLaws.{bytes-agree}
 use Rattle.tokens.proofs.is_digit.Statement.{statement}
 use Rattle.tokens.proofs.is_digit.Tie as tie
 
