@@ -1,0 +1,5 @@
+pub mod Main
+pub mod FitsLaws
+pub mod StandsLaws
+pub mod BuffersLaws
+pub mod VariablesLaws
