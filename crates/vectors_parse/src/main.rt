@@ -7,6 +7,7 @@ use libc::STDOUT_FILENO;
 use paper::REFUSE_OVER_LENGTH;
 use paper::REPORT_SIZE;
 use paper::ROWS_SIZE;
+ghost use Rattle.io.specs.Counts.{Counts};
 
 // more cases than there are
 const MOST_CASES: u64 = 1000;
@@ -23,6 +24,12 @@ const ROWS_LENT: usize = 14340;
 
 const REPORT_LENT: usize = 12;
 
+// A number by its two bytes
+fn word(low: u8, high: u8) -> u32
+{
+    (low as u32) + 256 * (high as u32)
+}
+
 // The number at a place, or 0 behind the end
 fn number(bytes: &[u8], at: usize) -> u32
 {
@@ -32,7 +39,16 @@ fn number(bytes: &[u8], at: usize) -> u32
     if bytes.len() - at < 2 {
         return 0;
     }
-    (bytes[at] as u32) + 256 * (bytes[at + 1] as u32)
+    word(bytes[at], bytes[at + 1])
+}
+
+// What number i of the report must be
+fn report_expected(head: &[u8], i: usize) -> u32
+{
+    if REPORT_SIZE <= i {
+        return STALE;
+    }
+    number(head, HEAD_REPORT + 2 * i)
 }
 
 // Whether the report is the case's, and nothing beyond it is written
@@ -42,20 +58,14 @@ fn report_same(report: &[u32], head: &[u8]) -> bool
         return false;
     }
     for i in 0..REPORT_LENT {
-        if i < REPORT_SIZE {
-            if report[i] != number(head, HEAD_REPORT + 2 * i) {
-                return false;
-            }
-        } else {
-            if report[i] != STALE {
-                return false;
-            }
+        if report[i] != report_expected(head, i) {
+            return false;
         }
     }
     true
 }
 
-// What row number i must be: refusal 2 leaves the rows
+// What number i of the rows must be: refusal 2 leaves them
 fn row_expected(want: &[u8], i: usize, kept: bool) -> u32
 {
     if kept {
@@ -120,6 +130,16 @@ fn call(n: u64, head: &[u8], document: &[u8], want: &[u8])
     compare(n, head, document, want, &mut rows, &mut report);
 }
 
+// Reads n bytes to the start of a buffer, and answers how many there were
+fn read_some(buf: &mut [u8], n: usize) -> usize
+    ensures { λ r. ⌜ Counts r (now (buf .exit)) ⌝ }
+{
+    if buf.len() < n {
+        return 0;
+    }
+    io::read_full(STDIN_FILENO, &mut buf[..n])
+}
+
 // Reads case n and runs it, or answers that there is none
 fn run_case(n: u64) -> bool
 {
@@ -128,11 +148,9 @@ fn run_case(n: u64) -> bool
         return false;
     }
     let mut document = io::large_buffer();
-    let d = number(&head, 0) as usize;
-    io::read_full(STDIN_FILENO, &mut document[..d]);
+    let d = read_some(&mut document, number(&head, 0) as usize);
     let mut want = io::large_buffer();
-    let w = number(&head, 2) as usize;
-    io::read_full(STDIN_FILENO, &mut want[..w]);
+    let w = read_some(&mut want, number(&head, 2) as usize);
     call(n, &head, &document[..d], &want[..w]);
     true
 }
