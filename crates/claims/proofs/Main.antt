@@ -99,9 +99,9 @@ said-one = said.said-one
 pub accepted-exactly : (n : Part) (t : Text) (rs : List Row) →
     Said n t (rows-are rs)
     ↔ ((es : List (Ev Class Mark)) × Whole t × Reads n (classesOf t) es
-      × ((k : ℕ) → k < length (tokensOf t) →
-        (overLevels (sums (through (suc k) es) nothing) ≡ false) × (overRows (sums (through (suc k) es) nothing) ≡ false) × (overCounts (sums (through (suc k) es) nothing .counts) ≡ false))
-      × (rs ≡ rowsOf es (tokensOf t)))
+    × ((k : ℕ) → k < length (tokensOf t) →
+    (overLevels (sums (through (suc k) es) nothing) ≡ false) × (overRows (sums (through (suc k) es) nothing) ≡ false) × (overCounts (sums (through (suc k) es) nothing .counts) ≡ false))
+    × (rs ≡ rowsOf es (tokensOf t)))
 accepted-exactly = fits.fits-exactly
 
 -- There is only one derivation.

@@ -1,5 +1,4 @@
 // The calls that the host makes, and nothing else: each tests its buffers and calls one proved function.
-use paper::Refusal;
 use paper::ACCEPTED;
 use paper::INPUT_DOCUMENT;
 use paper::MOST_TEXT;
@@ -11,8 +10,9 @@ use paper::REFUSE_TOO_DEEP;
 use paper::REFUSE_TOO_MANY;
 use paper::REFUSE_TOO_MANY_ROWS;
 use paper::REPORT_SIZE;
-use paper::ROWS_SIZE;
 use paper::ROW_SIZE;
+use paper::ROWS_SIZE;
+use paper::Refusal;
 use reader::Read;
 ghost use mathlib.Core.Path.{_≡_};
 ghost use mathlib.Core.List.{[], _∷_};

@@ -25,14 +25,12 @@ const ROWS_LENT: usize = 14340;
 const REPORT_LENT: usize = 12;
 
 // A number by its two bytes
-fn word(low: u8, high: u8) -> u32
-{
+fn word(low: u8, high: u8) -> u32 {
     (low as u32) + 256 * (high as u32)
 }
 
 // The number at a place, or 0 behind the end
-fn number(bytes: &[u8], at: usize) -> u32
-{
+fn number(bytes: &[u8], at: usize) -> u32 {
     if bytes.len() <= at {
         return 0;
     }
@@ -43,8 +41,7 @@ fn number(bytes: &[u8], at: usize) -> u32
 }
 
 // What number i of the report must be
-fn report_expected(head: &[u8], i: usize) -> u32
-{
+fn report_expected(head: &[u8], i: usize) -> u32 {
     if REPORT_SIZE <= i {
         return STALE;
     }
@@ -52,8 +49,7 @@ fn report_expected(head: &[u8], i: usize) -> u32
 }
 
 // Whether the report is the case's, and nothing beyond it is written
-fn report_same(report: &[u32], head: &[u8]) -> bool
-{
+fn report_same(report: &[u32], head: &[u8]) -> bool {
     if report.len() < REPORT_LENT {
         return false;
     }
@@ -66,8 +62,7 @@ fn report_same(report: &[u32], head: &[u8]) -> bool
 }
 
 // What number i of the rows must be: refusal 2 leaves them
-fn row_expected(want: &[u8], i: usize, kept: bool) -> u32
-{
+fn row_expected(want: &[u8], i: usize, kept: bool) -> u32 {
     if kept {
         return STALE;
     }
@@ -78,8 +73,7 @@ fn row_expected(want: &[u8], i: usize, kept: bool) -> u32
 }
 
 // Whether the rows are the case's and then zeros, and nothing beyond them is written
-fn rows_same(rows: &[u32], want: &[u8], kept: bool) -> bool
-{
+fn rows_same(rows: &[u32], want: &[u8], kept: bool) -> bool {
     if rows.len() < ROWS_LENT {
         return false;
     }
@@ -91,8 +85,7 @@ fn rows_same(rows: &[u32], want: &[u8], kept: bool) -> bool
     true
 }
 
-fn tell(n: u64, answer: u32, shown: u32, same: bool)
-{
+fn tell(n: u64, answer: u32, shown: u32, same: bool) {
     io::print_decimal(STDOUT_FILENO, n);
     io::write_all(STDOUT_FILENO, b" ");
     io::print_decimal(STDOUT_FILENO, answer as u64);
@@ -106,8 +99,14 @@ fn tell(n: u64, answer: u32, shown: u32, same: bool)
 }
 
 // Case n, in lent buffers
-fn compare(n: u64, head: &[u8], document: &[u8], want: &[u8], rows: &mut [u32], report: &mut [u32])
-{
+fn compare(
+    n: u64,
+    head: &[u8],
+    document: &[u8],
+    want: &[u8],
+    rows: &mut [u32],
+    report: &mut [u32],
+) {
     let answer = gateway::gw_parse(document, rows, report);
     if report.len() < 2 {
         return;
@@ -123,8 +122,7 @@ fn compare(n: u64, head: &[u8], document: &[u8], want: &[u8], rows: &mut [u32], 
 }
 
 // Case n, in buffers of its own
-fn call(n: u64, head: &[u8], document: &[u8], want: &[u8])
-{
+fn call(n: u64, head: &[u8], document: &[u8], want: &[u8]) {
     let mut rows = [STALE; ROWS_LENT];
     let mut report = [STALE; REPORT_LENT];
     compare(n, head, document, want, &mut rows, &mut report);
@@ -141,8 +139,7 @@ fn read_some(buf: &mut [u8], n: usize) -> usize
 }
 
 // Reads case n and runs it, or answers that there is none
-fn run_case(n: u64) -> bool
-{
+fn run_case(n: u64) -> bool {
     let mut head = [0u8; HEAD_SIZE];
     if io::read_full(STDIN_FILENO, &mut head) < HEAD_SIZE {
         return false;
