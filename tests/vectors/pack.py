@@ -1,5 +1,5 @@
 #!/usr/bin/env python3
-# pack.py: makes crates/vectors_parse/stdin and stdout of the cases in parse.jsonl beside it. pack.py --check: only says whether they are as it would make them.
+# Makes crates/vectors_parse/stdin and stdout of the cases in parse.jsonl beside it; with --check only says whether they are as it would make them.
 # The form of a case is told in crates/vectors_parse/src/main.rt.
 import json
 import os
@@ -15,13 +15,24 @@ def numbers(ns):
 
 
 cases, lines = [], []
+
+
+def add(case, out, same):
+    document = bytes.fromhex(case["doc"])
+    rows = numbers(out)
+    cases.append(numbers([len(document), len(rows)] + case["report"]) + document + rows)
+    lines.append("%d %d %d %s\n" % (len(cases), case["report"][0], case["report"][1], same))
+
+
 with open(os.path.join(here, "parse.jsonl")) as f:
-    for n, line in enumerate(f, 1):
-        case = json.loads(line)
-        document = bytes.fromhex(case["doc"])
-        rows = numbers(case["out"])
-        cases.append(numbers([len(document), len(rows)] + case["report"]) + document + rows)
-        lines.append("%d %d %d same\n" % (n, case["report"][0], case["report"][1]))
+    read = [json.loads(line) for line in f]
+for case in read:
+    add(case, case["out"], "same")
+
+# wrong on purpose, so that a program that compares nothing is seen: the first case with its last number changed, and with its last row left out
+out = read[0]["out"]
+add(read[0], out[:-1] + [out[-1] + 1], "OTHER")
+add(read[0], out[:-7], "OTHER")
 
 made = {"stdin": b"".join(cases), "stdout": "".join(lines).encode()}
 wrong = 0

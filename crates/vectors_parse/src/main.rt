@@ -1,5 +1,5 @@
 // Calls `gw_parse` on each case of the file `stdin`, and compares the answer, the report and the rows with the case's. Writes a line a case: its
-// number, the answer, the number that the report shows beside it, and whether all was as the case says.
+// number, the answer, the number that the report shows beside it, and whether all was as the case says. The last two cases are wrong on purpose.
 // `tests/vectors/pack.py` makes `stdin` and `stdout` of `tests/vectors/parse.jsonl`. A case is its head, its document and its rows. All numbers are
 // of two bytes, the low one first: in the head the length of the document, the length of the rows in bytes, and the eight numbers of the report.
 use libc::STDIN_FILENO;
