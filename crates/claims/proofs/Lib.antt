@@ -2,4 +2,5 @@ pub mod Main
 pub mod FitsLaws
 pub mod StandsLaws
 pub mod BuffersLaws
+pub mod SomeLaws
 pub mod VariablesLaws

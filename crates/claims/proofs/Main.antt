@@ -34,6 +34,7 @@ use Rattle.documents.proofs.variables_text.Met as variables-text-met
 use Rattle.claims.proofs.FitsLaws as fits
 use Rattle.claims.proofs.StandsLaws as stands
 use Rattle.claims.proofs.BuffersLaws as buffers
+use Rattle.claims.proofs.SomeLaws as some
 use Rattle.claims.proofs.VariablesLaws as variables
 
 -- ---- THE CODE
@@ -47,6 +48,10 @@ gw-parse-meets = gw-parse-met.met
 pub gw-parse-one : {document rows report rows′ report′ rows″ report″ : List ℕ} {a a′ : ℕ} →
     Parsed document rows report rows′ report′ a → Parsed document rows report rows″ report″ a′ → (a ≡ a′) × (rows′ ≡ rows″) × (report′ ≡ report″)
 gw-parse-one = calls.parsed-one
+
+-- Some result satisfies it, whatever the buffers and the document.
+pub gw-parse-some : (document rows report : List ℕ) → (rows′ : List ℕ) × (report′ : List ℕ) × (a : ℕ) × Parsed document rows report rows′ report′ a
+gw-parse-some = some.parsed-some
 
 -- Success: the rows of the document and zeros, and in the report their count.
 pub success-fills : {document rows report rows′ report′ : List ℕ} {a : ℕ} → Parsed document rows report rows′ report′ a → a ≡ 0 →
