@@ -9,13 +9,13 @@ use mathlib.Core.Logic.{_⊎_, _↔_}
 use Prim.Native.Nat.{ℕ, suc, _-_, _*_, _≤_, _<_}
 use lib.Dec.{T}
 use lib.ListN.{length, take, drop, replicate}
-use Rattle.paper.specs.Numbers.{reportSize, rowSize, rowsSize, mostRows}
+use Rattle.paper.specs.Numbers.{reportSize, rowSize, rowsSize, mostLevels, mostRows}
 use Rattle.paper.specs.Grammar.{Ev}
 use Rattle.paper.specs.Language.{Class, Mark, Part, Document, VariablesText}
 use Rattle.paper.specs.Lexical.{comment}
 use Rattle.paper.specs.Tokens.{Text, Tokens, NoPiece, Longest, lineEnd}
 use Rattle.paper.specs.Rows.{Row, rowsOf, flat}
-use Rattle.paper.specs.Sizes.{Sums, nothing, sums, through, overLevels, overRows, overCounts}
+use Rattle.paper.specs.Sizes.{Sums, nothing, sums, through, opens, overLevels, overRows, overCounts}
 use Rattle.paper.specs.Reading.{tokensOf, classesOf, placeOf, Whole, Reads, Is, StopsAt, Summed, Fault, NoLater, Answer, rows-are, refuses, Said}
 use Rattle.paper.specs.Calls.{Parsed}
 use Rattle.paper.specs.declared.Refusal.{Refusal}
@@ -136,9 +136,10 @@ stop-one = stands.stop-one
 pub stop-some : (n : Part) (ts : List Class) → Is n ts ⊎ ((k : ℕ) × (k ≤ length ts) × StopsAt n ts k)
 stop-some = stands.stop-some
 
--- 5, 6 and 8 stand at the first token with which the levels, the rows or another count are over: after no token before is any of them over.
+-- 5 stands at the first opening mark of level 33; 6 and 8 at the first token with which the rows or another count are over. After no token before
+-- is any of them over.
 pub refusal-5-stands : (n : Part) {s : List ℕ} {t : Text} (at : ℕ) → Tokens 0 s t → Said n t (refuses (TooDeep at)) →
-    (k : ℕ) × (m : Sums) × (at ≡ placeOf k t) × Summed n (classesOf t) k m × T (overLevels m)
+    (k : ℕ) × (m : Sums) × (at ≡ placeOf k t) × Summed n (classesOf t) k m × (m .levels ≡ suc mostLevels) × ((c : Class) × (r : List Class) × (drop k (classesOf t) ≡ c ∷ r) × T (opens c))
     × ((j : ℕ) (m′ : Sums) → j < k → Summed n (classesOf t) j m′ → (overLevels m′ ≡ false) × (overRows m′ ≡ false) × (overCounts (m′ .counts) ≡ false))
 refusal-5-stands = stands.deep-stands
 

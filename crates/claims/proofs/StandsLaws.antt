@@ -3,17 +3,17 @@ use mathlib.Core.Path.{_≡_, refl, sym, _∙_, subst}
 use mathlib.Core.Bool.{Bool, false, not}
 use mathlib.Core.List.{List, [], _∷_}
 use mathlib.Core.Logic.{_⊎_, inl, inr, _↔_}
-use Prim.Native.Nat.{ℕ, _+_, _≤_, _<_}
+use Prim.Native.Nat.{ℕ, suc, _+_, _≤_, _<_}
 use native.Mathlib.Omega.{arith}
 use lib.Dec.{T}
 use lib.ListN.{length, drop, length-drop, length-map}
 use lib.Seq.{drop-nil, drop-drop}
-use Rattle.claims.proofs.FitsLaws.{not-over}
 use Rattle.paper.specs.Grammar.{nt}
 use Rattle.paper.specs.Language.{Class, Mark, Part}
 use Rattle.paper.specs.Lexical.{comment}
 use Rattle.paper.specs.Tokens.{Text, NoPiece, Longest, lineEnd, Tokens, starts-none, skips, comments, bad-comment, tokens}
-use Rattle.paper.specs.Sizes.{Sums, overLevels, overRows, overCounts}
+use Rattle.paper.specs.Numbers.{mostLevels}
+use Rattle.paper.specs.Sizes.{Sums, opens, overLevels, overRows, overCounts}
 use Rattle.paper.specs.Reading.{tokensOf, classesOf, placeOf, Whole, BadAt, bad-here, bad-later, Is, StopsAt, Summed, Fault, no-token, no-going, no-end, too-deep, too-many-rows, too-many, offsetOf, NoLater, Answer, refuses, Said, refused}
 use Rattle.paper.specs.declared.Refusal.{Refusal}
 use Rattle.paper.specs.declared.Refusal.the-variants.{NoToken, NoGoing, TooDeep, TooManyRows, TooMany}
@@ -25,6 +25,8 @@ use Rattle.paper.proofs.ReadingLaws.{accepts, stops, bound, stops-only}
 use Rattle.paper.proofs.GoingSaid.{Rising}
 use Rattle.paper.proofs.CallsGoing.{from-rising}
 use Rattle.paper.proofs.SaidOne.{said-some}
+use Rattle.claims.proofs.FitsLaws.{not-over}
+use Rattle.claims.proofs.LevelsLaws.{opens-33}
 
 -- every text of bytes has its tokens, whose places rise, and something is said of it
 pub tokens-some : (s : List ℕ) → (t : Text) × Tokens 0 s t
@@ -122,8 +124,17 @@ First n t at test =
     (k : ℕ) × (m : Sums) × (at ≡ placeOf k t) × Summed n (classesOf t) k m × T (test m)
     × ((j : ℕ) (m′ : Sums) → j < k → Summed n (classesOf t) j m′ → (overLevels m′ ≡ false) × (overRows m′ ≡ false) × (overCounts (m′ .counts) ≡ false))
 
-deep-first : (n : Part) (t : Text) (at : ℕ) → Rising t → Fault n t (TooDeep at) → ((r′ : Refusal) → Fault n t r′ → NoLater (TooDeep at) r′) → First n t at overLevels
-deep-first n t at up (too-deep k {s = m} s o) l = (k, m, refl, s, o, within-before n t (TooDeep (placeOf k t)) k up (inside n t k m s) refl l)
+-- of refusal 5: it opens level 33
+abbrev Deep : Part → Text → ℕ → Type 0
+Deep n t at =
+    (k : ℕ) × (m : Sums) × (at ≡ placeOf k t) × Summed n (classesOf t) k m × (m .levels ≡ suc mostLevels) × ((c : Class) × (r : List Class) × (drop k (classesOf t) ≡ c ∷ r) × T (opens c))
+    × ((j : ℕ) (m′ : Sums) → j < k → Summed n (classesOf t) j m′ → (overLevels m′ ≡ false) × (overRows m′ ≡ false) × (overCounts (m′ .counts) ≡ false))
+
+deep-first : (n : Part) (t : Text) (at : ℕ) → Rising t → Fault n t (TooDeep at) → ((r′ : Refusal) → Fault n t r′ → NoLater (TooDeep at) r′) → Deep n t at
+deep-first n t at up (too-deep k {s = m} s o) l =
+    let f = within-before n t (TooDeep (placeOf k t)) k up (inside n t k m s) refl l in
+    let d = opens-33 n (classesOf t) k m s o (λ (j : ℕ) (m′ : Sums) (h : j < k) (s′ : Summed n (classesOf t) j m′). f j m′ h s′ .0) in
+    (k, m, refl, s, d .0, d .1, f)
 
 rows-first : (n : Part) (t : Text) (at : ℕ) → Rising t → Fault n t (TooManyRows at) → ((r′ : Refusal) → Fault n t r′ → NoLater (TooManyRows at) r′) → First n t at overRows
 rows-first n t at up (too-many-rows k {s = m} s o) l = (k, m, refl, s, o, within-before n t (TooManyRows (placeOf k t)) k up (inside n t k m s) refl l)
@@ -131,7 +142,7 @@ rows-first n t at up (too-many-rows k {s = m} s o) l = (k, m, refl, s, o, within
 many-first : (n : Part) (t : Text) (at : ℕ) → Rising t → Fault n t (TooMany at) → ((r′ : Refusal) → Fault n t r′ → NoLater (TooMany at) r′) → First n t at (λ m. overCounts (m .counts))
 many-first n t at up (too-many k {s = m} s o) l = (k, m, refl, s, o, within-before n t (TooMany (placeOf k t)) k up (inside n t k m s) refl l)
 
-pub deep-stands : (n : Part) {s : List ℕ} {t : Text} (at : ℕ) → Tokens 0 s t → Said n t (refuses (TooDeep at)) → First n t at overLevels
+pub deep-stands : (n : Part) {s : List ℕ} {t : Text} (at : ℕ) → Tokens 0 s t → Said n t (refuses (TooDeep at)) → Deep n t at
 deep-stands n {s} {t} at k (refused f l) = deep-first n t at (rising k) f l
 
 pub rows-stands : (n : Part) {s : List ℕ} {t : Text} (at : ℕ) → Tokens 0 s t → Said n t (refuses (TooManyRows at)) → First n t at overRows
