@@ -39,17 +39,17 @@ ghost use Rattle.paper.specs.Language.{dollar, bracketL, braceL, n-other};
 ghost use Rattle.tokens.specs.Head.{kindOf};
 ghost use Rattle.reader.specs.Reader.{Ready, Said};
 ghost use Rattle.values.specs.Stacks.{valueStack, entryStack, EntryKind};
-ghost use Rattle.values.specs.Ends.{Leaf, Close, SaidScalar, SaidVariable};
+ghost use Rattle.values.specs.Marks.{Leaf, Open, Close, SaidScalar, SaidVariable};
 
 // A value that is one token: its row.
 fn leaf(s: &[u8], rows: &mut [u32], c: Cursor, parent: u32, kind: u32, name: u32, size: u32, extra: u32) -> Read
     requires { ⌜ Ready (now s) (now rows) c parent ⌝ }
     ensures { λ r. ⌜ Leaf (now (s .entry)) (now (rows .entry)) (now (rows .exit)) c parent kind name size extra r ⌝ }
 {
-    let n = c.rows;
-    if n == MOST_ROWS {
+    if c.rows == MOST_ROWS {
         return Read::Refused(Refusal::TooManyRows(c.start));
     }
+    let n = c.rows;
     put_row(rows, n, kind, c.start, c.end, parent, name, size, extra);
     c.past(s, n + 1)
 }
@@ -136,6 +136,22 @@ pub fn value(s: &[u8], rows: &mut [u32], c: Cursor, parent: u32, left: u32, cons
     scalar(s, rows, c, parent)
 }
 
+// The opening mark of a list or an object: its row, and its level.
+fn enter(s: &[u8], rows: &mut [u32], c: Cursor, parent: u32, left: u32, kind: u32) -> Read
+    requires { ⌜ Ready (now s) (now rows) c parent ⌝ }
+    ensures { λ r. ⌜ Open (now (s .entry)) (now (rows .entry)) (now (rows .exit)) c parent left kind r ⌝ }
+{
+    if left == 0 {
+        return Read::Refused(Refusal::TooDeep(c.start));
+    }
+    let n = c.rows;
+    if n == MOST_ROWS {
+        return Read::Refused(Refusal::TooManyRows(c.start));
+    }
+    put_row(rows, n, kind, c.start, 0, parent, 0, 0, 0);
+    c.past(s, n + 1)
+}
+
 // The closing mark of row n, at which the cursor stands.
 fn close(s: &[u8], rows: &mut [u32], c: Cursor, n: u32) -> Read
     requires { ⌜ Ready (now s) (now rows) c n × (n < mostRows) ⌝ }
@@ -151,15 +167,8 @@ fn list(s: &[u8], rows: &mut [u32], c: Cursor, parent: u32, left: u32, constant:
     requires { ⌜ Ready (now s) (now rows) c parent × (c .kind ≡ kindOf bracketL) ⌝ }
     ensures { λ r. ⌜ Said 1 (now (s .entry)) (now (rows .entry)) (now (rows .exit)) c parent left (valueStack constant) r ⌝ }
 {
-    if left == 0 {
-        return Read::Refused(Refusal::TooDeep(c.start));
-    }
     let n = c.rows;
-    if n == MOST_ROWS {
-        return Read::Refused(Refusal::TooManyRows(c.start));
-    }
-    put_row(rows, n, KIND_LIST, c.start, 0, parent, 0, 0, 0);
-    let r = c.past(s, n + 1);
+    let r = enter(s, rows, c, parent, left, KIND_LIST);
     let Read::Done(first) = r else {
         return r;
     };
@@ -182,15 +191,8 @@ fn object(s: &[u8], rows: &mut [u32], c: Cursor, parent: u32, left: u32, constan
     requires { ⌜ Ready (now s) (now rows) c parent × (c .kind ≡ kindOf braceL) ⌝ }
     ensures { λ r. ⌜ Said 1 (now (s .entry)) (now (rows .entry)) (now (rows .exit)) c parent left (valueStack constant) r ⌝ }
 {
-    if left == 0 {
-        return Read::Refused(Refusal::TooDeep(c.start));
-    }
     let n = c.rows;
-    if n == MOST_ROWS {
-        return Read::Refused(Refusal::TooManyRows(c.start));
-    }
-    put_row(rows, n, KIND_OBJECT, c.start, 0, parent, 0, 0, 0);
-    let r = c.past(s, n + 1);
+    let r = enter(s, rows, c, parent, left, KIND_OBJECT);
     let Read::Done(first) = r else {
         return r;
     };

@@ -10,7 +10,7 @@ use Rattle.paper.specs.Language.{bracketR, braceR}
 use Rattle.values.specs.Stacks.{valueStack, entryStack}
 use Rattle.values.proofs.MovedLaws.{ready-lies}
 use Rattle.values.proofs.VariableLaws.{no-variable}
-use Rattle.values.proofs.NestLaws.{InNest, in-ready, nest-deep, nest-full, nest-bad, nest-begins, nest-closes, nest-more, nest-less, nest-stops}
+use Rattle.values.proofs.NestLaws.{InNest, in-ready, nest-refused, nest-entered, nest-begins, nest-closes, nest-more, nest-less, nest-stops}
 use Rattle.values.proofs.NestParts.{valuesPart, fieldsPart, list-nest, object-nest}
 use Rattle.values.proofs.EntryLaws.{entry-no-name, entry-full, entry-bad, colon-lies, entry-no-colon, entry-colon-bad, entry-ready, entry-stops, entry-size, entry-went, field-is}
 use borrow.Fn.Kinds.{In}
@@ -32,6 +32,7 @@ use Rattle.reader.proofs.no_going.Reads as no-going-reads
 use Rattle.reader.proofs.put_end.Reads as put-end-reads
 use Rattle.reader.proofs.put_row.Reads as put-row-reads
 use Rattle.values.proofs.close.Reads as close-reads
+use Rattle.values.proofs.enter.Reads as enter-reads
 use Rattle.values.proofs.scalar.Reads as scalar-reads
 use Rattle.values.proofs.variable.Reads as variable-reads
 use Rattle.values.proofs.+entry+list+object+value.{statement}
@@ -77,10 +78,10 @@ abbrev entry-calls : ℕ → entry-lts.Claims
 entry-calls t = (no-going-reads.Asked, no-going-reads.Learnt, put-row-reads.Asked, put-row-reads.Learnt, past-reads.Asked, past-reads.Learnt, value-below t, value.Post, put-end-reads.Asked, put-end-reads.Learnt)
 
 abbrev list-calls : ℕ → list-lts.Claims
-list-calls t = (put-row-reads.Asked, put-row-reads.Learnt, past-reads.Asked, past-reads.Learnt, close-reads.Asked, close-reads.Learnt, value-below t, value.Post)
+list-calls t = (enter-reads.Asked, enter-reads.Learnt, close-reads.Asked, close-reads.Learnt, value-below t, value.Post)
 
 abbrev object-calls : ℕ → object-lts.Claims
-object-calls t = (put-row-reads.Asked, put-row-reads.Learnt, past-reads.Asked, past-reads.Learnt, close-reads.Asked, close-reads.Learnt, entry-below t, entry.Post)
+object-calls t = (enter-reads.Asked, enter-reads.Learnt, close-reads.Asked, close-reads.Learnt, entry-below t, entry.Post)
 
 abbrev value-calls : ℕ → value-lts.Claims
 value-calls t = (list-below t, list.Post, object-below t, object.Post, no-going-reads.Asked, no-going-reads.Learnt, variable-reads.Asked, variable-reads.Learnt, scalar-reads.Asked, scalar-reads.Learnt)
@@ -175,20 +176,8 @@ list-Inv-loop s rows₀ parent left constant n d₀ rows d = InNest s rows₀ ro
 abbrev list-μ-loop : list-lts.MeasureT-loop
 list-μ-loop s rows₀ parent left constant n d₀ rows d = length s - d .stop
 
-list-returns : (t : ℕ) → list-lts.Need-returns (list-calls t) (list-at t) list.Post list-Inv-loop list-μ-loop
-list-returns t c = nest-deep (list-nest (c .before .before .before .args .constant)) _ _ _ _ (c .before .before .before .pre .1 .0) (c .before .before .before .pre .1 .1) (c .before .before .before .args .left) (c .if1 .taken)
-
-list-returns-2 : (t : ℕ) → list-lts.Need-returns-2 (list-calls t) (list-at t) list.Post list-Inv-loop list-μ-loop
-list-returns-2 t c = nest-full (list-nest (c .before .before .before .before .args .constant)) _ _ _ _ (c .before .before .before .before .pre .1 .0) (c .before .before .before .before .pre .1 .1) (c .before .before .before .before .args .left) (c .before .if1 .left) (c .if2 .taken)
-
-list-put-row-requires : (t : ℕ) → list-lts.Need-put-row-requires (list-calls t) (list-at t) list.Post list-Inv-loop list-μ-loop
-list-put-row-requires t c κs = search needs
-
-list-add-past : (t : ℕ) → list-lts.Need-add-past (list-calls t) (list-at t) list.Post list-Inv-loop list-μ-loop
-list-add-past t c = search needs
-
-list-past-requires : (t : ℕ) → list-lts.Need-past-requires (list-calls t) (list-at t) list.Post list-Inv-loop list-μ-loop
-list-past-requires t c κs = (c .before .before .before .before .before .before .before .before .pre .1 .0 .short, ready-lies _ _ _ _ (c .before .before .before .before .before .before .before .before .pre .1 .0) .2)
+list-enter-requires : (t : ℕ) → list-lts.Need-enter-requires (list-calls t) (list-at t) list.Post list-Inv-loop list-μ-loop
+list-enter-requires t c κs = search needs
 
 list-enum-known-r : (t : ℕ) → list-lts.Need-enum-known-r (list-calls t) (list-at t) list.Post list-Inv-loop list-μ-loop
 list-enum-known-r t c = search needs
@@ -199,26 +188,26 @@ list-enum-told t c = search needs
 list-same-length : (t : ℕ) → list-lts.Need-same-length (list-calls t) (list-at t) list.Post list-Inv-loop list-μ-loop
 list-same-length t c = search needs
 
-list-returns-3 : (t : ℕ) → list-lts.Need-returns-3 (list-calls t) (list-at t) list.Post list-Inv-loop list-μ-loop
-list-returns-3 t c = nest-bad (list-nest (c .before .before .before .before .before .before .before .before .before .before .before .args .constant)) _ _ _ _ (c .before .before .before .before .before .before .before .before .before .before .before .pre .1 .0) (c .before .before .before .before .before .before .before .before .before .before .before .pre .1 .1) (c .before .before .before .before .before .before .before .before .before .before .before .args .left) (c .before .before .before .before .before .before .before .before .if1 .left) (c .before .before .before .before .before .before .before .if2 .left) _ _ _ (c .before .before .past .ensures) (c .enum-told .given .1)
+list-returns : (t : ℕ) → list-lts.Need-returns (list-calls t) (list-at t) list.Post list-Inv-loop list-μ-loop
+list-returns t c = nest-refused (list-nest (c .before .before .before .before .before .before .before .before .args .constant)) _ _ _ _ (c .before .before .before .before .before .before .before .before .pre .1 .0) (c .before .before .before .before .before .before .before .before .pre .1 .1) (c .before .before .before .before .before .before .before .before .args .left) _ _ _ _ (c .before .before .before .before .enter .ensures) (c .enum-told .given .1)
 
 list-loop-holds : (t : ℕ) → list-lts.Need-loop-holds (list-calls t) (list-at t) list.Post list-Inv-loop list-μ-loop
-list-loop-holds t c = nest-begins (list-nest (c .before .before .before .before .before .before .before .before .before .before .before .before .args .constant)) _ _ _ _ (c .before .before .before .before .before .before .before .before .before .before .before .before .pre .1 .0) (c .before .before .before .before .before .before .before .before .before .before .before .before .pre .1 .1) (c .before .before .before .before .before .before .before .before .before .before .before .before .args .left) (c .before .before .before .before .before .before .before .before .before .if1 .left) (c .before .before .before .before .before .before .before .before .if2 .left) _ _ (c .before .before .before .past .ensures) (c .before .r .given .1) _ (c .before .before .before .before .before .before .put-row .ensures)
+list-loop-holds t c = nest-begins (list-nest (c .before .before .before .before .before .before .before .before .before .args .constant)) _ _ _ _ (c .before .before .before .before .before .before .before .before .before .pre .1 .0) (c .before .before .before .before .before .before .before .before .before .pre .1 .1) (c .before .before .before .before .before .before .before .before .before .args .left) _ _ _ (c .before .before .before .before .before .enter .ensures) (c .before .r .given .1)
 
 list-close-requires : (t : ℕ) → list-lts.Need-close-requires (list-calls t) (list-at t) list.Post list-Inv-loop list-μ-loop
-list-close-requires t c κs = (in-ready _ _ _ _ _ _ _ _ _ (c .before .before .loop .inv) (c .before .before .before .before .before .before .before .before .before .before .before .before .before .before .before .pre .1 .0 .short) (c .before .before .before .before .before .before .before .before .before .before .before .before .before .before .before .pre .1 .0 .few), omega (arith, c .before .before .before .before .before .before .before .before .before .before .before .before .before .before .before .pre .1 .0 .few, c .before .before .before .before .before .before .before .before .before .before .before .if2 .left))
+list-close-requires t c κs = (in-ready _ _ _ _ _ _ _ _ _ (c .before .before .loop .inv) (c .before .before .before .before .before .before .before .before .before .before .before .before .pre .1 .0 .short) (c .before .before .before .before .before .before .before .before .before .before .before .before .pre .1 .0 .few), nest-entered (list-nest (c .before .before .before .before .before .before .before .before .before .before .before .before .args .constant)) _ _ _ _ (c .before .before .before .before .before .before .before .before .before .before .before .before .pre .1 .0) (c .before .before .before .before .before .before .before .before .before .before .before .before .pre .1 .1) (c .before .before .before .before .before .before .before .before .before .before .before .before .args .left) _ _ _ (c .before .before .before .before .before .before .before .before .enter .ensures) (c .before .before .before .before .r .given .1) .1)
 
 list-same-length-2 : (t : ℕ) → list-lts.Need-same-length-2 (list-calls t) (list-at t) list.Post list-Inv-loop list-μ-loop
 list-same-length-2 t c = search needs
 
-list-returns-4 : (t : ℕ) → list-lts.Need-returns-4 (list-calls t) (list-at t) list.Post list-Inv-loop list-μ-loop
-list-returns-4 t c = nest-closes (list-nest (c .before .before .before .before .before .before .before .before .before .before .before .before .before .before .before .before .before .before .args .constant)) _ _ _ _ (c .before .before .before .before .before .before .before .before .before .before .before .before .before .before .before .before .before .before .pre .1 .0) (c .before .before .before .before .before .before .before .before .before .before .before .before .before .before .before .before .before .before .pre .1 .1) (c .before .before .before .before .before .before .before .before .before .before .before .before .before .before .before .before .before .before .args .left) (c .before .before .before .before .before .before .before .before .before .before .before .before .before .before .before .if1 .left) (c .before .before .before .before .before .before .before .before .before .before .before .before .before .before .if2 .left) _ _ (c .before .before .before .before .before .before .before .before .before .past .ensures) (c .before .before .before .before .before .before .before .r .given .1) _ (c .before .before .before .before .before .before .before .before .before .before .before .before .put-row .ensures) _ _ (c .before .before .before .before .before .loop .inv) (c .before .before .before .before .if3 .taken) _ _ (c .before .before .close .ensures)
+list-returns-2 : (t : ℕ) → list-lts.Need-returns-2 (list-calls t) (list-at t) list.Post list-Inv-loop list-μ-loop
+list-returns-2 t c = nest-closes (list-nest (c .before .before .before .before .before .before .before .before .before .before .before .before .before .before .before .args .constant)) _ _ _ _ (c .before .before .before .before .before .before .before .before .before .before .before .before .before .before .before .pre .1 .0) (c .before .before .before .before .before .before .before .before .before .before .before .before .before .before .before .pre .1 .1) (c .before .before .before .before .before .before .before .before .before .before .before .before .before .before .before .args .left) _ _ _ (c .before .before .before .before .before .before .before .before .before .before .before .enter .ensures) (c .before .before .before .before .before .before .before .r .given .1) _ _ (c .before .before .before .before .before .loop .inv) (c .before .before .before .before .if1 .taken) _ _ (c .before .before .close .ensures)
 
 list-sub-value : (t : ℕ) → list-lts.Need-sub-value (list-calls t) (list-at t) list.Post list-Inv-loop list-μ-loop
-list-sub-value t c = search needs
+list-sub-value t c = omega (arith, nest-entered (list-nest (c .before .before .before .before .before .before .before .before .before .before .before .before .args .constant)) _ _ _ _ (c .before .before .before .before .before .before .before .before .before .before .before .before .pre .1 .0) (c .before .before .before .before .before .before .before .before .before .before .before .before .pre .1 .1) (c .before .before .before .before .before .before .before .before .before .before .before .before .args .left) _ _ _ (c .before .before .before .before .before .before .before .before .enter .ensures) (c .before .before .before .before .r .given .1) .0)
 
 list-value-requires : (t : ℕ) → list-lts.Need-value-requires (list-calls t) (list-at t) list.Post list-Inv-loop list-μ-loop
-list-value-requires t c κs = (omega (arith, c .before .before .before .before .before .before .before .before .before .before .before .before .before .before .before .pre .0, c .before .before .before .before .before .before .before .before .before .before .before .before .if1 .left), in-ready _ _ _ _ _ _ _ _ _ (c .before .before .loop .inv) (c .before .before .before .before .before .before .before .before .before .before .before .before .before .before .before .pre .1 .0 .short) (c .before .before .before .before .before .before .before .before .before .before .before .before .before .before .before .pre .1 .0 .few))
+list-value-requires t c κs = (omega (arith, c .before .before .before .before .before .before .before .before .before .before .before .before .pre .0, nest-entered (list-nest (c .before .before .before .before .before .before .before .before .before .before .before .before .args .constant)) _ _ _ _ (c .before .before .before .before .before .before .before .before .before .before .before .before .pre .1 .0) (c .before .before .before .before .before .before .before .before .before .before .before .before .pre .1 .1) (c .before .before .before .before .before .before .before .before .before .before .before .before .args .left) _ _ _ (c .before .before .before .before .before .before .before .before .enter .ensures) (c .before .before .before .before .r .given .1) .0), in-ready _ _ _ _ _ _ _ _ _ (c .before .before .loop .inv) (c .before .before .before .before .before .before .before .before .before .before .before .before .pre .1 .0 .short) (c .before .before .before .before .before .before .before .before .before .before .before .before .pre .1 .0 .few))
 
 list-enum-known-t : (t : ℕ) → list-lts.Need-enum-known-t (list-calls t) (list-at t) list.Post list-Inv-loop list-μ-loop
 list-enum-known-t t c = search needs
@@ -229,14 +218,14 @@ list-enum-told-2 t c = search needs
 list-same-length-3 : (t : ℕ) → list-lts.Need-same-length-3 (list-calls t) (list-at t) list.Post list-Inv-loop list-μ-loop
 list-same-length-3 t c = search needs
 
-list-returns-5 : (t : ℕ) → list-lts.Need-returns-5 (list-calls t) (list-at t) list.Post list-Inv-loop list-μ-loop
-list-returns-5 t c = nest-stops (list-nest (c .before .before .before .before .before .before .before .before .before .before .before .before .before .before .before .before .before .before .before .before .args .constant)) _ _ _ _ (c .before .before .before .before .before .before .before .before .before .before .before .before .before .before .before .before .before .before .before .before .pre .1 .0) (c .before .before .before .before .before .before .before .before .before .before .before .before .before .before .before .before .before .before .before .before .pre .1 .1) (c .before .before .before .before .before .before .before .before .before .before .before .before .before .before .before .before .before .before .before .before .args .left) (c .before .before .before .before .before .before .before .before .before .before .before .before .before .before .before .before .before .if1 .left) (c .before .before .before .before .before .before .before .before .before .before .before .before .before .before .before .before .if2 .left) _ _ (c .before .before .before .before .before .before .before .before .before .before .before .past .ensures) (c .before .before .before .before .before .before .before .before .before .r .given .1) _ (c .before .before .before .before .before .before .before .before .before .before .before .before .before .before .put-row .ensures) _ _ (c .before .before .before .before .before .before .before .loop .inv) (c .before .before .before .before .before .before .if3 .left) (valueStack (c .before .before .before .before .before .before .before .before .before .before .before .before .before .before .before .before .before .before .before .before .args .constant)) (λ σ o q h f. refl) _ _ _ _ (c .before .before .before .before .value .ensures) (c .enum-told2 .given .1)
+list-returns-3 : (t : ℕ) → list-lts.Need-returns-3 (list-calls t) (list-at t) list.Post list-Inv-loop list-μ-loop
+list-returns-3 t c = nest-stops (list-nest (c .before .before .before .before .before .before .before .before .before .before .before .before .before .before .before .before .before .args .constant)) _ _ _ _ (c .before .before .before .before .before .before .before .before .before .before .before .before .before .before .before .before .before .pre .1 .0) (c .before .before .before .before .before .before .before .before .before .before .before .before .before .before .before .before .before .pre .1 .1) (c .before .before .before .before .before .before .before .before .before .before .before .before .before .before .before .before .before .args .left) _ _ _ (c .before .before .before .before .before .before .before .before .before .before .before .before .before .enter .ensures) (c .before .before .before .before .before .before .before .before .before .r .given .1) _ _ (c .before .before .before .before .before .before .before .loop .inv) (c .before .before .before .before .before .before .if1 .left) (valueStack (c .before .before .before .before .before .before .before .before .before .before .before .before .before .before .before .before .before .args .constant)) (λ σ o q h f. refl) _ _ _ _ (c .before .before .before .before .value .ensures) (c .enum-told2 .given .1)
 
 list-loop-less : (t : ℕ) → list-lts.Need-loop-less (list-calls t) (list-at t) list.Post list-Inv-loop list-μ-loop
-list-loop-less t c = nest-less (list-nest (c .before .before .before .before .before .before .before .before .before .before .before .before .before .before .before .before .before .before .before .before .before .args .constant)) _ _ _ _ (c .before .before .before .before .before .before .before .before .before .before .before .before .before .before .before .before .before .before .before .before .before .pre .1 .0) (c .before .before .before .before .before .before .before .before .before .before .before .before .before .before .before .before .before .before .before .before .before .pre .1 .1) (c .before .before .before .before .before .before .before .before .before .before .before .before .before .before .before .before .before .before .before .before .before .args .left) (c .before .before .before .before .before .before .before .before .before .before .before .before .before .before .before .before .before .before .if1 .left) (c .before .before .before .before .before .before .before .before .before .before .before .before .before .before .before .before .before .if2 .left) _ _ (c .before .before .before .before .before .before .before .before .before .before .before .before .past .ensures) (c .before .before .before .before .before .before .before .before .before .before .r .given .1) _ (c .before .before .before .before .before .before .before .before .before .before .before .before .before .before .before .put-row .ensures) _ _ (c .before .before .before .before .before .before .before .before .loop .inv) (c .before .before .before .before .before .before .before .if3 .left) (valueStack (c .before .before .before .before .before .before .before .before .before .before .before .before .before .before .before .before .before .before .before .before .before .args .constant)) (λ σ o q h f. refl) _ _ _ (c .before .before .before .before .before .value .ensures) (c .before .t .given .1)
+list-loop-less t c = nest-less (list-nest (c .before .before .before .before .before .before .before .before .before .before .before .before .before .before .before .before .before .before .args .constant)) _ _ _ _ (c .before .before .before .before .before .before .before .before .before .before .before .before .before .before .before .before .before .before .pre .1 .0) (c .before .before .before .before .before .before .before .before .before .before .before .before .before .before .before .before .before .before .pre .1 .1) (c .before .before .before .before .before .before .before .before .before .before .before .before .before .before .before .before .before .before .args .left) _ _ _ (c .before .before .before .before .before .before .before .before .before .before .before .before .before .before .enter .ensures) (c .before .before .before .before .before .before .before .before .before .before .r .given .1) _ _ (c .before .before .before .before .before .before .before .before .loop .inv) (c .before .before .before .before .before .before .before .if1 .left) (valueStack (c .before .before .before .before .before .before .before .before .before .before .before .before .before .before .before .before .before .before .args .constant)) (λ σ o q h f. refl) _ _ _ (c .before .before .before .before .before .value .ensures) (c .before .t .given .1)
 
 list-loop-again : (t : ℕ) → list-lts.Need-loop-again (list-calls t) (list-at t) list.Post list-Inv-loop list-μ-loop
-list-loop-again t c = nest-more (list-nest (c .before .before .before .before .before .before .before .before .before .before .before .before .before .before .before .before .before .before .before .before .before .args .constant)) _ _ _ _ (c .before .before .before .before .before .before .before .before .before .before .before .before .before .before .before .before .before .before .before .before .before .pre .1 .0) (c .before .before .before .before .before .before .before .before .before .before .before .before .before .before .before .before .before .before .before .before .before .pre .1 .1) (c .before .before .before .before .before .before .before .before .before .before .before .before .before .before .before .before .before .before .before .before .before .args .left) (c .before .before .before .before .before .before .before .before .before .before .before .before .before .before .before .before .before .before .if1 .left) (c .before .before .before .before .before .before .before .before .before .before .before .before .before .before .before .before .before .if2 .left) _ _ (c .before .before .before .before .before .before .before .before .before .before .before .before .past .ensures) (c .before .before .before .before .before .before .before .before .before .before .r .given .1) _ (c .before .before .before .before .before .before .before .before .before .before .before .before .before .before .before .put-row .ensures) _ _ (c .before .before .before .before .before .before .before .before .loop .inv) (c .before .before .before .before .before .before .before .if3 .left) (valueStack (c .before .before .before .before .before .before .before .before .before .before .before .before .before .before .before .before .before .before .before .before .before .args .constant)) (λ σ o q h f. refl) _ _ _ (c .before .before .before .before .before .value .ensures) (c .before .t .given .1)
+list-loop-again t c = nest-more (list-nest (c .before .before .before .before .before .before .before .before .before .before .before .before .before .before .before .before .before .before .args .constant)) _ _ _ _ (c .before .before .before .before .before .before .before .before .before .before .before .before .before .before .before .before .before .before .pre .1 .0) (c .before .before .before .before .before .before .before .before .before .before .before .before .before .before .before .before .before .before .pre .1 .1) (c .before .before .before .before .before .before .before .before .before .before .before .before .before .before .before .before .before .before .args .left) _ _ _ (c .before .before .before .before .before .before .before .before .before .before .before .before .before .before .enter .ensures) (c .before .before .before .before .before .before .before .before .before .before .r .given .1) _ _ (c .before .before .before .before .before .before .before .before .loop .inv) (c .before .before .before .before .before .before .before .if1 .left) (valueStack (c .before .before .before .before .before .before .before .before .before .before .before .before .before .before .before .before .before .before .args .constant)) (λ σ o q h f. refl) _ _ _ (c .before .before .before .before .before .value .ensures) (c .before .t .given .1)
 
 abbrev object-Inv-loop : object-lts.InvT-loop
 object-Inv-loop s rows₀ parent left constant n d₀ rows d = InNest s rows₀ rows d₀ d n (left - 1) (fieldsPart constant) braceR
@@ -244,20 +233,8 @@ object-Inv-loop s rows₀ parent left constant n d₀ rows d = InNest s rows₀ 
 abbrev object-μ-loop : object-lts.MeasureT-loop
 object-μ-loop s rows₀ parent left constant n d₀ rows d = length s - d .stop
 
-object-returns : (t : ℕ) → object-lts.Need-returns (object-calls t) (object-at t) object.Post object-Inv-loop object-μ-loop
-object-returns t c = nest-deep (object-nest (c .before .before .before .args .constant)) _ _ _ _ (c .before .before .before .pre .1 .0) (c .before .before .before .pre .1 .1) (c .before .before .before .args .left) (c .if1 .taken)
-
-object-returns-2 : (t : ℕ) → object-lts.Need-returns-2 (object-calls t) (object-at t) object.Post object-Inv-loop object-μ-loop
-object-returns-2 t c = nest-full (object-nest (c .before .before .before .before .args .constant)) _ _ _ _ (c .before .before .before .before .pre .1 .0) (c .before .before .before .before .pre .1 .1) (c .before .before .before .before .args .left) (c .before .if1 .left) (c .if2 .taken)
-
-object-put-row-requires : (t : ℕ) → object-lts.Need-put-row-requires (object-calls t) (object-at t) object.Post object-Inv-loop object-μ-loop
-object-put-row-requires t c κs = search needs
-
-object-add-past : (t : ℕ) → object-lts.Need-add-past (object-calls t) (object-at t) object.Post object-Inv-loop object-μ-loop
-object-add-past t c = search needs
-
-object-past-requires : (t : ℕ) → object-lts.Need-past-requires (object-calls t) (object-at t) object.Post object-Inv-loop object-μ-loop
-object-past-requires t c κs = (c .before .before .before .before .before .before .before .before .pre .1 .0 .short, ready-lies _ _ _ _ (c .before .before .before .before .before .before .before .before .pre .1 .0) .2)
+object-enter-requires : (t : ℕ) → object-lts.Need-enter-requires (object-calls t) (object-at t) object.Post object-Inv-loop object-μ-loop
+object-enter-requires t c κs = search needs
 
 object-enum-known-r : (t : ℕ) → object-lts.Need-enum-known-r (object-calls t) (object-at t) object.Post object-Inv-loop object-μ-loop
 object-enum-known-r t c = search needs
@@ -268,26 +245,26 @@ object-enum-told t c = search needs
 object-same-length : (t : ℕ) → object-lts.Need-same-length (object-calls t) (object-at t) object.Post object-Inv-loop object-μ-loop
 object-same-length t c = search needs
 
-object-returns-3 : (t : ℕ) → object-lts.Need-returns-3 (object-calls t) (object-at t) object.Post object-Inv-loop object-μ-loop
-object-returns-3 t c = nest-bad (object-nest (c .before .before .before .before .before .before .before .before .before .before .before .args .constant)) _ _ _ _ (c .before .before .before .before .before .before .before .before .before .before .before .pre .1 .0) (c .before .before .before .before .before .before .before .before .before .before .before .pre .1 .1) (c .before .before .before .before .before .before .before .before .before .before .before .args .left) (c .before .before .before .before .before .before .before .before .if1 .left) (c .before .before .before .before .before .before .before .if2 .left) _ _ _ (c .before .before .past .ensures) (c .enum-told .given .1)
+object-returns : (t : ℕ) → object-lts.Need-returns (object-calls t) (object-at t) object.Post object-Inv-loop object-μ-loop
+object-returns t c = nest-refused (object-nest (c .before .before .before .before .before .before .before .before .args .constant)) _ _ _ _ (c .before .before .before .before .before .before .before .before .pre .1 .0) (c .before .before .before .before .before .before .before .before .pre .1 .1) (c .before .before .before .before .before .before .before .before .args .left) _ _ _ _ (c .before .before .before .before .enter .ensures) (c .enum-told .given .1)
 
 object-loop-holds : (t : ℕ) → object-lts.Need-loop-holds (object-calls t) (object-at t) object.Post object-Inv-loop object-μ-loop
-object-loop-holds t c = nest-begins (object-nest (c .before .before .before .before .before .before .before .before .before .before .before .before .args .constant)) _ _ _ _ (c .before .before .before .before .before .before .before .before .before .before .before .before .pre .1 .0) (c .before .before .before .before .before .before .before .before .before .before .before .before .pre .1 .1) (c .before .before .before .before .before .before .before .before .before .before .before .before .args .left) (c .before .before .before .before .before .before .before .before .before .if1 .left) (c .before .before .before .before .before .before .before .before .if2 .left) _ _ (c .before .before .before .past .ensures) (c .before .r .given .1) _ (c .before .before .before .before .before .before .put-row .ensures)
+object-loop-holds t c = nest-begins (object-nest (c .before .before .before .before .before .before .before .before .before .args .constant)) _ _ _ _ (c .before .before .before .before .before .before .before .before .before .pre .1 .0) (c .before .before .before .before .before .before .before .before .before .pre .1 .1) (c .before .before .before .before .before .before .before .before .before .args .left) _ _ _ (c .before .before .before .before .before .enter .ensures) (c .before .r .given .1)
 
 object-close-requires : (t : ℕ) → object-lts.Need-close-requires (object-calls t) (object-at t) object.Post object-Inv-loop object-μ-loop
-object-close-requires t c κs = (in-ready _ _ _ _ _ _ _ _ _ (c .before .before .loop .inv) (c .before .before .before .before .before .before .before .before .before .before .before .before .before .before .before .pre .1 .0 .short) (c .before .before .before .before .before .before .before .before .before .before .before .before .before .before .before .pre .1 .0 .few), omega (arith, c .before .before .before .before .before .before .before .before .before .before .before .before .before .before .before .pre .1 .0 .few, c .before .before .before .before .before .before .before .before .before .before .before .if2 .left))
+object-close-requires t c κs = (in-ready _ _ _ _ _ _ _ _ _ (c .before .before .loop .inv) (c .before .before .before .before .before .before .before .before .before .before .before .before .pre .1 .0 .short) (c .before .before .before .before .before .before .before .before .before .before .before .before .pre .1 .0 .few), nest-entered (object-nest (c .before .before .before .before .before .before .before .before .before .before .before .before .args .constant)) _ _ _ _ (c .before .before .before .before .before .before .before .before .before .before .before .before .pre .1 .0) (c .before .before .before .before .before .before .before .before .before .before .before .before .pre .1 .1) (c .before .before .before .before .before .before .before .before .before .before .before .before .args .left) _ _ _ (c .before .before .before .before .before .before .before .before .enter .ensures) (c .before .before .before .before .r .given .1) .1)
 
 object-same-length-2 : (t : ℕ) → object-lts.Need-same-length-2 (object-calls t) (object-at t) object.Post object-Inv-loop object-μ-loop
 object-same-length-2 t c = search needs
 
-object-returns-4 : (t : ℕ) → object-lts.Need-returns-4 (object-calls t) (object-at t) object.Post object-Inv-loop object-μ-loop
-object-returns-4 t c = nest-closes (object-nest (c .before .before .before .before .before .before .before .before .before .before .before .before .before .before .before .before .before .before .args .constant)) _ _ _ _ (c .before .before .before .before .before .before .before .before .before .before .before .before .before .before .before .before .before .before .pre .1 .0) (c .before .before .before .before .before .before .before .before .before .before .before .before .before .before .before .before .before .before .pre .1 .1) (c .before .before .before .before .before .before .before .before .before .before .before .before .before .before .before .before .before .before .args .left) (c .before .before .before .before .before .before .before .before .before .before .before .before .before .before .before .if1 .left) (c .before .before .before .before .before .before .before .before .before .before .before .before .before .before .if2 .left) _ _ (c .before .before .before .before .before .before .before .before .before .past .ensures) (c .before .before .before .before .before .before .before .r .given .1) _ (c .before .before .before .before .before .before .before .before .before .before .before .before .put-row .ensures) _ _ (c .before .before .before .before .before .loop .inv) (c .before .before .before .before .if3 .taken) _ _ (c .before .before .close .ensures)
+object-returns-2 : (t : ℕ) → object-lts.Need-returns-2 (object-calls t) (object-at t) object.Post object-Inv-loop object-μ-loop
+object-returns-2 t c = nest-closes (object-nest (c .before .before .before .before .before .before .before .before .before .before .before .before .before .before .before .args .constant)) _ _ _ _ (c .before .before .before .before .before .before .before .before .before .before .before .before .before .before .before .pre .1 .0) (c .before .before .before .before .before .before .before .before .before .before .before .before .before .before .before .pre .1 .1) (c .before .before .before .before .before .before .before .before .before .before .before .before .before .before .before .args .left) _ _ _ (c .before .before .before .before .before .before .before .before .before .before .before .enter .ensures) (c .before .before .before .before .before .before .before .r .given .1) _ _ (c .before .before .before .before .before .loop .inv) (c .before .before .before .before .if1 .taken) _ _ (c .before .before .close .ensures)
 
 object-sub-entry : (t : ℕ) → object-lts.Need-sub-entry (object-calls t) (object-at t) object.Post object-Inv-loop object-μ-loop
-object-sub-entry t c = search needs
+object-sub-entry t c = omega (arith, nest-entered (object-nest (c .before .before .before .before .before .before .before .before .before .before .before .before .args .constant)) _ _ _ _ (c .before .before .before .before .before .before .before .before .before .before .before .before .pre .1 .0) (c .before .before .before .before .before .before .before .before .before .before .before .before .pre .1 .1) (c .before .before .before .before .before .before .before .before .before .before .before .before .args .left) _ _ _ (c .before .before .before .before .before .before .before .before .enter .ensures) (c .before .before .before .before .r .given .1) .0)
 
 object-entry-requires : (t : ℕ) → object-lts.Need-entry-requires (object-calls t) (object-at t) object.Post object-Inv-loop object-μ-loop
-object-entry-requires t c κs = (omega (arith, c .before .before .before .before .before .before .before .before .before .before .before .before .before .before .before .pre .0, c .before .before .before .before .before .before .before .before .before .before .before .before .if1 .left), (in-ready _ _ _ _ _ _ _ _ _ (c .before .before .loop .inv) (c .before .before .before .before .before .before .before .before .before .before .before .before .before .before .before .pre .1 .0 .short) (c .before .before .before .before .before .before .before .before .before .before .before .before .before .before .before .pre .1 .0 .few), inr refl))
+object-entry-requires t c κs = (omega (arith, c .before .before .before .before .before .before .before .before .before .before .before .before .pre .0, nest-entered (object-nest (c .before .before .before .before .before .before .before .before .before .before .before .before .args .constant)) _ _ _ _ (c .before .before .before .before .before .before .before .before .before .before .before .before .pre .1 .0) (c .before .before .before .before .before .before .before .before .before .before .before .before .pre .1 .1) (c .before .before .before .before .before .before .before .before .before .before .before .before .args .left) _ _ _ (c .before .before .before .before .before .before .before .before .enter .ensures) (c .before .before .before .before .r .given .1) .0), (in-ready _ _ _ _ _ _ _ _ _ (c .before .before .loop .inv) (c .before .before .before .before .before .before .before .before .before .before .before .before .pre .1 .0 .short) (c .before .before .before .before .before .before .before .before .before .before .before .before .pre .1 .0 .few), inr refl))
 
 object-enum-known-t : (t : ℕ) → object-lts.Need-enum-known-t (object-calls t) (object-at t) object.Post object-Inv-loop object-μ-loop
 object-enum-known-t t c = search needs
@@ -298,14 +275,14 @@ object-enum-told-2 t c = search needs
 object-same-length-3 : (t : ℕ) → object-lts.Need-same-length-3 (object-calls t) (object-at t) object.Post object-Inv-loop object-μ-loop
 object-same-length-3 t c = search needs
 
-object-returns-5 : (t : ℕ) → object-lts.Need-returns-5 (object-calls t) (object-at t) object.Post object-Inv-loop object-μ-loop
-object-returns-5 t c = nest-stops (object-nest (c .before .before .before .before .before .before .before .before .before .before .before .before .before .before .before .before .before .before .before .before .args .constant)) _ _ _ _ (c .before .before .before .before .before .before .before .before .before .before .before .before .before .before .before .before .before .before .before .before .pre .1 .0) (c .before .before .before .before .before .before .before .before .before .before .before .before .before .before .before .before .before .before .before .before .pre .1 .1) (c .before .before .before .before .before .before .before .before .before .before .before .before .before .before .before .before .before .before .before .before .args .left) (c .before .before .before .before .before .before .before .before .before .before .before .before .before .before .before .before .before .if1 .left) (c .before .before .before .before .before .before .before .before .before .before .before .before .before .before .before .before .if2 .left) _ _ (c .before .before .before .before .before .before .before .before .before .before .before .past .ensures) (c .before .before .before .before .before .before .before .before .before .r .given .1) _ (c .before .before .before .before .before .before .before .before .before .before .before .before .before .before .put-row .ensures) _ _ (c .before .before .before .before .before .before .before .loop .inv) (c .before .before .before .before .before .before .if3 .left) (entryStack kindObjectField (c .before .before .before .before .before .before .before .before .before .before .before .before .before .before .before .before .before .before .before .before .args .constant)) (field-is _ _ _ _ (in-ready _ _ _ _ _ _ _ _ _ (c .before .before .before .before .before .before .before .loop .inv) (c .before .before .before .before .before .before .before .before .before .before .before .before .before .before .before .before .before .before .before .before .pre .1 .0 .short) (c .before .before .before .before .before .before .before .before .before .before .before .before .before .before .before .before .before .before .before .before .pre .1 .0 .few)) _ (c .before .before .before .before .before .before .before .before .before .before .before .before .before .before .before .before .before .before .before .before .args .constant)) _ _ _ _ (c .before .before .before .before .entry .ensures) (c .enum-told2 .given .1)
+object-returns-3 : (t : ℕ) → object-lts.Need-returns-3 (object-calls t) (object-at t) object.Post object-Inv-loop object-μ-loop
+object-returns-3 t c = nest-stops (object-nest (c .before .before .before .before .before .before .before .before .before .before .before .before .before .before .before .before .before .args .constant)) _ _ _ _ (c .before .before .before .before .before .before .before .before .before .before .before .before .before .before .before .before .before .pre .1 .0) (c .before .before .before .before .before .before .before .before .before .before .before .before .before .before .before .before .before .pre .1 .1) (c .before .before .before .before .before .before .before .before .before .before .before .before .before .before .before .before .before .args .left) _ _ _ (c .before .before .before .before .before .before .before .before .before .before .before .before .before .enter .ensures) (c .before .before .before .before .before .before .before .before .before .r .given .1) _ _ (c .before .before .before .before .before .before .before .loop .inv) (c .before .before .before .before .before .before .if1 .left) (entryStack kindObjectField (c .before .before .before .before .before .before .before .before .before .before .before .before .before .before .before .before .before .args .constant)) (field-is _ _ _ _ (in-ready _ _ _ _ _ _ _ _ _ (c .before .before .before .before .before .before .before .loop .inv) (c .before .before .before .before .before .before .before .before .before .before .before .before .before .before .before .before .before .pre .1 .0 .short) (c .before .before .before .before .before .before .before .before .before .before .before .before .before .before .before .before .before .pre .1 .0 .few)) _ (c .before .before .before .before .before .before .before .before .before .before .before .before .before .before .before .before .before .args .constant)) _ _ _ _ (c .before .before .before .before .entry .ensures) (c .enum-told2 .given .1)
 
 object-loop-less : (t : ℕ) → object-lts.Need-loop-less (object-calls t) (object-at t) object.Post object-Inv-loop object-μ-loop
-object-loop-less t c = nest-less (object-nest (c .before .before .before .before .before .before .before .before .before .before .before .before .before .before .before .before .before .before .before .before .before .args .constant)) _ _ _ _ (c .before .before .before .before .before .before .before .before .before .before .before .before .before .before .before .before .before .before .before .before .before .pre .1 .0) (c .before .before .before .before .before .before .before .before .before .before .before .before .before .before .before .before .before .before .before .before .before .pre .1 .1) (c .before .before .before .before .before .before .before .before .before .before .before .before .before .before .before .before .before .before .before .before .before .args .left) (c .before .before .before .before .before .before .before .before .before .before .before .before .before .before .before .before .before .before .if1 .left) (c .before .before .before .before .before .before .before .before .before .before .before .before .before .before .before .before .before .if2 .left) _ _ (c .before .before .before .before .before .before .before .before .before .before .before .before .past .ensures) (c .before .before .before .before .before .before .before .before .before .before .r .given .1) _ (c .before .before .before .before .before .before .before .before .before .before .before .before .before .before .before .put-row .ensures) _ _ (c .before .before .before .before .before .before .before .before .loop .inv) (c .before .before .before .before .before .before .before .if3 .left) (entryStack kindObjectField (c .before .before .before .before .before .before .before .before .before .before .before .before .before .before .before .before .before .before .before .before .before .args .constant)) (field-is _ _ _ _ (in-ready _ _ _ _ _ _ _ _ _ (c .before .before .before .before .before .before .before .before .loop .inv) (c .before .before .before .before .before .before .before .before .before .before .before .before .before .before .before .before .before .before .before .before .before .pre .1 .0 .short) (c .before .before .before .before .before .before .before .before .before .before .before .before .before .before .before .before .before .before .before .before .before .pre .1 .0 .few)) _ (c .before .before .before .before .before .before .before .before .before .before .before .before .before .before .before .before .before .before .before .before .before .args .constant)) _ _ _ (c .before .before .before .before .before .entry .ensures) (c .before .t .given .1)
+object-loop-less t c = nest-less (object-nest (c .before .before .before .before .before .before .before .before .before .before .before .before .before .before .before .before .before .before .args .constant)) _ _ _ _ (c .before .before .before .before .before .before .before .before .before .before .before .before .before .before .before .before .before .before .pre .1 .0) (c .before .before .before .before .before .before .before .before .before .before .before .before .before .before .before .before .before .before .pre .1 .1) (c .before .before .before .before .before .before .before .before .before .before .before .before .before .before .before .before .before .before .args .left) _ _ _ (c .before .before .before .before .before .before .before .before .before .before .before .before .before .before .enter .ensures) (c .before .before .before .before .before .before .before .before .before .before .r .given .1) _ _ (c .before .before .before .before .before .before .before .before .loop .inv) (c .before .before .before .before .before .before .before .if1 .left) (entryStack kindObjectField (c .before .before .before .before .before .before .before .before .before .before .before .before .before .before .before .before .before .before .args .constant)) (field-is _ _ _ _ (in-ready _ _ _ _ _ _ _ _ _ (c .before .before .before .before .before .before .before .before .loop .inv) (c .before .before .before .before .before .before .before .before .before .before .before .before .before .before .before .before .before .before .pre .1 .0 .short) (c .before .before .before .before .before .before .before .before .before .before .before .before .before .before .before .before .before .before .pre .1 .0 .few)) _ (c .before .before .before .before .before .before .before .before .before .before .before .before .before .before .before .before .before .before .args .constant)) _ _ _ (c .before .before .before .before .before .entry .ensures) (c .before .t .given .1)
 
 object-loop-again : (t : ℕ) → object-lts.Need-loop-again (object-calls t) (object-at t) object.Post object-Inv-loop object-μ-loop
-object-loop-again t c = nest-more (object-nest (c .before .before .before .before .before .before .before .before .before .before .before .before .before .before .before .before .before .before .before .before .before .args .constant)) _ _ _ _ (c .before .before .before .before .before .before .before .before .before .before .before .before .before .before .before .before .before .before .before .before .before .pre .1 .0) (c .before .before .before .before .before .before .before .before .before .before .before .before .before .before .before .before .before .before .before .before .before .pre .1 .1) (c .before .before .before .before .before .before .before .before .before .before .before .before .before .before .before .before .before .before .before .before .before .args .left) (c .before .before .before .before .before .before .before .before .before .before .before .before .before .before .before .before .before .before .if1 .left) (c .before .before .before .before .before .before .before .before .before .before .before .before .before .before .before .before .before .if2 .left) _ _ (c .before .before .before .before .before .before .before .before .before .before .before .before .past .ensures) (c .before .before .before .before .before .before .before .before .before .before .r .given .1) _ (c .before .before .before .before .before .before .before .before .before .before .before .before .before .before .before .put-row .ensures) _ _ (c .before .before .before .before .before .before .before .before .loop .inv) (c .before .before .before .before .before .before .before .if3 .left) (entryStack kindObjectField (c .before .before .before .before .before .before .before .before .before .before .before .before .before .before .before .before .before .before .before .before .before .args .constant)) (field-is _ _ _ _ (in-ready _ _ _ _ _ _ _ _ _ (c .before .before .before .before .before .before .before .before .loop .inv) (c .before .before .before .before .before .before .before .before .before .before .before .before .before .before .before .before .before .before .before .before .before .pre .1 .0 .short) (c .before .before .before .before .before .before .before .before .before .before .before .before .before .before .before .before .before .before .before .before .before .pre .1 .0 .few)) _ (c .before .before .before .before .before .before .before .before .before .before .before .before .before .before .before .before .before .before .before .before .before .args .constant)) _ _ _ (c .before .before .before .before .before .entry .ensures) (c .before .t .given .1)
+object-loop-again t c = nest-more (object-nest (c .before .before .before .before .before .before .before .before .before .before .before .before .before .before .before .before .before .before .args .constant)) _ _ _ _ (c .before .before .before .before .before .before .before .before .before .before .before .before .before .before .before .before .before .before .pre .1 .0) (c .before .before .before .before .before .before .before .before .before .before .before .before .before .before .before .before .before .before .pre .1 .1) (c .before .before .before .before .before .before .before .before .before .before .before .before .before .before .before .before .before .before .args .left) _ _ _ (c .before .before .before .before .before .before .before .before .before .before .before .before .before .before .enter .ensures) (c .before .before .before .before .before .before .before .before .before .before .r .given .1) _ _ (c .before .before .before .before .before .before .before .before .loop .inv) (c .before .before .before .before .before .before .before .if1 .left) (entryStack kindObjectField (c .before .before .before .before .before .before .before .before .before .before .before .before .before .before .before .before .before .before .args .constant)) (field-is _ _ _ _ (in-ready _ _ _ _ _ _ _ _ _ (c .before .before .before .before .before .before .before .before .loop .inv) (c .before .before .before .before .before .before .before .before .before .before .before .before .before .before .before .before .before .before .pre .1 .0 .short) (c .before .before .before .before .before .before .before .before .before .before .before .before .before .before .before .before .before .before .pre .1 .0 .few)) _ (c .before .before .before .before .before .before .before .before .before .before .before .before .before .before .before .before .before .before .args .constant)) _ _ _ (c .before .before .before .before .before .entry .ensures) (c .before .t .given .1)
 
 value-list-requires : (t : ℕ) → value-lts.Need-list-requires (value-calls t) (value-at t) value.Post
 value-list-requires t c κs = (omega (arith, c .before .before .before .before .pre .0), (c .before .before .before .before .pre .1, c .before .if1 .taken))
@@ -384,50 +361,42 @@ pub +entry+list+object+value-spec : {M : Type 1} → statement M
     list.Post
     list-Inv-loop
     list-μ-loop
-    (list-returns t)
-    (list-returns-2 t)
-    (list-put-row-requires t)
-    (list-add-past t)
-    (list-past-requires t)
+    (list-enter-requires t)
     (list-enum-known-r t)
     (list-enum-told t)
     (list-same-length t)
-    (list-returns-3 t)
+    (list-returns t)
     (list-loop-holds t)
     (list-close-requires t)
     (list-same-length-2 t)
-    (list-returns-4 t)
+    (list-returns-2 t)
     (list-sub-value t)
     (list-value-requires t)
     (list-enum-known-t t)
     (list-enum-told-2 t)
     (list-same-length-3 t)
-    (list-returns-5 t)
+    (list-returns-3 t)
     (list-loop-less t)
     (list-loop-again t))
     (λ t. object-lts.spec (object-calls t) (object-at t)
     object.Post
     object-Inv-loop
     object-μ-loop
-    (object-returns t)
-    (object-returns-2 t)
-    (object-put-row-requires t)
-    (object-add-past t)
-    (object-past-requires t)
+    (object-enter-requires t)
     (object-enum-known-r t)
     (object-enum-told t)
     (object-same-length t)
-    (object-returns-3 t)
+    (object-returns t)
     (object-loop-holds t)
     (object-close-requires t)
     (object-same-length-2 t)
-    (object-returns-4 t)
+    (object-returns-2 t)
     (object-sub-entry t)
     (object-entry-requires t)
     (object-enum-known-t t)
     (object-enum-told-2 t)
     (object-same-length-3 t)
-    (object-returns-5 t)
+    (object-returns-3 t)
     (object-loop-less t)
     (object-loop-again t))
     λ t. value-lts.spec (value-calls t) (value-at t)

@@ -1,12 +1,13 @@
--- What the readers of one token do: they write, and the cursor goes past it.
+-- What the readers of one token do: they write a row or its end, and the cursor goes past the token.
 use mathlib.Core.Path.{_≡_}
 use mathlib.Core.Bool.{Bool, false}
+use mathlib.Core.Logic.{_≢_}
 use mathlib.Core.List.{List, [], _∷_}
 use Prim.Native.Nat.{ℕ, _+_, _*_, _<_}
 use lib.ListN.{set}
 use lib.Seq.{sets}
 use Rattle.paper.specs.Numbers.{mostRows}
-use Rattle.paper.specs.declared.Refusal.the-variants.{TooManyRows}
+use Rattle.paper.specs.declared.Refusal.the-variants.{TooDeep, TooManyRows}
 use Rattle.paper.proofs.Lexing.{from}
 use Rattle.tokens.specs.Head.{headOf}
 use Rattle.reader.specs.declared.Cursor.{Cursor}
@@ -23,6 +24,12 @@ past s c n = movedTo (c .end) n (headOf (from s (c .end)))
 pub data Leaf (s rows rows′ : List ℕ) (c : Cursor) (parent k m z x : ℕ) (r : Read) : Type 0 where
   full : c .rows ≡ mostRows → r ≡ Refused (TooManyRows (c .start)) → Leaf s rows rows′ c parent k m z x r
   wrote : c .rows < mostRows → rows′ ≡ sets rows (7 * c .rows) (k ∷ c .start ∷ c .end ∷ parent ∷ m ∷ z ∷ x ∷ []) → r ≡ past s c (c .rows + 1) → Leaf s rows rows′ c parent k m z x r
+
+-- c's token opens a level, and a row of kind k that is not ended yet; there is a level left and room for the row, or not
+pub data Open (s rows rows′ : List ℕ) (c : Cursor) (parent left k : ℕ) (r : Read) : Type 0 where
+  deep : left ≡ 0 → r ≡ Refused (TooDeep (c .start)) → Open s rows rows′ c parent left k r
+  crowded : left ≢ 0 → c .rows ≡ mostRows → r ≡ Refused (TooManyRows (c .start)) → Open s rows rows′ c parent left k r
+  entered : left ≢ 0 → c .rows < mostRows → rows′ ≡ sets rows (7 * c .rows) (k ∷ c .start ∷ 0 ∷ parent ∷ 0 ∷ 0 ∷ 0 ∷ []) → r ≡ past s c (c .rows + 1) → Open s rows rows′ c parent left k r
 
 -- row n ends with c's token
 pub record Close (s rows rows′ : List ℕ) (c : Cursor) (n : ℕ) (r : Read) : Type 0 where
