@@ -152,8 +152,8 @@ module _ {p : Part} {K x y : ℕ} {A B : Class} {inner item star : Part} (N : Ne
         pub nest-closes : (rows′ : List ℕ) (r′ : Read) → Close s rows₁ rows′ d (c .rows) r′ → Said 1 s rows rows′ c parent left (nt p ∷ []) r′
         nest-closes rows′ r′ v =
             moved-said 1 s rows rows′ c parent left (nt p ∷ []) (d .end) (d .rows)
-              (rw (v .ended) (length-set rows₁ (7 * c .rows + 2) (d .end) ∙ i .size)) (lies .2) (i .few) (omega (arith, lies, i .since, m .stop, onward))
-              (λ σ o q h f. closes-goes rows′ (v .ended) σ o q h f) r′ (v .moved)
+            (rw (v .ended) (length-set rows₁ (7 * c .rows + 2) (d .end) ∙ i .size)) (lies .2) (i .few) (omega (arith, lies, i .since, m .stop, onward))
+            (λ σ o q h f. closes-goes rows′ (v .ended) σ o q h f) r′ (v .moved)
           where
             lies : (d .stop ≤ d .start) × (d .start ≤ d .end) × (d .end ≤ length s)
             lies = token-lies s (d .stop) (d .kind) (d .start) (d .end) (i .within) (i .looks)

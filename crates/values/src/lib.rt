@@ -1,5 +1,4 @@
 // Reads values, and the entries of arguments and objects, and writes their rows.
-use paper::Refusal;
 use paper::EXTRA_FALSE;
 use paper::EXTRA_TRUE;
 use paper::KIND_BOOLEAN;
@@ -13,11 +12,12 @@ use paper::KIND_OBJECT_FIELD;
 use paper::KIND_STRING;
 use paper::KIND_VARIABLE;
 use paper::MOST_ROWS;
+use paper::Refusal;
+use reader::Cursor;
+use reader::Read;
 use reader::no_going;
 use reader::put_end;
 use reader::put_row;
-use reader::Cursor;
-use reader::Read;
 use tokens::TOKEN_BRACE_CLOSE;
 use tokens::TOKEN_BRACE_OPEN;
 use tokens::TOKEN_BRACKET_CLOSE;
@@ -42,7 +42,16 @@ ghost use Rattle.values.specs.Stacks.{valueStack, entryStack, EntryKind}
 ghost use Rattle.values.specs.Marks.{Leaf, Open, Close, SaidScalar, SaidVariable};
 
 // A value that is one token: its row.
-fn leaf(s: &[u8], rows: &mut [u32], c: Cursor, parent: u32, kind: u32, name: u32, size: u32, extra: u32) -> Read
+fn leaf(
+    s: &[u8],
+    rows: &mut [u32],
+    c: Cursor,
+    parent: u32,
+    kind: u32,
+    name: u32,
+    size: u32,
+    extra: u32,
+) -> Read
     requires { ⌜ Ready (now s) (now rows) c parent ⌝ }
     ensures { λ r. ⌜ Leaf (now (s .entry)) (now (rows .entry)) (now (rows .exit)) c parent kind name size extra r ⌝ }
 {
@@ -111,7 +120,17 @@ fn variable(s: &[u8], rows: &mut [u32], c: Cursor, parent: u32) -> Read
     if name.kind != TOKEN_NAME {
         return no_going(name);
     }
-    put_row(rows, n, KIND_VARIABLE, c.start, name.end, parent, name.start, name.end - name.start, 0);
+    put_row(
+        rows,
+        n,
+        KIND_VARIABLE,
+        c.start,
+        name.end,
+        parent,
+        name.start,
+        name.end - name.start,
+        0,
+    );
     name.past(s, n + 1)
 }
 
@@ -211,7 +230,15 @@ fn object(s: &[u8], rows: &mut [u32], c: Cursor, parent: u32, left: u32, constan
 }
 
 // Argument or ObjectField, by its row's kind: Name : Value
-pub fn entry(s: &[u8], rows: &mut [u32], c: Cursor, parent: u32, left: u32, kind: u32, constant: bool) -> Read
+pub fn entry(
+    s: &[u8],
+    rows: &mut [u32],
+    c: Cursor,
+    parent: u32,
+    left: u32,
+    kind: u32,
+    constant: bool,
+) -> Read
     requires { ⌜ Ready (now s) (now rows) c parent × EntryKind kind ⌝ }
     ensures { λ r. ⌜ Said 1 (now (s .entry)) (now (rows .entry)) (now (rows .exit)) c parent left (entryStack kind constant) r ⌝ }
 {
@@ -222,7 +249,17 @@ pub fn entry(s: &[u8], rows: &mut [u32], c: Cursor, parent: u32, left: u32, kind
     if n == MOST_ROWS {
         return Read::Refused(Refusal::TooManyRows(c.start));
     }
-    put_row(rows, n, kind, c.start, 0, parent, c.start, c.end - c.start, 0);
+    put_row(
+        rows,
+        n,
+        kind,
+        c.start,
+        0,
+        parent,
+        c.start,
+        c.end - c.start,
+        0,
+    );
     let r = c.past(s, n + 1);
     let Read::Done(colon) = r else {
         return r;
