@@ -2,19 +2,24 @@
 use mathlib.Core.Path.{_≡_}
 use mathlib.Core.Bool.{Bool, false}
 use mathlib.Core.Logic.{_≢_}
-use mathlib.Core.List.{List, [], _∷_}
-use Prim.Native.Nat.{ℕ, _+_, _*_, _<_}
-use lib.ListN.{set}
+use mathlib.Core.List.{List, [], _∷_, _++_}
+use Prim.Native.Nat.{ℕ, _+_, _*_, _≤_, _<_}
+use lib.ListN.{length, set}
 use lib.Seq.{sets}
-use Rattle.paper.specs.Numbers.{mostRows}
+use Rattle.paper.specs.Grammar.{nt, act}
+use Rattle.paper.specs.Numbers.{mostRows, rowsSize}
+use Rattle.paper.specs.Language.{end}
+use Rattle.paper.specs.Rows.{top}
+use Rattle.paper.specs.Sizes.{Counts, overCounts}
 use Rattle.paper.specs.declared.Refusal.the-variants.{TooDeep, TooManyRows}
 use Rattle.paper.proofs.Lexing.{from}
+use Rattle.paper.proofs.Going.{Stack}
 use Rattle.tokens.specs.Head.{headOf}
 use Rattle.reader.specs.declared.Cursor.{Cursor}
 use Rattle.reader.specs.declared.Read.{Read}
-use Rattle.reader.specs.declared.Read.the-variants.{Refused}
-use Rattle.reader.specs.Reader.{movedTo, Said}
-use Rattle.values.specs.Stacks.{valueStack}
+use Rattle.reader.specs.declared.Read.the-variants.{Done, Refused}
+use Rattle.reader.specs.Reader.{Looks, movedTo, at, Halts, Said}
+use Rattle.values.specs.Stacks.{valuePart, valueStack, entryStack}
 
 -- the cursor past c's token, with n rows
 abbrev pub past : List ℕ → Cursor → ℕ → Read
@@ -42,3 +47,18 @@ SaidScalar s rows rows′ c parent r = (left : ℕ) (constant : Bool) → Said 1
 
 abbrev pub SaidVariable : List ℕ → List ℕ → List ℕ → Cursor → ℕ → Read → Type 0
 SaidVariable s rows rows′ c parent r = (left : ℕ) → Said 1 s rows rows′ c parent left (valueStack false) r
+
+-- Name : of an entry was read, and its row of kind k is open: the machine expects the value, and then the row's end
+pub record Named (s rows rows′ : List ℕ) (c d : Cursor) (parent k : ℕ) : Type 0 where
+  pub room : c .rows < mostRows
+  pub size : length rows′ ≡ rowsSize
+  pub within : d .stop ≤ length s
+  pub few : d .rows ≤ mostRows
+  pub looks : Looks s d
+  pub on : c .stop ≤ d .stop
+  pub goes : (left : ℕ) (constant : Bool) (σ : Stack) (o : List ℕ) (q : Counts) → top o ≡ parent → overCounts q ≡ false →
+      at s rows c o left q (entryStack k constant ++ σ) ≡ at s rows′ d (c .rows ∷ o) left q (nt (valuePart constant) ∷ act end ∷ σ)
+
+abbrev pub SaidNamed : List ℕ → List ℕ → List ℕ → Cursor → ℕ → ℕ → Read → Type 0
+SaidNamed s rows rows′ c parent k (Done d) = Named s rows rows′ c d parent k
+SaidNamed s rows rows′ c parent k (Refused x) = (left : ℕ) (constant : Bool) → Halts s rows c parent left (entryStack k constant) x

@@ -39,7 +39,7 @@ ghost use Rattle.paper.specs.Language.{dollar, bracketL, braceL, n-other};
 ghost use Rattle.tokens.specs.Head.{kindOf};
 ghost use Rattle.reader.specs.Reader.{Ready, Said};
 ghost use Rattle.values.specs.Stacks.{valueStack, entryStack, EntryKind};
-ghost use Rattle.values.specs.Marks.{Leaf, Open, Close, SaidScalar, SaidVariable};
+ghost use Rattle.values.specs.Marks.{Leaf, Open, Close, SaidScalar, SaidVariable, SaidNamed};
 
 // A value that is one token: its row.
 fn leaf(
@@ -229,6 +229,30 @@ fn object(s: &[u8], rows: &mut [u32], c: Cursor, parent: u32, left: u32, constan
     }
 }
 
+// Name : of an entry, whose row begins and is of this kind; the cursor comes to the value.
+fn entry_name(s: &[u8], rows: &mut [u32], c: Cursor, parent: u32, kind: u32) -> Read
+    requires { ⌜ Ready (now s) (now rows) c parent × EntryKind kind ⌝ }
+    ensures { λ r. ⌜ SaidNamed (now (s .entry)) (now (rows .entry)) (now (rows .exit)) c parent kind r ⌝ }
+{
+    if c.kind != TOKEN_NAME {
+        return no_going(c);
+    }
+    let n = c.rows;
+    if n == MOST_ROWS {
+        return Read::Refused(Refusal::TooManyRows(c.start));
+    }
+    let size = c.end - c.start;
+    put_row(rows, n, kind, c.start, 0, parent, c.start, size, 0);
+    let r = c.past(s, n + 1);
+    let Read::Done(colon) = r else {
+        return r;
+    };
+    if colon.kind != TOKEN_COLON {
+        return no_going(colon);
+    }
+    colon.past(s, n + 1)
+}
+
 // Argument or ObjectField, by its row's kind: Name : Value
 pub fn entry(
     s: &[u8],
@@ -242,34 +266,10 @@ pub fn entry(
     requires { ⌜ Ready (now s) (now rows) c parent × EntryKind kind ⌝ }
     ensures { λ r. ⌜ Said 1 (now (s .entry)) (now (rows .entry)) (now (rows .exit)) c parent left (entryStack kind constant) r ⌝ }
 {
-    if c.kind != TOKEN_NAME {
-        return no_going(c);
-    }
     let n = c.rows;
-    if n == MOST_ROWS {
-        return Read::Refused(Refusal::TooManyRows(c.start));
-    }
-    put_row(
-        rows,
-        n,
-        kind,
-        c.start,
-        0,
-        parent,
-        c.start,
-        c.end - c.start,
-        0,
-    );
-    let r = c.past(s, n + 1);
-    let Read::Done(colon) = r else {
+    let r = entry_name(s, rows, c, parent, kind);
+    let Read::Done(first) = r else {
         return r;
-    };
-    if colon.kind != TOKEN_COLON {
-        return no_going(colon);
-    }
-    let t = colon.past(s, n + 1);
-    let Read::Done(first) = t else {
-        return t;
     };
     let v = value(s, rows, first, n, left, constant);
     let Read::Done(d) = v else {

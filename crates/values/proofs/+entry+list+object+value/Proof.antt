@@ -8,11 +8,10 @@ use borrow.Author.Needs.{needs}
 use Rattle.paper.specs.Numbers.{kindObjectField}
 use Rattle.paper.specs.Language.{bracketR, braceR}
 use Rattle.values.specs.Stacks.{valueStack, entryStack}
-use Rattle.values.proofs.MovedLaws.{ready-lies}
 use Rattle.values.proofs.VariableLaws.{no-variable}
 use Rattle.values.proofs.NestLaws.{InNest, in-ready, nest-refused, nest-entered, nest-begins, nest-closes, nest-more, nest-less, nest-stops}
 use Rattle.values.proofs.NestParts.{valuesPart, fieldsPart, list-nest, object-nest}
-use Rattle.values.proofs.EntryLaws.{entry-no-name, entry-full, entry-bad, colon-lies, entry-no-colon, entry-colon-bad, entry-ready, entry-stops, entry-size, entry-went, field-is}
+use Rattle.values.proofs.EntryLaws.{entry-refused, entry-begun, entry-ready, entry-stops, entry-size, entry-went, field-is}
 use borrow.Fn.Kinds.{In}
 use borrow.Fn.PlainCycle.{Measures, is, falls, and}
 use Rattle.values.proofs.entry.Reads as entry
@@ -27,12 +26,11 @@ use Rattle.values.proofs.+entry+list+object+value.Lts-object as object-
 use Rattle.values.proofs.value.Reads as value
 use Rattle.values.proofs.value.Kinds as value-kinds
 use Rattle.values.proofs.+entry+list+object+value.Lts-value as value-lts
-use Rattle.reader.proofs.Cursor.past.Reads as past-reads
 use Rattle.reader.proofs.no_going.Reads as no-going-reads
 use Rattle.reader.proofs.put_end.Reads as put-end-reads
-use Rattle.reader.proofs.put_row.Reads as put-row-reads
 use Rattle.values.proofs.close.Reads as close-reads
 use Rattle.values.proofs.enter.Reads as enter-reads
+use Rattle.values.proofs.entry_name.Reads as entry-name-reads
 use Rattle.values.proofs.scalar.Reads as scalar-reads
 use Rattle.values.proofs.variable.Reads as variable-reads
 use Rattle.values.proofs.+entry+list+object+value.{statement}
@@ -75,7 +73,7 @@ abbrev value-below : ℕ → In 2 value-kinds.ps
 value-below t = and 2 value-kinds.ps (falls 2 value-kinds.ps _<_ μ-value t) value.Pre
 
 abbrev entry-calls : ℕ → entry-lts.Claims
-entry-calls t = (no-going-reads.Asked, no-going-reads.Learnt, put-row-reads.Asked, put-row-reads.Learnt, past-reads.Asked, past-reads.Learnt, value-below t, value.Post, put-end-reads.Asked, put-end-reads.Learnt)
+entry-calls t = (entry-name-reads.Asked, entry-name-reads.Learnt, value-below t, value.Post, put-end-reads.Asked, put-end-reads.Learnt)
 
 abbrev list-calls : ℕ → list-lts.Claims
 list-calls t = (enter-reads.Asked, enter-reads.Learnt, close-reads.Asked, close-reads.Learnt, value-below t, value.Post)
@@ -86,26 +84,8 @@ object-calls t = (enter-reads.Asked, enter-reads.Learnt, close-reads.Asked, clos
 abbrev value-calls : ℕ → value-lts.Claims
 value-calls t = (list-below t, list.Post, object-below t, object.Post, no-going-reads.Asked, no-going-reads.Learnt, variable-reads.Asked, variable-reads.Learnt, scalar-reads.Asked, scalar-reads.Learnt)
 
-entry-no-going-requires : (t : ℕ) → entry-lts.Need-no-going-requires (entry-calls t) (entry-at t) entry.Post
-entry-no-going-requires t c κs = search needs
-
-entry-returns : (t : ℕ) → entry-lts.Need-returns (entry-calls t) (entry-at t) entry.Post
-entry-returns t c = rw (c .no-going .ensures) (entry-no-name _ _ _ _ (c .before .before .before .before .before .pre .1 .0) (c .before .before .before .before .before .args .left) (c .before .before .before .before .before .args .kind) (c .before .before .before .before .before .pre .1 .1) (c .before .before .before .before .before .args .constant) (c .before .if1 .taken))
-
-entry-returns-2 : (t : ℕ) → entry-lts.Need-returns-2 (entry-calls t) (entry-at t) entry.Post
-entry-returns-2 t c = entry-full _ _ _ _ (c .before .before .before .before .before .pre .1 .0) (c .before .before .before .before .before .args .left) (c .before .before .before .before .before .args .kind) (c .before .before .before .before .before .pre .1 .1) (c .before .before .before .before .before .args .constant) (c .before .if1 .left) (c .if2 .taken)
-
-entry-sub-put-row : (t : ℕ) → entry-lts.Need-sub-put-row (entry-calls t) (entry-at t) entry.Post
-entry-sub-put-row t c = ready-lies _ _ _ _ (c .before .before .before .before .before .before .before .pre .1 .0) .1
-
-entry-put-row-requires : (t : ℕ) → entry-lts.Need-put-row-requires (entry-calls t) (entry-at t) entry.Post
-entry-put-row-requires t c κs = search needs
-
-entry-add-past : (t : ℕ) → entry-lts.Need-add-past (entry-calls t) (entry-at t) entry.Post
-entry-add-past t c = search needs
-
-entry-past-requires : (t : ℕ) → entry-lts.Need-past-requires (entry-calls t) (entry-at t) entry.Post
-entry-past-requires t c κs = (c .before .before .before .before .before .before .before .before .before .before .pre .1 .0 .short, ready-lies _ _ _ _ (c .before .before .before .before .before .before .before .before .before .before .pre .1 .0) .2)
+entry-entry-name-requires : (t : ℕ) → entry-lts.Need-entry-name-requires (entry-calls t) (entry-at t) entry.Post
+entry-entry-name-requires t c κs = search needs
 
 entry-enum-known-r : (t : ℕ) → entry-lts.Need-enum-known-r (entry-calls t) (entry-at t) entry.Post
 entry-enum-known-r t c = search needs
@@ -116,59 +96,32 @@ entry-enum-told t c = search needs
 entry-same-length : (t : ℕ) → entry-lts.Need-same-length (entry-calls t) (entry-at t) entry.Post
 entry-same-length t c = search needs
 
-entry-returns-3 : (t : ℕ) → entry-lts.Need-returns-3 (entry-calls t) (entry-at t) entry.Post
-entry-returns-3 t c = entry-bad _ _ _ _ (c .before .before .before .before .before .before .before .before .before .before .before .before .before .pre .1 .0) (c .before .before .before .before .before .before .before .before .before .before .before .before .before .args .left) (c .before .before .before .before .before .before .before .before .before .before .before .before .before .args .kind) (c .before .before .before .before .before .before .before .before .before .before .before .before .before .pre .1 .1) (c .before .before .before .before .before .before .before .before .before .before .before .before .before .args .constant) (c .before .before .before .before .before .before .before .before .before .if1 .left) (c .before .before .before .before .before .before .before .before .if2 .left) _ _ _ (c .before .before .past .ensures) (c .enum-told .given .1)
-
-entry-no-going-requires-2 : (t : ℕ) → entry-lts.Need-no-going-requires-2 (entry-calls t) (entry-at t) entry.Post
-entry-no-going-requires-2 t c κs = search needs
-
-entry-same-length-2 : (t : ℕ) → entry-lts.Need-same-length-2 (entry-calls t) (entry-at t) entry.Post
-entry-same-length-2 t c = search needs
-
-entry-returns-4 : (t : ℕ) → entry-lts.Need-returns-4 (entry-calls t) (entry-at t) entry.Post
-entry-returns-4 t c = rw (c .no-going2 .ensures) (entry-no-colon _ _ _ _ (c .before .before .before .before .before .before .before .before .before .before .before .before .before .before .before .before .before .pre .1 .0) (c .before .before .before .before .before .before .before .before .before .before .before .before .before .before .before .before .before .args .left) (c .before .before .before .before .before .before .before .before .before .before .before .before .before .before .before .before .before .args .kind) (c .before .before .before .before .before .before .before .before .before .before .before .before .before .before .before .before .before .pre .1 .1) (c .before .before .before .before .before .before .before .before .before .before .before .before .before .before .before .before .before .args .constant) (c .before .before .before .before .before .before .before .before .before .before .before .before .before .if1 .left) (c .before .before .before .before .before .before .before .before .before .before .before .before .if2 .left) _ _ (c .before .before .before .before .before .before .past .ensures) (c .before .before .before .before .r .given .1) (c .before .if3 .taken))
-
-entry-add-past-2 : (t : ℕ) → entry-lts.Need-add-past-2 (entry-calls t) (entry-at t) entry.Post
-entry-add-past-2 t c = record { fits = omega (arith, c .before .before .before .before .before .before .before .before .before .before .before .before .before .before .before .before .pre .1 .0 .few) }
-
-entry-past-requires-2 : (t : ℕ) → entry-lts.Need-past-requires-2 (entry-calls t) (entry-at t) entry.Post
-entry-past-requires-2 t c κs = (c .before .before .before .before .before .before .before .before .before .before .before .before .before .before .before .before .pre .1 .0 .short, colon-lies _ _ _ _ (c .before .before .before .before .before .before .before .before .before .before .before .before .before .before .before .before .pre .1 .0) (c .before .before .before .before .before .before .before .before .before .before .before .before .before .before .before .before .args .left) (c .before .before .before .before .before .before .before .before .before .before .before .before .before .before .before .before .args .kind) (c .before .before .before .before .before .before .before .before .before .before .before .before .before .before .before .before .pre .1 .1) (c .before .before .before .before .before .before .before .before .before .before .before .before .before .before .before .before .args .constant) (c .before .before .before .before .before .before .before .before .before .before .before .before .if1 .left) (c .before .before .before .before .before .before .before .before .before .before .before .if2 .left) _ _ (c .before .before .before .before .before .past .ensures) (c .before .before .before .r .given .1) .2)
-
-entry-enum-known-t : (t : ℕ) → entry-lts.Need-enum-known-t (entry-calls t) (entry-at t) entry.Post
-entry-enum-known-t t c = search needs
-
-entry-enum-told-2 : (t : ℕ) → entry-lts.Need-enum-told-2 (entry-calls t) (entry-at t) entry.Post
-entry-enum-told-2 t c = search needs
-
-entry-same-length-3 : (t : ℕ) → entry-lts.Need-same-length-3 (entry-calls t) (entry-at t) entry.Post
-entry-same-length-3 t c = search needs
-
-entry-returns-5 : (t : ℕ) → entry-lts.Need-returns-5 (entry-calls t) (entry-at t) entry.Post
-entry-returns-5 t c = entry-colon-bad _ _ _ _ (c .before .before .before .before .before .before .before .before .before .before .before .before .before .before .before .before .before .before .before .pre .1 .0) (c .before .before .before .before .before .before .before .before .before .before .before .before .before .before .before .before .before .before .before .args .left) (c .before .before .before .before .before .before .before .before .before .before .before .before .before .before .before .before .before .before .before .args .kind) (c .before .before .before .before .before .before .before .before .before .before .before .before .before .before .before .before .before .before .before .pre .1 .1) (c .before .before .before .before .before .before .before .before .before .before .before .before .before .before .before .before .before .before .before .args .constant) (c .before .before .before .before .before .before .before .before .before .before .before .before .before .before .before .if1 .left) (c .before .before .before .before .before .before .before .before .before .before .before .before .before .before .if2 .left) _ _ (c .before .before .before .before .before .before .before .before .past .ensures) (c .before .before .before .before .before .before .r .given .1) (c .before .before .before .if3 .left) _ _ _ (c .before .before .past2 .ensures) (c .enum-told2 .given .1)
+entry-returns : (t : ℕ) → entry-lts.Need-returns (entry-calls t) (entry-at t) entry.Post
+entry-returns t c = entry-refused _ _ _ _ (c .before .before .before .before .before .before .before .before .args .left) (c .before .before .before .before .before .before .before .before .args .kind) (c .before .before .before .before .before .before .before .before .args .constant) _ _ (c .before .before .before .before .entry-name .ensures) _ _ (c .enum-told .given .1)
 
 entry-value-requires : (t : ℕ) → entry-lts.Need-value-requires (entry-calls t) (entry-at t) entry.Post
-entry-value-requires t c κs = (omega (arith, c .before .before .before .before .before .before .before .before .before .before .before .before .before .before .before .before .before .before .before .before .before .pre .0), entry-ready _ _ _ _ (c .before .before .before .before .before .before .before .before .before .before .before .before .before .before .before .before .before .before .before .before .before .pre .1 .0) (c .before .before .before .before .before .before .before .before .before .before .before .before .before .before .before .before .before .before .before .before .before .args .left) (c .before .before .before .before .before .before .before .before .before .before .before .before .before .before .before .before .before .before .before .before .before .args .kind) (c .before .before .before .before .before .before .before .before .before .before .before .before .before .before .before .before .before .before .before .before .before .pre .1 .1) (c .before .before .before .before .before .before .before .before .before .before .before .before .before .before .before .before .before .before .before .before .before .args .constant) (c .before .before .before .before .before .before .before .before .before .before .before .before .before .before .before .before .before .if1 .left) (c .before .before .before .before .before .before .before .before .before .before .before .before .before .before .before .before .if2 .left) _ _ (c .before .before .before .before .before .before .before .before .before .before .past .ensures) (c .before .before .before .before .before .before .before .before .r .given .1) (c .before .before .before .before .before .if3 .left) _ _ (c .before .before .before .before .past2 .ensures) (c .before .before .t .given .1) _ (c .before .before .before .before .before .before .before .before .before .before .before .before .before .put-row .ensures))
+entry-value-requires t c κs = (omega (arith, c .before .before .before .before .before .before .before .before .before .before .pre .0), entry-ready _ _ _ _ (c .before .before .before .before .before .before .before .before .before .before .args .left) (c .before .before .before .before .before .before .before .before .before .before .args .kind) (c .before .before .before .before .before .before .before .before .before .before .args .constant) _ _ (c .before .before .before .before .before .before .entry-name .ensures) _ (c .before .before .r .given .1) (c .before .before .before .before .before .before .before .before .before .before .pre .1 .0 .short))
 
 entry-enum-known-v : (t : ℕ) → entry-lts.Need-enum-known-v (entry-calls t) (entry-at t) entry.Post
 entry-enum-known-v t c = search needs
 
-entry-enum-told-3 : (t : ℕ) → entry-lts.Need-enum-told-3 (entry-calls t) (entry-at t) entry.Post
-entry-enum-told-3 t c = search needs
+entry-enum-told-2 : (t : ℕ) → entry-lts.Need-enum-told-2 (entry-calls t) (entry-at t) entry.Post
+entry-enum-told-2 t c = search needs
 
-entry-same-length-4 : (t : ℕ) → entry-lts.Need-same-length-4 (entry-calls t) (entry-at t) entry.Post
-entry-same-length-4 t c = search needs
+entry-same-length-2 : (t : ℕ) → entry-lts.Need-same-length-2 (entry-calls t) (entry-at t) entry.Post
+entry-same-length-2 t c = search needs
 
-entry-returns-6 : (t : ℕ) → entry-lts.Need-returns-6 (entry-calls t) (entry-at t) entry.Post
-entry-returns-6 t c = entry-stops _ _ _ _ (c .before .before .before .before .before .before .before .before .before .before .before .before .before .before .before .before .before .before .before .before .before .before .before .before .before .before .pre .1 .0) (c .before .before .before .before .before .before .before .before .before .before .before .before .before .before .before .before .before .before .before .before .before .before .before .before .before .before .args .left) (c .before .before .before .before .before .before .before .before .before .before .before .before .before .before .before .before .before .before .before .before .before .before .before .before .before .before .args .kind) (c .before .before .before .before .before .before .before .before .before .before .before .before .before .before .before .before .before .before .before .before .before .before .before .before .before .before .pre .1 .1) (c .before .before .before .before .before .before .before .before .before .before .before .before .before .before .before .before .before .before .before .before .before .before .before .before .before .before .args .constant) (c .before .before .before .before .before .before .before .before .before .before .before .before .before .before .before .before .before .before .before .before .before .before .if1 .left) (c .before .before .before .before .before .before .before .before .before .before .before .before .before .before .before .before .before .before .before .before .before .if2 .left) _ _ (c .before .before .before .before .before .before .before .before .before .before .before .before .before .before .before .past .ensures) (c .before .before .before .before .before .before .before .before .before .before .before .before .before .r .given .1) (c .before .before .before .before .before .before .before .before .before .before .if3 .left) _ _ (c .before .before .before .before .before .before .before .before .before .past2 .ensures) (c .before .before .before .before .before .before .before .t .given .1) _ (c .before .before .before .before .before .before .before .before .before .before .before .before .before .before .before .before .before .before .put-row .ensures) _ _ _ _ (c .before .before .before .before .value .ensures) (c .enum-told3 .given .1)
+entry-returns-2 : (t : ℕ) → entry-lts.Need-returns-2 (entry-calls t) (entry-at t) entry.Post
+entry-returns-2 t c = entry-stops _ _ _ _ (c .before .before .before .before .before .before .before .before .before .before .before .before .before .before .before .args .left) (c .before .before .before .before .before .before .before .before .before .before .before .before .before .before .before .args .kind) (c .before .before .before .before .before .before .before .before .before .before .before .before .before .before .before .args .constant) _ _ (c .before .before .before .before .before .before .before .before .before .before .before .entry-name .ensures) _ (c .before .before .before .before .before .before .before .r .given .1) _ _ (c .before .before .before .before .value .ensures) _ _ (c .enum-told2 .given .1)
 
 entry-put-end-requires : (t : ℕ) → entry-lts.Need-put-end-requires (entry-calls t) (entry-at t) entry.Post
-entry-put-end-requires t c κs = (omega (arith, c .before .before .before .before .before .before .before .before .before .before .before .before .before .before .before .before .before .before .before .before .before .before .before .before .before .before .before .before .pre .1 .0 .few, c .before .before .before .before .before .before .before .before .before .before .before .before .before .before .before .before .before .before .before .before .before .before .before .if2 .left), entry-size _ _ _ _ (c .before .before .before .before .before .before .before .before .before .before .before .before .before .before .before .before .before .before .before .before .before .before .before .before .before .before .before .before .pre .1 .0) (c .before .before .before .before .before .before .before .before .before .before .before .before .before .before .before .before .before .before .before .before .before .before .before .before .before .before .before .before .args .left) (c .before .before .before .before .before .before .before .before .before .before .before .before .before .before .before .before .before .before .before .before .before .before .before .before .before .before .before .before .args .kind) (c .before .before .before .before .before .before .before .before .before .before .before .before .before .before .before .before .before .before .before .before .before .before .before .before .before .before .before .before .pre .1 .1) (c .before .before .before .before .before .before .before .before .before .before .before .before .before .before .before .before .before .before .before .before .before .before .before .before .before .before .before .before .args .constant) (c .before .before .before .before .before .before .before .before .before .before .before .before .before .before .before .before .before .before .before .before .before .before .before .before .if1 .left) (c .before .before .before .before .before .before .before .before .before .before .before .before .before .before .before .before .before .before .before .before .before .before .before .if2 .left) _ _ (c .before .before .before .before .before .before .before .before .before .before .before .before .before .before .before .before .before .past .ensures) (c .before .before .before .before .before .before .before .before .before .before .before .before .before .before .before .r .given .1) (c .before .before .before .before .before .before .before .before .before .before .before .before .if3 .left) _ _ (c .before .before .before .before .before .before .before .before .before .before .before .past2 .ensures) (c .before .before .before .before .before .before .before .before .before .t .given .1) _ (c .before .before .before .before .before .before .before .before .before .before .before .before .before .before .before .before .before .before .before .before .put-row .ensures) _ _ _ (c .before .before .before .before .before .before .value .ensures) (c .before .before .v .given .1))
+entry-put-end-requires t c κs = (entry-begun _ _ _ _ (c .before .before .before .before .before .before .before .before .before .before .before .before .before .before .before .before .before .args .left) (c .before .before .before .before .before .before .before .before .before .before .before .before .before .before .before .before .before .args .kind) (c .before .before .before .before .before .before .before .before .before .before .before .before .before .before .before .before .before .args .constant) _ _ (c .before .before .before .before .before .before .before .before .before .before .before .before .before .entry-name .ensures) _ (c .before .before .before .before .before .before .before .before .before .r .given .1) .room, entry-size _ _ _ _ (c .before .before .before .before .before .before .before .before .before .before .before .before .before .before .before .before .before .args .left) (c .before .before .before .before .before .before .before .before .before .before .before .before .before .before .before .before .before .args .kind) (c .before .before .before .before .before .before .before .before .before .before .before .before .before .before .before .before .before .args .constant) _ _ (c .before .before .before .before .before .before .before .before .before .before .before .before .before .entry-name .ensures) _ (c .before .before .before .before .before .before .before .before .before .r .given .1) _ _ (c .before .before .before .before .before .before .value .ensures) _ (c .before .before .v .given .1))
 
-entry-same-length-5 : (t : ℕ) → entry-lts.Need-same-length-5 (entry-calls t) (entry-at t) entry.Post
-entry-same-length-5 t c = c .before .before .put-end .kept .0 ∙ c .before .before .before .before .before .before .before .before .before .value .kept .1 .0 ∙ c .before .before .before .before .before .before .before .before .before .before .before .before .before .before .before .before .before .before .before .before .before .before .before .put-row .kept .0
+entry-same-length-3 : (t : ℕ) → entry-lts.Need-same-length-3 (entry-calls t) (entry-at t) entry.Post
+entry-same-length-3 t c = c .before .before .put-end .kept .0 ∙ c .before .before .before .before .before .before .before .before .before .value .kept .1 .0 ∙ c .before .before .before .before .before .before .before .before .before .before .before .before .before .before .before .before .entry-name .kept .1 .0
 
-entry-returns-7 : (t : ℕ) → entry-lts.Need-returns-7 (entry-calls t) (entry-at t) entry.Post
-entry-returns-7 t c = entry-went _ _ _ _ (c .before .before .before .before .before .before .before .before .before .before .before .before .before .before .before .before .before .before .before .before .before .before .before .before .before .before .before .before .before .before .before .pre .1 .0) (c .before .before .before .before .before .before .before .before .before .before .before .before .before .before .before .before .before .before .before .before .before .before .before .before .before .before .before .before .before .before .before .args .left) (c .before .before .before .before .before .before .before .before .before .before .before .before .before .before .before .before .before .before .before .before .before .before .before .before .before .before .before .before .before .before .before .args .kind) (c .before .before .before .before .before .before .before .before .before .before .before .before .before .before .before .before .before .before .before .before .before .before .before .before .before .before .before .before .before .before .before .pre .1 .1) (c .before .before .before .before .before .before .before .before .before .before .before .before .before .before .before .before .before .before .before .before .before .before .before .before .before .before .before .before .before .before .before .args .constant) (c .before .before .before .before .before .before .before .before .before .before .before .before .before .before .before .before .before .before .before .before .before .before .before .before .before .before .before .if1 .left) (c .before .before .before .before .before .before .before .before .before .before .before .before .before .before .before .before .before .before .before .before .before .before .before .before .before .before .if2 .left) _ _ (c .before .before .before .before .before .before .before .before .before .before .before .before .before .before .before .before .before .before .before .before .past .ensures) (c .before .before .before .before .before .before .before .before .before .before .before .before .before .before .before .before .before .before .r .given .1) (c .before .before .before .before .before .before .before .before .before .before .before .before .before .before .before .if3 .left) _ _ (c .before .before .before .before .before .before .before .before .before .before .before .before .before .before .past2 .ensures) (c .before .before .before .before .before .before .before .before .before .before .before .before .t .given .1) _ (c .before .before .before .before .before .before .before .before .before .before .before .before .before .before .before .before .before .before .before .before .before .before .before .put-row .ensures) _ _ _ _ (c .before .before .before .before .before .before .before .before .before .value .ensures) (c .before .before .before .before .before .v .given .1) (c .before .before .put-end .ensures)
+entry-returns-3 : (t : ℕ) → entry-lts.Need-returns-3 (entry-calls t) (entry-at t) entry.Post
+entry-returns-3 t c = entry-went _ _ _ _ (c .before .before .before .before .before .before .before .before .before .before .before .before .before .before .before .before .before .before .before .before .args .left) (c .before .before .before .before .before .before .before .before .before .before .before .before .before .before .before .before .before .before .before .before .args .kind) (c .before .before .before .before .before .before .before .before .before .before .before .before .before .before .before .before .before .before .before .before .args .constant) _ _ (c .before .before .before .before .before .before .before .before .before .before .before .before .before .before .before .before .entry-name .ensures) _ (c .before .before .before .before .before .before .before .before .before .before .before .before .r .given .1) _ _ (c .before .before .before .before .before .before .before .before .before .value .ensures) _ (c .before .before .before .before .before .v .given .1) _ (c .before .before .put-end .ensures)
 
 abbrev list-Inv-loop : list-lts.InvT-loop
 list-Inv-loop s rows₀ parent left constant n d₀ rows d = InNest s rows₀ rows d₀ d n (left - 1) (valuesPart constant) bracketR
@@ -329,34 +282,19 @@ value-returns-5 t c = c .before .before .scalar .ensures (c .before .before .bef
 pub +entry+list+object+value-spec : {M : Type 1} → statement M
 +entry+list+object+value-spec = close μ-entry μ-list μ-object μ-value (λ t. entry-lts.spec (entry-calls t) (entry-at t)
     entry.Post
-    (entry-no-going-requires t)
-    (entry-returns t)
-    (entry-returns-2 t)
-    (entry-sub-put-row t)
-    (entry-put-row-requires t)
-    (entry-add-past t)
-    (entry-past-requires t)
+    (entry-entry-name-requires t)
     (entry-enum-known-r t)
     (entry-enum-told t)
     (entry-same-length t)
-    (entry-returns-3 t)
-    (entry-no-going-requires-2 t)
-    (entry-same-length-2 t)
-    (entry-returns-4 t)
-    (entry-add-past-2 t)
-    (entry-past-requires-2 t)
-    (entry-enum-known-t t)
-    (entry-enum-told-2 t)
-    (entry-same-length-3 t)
-    (entry-returns-5 t)
+    (entry-returns t)
     (entry-value-requires t)
     (entry-enum-known-v t)
-    (entry-enum-told-3 t)
-    (entry-same-length-4 t)
-    (entry-returns-6 t)
+    (entry-enum-told-2 t)
+    (entry-same-length-2 t)
+    (entry-returns-2 t)
     (entry-put-end-requires t)
-    (entry-same-length-5 t)
-    (entry-returns-7 t))
+    (entry-same-length-3 t)
+    (entry-returns-3 t))
     (λ t. list-lts.spec (list-calls t) (list-at t)
     list.Post
     list-Inv-loop
