@@ -97,10 +97,17 @@ entry-same-length : (t : ℕ) → entry-lts.Need-same-length (entry-calls t) (en
 entry-same-length t c = search needs
 
 entry-returns : (t : ℕ) → entry-lts.Need-returns (entry-calls t) (entry-at t) entry.Post
-entry-returns t c = entry-refused _ _ _ _ (c .before .before .before .before .before .before .before .before .args .left) (c .before .before .before .before .before .before .before .before .args .kind) (c .before .before .before .before .before .before .before .before .args .constant) _ _ (c .before .before .before .before .entry-name .ensures) _ _ (c .enum-told .given .1)
+entry-returns t c =
+    let at-entry-name = c .before .before .before .before in
+    let start = at-entry-name .before .before .before .before in
+    entry-refused _ _ _ _ (start .args .left) (start .args .kind) (start .args .constant) _ _ (at-entry-name .entry-name .ensures) _ _ (c .enum-told .given .1)
 
 entry-value-requires : (t : ℕ) → entry-lts.Need-value-requires (entry-calls t) (entry-at t) entry.Post
-entry-value-requires t c κs = (omega (arith, c .before .before .before .before .before .before .before .before .before .before .pre .0), entry-ready _ _ _ _ (c .before .before .before .before .before .before .before .before .before .before .args .left) (c .before .before .before .before .before .before .before .before .before .before .args .kind) (c .before .before .before .before .before .before .before .before .before .before .args .constant) _ _ (c .before .before .before .before .before .before .entry-name .ensures) _ (c .before .before .r .given .1) (c .before .before .before .before .before .before .before .before .before .before .pre .1 .0 .short))
+entry-value-requires t c κs =
+    let at-r = c .before .before in
+    let at-entry-name = at-r .before .before .before .before in
+    let start = at-entry-name .before .before .before .before in
+    (omega (arith, start .pre .0), entry-ready _ _ _ _ (start .args .left) (start .args .kind) (start .args .constant) _ _ (at-entry-name .entry-name .ensures) _ (at-r .r .given .1) (start .pre .1 .0 .short))
 
 entry-enum-known-v : (t : ℕ) → entry-lts.Need-enum-known-v (entry-calls t) (entry-at t) entry.Post
 entry-enum-known-v t c = search needs
@@ -112,16 +119,38 @@ entry-same-length-2 : (t : ℕ) → entry-lts.Need-same-length-2 (entry-calls t)
 entry-same-length-2 t c = search needs
 
 entry-returns-2 : (t : ℕ) → entry-lts.Need-returns-2 (entry-calls t) (entry-at t) entry.Post
-entry-returns-2 t c = entry-stops _ _ _ _ (c .before .before .before .before .before .before .before .before .before .before .before .before .before .before .before .args .left) (c .before .before .before .before .before .before .before .before .before .before .before .before .before .before .before .args .kind) (c .before .before .before .before .before .before .before .before .before .before .before .before .before .before .before .args .constant) _ _ (c .before .before .before .before .before .before .before .before .before .before .before .entry-name .ensures) _ (c .before .before .before .before .before .before .before .r .given .1) _ _ (c .before .before .before .before .value .ensures) _ _ (c .enum-told2 .given .1)
+entry-returns-2 t c =
+    let at-value = c .before .before .before .before in
+    let at-r = at-value .before .before .before in
+    let at-entry-name = at-r .before .before .before .before in
+    let start = at-entry-name .before .before .before .before in
+    entry-stops _ _ _ _ (start .args .left) (start .args .kind) (start .args .constant) _ _ (at-entry-name .entry-name .ensures) _ (at-r .r .given .1) _ _ (at-value .value .ensures) _ _ (c .enum-told2 .given .1)
 
 entry-put-end-requires : (t : ℕ) → entry-lts.Need-put-end-requires (entry-calls t) (entry-at t) entry.Post
-entry-put-end-requires t c κs = (entry-begun _ _ _ _ (c .before .before .before .before .before .before .before .before .before .before .before .before .before .before .before .before .before .args .left) (c .before .before .before .before .before .before .before .before .before .before .before .before .before .before .before .before .before .args .kind) (c .before .before .before .before .before .before .before .before .before .before .before .before .before .before .before .before .before .args .constant) _ _ (c .before .before .before .before .before .before .before .before .before .before .before .before .before .entry-name .ensures) _ (c .before .before .before .before .before .before .before .before .before .r .given .1) .room, entry-size _ _ _ _ (c .before .before .before .before .before .before .before .before .before .before .before .before .before .before .before .before .before .args .left) (c .before .before .before .before .before .before .before .before .before .before .before .before .before .before .before .before .before .args .kind) (c .before .before .before .before .before .before .before .before .before .before .before .before .before .before .before .before .before .args .constant) _ _ (c .before .before .before .before .before .before .before .before .before .before .before .before .before .entry-name .ensures) _ (c .before .before .before .before .before .before .before .before .before .r .given .1) _ _ (c .before .before .before .before .before .before .value .ensures) _ (c .before .before .v .given .1))
+entry-put-end-requires t c κs =
+    let at-v = c .before .before in
+    let at-value = at-v .before .before .before .before in
+    let at-r = at-value .before .before .before in
+    let at-entry-name = at-r .before .before .before .before in
+    let start = at-entry-name .before .before .before .before in
+    (entry-begun _ _ _ _ (start .args .left) (start .args .kind) (start .args .constant) _ _ (at-entry-name .entry-name .ensures) _ (at-r .r .given .1) .room, entry-size _ _ _ _ (start .args .left) (start .args .kind) (start .args .constant) _ _ (at-entry-name .entry-name .ensures) _ (at-r .r .given .1) _ _ (at-value .value .ensures) _ (at-v .v .given .1))
 
 entry-same-length-3 : (t : ℕ) → entry-lts.Need-same-length-3 (entry-calls t) (entry-at t) entry.Post
-entry-same-length-3 t c = c .before .before .put-end .kept .0 ∙ c .before .before .before .before .before .before .before .before .before .value .kept .1 .0 ∙ c .before .before .before .before .before .before .before .before .before .before .before .before .before .before .before .before .entry-name .kept .1 .0
+entry-same-length-3 t c =
+    let at-put-end = c .before .before in
+    let at-value = at-put-end .before .before .before .before .before .before .before in
+    let at-entry-name = at-value .before .before .before .before .before .before .before in
+    at-put-end .put-end .kept .0 ∙ at-value .value .kept .1 .0 ∙ at-entry-name .entry-name .kept .1 .0
 
 entry-returns-3 : (t : ℕ) → entry-lts.Need-returns-3 (entry-calls t) (entry-at t) entry.Post
-entry-returns-3 t c = entry-went _ _ _ _ (c .before .before .before .before .before .before .before .before .before .before .before .before .before .before .before .before .before .before .before .before .args .left) (c .before .before .before .before .before .before .before .before .before .before .before .before .before .before .before .before .before .before .before .before .args .kind) (c .before .before .before .before .before .before .before .before .before .before .before .before .before .before .before .before .before .before .before .before .args .constant) _ _ (c .before .before .before .before .before .before .before .before .before .before .before .before .before .before .before .before .entry-name .ensures) _ (c .before .before .before .before .before .before .before .before .before .before .before .before .r .given .1) _ _ (c .before .before .before .before .before .before .before .before .before .value .ensures) _ (c .before .before .before .before .before .v .given .1) _ (c .before .before .put-end .ensures)
+entry-returns-3 t c =
+    let at-put-end = c .before .before in
+    let at-v = at-put-end .before .before .before in
+    let at-value = at-v .before .before .before .before in
+    let at-r = at-value .before .before .before in
+    let at-entry-name = at-r .before .before .before .before in
+    let start = at-entry-name .before .before .before .before in
+    entry-went _ _ _ _ (start .args .left) (start .args .kind) (start .args .constant) _ _ (at-entry-name .entry-name .ensures) _ (at-r .r .given .1) _ _ (at-value .value .ensures) _ (at-v .v .given .1) _ (at-put-end .put-end .ensures)
 
 abbrev list-Inv-loop : list-lts.InvT-loop
 list-Inv-loop s rows₀ parent left constant n d₀ rows d = InNest s rows₀ rows d₀ d n (left - 1) (valuesPart constant) bracketR
@@ -142,25 +171,53 @@ list-same-length : (t : ℕ) → list-lts.Need-same-length (list-calls t) (list-
 list-same-length t c = search needs
 
 list-returns : (t : ℕ) → list-lts.Need-returns (list-calls t) (list-at t) list.Post list-Inv-loop list-μ-loop
-list-returns t c = nest-refused (list-nest (c .before .before .before .before .before .before .before .before .args .constant)) _ _ _ _ (c .before .before .before .before .before .before .before .before .pre .1 .0) (c .before .before .before .before .before .before .before .before .pre .1 .1) (c .before .before .before .before .before .before .before .before .args .left) _ _ _ _ (c .before .before .before .before .enter .ensures) (c .enum-told .given .1)
+list-returns t c =
+    let at-enter = c .before .before .before .before in
+    let start = at-enter .before .before .before .before in
+    nest-refused (list-nest (start .args .constant)) _ _ _ _ (start .pre .1 .0) (start .pre .1 .1) (start .args .left) _ _ _ _ (at-enter .enter .ensures) (c .enum-told .given .1)
 
 list-loop-holds : (t : ℕ) → list-lts.Need-loop-holds (list-calls t) (list-at t) list.Post list-Inv-loop list-μ-loop
-list-loop-holds t c = nest-begins (list-nest (c .before .before .before .before .before .before .before .before .before .args .constant)) _ _ _ _ (c .before .before .before .before .before .before .before .before .before .pre .1 .0) (c .before .before .before .before .before .before .before .before .before .pre .1 .1) (c .before .before .before .before .before .before .before .before .before .args .left) _ _ _ (c .before .before .before .before .before .enter .ensures) (c .before .r .given .1)
+list-loop-holds t c =
+    let at-r = c .before in
+    let at-enter = at-r .before .before .before .before in
+    let start = at-enter .before .before .before .before in
+    nest-begins (list-nest (start .args .constant)) _ _ _ _ (start .pre .1 .0) (start .pre .1 .1) (start .args .left) _ _ _ (at-enter .enter .ensures) (at-r .r .given .1)
 
 list-close-requires : (t : ℕ) → list-lts.Need-close-requires (list-calls t) (list-at t) list.Post list-Inv-loop list-μ-loop
-list-close-requires t c κs = (in-ready _ _ _ _ _ _ _ _ _ (c .before .before .loop .inv) (c .before .before .before .before .before .before .before .before .before .before .before .before .pre .1 .0 .short) (c .before .before .before .before .before .before .before .before .before .before .before .before .pre .1 .0 .few), nest-entered (list-nest (c .before .before .before .before .before .before .before .before .before .before .before .before .args .constant)) _ _ _ _ (c .before .before .before .before .before .before .before .before .before .before .before .before .pre .1 .0) (c .before .before .before .before .before .before .before .before .before .before .before .before .pre .1 .1) (c .before .before .before .before .before .before .before .before .before .before .before .before .args .left) _ _ _ (c .before .before .before .before .before .before .before .before .enter .ensures) (c .before .before .before .before .r .given .1) .1)
+list-close-requires t c κs =
+    let at-loop = c .before .before in
+    let at-r = at-loop .before .before in
+    let at-enter = at-r .before .before .before .before in
+    let start = at-enter .before .before .before .before in
+    (in-ready _ _ _ _ _ _ _ _ _ (at-loop .loop .inv) (start .pre .1 .0 .short) (start .pre .1 .0 .few), nest-entered (list-nest (start .args .constant)) _ _ _ _ (start .pre .1 .0) (start .pre .1 .1) (start .args .left) _ _ _ (at-enter .enter .ensures) (at-r .r .given .1) .1)
 
 list-same-length-2 : (t : ℕ) → list-lts.Need-same-length-2 (list-calls t) (list-at t) list.Post list-Inv-loop list-μ-loop
 list-same-length-2 t c = search needs
 
 list-returns-2 : (t : ℕ) → list-lts.Need-returns-2 (list-calls t) (list-at t) list.Post list-Inv-loop list-μ-loop
-list-returns-2 t c = nest-closes (list-nest (c .before .before .before .before .before .before .before .before .before .before .before .before .before .before .before .args .constant)) _ _ _ _ (c .before .before .before .before .before .before .before .before .before .before .before .before .before .before .before .pre .1 .0) (c .before .before .before .before .before .before .before .before .before .before .before .before .before .before .before .pre .1 .1) (c .before .before .before .before .before .before .before .before .before .before .before .before .before .before .before .args .left) _ _ _ (c .before .before .before .before .before .before .before .before .before .before .before .enter .ensures) (c .before .before .before .before .before .before .before .r .given .1) _ _ (c .before .before .before .before .before .loop .inv) (c .before .before .before .before .if1 .taken) _ _ (c .before .before .close .ensures)
+list-returns-2 t c =
+    let at-close = c .before .before in
+    let at-then1 = at-close .before .before in
+    let at-loop = at-then1 .before in
+    let at-r = at-loop .before .before in
+    let at-enter = at-r .before .before .before .before in
+    let start = at-enter .before .before .before .before in
+    nest-closes (list-nest (start .args .constant)) _ _ _ _ (start .pre .1 .0) (start .pre .1 .1) (start .args .left) _ _ _ (at-enter .enter .ensures) (at-r .r .given .1) _ _ (at-loop .loop .inv) (at-then1 .if1 .taken) _ _ (at-close .close .ensures)
 
 list-sub-value : (t : ℕ) → list-lts.Need-sub-value (list-calls t) (list-at t) list.Post list-Inv-loop list-μ-loop
-list-sub-value t c = omega (arith, nest-entered (list-nest (c .before .before .before .before .before .before .before .before .before .before .before .before .args .constant)) _ _ _ _ (c .before .before .before .before .before .before .before .before .before .before .before .before .pre .1 .0) (c .before .before .before .before .before .before .before .before .before .before .before .before .pre .1 .1) (c .before .before .before .before .before .before .before .before .before .before .before .before .args .left) _ _ _ (c .before .before .before .before .before .before .before .before .enter .ensures) (c .before .before .before .before .r .given .1) .0)
+list-sub-value t c =
+    let at-r = c .before .before .before .before in
+    let at-enter = at-r .before .before .before .before in
+    let start = at-enter .before .before .before .before in
+    omega (arith, nest-entered (list-nest (start .args .constant)) _ _ _ _ (start .pre .1 .0) (start .pre .1 .1) (start .args .left) _ _ _ (at-enter .enter .ensures) (at-r .r .given .1) .0)
 
 list-value-requires : (t : ℕ) → list-lts.Need-value-requires (list-calls t) (list-at t) list.Post list-Inv-loop list-μ-loop
-list-value-requires t c κs = (omega (arith, c .before .before .before .before .before .before .before .before .before .before .before .before .pre .0, nest-entered (list-nest (c .before .before .before .before .before .before .before .before .before .before .before .before .args .constant)) _ _ _ _ (c .before .before .before .before .before .before .before .before .before .before .before .before .pre .1 .0) (c .before .before .before .before .before .before .before .before .before .before .before .before .pre .1 .1) (c .before .before .before .before .before .before .before .before .before .before .before .before .args .left) _ _ _ (c .before .before .before .before .before .before .before .before .enter .ensures) (c .before .before .before .before .r .given .1) .0), in-ready _ _ _ _ _ _ _ _ _ (c .before .before .loop .inv) (c .before .before .before .before .before .before .before .before .before .before .before .before .pre .1 .0 .short) (c .before .before .before .before .before .before .before .before .before .before .before .before .pre .1 .0 .few))
+list-value-requires t c κs =
+    let at-loop = c .before .before in
+    let at-r = at-loop .before .before in
+    let at-enter = at-r .before .before .before .before in
+    let start = at-enter .before .before .before .before in
+    (omega (arith, start .pre .0, nest-entered (list-nest (start .args .constant)) _ _ _ _ (start .pre .1 .0) (start .pre .1 .1) (start .args .left) _ _ _ (at-enter .enter .ensures) (at-r .r .given .1) .0), in-ready _ _ _ _ _ _ _ _ _ (at-loop .loop .inv) (start .pre .1 .0 .short) (start .pre .1 .0 .few))
 
 list-enum-known-t : (t : ℕ) → list-lts.Need-enum-known-t (list-calls t) (list-at t) list.Post list-Inv-loop list-μ-loop
 list-enum-known-t t c = search needs
@@ -172,13 +229,36 @@ list-same-length-3 : (t : ℕ) → list-lts.Need-same-length-3 (list-calls t) (l
 list-same-length-3 t c = search needs
 
 list-returns-3 : (t : ℕ) → list-lts.Need-returns-3 (list-calls t) (list-at t) list.Post list-Inv-loop list-μ-loop
-list-returns-3 t c = nest-stops (list-nest (c .before .before .before .before .before .before .before .before .before .before .before .before .before .before .before .before .before .args .constant)) _ _ _ _ (c .before .before .before .before .before .before .before .before .before .before .before .before .before .before .before .before .before .pre .1 .0) (c .before .before .before .before .before .before .before .before .before .before .before .before .before .before .before .before .before .pre .1 .1) (c .before .before .before .before .before .before .before .before .before .before .before .before .before .before .before .before .before .args .left) _ _ _ (c .before .before .before .before .before .before .before .before .before .before .before .before .before .enter .ensures) (c .before .before .before .before .before .before .before .before .before .r .given .1) _ _ (c .before .before .before .before .before .before .before .loop .inv) (c .before .before .before .before .before .before .if1 .left) (valueStack (c .before .before .before .before .before .before .before .before .before .before .before .before .before .before .before .before .before .args .constant)) (λ σ o q h f. refl) _ _ _ _ (c .before .before .before .before .value .ensures) (c .enum-told2 .given .1)
+list-returns-3 t c =
+    let at-value = c .before .before .before .before in
+    let at-else1 = at-value .before .before in
+    let at-loop = at-else1 .before in
+    let at-r = at-loop .before .before in
+    let at-enter = at-r .before .before .before .before in
+    let start = at-enter .before .before .before .before in
+    nest-stops (list-nest (start .args .constant)) _ _ _ _ (start .pre .1 .0) (start .pre .1 .1) (start .args .left) _ _ _ (at-enter .enter .ensures) (at-r .r .given .1) _ _ (at-loop .loop .inv) (at-else1 .if1 .left) (valueStack (start .args .constant)) (λ σ o q h f. refl) _ _ _ _ (at-value .value .ensures) (c .enum-told2 .given .1)
 
 list-loop-less : (t : ℕ) → list-lts.Need-loop-less (list-calls t) (list-at t) list.Post list-Inv-loop list-μ-loop
-list-loop-less t c = nest-less (list-nest (c .before .before .before .before .before .before .before .before .before .before .before .before .before .before .before .before .before .before .args .constant)) _ _ _ _ (c .before .before .before .before .before .before .before .before .before .before .before .before .before .before .before .before .before .before .pre .1 .0) (c .before .before .before .before .before .before .before .before .before .before .before .before .before .before .before .before .before .before .pre .1 .1) (c .before .before .before .before .before .before .before .before .before .before .before .before .before .before .before .before .before .before .args .left) _ _ _ (c .before .before .before .before .before .before .before .before .before .before .before .before .before .before .enter .ensures) (c .before .before .before .before .before .before .before .before .before .before .r .given .1) _ _ (c .before .before .before .before .before .before .before .before .loop .inv) (c .before .before .before .before .before .before .before .if1 .left) (valueStack (c .before .before .before .before .before .before .before .before .before .before .before .before .before .before .before .before .before .before .args .constant)) (λ σ o q h f. refl) _ _ _ (c .before .before .before .before .before .value .ensures) (c .before .t .given .1)
+list-loop-less t c =
+    let at-t = c .before in
+    let at-value = at-t .before .before .before .before in
+    let at-else1 = at-value .before .before in
+    let at-loop = at-else1 .before in
+    let at-r = at-loop .before .before in
+    let at-enter = at-r .before .before .before .before in
+    let start = at-enter .before .before .before .before in
+    nest-less (list-nest (start .args .constant)) _ _ _ _ (start .pre .1 .0) (start .pre .1 .1) (start .args .left) _ _ _ (at-enter .enter .ensures) (at-r .r .given .1) _ _ (at-loop .loop .inv) (at-else1 .if1 .left) (valueStack (start .args .constant)) (λ σ o q h f. refl) _ _ _ (at-value .value .ensures) (at-t .t .given .1)
 
 list-loop-again : (t : ℕ) → list-lts.Need-loop-again (list-calls t) (list-at t) list.Post list-Inv-loop list-μ-loop
-list-loop-again t c = nest-more (list-nest (c .before .before .before .before .before .before .before .before .before .before .before .before .before .before .before .before .before .before .args .constant)) _ _ _ _ (c .before .before .before .before .before .before .before .before .before .before .before .before .before .before .before .before .before .before .pre .1 .0) (c .before .before .before .before .before .before .before .before .before .before .before .before .before .before .before .before .before .before .pre .1 .1) (c .before .before .before .before .before .before .before .before .before .before .before .before .before .before .before .before .before .before .args .left) _ _ _ (c .before .before .before .before .before .before .before .before .before .before .before .before .before .before .enter .ensures) (c .before .before .before .before .before .before .before .before .before .before .r .given .1) _ _ (c .before .before .before .before .before .before .before .before .loop .inv) (c .before .before .before .before .before .before .before .if1 .left) (valueStack (c .before .before .before .before .before .before .before .before .before .before .before .before .before .before .before .before .before .before .args .constant)) (λ σ o q h f. refl) _ _ _ (c .before .before .before .before .before .value .ensures) (c .before .t .given .1)
+list-loop-again t c =
+    let at-t = c .before in
+    let at-value = at-t .before .before .before .before in
+    let at-else1 = at-value .before .before in
+    let at-loop = at-else1 .before in
+    let at-r = at-loop .before .before in
+    let at-enter = at-r .before .before .before .before in
+    let start = at-enter .before .before .before .before in
+    nest-more (list-nest (start .args .constant)) _ _ _ _ (start .pre .1 .0) (start .pre .1 .1) (start .args .left) _ _ _ (at-enter .enter .ensures) (at-r .r .given .1) _ _ (at-loop .loop .inv) (at-else1 .if1 .left) (valueStack (start .args .constant)) (λ σ o q h f. refl) _ _ _ (at-value .value .ensures) (at-t .t .given .1)
 
 abbrev object-Inv-loop : object-lts.InvT-loop
 object-Inv-loop s rows₀ parent left constant n d₀ rows d = InNest s rows₀ rows d₀ d n (left - 1) (fieldsPart constant) braceR
@@ -199,25 +279,53 @@ object-same-length : (t : ℕ) → object-lts.Need-same-length (object-calls t) 
 object-same-length t c = search needs
 
 object-returns : (t : ℕ) → object-lts.Need-returns (object-calls t) (object-at t) object.Post object-Inv-loop object-μ-loop
-object-returns t c = nest-refused (object-nest (c .before .before .before .before .before .before .before .before .args .constant)) _ _ _ _ (c .before .before .before .before .before .before .before .before .pre .1 .0) (c .before .before .before .before .before .before .before .before .pre .1 .1) (c .before .before .before .before .before .before .before .before .args .left) _ _ _ _ (c .before .before .before .before .enter .ensures) (c .enum-told .given .1)
+object-returns t c =
+    let at-enter = c .before .before .before .before in
+    let start = at-enter .before .before .before .before in
+    nest-refused (object-nest (start .args .constant)) _ _ _ _ (start .pre .1 .0) (start .pre .1 .1) (start .args .left) _ _ _ _ (at-enter .enter .ensures) (c .enum-told .given .1)
 
 object-loop-holds : (t : ℕ) → object-lts.Need-loop-holds (object-calls t) (object-at t) object.Post object-Inv-loop object-μ-loop
-object-loop-holds t c = nest-begins (object-nest (c .before .before .before .before .before .before .before .before .before .args .constant)) _ _ _ _ (c .before .before .before .before .before .before .before .before .before .pre .1 .0) (c .before .before .before .before .before .before .before .before .before .pre .1 .1) (c .before .before .before .before .before .before .before .before .before .args .left) _ _ _ (c .before .before .before .before .before .enter .ensures) (c .before .r .given .1)
+object-loop-holds t c =
+    let at-r = c .before in
+    let at-enter = at-r .before .before .before .before in
+    let start = at-enter .before .before .before .before in
+    nest-begins (object-nest (start .args .constant)) _ _ _ _ (start .pre .1 .0) (start .pre .1 .1) (start .args .left) _ _ _ (at-enter .enter .ensures) (at-r .r .given .1)
 
 object-close-requires : (t : ℕ) → object-lts.Need-close-requires (object-calls t) (object-at t) object.Post object-Inv-loop object-μ-loop
-object-close-requires t c κs = (in-ready _ _ _ _ _ _ _ _ _ (c .before .before .loop .inv) (c .before .before .before .before .before .before .before .before .before .before .before .before .pre .1 .0 .short) (c .before .before .before .before .before .before .before .before .before .before .before .before .pre .1 .0 .few), nest-entered (object-nest (c .before .before .before .before .before .before .before .before .before .before .before .before .args .constant)) _ _ _ _ (c .before .before .before .before .before .before .before .before .before .before .before .before .pre .1 .0) (c .before .before .before .before .before .before .before .before .before .before .before .before .pre .1 .1) (c .before .before .before .before .before .before .before .before .before .before .before .before .args .left) _ _ _ (c .before .before .before .before .before .before .before .before .enter .ensures) (c .before .before .before .before .r .given .1) .1)
+object-close-requires t c κs =
+    let at-loop = c .before .before in
+    let at-r = at-loop .before .before in
+    let at-enter = at-r .before .before .before .before in
+    let start = at-enter .before .before .before .before in
+    (in-ready _ _ _ _ _ _ _ _ _ (at-loop .loop .inv) (start .pre .1 .0 .short) (start .pre .1 .0 .few), nest-entered (object-nest (start .args .constant)) _ _ _ _ (start .pre .1 .0) (start .pre .1 .1) (start .args .left) _ _ _ (at-enter .enter .ensures) (at-r .r .given .1) .1)
 
 object-same-length-2 : (t : ℕ) → object-lts.Need-same-length-2 (object-calls t) (object-at t) object.Post object-Inv-loop object-μ-loop
 object-same-length-2 t c = search needs
 
 object-returns-2 : (t : ℕ) → object-lts.Need-returns-2 (object-calls t) (object-at t) object.Post object-Inv-loop object-μ-loop
-object-returns-2 t c = nest-closes (object-nest (c .before .before .before .before .before .before .before .before .before .before .before .before .before .before .before .args .constant)) _ _ _ _ (c .before .before .before .before .before .before .before .before .before .before .before .before .before .before .before .pre .1 .0) (c .before .before .before .before .before .before .before .before .before .before .before .before .before .before .before .pre .1 .1) (c .before .before .before .before .before .before .before .before .before .before .before .before .before .before .before .args .left) _ _ _ (c .before .before .before .before .before .before .before .before .before .before .before .enter .ensures) (c .before .before .before .before .before .before .before .r .given .1) _ _ (c .before .before .before .before .before .loop .inv) (c .before .before .before .before .if1 .taken) _ _ (c .before .before .close .ensures)
+object-returns-2 t c =
+    let at-close = c .before .before in
+    let at-then1 = at-close .before .before in
+    let at-loop = at-then1 .before in
+    let at-r = at-loop .before .before in
+    let at-enter = at-r .before .before .before .before in
+    let start = at-enter .before .before .before .before in
+    nest-closes (object-nest (start .args .constant)) _ _ _ _ (start .pre .1 .0) (start .pre .1 .1) (start .args .left) _ _ _ (at-enter .enter .ensures) (at-r .r .given .1) _ _ (at-loop .loop .inv) (at-then1 .if1 .taken) _ _ (at-close .close .ensures)
 
 object-sub-entry : (t : ℕ) → object-lts.Need-sub-entry (object-calls t) (object-at t) object.Post object-Inv-loop object-μ-loop
-object-sub-entry t c = omega (arith, nest-entered (object-nest (c .before .before .before .before .before .before .before .before .before .before .before .before .args .constant)) _ _ _ _ (c .before .before .before .before .before .before .before .before .before .before .before .before .pre .1 .0) (c .before .before .before .before .before .before .before .before .before .before .before .before .pre .1 .1) (c .before .before .before .before .before .before .before .before .before .before .before .before .args .left) _ _ _ (c .before .before .before .before .before .before .before .before .enter .ensures) (c .before .before .before .before .r .given .1) .0)
+object-sub-entry t c =
+    let at-r = c .before .before .before .before in
+    let at-enter = at-r .before .before .before .before in
+    let start = at-enter .before .before .before .before in
+    omega (arith, nest-entered (object-nest (start .args .constant)) _ _ _ _ (start .pre .1 .0) (start .pre .1 .1) (start .args .left) _ _ _ (at-enter .enter .ensures) (at-r .r .given .1) .0)
 
 object-entry-requires : (t : ℕ) → object-lts.Need-entry-requires (object-calls t) (object-at t) object.Post object-Inv-loop object-μ-loop
-object-entry-requires t c κs = (omega (arith, c .before .before .before .before .before .before .before .before .before .before .before .before .pre .0, nest-entered (object-nest (c .before .before .before .before .before .before .before .before .before .before .before .before .args .constant)) _ _ _ _ (c .before .before .before .before .before .before .before .before .before .before .before .before .pre .1 .0) (c .before .before .before .before .before .before .before .before .before .before .before .before .pre .1 .1) (c .before .before .before .before .before .before .before .before .before .before .before .before .args .left) _ _ _ (c .before .before .before .before .before .before .before .before .enter .ensures) (c .before .before .before .before .r .given .1) .0), (in-ready _ _ _ _ _ _ _ _ _ (c .before .before .loop .inv) (c .before .before .before .before .before .before .before .before .before .before .before .before .pre .1 .0 .short) (c .before .before .before .before .before .before .before .before .before .before .before .before .pre .1 .0 .few), inr refl))
+object-entry-requires t c κs =
+    let at-loop = c .before .before in
+    let at-r = at-loop .before .before in
+    let at-enter = at-r .before .before .before .before in
+    let start = at-enter .before .before .before .before in
+    (omega (arith, start .pre .0, nest-entered (object-nest (start .args .constant)) _ _ _ _ (start .pre .1 .0) (start .pre .1 .1) (start .args .left) _ _ _ (at-enter .enter .ensures) (at-r .r .given .1) .0), (in-ready _ _ _ _ _ _ _ _ _ (at-loop .loop .inv) (start .pre .1 .0 .short) (start .pre .1 .0 .few), inr refl))
 
 object-enum-known-t : (t : ℕ) → object-lts.Need-enum-known-t (object-calls t) (object-at t) object.Post object-Inv-loop object-μ-loop
 object-enum-known-t t c = search needs
@@ -229,55 +337,107 @@ object-same-length-3 : (t : ℕ) → object-lts.Need-same-length-3 (object-calls
 object-same-length-3 t c = search needs
 
 object-returns-3 : (t : ℕ) → object-lts.Need-returns-3 (object-calls t) (object-at t) object.Post object-Inv-loop object-μ-loop
-object-returns-3 t c = nest-stops (object-nest (c .before .before .before .before .before .before .before .before .before .before .before .before .before .before .before .before .before .args .constant)) _ _ _ _ (c .before .before .before .before .before .before .before .before .before .before .before .before .before .before .before .before .before .pre .1 .0) (c .before .before .before .before .before .before .before .before .before .before .before .before .before .before .before .before .before .pre .1 .1) (c .before .before .before .before .before .before .before .before .before .before .before .before .before .before .before .before .before .args .left) _ _ _ (c .before .before .before .before .before .before .before .before .before .before .before .before .before .enter .ensures) (c .before .before .before .before .before .before .before .before .before .r .given .1) _ _ (c .before .before .before .before .before .before .before .loop .inv) (c .before .before .before .before .before .before .if1 .left) (entryStack kindObjectField (c .before .before .before .before .before .before .before .before .before .before .before .before .before .before .before .before .before .args .constant)) (field-is _ _ _ _ (in-ready _ _ _ _ _ _ _ _ _ (c .before .before .before .before .before .before .before .loop .inv) (c .before .before .before .before .before .before .before .before .before .before .before .before .before .before .before .before .before .pre .1 .0 .short) (c .before .before .before .before .before .before .before .before .before .before .before .before .before .before .before .before .before .pre .1 .0 .few)) _ (c .before .before .before .before .before .before .before .before .before .before .before .before .before .before .before .before .before .args .constant)) _ _ _ _ (c .before .before .before .before .entry .ensures) (c .enum-told2 .given .1)
+object-returns-3 t c =
+    let at-entry = c .before .before .before .before in
+    let at-else1 = at-entry .before .before in
+    let at-loop = at-else1 .before in
+    let at-r = at-loop .before .before in
+    let at-enter = at-r .before .before .before .before in
+    let start = at-enter .before .before .before .before in
+    nest-stops (object-nest (start .args .constant)) _ _ _ _ (start .pre .1 .0) (start .pre .1 .1) (start .args .left) _ _ _ (at-enter .enter .ensures) (at-r .r .given .1) _ _ (at-loop .loop .inv) (at-else1 .if1 .left) (entryStack kindObjectField (start .args .constant)) (field-is _ _ _ _ (in-ready _ _ _ _ _ _ _ _ _ (at-loop .loop .inv) (start .pre .1 .0 .short) (start .pre .1 .0 .few)) _ (start .args .constant)) _ _ _ _ (at-entry .entry .ensures) (c .enum-told2 .given .1)
 
 object-loop-less : (t : ℕ) → object-lts.Need-loop-less (object-calls t) (object-at t) object.Post object-Inv-loop object-μ-loop
-object-loop-less t c = nest-less (object-nest (c .before .before .before .before .before .before .before .before .before .before .before .before .before .before .before .before .before .before .args .constant)) _ _ _ _ (c .before .before .before .before .before .before .before .before .before .before .before .before .before .before .before .before .before .before .pre .1 .0) (c .before .before .before .before .before .before .before .before .before .before .before .before .before .before .before .before .before .before .pre .1 .1) (c .before .before .before .before .before .before .before .before .before .before .before .before .before .before .before .before .before .before .args .left) _ _ _ (c .before .before .before .before .before .before .before .before .before .before .before .before .before .before .enter .ensures) (c .before .before .before .before .before .before .before .before .before .before .r .given .1) _ _ (c .before .before .before .before .before .before .before .before .loop .inv) (c .before .before .before .before .before .before .before .if1 .left) (entryStack kindObjectField (c .before .before .before .before .before .before .before .before .before .before .before .before .before .before .before .before .before .before .args .constant)) (field-is _ _ _ _ (in-ready _ _ _ _ _ _ _ _ _ (c .before .before .before .before .before .before .before .before .loop .inv) (c .before .before .before .before .before .before .before .before .before .before .before .before .before .before .before .before .before .before .pre .1 .0 .short) (c .before .before .before .before .before .before .before .before .before .before .before .before .before .before .before .before .before .before .pre .1 .0 .few)) _ (c .before .before .before .before .before .before .before .before .before .before .before .before .before .before .before .before .before .before .args .constant)) _ _ _ (c .before .before .before .before .before .entry .ensures) (c .before .t .given .1)
+object-loop-less t c =
+    let at-t = c .before in
+    let at-entry = at-t .before .before .before .before in
+    let at-else1 = at-entry .before .before in
+    let at-loop = at-else1 .before in
+    let at-r = at-loop .before .before in
+    let at-enter = at-r .before .before .before .before in
+    let start = at-enter .before .before .before .before in
+    nest-less (object-nest (start .args .constant)) _ _ _ _ (start .pre .1 .0) (start .pre .1 .1) (start .args .left) _ _ _ (at-enter .enter .ensures) (at-r .r .given .1) _ _ (at-loop .loop .inv) (at-else1 .if1 .left) (entryStack kindObjectField (start .args .constant)) (field-is _ _ _ _ (in-ready _ _ _ _ _ _ _ _ _ (at-loop .loop .inv) (start .pre .1 .0 .short) (start .pre .1 .0 .few)) _ (start .args .constant)) _ _ _ (at-entry .entry .ensures) (at-t .t .given .1)
 
 object-loop-again : (t : ℕ) → object-lts.Need-loop-again (object-calls t) (object-at t) object.Post object-Inv-loop object-μ-loop
-object-loop-again t c = nest-more (object-nest (c .before .before .before .before .before .before .before .before .before .before .before .before .before .before .before .before .before .before .args .constant)) _ _ _ _ (c .before .before .before .before .before .before .before .before .before .before .before .before .before .before .before .before .before .before .pre .1 .0) (c .before .before .before .before .before .before .before .before .before .before .before .before .before .before .before .before .before .before .pre .1 .1) (c .before .before .before .before .before .before .before .before .before .before .before .before .before .before .before .before .before .before .args .left) _ _ _ (c .before .before .before .before .before .before .before .before .before .before .before .before .before .before .enter .ensures) (c .before .before .before .before .before .before .before .before .before .before .r .given .1) _ _ (c .before .before .before .before .before .before .before .before .loop .inv) (c .before .before .before .before .before .before .before .if1 .left) (entryStack kindObjectField (c .before .before .before .before .before .before .before .before .before .before .before .before .before .before .before .before .before .before .args .constant)) (field-is _ _ _ _ (in-ready _ _ _ _ _ _ _ _ _ (c .before .before .before .before .before .before .before .before .loop .inv) (c .before .before .before .before .before .before .before .before .before .before .before .before .before .before .before .before .before .before .pre .1 .0 .short) (c .before .before .before .before .before .before .before .before .before .before .before .before .before .before .before .before .before .before .pre .1 .0 .few)) _ (c .before .before .before .before .before .before .before .before .before .before .before .before .before .before .before .before .before .before .args .constant)) _ _ _ (c .before .before .before .before .before .entry .ensures) (c .before .t .given .1)
+object-loop-again t c =
+    let at-t = c .before in
+    let at-entry = at-t .before .before .before .before in
+    let at-else1 = at-entry .before .before in
+    let at-loop = at-else1 .before in
+    let at-r = at-loop .before .before in
+    let at-enter = at-r .before .before .before .before in
+    let start = at-enter .before .before .before .before in
+    nest-more (object-nest (start .args .constant)) _ _ _ _ (start .pre .1 .0) (start .pre .1 .1) (start .args .left) _ _ _ (at-enter .enter .ensures) (at-r .r .given .1) _ _ (at-loop .loop .inv) (at-else1 .if1 .left) (entryStack kindObjectField (start .args .constant)) (field-is _ _ _ _ (in-ready _ _ _ _ _ _ _ _ _ (at-loop .loop .inv) (start .pre .1 .0 .short) (start .pre .1 .0 .few)) _ (start .args .constant)) _ _ _ (at-entry .entry .ensures) (at-t .t .given .1)
 
 value-list-requires : (t : ℕ) → value-lts.Need-list-requires (value-calls t) (value-at t) value.Post
-value-list-requires t c κs = (omega (arith, c .before .before .before .before .pre .0), (c .before .before .before .before .pre .1, c .before .if1 .taken))
+value-list-requires t c κs =
+    let at-then1 = c .before in
+    let start = at-then1 .before .before .before in
+    (omega (arith, start .pre .0), (start .pre .1, at-then1 .if1 .taken))
 
 value-same-length : (t : ℕ) → value-lts.Need-same-length (value-calls t) (value-at t) value.Post
 value-same-length t c = search needs
 
 value-returns : (t : ℕ) → value-lts.Need-returns (value-calls t) (value-at t) value.Post
-value-returns t c = c .before .before .list .ensures
+value-returns t c =
+    let at-list = c .before .before in
+    at-list .list .ensures
 
 value-object-requires : (t : ℕ) → value-lts.Need-object-requires (value-calls t) (value-at t) value.Post
-value-object-requires t c κs = (omega (arith, c .before .before .before .before .before .pre .0), (c .before .before .before .before .before .pre .1, c .before .if2 .taken))
+value-object-requires t c κs =
+    let at-then2 = c .before in
+    let start = at-then2 .before .before .before .before in
+    (omega (arith, start .pre .0), (start .pre .1, at-then2 .if2 .taken))
 
 value-same-length-2 : (t : ℕ) → value-lts.Need-same-length-2 (value-calls t) (value-at t) value.Post
 value-same-length-2 t c = search needs
 
 value-returns-2 : (t : ℕ) → value-lts.Need-returns-2 (value-calls t) (value-at t) value.Post
-value-returns-2 t c = c .before .before .object .ensures
+value-returns-2 t c =
+    let at-object = c .before .before in
+    at-object .object .ensures
 
 value-no-going-requires : (t : ℕ) → value-lts.Need-no-going-requires (value-calls t) (value-at t) value.Post
 value-no-going-requires t c κs = search needs
 
 value-returns-3 : (t : ℕ) → value-lts.Need-returns-3 (value-calls t) (value-at t) value.Post
-value-returns-3 t c = rw (c .no-going .ensures) (no-variable _ _ _ _ _ _ (c .before .before .before .before .before .before .before .pre .1) (c .before .before .if3 .taken) (c .before .if4 .taken))
+value-returns-3 t c =
+    let at-then4 = c .before in
+    let at-then3 = at-then4 .before in
+    let start = at-then3 .before .before .before .before .before in
+    rw (c .no-going .ensures) (no-variable _ _ _ _ _ _ (start .pre .1) (at-then3 .if3 .taken) (at-then4 .if4 .taken))
 
 value-variable-requires : (t : ℕ) → value-lts.Need-variable-requires (value-calls t) (value-at t) value.Post
-value-variable-requires t c κs = (c .before .before .before .before .before .before .before .pre .1, c .before .before .if3 .taken)
+value-variable-requires t c κs =
+    let at-then3 = c .before .before in
+    let start = at-then3 .before .before .before .before .before in
+    (start .pre .1, at-then3 .if3 .taken)
 
 value-same-length-3 : (t : ℕ) → value-lts.Need-same-length-3 (value-calls t) (value-at t) value.Post
 value-same-length-3 t c = search needs
 
 value-returns-4 : (t : ℕ) → value-lts.Need-returns-4 (value-calls t) (value-at t) value.Post
-value-returns-4 t c = rw (c .before .before .before .before .if4 .left) (c .before .before .variable .ensures (c .before .before .before .before .before .before .before .before .before .before .args .left))
+value-returns-4 t c =
+    let at-variable = c .before .before in
+    let at-else4 = at-variable .before .before in
+    let start = at-else4 .before .before .before .before .before .before in
+    rw (at-else4 .if4 .left) (at-variable .variable .ensures (start .args .left))
 
 value-scalar-requires : (t : ℕ) → value-lts.Need-scalar-requires (value-calls t) (value-at t) value.Post
-value-scalar-requires t c κs = (c .before .before .before .before .before .before .pre .1, c .before .if3 .left, c .before .before .before .if1 .left, c .before .before .if2 .left)
+value-scalar-requires t c κs =
+    let at-else3 = c .before in
+    let at-else2 = at-else3 .before in
+    let at-else1 = at-else2 .before in
+    let start = at-else1 .before .before .before in
+    (start .pre .1, at-else3 .if3 .left, at-else1 .if1 .left, at-else2 .if2 .left)
 
 value-same-length-4 : (t : ℕ) → value-lts.Need-same-length-4 (value-calls t) (value-at t) value.Post
 value-same-length-4 t c = search needs
 
 value-returns-5 : (t : ℕ) → value-lts.Need-returns-5 (value-calls t) (value-at t) value.Post
-value-returns-5 t c = c .before .before .scalar .ensures (c .before .before .before .before .before .before .before .before .before .args .left) (c .before .before .before .before .before .before .before .before .before .args .constant)
+value-returns-5 t c =
+    let at-scalar = c .before .before in
+    let start = at-scalar .before .before .before .before .before .before .before in
+    at-scalar .scalar .ensures (start .args .left) (start .args .constant)
 
 pub +entry+list+object+value-spec : {M : Type 1} → statement M
 +entry+list+object+value-spec = close μ-entry μ-list μ-object μ-value (λ t. entry-lts.spec (entry-calls t) (entry-at t)

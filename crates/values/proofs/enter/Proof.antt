@@ -11,7 +11,9 @@ returns : tie.Need-returns
 returns c = deep (omega (arith, c .if1 .taken)) refl
 
 returns-2 : tie.Need-returns-2
-returns-2 c = crowded (omega (arith, c .before .if1 .left)) (omega (arith, c .if2 .taken)) refl
+returns-2 c =
+    let at-else1 = c .before in
+    crowded (omega (arith, at-else1 .if1 .left)) (omega (arith, c .if2 .taken)) refl
 
 put-row-requires : tie.Need-put-row-requires
 put-row-requires c κs = search needs
@@ -20,13 +22,20 @@ add-past : tie.Need-add-past
 add-past c = search needs
 
 past-requires : tie.Need-past-requires
-past-requires c κs = (c .before .before .before .before .before .before .before .before .pre .short, ready-lies _ _ _ _ (c .before .before .before .before .before .before .before .before .pre) .2)
+past-requires c κs =
+    let start = c .before .before .before .before .before .before .before .before in
+    (start .pre .short, ready-lies _ _ _ _ (start .pre) .2)
 
 same-length : tie.Need-same-length
 same-length c = search needs
 
 returns-3 : tie.Need-returns-3
-returns-3 c = entered (omega (arith, c .before .before .before .before .before .before .if1 .left)) (omega (arith, c .before .before .before .before .before .before .before .before .before .pre .few, c .before .before .before .before .before .if2 .left)) (c .before .before .before .put-row .ensures) (c .past .ensures)
+returns-3 c =
+    let at-put-row = c .before .before .before in
+    let at-else2 = at-put-row .before .before in
+    let at-else1 = at-else2 .before in
+    let start = at-else1 .before .before .before in
+    entered (omega (arith, at-else1 .if1 .left)) (omega (arith, start .pre .few, at-else2 .if2 .left)) (at-put-row .put-row .ensures) (c .past .ensures)
 
 pub enter-spec : {M : Type 1} → statement M
 enter-spec =
