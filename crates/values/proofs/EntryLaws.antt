@@ -9,7 +9,7 @@ use lib.Dec.{T, eqb}
 use lib.ListN.{length, set, length-set}
 use borrow.Author.Tests.{eqb-true, eqb-false}
 use Rattle.paper.specs.Grammar.{nt, tm, act}
-use Rattle.paper.specs.Numbers.{mostRows, rowsSize, kindArgument, kindObjectField}
+use Rattle.paper.specs.Numbers.{mostText, mostRows, rowsSize, kindArgument, kindObjectField}
 use Rattle.paper.specs.Language.{the, anyName, named, end, Part, Name, Argument, language, colon, n-other}
 use Rattle.paper.specs.Rows.{top}
 use Rattle.paper.specs.Sizes.{Counts, kinded, overCounts}
@@ -29,7 +29,7 @@ use Rattle.reader.proofs.ReaderLaws.{token-lies}
 use Rattle.reader.proofs.Steps.{is, not-is, first, refuse, lacks, plain, too-many-rows, refuses, refusesEnd}
 use Rattle.reader.proofs.Cells.{put, put-length, row-opens, name-told, ends-row}
 use Rattle.values.specs.Stacks.{valuePart, entryStack, EntryKind}
-use Rattle.values.specs.Ends.{past}
+use Rattle.values.specs.Marks.{past, Named, SaidNamed}
 use Rattle.values.proofs.MovedLaws.{start-in, stop-in, ready-lies, Moved, moved-done, moved-halts}
 use Rattle.values.proofs.NestParts.{fieldPart}
 use Rattle.values.proofs.VariableLaws.{name-in}
@@ -38,35 +38,35 @@ uncounted : (K : ℕ) → EntryKind K → (q : Counts) → kinded K q ≡ q
 uncounted K (inl e) q = rw e refl
 uncounted K (inr e) q = rw e refl
 
-module _ (s rows : List ℕ) (c : Cursor) (parent : ℕ) (ready : Ready s rows c parent) (left K : ℕ) (counted : EntryKind K) (b : Bool) where
+module _ (s rows : List ℕ) (c : Cursor) (parent : ℕ) (ready : Ready s rows c parent) (K : ℕ) (counted : EntryKind K) where
   -- the row while it is open
   abbrev opened : List ℕ
   opened = put rows (c .rows) K (c .start) 0 parent (c .start) (c .end - c .start) 0
 
-  begins : (σ : Stack) (o : List ℕ) (q : Counts) → top o ≡ parent →
+  begins : (left : ℕ) (b : Bool) (σ : Stack) (o : List ℕ) (q : Counts) → top o ≡ parent →
       at s rows c o left q (entryStack K b ++ σ) ≡ go (st opened (c .rows + 1) (c .rows ∷ o) (c .stop) left q) (nt Name ∷ tm (the colon) ∷ nt (valuePart b) ∷ act end ∷ σ) (from s (c .stop))
-  begins σ o q h =
+  begins left b σ o q h =
       row-opens rows (c .rows) o (c .stop) left q (act named ∷ nt Name ∷ tm (the colon) ∷ nt (valuePart b) ∷ act end ∷ σ) (from s (c .stop)) K 0
       ∙ rw (start-in s c (ready .looks), h, uncounted K counted q) refl
       ∙ name-told rows (c .rows + 1) o (c .stop) left q (nt Name ∷ tm (the colon) ∷ nt (valuePart b) ∷ act end ∷ σ) (from s (c .stop)) (c .rows) K (c .start) 0 parent 0 0 0
       ∙ rw (start-in s c (ready .looks), stop-in s c (ready .looks)) refl
 
-  pub entry-no-name : c .kind ≢ kindOf n-other → Halts s rows c parent left (entryStack K b) (NoGoing (c .start))
+  pub entry-no-name : c .kind ≢ kindOf n-other → (left : ℕ) (b : Bool) → Halts s rows c parent left (entryStack K b) (NoGoing (c .start))
   unfolding refuses refusesEnd choose factored language
-  entry-no-name n σ o q h f =
-      begins σ o q h
+  entry-no-name n left b σ o q h f =
+      begins left b σ o q h
       ∙ refuse s c (ready .within) (ready .looks) opened (c .rows + 1) (c .rows ∷ o) left q (tm (the colon) ∷ nt (valuePart b) ∷ act end ∷ σ) Name (λ x. not (is (kindOf n-other) x)) (not-is (kindOf n-other) (c .kind) n) tt tt
 
   module _ (e : c .kind ≡ kindOf n-other) where
-    named-goes : (σ : Stack) (o : List ℕ) (q : Counts) → top o ≡ parent →
+    named-goes : (left : ℕ) (b : Bool) (σ : Stack) (o : List ℕ) (q : Counts) → top o ≡ parent →
         at s rows c o left q (entryStack K b ++ σ) ≡ go (st opened (c .rows + 1) (c .rows ∷ o) (c .stop) left q) (tm anyName ∷ tm (the colon) ∷ nt (valuePart b) ∷ act end ∷ σ) (from s (c .stop))
-    named-goes σ o q h =
-        begins σ o q h
+    named-goes left b σ o q h =
+        begins left b σ o q h
         ∙ first s c (ready .within) (ready .looks) opened (c .rows + 1) (c .rows ∷ o) left q (tm (the colon) ∷ nt (valuePart b) ∷ act end ∷ σ) Name name-in 0 e tt
 
-    pub entry-full : c .rows ≡ mostRows → Halts s rows c parent left (entryStack K b) (TooManyRows (c .start))
-    entry-full n σ o q h f =
-        named-goes σ o q h
+    pub entry-full : c .rows ≡ mostRows → (left : ℕ) (b : Bool) → Halts s rows c parent left (entryStack K b) (TooManyRows (c .start))
+    entry-full n left b σ o q h f =
+        named-goes left b σ o q h
         ∙ too-many-rows s c (ready .within) (ready .looks) opened (c .rows + 1) (c .rows ∷ o) left q (tm (the colon) ∷ nt (valuePart b) ∷ act end ∷ σ) anyName 0 e tt tt (omega arith)
 
     module _ (room : c .rows ≢ mostRows) where
@@ -74,14 +74,14 @@ module _ (s rows : List ℕ) (c : Cursor) (parent : ℕ) (ready : Ready s rows c
       few = omega (arith, ready .few)
 
       -- past the name
-      name-goes : (σ : Stack) (o : List ℕ) (q : Counts) → top o ≡ parent → overCounts q ≡ false →
+      name-goes : (left : ℕ) (b : Bool) (σ : Stack) (o : List ℕ) (q : Counts) → top o ≡ parent → overCounts q ≡ false →
           at s rows c o left q (entryStack K b ++ σ) ≡ go (st opened (c .rows + 1) (c .rows ∷ o) (c .end) left q) (tm (the colon) ∷ nt (valuePart b) ∷ act end ∷ σ) (from s (c .end))
-      name-goes σ o q h f =
-          named-goes σ o q h
+      name-goes left b σ o q h f =
+          named-goes left b σ o q h
           ∙ plain s c (ready .within) (ready .looks) opened (c .rows + 1) (c .rows ∷ o) left q (tm (the colon) ∷ nt (valuePart b) ∷ act end ∷ σ) anyName 0 e tt tt (omega (arith, few)) f
 
-      pub entry-bad : (rows′ : List ℕ) (r : Read) (x : Refusal) → r ≡ past s c (c .rows + 1) → r ≡ Refused x → Said 1 s rows rows′ c parent left (entryStack K b) r
-      entry-bad rows′ r x q w = rw w (λ σ o y h f. name-goes σ o y h f ∙ moved-halts s (c .end) (c .rows + 1) r x q w (st opened (c .rows + 1) (c .rows ∷ o) (c .end) left y) (tm (the colon) ∷ nt (valuePart b) ∷ act end ∷ σ))
+      pub entry-bad : (rows′ : List ℕ) (r : Read) (x : Refusal) → r ≡ past s c (c .rows + 1) → r ≡ Refused x → SaidNamed s rows rows′ c parent K r
+      entry-bad rows′ r x q w = rw w (λ left b σ o y h f. name-goes left b σ o y h f ∙ moved-halts s (c .end) (c .rows + 1) r x q w (st opened (c .rows + 1) (c .rows ∷ o) (c .end) left y) (tm (the colon) ∷ nt (valuePart b) ∷ act end ∷ σ))
 
       -- at the token that must be the colon
       module _ (r : Read) (d : Cursor) (q : r ≡ past s c (c .rows + 1)) (w : r ≡ Done d) where
@@ -94,70 +94,74 @@ module _ (s rows : List ℕ) (c : Cursor) (parent : ℕ) (ready : Ready s rows c
         pub colon-lies : (d .stop ≤ d .start) × (d .start ≤ d .end) × (d .end ≤ length s)
         colon-lies = token-lies s (d .stop) (d .kind) (d .start) (d .end) within (m .looks)
 
-        at-colon : (σ : Stack) (o : List ℕ) (y : Counts) → top o ≡ parent → overCounts y ≡ false →
+        at-colon : (left : ℕ) (b : Bool) (σ : Stack) (o : List ℕ) (y : Counts) → top o ≡ parent → overCounts y ≡ false →
             at s rows c o left y (entryStack K b ++ σ) ≡ go (st opened (c .rows + 1) (c .rows ∷ o) (d .stop) left y) (tm (the colon) ∷ nt (valuePart b) ∷ act end ∷ σ) (from s (d .stop))
-        at-colon σ o y h f = name-goes σ o y h f ∙ rw (m .stop) refl
+        at-colon left b σ o y h f = name-goes left b σ o y h f ∙ rw (m .stop) refl
 
-        pub entry-no-colon : d .kind ≢ kindOf colon → Halts s rows c parent left (entryStack K b) (NoGoing (d .start))
-        entry-no-colon n σ o y h f =
-            at-colon σ o y h f
+        pub entry-no-colon : d .kind ≢ kindOf colon → (left : ℕ) (b : Bool) → Halts s rows c parent left (entryStack K b) (NoGoing (d .start))
+        entry-no-colon n left b σ o y h f =
+            at-colon left b σ o y h f
             ∙ lacks s d within (m .looks) opened (c .rows + 1) (c .rows ∷ o) left y (nt (valuePart b) ∷ act end ∷ σ) (the colon) (λ x. not (is (kindOf colon) x)) (not-is (kindOf colon) (d .kind) n) tt
 
         module _ (k : d .kind ≡ kindOf colon) where
-          colon-goes : (σ : Stack) (o : List ℕ) (y : Counts) → top o ≡ parent → overCounts y ≡ false →
+          colon-goes : (left : ℕ) (b : Bool) (σ : Stack) (o : List ℕ) (y : Counts) → top o ≡ parent → overCounts y ≡ false →
               at s rows c o left y (entryStack K b ++ σ) ≡ go (st opened (c .rows + 1) (c .rows ∷ o) (d .end) left y) (nt (valuePart b) ∷ act end ∷ σ) (from s (d .end))
-          colon-goes σ o y h f =
-              at-colon σ o y h f
+          colon-goes left b σ o y h f =
+              at-colon left b σ o y h f
               ∙ plain s d within (m .looks) opened (c .rows + 1) (c .rows ∷ o) left y (nt (valuePart b) ∷ act end ∷ σ) (the colon) 9 k tt tt (omega (arith, few)) f
 
-          pub entry-colon-bad : (rows′ : List ℕ) (t : Read) (x : Refusal) → t ≡ past s d (c .rows + 1) → t ≡ Refused x → Said 1 s rows rows′ c parent left (entryStack K b) t
-          entry-colon-bad rows′ t x u v = rw v (λ σ o y h f. colon-goes σ o y h f ∙ moved-halts s (d .end) (c .rows + 1) t x u v (st opened (c .rows + 1) (c .rows ∷ o) (d .end) left y) (nt (valuePart b) ∷ act end ∷ σ))
-
           -- at the value
-          module _ (t : Read) (g : Cursor) (u : t ≡ past s d (c .rows + 1)) (v : t ≡ Done g) (rows₁ : List ℕ) (p : rows₁ ≡ opened) where
-            m′ : Moved s (d .end) (c .rows + 1) g
-            m′ = moved-done s (d .end) (c .rows + 1) t g u v
+          pub entry-named : (rows′ : List ℕ) → rows′ ≡ opened → (t : Read) → t ≡ past s d (c .rows + 1) → SaidNamed s rows rows′ c parent K t
+          entry-named rows′ p (Done g) u =
+              let v = moved-done s (d .end) (c .rows + 1) (Done g) g u refl in
+              record {
+                room = few;
+                size = rw p (put-length rows (c .rows) K (c .start) 0 parent (c .start) (c .end - c .start) 0 ∙ ready .size);
+                within = rw (v .stop) (colon-lies .2);
+                few = rw (v .rows) (omega (arith, few));
+                looks = v .looks;
+                on = omega (arith, v .stop, colon-lies, m .stop, ready-lies s rows c parent ready);
+                goes = λ left b σ o y h f. colon-goes left b σ o y h f ∙ rw (v .stop, v .rows, p) refl;
+              }
+          entry-named rows′ p (Refused x) u = λ left b σ o y h f. colon-goes left b σ o y h f ∙ moved-halts s (d .end) (c .rows + 1) (Refused x) x u refl (st opened (c .rows + 1) (c .rows ∷ o) (d .end) left y) (nt (valuePart b) ∷ act end ∷ σ)
 
-            pub entry-ready : Ready s rows₁ g (c .rows)
-            entry-ready =
-                record {
-                  short = ready .short;
-                  size = rw p (put-length rows (c .rows) K (c .start) 0 parent (c .start) (c .end - c .start) 0 ∙ ready .size);
-                  within = rw (m′ .stop) (colon-lies .2);
-                  few = rw (m′ .rows) (omega (arith, few));
-                  looks = m′ .looks;
-                  below = ready .few;
-                }
+-- AN ENTRY, where its name and colon were read
+module _ (s rows : List ℕ) (c : Cursor) (parent left K : ℕ) (b : Bool) (rows₁ : List ℕ) (r : Read) (said : SaidNamed s rows rows₁ c parent K r) where
+  pub entry-refused : (rows′ : List ℕ) (x : Refusal) → r ≡ Refused x → Said 1 s rows rows′ c parent left (entryStack K b) r
+  entry-refused rows′ x w = rw w ((subst (SaidNamed s rows rows₁ c parent K) w said) left b)
 
-            at-value : (σ : Stack) (o : List ℕ) (y : Counts) → top o ≡ parent → overCounts y ≡ false → at s rows c o left y (entryStack K b ++ σ) ≡ at s rows₁ g (c .rows ∷ o) left y (nt (valuePart b) ∷ act end ∷ σ)
-            at-value σ o y h f = colon-goes σ o y h f ∙ rw (m′ .stop, m′ .rows, p) refl
+  module _ (g : Cursor) (w : r ≡ Done g) where
+    pub entry-begun : Named s rows rows₁ c g parent K
+    entry-begun = subst (SaidNamed s rows rows₁ c parent K) w said
 
-            pub entry-stops : (rows₂ rows′ : List ℕ) (z : Read) (x : Refusal) → Said 1 s rows₁ rows₂ g (c .rows) left (nt (valuePart b) ∷ []) z → z ≡ Refused x → Said 1 s rows rows′ c parent left (entryStack K b) z
-            entry-stops rows₂ rows′ z x i j = rw j (step (subst (Said 1 s rows₁ rows₂ g (c .rows) left (nt (valuePart b) ∷ [])) j i))
-              where
-                step : Halts s rows₁ g (c .rows) left (nt (valuePart b) ∷ []) x → Halts s rows c parent left (entryStack K b) x
-                step a σ o y h f = at-value σ o y h f ∙ a (act end ∷ σ) (c .rows ∷ o) y refl f
+    pub entry-ready : length s ≤ mostText → Ready s rows₁ g (c .rows)
+    entry-ready l = let a = entry-begun in record { short = l; size = a .size; within = a .within; few = a .few; looks = a .looks; below = omega (arith, a .room) }
 
-            pub entry-size : (rows₂ : List ℕ) (z : Read) (l : Cursor) → Said 1 s rows₁ rows₂ g (c .rows) left (nt (valuePart b) ∷ []) z → z ≡ Done l → length rows₂ ≡ rowsSize
-            entry-size rows₂ z l i j = step (subst (Said 1 s rows₁ rows₂ g (c .rows) left (nt (valuePart b) ∷ [])) j i)
-              where
-                step : Went 1 s rows₁ rows₂ g l (c .rows) left (nt (valuePart b) ∷ []) → length rows₂ ≡ rowsSize
-                step a = a .size
+    module _ (rows₂ : List ℕ) (z : Read) (of-value : Said 1 s rows₁ rows₂ g (c .rows) left (nt (valuePart b) ∷ []) z) where
+      pub entry-stops : (rows′ : List ℕ) (x : Refusal) → z ≡ Refused x → Said 1 s rows rows′ c parent left (entryStack K b) z
+      entry-stops rows′ x j = rw j (step (subst (Said 1 s rows₁ rows₂ g (c .rows) left (nt (valuePart b) ∷ [])) j of-value))
+        where
+          step : Halts s rows₁ g (c .rows) left (nt (valuePart b) ∷ []) x → Halts s rows c parent left (entryStack K b) x
+          step a σ o y h f = entry-begun .goes left b σ o y h f ∙ a (act end ∷ σ) (c .rows ∷ o) y refl f
 
-            pub entry-went : (rows₂ rows′ : List ℕ) (z : Read) (l : Cursor) → Said 1 s rows₁ rows₂ g (c .rows) left (nt (valuePart b) ∷ []) z → z ≡ Done l → rows′ ≡ set rows₂ (7 * c .rows + 2) (l .stop) →
-                Went 1 s rows rows′ c l parent left (entryStack K b)
-            entry-went rows₂ rows′ z l i j n = step (subst (Said 1 s rows₁ rows₂ g (c .rows) left (nt (valuePart b) ∷ [])) j i)
-              where
-                step : Went 1 s rows₁ rows₂ g l (c .rows) left (nt (valuePart b) ∷ []) → Went 1 s rows rows′ c l parent left (entryStack K b)
-                step a =
-                    record {
-                      size = rw n (length-set rows₂ (7 * c .rows + 2) (l .stop) ∙ a .size);
-                      within = a .within;
-                      few = a .few;
-                      looks = a .looks;
-                      on = omega (arith, a .on, m .stop, m′ .stop, colon-lies, ready-lies s rows c parent ready);
-                      goes = λ σ o y h f. at-value σ o y h f ∙ a .goes (act end ∷ σ) (c .rows ∷ o) y refl f ∙ ends-row rows₂ (l .rows) o (l .stop) left y σ (from s (l .stop)) (c .rows) ∙ rw n refl;
-                    }
+      module _ (d : Cursor) (j : z ≡ Done d) where
+        value-went : Went 1 s rows₁ rows₂ g d (c .rows) left (nt (valuePart b) ∷ [])
+        value-went = subst (Said 1 s rows₁ rows₂ g (c .rows) left (nt (valuePart b) ∷ [])) j of-value
+
+        pub entry-size : length rows₂ ≡ rowsSize
+        entry-size = value-went .size
+
+        pub entry-went : (rows′ : List ℕ) → rows′ ≡ set rows₂ (7 * c .rows + 2) (d .stop) → Went 1 s rows rows′ c d parent left (entryStack K b)
+        entry-went rows′ n =
+            let a = value-went in
+            record {
+              size = rw n (length-set rows₂ (7 * c .rows + 2) (d .stop) ∙ a .size);
+              within = a .within;
+              few = a .few;
+              looks = a .looks;
+              on = omega (arith, a .on, entry-begun .on);
+              goes = λ σ o y h f. entry-begun .goes left b σ o y h f ∙ a .goes (act end ∷ σ) (c .rows ∷ o) y refl f ∙ ends-row rows₂ (d .rows) o (d .stop) left y σ (from s (d .stop)) (c .rows) ∙ rw n refl;
+            }
 
 -- a part whose one production is an entry: it may as well be read as that, at any token
 module _ (field : Part) (K : ℕ) (counted : EntryKind K) (b : Bool) (mem : List·Memᴰ (entryStack K b) (factored field))
@@ -172,7 +176,7 @@ module _ (field : Part) (K : ℕ) (counted : EntryKind K) (b : Bool) (mem : List
       cases true e = first s c (ready .within) (ready .looks) rows (c .rows) o left q σ field mem 0 (eqb-true (c .kind) (kindOf n-other) e) begins-it
       cases false e =
           refuse s c (ready .within) (ready .looks) rows (c .rows) o left q σ field (λ x. not (is (kindOf n-other) x)) (not-is (kindOf n-other) (c .kind) (eqb-false (c .kind) (kindOf n-other) e)) refuses-it refuses-end
-          ∙ sym (entry-no-name s rows c parent ready left K counted b (eqb-false (c .kind) (kindOf n-other) e) σ o q h f)
+          ∙ sym (entry-no-name s rows c parent ready K counted (eqb-false (c .kind) (kindOf n-other) e) left b σ o q h f)
 
 module _ (s rows : List ℕ) (c : Cursor) (parent : ℕ) (ready : Ready s rows c parent) (left : ℕ) where
   pub argument-is : (σ : Stack) (o : List ℕ) (q : Counts) → top o ≡ parent → overCounts q ≡ false → at s rows c o left q (nt Argument ∷ σ) ≡ at s rows c o left q (entryStack kindArgument false ++ σ)

@@ -30,7 +30,7 @@ use Rattle.reader.specs.Reader.{Ready, at, Said, noGoingOf}
 use Rattle.reader.proofs.Steps.{tokenOf, front-token, by-kind, is, refuse, refuses, refusesEnd}
 use Rattle.reader.proofs.Cells.{put, put-length, row-opens, name-told, row-ends}
 use Rattle.values.specs.Stacks.{valuePart}
-use Rattle.values.specs.Ends.{Leaf, full, wrote, SaidScalar}
+use Rattle.values.specs.Marks.{Leaf, full, wrote, SaidScalar}
 use Rattle.values.proofs.HeadName.{head-name}
 use Rattle.values.proofs.MovedLaws.{moved-said}
 use Rattle.values.proofs.StackSteps.{plainHit, class-first, class-plain, class-rows}
@@ -75,14 +75,14 @@ module _ (s rows : List ℕ) (c : Cursor) (parent : ℕ) (ready : Ready s rows c
   -- a row of one token that the machine writes, and that the code writes too
   module _ (K m z x : ℕ)
       (goes : c .rows < mostRows → (σ : Stack) (o : List ℕ) (left : ℕ) (q : Counts) → top o ≡ parent → overCounts q ≡ false →
-        at s rows c o left q (nt p ∷ σ) ≡ go (st (put rows (c .rows) K (c .start) (c .end) parent m z x) (c .rows + 1) o (c .end) left q) σ (from s (c .end)))
+      at s rows c o left q (nt p ∷ σ) ≡ go (st (put rows (c .rows) K (c .start) (c .end) parent m z x) (c .rows + 1) o (c .end) left q) σ (from s (c .end)))
       (halts : c .rows ≡ mostRows → (σ : Stack) (o : List ℕ) (left : ℕ) (q : Counts) → top o ≡ parent → overCounts q ≡ false → at s rows c o left q (nt p ∷ σ) ≡ halt (TooManyRows (c .start))) where
     leaf-said : (left : ℕ) (rows′ : List ℕ) (r : Read) → Leaf s rows rows′ c parent K m z x r → Said 1 s rows rows′ c parent left (nt p ∷ []) r
     leaf-said left rows′ r (full e q) = rw q (λ σ o y h f. halts e σ o left y h f)
     leaf-said left rows′ r (wrote e u q) =
         moved-said 1 s rows rows′ c parent left (nt p ∷ []) (c .end) (c .rows + 1)
-          (rw u (put-length rows (c .rows) K (c .start) (c .end) parent m z x ∙ ready .size)) (lies .1) (omega arith) (omega (arith, lies .0))
-          (λ σ o y h f. rw u (goes e σ o left y h f)) r q
+        (rw u (put-length rows (c .rows) K (c .start) (c .end) parent m z x ∙ ready .size)) (lies .1) (omega arith) (omega (arith, lies .0))
+        (λ σ o y h f. rw u (goes e σ o left y h f)) r q
 
   module _ (K x : ℕ) (w : Terminal) (mem : List·Memᴰ (literal K x w) (factored p)) (same : (q : Counts) → kinded K q ≡ q) (hit : T (plainHit w k)) where
     begins : (σ : Stack) (o : List ℕ) (left : ℕ) (q : Counts) → top o ≡ parent →
@@ -95,14 +95,14 @@ module _ (s rows : List ℕ) (c : Cursor) (parent : ℕ) (ready : Ready s rows c
     pub literal-said : (left : ℕ) (rows′ : List ℕ) (r : Read) → Leaf s rows rows′ c parent K 0 0 x r → Said 1 s rows rows′ c parent left (nt p ∷ []) r
     literal-said left rows′ r =
         leaf-said K 0 0 x
-          (λ u σ o left q e f.
-            begins σ o left q e
-            ∙ class-plain (put rows (c .rows) K (c .start) 0 parent 0 0 x) (c .rows + 1) (c .rows ∷ o) (c .stop) left q (act end ∷ σ) k (c .start) (c .end) (from s (c .end)) w hit (omega arith) f
-            ∙ row-ends rows (c .rows + 1) o (c .end) left q σ (from s (c .end)) (c .rows) K (c .start) 0 parent 0 0 x)
-          (λ u σ o left q e f.
-            begins σ o left q e
-            ∙ class-rows (put rows (c .rows) K (c .start) 0 parent 0 0 x) (c .rows + 1) (c .rows ∷ o) (c .stop) left q (act end ∷ σ) k (c .start) (c .end) (from s (c .end)) w hit (omega arith))
-          left rows′ r
+        (λ u σ o left q e f.
+        begins σ o left q e
+        ∙ class-plain (put rows (c .rows) K (c .start) 0 parent 0 0 x) (c .rows + 1) (c .rows ∷ o) (c .stop) left q (act end ∷ σ) k (c .start) (c .end) (from s (c .end)) w hit (omega arith) f
+        ∙ row-ends rows (c .rows + 1) o (c .end) left q σ (from s (c .end)) (c .rows) K (c .start) 0 parent 0 0 x)
+        (λ u σ o left q e f.
+        begins σ o left q e
+        ∙ class-rows (put rows (c .rows) K (c .start) 0 parent 0 0 x) (c .rows + 1) (c .rows ∷ o) (c .stop) left q (act end ∷ σ) k (c .start) (c .end) (from s (c .end)) w hit (omega arith))
+        left rows′ r
 
   module _ (mem : List·Memᴰ enumeral (factored p)) (hit : T (plainHit nameButLiteral k)) where
     enum-begins : (σ : Stack) (o : List ℕ) (left : ℕ) (q : Counts) → top o ≡ parent →
@@ -112,19 +112,19 @@ module _ (s rows : List ℕ) (c : Cursor) (parent : ℕ) (ready : Ready s rows c
         ∙ row-opens rows (c .rows) o (c .stop) left q (act named ∷ nt EnumValue ∷ act end ∷ σ) (token (tokenOf k (c .start) (c .end)) (from s (c .end))) kindEnum 0
         ∙ rw e (name-told rows (c .rows + 1) o (c .stop) left q (nt EnumValue ∷ act end ∷ σ) (token (tokenOf k (c .start) (c .end)) (from s (c .end))) (c .rows) kindEnum (c .start) 0 parent 0 0 0)
         ∙ class-first (put rows (c .rows) kindEnum (c .start) 0 parent (c .start) (c .end - c .start) 0) (c .rows + 1) (c .rows ∷ o) (c .stop) left q (act end ∷ σ) k (c .start) (c .end) (from s (c .end)) EnumValue enum-in
-            (and-l (hits nameButLiteral k) (not (opens k) && not (closes k)) hit)
+        (and-l (hits nameButLiteral k) (not (opens k) && not (closes k)) hit)
 
     pub enum-said : (left : ℕ) (rows′ : List ℕ) (r : Read) → Leaf s rows rows′ c parent kindEnum (c .start) (c .end - c .start) 0 r → Said 1 s rows rows′ c parent left (nt p ∷ []) r
     enum-said left rows′ r =
         leaf-said kindEnum (c .start) (c .end - c .start) 0
-          (λ u σ o left q e f.
-            enum-begins σ o left q e
-            ∙ class-plain (put rows (c .rows) kindEnum (c .start) 0 parent (c .start) (c .end - c .start) 0) (c .rows + 1) (c .rows ∷ o) (c .stop) left q (act end ∷ σ) k (c .start) (c .end) (from s (c .end)) nameButLiteral hit (omega arith) f
-            ∙ row-ends rows (c .rows + 1) o (c .end) left q σ (from s (c .end)) (c .rows) kindEnum (c .start) 0 parent (c .start) (c .end - c .start) 0)
-          (λ u σ o left q e f.
-            enum-begins σ o left q e
-            ∙ class-rows (put rows (c .rows) kindEnum (c .start) 0 parent (c .start) (c .end - c .start) 0) (c .rows + 1) (c .rows ∷ o) (c .stop) left q (act end ∷ σ) k (c .start) (c .end) (from s (c .end)) nameButLiteral hit (omega arith))
-          left rows′ r
+        (λ u σ o left q e f.
+        enum-begins σ o left q e
+        ∙ class-plain (put rows (c .rows) kindEnum (c .start) 0 parent (c .start) (c .end - c .start) 0) (c .rows + 1) (c .rows ∷ o) (c .stop) left q (act end ∷ σ) k (c .start) (c .end) (from s (c .end)) nameButLiteral hit (omega arith) f
+        ∙ row-ends rows (c .rows + 1) o (c .end) left q σ (from s (c .end)) (c .rows) kindEnum (c .start) 0 parent (c .start) (c .end - c .start) 0)
+        (λ u σ o left q e f.
+        enum-begins σ o left q e
+        ∙ class-rows (put rows (c .rows) kindEnum (c .start) 0 parent (c .start) (c .end - c .start) 0) (c .rows + 1) (c .rows ∷ o) (c .stop) left q (act end ∷ σ) k (c .start) (c .end) (from s (c .end)) nameButLiteral hit (omega arith))
+        left rows′ r
 
 -- WHICH PRODUCTIONS of Value, constant or not
 int-in : (b : Bool) → List·Memᴰ (literal kindInteger 0 (the int)) (factored (valuePart b))
@@ -199,7 +199,7 @@ module _ (s rows rows′ : List ℕ) (c : Cursor) (parent : ℕ) (ready : Ready 
       unfolding wordOf
       word-said v h left b =
           literal-said s rows c parent ready class looks (valuePart b) K X w (mem b) same
-            (implies-out (is x (wordNumber class)) (plainHit w class) (all-at (λ k. implies (is x (wordNumber k)) (plainHit w k)) allC (numC class) t (atC class)) (rw v (is-T x))) left rows′ r h
+          (implies-out (is x (wordNumber class)) (plainHit w class) (all-at (λ k. implies (is x (wordNumber k)) (plainHit w k)) allC (numC class) t (atC class)) (rw v (is-T x))) left rows′ r h
 
     pub true-said : wordOf (take (c .end - c .start) (drop (c .start) s)) ≡ wordNumber n-true → Leaf s rows rows′ c parent kindBoolean 0 0 extraTrue r → SaidScalar s rows rows′ c parent r
     true-said = word-said (wordNumber n-true) kindBoolean extraTrue (the n-true) true-in (λ q. refl) tt
@@ -216,8 +216,8 @@ module _ (s rows rows′ : List ℕ) (c : Cursor) (parent : ℕ) (ready : Ready 
     unfolding wordOf
     name-said n6 n7 n8 h left b =
         enum-said s rows c parent ready class looks (valuePart b) (name-in b)
-          (implies-out (enumeralTest class) (plainHit nameButLiteral class) (all-at (λ k. implies (enumeralTest k) (plainHit nameButLiteral k)) allC (numC class) tt (atC class))
-            (rw (class-kind, ne-eqb (wordNumber class) 6 n6, ne-eqb (wordNumber class) 7 n7, ne-eqb (wordNumber class) 8 n8) tt)) left rows′ r h
+        (implies-out (enumeralTest class) (plainHit nameButLiteral class) (all-at (λ k. implies (enumeralTest k) (plainHit nameButLiteral k)) allC (numC class) tt (atC class))
+        (rw (class-kind, ne-eqb (wordNumber class) 6 n6, ne-eqb (wordNumber class) 7 n7, ne-eqb (wordNumber class) 8 n8) tt)) left rows′ r h
 
   -- a token with which no value begins
   pub no-value : c .kind ≢ kindOf n-other → c .kind ≢ kindOf int → c .kind ≢ kindOf float → c .kind ≢ kindOf string → c .kind ≢ kindOf dollar → c .kind ≢ kindOf bracketL → c .kind ≢ kindOf braceL →

@@ -27,7 +27,7 @@ use Rattle.reader.proofs.ReaderLaws.{token-lies}
 use Rattle.reader.proofs.Steps.{is, not-is, first, refuse, plain, too-many-rows, refuses, refusesEnd, front, Front, a-token, the-end}
 use Rattle.reader.proofs.Cells.{put, put-length, row-opens, name-told, row-ends}
 use Rattle.values.specs.Stacks.{valueStack}
-use Rattle.values.specs.Ends.{past, SaidVariable}
+use Rattle.values.specs.Marks.{past, SaidVariable}
 use Rattle.values.proofs.MovedLaws.{start-in, stop-in, Moved, moved-done, moved-halts, moved-said}
 
 variable-in : List·Memᴰ (act row ∷ act (kind kindVariable 0) ∷ tm (the dollar) ∷ act named ∷ nt Name ∷ act end ∷ []) (factored Value)
@@ -108,14 +108,14 @@ module _ (s rows rows′ : List ℕ) (c : Cursor) (parent : ℕ) (ready : Ready 
       pub variable-said : d .kind ≡ kindOf n-other → rows′ ≡ whole → (r′ : Read) → r′ ≡ past s d (c .rows + 1) → SaidVariable s rows rows′ c parent r′
       variable-said n u r′ v left =
           moved-said 1 s rows rows′ c parent left (nt Value ∷ []) (d .end) (c .rows + 1)
-            (rw u (put-length rows (c .rows) kindVariable (c .start) (d .end) parent (d .start) (d .end - d .start) 0 ∙ ready .size)) (name-lies .2) (omega (arith, few)) (omega (arith, lies .0, name-lies, m .stop))
-            (λ σ o y h f.
-              name-opens σ o left y h f
-              ∙ first s d name-within (m .looks) (put rows (c .rows) kindVariable (c .start) 0 parent (d .start) (d .end - d .start) 0) (c .rows + 1) (c .rows ∷ o) left y (act end ∷ σ) Name name-in 0 n tt
-              ∙ plain s d name-within (m .looks) (put rows (c .rows) kindVariable (c .start) 0 parent (d .start) (d .end - d .start) 0) (c .rows + 1) (c .rows ∷ o) left y (act end ∷ σ) anyName 0 n tt tt (omega (arith, few)) f
-              ∙ row-ends rows (c .rows + 1) o (d .end) left y σ (from s (d .end)) (c .rows) kindVariable (c .start) 0 parent (d .start) (d .end - d .start) 0
-              ∙ rw u refl)
-            r′ v
+          (rw u (put-length rows (c .rows) kindVariable (c .start) (d .end) parent (d .start) (d .end - d .start) 0 ∙ ready .size)) (name-lies .2) (omega (arith, few)) (omega (arith, lies .0, name-lies, m .stop))
+          (λ σ o y h f.
+          name-opens σ o left y h f
+          ∙ first s d name-within (m .looks) (put rows (c .rows) kindVariable (c .start) 0 parent (d .start) (d .end - d .start) 0) (c .rows + 1) (c .rows ∷ o) left y (act end ∷ σ) Name name-in 0 n tt
+          ∙ plain s d name-within (m .looks) (put rows (c .rows) kindVariable (c .start) 0 parent (d .start) (d .end - d .start) 0) (c .rows + 1) (c .rows ∷ o) left y (act end ∷ σ) anyName 0 n tt tt (omega (arith, few)) f
+          ∙ row-ends rows (c .rows + 1) o (d .end) left y σ (from s (d .end)) (c .rows) kindVariable (c .start) 0 parent (d .start) (d .end - d .start) 0
+          ∙ rw u refl)
+          r′ v
 
 -- in a constant value
 pub no-variable : (s rows : List ℕ) (c : Cursor) (parent left : ℕ) (b : Bool) → Ready s rows c parent → c .kind ≡ kindOf dollar → b ≡ true → Said 1 s rows rows c parent left (valueStack b) (noGoingOf c)

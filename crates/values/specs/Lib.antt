@@ -1,2 +1,2 @@
 pub mod Stacks
-pub mod Ends
+pub mod Marks

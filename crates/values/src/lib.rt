@@ -1,5 +1,4 @@
 // Reads values, and the entries of arguments and objects, and writes their rows.
-use paper::Refusal;
 use paper::EXTRA_FALSE;
 use paper::EXTRA_TRUE;
 use paper::KIND_BOOLEAN;
@@ -13,11 +12,12 @@ use paper::KIND_OBJECT_FIELD;
 use paper::KIND_STRING;
 use paper::KIND_VARIABLE;
 use paper::MOST_ROWS;
+use paper::Refusal;
+use reader::Cursor;
+use reader::Read;
 use reader::no_going;
 use reader::put_end;
 use reader::put_row;
-use reader::Cursor;
-use reader::Read;
 use characters::TOKEN_BRACE_CLOSE;
 use characters::TOKEN_BRACE_OPEN;
 use characters::TOKEN_BRACKET_CLOSE;
@@ -39,17 +39,26 @@ ghost use Rattle.paper.specs.Language.{dollar, bracketL, braceL, n-other};
 ghost use Rattle.characters.specs.Head.{kindOf};
 ghost use Rattle.reader.specs.Reader.{Ready, Said};
 ghost use Rattle.values.specs.Stacks.{valueStack, entryStack, EntryKind};
-ghost use Rattle.values.specs.Ends.{Leaf, Close, SaidScalar, SaidVariable};
+ghost use Rattle.values.specs.Marks.{Leaf, Open, Close, SaidScalar, SaidVariable, SaidNamed};
 
 // A value that is one token: its row.
-fn leaf(s: &[u8], rows: &mut [u32], c: Cursor, parent: u32, kind: u32, name: u32, size: u32, extra: u32) -> Read
+fn leaf(
+    s: &[u8],
+    rows: &mut [u32],
+    c: Cursor,
+    parent: u32,
+    kind: u32,
+    name: u32,
+    size: u32,
+    extra: u32,
+) -> Read
     requires { ⌜ Ready (now s) (now rows) c parent ⌝ }
     ensures { λ r. ⌜ Leaf (now (s .entry)) (now (rows .entry)) (now (rows .exit)) c parent kind name size extra r ⌝ }
 {
-    let n = c.rows;
-    if n == MOST_ROWS {
+    if c.rows == MOST_ROWS {
         return Read::Refused(Refusal::TooManyRows(c.start));
     }
+    let n = c.rows;
     put_row(rows, n, kind, c.start, c.end, parent, name, size, extra);
     c.past(s, n + 1)
 }
@@ -111,7 +120,17 @@ fn variable(s: &[u8], rows: &mut [u32], c: Cursor, parent: u32) -> Read
     if name.kind != TOKEN_NAME {
         return no_going(name);
     }
-    put_row(rows, n, KIND_VARIABLE, c.start, name.end, parent, name.start, name.end - name.start, 0);
+    put_row(
+        rows,
+        n,
+        KIND_VARIABLE,
+        c.start,
+        name.end,
+        parent,
+        name.start,
+        name.end - name.start,
+        0,
+    );
     name.past(s, n + 1)
 }
 
@@ -136,6 +155,22 @@ pub fn value(s: &[u8], rows: &mut [u32], c: Cursor, parent: u32, left: u32, cons
     scalar(s, rows, c, parent)
 }
 
+// The opening mark of a list or an object: its row, and its level.
+fn enter(s: &[u8], rows: &mut [u32], c: Cursor, parent: u32, left: u32, kind: u32) -> Read
+    requires { ⌜ Ready (now s) (now rows) c parent ⌝ }
+    ensures { λ r. ⌜ Open (now (s .entry)) (now (rows .entry)) (now (rows .exit)) c parent left kind r ⌝ }
+{
+    if left == 0 {
+        return Read::Refused(Refusal::TooDeep(c.start));
+    }
+    let n = c.rows;
+    if n == MOST_ROWS {
+        return Read::Refused(Refusal::TooManyRows(c.start));
+    }
+    put_row(rows, n, kind, c.start, 0, parent, 0, 0, 0);
+    c.past(s, n + 1)
+}
+
 // The closing mark of row n, at which the cursor stands.
 fn close(s: &[u8], rows: &mut [u32], c: Cursor, n: u32) -> Read
     requires { ⌜ Ready (now s) (now rows) c n × (n < mostRows) ⌝ }
@@ -151,15 +186,8 @@ fn list(s: &[u8], rows: &mut [u32], c: Cursor, parent: u32, left: u32, constant:
     requires { ⌜ Ready (now s) (now rows) c parent × (c .kind ≡ kindOf bracketL) ⌝ }
     ensures { λ r. ⌜ Said 1 (now (s .entry)) (now (rows .entry)) (now (rows .exit)) c parent left (valueStack constant) r ⌝ }
 {
-    if left == 0 {
-        return Read::Refused(Refusal::TooDeep(c.start));
-    }
     let n = c.rows;
-    if n == MOST_ROWS {
-        return Read::Refused(Refusal::TooManyRows(c.start));
-    }
-    put_row(rows, n, KIND_LIST, c.start, 0, parent, 0, 0, 0);
-    let r = c.past(s, n + 1);
+    let r = enter(s, rows, c, parent, left, KIND_LIST);
     let Read::Done(first) = r else {
         return r;
     };
@@ -182,15 +210,8 @@ fn object(s: &[u8], rows: &mut [u32], c: Cursor, parent: u32, left: u32, constan
     requires { ⌜ Ready (now s) (now rows) c parent × (c .kind ≡ kindOf braceL) ⌝ }
     ensures { λ r. ⌜ Said 1 (now (s .entry)) (now (rows .entry)) (now (rows .exit)) c parent left (valueStack constant) r ⌝ }
 {
-    if left == 0 {
-        return Read::Refused(Refusal::TooDeep(c.start));
-    }
     let n = c.rows;
-    if n == MOST_ROWS {
-        return Read::Refused(Refusal::TooManyRows(c.start));
-    }
-    put_row(rows, n, KIND_OBJECT, c.start, 0, parent, 0, 0, 0);
-    let r = c.past(s, n + 1);
+    let r = enter(s, rows, c, parent, left, KIND_OBJECT);
     let Read::Done(first) = r else {
         return r;
     };
@@ -208,10 +229,10 @@ fn object(s: &[u8], rows: &mut [u32], c: Cursor, parent: u32, left: u32, constan
     }
 }
 
-// Argument or ObjectField, by its row's kind: Name : Value
-pub fn entry(s: &[u8], rows: &mut [u32], c: Cursor, parent: u32, left: u32, kind: u32, constant: bool) -> Read
+// Name : of an entry, whose row begins and is of this kind; the cursor comes to the value.
+fn entry_name(s: &[u8], rows: &mut [u32], c: Cursor, parent: u32, kind: u32) -> Read
     requires { ⌜ Ready (now s) (now rows) c parent × EntryKind kind ⌝ }
-    ensures { λ r. ⌜ Said 1 (now (s .entry)) (now (rows .entry)) (now (rows .exit)) c parent left (entryStack kind constant) r ⌝ }
+    ensures { λ r. ⌜ SaidNamed (now (s .entry)) (now (rows .entry)) (now (rows .exit)) c parent kind r ⌝ }
 {
     if c.kind != TOKEN_NAME {
         return no_going(c);
@@ -220,7 +241,8 @@ pub fn entry(s: &[u8], rows: &mut [u32], c: Cursor, parent: u32, left: u32, kind
     if n == MOST_ROWS {
         return Read::Refused(Refusal::TooManyRows(c.start));
     }
-    put_row(rows, n, kind, c.start, 0, parent, c.start, c.end - c.start, 0);
+    let size = c.end - c.start;
+    put_row(rows, n, kind, c.start, 0, parent, c.start, size, 0);
     let r = c.past(s, n + 1);
     let Read::Done(colon) = r else {
         return r;
@@ -228,9 +250,26 @@ pub fn entry(s: &[u8], rows: &mut [u32], c: Cursor, parent: u32, left: u32, kind
     if colon.kind != TOKEN_COLON {
         return no_going(colon);
     }
-    let t = colon.past(s, n + 1);
-    let Read::Done(first) = t else {
-        return t;
+    colon.past(s, n + 1)
+}
+
+// Argument or ObjectField, by its row's kind: Name : Value
+pub fn entry(
+    s: &[u8],
+    rows: &mut [u32],
+    c: Cursor,
+    parent: u32,
+    left: u32,
+    kind: u32,
+    constant: bool,
+) -> Read
+    requires { ⌜ Ready (now s) (now rows) c parent × EntryKind kind ⌝ }
+    ensures { λ r. ⌜ Said 1 (now (s .entry)) (now (rows .entry)) (now (rows .exit)) c parent left (entryStack kind constant) r ⌝ }
+{
+    let n = c.rows;
+    let r = entry_name(s, rows, c, parent, kind);
+    let Read::Done(first) = r else {
+        return r;
     };
     let v = value(s, rows, first, n, left, constant);
     let Read::Done(d) = v else {
