@@ -1,0 +1,6 @@
+pub mod Onward
+pub mod HeadName
+pub mod Words
+pub mod ArgumentsLaws
+pub mod DirectivesLaws
+pub mod ConditionLaws

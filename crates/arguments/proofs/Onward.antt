@@ -1,0 +1,138 @@
+-- From a token taken to the next one: the cursor past it, or the bytes that are none; and names, which most readers meet.
+use mathlib.Core.Path.{_≡_, refl, sym, ap, _∙_, subst}
+use mathlib.Core.Bool.{Bool, true, false, not}
+use mathlib.Core.List.{List, [], _∷_, _++_, List·Memᴰ, List·Memᴰ·head, List·Memᴰ·tail}
+use Prim.Native.Nat.{ℕ, zero, suc, _+_, _-_, _*_, _≤_, _<_}
+use mathlib.Core.Logic.{_⊎_, inl, inr}
+use native.Mathlib.Omega.{arith}
+use lib.Dec.{T, eqb}
+use borrow.Author.Tests.{eqb-true, eqb-false}
+use lib.ListN.{length}
+use Rattle.paper.specs.Grammar.{nt, tm, act}
+use Rattle.paper.specs.Numbers.{mostRows}
+use Rattle.paper.specs.Language.{anyName, Name, language, row, kind, named}
+use Rattle.paper.specs.Rows.{top}
+use Rattle.paper.specs.Tokens.{Text, over, bad, token}
+use Rattle.paper.specs.Sizes.{Counts, kinded, overCounts}
+use Rattle.paper.specs.declared.Refusal.{Refusal}
+use Rattle.paper.specs.declared.Refusal.the-variants.{NoToken, NoGoing, TooManyRows}
+use Rattle.paper.proofs.Lexing.{from}
+use Rattle.paper.proofs.Machine.{choose}
+use Rattle.paper.proofs.Tables.{graphql, factored}
+use Rattle.paper.proofs.Going.{Stack, State, st, Out, halt, go, startIn, stopIn}
+use Rattle.tokens.specs.Head.{headOf, kindOf}
+use Rattle.tokens.specs.declared.TokenRead.{TokenRead}
+use Rattle.tokens.specs.declared.TokenRead.the-variants.{Token, Bad}
+use Rattle.reader.specs.declared.Cursor.{Cursor}
+use Rattle.reader.specs.declared.Read.{Read}
+use Rattle.reader.specs.declared.Read.the-variants.{Done, Refused}
+use Rattle.reader.specs.Reader.{Looks, movedTo, at, Went, Halts, Said}
+use Rattle.reader.proofs.ReaderLaws.{token-lies}
+use Rattle.reader.proofs.Cells.{put, row-opens, name-told}
+use Rattle.reader.proofs.Steps.{Front, a-token, the-end, front, first, refuse, plain, is, not-is, refuses, refusesEnd}
+
+-- the cursor d is past the token of c, with m rows
+pub record Next (s : List ℕ) (c d : Cursor) (m : ℕ) : Type 0 where
+  pub stop : d .stop ≡ c .end
+  pub rows : d .rows ≡ m
+  pub looks : Looks s d
+  pub within : d .stop ≤ length s
+
+-- where a cursor's token lies
+pub lies : (s : List ℕ) (c : Cursor) → c .stop ≤ length s → Looks s c → (c .stop ≤ c .start) × (c .start ≤ c .end) × (c .end ≤ length s)
+lies s c h l = token-lies s (c .stop) (c .kind) (c .start) (c .end) h l
+
+-- a token has a byte
+pub has-bytes : (s : List ℕ) (c : Cursor) → c .stop ≤ length s → Looks s c → (x : ℕ) → c .kind ≡ suc x → c .start < c .end
+has-bytes s c h l x e = go′ (front s c h l)
+  where
+    go′ : Front s c → c .start < c .end
+    go′ (a-token k d f i j m) = j
+    go′ (the-end d f i j) = let w : ⊥ = omega arith in absurd w
+
+moved-done : (t : TokenRead) (stop rows : ℕ) (d : Cursor) → movedTo stop rows t ≡ Done d → (d .stop ≡ stop) × (d .rows ≡ rows) × (t ≡ Token (d .kind) (d .start) (d .end))
+moved-done (Token k a e) stop rows d q = (cc, cc, cc)
+moved-done (Bad o) stop rows d q = let z : _≡_ {A = ℕ} 0 1 = cc in let w : ⊥ = omega arith in absurd w
+
+pub next : (s : List ℕ) (c d : Cursor) (m : ℕ) → c .stop ≤ length s → Looks s c → (r : Read) → r ≡ movedTo (c .end) m (headOf (from s (c .end))) → r ≡ Done d → Next s c d m
+next s c d m h l r q e =
+    let z = moved-done (headOf (from s (c .end))) (c .end) m d (sym q ∙ e) in
+    let b = lies s c h l in
+    record {
+      stop = z .0;
+      rows = z .1;
+      looks = subst (λ (p : ℕ). headOf (from s p) ≡ Token (d .kind) (d .start) (d .end)) (sym (z .0)) (z .2);
+      within = omega arith;
+    }
+
+-- the machine behind the token of c is the machine at d
+pub next-at : (s : List ℕ) (c d : Cursor) (m : ℕ) → Next s c d m → (cells o : List ℕ) (left : ℕ) (q : Counts) (σ : Stack) → go (st cells m o (c .end) left q) σ (from s (c .end)) ≡ at s cells d o left q σ
+next-at s c d m x cells o left q σ = rw (x .stop, x .rows) refl
+
+-- or it halts at bytes that are no token
+bad-halts : (t : Text) (stop rows : ℕ) (x : Refusal) → movedTo stop rows (headOf t) ≡ Refused x → (S : State) (σ : Stack) → go S σ t ≡ halt x
+unfolding go
+bad-halts (over n) stop rows x q S σ = let z : _≡_ {A = ℕ} 0 1 = cc in let w : ⊥ = omega arith in absurd w
+bad-halts (bad n) stop rows x q S σ = ap halt (cc)
+bad-halts (token k t) stop rows x q S σ = let z : _≡_ {A = ℕ} 0 1 = cc in let w : ⊥ = omega arith in absurd w
+
+pub next-halts : (s : List ℕ) (p stop rows : ℕ) (x : Refusal) (r : Read) → r ≡ movedTo stop rows (headOf (from s p)) → r ≡ Refused x → (S : State) (σ : Stack) → go S σ (from s p) ≡ halt x
+next-halts s p stop rows x r q e S σ = bad-halts (from s p) stop rows x (sym q ∙ e) S σ
+
+-- the ends of the token looked at
+start-of : (t : Text) (k a e : ℕ) → headOf t ≡ Token k a e → startIn t ≡ a
+start-of (over n) k a e q = cc
+start-of (bad n) k a e q = let z : _≡_ {A = ℕ} 0 1 = cc in let w : ⊥ = omega arith in absurd w
+start-of (token t u) k a e q = cc
+
+stop-of : (t : Text) (k a e : ℕ) → headOf t ≡ Token k a e → stopIn t ≡ e
+stop-of (over n) k a e q = cc
+stop-of (bad n) k a e q = let z : _≡_ {A = ℕ} 0 1 = cc in let w : ⊥ = omega arith in absurd w
+stop-of (token t u) k a e q = cc
+
+pub start-here : (s : List ℕ) (c : Cursor) → Looks s c → startIn (from s (c .stop)) ≡ c .start
+start-here s c l = start-of (from s (c .stop)) (c .kind) (c .start) (c .end) l
+
+pub stop-here : (s : List ℕ) (c : Cursor) → Looks s c → stopIn (from s (c .stop)) ≡ c .end
+stop-here s c l = stop-of (from s (c .stop)) (c .kind) (c .start) (c .end) l
+
+-- a name, or none
+module _ (s : List ℕ) (c : Cursor) (h : c .stop ≤ length s) (l : Looks s c) (cells : List ℕ) (n : ℕ) (o : List ℕ) (left : ℕ) (q : Counts) (σ : Stack) where
+  pub name-taken : c .kind ≡ 1 → n ≤ mostRows → overCounts q ≡ false → go (st cells n o (c .stop) left q) (nt Name ∷ σ) (from s (c .stop)) ≡ go (st cells n o (c .end) left q) σ (from s (c .end))
+  unfolding factored language
+  name-taken e m f = first s c h l cells n o left q σ Name (List·Memᴰ·head refl) 0 e tt ∙ plain s c h l cells n o left q σ anyName 0 e tt tt m f
+
+  pub name-lacks : (c .kind ≡ 1 → ⊥) → go (st cells n o (c .stop) left q) (nt Name ∷ σ) (from s (c .stop)) ≡ halt (NoGoing (c .start))
+  unfolding factored language choose refuses refusesEnd
+  name-lacks e = refuse s c h l cells n o left q σ Name (λ (y : ℕ). not (is 1 y)) (not-is 1 (c .kind) e) tt tt
+
+-- a number is another, or not
+pub same : (x y : ℕ) → (x ≡ y) ⊎ (x ≡ y → ⊥)
+same x y = by-test (eqb x y) refl
+  where
+    by-test : (b : Bool) → eqb x y ≡ b → (x ≡ y) ⊎ (x ≡ y → ⊥)
+    by-test true e = inl (eqb-true x y e)
+    by-test false e = inr (eqb-false x y e)
+
+-- what a reader said, where its answer is known
+pub said-went : (gain : ℕ) (s rows rows′ : List ℕ) (c d : Cursor) (parent left : ℕ) (α : Stack) (r : Read) → Said gain s rows rows′ c parent left α r → r ≡ Done d → Went gain s rows rows′ c d parent left α
+said-went gain s rows rows′ c d parent left α r v e = subst (λ (x : Read). Said gain s rows rows′ c parent left α x) e v
+
+pub said-halts : (gain : ℕ) (s rows rows′ : List ℕ) (c : Cursor) (parent left : ℕ) (α : Stack) (r : Read) (x : Refusal) → Said gain s rows rows′ c parent left α r → r ≡ Refused x → Halts s rows c parent left α x
+said-halts gain s rows rows′ c parent left α r x v e = subst (λ (y : Read). Said gain s rows rows′ c parent left α y) e v
+
+-- a row begins at the token looked at
+pub opened-row : (s : List ℕ) (c : Cursor) → Looks s c → (cells : List ℕ) (n : ℕ) (o : List ℕ) (parent left : ℕ) (q : Counts) (σ : Stack) (k x : ℕ) → top o ≡ parent →
+    go (st cells n o (c .stop) left q) (act row ∷ act (kind k x) ∷ σ) (from s (c .stop)) ≡ go (st (put cells n k (c .start) 0 parent 0 0 x) (n + 1) (n ∷ o) (c .stop) left (kinded k q)) σ (from s (c .stop))
+opened-row s c l cells n o parent left q σ k x p =
+    row-opens cells n o (c .stop) left q σ (from s (c .stop)) k x
+    ∙ ap (λ (a : ℕ). go (st (put cells n k a 0 (top o) 0 0 x) (n + 1) (n ∷ o) (c .stop) left (kinded k q)) σ (from s (c .stop))) (start-here s c l)
+    ∙ ap (λ (u : ℕ). go (st (put cells n k (c .start) 0 u 0 0 x) (n + 1) (n ∷ o) (c .stop) left (kinded k q)) σ (from s (c .stop))) p
+
+-- and takes it as its name
+pub named-row : (s : List ℕ) (c : Cursor) → Looks s c → (cells : List ℕ) (n : ℕ) (o : List ℕ) (left : ℕ) (q : Counts) (σ : Stack) (r k a e p m z x : ℕ) →
+    go (st (put cells r k a e p m z x) n (r ∷ o) (c .stop) left q) (act named ∷ σ) (from s (c .stop)) ≡ go (st (put cells r k a e p (c .start) (c .end - c .start) x) n (r ∷ o) (c .stop) left q) σ (from s (c .stop))
+named-row s c l cells n o left q σ r k a e p m z x =
+    name-told cells n o (c .stop) left q σ (from s (c .stop)) r k a e p m z x
+    ∙ ap (λ (b : ℕ). go (st (put cells r k a e p b (stopIn (from s (c .stop)) - b) x) n (r ∷ o) (c .stop) left q) σ (from s (c .stop))) (start-here s c l)
+    ∙ ap (λ (b : ℕ). go (st (put cells r k a e p (c .start) (b - c .start) x) n (r ∷ o) (c .stop) left q) σ (from s (c .stop))) (stop-here s c l)
