@@ -138,26 +138,26 @@ module _ (s rows : List ℕ) (c : Cursor) (parent left : ℕ) (a : Ready s rows 
             ∙ first-argument s d (x .within) (x .looks) rows (d .rows) o (left - 1) q (tm (the parenR) ∷ σ);
         }
 
--- one turn, from its cursor d on
-module _ (s rows rows₁ : List ℕ) (c d : Cursor) (parent left : ℕ) (i : Passed 0 s rows rows₁ c d parent left (left - 1) shut shut argumentsStack oneMore) where
+-- one turn, from its cursor d on: α was to be read where the loop began
+module _ (s rows rows₁ : List ℕ) (c d : Cursor) (parent left₀ left : ℕ) (α : Stack) (i : Passed 0 s rows rows₁ c d parent left₀ (left - 1) shut shut α oneMore) where
   pub turn-ready : length s ≤ mostText → parent ≤ mostRows → Ready s rows₁ d parent
   turn-ready h p = record { short = h; size = i .size; within = i .within; few = i .few; looks = i .looks; below = p }
 
   -- with the argument read, or refused
   module _ (rows₂ : List ℕ) (r : Read) (v : Said 1 s rows₁ rows₂ d parent (left - 1) (entryStack 6 false) r) where
-    pub turn-stops : (x : Refusal) → r ≡ Refused x → Halts s rows c parent left argumentsStack x
+    pub turn-stops : (x : Refusal) → r ≡ Refused x → Halts s rows c parent left₀ α x
     turn-stops x e σ o q p f =
         i .goes σ o q p f ∙ said-halts 1 s rows₁ rows₂ d parent (left - 1) (entryStack 6 false) r x v e (nt Argument* ∷ tm (the parenR) ∷ σ) o q p f
 
-    module _ (next′ : Cursor) (e : r ≡ Done next′) where
-      pub turn-read : Went 1 s rows₁ rows₂ d next′ parent (left - 1) (entryStack 6 false)
-      turn-read = said-went 1 s rows₁ rows₂ d next′ parent (left - 1) (entryStack 6 false) r v e
+    module _ (b : Cursor) (e : r ≡ Done b) where
+      pub turn-read : Went 1 s rows₁ rows₂ d b parent (left - 1) (entryStack 6 false)
+      turn-read = said-went 1 s rows₁ rows₂ d b parent (left - 1) (entryStack 6 false) r v e
 
       read-at : (σ : Stack) (o : List ℕ) (q : Counts) → top o ≡ parent → overCounts q ≡ false →
-          at s rows c o left q (nt Arguments? ∷ σ) ≡ at s rows₂ next′ o (left - 1) q (nt Argument* ∷ tm (the parenR) ∷ σ)
+          at s rows c o left₀ q (α ++ σ) ≡ at s rows₂ b o (left - 1) q (nt Argument* ∷ tm (the parenR) ∷ σ)
       read-at σ o q p f = i .goes σ o q p f ∙ turn-read .goes (nt Argument* ∷ tm (the parenR) ∷ σ) o q p f
 
-      pub turn-more : (next′ .kind ≡ 9 → ⊥) → Passed 0 s rows rows₂ c next′ parent left (left - 1) shut shut argumentsStack oneMore
+      pub turn-more : (b .kind ≡ 9 → ⊥) → Passed 0 s rows rows₂ c b parent left₀ (left - 1) shut shut α oneMore
       turn-more z =
           record {
             size = turn-read .size;
@@ -165,34 +165,37 @@ module _ (s rows rows₁ : List ℕ) (c d : Cursor) (parent left : ℕ) (i : Pas
             few = turn-read .few;
             looks = turn-read .looks;
             on = omega (arith, i .on, turn-read .on);
-            goes = λ σ o q p f. read-at σ o q p f ∙ next-argument s next′ (turn-read .within) (turn-read .looks) rows₂ (next′ .rows) o (left - 1) q σ z;
+            goes = λ σ o q p f. read-at σ o q p f ∙ next-argument s b (turn-read .within) (turn-read .looks) rows₂ (b .rows) o (left - 1) q σ z;
           }
 
-      -- they end
-      module _ (z : left ≡ 0 → ⊥) (k : next′ .kind ≡ 9) (t : Read) (m : t ≡ movedTo (next′ .end) (next′ .rows) (headOf (from s (next′ .end)))) where
-        end-at : (σ : Stack) (o : List ℕ) (q : Counts) → top o ≡ parent → overCounts q ≡ false →
-            at s rows c o left q (nt Arguments? ∷ σ) ≡ go (st rows₂ (next′ .rows) o (next′ .end) left q) σ (from s (next′ .end))
-        end-at σ o q p f =
-            read-at σ o q p f
-            ∙ closes-with s next′ (turn-read .within) (turn-read .looks) rows₂ (next′ .rows) o (left - 1) q σ k (turn-read .few) f
-            ∙ ap (λ (m : ℕ). go (st rows₂ (next′ .rows) o (next′ .end) m q) σ (from s (next′ .end))) (omega arith)
+-- they end, behind b
+module _ (s rows rows₁ rows₂ : List ℕ) (c d b : Cursor) (parent left : ℕ) (i : Passed 0 s rows rows₁ c d parent left (left - 1) shut shut argumentsStack oneMore) (r : Read) (v : Said 1 s rows₁ rows₂ d parent (left - 1) (entryStack 6 false) r) (e : r ≡ Done b) (z : left ≡ 0 → ⊥) (k : b .kind ≡ 9) where
+  read : Went 1 s rows₁ rows₂ d b parent (left - 1) (entryStack 6 false)
+  read = said-went 1 s rows₁ rows₂ d b parent (left - 1) (entryStack 6 false) r v e
 
-        end-done : (u : Cursor) → t ≡ Done u → Went 0 s rows rows₂ c u parent left argumentsStack
-        end-done u y =
-            let x = next s next′ u (next′ .rows) (turn-read .within) (turn-read .looks) t m y in
-            let b = lies s next′ (turn-read .within) (turn-read .looks) in
-            record {
-              size = turn-read .size;
-              within = x .within;
-              few = omega (arith, turn-read .few, x .rows);
-              looks = x .looks;
-              on = omega (arith, x .stop, i .on, turn-read .on);
-              goes = λ σ o q p f. end-at σ o q p f ∙ next-at s next′ u (next′ .rows) x rows₂ o left q σ;
-            }
+  end-at : (σ : Stack) (o : List ℕ) (q : Counts) → top o ≡ parent → overCounts q ≡ false →
+      at s rows c o left q (nt Arguments? ∷ σ) ≡ go (st rows₂ (b .rows) o (b .end) left q) σ (from s (b .end))
+  end-at σ o q p f =
+      read-at s rows rows₁ c d parent left left argumentsStack i rows₂ r v b e σ o q p f
+      ∙ closes-with s b (read .within) (read .looks) rows₂ (b .rows) o (left - 1) q σ k (read .few) f
+      ∙ ap (λ (m : ℕ). go (st rows₂ (b .rows) o (b .end) m q) σ (from s (b .end))) (omega arith)
 
-        pub turn-ends : Said 0 s rows rows₂ c parent left argumentsStack t
-        turn-ends = by-answer t refl
-          where
-            by-answer : (y : Read) → t ≡ y → Said 0 s rows rows₂ c parent left argumentsStack y
-            by-answer (Done u) y = end-done u y
-            by-answer (Refused x) y = λ σ o q p f. end-at σ o q p f ∙ next-halts s (next′ .end) (next′ .end) (next′ .rows) x t m y (st rows₂ (next′ .rows) o (next′ .end) left q) σ
+  pub turn-ends : (t : Read) → t ≡ movedTo (b .end) (b .rows) (headOf (from s (b .end))) → Said 0 s rows rows₂ c parent left argumentsStack t
+  turn-ends t m = by-answer t refl
+    where
+      done : (u : Cursor) → t ≡ Done u → Went 0 s rows rows₂ c u parent left argumentsStack
+      done u y =
+          let x = next s b u (b .rows) (read .within) (read .looks) t m y in
+          let l = lies s b (read .within) (read .looks) in
+          record {
+            size = read .size;
+            within = x .within;
+            few = omega (arith, read .few, x .rows);
+            looks = x .looks;
+            on = omega (arith, x .stop, i .on, read .on);
+            goes = λ σ o q p f. end-at σ o q p f ∙ next-at s b u (b .rows) x rows₂ o left q σ;
+          }
+
+      by-answer : (y : Read) → t ≡ y → Said 0 s rows rows₂ c parent left argumentsStack y
+      by-answer (Done u) y = done u y
+      by-answer (Refused x) y = λ σ o q p f. end-at σ o q p f ∙ next-halts s (b .end) (b .end) (b .rows) x t m y (st rows₂ (b .rows) o (b .end) left q) σ

@@ -9,7 +9,7 @@ use lib.Dec.{T, eqb}
 use borrow.Author.Tests.{eqb-true, eqb-false}
 use lib.ListN.{length}
 use Rattle.paper.specs.Grammar.{nt, tm, act}
-use Rattle.paper.specs.Numbers.{mostRows}
+use Rattle.paper.specs.Numbers.{mostRows, rowsSize}
 use Rattle.paper.specs.Language.{anyName, Name, language, row, kind, named}
 use Rattle.paper.specs.Rows.{top}
 use Rattle.paper.specs.Tokens.{Text, over, bad, token}
@@ -27,6 +27,7 @@ use Rattle.reader.specs.declared.Cursor.{Cursor}
 use Rattle.reader.specs.declared.Read.{Read}
 use Rattle.reader.specs.declared.Read.the-variants.{Done, Refused}
 use Rattle.reader.specs.Reader.{Looks, movedTo, at, Went, Halts, Said}
+use Rattle.arguments.specs.Passed.{Passed, shut}
 use Rattle.reader.proofs.ReaderLaws.{token-lies}
 use Rattle.reader.proofs.Cells.{put, row-opens, name-told}
 use Rattle.reader.proofs.Steps.{Front, a-token, the-end, front, first, refuse, plain, is, not-is, refuses, refusesEnd}
@@ -136,3 +137,13 @@ named-row s c l cells n o left q σ r k a e p m z x =
     name-told cells n o (c .stop) left q σ (from s (c .stop)) r k a e p m z x
     ∙ ap (λ (b : ℕ). go (st (put cells r k a e p b (stopIn (from s (c .stop)) - b) x) n (r ∷ o) (c .stop) left q) σ (from s (c .stop))) (start-here s c l)
     ∙ ap (λ (b : ℕ). go (st (put cells r k a e p (c .start) (b - c .start) x) n (r ∷ o) (c .stop) left q) σ (from s (c .stop))) (stop-here s c l)
+
+-- one reading after another, below the same row
+pub joined : (s rows rows₁ rows₂ : List ℕ) (c d e : Cursor) (parent left left₁ left₂ : ℕ) (α β γ : Stack) → Passed 0 s rows rows₁ c d parent left left₁ shut shut α β → Passed 0 s rows₁ rows₂ d e parent left₁ left₂ shut shut β γ →
+    Passed 0 s rows rows₂ c e parent left left₂ shut shut α γ
+joined s rows rows₁ rows₂ c d e parent left left₁ left₂ α β γ i j =
+    record { size = j .size; within = j .within; few = j .few; looks = j .looks; on = omega (arith, i .on, j .on); goes = λ σ o q p f. i .goes σ o q p f ∙ j .goes σ o q p f }
+
+-- nothing read yet
+pub unmoved : (s rows : List ℕ) (d : Cursor) (parent left : ℕ) (α : Stack) → length rows ≡ rowsSize → d .stop ≤ length s → d .rows ≤ mostRows → Looks s d → Passed 0 s rows rows d d parent left left shut shut α α
+unmoved s rows d parent left α a b e l = record { size = a; within = b; few = e; looks = l; on = omega arith; goes = λ σ o q p f. refl }
