@@ -9,7 +9,7 @@ use lib.Dec.{T, eqb}
 use borrow.Author.Tests.{eqb-true, eqb-false}
 use lib.ListN.{length}
 use Rattle.paper.specs.Grammar.{nt, tm, act}
-use Rattle.paper.specs.Numbers.{mostRows, rowsSize}
+use Rattle.paper.specs.Numbers.{mostText, mostRows, rowsSize}
 use Rattle.paper.specs.Language.{anyName, Name, language, row, kind, named}
 use Rattle.paper.specs.Rows.{top}
 use Rattle.paper.specs.Tokens.{Text, over, bad, token}
@@ -26,7 +26,7 @@ use Rattle.tokens.specs.declared.TokenRead.the-variants.{Token, Bad}
 use Rattle.reader.specs.declared.Cursor.{Cursor}
 use Rattle.reader.specs.declared.Read.{Read}
 use Rattle.reader.specs.declared.Read.the-variants.{Done, Refused}
-use Rattle.reader.specs.Reader.{Looks, movedTo, at, Went, Halts, Said}
+use Rattle.reader.specs.Reader.{Looks, movedTo, at, Ready, Went, Halts, Said}
 use Rattle.arguments.specs.Passed.{Passed, shut}
 use Rattle.reader.proofs.ReaderLaws.{token-lies}
 use Rattle.reader.proofs.Cells.{put, row-opens, name-told}
@@ -147,3 +147,16 @@ joined s rows rows₁ rows₂ c d e parent left left₁ left₂ α β γ i j =
 -- nothing read yet
 pub unmoved : (s rows : List ℕ) (d : Cursor) (parent left : ℕ) (α : Stack) → length rows ≡ rowsSize → d .stop ≤ length s → d .rows ≤ mostRows → Looks s d → Passed 0 s rows rows d d parent left left shut shut α α
 unmoved s rows d parent left α a b e l = record { size = a; within = b; few = e; looks = l; on = omega arith; goes = λ σ o q p f. refl }
+
+-- what `past` asks, of a cursor known by what was said of it
+pub ready-past : (s rows : List ℕ) (c : Cursor) (parent : ℕ) → Ready s rows c parent → (length s ≤ mostText) × (c .end ≤ length s)
+ready-past s rows c parent a = (a .short, lies s c (a .within) (a .looks) .2)
+
+pub next-past : (s : List ℕ) (c d : Cursor) (m : ℕ) → Next s c d m → d .end ≤ length s
+next-past s c d m x = lies s d (x .within) (x .looks) .2
+
+pub next-order : (s : List ℕ) (c d : Cursor) (m : ℕ) → Next s c d m → d .start ≤ d .end
+next-order s c d m x = lies s d (x .within) (x .looks) .1
+
+pub went-past : (gain : ℕ) (s rows rows′ : List ℕ) (c d : Cursor) (parent left : ℕ) (α : Stack) → Went gain s rows rows′ c d parent left α → d .end ≤ length s
+went-past gain s rows rows′ c d parent left α w = lies s d (w .within) (w .looks) .2

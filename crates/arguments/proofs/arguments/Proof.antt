@@ -5,7 +5,7 @@ use borrow.Author.Needs.{needs}
 use lib.ListN.{length}
 use Rattle.arguments.specs.Arguments.{argumentsStack}
 use Rattle.arguments.specs.Passed.{Passed, shut}
-use Rattle.arguments.proofs.Onward.{lies, joined, unmoved}
+use Rattle.arguments.proofs.Onward.{ready-past, went-past, joined, unmoved}
 use Rattle.arguments.proofs.ArgumentsLaws.{oneMore, deep-said, bad-said, turn-first, turn-ready, turn-stops, turn-read, turn-more, turn-ends}
 use Rattle.arguments.proofs.arguments.Statement.{statement}
 use Rattle.arguments.proofs.arguments.Tie as tie
@@ -39,7 +39,7 @@ returns c = deep-said _ _ _ _ _ (c .before .before .before .pre .0) (c .before .
 
 -- src/lib.rt:30:9
 past-requires : tie.Need-past-requires Inv-loop μ-loop
-past-requires c κs = (c .before .before .before .pre .0 .short, lies _ _ (c .before .before .before .pre .0 .within) (c .before .before .before .pre .0 .looks) .2)
+past-requires c κs = ready-past _ _ _ _ (c .before .before .before .pre .0)
 
 -- src/lib.rt:31:20
 enum-known-r : tie.Need-enum-known-r Inv-loop μ-loop
@@ -83,7 +83,7 @@ returns-3 c = rw (c .enum-told2 .given .1) (turn-stops _ _ _ _ _ _ _ _ _ (joint 
 
 -- src/lib.rt:42:13
 past-requires-2 : tie.Need-past-requires-2 Inv-loop μ-loop
-past-requires-2 c κs = let v = turn-read _ _ _ _ _ _ _ _ _ (c .before .before .before .before .before .before .before .before .before .loop .inv) _ _ (c .before .before .before .before .before .before .before .entry .ensures) _ (c .before .before .before .t .given .1) in (c .before .before .before .before .before .before .before .before .before .before .before .before .before .before .before .before .before .pre .0 .short, lies _ _ (v .within) (v .looks) .2)
+past-requires-2 c κs = (c .before .before .before .before .before .before .before .before .before .before .before .before .before .before .before .before .before .pre .0 .short, went-past _ _ _ _ _ _ _ _ _ (turn-read _ _ _ _ _ _ _ _ _ (c .before .before .before .before .before .before .before .before .before .loop .inv) _ _ (c .before .before .before .before .before .before .before .entry .ensures) _ (c .before .before .before .t .given .1)))
 
 -- src/lib.rt:42:13
 same-length-2 : tie.Need-same-length-2 Inv-loop μ-loop

@@ -1,4 +1,4 @@
-use Rattle.arguments.proofs.Onward.{lies, next}
+use Rattle.arguments.proofs.Onward.{ready-past, next-order, next-past}
 use Rattle.arguments.proofs.ConditionLaws.{condition-bad, condition-name, condition-nameless, condition-full, condition-said}
 use borrow.Author.Needs.{needs}
 use Rattle.arguments.proofs.condition.Statement.{statement}
@@ -11,7 +11,7 @@ use Rattle.reader.proofs.put_row.Reads as put-row-reads
 
 -- src/lib.rt:112:9
 past-requires : tie.Need-past-requires
-past-requires c κs = (c .before .before .pre .0 .short, lies _ _ (c .before .before .pre .0 .within) (c .before .before .pre .0 .looks) .2)
+past-requires c κs = ready-past _ _ _ _ (c .before .before .pre .0)
 
 -- src/lib.rt:113:20
 enum-known-r : tie.Need-enum-known-r
@@ -39,7 +39,7 @@ returns-3 c = condition-full _ _ _ _ _ (c .before .before .before .before .befor
 
 -- src/lib.rt:122:85
 sub-put-row : tie.Need-sub-put-row
-sub-put-row c = lies _ _ (condition-name _ _ _ _ 0 (c .before .before .before .before .before .before .before .before .before .before .before .pre .0) (c .before .before .before .before .before .before .before .before .before .before .before .pre .1) _ (c .before .before .before .before .before .before .before .before .past .ensures) _ (c .before .before .before .before .before .before .r .given .1) .within) (condition-name _ _ _ _ 0 (c .before .before .before .before .before .before .before .before .before .before .before .pre .0) (c .before .before .before .before .before .before .before .before .before .before .before .pre .1) _ (c .before .before .before .before .before .before .before .before .past .ensures) _ (c .before .before .before .before .before .before .r .given .1) .looks) .1
+sub-put-row c = next-order _ _ _ _ (condition-name _ _ _ _ 0 (c .before .before .before .before .before .before .before .before .before .before .before .pre .0) (c .before .before .before .before .before .before .before .before .before .before .before .pre .1) _ (c .before .before .before .before .before .before .before .before .past .ensures) _ (c .before .before .before .before .before .before .r .given .1))
 
 -- src/lib.rt:122:5
 put-row-requires : tie.Need-put-row-requires
@@ -51,7 +51,7 @@ add-past c = search needs
 
 -- src/lib.rt:123:5
 past-requires-2 : tie.Need-past-requires-2
-past-requires-2 c κs = (c .before .before .before .before .before .before .before .before .before .before .before .before .before .before .pre .0 .short, lies _ _ (condition-name _ _ _ _ 0 (c .before .before .before .before .before .before .before .before .before .before .before .before .before .before .pre .0) (c .before .before .before .before .before .before .before .before .before .before .before .before .before .before .pre .1) _ (c .before .before .before .before .before .before .before .before .before .before .before .past .ensures) _ (c .before .before .before .before .before .before .before .before .before .r .given .1) .within) (condition-name _ _ _ _ 0 (c .before .before .before .before .before .before .before .before .before .before .before .before .before .before .pre .0) (c .before .before .before .before .before .before .before .before .before .before .before .before .before .before .pre .1) _ (c .before .before .before .before .before .before .before .before .before .before .before .past .ensures) _ (c .before .before .before .before .before .before .before .before .before .r .given .1) .looks) .2)
+past-requires-2 c κs = (c .before .before .before .before .before .before .before .before .before .before .before .before .before .before .pre .0 .short, next-past _ _ _ _ (condition-name _ _ _ _ 0 (c .before .before .before .before .before .before .before .before .before .before .before .before .before .before .pre .0) (c .before .before .before .before .before .before .before .before .before .before .before .before .before .before .pre .1) _ (c .before .before .before .before .before .before .before .before .before .before .before .past .ensures) _ (c .before .before .before .before .before .before .before .before .before .r .given .1)))
 
 -- src/lib.rt:107:1
 same-length : tie.Need-same-length

@@ -1,4 +1,4 @@
-use Rattle.arguments.proofs.Onward.{lies}
+use Rattle.arguments.proofs.Onward.{ready-past, next-order, next-past}
 use Rattle.arguments.proofs.DirectivesLaws.{directive-full, directive-room, directive-bad, directive-name, directive-nameless, directive-bad-behind, directive-ready, directive-stops, directive-read, directive-ends}
 use borrow.Author.Needs.{needs}
 use Rattle.arguments.proofs.directive.Statement.{statement}
@@ -21,7 +21,7 @@ add-past c = search needs
 
 -- src/lib.rt:68:9
 past-requires : tie.Need-past-requires
-past-requires c κs = (c .before .before .before .pre .0 .short, lies _ _ (c .before .before .before .pre .0 .within) (c .before .before .before .pre .0 .looks) .2)
+past-requires c κs = ready-past _ _ _ _ (c .before .before .before .pre .0)
 
 -- src/lib.rt:69:20
 enum-known-r : tie.Need-enum-known-r
@@ -45,7 +45,7 @@ returns-3 c = rw (c .no-going .ensures) (directive-nameless _ _ _ _ _ (c .before
 
 -- src/lib.rt:75:70
 sub-put-row : tie.Need-sub-put-row
-sub-put-row c = let x = directive-name _ _ _ _ 0 (c .before .before .before .before .before .before .before .before .before .before .before .pre .0) (c .before .before .before .before .before .before .before .before .before .before .before .pre .1) (c .before .before .before .before .before .before .before .before .if1 .left) _ (c .before .before .before .before .before .before .before .past .ensures) _ (c .before .before .before .before .before .r .given .1) in lies _ _ (x .within) (x .looks) .1
+sub-put-row c = next-order _ _ _ _ (directive-name _ _ _ _ 0 (c .before .before .before .before .before .before .before .before .before .before .before .pre .0) (c .before .before .before .before .before .before .before .before .before .before .before .pre .1) (c .before .before .before .before .before .before .before .before .if1 .left) _ (c .before .before .before .before .before .before .before .past .ensures) _ (c .before .before .before .before .before .r .given .1))
 
 -- src/lib.rt:75:5
 put-row-requires : tie.Need-put-row-requires
@@ -57,7 +57,7 @@ add-past-2 c = search needs
 
 -- src/lib.rt:76:9
 past-requires-2 : tie.Need-past-requires-2
-past-requires-2 c κs = let x = directive-name _ _ _ _ 0 (c .before .before .before .before .before .before .before .before .before .before .before .before .before .before .pre .0) (c .before .before .before .before .before .before .before .before .before .before .before .before .before .before .pre .1) (c .before .before .before .before .before .before .before .before .before .before .before .if1 .left) _ (c .before .before .before .before .before .before .before .before .before .before .past .ensures) _ (c .before .before .before .before .before .before .before .before .r .given .1) in (c .before .before .before .before .before .before .before .before .before .before .before .before .before .before .pre .0 .short, lies _ _ (x .within) (x .looks) .2)
+past-requires-2 c κs = (c .before .before .before .before .before .before .before .before .before .before .before .before .before .before .pre .0 .short, next-past _ _ _ _ (directive-name _ _ _ _ 0 (c .before .before .before .before .before .before .before .before .before .before .before .before .before .before .pre .0) (c .before .before .before .before .before .before .before .before .before .before .before .before .before .before .pre .1) (c .before .before .before .before .before .before .before .before .before .before .before .if1 .left) _ (c .before .before .before .before .before .before .before .before .before .before .past .ensures) _ (c .before .before .before .before .before .before .before .before .r .given .1)))
 
 -- src/lib.rt:77:20
 enum-known-t : tie.Need-enum-known-t
