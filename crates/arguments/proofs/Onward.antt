@@ -27,7 +27,7 @@ use Rattle.reader.specs.declared.Cursor.{Cursor}
 use Rattle.reader.specs.declared.Read.{Read}
 use Rattle.reader.specs.declared.Read.the-variants.{Done, Refused}
 use Rattle.reader.specs.Reader.{Looks, movedTo, at, Ready, Went, Halts, Said}
-use Rattle.arguments.specs.Passed.{Passed, shut}
+use Rattle.arguments.specs.Passed.{Passed, Passes, shut}
 use Rattle.reader.proofs.ReaderLaws.{token-lies}
 use Rattle.reader.proofs.Cells.{put, row-opens, name-told}
 use Rattle.reader.proofs.Steps.{Front, a-token, the-end, front, first, refuse, plain, is, not-is, refuses, refusesEnd}
@@ -139,9 +139,9 @@ named-row s c l cells n o left q σ r k a e p m z x =
     ∙ ap (λ (b : ℕ). go (st (put cells r k a e p (c .start) (b - c .start) x) n (r ∷ o) (c .stop) left q) σ (from s (c .stop))) (stop-here s c l)
 
 -- one reading after another, below the same row
-pub joined : (s rows rows₁ rows₂ : List ℕ) (c d e : Cursor) (parent left left₁ left₂ : ℕ) (α β γ : Stack) → Passed 0 s rows rows₁ c d parent left left₁ shut shut α β → Passed 0 s rows₁ rows₂ d e parent left₁ left₂ shut shut β γ →
-    Passed 0 s rows rows₂ c e parent left left₂ shut shut α γ
-joined s rows rows₁ rows₂ c d e parent left left₁ left₂ α β γ i j =
+pub joined : (gain : ℕ) (s rows rows₁ rows₂ : List ℕ) (c d e : Cursor) (parent left left₁ left₂ : ℕ) (α β γ : Stack) → Passed gain s rows rows₁ c d parent left left₁ shut shut α β →
+    Passed 0 s rows₁ rows₂ d e parent left₁ left₂ shut shut β γ → Passed gain s rows rows₂ c e parent left left₂ shut shut α γ
+joined gain s rows rows₁ rows₂ c d e parent left left₁ left₂ α β γ i j =
     record { size = j .size; within = j .within; few = j .few; looks = j .looks; on = omega (arith, i .on, j .on); goes = λ σ o q p f. i .goes σ o q p f ∙ j .goes σ o q p f }
 
 -- nothing read yet
@@ -160,3 +160,11 @@ next-order s c d m x = lies s d (x .within) (x .looks) .1
 
 pub went-past : (gain : ℕ) (s rows rows′ : List ℕ) (c d : Cursor) (parent left : ℕ) (α : Stack) → Went gain s rows rows′ c d parent left α → d .end ≤ length s
 went-past gain s rows rows′ c d parent left α w = lies s d (w .within) (w .looks) .2
+
+-- the same of a reader that begins or stops in the middle of a production
+module _ (gain : ℕ) (s rows rows′ : List ℕ) (c : Cursor) (parent left : ℕ) (f g : List ℕ → List ℕ) (α β : Stack) (r : Read) (v : Passes gain s rows rows′ c parent left f g α β r) where
+  pub passes-went : (d : Cursor) → r ≡ Done d → Passed gain s rows rows′ c d parent left left f g α β
+  passes-went d e = subst (λ (x : Read). Passes gain s rows rows′ c parent left f g α β x) e v
+
+  pub passes-halts : (x : Refusal) → r ≡ Refused x → (σ : Stack) (o : List ℕ) (q : Counts) → top (f o) ≡ parent → overCounts q ≡ false → at s rows c (f o) left q (α ++ σ) ≡ halt x
+  passes-halts x e = subst (λ (y : Read). Passes gain s rows rows′ c parent left f g α β y) e v

@@ -29,7 +29,7 @@ begun c =
 joint : (c : tie.At-loop Inv-loop μ-loop)
     → Passed 0 (c .before .before .before .before .before .before .before .before .args .s .now) (c .before .before .before .before .before .before .before .before .args .rows .now) (c .loop .rows) (c .before .before .before .before .before .before .before .before .args .c) (c .loop .d) (c .before .before .before .before .before .before .before .before .args .parent) (c .before .before .before .before .before .before .before .before .args .left) (c .before .before .before .before .before .before .before .before .args .left - 1) shut shut argumentsStack oneMore
 joint c =
-    joined _ _ _ _ _ _ _ _ _ _ _ _ _ _ (begun (c .before)) (c .loop .inv)
+    joined _ _ _ _ _ _ _ _ _ _ _ _ _ _ _ (begun (c .before)) (c .loop .inv)
 
 -- end of helpers
 
