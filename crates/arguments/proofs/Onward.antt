@@ -152,6 +152,9 @@ unmoved s rows d parent left α a b e l = record { size = a; within = b; few = e
 pub ready-past : (s rows : List ℕ) (c : Cursor) (parent : ℕ) → Ready s rows c parent → (length s ≤ mostText) × (c .end ≤ length s)
 ready-past s rows c parent a = (a .short, lies s c (a .within) (a .looks) .2)
 
+pub ready-order : (s rows : List ℕ) (c : Cursor) (parent : ℕ) → Ready s rows c parent → c .start ≤ c .end
+ready-order s rows c parent a = lies s c (a .within) (a .looks) .1
+
 pub next-past : (s : List ℕ) (c d : Cursor) (m : ℕ) → Next s c d m → d .end ≤ length s
 next-past s c d m x = lies s d (x .within) (x .looks) .2
 

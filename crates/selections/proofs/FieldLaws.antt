@@ -27,7 +27,7 @@ use Rattle.reader.proofs.Cells.{put, put-length, ends-row}
 use Rattle.arguments.specs.Arguments.{argumentsStack, directivesStack}
 use Rattle.arguments.specs.Passed.{Passed, Passes, opened, shut}
 use Rattle.arguments.proofs.Onward.{Next, lies, has-bytes, next, next-at, next-halts, name-taken, name-lacks, said-went, said-halts, passes-went, passes-halts, opened-row, named-row}
-use Rattle.selections.specs.Selections.{selectionStack, bodyStack, fieldStack, aliasStack, fieldRestStack, fieldEndStack, fieldBegun, HeadSaid}
+use Rattle.selections.specs.Selections.{selectionStack, bodyStack, fieldStack, aliasStack, fieldRestStack, fieldEndStack, fieldBegun, AliasSaid, HeadSaid}
 
 -- ARGUMENTS, THEN DIRECTIVES, of the row n
 module _ (s rows rows₁ : List ℕ) (c : Cursor) (n left : ℕ) (r : Read) (v : Said 0 s rows rows₁ c n left argumentsStack r) where
@@ -67,8 +67,8 @@ module _ (s rows : List ℕ) (c : Cursor) (parent left n start : ℕ) (a : Ready
       ∙ ap (λ (u : ℕ). go (st (fieldBegun rows n start parent m z) u (n ∷ o) (c .end) left q) (named-again σ) (from s (c .end))) k
 
   module _ (r : Read) (w : r ≡ movedTo (c .end) (n + 1) (headOf (from s (c .end)))) where
-    pub alias-bad : (rows′ : List ℕ) (m z : ℕ) (x : Refusal) → r ≡ Refused x → Passes 1 s (fieldBegun rows n start parent m z) rows′ c n left (opened n) (opened n) aliasStack [] (Refused x)
-    alias-bad rows′ m z x y σ o q p f =
+    pub alias-bad : (rows′ : List ℕ) (x : Refusal) → r ≡ Refused x → AliasSaid s rows rows′ c parent left n start (Refused x)
+    alias-bad rows′ x y m z σ o q p f =
         past-colon m z σ o q f ∙ next-halts s (c .end) (c .end) (n + 1) x r w y (st (fieldBegun rows n start parent m z) (n + 1) (n ∷ o) (c .end) left q) (named-again σ)
 
     module _ (name : Cursor) (y : r ≡ Done name) where
@@ -83,7 +83,7 @@ module _ (s rows : List ℕ) (c : Cursor) (parent left n start : ℕ) (a : Ready
           ∙ next-at s c name (n + 1) alias-name (fieldBegun rows n start parent m z) (n ∷ o) left q (named-again σ)
           ∙ named-row s name (alias-name .looks) rows (name .rows) o left q (nt Name ∷ nt Arguments? ∷ nt Directives? ∷ σ) n 3 start 0 parent m z 0
 
-      pub alias-nameless : (name .kind ≡ 1 → ⊥) → (rows′ : List ℕ) (m z : ℕ) → Passes 1 s (fieldBegun rows n start parent m z) rows′ c n left (opened n) (opened n) aliasStack [] (Refused (NoGoing (name .start)))
+      pub alias-nameless : (name .kind ≡ 1 → ⊥) → (rows′ : List ℕ) → AliasSaid s rows rows′ c parent left n start (Refused (NoGoing (name .start)))
       alias-nameless i rows′ m z σ o q p f =
           to-name m z σ o q f ∙ name-lacks s name (alias-name .within) (alias-name .looks) _ (name .rows) (n ∷ o) left q (nt Arguments? ∷ nt Directives? ∷ σ) i
 
@@ -99,8 +99,8 @@ module _ (s rows : List ℕ) (c : Cursor) (parent left n start : ℕ) (a : Ready
             ∙ ap (λ (u : List ℕ). go (st u (n + 1) (n ∷ o) (name .end) left q) (fieldRestStack ++ σ) (from s (name .end))) (sym j)
 
         module _ (t : Read) (w′ : t ≡ movedTo (name .end) (n + 1) (headOf (from s (name .end)))) where
-          pub alias-bad-behind : (rows′ : List ℕ) (m z : ℕ) (x : Refusal) → t ≡ Refused x → Passes 1 s (fieldBegun rows n start parent m z) rows′ c n left (opened n) (opened n) aliasStack [] (Refused x)
-          alias-bad-behind rows′ m z x y′ σ o q p f =
+          pub alias-bad-behind : (rows′ : List ℕ) (x : Refusal) → t ≡ Refused x → AliasSaid s rows rows′ c parent left n start (Refused x)
+          alias-bad-behind rows′ x y′ m z σ o q p f =
               past-name m z σ o q f ∙ next-halts s (name .end) (name .end) (n + 1) x t w′ y′ (st rows₁ (n + 1) (n ∷ o) (name .end) left q) (fieldRestStack ++ σ)
 
           module _ (b : Cursor) (y′ : t ≡ Done b) where
@@ -122,8 +122,7 @@ module _ (s rows : List ℕ) (c : Cursor) (parent left n start : ℕ) (a : Ready
                 at s (fieldBegun rows n start parent m z) c (n ∷ o) left q (aliasStack ++ σ) ≡ at s rows₁ b (n ∷ o) left q (fieldRestStack ++ σ)
             to-rest m z σ o q f = past-name m z σ o q f ∙ next-at s name b (n + 1) behind rows₁ (n ∷ o) left q (fieldRestStack ++ σ)
 
-            pub alias-said : (rows₂ : List ℕ) (u : Read) → Said 0 s rows₁ rows₂ b n left fieldRestStack u →
-                (m z : ℕ) → Passes 1 s (fieldBegun rows n start parent m z) rows₂ c n left (opened n) (opened n) aliasStack [] u
+            pub alias-said : (rows₂ : List ℕ) (u : Read) → Said 0 s rows₁ rows₂ b n left fieldRestStack u → AliasSaid s rows rows₂ c parent left n start u
             alias-said rows₂ (Refused x) v m z = λ σ o q p f. to-rest m z σ o q f ∙ v σ (n ∷ o) q refl f
             alias-said rows₂ (Done d) v m z =
                 let l = lies s c (a .within) (a .looks) in
@@ -190,9 +189,7 @@ module _ (s rows : List ℕ) (c : Cursor) (parent left : ℕ) (a : Ready s rows 
         to-second σ o q p f = past-first σ o q p f ∙ next-at s c b (c .rows + 1) head-next begun (c .rows ∷ o) left q (aliasStack ++ (fieldEndStack ++ σ))
 
         -- with an alias
-        pub head-aliased : (rows₂ : List ℕ) (u : Read) →
-            ((m z : ℕ) → Passes 1 s (fieldBegun rows (c .rows) (c .start) parent m z) rows₂ b (c .rows) left (opened (c .rows)) (opened (c .rows)) aliasStack [] u) →
-            HeadSaid s rows rows₂ c parent left u
+        pub head-aliased : (rows₂ : List ℕ) (u : Read) → AliasSaid s rows rows₂ b parent left (c .rows) (c .start) u → HeadSaid s rows rows₂ c parent left u
         head-aliased rows₂ (Refused x) v = λ σ o q p f. to-second σ o q p f ∙ v (c .start) (c .end - c .start) (fieldEndStack ++ σ) o q refl f
         head-aliased rows₂ (Done d) v =
             let g = v (c .start) (c .end - c .start) in

@@ -86,6 +86,9 @@ module _ (s : List ℕ) (c : Cursor) (h : c .stop ≤ length s) (l : Looks s c) 
   unfolding factored language choose refuses refusesEnd
   no-set σ e = refuse s c h l cells n o left q σ SelectionSet (λ (y : ℕ). not (is 15 y)) (not-is 15 (c .kind) e) tt tt
 
+pub selection-lacks : (s rows : List ℕ) (c : Cursor) (parent left : ℕ) → Ready s rows c parent → (c .kind ≡ 1 → ⊥) → (c .kind ≡ 5 → ⊥) → Halts s rows c parent left selectionStack (NoGoing (c .start))
+selection-lacks s rows c parent left a e g σ o q p f = no-selection s c (a .within) (a .looks) rows (c .rows) o left q σ e g
+
 -- A SET, from its cursor c on
 module _ (s rows : List ℕ) (c : Cursor) (parent left : ℕ) (a : Ready s rows c parent) where
   pub set-lacks : (c .kind ≡ 15 → ⊥) → Halts s rows c parent left selectionSetStack (NoGoing (c .start))

@@ -6,7 +6,7 @@ use mathlib.Core.Logic.{_⊎_, inl, inr}
 use Prim.Native.Nat.{ℕ, suc, _+_, _-_, _*_, _≤_, _<_}
 use native.Mathlib.Omega.{arith}
 use lib.Dec.{T, eqb, eqb→eq}
-use borrow.Author.Tests.{eqb-true, eq-eqb}
+use borrow.Author.Tests.{eqb-true, eq-eqb, ne-eqb}
 use lib.ListN.{length, set, length-set}
 use Rattle.paper.specs.Grammar.{nt, tm, act}
 use Rattle.paper.specs.Numbers.{mostText, mostRows, rowsSize}
@@ -49,6 +49,12 @@ names-not s c e k = by-test (eqb (wordOf (bytesAt s c)) 5) refl
     by-test : (b : Bool) → eqb (wordOf (bytesAt s c)) 5 ≡ b → AtOn s c
     by-test true g = (k, eqb-true (wordOf (bytesAt s c)) 5 g)
     by-test false g = let z : true ≡ false = rw (eq-eqb (c .kind) 1 k, g) at e in absurd (subst T z tt)
+
+pub names-when : (s : List ℕ) (c : Cursor) → c .kind ≡ 1 → (w : ℕ) → w ≡ wordOf (bytesAt s c) → not (eqb w 5) ≡ namesFragment s c
+names-when s c e w f = rw (eq-eqb (c .kind) 1 e, f) refl
+
+pub names-no-name : (s : List ℕ) (c : Cursor) → (c .kind ≡ 1 → ⊥) → false ≡ namesFragment s c
+names-no-name s c e = rw (ne-eqb (c .kind) 1 e) refl
 
 -- A SPREAD'S NAME, at which the cursor stands; row n begins at `start`
 module _ (s rows : List ℕ) (c : Cursor) (parent left n start : ℕ) (a : Ready s rows c n) (e : namesFragment s c ≡ true) (k : c .rows ≡ n + 1) where

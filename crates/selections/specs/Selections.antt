@@ -14,7 +14,7 @@ use Rattle.reader.specs.declared.Read.the-variants.{Done, Refused}
 use Rattle.reader.specs.Reader.{Halts}
 use Rattle.reader.proofs.Cells.{put}
 use Rattle.arguments.specs.Arguments.{bytesAt}
-use Rattle.arguments.specs.Passed.{Passed, opened, shut}
+use Rattle.arguments.specs.Passed.{Passed, Passes, opened, shut}
 
 -- the token looked at is a name, and is not `on`
 abbrev pub namesFragment : List ℕ → Cursor → Bool
@@ -53,6 +53,10 @@ fieldBegun rows n start parent m z = put rows n kindField start 0 parent m z 0
 
 abbrev pub spreadBegun : List ℕ → ℕ → ℕ → ℕ → List ℕ
 spreadBegun rows n start parent = put rows n 0 start 0 parent 0 0 0
+
+-- a field is read from the colon of its alias on, whatever its first name was
+abbrev pub AliasSaid : List ℕ → List ℕ → List ℕ → Cursor → ℕ → ℕ → ℕ → ℕ → Read → Type 0
+AliasSaid s rows rows′ c parent left n start r = (m z : ℕ) → Passes 1 s (fieldBegun rows n start parent m z) rows′ c n left (opened n) (opened n) aliasStack [] r
 
 -- a field's head is read: its row is open
 abbrev pub HeadSaid : List ℕ → List ℕ → List ℕ → Cursor → ℕ → ℕ → Read → Type 0

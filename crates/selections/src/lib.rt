@@ -21,12 +21,12 @@ use tokens::WORD_ON;
 ghost use mathlib.Core.Path.{_≡_};
 ghost use mathlib.Core.Bool.{true, false};
 ghost use mathlib.Core.List.{[]};
-ghost use Prim.Native.Nat.{ℕ, _+_, _≤_, _<_};
+ghost use Prim.Native.Nat.{_+_, _≤_, _<_};
 ghost use lib.ListN.{length};
 ghost use Rattle.paper.specs.Numbers.{mostRows};
 ghost use Rattle.reader.specs.Reader.{Ready, Said};
 ghost use Rattle.arguments.specs.Passed.{Passes, opened, shut};
-ghost use Rattle.selections.specs.Selections.{namesFragment, selectionSetStack, selectionStack, bodyStack, fieldStack, aliasStack, fieldRestStack, spreadStack, fieldBegun, spreadBegun, HeadSaid};
+ghost use Rattle.selections.specs.Selections.{namesFragment, selectionSetStack, selectionStack, bodyStack, fieldStack, fieldRestStack, spreadStack, spreadBegun, AliasSaid, HeadSaid};
 
 // Field up to its selection set, at its first name: Alias? Name Arguments? Directives?
 fn field_head(s: &[u8], rows: &mut [u32], c: Cursor, parent: u32, left: u32) -> Read
@@ -51,7 +51,7 @@ fn field_head(s: &[u8], rows: &mut [u32], c: Cursor, parent: u32, left: u32) -> 
 // The same from the colon of its alias on; row n begins at `start`
 fn aliased(s: &[u8], rows: &mut [u32], c: Cursor, parent: u32, left: u32, n: u32, start: u32) -> Read
     requires { ⌜ Ready (now s) (now rows) c n × (c .kind ≡ 10) × (c .rows ≡ n + 1) ⌝ }
-    ensures { λ r. ⌜ (m z : ℕ) → Passes 1 (now (s .entry)) (fieldBegun (now (rows .entry)) n start parent m z) (now (rows .exit)) c n left (opened n) (opened n) aliasStack [] r ⌝ }
+    ensures { λ r. ⌜ AliasSaid (now (s .entry)) (now (rows .entry)) (now (rows .exit)) c parent left n start r ⌝ }
 {
     let r = c.past(s, n + 1);
     let Read::Done(name) = r else {
