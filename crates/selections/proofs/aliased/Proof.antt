@@ -1,3 +1,5 @@
+use Rattle.arguments.proofs.Onward.{ready-past, next-order, next-past}
+use Rattle.selections.proofs.FieldLaws.{alias-bad, alias-name, alias-nameless, alias-bad-behind, alias-ready, alias-said}
 use borrow.Author.Needs.{needs}
 use Rattle.selections.proofs.aliased.Statement.{statement}
 use Rattle.selections.proofs.aliased.Tie as tie
@@ -14,7 +16,7 @@ add-past c = search needs
 
 -- src/lib.rt:56:9
 past-requires : tie.Need-past-requires
-past-requires c κs = ?
+past-requires c κs = ready-past _ _ _ _ (c .before .before .pre .0)
 
 -- src/lib.rt:57:20
 enum-known-r : tie.Need-enum-known-r
@@ -26,7 +28,7 @@ enum-told c = search needs
 
 -- src/lib.rt:58:9
 returns : tie.Need-returns
-returns c = ?
+returns c = rw (c .enum-told .given .1) (alias-bad _ _ _ (c .before .before .before .before .before .args .parent) (c .before .before .before .before .before .args .left) _ (c .before .before .before .before .before .args .start) (c .before .before .before .before .before .pre .0) (c .before .before .before .before .before .pre .1) (c .before .before .before .before .before .pre .2) _ (c .before .before .past .ensures) (c .before .before .before .before .before .args .rows .now) _ (c .enum-told .given .1))
 
 -- src/lib.rt:61:9
 no-going-requires : tie.Need-no-going-requires
@@ -34,11 +36,11 @@ no-going-requires c κs = search needs
 
 -- src/lib.rt:61:9
 returns-2 : tie.Need-returns-2
-returns-2 c = ?
+returns-2 c = rw (c .no-going .ensures) (alias-nameless _ _ _ (c .before .before .before .before .before .before .before .before .before .args .parent) (c .before .before .before .before .before .before .before .before .before .args .left) _ (c .before .before .before .before .before .before .before .before .before .args .start) (c .before .before .before .before .before .before .before .before .before .pre .0) (c .before .before .before .before .before .before .before .before .before .pre .1) (c .before .before .before .before .before .before .before .before .before .pre .2) _ (c .before .before .before .before .before .before .past .ensures) _ (c .before .before .before .before .r .given .1) (c .before .if1 .taken) (c .before .before .before .before .before .before .before .before .before .args .rows .now))
 
 -- src/lib.rt:63:64
 sub-put-row : tie.Need-sub-put-row
-sub-put-row c = ?
+sub-put-row c = next-order _ _ _ _ (alias-name _ _ _ 0 0 _ 0 (c .before .before .before .before .before .before .before .before .before .before .pre .0) (c .before .before .before .before .before .before .before .before .before .before .pre .1) (c .before .before .before .before .before .before .before .before .before .before .pre .2) _ (c .before .before .before .before .before .before .before .past .ensures) _ (c .before .before .before .before .before .r .given .1))
 
 -- src/lib.rt:63:5
 put-row-requires : tie.Need-put-row-requires
@@ -50,7 +52,7 @@ add-past-2 c = search needs
 
 -- src/lib.rt:64:9
 past-requires-2 : tie.Need-past-requires-2
-past-requires-2 c κs = ?
+past-requires-2 c κs = (c .before .before .before .before .before .before .before .before .before .before .before .before .before .pre .0 .short, next-past _ _ _ _ (alias-name _ _ _ 0 0 _ 0 (c .before .before .before .before .before .before .before .before .before .before .before .before .before .pre .0) (c .before .before .before .before .before .before .before .before .before .before .before .before .before .pre .1) (c .before .before .before .before .before .before .before .before .before .before .before .before .before .pre .2) _ (c .before .before .before .before .before .before .before .before .before .before .past .ensures) _ (c .before .before .before .before .before .before .before .before .r .given .1)))
 
 -- src/lib.rt:65:20
 enum-known-t : tie.Need-enum-known-t
@@ -66,11 +68,11 @@ same-length c = search needs
 
 -- src/lib.rt:66:9
 returns-3 : tie.Need-returns-3
-returns-3 c = ?
+returns-3 c = rw (c .enum-told2 .given .1) (alias-bad-behind _ _ _ (c .before .before .before .before .before .before .before .before .before .before .before .before .before .before .before .before .args .parent) (c .before .before .before .before .before .before .before .before .before .before .before .before .before .before .before .before .args .left) _ (c .before .before .before .before .before .before .before .before .before .before .before .before .before .before .before .before .args .start) (c .before .before .before .before .before .before .before .before .before .before .before .before .before .before .before .before .pre .0) (c .before .before .before .before .before .before .before .before .before .before .before .before .before .before .before .before .pre .1) (c .before .before .before .before .before .before .before .before .before .before .before .before .before .before .before .before .pre .2) _ (c .before .before .before .before .before .before .before .before .before .before .before .before .before .past .ensures) _ (c .before .before .before .before .before .before .before .before .before .before .before .r .given .1) (c .before .before .before .before .before .before .before .before .if1 .left) _ (c .before .before .before .before .before .put-row .ensures) _ (c .before .before .past2 .ensures) (c .before .before .before .before .before .before .before .before .before .before .before .before .before .before .before .before .args .rows .now) _ (c .enum-told2 .given .1))
 
 -- src/lib.rt:68:5
 field-rest-requires : tie.Need-field-rest-requires
-field-rest-requires c κs = ?
+field-rest-requires c κs = alias-ready _ _ _ (c .before .before .before .before .before .before .before .before .before .before .before .before .before .before .before .before .before .before .args .parent) (c .before .before .before .before .before .before .before .before .before .before .before .before .before .before .before .before .before .before .args .left) _ (c .before .before .before .before .before .before .before .before .before .before .before .before .before .before .before .before .before .before .args .start) (c .before .before .before .before .before .before .before .before .before .before .before .before .before .before .before .before .before .before .pre .0) (c .before .before .before .before .before .before .before .before .before .before .before .before .before .before .before .before .before .before .pre .1) (c .before .before .before .before .before .before .before .before .before .before .before .before .before .before .before .before .before .before .pre .2) _ (c .before .before .before .before .before .before .before .before .before .before .before .before .before .before .before .past .ensures) _ (c .before .before .before .before .before .before .before .before .before .before .before .before .before .r .given .1) (c .before .before .before .before .before .before .before .before .before .before .if1 .left) _ (c .before .before .before .before .before .before .before .put-row .ensures) _ (c .before .before .before .before .past2 .ensures) _ (c .before .before .t .given .1)
 
 -- src/lib.rt:52:1
 same-length-2 : tie.Need-same-length-2
@@ -78,7 +80,7 @@ same-length-2 c = search needs
 
 -- src/lib.rt:52:1
 returns-4 : tie.Need-returns-4
-returns-4 c = ?
+returns-4 c = alias-said _ _ _ (c .before .before .before .before .before .before .before .before .before .before .before .before .before .before .before .before .before .before .before .before .before .args .parent) (c .before .before .before .before .before .before .before .before .before .before .before .before .before .before .before .before .before .before .before .before .before .args .left) _ (c .before .before .before .before .before .before .before .before .before .before .before .before .before .before .before .before .before .before .before .before .before .args .start) (c .before .before .before .before .before .before .before .before .before .before .before .before .before .before .before .before .before .before .before .before .before .pre .0) (c .before .before .before .before .before .before .before .before .before .before .before .before .before .before .before .before .before .before .before .before .before .pre .1) (c .before .before .before .before .before .before .before .before .before .before .before .before .before .before .before .before .before .before .before .before .before .pre .2) _ (c .before .before .before .before .before .before .before .before .before .before .before .before .before .before .before .before .before .before .past .ensures) _ (c .before .before .before .before .before .before .before .before .before .before .before .before .before .before .before .before .r .given .1) (c .before .before .before .before .before .before .before .before .before .before .before .before .before .if1 .left) _ (c .before .before .before .before .before .before .before .before .before .before .put-row .ensures) _ (c .before .before .before .before .before .before .before .past2 .ensures) _ (c .before .before .before .before .before .t .given .1) _ (c .before .before .field-rest .result) (c .before .before .field-rest .ensures)
 
 pub aliased-spec : {M : Type 1} → statement M
 aliased-spec =

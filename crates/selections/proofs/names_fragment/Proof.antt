@@ -20,11 +20,11 @@ word-requires c κs = search needs
 
 -- src/lib.rt:208:9
 returns : tie.Need-returns
-returns c = names-when _ _ (c .before .before .before .if1 .taken) _ (c .word .ensures)
+returns c = names-when (c .before .before .before .before .before .before .args .s .now) (c .before .before .before .before .before .before .args .c) (c .before .before .before .if1 .taken) _ (c .word .ensures)
 
 -- src/lib.rt:203:1
 returns-2 : tie.Need-returns-2
-returns-2 c = names-no-name _ _ (c .if1 .left)
+returns-2 c = names-no-name (c .before .before .before .args .s .now) (c .before .before .before .args .c) (c .if1 .left)
 
 pub names-fragment-spec : {M : Type 1} → statement M
 names-fragment-spec = tie.close (tie.spec cast-word cast-word-2 word-requires returns returns-2)
