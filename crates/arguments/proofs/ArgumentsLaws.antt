@@ -1,13 +1,13 @@
 -- Arguments on the machine: each way in which their reader goes on or ends.
 use mathlib.Core.Path.{_≡_, refl, sym, ap, _∙_}
-use mathlib.Core.Bool.{Bool, true, false, not}
+use mathlib.Core.Bool.{false, not}
 use mathlib.Core.List.{List, [], _∷_, _++_, List·Memᴰ·head, List·Memᴰ·tail}
 use mathlib.Core.Logic.{_⊎_, inl, inr}
-use Prim.Native.Nat.{ℕ, suc, _+_, _-_, _≤_, _<_}
+use Prim.Native.Nat.{ℕ, suc, _+_, _-_, _≤_}
 use native.Mathlib.Omega.{arith}
 use lib.ListN.{length}
 use Rattle.paper.specs.Grammar.{nt, tm, act}
-use Rattle.paper.specs.Numbers.{mostText, mostRows, rowsSize}
+use Rattle.paper.specs.Numbers.{mostText, mostRows}
 use Rattle.paper.specs.Language.{language, the, parenL, parenR, colon, named, end, Name, Arguments?, Arguments, Argument+, Argument*, Argument, Value}
 use Rattle.paper.specs.Rows.{top}
 use Rattle.paper.specs.Sizes.{Counts, overCounts}
@@ -23,11 +23,11 @@ use Rattle.reader.specs.declared.Read.{Read}
 use Rattle.reader.specs.declared.Read.the-variants.{Done, Refused}
 use Rattle.reader.specs.Reader.{Looks, movedTo, at, Ready, Went, Halts, Said}
 use Rattle.reader.proofs.Steps.{first, null, refuse, lacks, opening, closing, too-deep, is, not-is, refuses, refusesEnd}
-use Rattle.reader.proofs.Cells.{put, row-opens, name-told}
+use Rattle.reader.proofs.Cells.{row-opens, name-told}
 use Rattle.values.specs.Stacks.{entryStack}
 use Rattle.arguments.specs.Arguments.{argumentsStack}
 use Rattle.arguments.specs.Passed.{Passed, shut}
-use Rattle.arguments.proofs.Onward.{Next, lies, next, next-at, next-halts, name-lacks, same, said-went, said-halts}
+use Rattle.arguments.proofs.Onward.{lies, next, next-at, next-halts, name-lacks, same, said-went, said-halts}
 
 -- what is left of arguments where one is to be read
 abbrev pub oneMore : Stack

@@ -1,13 +1,12 @@
 -- A type condition on the machine: each way in which its reader goes on or ends.
 use mathlib.Core.Path.{_≡_, refl, sym, ap, _∙_}
-use mathlib.Core.Bool.{Bool, true, false, not, _&&_}
-use mathlib.Core.List.{List, [], _∷_, _++_, List·Memᴰ·head, List·Memᴰ·tail}
-use mathlib.Core.Logic.{_⊎_, inl, inr}
-use Prim.Native.Nat.{ℕ, suc, _+_, _-_, _*_, _≤_, _<_}
+use mathlib.Core.Bool.{false, not}
+use mathlib.Core.List.{List, _∷_, List·Memᴰ·head}
+use Prim.Native.Nat.{ℕ, _+_, _-_}
 use native.Mathlib.Omega.{arith}
 use lib.ListN.{length}
-use Rattle.paper.specs.Grammar.{nt, tm, act}
-use Rattle.paper.specs.Numbers.{mostText, mostRows, rowsSize}
+use Rattle.paper.specs.Grammar.{nt, act}
+use Rattle.paper.specs.Numbers.{mostRows}
 use Rattle.paper.specs.Rows.{top}
 use Rattle.paper.specs.Sizes.{Counts, overCounts}
 use Rattle.paper.specs.declared.Refusal.{Refusal}
@@ -15,13 +14,13 @@ use Rattle.paper.specs.declared.Refusal.the-variants.{NoGoing, TooManyRows}
 use Rattle.paper.proofs.Lexing.{from}
 use Rattle.paper.proofs.Machine.{choose}
 use Rattle.paper.proofs.Tables.{factored}
-use Rattle.paper.proofs.Going.{Stack, st, Out, halt, go}
+use Rattle.paper.proofs.Going.{Stack, st, go}
 use Rattle.tokens.specs.Head.{headOf}
 use Rattle.reader.specs.declared.Cursor.{Cursor}
 use Rattle.reader.specs.declared.Read.{Read}
 use Rattle.reader.specs.declared.Read.the-variants.{Done, Refused}
-use Rattle.reader.specs.Reader.{Looks, movedTo, at, Ready, Went, Halts, Said}
-use Rattle.paper.specs.Language.{language, the, anyName, n-on, row, kind, named, end, Name, NamedType, TypeCondition}
+use Rattle.reader.specs.Reader.{movedTo, at, Ready, Went, Halts, Said}
+use Rattle.paper.specs.Language.{language, the, anyName, n-on, row, kind, end, Name, NamedType, TypeCondition}
 use Rattle.reader.proofs.Steps.{first, refuse, too-many-rows, is, not-is, refuses, refusesEnd}
 use Rattle.reader.proofs.Cells.{put, put-length, row-ends}
 use Rattle.arguments.specs.Arguments.{AtOn, conditionStack}

@@ -1,9 +1,9 @@
 -- Directives on the machine: each way in which their readers go on or end.
 use mathlib.Core.Path.{_≡_, refl, sym, ap, _∙_}
-use mathlib.Core.Bool.{Bool, true, false, not, _&&_}
-use mathlib.Core.List.{List, [], _∷_, _++_, List·Memᴰ·head, List·Memᴰ·tail}
+use mathlib.Core.Bool.{false, not}
+use mathlib.Core.List.{List, [], _∷_, List·Memᴰ·head, List·Memᴰ·tail}
 use mathlib.Core.Logic.{_⊎_, inl, inr}
-use Prim.Native.Nat.{ℕ, suc, _+_, _-_, _*_, _≤_, _<_}
+use Prim.Native.Nat.{ℕ, _+_, _-_, _*_, _≤_, _<_}
 use native.Mathlib.Omega.{arith}
 use lib.ListN.{length, set, length-set}
 use Rattle.paper.specs.Grammar.{nt, tm, act}
@@ -15,13 +15,13 @@ use Rattle.paper.specs.declared.Refusal.the-variants.{NoGoing, TooManyRows}
 use Rattle.paper.proofs.Lexing.{from}
 use Rattle.paper.proofs.Machine.{choose}
 use Rattle.paper.proofs.Tables.{factored}
-use Rattle.paper.proofs.Going.{Stack, st, Out, halt, go}
+use Rattle.paper.proofs.Going.{Stack, st, Out, go}
 use Rattle.tokens.specs.Head.{headOf}
 use Rattle.reader.specs.declared.Cursor.{Cursor}
 use Rattle.reader.specs.declared.Read.{Read}
 use Rattle.reader.specs.declared.Read.the-variants.{Done, Refused}
 use Rattle.reader.specs.Reader.{Looks, movedTo, at, Ready, Went, Halts, Said}
-use Rattle.paper.specs.Language.{language, the, atSign, row, kind, named, end, Name, Arguments?, Directives?, Directives, Directive+, Directive*, Directive}
+use Rattle.paper.specs.Language.{language, the, atSign, kind, named, end, Name, Arguments?, Directives?, Directives, Directive+, Directive*, Directive}
 use Rattle.reader.proofs.Steps.{first, null, plain, too-many-rows, is, not-is}
 use Rattle.reader.proofs.Cells.{put, put-length, ends-row}
 use Rattle.arguments.specs.Arguments.{argumentsStack, directiveStack, directivesStack}

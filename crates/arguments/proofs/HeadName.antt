@@ -3,7 +3,7 @@ use mathlib.Core.Path.{_≡_}
 use mathlib.Core.List.{List}
 use Prim.Native.Nat.{ℕ, _-_, _≤_}
 use lib.ListN.{length, take, drop}
-use Rattle.paper.specs.Tokens.{Text, token, nameClass}
+use Rattle.paper.specs.Tokens.{token, nameClass}
 use Rattle.paper.proofs.Lexing.{from}
 use Rattle.tokens.specs.Head.{headOf}
 use Rattle.tokens.specs.declared.TokenRead.the-variants.{Token}

@@ -1,26 +1,26 @@
 -- From a token taken to the next one: the cursor past it, or the bytes that are none; and names, which most readers meet.
 use mathlib.Core.Path.{_≡_, refl, sym, ap, _∙_, subst}
 use mathlib.Core.Bool.{Bool, true, false, not}
-use mathlib.Core.List.{List, [], _∷_, _++_, List·Memᴰ, List·Memᴰ·head, List·Memᴰ·tail}
-use Prim.Native.Nat.{ℕ, zero, suc, _+_, _-_, _*_, _≤_, _<_}
+use mathlib.Core.List.{List, _∷_, _++_, List·Memᴰ·head}
+use Prim.Native.Nat.{ℕ, suc, _+_, _-_, _≤_, _<_}
 use mathlib.Core.Logic.{_⊎_, inl, inr}
 use native.Mathlib.Omega.{arith}
-use lib.Dec.{T, eqb}
+use lib.Dec.{eqb}
 use borrow.Author.Tests.{eqb-true, eqb-false}
 use lib.ListN.{length}
-use Rattle.paper.specs.Grammar.{nt, tm, act}
+use Rattle.paper.specs.Grammar.{nt, act}
 use Rattle.paper.specs.Numbers.{mostText, mostRows, rowsSize}
 use Rattle.paper.specs.Language.{anyName, Name, language, row, kind, named}
 use Rattle.paper.specs.Rows.{top}
 use Rattle.paper.specs.Tokens.{Text, over, bad, token}
 use Rattle.paper.specs.Sizes.{Counts, kinded, overCounts}
 use Rattle.paper.specs.declared.Refusal.{Refusal}
-use Rattle.paper.specs.declared.Refusal.the-variants.{NoToken, NoGoing, TooManyRows}
+use Rattle.paper.specs.declared.Refusal.the-variants.{NoGoing}
 use Rattle.paper.proofs.Lexing.{from}
 use Rattle.paper.proofs.Machine.{choose}
-use Rattle.paper.proofs.Tables.{graphql, factored}
-use Rattle.paper.proofs.Going.{Stack, State, st, Out, halt, go, startIn, stopIn}
-use Rattle.tokens.specs.Head.{headOf, kindOf}
+use Rattle.paper.proofs.Tables.{factored}
+use Rattle.paper.proofs.Going.{Stack, State, st, halt, go, startIn, stopIn}
+use Rattle.tokens.specs.Head.{headOf}
 use Rattle.tokens.specs.declared.TokenRead.{TokenRead}
 use Rattle.tokens.specs.declared.TokenRead.the-variants.{Token, Bad}
 use Rattle.reader.specs.declared.Cursor.{Cursor}

@@ -3,14 +3,14 @@ use mathlib.Core.Path.{_≡_, refl, sym, ap, _∙_, subst}
 use mathlib.Core.Bool.{Bool, true, false, not, _&&_}
 use mathlib.Core.List.{List, _∷_, _++_, List·Memᴰ}
 use mathlib.Core.Option.{some}
-use Prim.Native.Nat.{ℕ, _-_, _≤_}
+use Prim.Native.Nat.{ℕ, _≤_}
 use lib.Dec.{T}
 use lib.ListN.{length}
 use borrow.Author.Tests.{le-ltb, ne-eqb}
 use Rattle.paper.specs.Grammar.{nt, tm}
 use Rattle.paper.specs.Numbers.{mostRows}
 use Rattle.paper.specs.Language.{Class, numC, Terminal, hits, Part}
-use Rattle.paper.specs.Tokens.{Tok, Text, token, nameClass}
+use Rattle.paper.specs.Tokens.{Text, token, nameClass}
 use Rattle.paper.specs.Sizes.{Counts, opens, closes, overCounts}
 use Rattle.paper.proofs.Lexing.{from}
 use Rattle.paper.proofs.Machine.{fst, step}
@@ -20,7 +20,6 @@ use Rattle.paper.proofs.Tables.{graphql, factored, allC, atC}
 use Rattle.paper.proofs.Checked.{fits}
 use Rattle.paper.proofs.Going.{Stack, State, st, Out, go, goes}
 use Rattle.tokens.specs.Head.{headOf, kindOf, wordOf, wordNumber}
-use Rattle.tokens.specs.declared.TokenRead.{TokenRead}
 use Rattle.tokens.specs.declared.TokenRead.the-variants.{Token}
 use Rattle.reader.specs.declared.Cursor.{Cursor}
 use Rattle.reader.specs.Reader.{Looks}

@@ -7,7 +7,6 @@ use lib.ListN.{length}
 use Rattle.paper.specs.Numbers.{mostRows, rowsSize}
 use Rattle.paper.specs.Rows.{top}
 use Rattle.paper.specs.Sizes.{Counts, overCounts}
-use Rattle.paper.specs.declared.Refusal.{Refusal}
 use Rattle.paper.proofs.Going.{Stack, halt}
 use Rattle.reader.specs.declared.Cursor.{Cursor}
 use Rattle.reader.specs.declared.Read.{Read}

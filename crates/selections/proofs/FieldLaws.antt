@@ -1,32 +1,31 @@
 -- Fields on the machine: each way in which their readers go on or end.
 use mathlib.Core.Path.{_≡_, refl, sym, ap, _∙_, subst}
-use mathlib.Core.Bool.{Bool, true, false, not}
+use mathlib.Core.Bool.{false, not}
 use mathlib.Core.List.{List, [], _∷_, _++_, List·Memᴰ·head, List·Memᴰ·tail}
-use mathlib.Core.Logic.{_⊎_, inl, inr}
-use Prim.Native.Nat.{ℕ, suc, _+_, _-_, _*_, _≤_, _<_}
+use Prim.Native.Nat.{ℕ, _+_, _-_, _*_, _≤_, _<_}
 use native.Mathlib.Omega.{arith}
 use lib.ListN.{length, set, length-set}
-use Rattle.paper.specs.Grammar.{nt, tm, act}
+use Rattle.paper.specs.Grammar.{nt, act}
 use Rattle.paper.specs.Numbers.{mostText, mostRows, rowsSize}
 use Rattle.paper.specs.Rows.{top}
 use Rattle.paper.specs.Sizes.{Counts, overCounts}
 use Rattle.paper.specs.declared.Refusal.{Refusal}
-use Rattle.paper.specs.declared.Refusal.the-variants.{NoGoing, TooDeep, TooManyRows}
+use Rattle.paper.specs.declared.Refusal.the-variants.{NoGoing, TooManyRows}
 use Rattle.paper.proofs.Lexing.{from}
 use Rattle.paper.proofs.Machine.{choose}
 use Rattle.paper.proofs.Tables.{factored}
-use Rattle.paper.proofs.Going.{Stack, st, Out, halt, go}
+use Rattle.paper.proofs.Going.{Stack, st, go}
 use Rattle.tokens.specs.Head.{headOf}
 use Rattle.reader.specs.declared.Cursor.{Cursor}
 use Rattle.reader.specs.declared.Read.{Read}
 use Rattle.reader.specs.declared.Read.the-variants.{Done, Refused}
-use Rattle.reader.specs.Reader.{Looks, movedTo, at, Ready, Went, Halts, Said}
-use Rattle.paper.specs.Language.{language, the, anyName, colon, row, kind, named, end, Name, Field, AliasRest, Arguments?, Directives?, SelectionSet?, SelectionSet, Selection}
+use Rattle.reader.specs.Reader.{movedTo, at, Ready, Went, Halts, Said}
+use Rattle.paper.specs.Language.{language, the, anyName, colon, kind, named, end, Name, Field, AliasRest, Arguments?, Directives?, SelectionSet?, Selection}
 use Rattle.reader.proofs.Steps.{first, null, plain, too-many-rows, is, not-is}
-use Rattle.reader.proofs.Cells.{put, put-length, ends-row}
+use Rattle.reader.proofs.Cells.{put-length, ends-row}
 use Rattle.arguments.specs.Arguments.{argumentsStack, directivesStack}
 use Rattle.arguments.specs.Passed.{Passed, Passes, opened, shut}
-use Rattle.arguments.proofs.Onward.{Next, lies, has-bytes, next, next-at, next-halts, name-taken, name-lacks, said-went, said-halts, passes-went, passes-halts, opened-row, named-row}
+use Rattle.arguments.proofs.Onward.{Next, lies, has-bytes, next, next-at, next-halts, name-taken, name-lacks, said-went, said-halts, opened-row, named-row}
 use Rattle.selections.specs.Selections.{selectionStack, bodyStack, fieldStack, aliasStack, fieldRestStack, fieldEndStack, fieldBegun, AliasSaid, HeadSaid}
 
 -- ARGUMENTS, THEN DIRECTIVES, of the row n

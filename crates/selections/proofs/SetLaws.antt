@@ -1,17 +1,17 @@
 -- Selection sets on the machine: each way in which their reader goes on or ends.
 use mathlib.Core.Path.{_≡_, refl, sym, ap, _∙_}
-use mathlib.Core.Bool.{Bool, true, false, not, _&&_}
+use mathlib.Core.Bool.{false, not, _&&_}
 use mathlib.Core.List.{List, [], _∷_, _++_, List·Memᴰ·head, List·Memᴰ·tail}
 use mathlib.Core.Logic.{_⊎_, inl, inr}
-use Prim.Native.Nat.{ℕ, suc, _+_, _-_, _*_, _≤_, _<_}
+use Prim.Native.Nat.{ℕ, suc, _+_, _-_, _*_, _≤_}
 use native.Mathlib.Omega.{arith}
 use lib.ListN.{length, set, length-set}
 use Rattle.paper.specs.Grammar.{nt, tm, act}
-use Rattle.paper.specs.Numbers.{mostText, mostRows, rowsSize}
+use Rattle.paper.specs.Numbers.{mostText, mostRows}
 use Rattle.paper.specs.Rows.{top}
 use Rattle.paper.specs.Sizes.{Counts, overCounts}
 use Rattle.paper.specs.declared.Refusal.{Refusal}
-use Rattle.paper.specs.declared.Refusal.the-variants.{NoGoing, TooDeep, TooManyRows}
+use Rattle.paper.specs.declared.Refusal.the-variants.{NoGoing, TooDeep}
 use Rattle.paper.proofs.Lexing.{from}
 use Rattle.paper.proofs.Machine.{choose}
 use Rattle.paper.proofs.Tables.{factored}
@@ -21,11 +21,11 @@ use Rattle.reader.specs.declared.Cursor.{Cursor}
 use Rattle.reader.specs.declared.Read.{Read}
 use Rattle.reader.specs.declared.Read.the-variants.{Done, Refused}
 use Rattle.reader.specs.Reader.{Looks, movedTo, at, Ready, Went, Halts, Said}
-use Rattle.paper.specs.Language.{language, the, braceL, braceR, row, end, SelectionSet, Selection+, Selection*, Selection, Field, SpreadRest}
+use Rattle.paper.specs.Language.{language, the, braceL, braceR, end, SelectionSet, Selection+, Selection*, Selection}
 use Rattle.reader.proofs.Steps.{first, null, refuse, lacks, opening, closing, too-deep, is, not-is, not-two, refuses, refusesEnd}
 use Rattle.reader.proofs.Cells.{ends-row}
-use Rattle.arguments.specs.Passed.{Passed, Passes, opened, shut}
-use Rattle.arguments.proofs.Onward.{Next, lies, has-bytes, next, next-at, next-halts, same, said-went, said-halts}
+use Rattle.arguments.specs.Passed.{Passed, opened, shut}
+use Rattle.arguments.proofs.Onward.{lies, has-bytes, next, next-at, next-halts, same, said-went, said-halts}
 use Rattle.selections.specs.Selections.{selectionSetStack, selectionStack, bodyStack}
 
 -- what is left of a set where a selection is to be read

@@ -3,28 +3,28 @@ use mathlib.Core.Path.{_≡_, refl, sym, ap, _∙_, subst}
 use mathlib.Core.Bool.{Bool, true, false, not, _&&_}
 use mathlib.Core.List.{List, [], _∷_, _++_, List·Memᴰ·head, List·Memᴰ·tail}
 use mathlib.Core.Logic.{_⊎_, inl, inr}
-use Prim.Native.Nat.{ℕ, suc, _+_, _-_, _*_, _≤_, _<_}
+use Prim.Native.Nat.{ℕ, _+_, _-_, _*_, _≤_, _<_}
 use native.Mathlib.Omega.{arith}
 use lib.Dec.{T, eqb, eqb→eq}
 use borrow.Author.Tests.{eqb-true, eq-eqb, ne-eqb}
 use lib.ListN.{length, set, length-set}
 use Rattle.paper.specs.Grammar.{nt, tm, act}
-use Rattle.paper.specs.Numbers.{mostText, mostRows, rowsSize}
+use Rattle.paper.specs.Numbers.{mostRows}
 use Rattle.paper.specs.Rows.{top}
 use Rattle.paper.specs.Sizes.{Counts, overCounts}
 use Rattle.paper.specs.declared.Refusal.{Refusal}
-use Rattle.paper.specs.declared.Refusal.the-variants.{NoGoing, TooDeep, TooManyRows}
+use Rattle.paper.specs.declared.Refusal.the-variants.{TooManyRows}
 use Rattle.paper.proofs.Lexing.{from}
 use Rattle.paper.proofs.Machine.{choose}
 use Rattle.paper.proofs.Theory.{and-l, and-r, and-i}
 use Rattle.paper.proofs.Tables.{factored}
-use Rattle.paper.proofs.Going.{Stack, st, Out, halt, go}
+use Rattle.paper.proofs.Going.{Stack, st, go}
 use Rattle.tokens.specs.Head.{headOf}
 use Rattle.reader.specs.declared.Cursor.{Cursor}
 use Rattle.reader.specs.declared.Read.{Read}
 use Rattle.reader.specs.declared.Read.the-variants.{Done, Refused}
-use Rattle.reader.specs.Reader.{Looks, movedTo, at, Ready, Went, Halts, Said}
-use Rattle.paper.specs.Language.{language, the, spread, nameButOn, row, kind, named, end, Selection, SpreadRest, FragmentName, TypeCondition?, TypeCondition, Directives?, SelectionSet}
+use Rattle.reader.specs.Reader.{movedTo, at, Ready, Went, Halts, Said}
+use Rattle.paper.specs.Language.{language, the, spread, nameButOn, kind, named, end, Selection, SpreadRest, FragmentName, TypeCondition?, TypeCondition, Directives?}
 use Rattle.tokens.specs.Head.{wordOf}
 use Rattle.reader.proofs.Steps.{first, null, refuse, plain, too-many-rows, is, not-is, not-two, refuses, refusesEnd}
 use Rattle.reader.proofs.Cells.{put, put-length, row-begins, kind-told, ends-row}

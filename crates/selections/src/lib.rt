@@ -166,13 +166,13 @@ fn field(s: &[u8], rows: &mut [u32], c: Cursor, parent: u32, left: u32) -> Read
 {
     let n = c.rows;
     let r = field_head(s, rows, c, parent, left);
-    let Read::Done(d) = r else {
+    let Read::Done(head) = r else {
         return r;
     };
-    if d.kind == TOKEN_BRACE_OPEN {
-        return body(s, rows, d, n, left);
+    if head.kind == TOKEN_BRACE_OPEN {
+        return body(s, rows, head, n, left);
     }
-    put_end(rows, n, d.stop);
+    put_end(rows, n, head.stop);
     r
 }
 

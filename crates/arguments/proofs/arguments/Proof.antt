@@ -1,3 +1,4 @@
+-- `arguments` is the machine at Arguments: at each turn of its loop an argument is to be read.
 use Prim.Native.Nat.{_-_}
 use mathlib.Core.Path.{sym, _∙_}
 use native.Mathlib.Omega.{arith}
@@ -9,10 +10,6 @@ use Rattle.arguments.proofs.Onward.{ready-past, went-past, joined, unmo
 use Rattle.arguments.proofs.ArgumentsLaws.{oneMore, deep-said, bad-said, turn-first, turn-ready, turn-stops, turn-read, turn-more, turn-ends}
 use Rattle.arguments.proofs.arguments.Statement.{statement}
 use Rattle.arguments.proofs.arguments.Tie as tie
-use Rattle.arguments.proofs.arguments.Reads as reads
-use Rattle.arguments.proofs.arguments.Lts as lts
-use Rattle.reader.proofs.Cursor.past.Reads as past-reads
-use Rattle.values.proofs.entry.Reads as entry-reads
 
 abbrev Inv-loop : tie.InvT-loop
 Inv-loop s rows₀ parent left n d₀ rows d = Passed 0 s rows₀ rows d₀ d parent (left - 1) (left - 1) shut shut oneMore oneMore
@@ -20,7 +17,6 @@ Inv-loop s rows₀ parent left n d₀ rows d = Passed 0 s rows₀ rows d₀ d pa
 abbrev μ-loop : tie.MeasureT-loop
 μ-loop s rows₀ parent left n d₀ rows d = length s - d .stop
 
--- helpers
 begun : (c : tie.After-known-told Inv-loop μ-loop)
     → Passed 0 (c .before .before .before .before .before .before .before .args .s .now) (c .before .before .before .before .before .before .before .args .rows .now) (c .before .before .before .before .before .before .before .args .rows .now) (c .before .before .before .before .before .before .before .args .c) (c .before .r .given .0 .0) (c .before .before .before .before .before .before .before .args .parent) (c .before .before .before .before .before .before .before .args .left) (c .before .before .before .before .before .before .before .args .left - 1) shut shut argumentsStack oneMore
 begun c =
@@ -31,73 +27,54 @@ joint : (c : tie.At-loop Inv-loop μ-loop)
 joint c =
     joined _ _ _ _ _ _ _ _ _ _ _ _ _ _ _ (begun (c .before)) (c .loop .inv)
 
--- end of helpers
-
--- src/lib.rt:27:9
 returns : tie.Need-returns Inv-loop μ-loop
 returns c = deep-said _ _ _ _ _ (c .before .before .before .pre .0) (c .before .before .before .pre .1) (c .if1 .taken)
 
--- src/lib.rt:30:9
 past-requires : tie.Need-past-requires Inv-loop μ-loop
 past-requires c κs = ready-past _ _ _ _ (c .before .before .before .pre .0)
 
--- src/lib.rt:31:20
 enum-known-r : tie.Need-enum-known-r Inv-loop μ-loop
 enum-known-r c = search needs
 
--- src/lib.rt:32:9
 enum-told : tie.Need-enum-told Inv-loop μ-loop
 enum-told c = search needs
 
--- src/lib.rt:32:9
 returns-2 : tie.Need-returns-2 Inv-loop μ-loop
 returns-2 c = rw (c .enum-told .given .1) (bad-said _ _ _ _ _ (c .before .before .before .before .before .before .pre .0) (c .before .before .before .before .before .before .pre .1) (c .before .before .before .if1 .left) _ (c .before .before .past .ensures) _ (c .enum-told .given .1))
 
--- src/lib.rt:35:5
 loop-holds : tie.Need-loop-holds Inv-loop μ-loop
 loop-holds c = let b = begun c in unmoved _ _ _ _ _ _ (b .size) (b .within) (b .few) (b .looks)
 
--- src/lib.rt:36:43
 sub-entry : tie.Need-sub-entry Inv-loop μ-loop
 sub-entry c = search needs
 
--- src/lib.rt:36:13
 entry-requires : tie.Need-entry-requires Inv-loop μ-loop
 entry-requires c κs = turn-ready _ _ _ _ _ _ _ _ _ (c .before .loop .inv) (c .before .before .before .before .before .before .before .before .before .pre .0 .short) (c .before .before .before .before .before .before .before .before .before .pre .0 .below)
 
--- src/lib.rt:37:24
 enum-known-t : tie.Need-enum-known-t Inv-loop μ-loop
 enum-known-t c = search needs
 
--- src/lib.rt:38:13
 enum-told-2 : tie.Need-enum-told-2 Inv-loop μ-loop
 enum-told-2 c = search needs
 
--- src/lib.rt:38:13
 same-length : tie.Need-same-length Inv-loop μ-loop
 same-length c = search needs
 
--- src/lib.rt:38:13
 returns-3 : tie.Need-returns-3 Inv-loop μ-loop
 returns-3 c = rw (c .enum-told2 .given .1) (turn-stops _ _ _ _ _ _ _ _ _ (joint (c .before .before .before .before .before .before)) _ _ (c .before .before .before .before .entry .ensures) _ (c .enum-told2 .given .1))
 
--- src/lib.rt:42:13
 past-requires-2 : tie.Need-past-requires-2 Inv-loop μ-loop
 past-requires-2 c κs = (c .before .before .before .before .before .before .before .before .before .before .before .before .before .before .before .before .before .pre .0 .short, went-past _ _ _ _ _ _ _ _ _ (turn-read _ _ _ _ _ _ _ _ _ (c .before .before .before .before .before .before .before .before .before .loop .inv) _ _ (c .before .before .before .before .before .before .before .entry .ensures) _ (c .before .before .before .t .given .1)))
 
--- src/lib.rt:42:13
 same-length-2 : tie.Need-same-length-2 Inv-loop μ-loop
 same-length-2 c = let v = turn-read _ _ _ _ _ _ _ _ _ (c .before .before .before .before .before .before .before .before .before .before .loop .inv) _ _ (c .before .before .before .before .before .before .before .before .entry .ensures) _ (c .before .before .before .before .t .given .1) in v .size ∙ sym (c .before .before .before .before .before .before .before .before .before .before .before .before .before .before .before .before .before .before .pre .0 .size)
 
--- src/lib.rt:42:13
 returns-4 : tie.Need-returns-4 Inv-loop μ-loop
 returns-4 c = turn-ends _ _ _ _ _ _ _ _ _ (joint (c .before .before .before .before .before .before .before .before .before .before)) _ (c .before .before .before .before .before .before .before .before .entry .ensures) (c .before .before .before .before .t .given .1) (c .before .before .before .before .before .before .before .before .before .before .before .before .before .before .before .if1 .left) (c .before .if2 .taken) _ (c .past2 .ensures)
 
--- src/lib.rt:35:5
 loop-less : tie.Need-loop-less Inv-loop μ-loop
 loop-less c = let v = turn-read _ _ _ _ _ _ _ _ _ (c .before .before .before .before .before .before .before .before .before .loop .inv) _ _ (c .before .before .before .before .before .before .before .entry .ensures) _ (c .before .before .before .t .given .1) in omega (arith, v .on, v .within)
 
--- src/lib.rt:35:5
 loop-again : tie.Need-loop-again Inv-loop μ-loop
 loop-again c = turn-more _ _ _ _ _ _ _ _ _ (c .before .before .before .before .before .before .before .before .before .loop .inv) _ _ (c .before .before .before .before .before .before .before .entry .ensures) _ (c .before .before .before .t .given .1) (c .if2 .left)
 

@@ -1,63 +1,46 @@
+-- `condition` is the machine at TypeCondition.
 use Rattle.arguments.proofs.Onward.{ready-past, next-order, next-past}
 use Rattle.arguments.proofs.ConditionLaws.{condition-bad, condition-name, condition-nameless, condition-full, condition-said}
 use borrow.Author.Needs.{needs}
 use Rattle.arguments.proofs.condition.Statement.{statement}
 use Rattle.arguments.proofs.condition.Tie as tie
-use Rattle.arguments.proofs.condition.Reads as reads
-use Rattle.arguments.proofs.condition.Lts as lts
-use Rattle.reader.proofs.Cursor.past.Reads as past-reads
-use Rattle.reader.proofs.no_going.Reads as no-going-reads
-use Rattle.reader.proofs.put_row.Reads as put-row-reads
 
--- src/lib.rt:112:9
 past-requires : tie.Need-past-requires
 past-requires c κs = ready-past _ _ _ _ (c .before .before .pre .0)
 
--- src/lib.rt:113:20
 enum-known-r : tie.Need-enum-known-r
 enum-known-r c = search needs
 
--- src/lib.rt:114:9
 enum-told : tie.Need-enum-told
 enum-told c = search needs
 
--- src/lib.rt:114:9
 returns : tie.Need-returns
 returns c = rw (c .enum-told .given .1) (condition-bad _ _ _ _ _ (c .before .before .before .before .before .pre .0) (c .before .before .before .before .before .pre .1) _ (c .before .before .past .ensures) _ (c .enum-told .given .1))
 
--- src/lib.rt:117:9
 no-going-requires : tie.Need-no-going-requires
 no-going-requires c κs = search needs
 
--- src/lib.rt:117:9
 returns-2 : tie.Need-returns-2
 returns-2 c = rw (c .no-going .ensures) (condition-nameless _ _ _ _ _ (c .before .before .before .before .before .before .before .before .before .pre .0) (c .before .before .before .before .before .before .before .before .before .pre .1) _ (c .before .before .before .before .before .before .past .ensures) _ (c .before .before .before .before .r .given .1) (c .before .if1 .taken))
 
--- src/lib.rt:120:9
 returns-3 : tie.Need-returns-3
 returns-3 c = condition-full _ _ _ _ _ (c .before .before .before .before .before .before .before .before .before .pre .0) (c .before .before .before .before .before .before .before .before .before .pre .1) _ (c .before .before .before .before .before .before .past .ensures) _ (c .before .before .before .before .r .given .1) (c .before .if1 .left) (c .if2 .taken)
 
--- src/lib.rt:122:85
 sub-put-row : tie.Need-sub-put-row
 sub-put-row c = next-order _ _ _ _ (condition-name _ _ _ _ 0 (c .before .before .before .before .before .before .before .before .before .before .before .pre .0) (c .before .before .before .before .before .before .before .before .before .before .before .pre .1) _ (c .before .before .before .before .before .before .before .before .past .ensures) _ (c .before .before .before .before .before .before .r .given .1))
 
--- src/lib.rt:122:5
 put-row-requires : tie.Need-put-row-requires
 put-row-requires c κs = search needs
 
--- src/lib.rt:123:18
 add-past : tie.Need-add-past
 add-past c = search needs
 
--- src/lib.rt:123:5
 past-requires-2 : tie.Need-past-requires-2
 past-requires-2 c κs = (c .before .before .before .before .before .before .before .before .before .before .before .before .before .before .pre .0 .short, next-past _ _ _ _ (condition-name _ _ _ _ 0 (c .before .before .before .before .before .before .before .before .before .before .before .before .before .before .pre .0) (c .before .before .before .before .before .before .before .before .before .before .before .before .before .before .pre .1) _ (c .before .before .before .before .before .before .before .before .before .before .before .past .ensures) _ (c .before .before .before .before .before .before .before .before .before .r .given .1)))
 
--- src/lib.rt:107:1
 same-length : tie.Need-same-length
 same-length c = search needs
 
--- src/lib.rt:107:1
 returns-4 : tie.Need-returns-4
 returns-4 c = condition-said _ _ _ _ _ (c .before .before .before .before .before .before .before .before .before .before .before .before .before .before .before .pre .0) (c .before .before .before .before .before .before .before .before .before .before .before .before .before .before .before .pre .1) _ (c .before .before .before .before .before .before .before .before .before .before .before .before .past .ensures) _ (c .before .before .before .before .before .before .before .before .before .before .r .given .1) (c .before .before .before .before .before .before .before .if1 .left) (c .before .before .before .before .before .before .if2 .left) _ (c .before .before .before .put-row .ensures) _ (c .past2 .ensures)
 

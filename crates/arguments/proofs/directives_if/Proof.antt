@@ -1,3 +1,4 @@
+-- `directives_if` is the machine at Directives or nothing: at each turn of its loop one more is to be read, or none.
 use mathlib.Core.Path.{sym, _∙_}
 use Prim.Native.Nat.{_-_}
 use native.Mathlib.Omega.{arith}
@@ -8,9 +9,6 @@ use Rattle.arguments.specs.Passed.{Passed, shut}
 use Rattle.arguments.proofs.DirectivesLaws.{someMore, turn-first, turn-ready, turn-ends, turn-stops, turn-read, turn-more}
 use Rattle.arguments.proofs.directives_if.Statement.{statement}
 use Rattle.arguments.proofs.directives_if.Tie as tie
-use Rattle.arguments.proofs.directives_if.Reads as reads
-use Rattle.arguments.proofs.directives_if.Lts as lts
-use Rattle.arguments.proofs.directive.Reads as directive-reads
 
 abbrev Inv-loop : tie.InvT-loop
 Inv-loop s rows₀ parent left d₀ rows d = Passed 0 s rows₀ rows d₀ d parent left left shut shut directivesStack someMore
@@ -18,43 +16,33 @@ Inv-loop s rows₀ parent left d₀ rows d = Passed 0 s rows₀ rows d₀ d pare
 abbrev μ-loop : tie.MeasureT-loop
 μ-loop s rows₀ parent left d₀ rows d = length s - d .stop
 
--- src/lib.rt:94:5
 loop-holds : tie.Need-loop-holds Inv-loop μ-loop
 loop-holds c = turn-first _ _ _ _ _ (c .before .before .pre)
 
--- src/lib.rt:96:13
 same-length : tie.Need-same-length Inv-loop μ-loop
 same-length c = c .before .before .loop .inv .size ∙ sym (c .before .before .before .before .before .pre .size)
 
--- src/lib.rt:96:13
 returns : tie.Need-returns Inv-loop μ-loop
 returns c = turn-ends _ _ _ _ _ _ _ (c .before .before .loop .inv) (c .if1 .taken)
 
--- src/lib.rt:98:13
 directive-requires : tie.Need-directive-requires Inv-loop μ-loop
 directive-requires c κs = (turn-ready _ _ _ _ _ _ _ (c .before .before .before .loop .inv) (c .before .before .before .before .before .before .pre .short) (c .before .before .before .before .before .before .pre .below), c .before .if1 .left)
 
--- src/lib.rt:99:24
 enum-known-r : tie.Need-enum-known-r Inv-loop μ-loop
 enum-known-r c = search needs
 
--- src/lib.rt:100:13
 enum-told : tie.Need-enum-told Inv-loop μ-loop
 enum-told c = search needs
 
--- src/lib.rt:100:13
 same-length-2 : tie.Need-same-length-2 Inv-loop μ-loop
 same-length-2 c = search needs
 
--- src/lib.rt:100:13
 returns-2 : tie.Need-returns-2 Inv-loop μ-loop
 returns-2 c = rw (c .enum-told .given .1) (turn-stops _ _ _ _ _ _ _ (c .before .before .before .before .before .before .before .before .loop .inv) (c .before .before .before .before .before .before .if1 .left) _ _ (c .before .before .before .before .directive .ensures) _ (c .enum-told .given .1))
 
--- src/lib.rt:94:5
 loop-less : tie.Need-loop-less Inv-loop μ-loop
 loop-less c = let v = turn-read _ _ _ _ _ _ _ (c .before .before .before .before .before .before .before .before .before .loop .inv) (c .before .before .before .before .before .before .before .if1 .left) _ _ (c .before .before .before .before .before .directive .ensures) _ (c .before .r .given .1) in omega (arith, v .on, v .within)
 
--- src/lib.rt:94:5
 loop-again : tie.Need-loop-again Inv-loop μ-loop
 loop-again c = turn-more _ _ _ _ _ _ _ (c .before .before .before .before .before .before .before .before .before .loop .inv) (c .before .before .before .before .before .before .before .if1 .left) _ _ (c .before .before .before .before .before .directive .ensures) _ (c .before .r .given .1)
 

@@ -1,3 +1,5 @@
+-- The cycle of calls of selection sets is the machine at SelectionSet: four times the levels left, and a constant for each function, fall at
+-- each call; at each turn of the loop a selection is to be read.
 use mathlib.Core.Path.{sym, _∙_}
 use Prim.Native.Nat.{ℕ, _+_, _-_, _*_, _<_}
 use native.Mathlib.Omega.{arith}
@@ -103,111 +105,84 @@ selection-set-calls t = (no-going-reads.Asked, no-going-reads.Learnt, past-reads
 abbrev spread-calls : ℕ → spread-lts.Claims
 spread-calls t = (past-reads.Asked, past-reads.Learnt, names-fragment-reads.Asked, names-fragment-reads.Learnt, named-spread-reads.Asked, named-spread-reads.Learnt, inline-head-reads.Asked, inline-head-reads.Learnt, body-below t, body.Post)
 
--- src/lib.rt:218:9
 body-selection-set-requires : (t : ℕ) → body-lts.Need-selection-set-requires (body-calls t) (body-at t) body.Post
 body-selection-set-requires t c κs = (omega (arith, c .before .before .before .pre .0), c .before .before .before .pre .1 .0)
 
--- src/lib.rt:219:20
 body-enum-known-r : (t : ℕ) → body-lts.Need-enum-known-r (body-calls t) (body-at t) body.Post
 body-enum-known-r t c = search needs
 
--- src/lib.rt:220:9
 body-enum-told : (t : ℕ) → body-lts.Need-enum-told (body-calls t) (body-at t) body.Post
 body-enum-told t c = search needs
 
--- src/lib.rt:220:9
 body-same-length : (t : ℕ) → body-lts.Need-same-length (body-calls t) (body-at t) body.Post
 body-same-length t c = search needs
 
--- src/lib.rt:220:9
 body-returns : (t : ℕ) → body-lts.Need-returns (body-calls t) (body-at t) body.Post
 body-returns t c = rw (c .enum-told .given .1) (body-stops _ _ _ _ _ _ _ (c .before .before .before .before .selection-set .ensures) _ (c .enum-told .given .1))
 
--- src/lib.rt:222:5
 body-put-end-requires : (t : ℕ) → body-lts.Need-put-end-requires (body-calls t) (body-at t) body.Post
 body-put-end-requires t c κs = (c .before .before .before .before .before .before .before .before .before .before .pre .1 .1, body-read _ _ _ _ _ _ _ (c .before .before .before .before .before .before .selection-set .ensures) _ (c .before .before .r .given .1) .size)
 
--- src/lib.rt:214:1
 body-same-length-2 : (t : ℕ) → body-lts.Need-same-length-2 (body-calls t) (body-at t) body.Post
 body-same-length-2 t c = search needs
 
--- src/lib.rt:214:1
 body-returns-2 : (t : ℕ) → body-lts.Need-returns-2 (body-calls t) (body-at t) body.Post
 body-returns-2 t c = body-ends _ _ _ _ _ _ _ (c .before .before .before .before .before .before .before .before .before .selection-set .ensures) _ (c .before .before .before .before .before .r .given .1) _ (c .before .before .put-end .ensures)
 
--- src/lib.rt:168:9
 field-field-head-requires : (t : ℕ) → field-lts.Need-field-head-requires (field-calls t) (field-at t) field.Post
 field-field-head-requires t c κs = c .before .before .before .pre .1
 
--- src/lib.rt:169:20
 field-enum-known-r : (t : ℕ) → field-lts.Need-enum-known-r (field-calls t) (field-at t) field.Post
 field-enum-known-r t c = search needs
 
--- src/lib.rt:170:9
 field-enum-told : (t : ℕ) → field-lts.Need-enum-told (field-calls t) (field-at t) field.Post
 field-enum-told t c = search needs
 
--- src/lib.rt:170:9
 field-same-length : (t : ℕ) → field-lts.Need-same-length (field-calls t) (field-at t) field.Post
 field-same-length t c = search needs
 
--- src/lib.rt:170:9
 field-returns : (t : ℕ) → field-lts.Need-returns (field-calls t) (field-at t) field.Post
 field-returns t c = rw (c .enum-told .given .1) (field-stops _ _ _ _ _ _ _ (c .before .before .before .before .field-head .ensures) _ (c .enum-told .given .1))
 
--- src/lib.rt:173:9
 field-body-requires : (t : ℕ) → field-lts.Need-body-requires (field-calls t) (field-at t) field.Post
 field-body-requires t c κs = (omega (arith, c .before .before .before .before .before .before .before .before .before .before .before .before .pre .0), (field-ready _ _ _ _ _ _ _ (c .before .before .before .before .before .before .before .before .field-head .ensures) _ (c .before .before .before .before .r .given .1) (c .before .before .before .before .before .before .before .before .before .before .before .before .pre .1 .0 .short), field-read _ _ _ _ _ _ _ (c .before .before .before .before .before .before .before .before .field-head .ensures) _ (c .before .before .before .before .r .given .1) .0))
 
--- src/lib.rt:173:9
 field-same-length-2 : (t : ℕ) → field-lts.Need-same-length-2 (field-calls t) (field-at t) field.Post
 field-same-length-2 t c = search needs
 
--- src/lib.rt:173:9
 field-returns-2 : (t : ℕ) → field-lts.Need-returns-2 (field-calls t) (field-at t) field.Post
 field-returns-2 t c = field-set _ _ _ _ _ _ _ (c .before .before .before .before .before .before .before .before .before .before .before .field-head .ensures) _ (c .before .before .before .before .before .before .before .r .given .1) (c .before .before .before .before .if1 .taken) _ (c .before .before .body .result) (c .before .before .body .ensures)
 
--- src/lib.rt:175:5
 field-put-end-requires : (t : ℕ) → field-lts.Need-put-end-requires (field-calls t) (field-at t) field.Post
 field-put-end-requires t c κs = (field-read _ _ _ _ _ _ _ (c .before .before .before .before .before .before .before .before .field-head .ensures) _ (c .before .before .before .before .r .given .1) .0, field-read _ _ _ _ _ _ _ (c .before .before .before .before .before .before .before .before .field-head .ensures) _ (c .before .before .before .before .r .given .1) .1 .size)
 
--- src/lib.rt:163:1
 field-same-length-3 : (t : ℕ) → field-lts.Need-same-length-3 (field-calls t) (field-at t) field.Post
 field-same-length-3 t c = search needs
 
--- src/lib.rt:163:1
 field-returns-3 : (t : ℕ) → field-lts.Need-returns-3 (field-calls t) (field-at t) field.Post
 field-returns-3 t c = field-ends _ _ _ _ _ _ _ (c .before .before .before .before .before .before .before .before .before .before .before .field-head .ensures) _ (c .before .before .before .before .before .before .before .r .given .1) (c .before .before .before .before .if1 .left) _ (c .before .before .put-end .ensures)
 
--- src/lib.rt:154:9
 selection-field-requires : (t : ℕ) → selection-lts.Need-field-requires (selection-calls t) (selection-at t) selection.Post
 selection-field-requires t c κs = (omega (arith, c .before .before .before .before .before .pre .0), (c .before .before .before .before .before .pre .1, c .before .if1 .taken))
 
--- src/lib.rt:154:9
 selection-same-length : (t : ℕ) → selection-lts.Need-same-length (selection-calls t) (selection-at t) selection.Post
 selection-same-length t c = search needs
 
--- src/lib.rt:154:9
 selection-returns : (t : ℕ) → selection-lts.Need-returns (selection-calls t) (selection-at t) selection.Post
 selection-returns t c = field-selected _ _ _ _ _ (c .before .before .before .before .before .before .before .before .args .left) (c .before .before .before .before .before .before .before .before .pre .1) (c .before .before .before .before .if1 .taken) (c .before .before .field .result) (c .before .before .field .ensures)
 
--- src/lib.rt:157:9
 selection-spread-requires : (t : ℕ) → selection-lts.Need-spread-requires (selection-calls t) (selection-at t) selection.Post
 selection-spread-requires t c κs = (omega (arith, c .before .before .before .before .before .before .before .pre .0), (c .before .before .before .before .before .before .before .pre .1, c .before .if2 .taken))
 
--- src/lib.rt:157:9
 selection-same-length-2 : (t : ℕ) → selection-lts.Need-same-length-2 (selection-calls t) (selection-at t) selection.Post
 selection-same-length-2 t c = search needs
 
--- src/lib.rt:157:9
 selection-returns-2 : (t : ℕ) → selection-lts.Need-returns-2 (selection-calls t) (selection-at t) selection.Post
 selection-returns-2 t c = c .before .before .spread .ensures
 
--- src/lib.rt:159:5
 selection-no-going-requires : (t : ℕ) → selection-lts.Need-no-going-requires (selection-calls t) (selection-at t) selection.Post
 selection-no-going-requires t c κs = search needs
 
--- src/lib.rt:149:1
 selection-returns-3 : (t : ℕ) → selection-lts.Need-returns-3 (selection-calls t) (selection-at t) selection.Post
 selection-returns-3 t c = rw (c .no-going .ensures) (selection-lacks _ _ _ _ _ (c .before .before .before .before .before .before .before .pre .1) (c .before .before .before .if1 .left) (c .before .if2 .left))
 
@@ -217,7 +192,6 @@ selection-set-Inv-loop s rows₀ parent left n d₀ rows d = Passed 0 s rows₀ 
 abbrev selection-set-μ-loop : selection-set-lts.MeasureT-loop
 selection-set-μ-loop s rows₀ parent left n d₀ rows d = length s - d .stop
 
--- helpers
 begun : (t : ℕ) (c : selection-set-lts.After-known-told (selection-set-calls t) (selection-set-at t) selection-set.Post selection-set-Inv-loop selection-set-μ-loop)
     → Passed 1 (c .before .before .before .before .before .before .before .before .before .args .s .now) (c .before .before .before .before .before .before .before .before .before .args .rows .now) (c .before .before .before .before .before .before .before .before .before .args .rows .now) (c .before .before .before .before .before .before .before .before .before .args .c) (c .before .r .given .0 .0) (c .before .before .before .before .before .before .before .before .before .args .parent) (c .before .before .before .before .before .before .before .before .before .args .left) (c .before .before .before .before .before .before .before .before .before .args .left - 1) shut shut selectionSetStack oneMore
 begun t c =
@@ -228,153 +202,114 @@ joint : (t : ℕ) (c : selection-set-lts.At-loop (selection-set-calls t) (select
 joint t c =
     joined _ _ _ _ _ _ _ _ _ _ _ _ _ _ _ (begun t (c .before)) (c .loop .inv)
 
--- end of helpers
-
--- src/lib.rt:124:9
 selection-set-no-going-requires : (t : ℕ) → selection-set-lts.Need-no-going-requires (selection-set-calls t) (selection-set-at t) selection-set.Post selection-set-Inv-loop selection-set-μ-loop
 selection-set-no-going-requires t c κs = search needs
 
--- src/lib.rt:124:9
 selection-set-returns : (t : ℕ) → selection-set-lts.Need-returns (selection-set-calls t) (selection-set-at t) selection-set.Post selection-set-Inv-loop selection-set-μ-loop
 selection-set-returns t c = rw (c .no-going .ensures) (set-lacks _ _ _ _ _ (c .before .before .before .before .before .pre .1) (c .before .if1 .taken))
 
--- src/lib.rt:127:9
 selection-set-returns-2 : (t : ℕ) → selection-set-lts.Need-returns-2 (selection-set-calls t) (selection-set-at t) selection-set.Post selection-set-Inv-loop selection-set-μ-loop
 selection-set-returns-2 t c = set-deep _ _ _ _ _ (c .before .before .before .before .before .pre .1) (c .before .if1 .left) (c .if2 .taken)
 
--- src/lib.rt:130:9
 selection-set-past-requires : (t : ℕ) → selection-set-lts.Need-past-requires (selection-set-calls t) (selection-set-at t) selection-set.Post selection-set-Inv-loop selection-set-μ-loop
 selection-set-past-requires t c κs = ready-past _ _ _ _ (c .before .before .before .before .before .pre .1)
 
--- src/lib.rt:131:20
 selection-set-enum-known-r : (t : ℕ) → selection-set-lts.Need-enum-known-r (selection-set-calls t) (selection-set-at t) selection-set.Post selection-set-Inv-loop selection-set-μ-loop
 selection-set-enum-known-r t c = search needs
 
--- src/lib.rt:132:9
 selection-set-enum-told : (t : ℕ) → selection-set-lts.Need-enum-told (selection-set-calls t) (selection-set-at t) selection-set.Post selection-set-Inv-loop selection-set-μ-loop
 selection-set-enum-told t c = search needs
 
--- src/lib.rt:132:9
 selection-set-returns-3 : (t : ℕ) → selection-set-lts.Need-returns-3 (selection-set-calls t) (selection-set-at t) selection-set.Post selection-set-Inv-loop selection-set-μ-loop
 selection-set-returns-3 t c = rw (c .enum-told .given .1) (set-bad _ _ _ _ _ (c .before .before .before .before .before .before .before .before .pre .1) (c .before .before .before .before .if1 .left) (c .before .before .before .if2 .left) _ (c .before .before .past .ensures) _ (c .enum-told .given .1))
 
--- src/lib.rt:135:5
 selection-set-loop-holds : (t : ℕ) → selection-set-lts.Need-loop-holds (selection-set-calls t) (selection-set-at t) selection-set.Post selection-set-Inv-loop selection-set-μ-loop
 selection-set-loop-holds t c = let b = begun t c in unmoved _ _ _ _ _ _ (b .size) (b .within) (b .few) (b .looks)
 
--- src/lib.rt:136:47
 selection-set-sub-selection : (t : ℕ) → selection-set-lts.Need-sub-selection (selection-set-calls t) (selection-set-at t) selection-set.Post selection-set-Inv-loop selection-set-μ-loop
 selection-set-sub-selection t c = search needs
 
--- src/lib.rt:136:13
 selection-set-selection-requires : (t : ℕ) → selection-set-lts.Need-selection-requires (selection-set-calls t) (selection-set-at t) selection-set.Post selection-set-Inv-loop selection-set-μ-loop
 selection-set-selection-requires t c κs = (omega (arith, c .before .before .before .before .before .before .before .before .before .before .before .pre .0, c .before .before .before .before .before .before .if2 .left), turn-ready _ _ _ _ _ _ _ _ _ _ (c .before .loop .inv) (c .before .before .before .before .before .before .before .before .before .before .before .pre .1 .short) (c .before .before .before .before .before .before .before .before .before .before .before .pre .1 .below))
 
--- src/lib.rt:137:24
 selection-set-enum-known-t : (t : ℕ) → selection-set-lts.Need-enum-known-t (selection-set-calls t) (selection-set-at t) selection-set.Post selection-set-Inv-loop selection-set-μ-loop
 selection-set-enum-known-t t c = search needs
 
--- src/lib.rt:138:13
 selection-set-enum-told-2 : (t : ℕ) → selection-set-lts.Need-enum-told-2 (selection-set-calls t) (selection-set-at t) selection-set.Post selection-set-Inv-loop selection-set-μ-loop
 selection-set-enum-told-2 t c = search needs
 
--- src/lib.rt:138:13
 selection-set-same-length : (t : ℕ) → selection-set-lts.Need-same-length (selection-set-calls t) (selection-set-at t) selection-set.Post selection-set-Inv-loop selection-set-μ-loop
 selection-set-same-length t c = search needs
 
--- src/lib.rt:138:13
 selection-set-returns-4 : (t : ℕ) → selection-set-lts.Need-returns-4 (selection-set-calls t) (selection-set-at t) selection-set.Post selection-set-Inv-loop selection-set-μ-loop
 selection-set-returns-4 t c = rw (c .enum-told2 .given .1) (turn-stops _ _ _ _ _ _ _ _ _ _ (joint t (c .before .before .before .before .before .before)) _ _ (c .before .before .before .before .selection .ensures) _ (c .enum-told2 .given .1))
 
--- src/lib.rt:142:13
 selection-set-past-requires-2 : (t : ℕ) → selection-set-lts.Need-past-requires-2 (selection-set-calls t) (selection-set-at t) selection-set.Post selection-set-Inv-loop selection-set-μ-loop
 selection-set-past-requires-2 t c κs = (c .before .before .before .before .before .before .before .before .before .before .before .before .before .before .before .before .before .before .before .pre .1 .short, went-past _ _ _ _ _ _ _ _ _ (turn-read _ _ _ _ _ _ _ _ _ _ (c .before .before .before .before .before .before .before .before .before .loop .inv) _ _ (c .before .before .before .before .before .before .before .selection .ensures) _ (c .before .before .before .t .given .1)))
 
--- src/lib.rt:142:13
 selection-set-same-length-2 : (t : ℕ) → selection-set-lts.Need-same-length-2 (selection-set-calls t) (selection-set-at t) selection-set.Post selection-set-Inv-loop selection-set-μ-loop
 selection-set-same-length-2 t c = let v = turn-read _ _ _ _ _ _ _ _ _ _ (c .before .before .before .before .before .before .before .before .before .before .loop .inv) _ _ (c .before .before .before .before .before .before .before .before .selection .ensures) _ (c .before .before .before .before .t .given .1) in v .size ∙ sym (c .before .before .before .before .before .before .before .before .before .before .before .before .before .before .before .before .before .before .before .before .pre .1 .size)
 
--- src/lib.rt:142:13
 selection-set-returns-5 : (t : ℕ) → selection-set-lts.Need-returns-5 (selection-set-calls t) (selection-set-at t) selection-set.Post selection-set-Inv-loop selection-set-μ-loop
 selection-set-returns-5 t c = turn-ends _ _ _ _ _ _ _ _ _ (joint t (c .before .before .before .before .before .before .before .before .before .before)) _ (c .before .before .before .before .before .before .before .before .selection .ensures) (c .before .before .before .before .t .given .1) (c .before .before .before .before .before .before .before .before .before .before .before .before .before .before .before .if2 .left) (c .before .if3 .taken) _ (c .past2 .ensures)
 
--- src/lib.rt:135:5
 selection-set-loop-less : (t : ℕ) → selection-set-lts.Need-loop-less (selection-set-calls t) (selection-set-at t) selection-set.Post selection-set-Inv-loop selection-set-μ-loop
 selection-set-loop-less t c = let v = turn-read _ _ _ _ _ _ _ _ _ _ (c .before .before .before .before .before .before .before .before .before .loop .inv) _ _ (c .before .before .before .before .before .before .before .selection .ensures) _ (c .before .before .before .t .given .1) in omega (arith, v .on, v .within)
 
--- src/lib.rt:135:5
 selection-set-loop-again : (t : ℕ) → selection-set-lts.Need-loop-again (selection-set-calls t) (selection-set-at t) selection-set.Post selection-set-Inv-loop selection-set-μ-loop
 selection-set-loop-again t c = turn-more _ _ _ _ _ _ _ _ _ _ (c .before .before .before .before .before .before .before .before .before .loop .inv) _ _ (c .before .before .before .before .before .before .before .selection .ensures) _ (c .before .before .before .t .given .1) (c .if3 .left)
 
--- src/lib.rt:186:9
 spread-returns : (t : ℕ) → spread-lts.Need-returns (spread-calls t) (spread-at t) spread.Post
 spread-returns t c = spread-full _ _ _ _ _ (c .before .before .before .pre .1 .0) (c .before .before .before .pre .1 .1) (c .if1 .taken)
 
--- src/lib.rt:188:23
 spread-add-past : (t : ℕ) → spread-lts.Need-add-past (spread-calls t) (spread-at t) spread.Post
 spread-add-past t c = search needs
 
--- src/lib.rt:188:9
 spread-past-requires : (t : ℕ) → spread-lts.Need-past-requires (spread-calls t) (spread-at t) spread.Post
 spread-past-requires t c κs = ready-past _ _ _ _ (c .before .before .before .pre .1 .0)
 
--- src/lib.rt:189:20
 spread-enum-known-r : (t : ℕ) → spread-lts.Need-enum-known-r (spread-calls t) (spread-at t) spread.Post
 spread-enum-known-r t c = search needs
 
--- src/lib.rt:190:9
 spread-enum-told : (t : ℕ) → spread-lts.Need-enum-told (spread-calls t) (spread-at t) spread.Post
 spread-enum-told t c = search needs
 
--- src/lib.rt:190:9
 spread-returns-2 : (t : ℕ) → spread-lts.Need-returns-2 (spread-calls t) (spread-at t) spread.Post
 spread-returns-2 t c = rw (c .enum-told .given .1) (spread-bad _ _ _ _ _ (c .before .before .before .before .before .before .pre .1 .0) (c .before .before .before .before .before .before .pre .1 .1) (c .before .before .before .if1 .left) _ (c .before .before .past .ensures) _ (c .enum-told .given .1))
 
--- src/lib.rt:192:8
 spread-names-fragment-requires : (t : ℕ) → spread-lts.Need-names-fragment-requires (spread-calls t) (spread-at t) spread.Post
 spread-names-fragment-requires t c κs = spread-lies _ _ _ _ 0 (c .before .before .before .before .before .before .before .pre .1 .0) (c .before .before .before .before .before .before .before .pre .1 .1) (c .before .before .before .before .if1 .left) _ (c .before .before .before .past .ensures) _ (c .before .r .given .1)
 
--- src/lib.rt:193:9
 spread-named-spread-requires : (t : ℕ) → spread-lts.Need-named-spread-requires (spread-calls t) (spread-at t) spread.Post
 spread-named-spread-requires t c κs = (spread-ready _ _ _ _ 0 (c .before .before .before .before .before .before .before .before .before .before .pre .1 .0) (c .before .before .before .before .before .before .before .before .before .before .pre .1 .1) (c .before .before .before .before .before .before .before .if1 .left) _ (c .before .before .before .before .before .before .past .ensures) _ (c .before .before .before .before .r .given .1), sym (c .before .before .names-fragment .ensures) ∙ c .before .if2 .taken, spread-rows _ _ _ _ 0 (c .before .before .before .before .before .before .before .before .before .before .pre .1 .0) (c .before .before .before .before .before .before .before .before .before .before .pre .1 .1) (c .before .before .before .before .before .before .before .if1 .left) _ (c .before .before .before .before .before .before .past .ensures) _ (c .before .before .before .before .r .given .1))
 
--- src/lib.rt:193:9
 spread-same-length : (t : ℕ) → spread-lts.Need-same-length (spread-calls t) (spread-at t) spread.Post
 spread-same-length t c = search needs
 
--- src/lib.rt:193:9
 spread-returns-3 : (t : ℕ) → spread-lts.Need-returns-3 (spread-calls t) (spread-at t) spread.Post
 spread-returns-3 t c = spread-named _ _ _ _ (c .before .before .before .before .before .before .before .before .before .before .before .before .before .args .left) (c .before .before .before .before .before .before .before .before .before .before .before .before .before .pre .1 .0) (c .before .before .before .before .before .before .before .before .before .before .before .before .before .pre .1 .1) (c .before .before .before .before .before .before .before .before .before .before .if1 .left) _ (c .before .before .before .before .before .before .before .before .before .past .ensures) _ (c .before .before .before .before .before .before .before .r .given .1) _ (c .before .before .named-spread .result) (c .before .before .named-spread .ensures)
 
--- src/lib.rt:195:9
 spread-inline-head-requires : (t : ℕ) → spread-lts.Need-inline-head-requires (spread-calls t) (spread-at t) spread.Post
 spread-inline-head-requires t c κs = (spread-ready _ _ _ _ 0 (c .before .before .before .before .before .before .before .before .before .before .pre .1 .0) (c .before .before .before .before .before .before .before .before .before .before .pre .1 .1) (c .before .before .before .before .before .before .before .if1 .left) _ (c .before .before .before .before .before .before .past .ensures) _ (c .before .before .before .before .r .given .1), sym (c .before .before .names-fragment .ensures) ∙ c .before .if2 .left, spread-rows _ _ _ _ 0 (c .before .before .before .before .before .before .before .before .before .before .pre .1 .0) (c .before .before .before .before .before .before .before .before .before .before .pre .1 .1) (c .before .before .before .before .before .before .before .if1 .left) _ (c .before .before .before .before .before .before .past .ensures) _ (c .before .before .before .before .r .given .1))
 
--- src/lib.rt:196:20
 spread-enum-known-t : (t : ℕ) → spread-lts.Need-enum-known-t (spread-calls t) (spread-at t) spread.Post
 spread-enum-known-t t c = search needs
 
--- src/lib.rt:197:9
 spread-enum-told-2 : (t : ℕ) → spread-lts.Need-enum-told-2 (spread-calls t) (spread-at t) spread.Post
 spread-enum-told-2 t c = search needs
 
--- src/lib.rt:197:9
 spread-same-length-2 : (t : ℕ) → spread-lts.Need-same-length-2 (spread-calls t) (spread-at t) spread.Post
 spread-same-length-2 t c = search needs
 
--- src/lib.rt:197:9
 spread-returns-4 : (t : ℕ) → spread-lts.Need-returns-4 (spread-calls t) (spread-at t) spread.Post
 spread-returns-4 t c = rw (c .enum-told2 .given .1) (spread-stops _ _ _ _ _ (c .before .before .before .before .before .before .before .before .before .before .before .before .before .before .before .pre .1 .0) (c .before .before .before .before .before .before .before .before .before .before .before .before .before .before .before .pre .1 .1) (c .before .before .before .before .before .before .before .before .before .before .before .before .if1 .left) _ (c .before .before .before .before .before .before .before .before .before .before .before .past .ensures) _ (c .before .before .before .before .before .before .before .before .before .r .given .1) _ _ (c .before .before .before .before .inline-head .ensures) _ (c .enum-told2 .given .1))
 
--- src/lib.rt:199:5
 spread-body-requires : (t : ℕ) → spread-lts.Need-body-requires (spread-calls t) (spread-at t) spread.Post
 spread-body-requires t c κs = (omega (arith, c .before .before .before .before .before .before .before .before .before .before .before .before .before .before .before .before .before .pre .0), (spread-set-ready _ _ _ _ _ (c .before .before .before .before .before .before .before .before .before .before .before .before .before .before .before .before .before .pre .1 .0) (c .before .before .before .before .before .before .before .before .before .before .before .before .before .before .before .before .before .pre .1 .1) (c .before .before .before .before .before .before .before .before .before .before .before .before .before .before .if1 .left) _ (c .before .before .before .before .before .before .before .before .before .before .before .before .before .past .ensures) _ (c .before .before .before .before .before .before .before .before .before .before .before .r .given .1) _ _ (c .before .before .before .before .before .before .inline-head .ensures) _ (c .before .before .t .given .1), spread-room _ _ _ _ 0 (c .before .before .before .before .before .before .before .before .before .before .before .before .before .before .before .before .before .pre .1 .0) (c .before .before .before .before .before .before .before .before .before .before .before .before .before .before .before .before .before .pre .1 .1) (c .before .before .before .before .before .before .before .before .before .before .before .before .before .before .if1 .left)))
 
--- src/lib.rt:180:1
 spread-same-length-3 : (t : ℕ) → spread-lts.Need-same-length-3 (spread-calls t) (spread-at t) spread.Post
 spread-same-length-3 t c = search needs
 
--- src/lib.rt:180:1
 spread-returns-5 : (t : ℕ) → spread-lts.Need-returns-5 (spread-calls t) (spread-at t) spread.Post
 spread-returns-5 t c = spread-set _ _ _ _ _ (c .before .before .before .before .before .before .before .before .before .before .before .before .before .before .before .before .before .before .before .before .pre .1 .0) (c .before .before .before .before .before .before .before .before .before .before .before .before .before .before .before .before .before .before .before .before .pre .1 .1) (c .before .before .before .before .before .before .before .before .before .before .before .before .before .before .before .before .before .if1 .left) _ (c .before .before .before .before .before .before .before .before .before .before .before .before .before .before .before .before .past .ensures) _ (c .before .before .before .before .before .before .before .before .before .before .before .before .before .before .r .given .1) _ _ (c .before .before .before .before .before .before .before .before .before .inline-head .ensures) _ (c .before .before .before .before .before .t .given .1) _ (c .before .before .body .result) (c .before .before .body .ensures)
 
