@@ -1,5 +1,4 @@
 pub mod Onward
-pub mod HeadName
 pub mod Words
 pub mod ArgumentsLaws
 pub mod DirectivesLaws

@@ -20,9 +20,9 @@ use Rattle.paper.proofs.Lexing.{from}
 use Rattle.paper.proofs.Machine.{choose}
 use Rattle.paper.proofs.Tables.{factored}
 use Rattle.paper.proofs.Going.{Stack, State, st, halt, go, startIn, stopIn}
-use Rattle.tokens.specs.Head.{headOf}
-use Rattle.tokens.specs.declared.TokenRead.{TokenRead}
-use Rattle.tokens.specs.declared.TokenRead.the-variants.{Token, Bad}
+use Rattle.characters.specs.Head.{headOf}
+use Rattle.characters.specs.declared.TokenRead.{TokenRead}
+use Rattle.characters.specs.declared.TokenRead.the-variants.{Token, Bad}
 use Rattle.reader.specs.declared.Cursor.{Cursor}
 use Rattle.reader.specs.declared.Read.{Read}
 use Rattle.reader.specs.declared.Read.the-variants.{Done, Refused}

@@ -19,13 +19,13 @@ use Rattle.paper.proofs.Test.{all, implies, implies-out, all-at}
 use Rattle.paper.proofs.Tables.{graphql, factored, allC, atC}
 use Rattle.paper.proofs.Checked.{fits}
 use Rattle.paper.proofs.Going.{Stack, State, st, Out, go, goes}
-use Rattle.tokens.specs.Head.{headOf, kindOf, wordOf, wordNumber}
-use Rattle.tokens.specs.declared.TokenRead.the-variants.{Token}
+use Rattle.characters.specs.Head.{headOf, kindOf, wordOf, wordNumber}
+use Rattle.characters.specs.declared.TokenRead.the-variants.{Token}
 use Rattle.reader.specs.declared.Cursor.{Cursor}
 use Rattle.reader.specs.Reader.{Looks}
 use Rattle.reader.proofs.Steps.{tokenOf, is}
 use Rattle.arguments.specs.Arguments.{AtOn, bytesAt}
-use Rattle.arguments.proofs.HeadName.{head-name}
+use Rattle.tokens.proofs.HeadLaws.{head-name}
 
 -- a class by its kind and its word
 by-word : (f : Class → Bool) (g : ℕ → ℕ → Bool) → T (all (λ k. implies (g (kindOf k) (wordNumber k)) (f k)) allC) → (k : Class) (x w : ℕ) → kindOf k ≡ x → wordNumber k ≡ w → T (g x w) → T (f k)

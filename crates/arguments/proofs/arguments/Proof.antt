@@ -1,6 +1,7 @@
 -- `arguments` is the machine at Arguments: at each turn of its loop an argument is to be read.
 use Prim.Native.Nat.{_-_}
-use mathlib.Core.Path.{sym, _∙_}
+use mathlib.Core.Path.{refl, sym, _∙_}
+use mathlib.Core.Logic.{inl}
 use native.Mathlib.Omega.{arith}
 use borrow.Author.Needs.{needs}
 use lib.ListN.{length}
@@ -49,7 +50,7 @@ sub-entry : tie.Need-sub-entry Inv-loop μ-loop
 sub-entry c = search needs
 
 entry-requires : tie.Need-entry-requires Inv-loop μ-loop
-entry-requires c κs = turn-ready _ _ _ _ _ _ _ _ _ (c .before .loop .inv) (c .before .before .before .before .before .before .before .before .before .pre .0 .short) (c .before .before .before .before .before .before .before .before .before .pre .0 .below)
+entry-requires c κs = (turn-ready _ _ _ _ _ _ _ _ _ (c .before .loop .inv) (c .before .before .before .before .before .before .before .before .before .pre .0 .short) (c .before .before .before .before .before .before .before .before .before .pre .0 .below), inl refl)
 
 enum-known-t : tie.Need-enum-known-t Inv-loop μ-loop
 enum-known-t c = search needs
