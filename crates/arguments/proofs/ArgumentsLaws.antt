@@ -26,8 +26,9 @@ use Rattle.reader.proofs.Steps.{first, null, refuse, lacks, opening, closing, t
 use Rattle.reader.proofs.Cells.{row-opens, name-told}
 use Rattle.values.specs.Stacks.{entryStack}
 use Rattle.arguments.specs.Arguments.{argumentsStack}
+use Rattle.values.proofs.MovedLaws.{moved-halts, moved-said}
 use Rattle.arguments.specs.Passed.{Passed, shut}
-use Rattle.arguments.proofs.Onward.{lies, next, next-at, next-halts, name-lacks, same, said-went, said-halts}
+use Rattle.arguments.proofs.Onward.{lies, next, next-at, name-lacks, same, said-went, said-halts}
 
 -- what is left of arguments where one is to be read
 abbrev pub oneMore : Stack
@@ -117,7 +118,7 @@ module _ (s rows : List ℕ) (c : Cursor) (parent left : ℕ) (a : Ready s rows 
 
     pub bad-said : (left ≡ 0 → ⊥) → (r : Read) → r ≡ movedTo (c .end) (c .rows) (headOf (from s (c .end))) → (x : Refusal) → r ≡ Refused x → Halts s rows c parent left argumentsStack x
     bad-said z r m x y σ o q p f =
-        opened-at z σ o q f ∙ next-halts s (c .end) (c .end) (c .rows) x r m y (st rows (c .rows) o (c .end) (left - 1) q) (nt Argument+ ∷ tm (the parenR) ∷ σ)
+        opened-at z σ o q f ∙ moved-halts s (c .end) (c .rows) r x m y (st rows (c .rows) o (c .end) (left - 1) q) (nt Argument+ ∷ tm (the parenR) ∷ σ)
 
     -- the loop: at each turn an argument is to be read
     pub turn-first : (left ≡ 0 → ⊥) → (d : Cursor) (r : Read) → r ≡ movedTo (c .end) (c .rows) (headOf (from s (c .end))) → r ≡ Done d →
@@ -181,21 +182,6 @@ module _ (s rows rows₁ rows₂ : List ℕ) (c d b : Cursor) (parent left : ℕ
       ∙ ap (λ (m : ℕ). go (st rows₂ (b .rows) o (b .end) m q) σ (from s (b .end))) (omega arith)
 
   pub turn-ends : (t : Read) → t ≡ movedTo (b .end) (b .rows) (headOf (from s (b .end))) → Said 0 s rows rows₂ c parent left argumentsStack t
-  turn-ends t m = by-answer t refl
-    where
-      done : (u : Cursor) → t ≡ Done u → Went 0 s rows rows₂ c u parent left argumentsStack
-      done u y =
-          let x = next s b u (b .rows) (read .within) (read .looks) t m y in
-          let l = lies s b (read .within) (read .looks) in
-          record {
-            size = read .size;
-            within = x .within;
-            few = omega (arith, read .few, x .rows);
-            looks = x .looks;
-            on = omega (arith, x .stop, i .on, read .on);
-            goes = λ σ o q p f. end-at σ o q p f ∙ next-at s b u (b .rows) x rows₂ o left q σ;
-          }
-
-      by-answer : (y : Read) → t ≡ y → Said 0 s rows rows₂ c parent left argumentsStack y
-      by-answer (Done u) y = done u y
-      by-answer (Refused x) y = λ σ o q p f. end-at σ o q p f ∙ next-halts s (b .end) (b .end) (b .rows) x t m y (st rows₂ (b .rows) o (b .end) left q) σ
+  turn-ends t m =
+      let l = lies s b (read .within) (read .looks) in
+      moved-said 0 s rows rows₂ c parent left argumentsStack (b .end) (b .rows) (read .size) (l .2) (read .few) (omega (arith, i .on, read .on)) end-at t m

@@ -19,12 +19,13 @@ use Rattle.characters.specs.Head.{headOf}
 use Rattle.reader.specs.declared.Cursor.{Cursor}
 use Rattle.reader.specs.declared.Read.{Read}
 use Rattle.reader.specs.declared.Read.the-variants.{Done, Refused}
-use Rattle.reader.specs.Reader.{movedTo, at, Ready, Went, Halts, Said}
+use Rattle.reader.specs.Reader.{movedTo, at, Ready, Halts, Said}
 use Rattle.paper.specs.Language.{language, the, anyName, n-on, row, kind, end, Name, NamedType, TypeCondition}
 use Rattle.reader.proofs.Steps.{first, refuse, too-many-rows, is, not-is, refuses, refusesEnd}
 use Rattle.reader.proofs.Cells.{put, put-length, row-ends}
 use Rattle.arguments.specs.Arguments.{AtOn, conditionStack}
-use Rattle.arguments.proofs.Onward.{Next, lies, has-bytes, next, next-at, next-halts, name-taken, opened-row, named-row}
+use Rattle.values.proofs.MovedLaws.{moved-halts, moved-said}
+use Rattle.arguments.proofs.Onward.{Next, lies, has-bytes, next, next-at, name-taken, opened-row, named-row}
 use Rattle.arguments.proofs.Words.{is-on, on-is, word-first, word-taken}
 
 -- at its `on`; its row is n
@@ -39,7 +40,7 @@ module _ (s rows : List ℕ) (c : Cursor) (parent left : ℕ) (a : Ready s rows 
   module _ (r : Read) (m : r ≡ movedTo (c .end) (c .rows) (headOf (from s (c .end)))) where
     pub condition-bad : (x : Refusal) → r ≡ Refused x → Halts s rows c parent left conditionStack x
     condition-bad x y σ o q p f =
-        past-on σ o q f ∙ next-halts s (c .end) (c .end) (c .rows) x r m y (st rows (c .rows) o (c .end) left q) (act row ∷ act (kind 9 0) ∷ nt NamedType ∷ act end ∷ σ)
+        past-on σ o q f ∙ moved-halts s (c .end) (c .rows) r x m y (st rows (c .rows) o (c .end) left q) (act row ∷ act (kind 9 0) ∷ nt NamedType ∷ act end ∷ σ)
 
     module _ (name : Cursor) (y : r ≡ Done name) where
       pub condition-name : Next s c name (c .rows)
@@ -92,22 +93,14 @@ module _ (s rows : List ℕ) (c : Cursor) (parent left : ℕ) (a : Ready s rows 
               ∙ ap (λ (v : List ℕ). go (st v (c .rows + 1) o (name .end) left q) σ (from s (name .end))) (sym w)
 
           pub condition-said : (t : Read) → t ≡ movedTo (name .end) (c .rows + 1) (headOf (from s (name .end))) → Said 1 s rows rows₁ c parent left conditionStack t
-          condition-said t m′ = by-answer t refl
-            where
-              done : (d : Cursor) → t ≡ Done d → Went 1 s rows rows₁ c d parent left conditionStack
-              done d y′ =
-                  let x = next s name d (c .rows + 1) (condition-name .within) (condition-name .looks) t m′ y′ in
-                  let b = lies s c (a .within) (a .looks) in
-                  let b′ = lies s name (condition-name .within) (condition-name .looks) in
-                  record {
-                    size = ap length w ∙ put-length rows (c .rows) 9 (name .start) (name .end) parent (name .start) (name .end - name .start) 0 ∙ a .size;
-                    within = x .within;
-                    few = omega (arith, x .rows, z, a .few);
-                    looks = x .looks;
-                    on = omega (arith, has-bytes s c (a .within) (a .looks) 0 (e .0), condition-name .stop, x .stop);
-                    goes = λ σ o q p f. past-name σ o q p f ∙ next-at s name d (c .rows + 1) x rows₁ o left q σ;
-                  }
-
-              by-answer : (u : Read) → t ≡ u → Said 1 s rows rows₁ c parent left conditionStack u
-              by-answer (Done d) y′ = done d y′
-              by-answer (Refused x) y′ = λ σ o q p f. past-name σ o q p f ∙ next-halts s (name .end) (name .end) (c .rows + 1) x t m′ y′ (st rows₁ (c .rows + 1) o (name .end) left q) σ
+          condition-said t m′ =
+              let b = lies s c (a .within) (a .looks) in
+              let b′ = lies s name (condition-name .within) (condition-name .looks) in
+              moved-said 1 s rows rows₁ c parent left conditionStack (name .end) (c .rows + 1)
+                (ap length w ∙ put-length rows (c .rows) 9 (name .start) (name .end) parent (name .start) (name .end - name .start) 0 ∙ a .size)
+                (b′ .2)
+                (omega (arith, z, a .few))
+                (omega (arith, has-bytes s c (a .within) (a .looks) 0 (e .0), condition-name .stop))
+                past-name
+                t
+                m′

@@ -25,8 +25,9 @@ use Rattle.paper.specs.Language.{language, the, atSign, kind, named, end, Name,
 use Rattle.reader.proofs.Steps.{first, null, plain, too-many-rows, is, not-is}
 use Rattle.reader.proofs.Cells.{put, put-length, ends-row}
 use Rattle.arguments.specs.Arguments.{argumentsStack, directiveStack, directivesStack}
+use Rattle.values.proofs.MovedLaws.{moved-halts}
 use Rattle.arguments.specs.Passed.{Passed, shut}
-use Rattle.arguments.proofs.Onward.{Next, lies, has-bytes, next, next-at, next-halts, name-taken, name-lacks, same, said-went, said-halts, opened-row, named-row}
+use Rattle.arguments.proofs.Onward.{Next, lies, has-bytes, next, next-at, name-taken, name-lacks, same, said-went, said-halts, opened-row, named-row}
 
 -- ONE DIRECTIVE, at its @, whose row is n
 module _ (s rows : List ℕ) (c : Cursor) (parent left : ℕ) (a : Ready s rows c parent) (e : c .kind ≡ 12) where
@@ -62,7 +63,7 @@ module _ (s rows : List ℕ) (c : Cursor) (parent left : ℕ) (a : Ready s rows 
       pub directive-bad : (x : Refusal) → r ≡ Refused x → Halts s rows c parent left directiveStack x
       directive-bad x y σ o q p f =
           at-sign σ o q p f
-          ∙ next-halts s (c .end) (c .end) (c .rows + 1) x r m y (st (put rows (c .rows) 7 (c .start) 0 parent 0 0 0) (c .rows + 1) (c .rows ∷ o) (c .end) left q) (act named ∷ nt Name ∷ rest σ)
+          ∙ moved-halts s (c .end) (c .rows + 1) r x m y (st (put rows (c .rows) 7 (c .start) 0 parent 0 0 0) (c .rows + 1) (c .rows ∷ o) (c .end) left q) (act named ∷ nt Name ∷ rest σ)
 
       module _ (name : Cursor) (y : r ≡ Done name) where
         pub directive-name : Next s c name (c .rows + 1)
@@ -95,7 +96,7 @@ module _ (s rows : List ℕ) (c : Cursor) (parent left : ℕ) (a : Ready s rows 
           module _ (t : Read) (m′ : t ≡ movedTo (name .end) (c .rows + 1) (headOf (from s (name .end)))) where
             pub directive-bad-behind : (x : Refusal) → t ≡ Refused x → Halts s rows c parent left directiveStack x
             directive-bad-behind x y′ σ o q p f =
-                past-name σ o q p f ∙ next-halts s (name .end) (name .end) (c .rows + 1) x t m′ y′ (st rows₁ (c .rows + 1) (c .rows ∷ o) (name .end) left q) (rest σ)
+                past-name σ o q p f ∙ moved-halts s (name .end) (c .rows + 1) t x m′ y′ (st rows₁ (c .rows + 1) (c .rows ∷ o) (name .end) left q) (rest σ)
 
             module _ (b : Cursor) (y′ : t ≡ Done b) where
               behind : Next s name b (c .rows + 1)

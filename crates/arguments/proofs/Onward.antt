@@ -1,5 +1,5 @@
 -- From a token taken to the next one: the cursor past it, or the bytes that are none; and names, which most readers meet.
-use mathlib.Core.Path.{_≡_, refl, sym, ap, _∙_, subst}
+use mathlib.Core.Path.{_≡_, refl, ap, _∙_, subst}
 use mathlib.Core.Bool.{Bool, true, false, not}
 use mathlib.Core.List.{List, _∷_, _++_, List·Memᴰ·head}
 use Prim.Native.Nat.{ℕ, suc, _+_, _-_, _≤_, _<_}
@@ -12,21 +12,19 @@ use Rattle.paper.specs.Grammar.{nt, act}
 use Rattle.paper.specs.Numbers.{mostText, mostRows, rowsSize}
 use Rattle.paper.specs.Language.{anyName, Name, language, row, kind, named}
 use Rattle.paper.specs.Rows.{top}
-use Rattle.paper.specs.Tokens.{Text, over, bad, token}
 use Rattle.paper.specs.Sizes.{Counts, kinded, overCounts}
 use Rattle.paper.specs.declared.Refusal.{Refusal}
 use Rattle.paper.specs.declared.Refusal.the-variants.{NoGoing}
 use Rattle.paper.proofs.Lexing.{from}
 use Rattle.paper.proofs.Machine.{choose}
 use Rattle.paper.proofs.Tables.{factored}
-use Rattle.paper.proofs.Going.{Stack, State, st, halt, go, startIn, stopIn}
+use Rattle.paper.proofs.Going.{Stack, st, halt, go, stopIn}
 use Rattle.characters.specs.Head.{headOf}
-use Rattle.characters.specs.declared.TokenRead.{TokenRead}
-use Rattle.characters.specs.declared.TokenRead.the-variants.{Token, Bad}
 use Rattle.reader.specs.declared.Cursor.{Cursor}
 use Rattle.reader.specs.declared.Read.{Read}
 use Rattle.reader.specs.declared.Read.the-variants.{Done, Refused}
 use Rattle.reader.specs.Reader.{Looks, movedTo, at, Ready, Went, Halts, Said}
+use Rattle.values.proofs.MovedLaws.{start-in, stop-in, moved-done}
 use Rattle.arguments.specs.Passed.{Passed, Passes, shut}
 use Rattle.reader.proofs.ReaderLaws.{token-lies}
 use Rattle.reader.proofs.Cells.{put, row-opens, name-told}
@@ -51,51 +49,15 @@ has-bytes s c h l x e = go′ (front s c h l)
     go′ (a-token k d f i j m) = j
     go′ (the-end d f i j) = let w : ⊥ = omega arith in absurd w
 
-moved-done : (t : TokenRead) (stop rows : ℕ) (d : Cursor) → movedTo stop rows t ≡ Done d → (d .stop ≡ stop) × (d .rows ≡ rows) × (t ≡ Token (d .kind) (d .start) (d .end))
-moved-done (Token k a e) stop rows d q = (cc, cc, cc)
-moved-done (Bad o) stop rows d q = let z : _≡_ {A = ℕ} 0 1 = cc in let w : ⊥ = omega arith in absurd w
-
 pub next : (s : List ℕ) (c d : Cursor) (m : ℕ) → c .stop ≤ length s → Looks s c → (r : Read) → r ≡ movedTo (c .end) m (headOf (from s (c .end))) → r ≡ Done d → Next s c d m
 next s c d m h l r q e =
-    let z = moved-done (headOf (from s (c .end))) (c .end) m d (sym q ∙ e) in
+    let z = moved-done s (c .end) m r d q e in
     let b = lies s c h l in
-    record {
-      stop = z .0;
-      rows = z .1;
-      looks = subst (λ (p : ℕ). headOf (from s p) ≡ Token (d .kind) (d .start) (d .end)) (sym (z .0)) (z .2);
-      within = omega arith;
-    }
+    record { stop = z .stop; rows = z .rows; looks = z .looks; within = omega (arith, z .stop) }
 
 -- the machine behind the token of c is the machine at d
 pub next-at : (s : List ℕ) (c d : Cursor) (m : ℕ) → Next s c d m → (cells o : List ℕ) (left : ℕ) (q : Counts) (σ : Stack) → go (st cells m o (c .end) left q) σ (from s (c .end)) ≡ at s cells d o left q σ
 next-at s c d m x cells o left q σ = rw (x .stop, x .rows) refl
-
--- or it halts at bytes that are no token
-bad-halts : (t : Text) (stop rows : ℕ) (x : Refusal) → movedTo stop rows (headOf t) ≡ Refused x → (S : State) (σ : Stack) → go S σ t ≡ halt x
-unfolding go
-bad-halts (over n) stop rows x q S σ = let z : _≡_ {A = ℕ} 0 1 = cc in let w : ⊥ = omega arith in absurd w
-bad-halts (bad n) stop rows x q S σ = ap halt (cc)
-bad-halts (token k t) stop rows x q S σ = let z : _≡_ {A = ℕ} 0 1 = cc in let w : ⊥ = omega arith in absurd w
-
-pub next-halts : (s : List ℕ) (p stop rows : ℕ) (x : Refusal) (r : Read) → r ≡ movedTo stop rows (headOf (from s p)) → r ≡ Refused x → (S : State) (σ : Stack) → go S σ (from s p) ≡ halt x
-next-halts s p stop rows x r q e S σ = bad-halts (from s p) stop rows x (sym q ∙ e) S σ
-
--- the ends of the token looked at
-start-of : (t : Text) (k a e : ℕ) → headOf t ≡ Token k a e → startIn t ≡ a
-start-of (over n) k a e q = cc
-start-of (bad n) k a e q = let z : _≡_ {A = ℕ} 0 1 = cc in let w : ⊥ = omega arith in absurd w
-start-of (token t u) k a e q = cc
-
-stop-of : (t : Text) (k a e : ℕ) → headOf t ≡ Token k a e → stopIn t ≡ e
-stop-of (over n) k a e q = cc
-stop-of (bad n) k a e q = let z : _≡_ {A = ℕ} 0 1 = cc in let w : ⊥ = omega arith in absurd w
-stop-of (token t u) k a e q = cc
-
-pub start-here : (s : List ℕ) (c : Cursor) → Looks s c → startIn (from s (c .stop)) ≡ c .start
-start-here s c l = start-of (from s (c .stop)) (c .kind) (c .start) (c .end) l
-
-pub stop-here : (s : List ℕ) (c : Cursor) → Looks s c → stopIn (from s (c .stop)) ≡ c .end
-stop-here s c l = stop-of (from s (c .stop)) (c .kind) (c .start) (c .end) l
 
 -- a name, or none
 module _ (s : List ℕ) (c : Cursor) (h : c .stop ≤ length s) (l : Looks s c) (cells : List ℕ) (n : ℕ) (o : List ℕ) (left : ℕ) (q : Counts) (σ : Stack) where
@@ -127,7 +89,7 @@ pub opened-row : (s : List ℕ) (c : Cursor) → Looks s c → (cells : List ℕ
     go (st cells n o (c .stop) left q) (act row ∷ act (kind k x) ∷ σ) (from s (c .stop)) ≡ go (st (put cells n k (c .start) 0 parent 0 0 x) (n + 1) (n ∷ o) (c .stop) left (kinded k q)) σ (from s (c .stop))
 opened-row s c l cells n o parent left q σ k x p =
     row-opens cells n o (c .stop) left q σ (from s (c .stop)) k x
-    ∙ ap (λ (a : ℕ). go (st (put cells n k a 0 (top o) 0 0 x) (n + 1) (n ∷ o) (c .stop) left (kinded k q)) σ (from s (c .stop))) (start-here s c l)
+    ∙ ap (λ (a : ℕ). go (st (put cells n k a 0 (top o) 0 0 x) (n + 1) (n ∷ o) (c .stop) left (kinded k q)) σ (from s (c .stop))) (start-in s c l)
     ∙ ap (λ (u : ℕ). go (st (put cells n k (c .start) 0 u 0 0 x) (n + 1) (n ∷ o) (c .stop) left (kinded k q)) σ (from s (c .stop))) p
 
 -- and takes it as its name
@@ -135,8 +97,8 @@ pub named-row : (s : List ℕ) (c : Cursor) → Looks s c → (cells : List ℕ)
     go (st (put cells r k a e p m z x) n (r ∷ o) (c .stop) left q) (act named ∷ σ) (from s (c .stop)) ≡ go (st (put cells r k a e p (c .start) (c .end - c .start) x) n (r ∷ o) (c .stop) left q) σ (from s (c .stop))
 named-row s c l cells n o left q σ r k a e p m z x =
     name-told cells n o (c .stop) left q σ (from s (c .stop)) r k a e p m z x
-    ∙ ap (λ (b : ℕ). go (st (put cells r k a e p b (stopIn (from s (c .stop)) - b) x) n (r ∷ o) (c .stop) left q) σ (from s (c .stop))) (start-here s c l)
-    ∙ ap (λ (b : ℕ). go (st (put cells r k a e p (c .start) (b - c .start) x) n (r ∷ o) (c .stop) left q) σ (from s (c .stop))) (stop-here s c l)
+    ∙ ap (λ (b : ℕ). go (st (put cells r k a e p b (stopIn (from s (c .stop)) - b) x) n (r ∷ o) (c .stop) left q) σ (from s (c .stop))) (start-in s c l)
+    ∙ ap (λ (b : ℕ). go (st (put cells r k a e p (c .start) (b - c .start) x) n (r ∷ o) (c .stop) left q) σ (from s (c .stop))) (stop-in s c l)
 
 -- one reading after another, below the same row
 pub joined : (gain : ℕ) (s rows rows₁ rows₂ : List ℕ) (c d e : Cursor) (parent left left₁ left₂ : ℕ) (α β γ : Stack) → Passed gain s rows rows₁ c d parent left left₁ shut shut α β →

@@ -24,8 +24,9 @@ use Rattle.paper.specs.Language.{language, the, anyName, colon, kind, named, en
 use Rattle.reader.proofs.Steps.{first, null, plain, too-many-rows, is, not-is}
 use Rattle.reader.proofs.Cells.{put-length, ends-row}
 use Rattle.arguments.specs.Arguments.{argumentsStack, directivesStack}
+use Rattle.values.proofs.MovedLaws.{moved-halts}
 use Rattle.arguments.specs.Passed.{Passed, Passes, opened, shut}
-use Rattle.arguments.proofs.Onward.{Next, lies, has-bytes, next, next-at, next-halts, name-taken, name-lacks, said-went, said-halts, opened-row, named-row}
+use Rattle.arguments.proofs.Onward.{Next, lies, has-bytes, next, next-at, name-taken, name-lacks, said-went, said-halts, opened-row, named-row}
 use Rattle.selections.specs.Selections.{selectionStack, bodyStack, fieldStack, aliasStack, fieldRestStack, fieldEndStack, fieldBegun, AliasSaid, HeadSaid}
 
 -- ARGUMENTS, THEN DIRECTIVES, of the row n
@@ -68,7 +69,7 @@ module _ (s rows : List ℕ) (c : Cursor) (parent left n start : ℕ) (a : Ready
   module _ (r : Read) (w : r ≡ movedTo (c .end) (n + 1) (headOf (from s (c .end)))) where
     pub alias-bad : (rows′ : List ℕ) (x : Refusal) → r ≡ Refused x → AliasSaid s rows rows′ c parent left n start (Refused x)
     alias-bad rows′ x y m z σ o q p f =
-        past-colon m z σ o q f ∙ next-halts s (c .end) (c .end) (n + 1) x r w y (st (fieldBegun rows n start parent m z) (n + 1) (n ∷ o) (c .end) left q) (named-again σ)
+        past-colon m z σ o q f ∙ moved-halts s (c .end) (n + 1) r x w y (st (fieldBegun rows n start parent m z) (n + 1) (n ∷ o) (c .end) left q) (named-again σ)
 
     module _ (name : Cursor) (y : r ≡ Done name) where
       pub alias-name : Next s c name (n + 1)
@@ -100,7 +101,7 @@ module _ (s rows : List ℕ) (c : Cursor) (parent left n start : ℕ) (a : Ready
         module _ (t : Read) (w′ : t ≡ movedTo (name .end) (n + 1) (headOf (from s (name .end)))) where
           pub alias-bad-behind : (rows′ : List ℕ) (x : Refusal) → t ≡ Refused x → AliasSaid s rows rows′ c parent left n start (Refused x)
           alias-bad-behind rows′ x y′ m z σ o q p f =
-              past-name m z σ o q f ∙ next-halts s (name .end) (name .end) (n + 1) x t w′ y′ (st rows₁ (n + 1) (n ∷ o) (name .end) left q) (fieldRestStack ++ σ)
+              past-name m z σ o q f ∙ moved-halts s (name .end) (n + 1) t x w′ y′ (st rows₁ (n + 1) (n ∷ o) (name .end) left q) (fieldRestStack ++ σ)
 
           module _ (b : Cursor) (y′ : t ≡ Done b) where
             behind : Next s name b (n + 1)
@@ -167,7 +168,7 @@ module _ (s rows : List ℕ) (c : Cursor) (parent left : ℕ) (a : Ready s rows 
     module _ (r : Read) (w : r ≡ movedTo (c .end) (c .rows + 1) (headOf (from s (c .end)))) where
       pub head-bad : (x : Refusal) → r ≡ Refused x → Halts s rows c parent left fieldStack x
       head-bad x y σ o q p f =
-          past-first σ o q p f ∙ next-halts s (c .end) (c .end) (c .rows + 1) x r w y (st begun (c .rows + 1) (c .rows ∷ o) (c .end) left q) (aliasStack ++ (fieldEndStack ++ σ))
+          past-first σ o q p f ∙ moved-halts s (c .end) (c .rows + 1) r x w y (st begun (c .rows + 1) (c .rows ∷ o) (c .end) left q) (aliasStack ++ (fieldEndStack ++ σ))
 
       module _ (b : Cursor) (y : r ≡ Done b) where
         head-next : Next s c b (c .rows + 1)

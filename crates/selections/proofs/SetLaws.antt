@@ -24,8 +24,9 @@ use Rattle.reader.specs.Reader.{Looks, movedTo, at, Ready, Went, Halts, Said}
 use Rattle.paper.specs.Language.{language, the, braceL, braceR, end, SelectionSet, Selection+, Selection*, Selection}
 use Rattle.reader.proofs.Steps.{first, null, refuse, lacks, opening, closing, too-deep, is, not-is, not-two, refuses, refusesEnd}
 use Rattle.reader.proofs.Cells.{ends-row}
+use Rattle.values.proofs.MovedLaws.{moved-halts, moved-said}
 use Rattle.arguments.specs.Passed.{Passed, opened, shut}
-use Rattle.arguments.proofs.Onward.{lies, has-bytes, next, next-at, next-halts, same, said-went, said-halts}
+use Rattle.arguments.proofs.Onward.{lies, has-bytes, next, next-at, same, said-went, said-halts}
 use Rattle.selections.specs.Selections.{selectionSetStack, selectionStack, bodyStack}
 
 -- what is left of a set where a selection is to be read
@@ -108,7 +109,7 @@ module _ (s rows : List ℕ) (c : Cursor) (parent left : ℕ) (a : Ready s rows 
 
     pub set-bad : (left ≡ 0 → ⊥) → (r : Read) → r ≡ movedTo (c .end) (c .rows) (headOf (from s (c .end))) → (x : Refusal) → r ≡ Refused x → Halts s rows c parent left selectionSetStack x
     set-bad z r m x y σ o q p f =
-        opened-at z σ o q f ∙ next-halts s (c .end) (c .end) (c .rows) x r m y (st rows (c .rows) o (c .end) (left - 1) q) (nt Selection+ ∷ tm (the braceR) ∷ σ)
+        opened-at z σ o q f ∙ moved-halts s (c .end) (c .rows) r x m y (st rows (c .rows) o (c .end) (left - 1) q) (nt Selection+ ∷ tm (the braceR) ∷ σ)
 
     -- the loop: at each turn a selection is to be read
     pub turn-first : (left ≡ 0 → ⊥) → (d : Cursor) (r : Read) → r ≡ movedTo (c .end) (c .rows) (headOf (from s (c .end))) → r ≡ Done d →
@@ -171,24 +172,9 @@ module _ (s rows rows₁ rows₂ : List ℕ) (c d b : Cursor) (parent left : ℕ
       ∙ ap (λ (m : ℕ). go (st rows₂ (b .rows) o (b .end) m q) σ (from s (b .end))) (omega arith)
 
   pub turn-ends : (t : Read) → t ≡ movedTo (b .end) (b .rows) (headOf (from s (b .end))) → Said 1 s rows rows₂ c parent left selectionSetStack t
-  turn-ends t m = by-answer t refl
-    where
-      done : (u : Cursor) → t ≡ Done u → Went 1 s rows rows₂ c u parent left selectionSetStack
-      done u y =
-          let x = next s b u (b .rows) (read .within) (read .looks) t m y in
-          let l = lies s b (read .within) (read .looks) in
-          record {
-            size = read .size;
-            within = x .within;
-            few = omega (arith, read .few, x .rows);
-            looks = x .looks;
-            on = omega (arith, x .stop, i .on, read .on);
-            goes = λ σ o q p f. end-at σ o q p f ∙ next-at s b u (b .rows) x rows₂ o left q σ;
-          }
-
-      by-answer : (y : Read) → t ≡ y → Said 1 s rows rows₂ c parent left selectionSetStack y
-      by-answer (Done u) y = done u y
-      by-answer (Refused x) y = λ σ o q p f. end-at σ o q p f ∙ next-halts s (b .end) (b .end) (b .rows) x t m y (st rows₂ (b .rows) o (b .end) left q) σ
+  turn-ends t m =
+      let l = lies s b (read .within) (read .looks) in
+      moved-said 1 s rows rows₂ c parent left selectionSetStack (b .end) (b .rows) (read .size) (l .2) (read .few) (omega (arith, i .on, read .on)) end-at t m
 
 -- THE SET THAT ENDS ROW n
 module _ (s rows rows₁ : List ℕ) (c : Cursor) (n left : ℕ) (r : Read) (v : Said 1 s rows rows₁ c n left selectionSetStack r) where

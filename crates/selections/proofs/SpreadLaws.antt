@@ -29,8 +29,9 @@ use Rattle.characters.specs.Head.{wordOf}
 use Rattle.reader.proofs.Steps.{first, null, refuse, plain, too-many-rows, is, not-is, not-two, refuses, refusesEnd}
 use Rattle.reader.proofs.Cells.{put, put-length, row-begins, kind-told, ends-row}
 use Rattle.arguments.specs.Arguments.{AtOn, bytesAt, conditionStack, directivesStack}
+use Rattle.values.proofs.MovedLaws.{start-in, moved-halts}
 use Rattle.arguments.specs.Passed.{Passed, Passes, opened, shut}
-use Rattle.arguments.proofs.Onward.{Next, lies, has-bytes, next, next-at, next-halts, same, start-here, said-went, said-halts, passes-went, passes-halts, named-row}
+use Rattle.arguments.proofs.Onward.{Next, lies, has-bytes, next, next-at, same, said-went, said-halts, passes-went, passes-halts, named-row}
 use Rattle.arguments.proofs.Words.{is-on, on-is, is-no-on, no-on-is, word-first, word-taken}
 use Rattle.selections.specs.Selections.{namesFragment, selectionStack, bodyStack, spreadStack, spreadBegun}
 use Rattle.selections.proofs.SetLaws.{no-set}
@@ -79,7 +80,7 @@ module _ (s rows : List ℕ) (c : Cursor) (parent left n start : ℕ) (a : Ready
     row-past σ o q f = past-name σ o q f ∙ ap (λ (u : List ℕ). go (st u (c .rows) (n ∷ o) (c .end) left q) (nt Directives? ∷ act end ∷ σ) (from s (c .end))) (sym j)
 
     pub named-bad : (x : Refusal) → r ≡ Refused x → (rows′ : List ℕ) → Passes 1 s (spreadBegun rows n start parent) rows′ c n left (opened n) shut spreadStack [] (Refused x)
-    named-bad x y rows′ σ o q p f = row-past σ o q f ∙ next-halts s (c .end) (c .end) (c .rows) x r w y (st rows₁ (c .rows) (n ∷ o) (c .end) left q) (nt Directives? ∷ act end ∷ σ)
+    named-bad x y rows′ σ o q p f = row-past σ o q f ∙ moved-halts s (c .end) (c .rows) r x w y (st rows₁ (c .rows) (n ∷ o) (c .end) left q) (nt Directives? ∷ act end ∷ σ)
 
     module _ (b : Cursor) (y : r ≡ Done b) where
       behind : Next s c b (c .rows)
@@ -232,7 +233,7 @@ module _ (s rows : List ℕ) (c : Cursor) (parent left : ℕ) (a : Ready s rows 
   begins σ o q p =
       first s c (a .within) (a .looks) rows (c .rows) o left q σ Selection (List·Memᴰ·tail (List·Memᴰ·head refl)) 4 e tt
       ∙ row-begins rows (c .rows) o (c .stop) left q (tm (the spread) ∷ nt SpreadRest ∷ σ) (from s (c .stop))
-      ∙ ap (λ (u : ℕ). go (st (put rows (c .rows) 0 u 0 (top o) 0 0 0) (c .rows + 1) (c .rows ∷ o) (c .stop) left q) (tm (the spread) ∷ nt SpreadRest ∷ σ) (from s (c .stop))) (start-here s c (a .looks))
+      ∙ ap (λ (u : ℕ). go (st (put rows (c .rows) 0 u 0 (top o) 0 0 0) (c .rows + 1) (c .rows ∷ o) (c .stop) left q) (tm (the spread) ∷ nt SpreadRest ∷ σ) (from s (c .stop))) (start-in s c (a .looks))
       ∙ ap (λ (u : ℕ). go (st (put rows (c .rows) 0 (c .start) 0 u 0 0 0) (c .rows + 1) (c .rows ∷ o) (c .stop) left q) (tm (the spread) ∷ nt SpreadRest ∷ σ) (from s (c .stop))) p
 
   pub spread-full : c .rows ≡ mostRows → Halts s rows c parent left selectionStack (TooManyRows (c .start))
@@ -248,7 +249,7 @@ module _ (s rows : List ℕ) (c : Cursor) (parent left : ℕ) (a : Ready s rows 
 
     module _ (r : Read) (w : r ≡ movedTo (c .end) (c .rows + 1) (headOf (from s (c .end)))) where
       pub spread-bad : (x : Refusal) → r ≡ Refused x → Halts s rows c parent left selectionStack x
-      spread-bad x y σ o q p f = past-dots σ o q p f ∙ next-halts s (c .end) (c .end) (c .rows + 1) x r w y (st begun (c .rows + 1) (c .rows ∷ o) (c .end) left q) (nt SpreadRest ∷ σ)
+      spread-bad x y σ o q p f = past-dots σ o q p f ∙ moved-halts s (c .end) (c .rows + 1) r x w y (st begun (c .rows + 1) (c .rows ∷ o) (c .end) left q) (nt SpreadRest ∷ σ)
 
       module _ (b : Cursor) (y : r ≡ Done b) where
         spread-next : Next s c b (c .rows + 1)
