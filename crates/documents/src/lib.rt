@@ -24,22 +24,22 @@ use selections::condition;
 use selections::directives_if;
 use selections::names_fragment;
 use selections::selection_set;
-use tokens::TOKEN_BANG;
-use tokens::TOKEN_BRACE_OPEN;
-use tokens::TOKEN_BRACKET_CLOSE;
-use tokens::TOKEN_BRACKET_OPEN;
-use tokens::TOKEN_COLON;
-use tokens::TOKEN_DOLLAR;
-use tokens::TOKEN_END;
-use tokens::TOKEN_EQUALS;
-use tokens::TOKEN_NAME;
-use tokens::TOKEN_PAREN_CLOSE;
-use tokens::TOKEN_PAREN_OPEN;
-use tokens::WORD_FRAGMENT;
-use tokens::WORD_MUTATION;
-use tokens::WORD_OTHER;
-use tokens::WORD_QUERY;
-use tokens::WORD_SUBSCRIPTION;
+use characters::TOKEN_BANG;
+use characters::TOKEN_BRACE_OPEN;
+use characters::TOKEN_BRACKET_CLOSE;
+use characters::TOKEN_BRACKET_OPEN;
+use characters::TOKEN_COLON;
+use characters::TOKEN_DOLLAR;
+use characters::TOKEN_END;
+use characters::TOKEN_EQUALS;
+use characters::TOKEN_NAME;
+use characters::TOKEN_PAREN_CLOSE;
+use characters::TOKEN_PAREN_OPEN;
+use characters::WORD_FRAGMENT;
+use characters::WORD_MUTATION;
+use characters::WORD_OTHER;
+use characters::WORD_QUERY;
+use characters::WORD_SUBSCRIPTION;
 ghost use mathlib.Core.Path.{_≡_};
 ghost use Prim.Native.Nat.{_+_, _-_, _≤_, _<_};
 ghost use lib.ListN.{length};
@@ -408,7 +408,7 @@ fn fragment_rest(s: &[u8], rows: &mut [u32], c: Cursor, n: u32) -> Read
 fn word_at(s: &[u8], c: Cursor) -> u32
 {
     if c.kind == TOKEN_NAME {
-        return tokens::word(s, c.start as usize, c.end as usize);
+        return characters::word(s, c.start as usize, c.end as usize);
     }
     WORD_OTHER
 }

@@ -12,15 +12,15 @@ use reader::put_end;
 use reader::put_row;
 use reader::Cursor;
 use reader::Read;
-use tokens::TOKEN_AT;
-use tokens::TOKEN_BRACE_CLOSE;
-use tokens::TOKEN_BRACE_OPEN;
-use tokens::TOKEN_COLON;
-use tokens::TOKEN_NAME;
-use tokens::TOKEN_PAREN_CLOSE;
-use tokens::TOKEN_PAREN_OPEN;
-use tokens::TOKEN_SPREAD;
-use tokens::WORD_ON;
+use characters::TOKEN_AT;
+use characters::TOKEN_BRACE_CLOSE;
+use characters::TOKEN_BRACE_OPEN;
+use characters::TOKEN_COLON;
+use characters::TOKEN_NAME;
+use characters::TOKEN_PAREN_CLOSE;
+use characters::TOKEN_PAREN_OPEN;
+use characters::TOKEN_SPREAD;
+use characters::WORD_ON;
 use values::entry;
 ghost use mathlib.Core.Path.{_≡_};
 ghost use Prim.Native.Nat.{_+_, _-_, _≤_, _<_};
@@ -288,7 +288,7 @@ pub fn names_fragment(s: &[u8], c: Cursor) -> bool
     ensures { λ r. ⌜ r ≡ namesFragment (now (s .entry)) c ⌝ }
 {
     if c.kind == TOKEN_NAME {
-        return tokens::word(s, c.start as usize, c.end as usize) != WORD_ON;
+        return characters::word(s, c.start as usize, c.end as usize) != WORD_ON;
     }
     false
 }

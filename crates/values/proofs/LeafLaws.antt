@@ -22,8 +22,8 @@ use Rattle.paper.proofs.Theory.{and-l}
 use Rattle.paper.proofs.Test.{all, implies, implies-out, all-at}
 use Rattle.paper.proofs.Tables.{graphql, factored, allC, atC}
 use Rattle.paper.proofs.Going.{Stack, st, go, halt}
-use Rattle.tokens.specs.Head.{headOf, kindOf, wordOf, wordNumber}
-use Rattle.tokens.specs.declared.TokenRead.the-variants.{Token}
+use Rattle.characters.specs.Head.{headOf, kindOf, wordOf, wordNumber}
+use Rattle.characters.specs.declared.TokenRead.the-variants.{Token}
 use Rattle.reader.specs.declared.Cursor.{Cursor}
 use Rattle.reader.specs.declared.Read.{Read}
 use Rattle.reader.specs.Reader.{Ready, at, Said, noGoingOf}
@@ -31,7 +31,7 @@ use Rattle.reader.proofs.Steps.{tokenOf, front-token, by-kind, is, refuse, refu
 use Rattle.reader.proofs.Cells.{put, put-length, row-opens, name-told, row-ends}
 use Rattle.values.specs.Stacks.{valuePart}
 use Rattle.values.specs.Marks.{Leaf, full, wrote, SaidScalar}
-use Rattle.values.proofs.HeadName.{head-name}
+use Rattle.tokens.proofs.HeadLaws.{head-name}
 use Rattle.values.proofs.MovedLaws.{moved-said}
 use Rattle.values.proofs.StackSteps.{plainHit, class-first, class-plain, class-rows}
 

@@ -1,4 +1,17 @@
 // Reads values, and the entries of arguments and objects, and writes their rows.
+use characters::TOKEN_BRACE_CLOSE;
+use characters::TOKEN_BRACE_OPEN;
+use characters::TOKEN_BRACKET_CLOSE;
+use characters::TOKEN_BRACKET_OPEN;
+use characters::TOKEN_COLON;
+use characters::TOKEN_DOLLAR;
+use characters::TOKEN_FLOAT;
+use characters::TOKEN_INT;
+use characters::TOKEN_NAME;
+use characters::TOKEN_STRING;
+use characters::WORD_FALSE;
+use characters::WORD_NULL;
+use characters::WORD_TRUE;
 use paper::EXTRA_FALSE;
 use paper::EXTRA_TRUE;
 use paper::KIND_BOOLEAN;
@@ -18,25 +31,12 @@ use reader::Read;
 use reader::no_going;
 use reader::put_end;
 use reader::put_row;
-use tokens::TOKEN_BRACE_CLOSE;
-use tokens::TOKEN_BRACE_OPEN;
-use tokens::TOKEN_BRACKET_CLOSE;
-use tokens::TOKEN_BRACKET_OPEN;
-use tokens::TOKEN_COLON;
-use tokens::TOKEN_DOLLAR;
-use tokens::TOKEN_FLOAT;
-use tokens::TOKEN_INT;
-use tokens::TOKEN_NAME;
-use tokens::TOKEN_STRING;
-use tokens::WORD_FALSE;
-use tokens::WORD_NULL;
-use tokens::WORD_TRUE;
 ghost use mathlib.Core.Path.{_≡_};
 ghost use mathlib.Core.Logic.{_≢_};
 ghost use Prim.Native.Nat.{_<_};
 ghost use Rattle.paper.specs.Numbers.{mostRows};
 ghost use Rattle.paper.specs.Language.{dollar, bracketL, braceL, n-other};
-ghost use Rattle.tokens.specs.Head.{kindOf};
+ghost use Rattle.characters.specs.Head.{kindOf};
 ghost use Rattle.reader.specs.Reader.{Ready, Said};
 ghost use Rattle.values.specs.Stacks.{valueStack, entryStack, EntryKind};
 ghost use Rattle.values.specs.Marks.{Leaf, Open, Close, SaidScalar, SaidVariable, SaidNamed};
@@ -70,7 +70,7 @@ fn word_value(s: &[u8], rows: &mut [u32], c: Cursor, parent: u32) -> Read
 {
     let start = c.start;
     let end = c.end;
-    let w = tokens::word(s, start as usize, end as usize);
+    let w = characters::word(s, start as usize, end as usize);
     if w == WORD_TRUE {
         return leaf(s, rows, c, parent, KIND_BOOLEAN, 0, 0, EXTRA_TRUE);
     }
