@@ -31,7 +31,7 @@ use Rattle.reader.proofs.Steps.{tokenOf, front-token, by-kind, is, refuse, refu
 use Rattle.reader.proofs.Cells.{put, put-length, row-opens, name-told, row-ends}
 use Rattle.values.specs.Stacks.{valuePart}
 use Rattle.values.specs.Marks.{Leaf, full, wrote, SaidScalar}
-use Rattle.values.proofs.HeadName.{head-name}
+use Rattle.tokens.proofs.HeadLaws.{head-name}
 use Rattle.values.proofs.MovedLaws.{moved-said}
 use Rattle.values.proofs.StackSteps.{plainHit, class-first, class-plain, class-rows}
 
