@@ -133,10 +133,10 @@ module _ (s rows : List ℕ) (c : Cursor) (parent left : ℕ) (a : Ready s rows 
           looks = x .looks;
           on = omega (arith, x .stop);
           goes =
-            λ σ o q p f.
-            opened-at z σ o q f
-            ∙ next-at s c d (c .rows) x rows o (left - 1) q (nt Argument+ ∷ tm (the parenR) ∷ σ)
-            ∙ first-argument s d (x .within) (x .looks) rows (d .rows) o (left - 1) q (tm (the parenR) ∷ σ);
+              λ σ o q p f.
+              opened-at z σ o q f
+              ∙ next-at s c d (c .rows) x rows o (left - 1) q (nt Argument+ ∷ tm (the parenR) ∷ σ)
+              ∙ first-argument s d (x .within) (x .looks) rows (d .rows) o (left - 1) q (tm (the parenR) ∷ σ);
         }
 
 -- one turn, from its cursor d on: α was to be read where the loop began

@@ -97,10 +97,10 @@ module _ (s rows : List ℕ) (c : Cursor) (parent left : ℕ) (a : Ready s rows 
               let b = lies s c (a .within) (a .looks) in
               let b′ = lies s name (condition-name .within) (condition-name .looks) in
               moved-said 1 s rows rows₁ c parent left conditionStack (name .end) (c .rows + 1)
-                (ap length w ∙ put-length rows (c .rows) 9 (name .start) (name .end) parent (name .start) (name .end - name .start) 0 ∙ a .size)
-                (b′ .2)
-                (omega (arith, z, a .few))
-                (omega (arith, has-bytes s c (a .within) (a .looks) 0 (e .0), condition-name .stop))
-                past-name
-                t
-                m′
+              (ap length w ∙ put-length rows (c .rows) 9 (name .start) (name .end) parent (name .start) (name .end - name .start) 0 ∙ a .size)
+              (b′ .2)
+              (omega (arith, z, a .few))
+              (omega (arith, has-bytes s c (a .within) (a .looks) 0 (e .0), condition-name .stop))
+              past-name
+              t
+              m′

@@ -89,7 +89,7 @@ module _ (s rows : List ℕ) (c : Cursor) (parent left : ℕ) (a : Ready s rows 
           past-name σ o q p f =
               to-name σ o q p f
               ∙ name-taken s name (directive-name .within) (directive-name .looks) (put rows (c .rows) 7 (c .start) 0 parent (name .start) (name .end - name .start) 0) (name .rows) (c .rows ∷ o) left q (rest σ) k
-                (omega (arith, directive-room, directive-name .rows)) f
+              (omega (arith, directive-room, directive-name .rows)) f
               ∙ ap (λ (v : List ℕ). go (st v (name .rows) (c .rows ∷ o) (name .end) left q) (rest σ) (from s (name .end))) (sym w)
               ∙ ap (λ (v : ℕ). go (st rows₁ v (c .rows ∷ o) (name .end) left q) (rest σ) (from s (name .end))) (directive-name .rows)
 
@@ -136,11 +136,11 @@ module _ (s rows : List ℕ) (c : Cursor) (parent left : ℕ) (a : Ready s rows 
                         looks = directive-read .looks;
                         on = omega (arith, has-bytes s c (a .within) (a .looks) 11 e, directive-name .stop, behind .stop, directive-read .on);
                         goes =
-                          λ σ o q p f.
-                          to-arguments σ o q p f
-                          ∙ directive-read .goes (act end ∷ σ) (c .rows ∷ o) q refl f
-                          ∙ ends-row rows₂ (d .rows) o (d .stop) left q σ (from s (d .stop)) (c .rows)
-                          ∙ ap (λ (v : List ℕ). at s v d o left q σ) (sym j);
+                            λ σ o q p f.
+                            to-arguments σ o q p f
+                            ∙ directive-read .goes (act end ∷ σ) (c .rows ∷ o) q refl f
+                            ∙ ends-row rows₂ (d .rows) o (d .stop) left q σ (from s (d .stop)) (c .rows)
+                            ∙ ap (λ (v : List ℕ). at s v d o left q σ) (sym j);
                       }
 
 -- DIRECTIVES, OR NONE

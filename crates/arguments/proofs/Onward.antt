@@ -1,4 +1,4 @@
--- From a token taken to the next one: the cursor past it, or the bytes that are none; and names, which most readers meet.
+-- Going on past a token: the cursor behind it; rows that begin at a token, and names; and what a reader said, where its answer is known.
 use mathlib.Core.Path.{_≡_, refl, ap, _∙_, subst}
 use mathlib.Core.Bool.{Bool, true, false, not}
 use mathlib.Core.List.{List, _∷_, _++_, List·Memᴰ·head}

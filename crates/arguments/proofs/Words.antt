@@ -67,7 +67,7 @@ module _ (s : List ℕ) (c : Cursor) (h : c .stop ≤ length s) (l : Looks s c) 
       let f = at-name s c h l e in
       rw (f .1)
       (class-first (st cells n o (c .stop) left q) σ p (nameClass (bytesAt s c)) (c .start) (c .end) (from s (c .end)) m
-        (by-word (fst graphql α) g a (nameClass (bytesAt s c)) 1 (wordOf (bytesAt s c)) (f .0) refl t))
+      (by-word (fst graphql α) g a (nameClass (bytesAt s c)) 1 (wordOf (bytesAt s c)) (f .0) refl t))
 
   -- a word that is there
   pub word-taken : (σ : Stack) (w : Terminal) (g : ℕ → ℕ → Bool) → T (g 1 (wordOf (bytesAt s c))) → T (all (λ k. implies (g (kindOf k) (wordNumber k)) (hits w k && (not (opens k) && not (closes k)))) allC) →
@@ -80,7 +80,7 @@ module _ (s : List ℕ) (c : Cursor) (h : c .stop ≤ length s) (l : Looks s c) 
       let u : T (not (opens k) && not (closes k)) = and-r (hits w k) (not (opens k) && not (closes k)) v in
       rw (f .1)
       (class-taken cells n o (c .stop) left q σ w k (c .start) (c .end) (from s (c .end))
-        (and-l (hits w k) (not (opens k) && not (closes k)) v) (and-l (not (opens k)) (not (closes k)) u) (and-r (not (opens k)) (not (closes k)) u) r z)
+      (and-l (hits w k) (not (opens k) && not (closes k)) v) (and-l (not (opens k)) (not (closes k)) u) (and-r (not (opens k)) (not (closes k)) u) r z)
 
 -- the name `on`
 abbrev pub is-on : ℕ → ℕ → Bool

@@ -1,18 +1,18 @@
 // Reads arguments, directives and type conditions, and writes their rows.
-use paper::Refusal;
-use paper::KIND_ARGUMENT;
-use paper::KIND_DIRECTIVE;
-use paper::KIND_TYPE_REFERENCE;
-use paper::MOST_ROWS;
-use reader::no_going;
-use reader::put_end;
-use reader::put_row;
-use reader::Cursor;
-use reader::Read;
 use characters::TOKEN_AT;
 use characters::TOKEN_NAME;
 use characters::TOKEN_PAREN_CLOSE;
 use characters::TOKEN_PAREN_OPEN;
+use paper::KIND_ARGUMENT;
+use paper::KIND_DIRECTIVE;
+use paper::KIND_TYPE_REFERENCE;
+use paper::MOST_ROWS;
+use paper::Refusal;
+use reader::Cursor;
+use reader::Read;
+use reader::no_going;
+use reader::put_end;
+use reader::put_row;
 use values::entry;
 ghost use mathlib.Core.Path.{_≡_};
 ghost use Rattle.reader.specs.Reader.{Ready, Said};
@@ -72,7 +72,17 @@ fn directive(s: &[u8], rows: &mut [u32], c: Cursor, parent: u32, left: u32) -> R
     if name.kind != TOKEN_NAME {
         return no_going(name);
     }
-    put_row(rows, n, KIND_DIRECTIVE, c.start, 0, parent, name.start, name.end - name.start, 0);
+    put_row(
+        rows,
+        n,
+        KIND_DIRECTIVE,
+        c.start,
+        0,
+        parent,
+        name.start,
+        name.end - name.start,
+        0,
+    );
     let t = name.past(s, n + 1);
     let Read::Done(first) = t else {
         return t;
@@ -119,6 +129,16 @@ pub fn condition(s: &[u8], rows: &mut [u32], c: Cursor, parent: u32, left: u32) 
     if n == MOST_ROWS {
         return Read::Refused(Refusal::TooManyRows(name.start));
     }
-    put_row(rows, n, KIND_TYPE_REFERENCE, name.start, name.end, parent, name.start, name.end - name.start, 0);
+    put_row(
+        rows,
+        n,
+        KIND_TYPE_REFERENCE,
+        name.start,
+        name.end,
+        parent,
+        name.start,
+        name.end - name.start,
+        0,
+    );
     name.past(s, n + 1)
 }

@@ -94,7 +94,7 @@ module _ (s rows : List ℕ) (c : Cursor) (parent left n start : ℕ) (a : Ready
         past-name m z σ o q f =
             to-name m z σ o q f
             ∙ name-taken s name (alias-name .within) (alias-name .looks) (fieldBegun rows n start parent (name .start) (name .end - name .start)) (name .rows) (n ∷ o) left q (fieldRestStack ++ σ) i
-              (omega (arith, alias-name .rows, a .few, k)) f
+            (omega (arith, alias-name .rows, a .few, k)) f
             ∙ ap (λ (u : ℕ). go (st (fieldBegun rows n start parent (name .start) (name .end - name .start)) u (n ∷ o) (name .end) left q) (fieldRestStack ++ σ) (from s (name .end))) (alias-name .rows)
             ∙ ap (λ (u : List ℕ). go (st u (n + 1) (n ∷ o) (name .end) left q) (fieldRestStack ++ σ) (from s (name .end))) (sym j)
 
@@ -193,16 +193,17 @@ module _ (s rows : List ℕ) (c : Cursor) (parent left : ℕ) (a : Ready s rows 
         head-aliased rows₂ (Refused x) v = λ σ o q p f. to-second σ o q p f ∙ v (c .start) (c .end - c .start) (fieldEndStack ++ σ) o q refl f
         head-aliased rows₂ (Done d) v =
             let g = v (c .start) (c .end - c .start) in
-            let l = lies s c (a .within) (a .looks) in
-            (head-room,
-             record {
-               size = g .size;
-               within = g .within;
-               few = g .few;
-               looks = g .looks;
-               on = omega (arith, head-next .stop, g .on);
-               goes = λ σ o q p f. to-second σ o q p f ∙ g .goes (fieldEndStack ++ σ) o q refl f;
-             })
+            let l = lies s c (a .within) (a .looks) in (
+              head-room,
+              record {
+                size = g .size;
+                within = g .within;
+                few = g .few;
+                looks = g .looks;
+                on = omega (arith, head-next .stop, g .on);
+                goes = λ σ o q p f. to-second σ o q p f ∙ g .goes (fieldEndStack ++ σ) o q refl f;
+              },
+            )
 
         -- without
         no-alias : (b .kind ≡ 10 → ⊥) → (σ : Stack) (o : List ℕ) (q : Counts) → top o ≡ parent → overCounts q ≡ false →
@@ -211,26 +212,27 @@ module _ (s rows : List ℕ) (c : Cursor) (parent left : ℕ) (a : Ready s rows 
         no-alias i σ o q p f =
             to-second σ o q p f
             ∙ null s b (head-next .within) (head-next .looks) begun (b .rows) (c .rows ∷ o) left q (fieldRestStack ++ (fieldEndStack ++ σ)) AliasRest (List·Memᴰ·head refl) tt refl (λ (u : ℕ). not (is 10 u))
-              (not-is 10 (b .kind) i) tt
+            (not-is 10 (b .kind) i) tt
 
         pub head-plain : (b .kind ≡ 10 → ⊥) → (rows₁ : List ℕ) → rows₁ ≡ begun → (rows₂ : List ℕ) (u : Read) → Said 0 s rows₁ rows₂ b (c .rows) left fieldRestStack u → HeadSaid s rows rows₂ c parent left u
         head-plain i rows₁ j rows₂ (Refused x) v =
             λ σ o q p f. no-alias i σ o q p f ∙ ap (λ (t : List ℕ). at s t b (c .rows ∷ o) left q (fieldRestStack ++ (fieldEndStack ++ σ))) (sym j) ∙ v (fieldEndStack ++ σ) (c .rows ∷ o) q refl f
         head-plain i rows₁ j rows₂ (Done d) v =
-            let l = lies s c (a .within) (a .looks) in
-            (head-room,
-             record {
-               size = v .size;
-               within = v .within;
-               few = v .few;
-               looks = v .looks;
-               on = omega (arith, has-bytes s c (a .within) (a .looks) 0 e, head-next .stop, v .on);
-               goes =
-                 λ σ o q p f.
-                 no-alias i σ o q p f
-                 ∙ ap (λ (t : List ℕ). at s t b (c .rows ∷ o) left q (fieldRestStack ++ (fieldEndStack ++ σ))) (sym j)
-                 ∙ v .goes (fieldEndStack ++ σ) (c .rows ∷ o) q refl f;
-             })
+            let l = lies s c (a .within) (a .looks) in (
+              head-room,
+              record {
+                size = v .size;
+                within = v .within;
+                few = v .few;
+                looks = v .looks;
+                on = omega (arith, has-bytes s c (a .within) (a .looks) 0 e, head-next .stop, v .on);
+                goes =
+                    λ σ o q p f.
+                    no-alias i σ o q p f
+                    ∙ ap (λ (t : List ℕ). at s t b (c .rows ∷ o) left q (fieldRestStack ++ (fieldEndStack ++ σ))) (sym j)
+                    ∙ v .goes (fieldEndStack ++ σ) (c .rows ∷ o) q refl f;
+              },
+            )
 
 -- A FIELD, by its head
 module _ (s rows rows₁ : List ℕ) (c : Cursor) (parent left : ℕ) (r : Read) (v : HeadSaid s rows rows₁ c parent left r) where
@@ -276,11 +278,11 @@ module _ (s rows rows₁ : List ℕ) (c : Cursor) (parent left : ℕ) (r : Read)
           looks = g .looks;
           on = g .on;
           goes =
-            λ σ o q p f.
-            g .goes σ o q p f
-            ∙ null s d (g .within) (g .looks) rows₁ (d .rows) (c .rows ∷ o) left q (act end ∷ σ) SelectionSet? (List·Memᴰ·head refl) tt refl (λ (u : ℕ). not (is 15 u)) (not-is 15 (d .kind) k) tt
-            ∙ ends-row rows₁ (d .rows) o (d .stop) left q σ (from s (d .stop)) (c .rows)
-            ∙ ap (λ (u : List ℕ). at s u d o left q σ) (sym j);
+              λ σ o q p f.
+              g .goes σ o q p f
+              ∙ null s d (g .within) (g .looks) rows₁ (d .rows) (c .rows ∷ o) left q (act end ∷ σ) SelectionSet? (List·Memᴰ·head refl) tt refl (λ (u : ℕ). not (is 15 u)) (not-is 15 (d .kind) k) tt
+              ∙ ends-row rows₁ (d .rows) o (d .stop) left q σ (from s (d .stop)) (c .rows)
+              ∙ ap (λ (u : List ℕ). at s u d o left q σ) (sym j);
         }
 
 -- a selection that begins with a name is a field

@@ -124,10 +124,10 @@ module _ (s rows : List ℕ) (c : Cursor) (parent left : ℕ) (a : Ready s rows 
           looks = x .looks;
           on = omega (arith, x .stop, has-bytes s c (a .within) (a .looks) 14 e);
           goes =
-            λ σ o q p f.
-            opened-at z σ o q f
-            ∙ next-at s c d (c .rows) x rows o (left - 1) q (nt Selection+ ∷ tm (the braceR) ∷ σ)
-            ∙ first-selection s d (x .within) (x .looks) rows (d .rows) o (left - 1) q (tm (the braceR) ∷ σ);
+              λ σ o q p f.
+              opened-at z σ o q f
+              ∙ next-at s c d (c .rows) x rows o (left - 1) q (nt Selection+ ∷ tm (the braceR) ∷ σ)
+              ∙ first-selection s d (x .within) (x .looks) rows (d .rows) o (left - 1) q (tm (the braceR) ∷ σ);
         }
 
 -- one turn, from its cursor d on: α was to be read where the loop began
@@ -194,8 +194,8 @@ module _ (s rows rows₁ : List ℕ) (c : Cursor) (n left : ℕ) (r : Read) (v :
           looks = body-read .looks;
           on = body-read .on;
           goes =
-            λ σ o q p f.
-            body-read .goes (act end ∷ σ) (n ∷ o) q refl f
-            ∙ ends-row rows₁ (d .rows) o (d .stop) left q σ (from s (d .stop)) n
-            ∙ ap (λ (u : List ℕ). at s u d o left q σ) (sym j);
+              λ σ o q p f.
+              body-read .goes (act end ∷ σ) (n ∷ o) q refl f
+              ∙ ends-row rows₁ (d .rows) o (d .stop) left q σ (from s (d .stop)) n
+              ∙ ap (λ (u : List ℕ). at s u d o left q σ) (sym j);
         }

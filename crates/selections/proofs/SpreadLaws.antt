@@ -118,11 +118,11 @@ module _ (s rows : List ℕ) (c : Cursor) (parent left n start : ℕ) (a : Ready
                 looks = named-read .looks;
                 on = omega (arith, has-bytes s c (a .within) (a .looks) 0 (names s c e .0), behind .stop, named-read .on);
                 goes =
-                  λ σ o q p f.
-                  to-directives σ o q f
-                  ∙ named-read .goes (act end ∷ σ) (n ∷ o) q refl f
-                  ∙ ends-row rows₂ (d .rows) o (d .stop) left q σ (from s (d .stop)) n
-                  ∙ ap (λ (u : List ℕ). at s u d o left q σ) (sym h);
+                    λ σ o q p f.
+                    to-directives σ o q f
+                    ∙ named-read .goes (act end ∷ σ) (n ∷ o) q refl f
+                    ∙ ends-row rows₂ (d .rows) o (d .stop) left q σ (from s (d .stop)) n
+                    ∙ ap (λ (u : List ℕ). at s u d o left q σ) (sym h);
               }
 
 -- AN INLINE FRAGMENT'S HEAD, behind its dots; row n begins at `start`
@@ -201,7 +201,7 @@ module _ (s rows : List ℕ) (c : Cursor) (parent left n start : ℕ) (a : Ready
             first s c (a .within) (a .looks) (spreadBegun rows n start parent) (c .rows) (n ∷ o) left q σ SpreadRest (List·Memᴰ·tail (List·Memᴰ·head refl)) 14 g tt ∙ told-as σ o q ∙ no-condition σ o q
         by-brace f (inr g) =
             refuse s c (a .within) (a .looks) (spreadBegun rows n start parent) (c .rows) (n ∷ o) left q σ SpreadRest (λ (u : ℕ). not (is 1 u) && (not (is 12 u) && not (is 15 u)))
-              (and-i (not (is 1 (c .kind))) (not (is 12 (c .kind)) && not (is 15 (c .kind))) (not-is 1 (c .kind) k) (not-two 12 15 (c .kind) f g)) tt tt
+            (and-i (not (is 1 (c .kind))) (not (is 12 (c .kind)) && not (is 15 (c .kind))) (not-is 1 (c .kind) k) (not-two 12 15 (c .kind) f g)) tt tt
             ∙ sym (no-set s c (a .within) (a .looks) rows₁ (c .rows) (n ∷ o) left q (act end ∷ σ) g)
             ∙ sym (null s c (a .within) (a .looks) rows₁ (c .rows) (n ∷ o) left q (bodyStack ++ σ) Directives? (List·Memᴰ·head refl) tt refl (λ (u : ℕ). not (is 12 u)) (not-is 12 (c .kind) f) tt)
 

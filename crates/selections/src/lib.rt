@@ -2,22 +2,22 @@
 use arguments::arguments_if;
 use arguments::condition;
 use arguments::directives_if;
-use paper::Refusal;
-use paper::KIND_FIELD;
-use paper::KIND_INLINE;
-use paper::KIND_SPREAD;
-use paper::MOST_ROWS;
-use reader::no_going;
-use reader::put_end;
-use reader::put_row;
-use reader::Cursor;
-use reader::Read;
 use characters::TOKEN_BRACE_CLOSE;
 use characters::TOKEN_BRACE_OPEN;
 use characters::TOKEN_COLON;
 use characters::TOKEN_NAME;
 use characters::TOKEN_SPREAD;
 use characters::WORD_ON;
+use paper::KIND_FIELD;
+use paper::KIND_INLINE;
+use paper::KIND_SPREAD;
+use paper::MOST_ROWS;
+use paper::Refusal;
+use reader::Cursor;
+use reader::Read;
+use reader::no_going;
+use reader::put_end;
+use reader::put_row;
 ghost use mathlib.Core.Path.{_≡_};
 ghost use mathlib.Core.Bool.{true, false};
 ghost use mathlib.Core.List.{[]};
@@ -44,12 +44,30 @@ fn field_head(s: &[u8], rows: &mut [u32], c: Cursor, parent: u32, left: u32) -> 
     if after.kind == TOKEN_COLON {
         return aliased(s, rows, after, parent, left, n, c.start);
     }
-    put_row(rows, n, KIND_FIELD, c.start, 0, parent, c.start, c.end - c.start, 0);
+    put_row(
+        rows,
+        n,
+        KIND_FIELD,
+        c.start,
+        0,
+        parent,
+        c.start,
+        c.end - c.start,
+        0,
+    );
     field_rest(s, rows, after, n, left)
 }
 
 // The same from the colon of its alias on; row n begins at `start`
-fn aliased(s: &[u8], rows: &mut [u32], c: Cursor, parent: u32, left: u32, n: u32, start: u32) -> Read
+fn aliased(
+    s: &[u8],
+    rows: &mut [u32],
+    c: Cursor,
+    parent: u32,
+    left: u32,
+    n: u32,
+    start: u32,
+) -> Read
     requires { ⌜ Ready (now s) (now rows) c n × (c .kind ≡ 10) × (c .rows ≡ n + 1) ⌝ }
     ensures { λ r. ⌜ AliasSaid (now (s .entry)) (now (rows .entry)) (now (rows .exit)) c parent left n start r ⌝ }
 {
@@ -60,7 +78,17 @@ fn aliased(s: &[u8], rows: &mut [u32], c: Cursor, parent: u32, left: u32, n: u32
     if name.kind != TOKEN_NAME {
         return no_going(name);
     }
-    put_row(rows, n, KIND_FIELD, start, 0, parent, name.start, name.end - name.start, 0);
+    put_row(
+        rows,
+        n,
+        KIND_FIELD,
+        start,
+        0,
+        parent,
+        name.start,
+        name.end - name.start,
+        0,
+    );
     let t = name.past(s, n + 1);
     let Read::Done(after) = t else {
         return t;
@@ -81,11 +109,29 @@ fn field_rest(s: &[u8], rows: &mut [u32], c: Cursor, n: u32, left: u32) -> Read
 }
 
 // FragmentSpread, from its name on, at which the cursor stands; row n begins at `start`
-fn named_spread(s: &[u8], rows: &mut [u32], c: Cursor, parent: u32, left: u32, n: u32, start: u32) -> Read
+fn named_spread(
+    s: &[u8],
+    rows: &mut [u32],
+    c: Cursor,
+    parent: u32,
+    left: u32,
+    n: u32,
+    start: u32,
+) -> Read
     requires { ⌜ Ready (now s) (now rows) c n × (namesFragment (now s) c ≡ true) × (c .rows ≡ n + 1) ⌝ }
     ensures { λ r. ⌜ Passes 1 (now (s .entry)) (spreadBegun (now (rows .entry)) n start parent) (now (rows .exit)) c n left (opened n) shut spreadStack [] r ⌝ }
 {
-    put_row(rows, n, KIND_SPREAD, start, 0, parent, c.start, c.end - c.start, 0);
+    put_row(
+        rows,
+        n,
+        KIND_SPREAD,
+        start,
+        0,
+        parent,
+        c.start,
+        c.end - c.start,
+        0,
+    );
     let m = c.rows;
     let r = c.past(s, m);
     let Read::Done(after) = r else {
@@ -100,7 +146,15 @@ fn named_spread(s: &[u8], rows: &mut [u32], c: Cursor, parent: u32, left: u32, n
 }
 
 // InlineFragment, from behind its dots up to its selection set: TypeCondition? Directives?; row n begins at `start`
-fn inline_head(s: &[u8], rows: &mut [u32], c: Cursor, parent: u32, left: u32, n: u32, start: u32) -> Read
+fn inline_head(
+    s: &[u8],
+    rows: &mut [u32],
+    c: Cursor,
+    parent: u32,
+    left: u32,
+    n: u32,
+    start: u32,
+) -> Read
     requires { ⌜ Ready (now s) (now rows) c n × (namesFragment (now s) c ≡ false) × (c .rows ≡ n + 1) ⌝ }
     ensures { λ r. ⌜ Passes 0 (now (s .entry)) (spreadBegun (now (rows .entry)) n start parent) (now (rows .exit)) c n left (opened n) (opened n) spreadStack bodyStack r ⌝ }
 {
