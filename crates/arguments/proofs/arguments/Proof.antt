@@ -59,7 +59,7 @@ enum-told-2 : tie.Need-enum-told-2 Inv-loop μ-loop
 enum-told-2 c = search needs
 
 same-length : tie.Need-same-length Inv-loop μ-loop
-same-length c = search needs
+same-length c = c .before .before .before .before .entry .kept .1 .0 ∙ c .before .before .before .before .before .before .loop .inv .size ∙ sym (c .before .before .before .before .before .before .before .before .before .before .before .before .before .before .pre .0 .size)
 
 returns-3 : tie.Need-returns-3 Inv-loop μ-loop
 returns-3 c = rw (c .enum-told2 .given .1) (turn-stops _ _ _ _ _ _ _ _ _ (joint (c .before .before .before .before .before .before)) _ _ (c .before .before .before .before .entry .ensures) _ (c .enum-told2 .given .1))

@@ -8,7 +8,7 @@ arguments-requires : tie.Need-arguments-requires
 arguments-requires c κs = search needs
 
 same-length : tie.Need-same-length
-same-length c = search needs
+same-length c = c .before .before .arguments .kept .1 .0
 
 returns : tie.Need-returns
 returns c = search needs

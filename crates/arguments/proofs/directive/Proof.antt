@@ -1,4 +1,5 @@
 -- `directive` is the machine at Directive.
+use mathlib.Core.Path.{_∙_}
 use Rattle.arguments.proofs.Onward.{ready-past, next-order, next-past}
 use Rattle.arguments.proofs.DirectivesLaws.{directive-full, directive-room, directive-bad, directive-name, directive-nameless, directive-bad-behind, directive-ready, directive-stops, directive-read, directive-ends}
 use borrow.Author.Needs.{needs}
@@ -48,7 +49,7 @@ enum-told-2 : tie.Need-enum-told-2
 enum-told-2 c = search needs
 
 same-length : tie.Need-same-length
-same-length c = search needs
+same-length c = c .before .before .before .before .before .put-row .kept .0
 
 returns-4 : tie.Need-returns-4
 returns-4 c = rw (c .enum-told2 .given .1) (directive-bad-behind _ _ _ _ _ (c .before .before .before .before .before .before .before .before .before .before .before .before .before .before .before .before .before .pre .0) (c .before .before .before .before .before .before .before .before .before .before .before .before .before .before .before .before .before .pre .1) (c .before .before .before .before .before .before .before .before .before .before .before .before .before .before .if1 .left) _ (c .before .before .before .before .before .before .before .before .before .before .before .before .before .past .ensures) _ (c .before .before .before .before .before .before .before .before .before .before .before .r .given .1) (c .before .before .before .before .before .before .before .before .if2 .left) _ (c .before .before .before .before .before .put-row .ensures) _ (c .before .before .past2 .ensures) _ (c .enum-told2 .given .1))
@@ -63,7 +64,7 @@ enum-told-3 : tie.Need-enum-told-3
 enum-told-3 c = search needs
 
 same-length-2 : tie.Need-same-length-2
-same-length-2 c = search needs
+same-length-2 c = c .before .before .before .before .arguments-if .kept .1 .0 ∙ c .before .before .before .before .before .before .before .before .before .before .before .before .put-row .kept .0
 
 returns-5 : tie.Need-returns-5
 returns-5 c = rw (c .enum-told3 .given .1) (directive-stops _ _ _ _ _ (c .before .before .before .before .before .before .before .before .before .before .before .before .before .before .before .before .before .before .before .before .before .before .before .before .pre .0) (c .before .before .before .before .before .before .before .before .before .before .before .before .before .before .before .before .before .before .before .before .before .before .before .before .pre .1) (c .before .before .before .before .before .before .before .before .before .before .before .before .before .before .before .before .before .before .before .before .before .if1 .left) _ (c .before .before .before .before .before .before .before .before .before .before .before .before .before .before .before .before .before .before .before .before .past .ensures) _ (c .before .before .before .before .before .before .before .before .before .before .before .before .before .before .before .before .before .before .r .given .1) (c .before .before .before .before .before .before .before .before .before .before .before .before .before .before .before .if2 .left) _ (c .before .before .before .before .before .before .before .before .before .before .before .before .put-row .ensures) _ (c .before .before .before .before .before .before .before .before .before .past2 .ensures) _ (c .before .before .before .before .before .before .before .t .given .1) _ _ (c .before .before .before .before .arguments-if .ensures) _ (c .enum-told3 .given .1))
@@ -72,7 +73,7 @@ put-end-requires : tie.Need-put-end-requires
 put-end-requires c κs = (directive-room _ _ _ _ 0 (c .before .before .before .before .before .before .before .before .before .before .before .before .before .before .before .before .before .before .before .before .before .before .before .before .before .before .pre .0) (c .before .before .before .before .before .before .before .before .before .before .before .before .before .before .before .before .before .before .before .before .before .before .before .before .before .before .pre .1) (c .before .before .before .before .before .before .before .before .before .before .before .before .before .before .before .before .before .before .before .before .before .before .before .if1 .left), directive-read _ _ _ _ _ (c .before .before .before .before .before .before .before .before .before .before .before .before .before .before .before .before .before .before .before .before .before .before .before .before .before .before .pre .0) (c .before .before .before .before .before .before .before .before .before .before .before .before .before .before .before .before .before .before .before .before .before .before .before .before .before .before .pre .1) (c .before .before .before .before .before .before .before .before .before .before .before .before .before .before .before .before .before .before .before .before .before .before .before .if1 .left) _ (c .before .before .before .before .before .before .before .before .before .before .before .before .before .before .before .before .before .before .before .before .before .before .past .ensures) _ (c .before .before .before .before .before .before .before .before .before .before .before .before .before .before .before .before .before .before .before .before .r .given .1) (c .before .before .before .before .before .before .before .before .before .before .before .before .before .before .before .before .before .if2 .left) _ (c .before .before .before .before .before .before .before .before .before .before .before .before .before .before .put-row .ensures) _ (c .before .before .before .before .before .before .before .before .before .before .before .past2 .ensures) _ (c .before .before .before .before .before .before .before .before .before .t .given .1) _ _ (c .before .before .before .before .before .before .arguments-if .ensures) _ (c .before .before .u .given .1) .size)
 
 same-length-3 : tie.Need-same-length-3
-same-length-3 c = search needs
+same-length-3 c = c .before .before .put-end .kept .0 ∙ c .before .before .before .before .before .before .before .before .before .arguments-if .kept .1 .0 ∙ c .before .before .before .before .before .before .before .before .before .before .before .before .before .before .before .before .before .put-row .kept .0
 
 returns-6 : tie.Need-returns-6
 returns-6 c = directive-ends _ _ _ _ _ (c .before .before .before .before .before .before .before .before .before .before .before .before .before .before .before .before .before .before .before .before .before .before .before .before .before .before .before .before .before .pre .0) (c .before .before .before .before .before .before .before .before .before .before .before .before .before .before .before .before .before .before .before .before .before .before .before .before .before .before .before .before .before .pre .1) (c .before .before .before .before .before .before .before .before .before .before .before .before .before .before .before .before .before .before .before .before .before .before .before .before .before .before .if1 .left) _ (c .before .before .before .before .before .before .before .before .before .before .before .before .before .before .before .before .before .before .before .before .before .before .before .before .before .past .ensures) _ (c .before .before .before .before .before .before .before .before .before .before .before .before .before .before .before .before .before .before .before .before .before .before .before .r .given .1) (c .before .before .before .before .before .before .before .before .before .before .before .before .before .before .before .before .before .before .before .before .if2 .left) _ (c .before .before .before .before .before .before .before .before .before .before .before .before .before .before .before .before .before .put-row .ensures) _ (c .before .before .before .before .before .before .before .before .before .before .before .before .before .before .past2 .ensures) _ (c .before .before .before .before .before .before .before .before .before .before .before .before .t .given .1) _ _ (c .before .before .before .before .before .before .before .before .before .arguments-if .ensures) _ (c .before .before .before .before .before .u .given .1) _ (c .before .before .put-end .ensures)

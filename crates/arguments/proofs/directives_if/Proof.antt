@@ -35,7 +35,7 @@ enum-told : tie.Need-enum-told Inv-loop μ-loop
 enum-told c = search needs
 
 same-length-2 : tie.Need-same-length-2 Inv-loop μ-loop
-same-length-2 c = search needs
+same-length-2 c = c .before .before .before .before .directive .kept .1 .0 ∙ c .before .before .before .before .before .before .before .before .loop .inv .size ∙ sym (c .before .before .before .before .before .before .before .before .before .before .before .pre .size)
 
 returns-2 : tie.Need-returns-2 Inv-loop μ-loop
 returns-2 c = rw (c .enum-told .given .1) (turn-stops _ _ _ _ _ _ _ (c .before .before .before .before .before .before .before .before .loop .inv) (c .before .before .before .before .before .before .if1 .left) _ _ (c .before .before .before .before .directive .ensures) _ (c .enum-told .given .1))

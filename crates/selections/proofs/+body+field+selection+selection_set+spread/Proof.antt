@@ -115,7 +115,7 @@ body-enum-told : (t : ℕ) → body-lts.Need-enum-told (body-calls t) (body-at t
 body-enum-told t c = search needs
 
 body-same-length : (t : ℕ) → body-lts.Need-same-length (body-calls t) (body-at t) body.Post
-body-same-length t c = search needs
+body-same-length t c = c .before .before .before .before .selection-set .kept .1 .0
 
 body-returns : (t : ℕ) → body-lts.Need-returns (body-calls t) (body-at t) body.Post
 body-returns t c = rw (c .enum-told .given .1) (body-stops _ _ _ _ _ _ _ (c .before .before .before .before .selection-set .ensures) _ (c .enum-told .given .1))
@@ -124,7 +124,7 @@ body-put-end-requires : (t : ℕ) → body-lts.Need-put-end-requires (body-calls
 body-put-end-requires t c κs = (c .before .before .before .before .before .before .before .before .before .before .pre .1 .1, body-read _ _ _ _ _ _ _ (c .before .before .before .before .before .before .selection-set .ensures) _ (c .before .before .r .given .1) .size)
 
 body-same-length-2 : (t : ℕ) → body-lts.Need-same-length-2 (body-calls t) (body-at t) body.Post
-body-same-length-2 t c = search needs
+body-same-length-2 t c = c .before .before .put-end .kept .0 ∙ c .before .before .before .before .before .before .before .before .before .selection-set .kept .1 .0
 
 body-returns-2 : (t : ℕ) → body-lts.Need-returns-2 (body-calls t) (body-at t) body.Post
 body-returns-2 t c = body-ends _ _ _ _ _ _ _ (c .before .before .before .before .before .before .before .before .before .selection-set .ensures) _ (c .before .before .before .before .before .r .given .1) _ (c .before .before .put-end .ensures)
@@ -139,7 +139,7 @@ field-enum-told : (t : ℕ) → field-lts.Need-enum-told (field-calls t) (field-
 field-enum-told t c = search needs
 
 field-same-length : (t : ℕ) → field-lts.Need-same-length (field-calls t) (field-at t) field.Post
-field-same-length t c = search needs
+field-same-length t c = c .before .before .before .before .field-head .kept .1 .0
 
 field-returns : (t : ℕ) → field-lts.Need-returns (field-calls t) (field-at t) field.Post
 field-returns t c = rw (c .enum-told .given .1) (field-stops _ _ _ _ _ _ _ (c .before .before .before .before .field-head .ensures) _ (c .enum-told .given .1))
@@ -148,7 +148,7 @@ field-body-requires : (t : ℕ) → field-lts.Need-body-requires (field-calls t)
 field-body-requires t c κs = (omega (arith, c .before .before .before .before .before .before .before .before .before .before .before .before .pre .0), (field-ready _ _ _ _ _ _ _ (c .before .before .before .before .before .before .before .before .field-head .ensures) _ (c .before .before .before .before .r .given .1) (c .before .before .before .before .before .before .before .before .before .before .before .before .pre .1 .0 .short), field-read _ _ _ _ _ _ _ (c .before .before .before .before .before .before .before .before .field-head .ensures) _ (c .before .before .before .before .r .given .1) .0))
 
 field-same-length-2 : (t : ℕ) → field-lts.Need-same-length-2 (field-calls t) (field-at t) field.Post
-field-same-length-2 t c = search needs
+field-same-length-2 t c = c .before .before .body .kept .1 .0 ∙ c .before .before .before .before .before .before .before .before .before .before .before .field-head .kept .1 .0
 
 field-returns-2 : (t : ℕ) → field-lts.Need-returns-2 (field-calls t) (field-at t) field.Post
 field-returns-2 t c = field-set _ _ _ _ _ _ _ (c .before .before .before .before .before .before .before .before .before .before .before .field-head .ensures) _ (c .before .before .before .before .before .before .before .r .given .1) (c .before .before .before .before .if1 .taken) _ (c .before .before .body .result) (c .before .before .body .ensures)
@@ -157,7 +157,7 @@ field-put-end-requires : (t : ℕ) → field-lts.Need-put-end-requires (field-ca
 field-put-end-requires t c κs = (field-read _ _ _ _ _ _ _ (c .before .before .before .before .before .before .before .before .field-head .ensures) _ (c .before .before .before .before .r .given .1) .0, field-read _ _ _ _ _ _ _ (c .before .before .before .before .before .before .before .before .field-head .ensures) _ (c .before .before .before .before .r .given .1) .1 .size)
 
 field-same-length-3 : (t : ℕ) → field-lts.Need-same-length-3 (field-calls t) (field-at t) field.Post
-field-same-length-3 t c = search needs
+field-same-length-3 t c = c .before .before .put-end .kept .0 ∙ c .before .before .before .before .before .before .before .before .before .before .before .field-head .kept .1 .0
 
 field-returns-3 : (t : ℕ) → field-lts.Need-returns-3 (field-calls t) (field-at t) field.Post
 field-returns-3 t c = field-ends _ _ _ _ _ _ _ (c .before .before .before .before .before .before .before .before .before .before .before .field-head .ensures) _ (c .before .before .before .before .before .before .before .r .given .1) (c .before .before .before .before .if1 .left) _ (c .before .before .put-end .ensures)
@@ -166,7 +166,7 @@ selection-field-requires : (t : ℕ) → selection-lts.Need-field-requires (sele
 selection-field-requires t c κs = (omega (arith, c .before .before .before .before .before .pre .0), (c .before .before .before .before .before .pre .1, c .before .if1 .taken))
 
 selection-same-length : (t : ℕ) → selection-lts.Need-same-length (selection-calls t) (selection-at t) selection.Post
-selection-same-length t c = search needs
+selection-same-length t c = c .before .before .field .kept .1 .0
 
 selection-returns : (t : ℕ) → selection-lts.Need-returns (selection-calls t) (selection-at t) selection.Post
 selection-returns t c = field-selected _ _ _ _ _ (c .before .before .before .before .before .before .before .before .args .left) (c .before .before .before .before .before .before .before .before .pre .1) (c .before .before .before .before .if1 .taken) (c .before .before .field .result) (c .before .before .field .ensures)
@@ -175,7 +175,7 @@ selection-spread-requires : (t : ℕ) → selection-lts.Need-spread-requires (se
 selection-spread-requires t c κs = (omega (arith, c .before .before .before .before .before .before .before .pre .0), (c .before .before .before .before .before .before .before .pre .1, c .before .if2 .taken))
 
 selection-same-length-2 : (t : ℕ) → selection-lts.Need-same-length-2 (selection-calls t) (selection-at t) selection.Post
-selection-same-length-2 t c = search needs
+selection-same-length-2 t c = c .before .before .spread .kept .1 .0
 
 selection-returns-2 : (t : ℕ) → selection-lts.Need-returns-2 (selection-calls t) (selection-at t) selection.Post
 selection-returns-2 t c = c .before .before .spread .ensures
@@ -239,7 +239,7 @@ selection-set-enum-told-2 : (t : ℕ) → selection-set-lts.Need-enum-told-2 (se
 selection-set-enum-told-2 t c = search needs
 
 selection-set-same-length : (t : ℕ) → selection-set-lts.Need-same-length (selection-set-calls t) (selection-set-at t) selection-set.Post selection-set-Inv-loop selection-set-μ-loop
-selection-set-same-length t c = search needs
+selection-set-same-length t c = c .before .before .before .before .selection .kept .1 .0 ∙ c .before .before .before .before .before .before .loop .inv .size ∙ sym (c .before .before .before .before .before .before .before .before .before .before .before .before .before .before .before .before .pre .1 .size)
 
 selection-set-returns-4 : (t : ℕ) → selection-set-lts.Need-returns-4 (selection-set-calls t) (selection-set-at t) selection-set.Post selection-set-Inv-loop selection-set-μ-loop
 selection-set-returns-4 t c = rw (c .enum-told2 .given .1) (turn-stops _ _ _ _ _ _ _ _ _ _ (joint t (c .before .before .before .before .before .before)) _ _ (c .before .before .before .before .selection .ensures) _ (c .enum-told2 .given .1))
@@ -284,7 +284,7 @@ spread-named-spread-requires : (t : ℕ) → spread-lts.Need-named-spread-requir
 spread-named-spread-requires t c κs = (spread-ready _ _ _ _ 0 (c .before .before .before .before .before .before .before .before .before .before .pre .1 .0) (c .before .before .before .before .before .before .before .before .before .before .pre .1 .1) (c .before .before .before .before .before .before .before .if1 .left) _ (c .before .before .before .before .before .before .past .ensures) _ (c .before .before .before .before .r .given .1), sym (c .before .before .names-fragment .ensures) ∙ c .before .if2 .taken, spread-rows _ _ _ _ 0 (c .before .before .before .before .before .before .before .before .before .before .pre .1 .0) (c .before .before .before .before .before .before .before .before .before .before .pre .1 .1) (c .before .before .before .before .before .before .before .if1 .left) _ (c .before .before .before .before .before .before .past .ensures) _ (c .before .before .before .before .r .given .1))
 
 spread-same-length : (t : ℕ) → spread-lts.Need-same-length (spread-calls t) (spread-at t) spread.Post
-spread-same-length t c = search needs
+spread-same-length t c = c .before .before .named-spread .kept .1 .0
 
 spread-returns-3 : (t : ℕ) → spread-lts.Need-returns-3 (spread-calls t) (spread-at t) spread.Post
 spread-returns-3 t c = spread-named _ _ _ _ (c .before .before .before .before .before .before .before .before .before .before .before .before .before .args .left) (c .before .before .before .before .before .before .before .before .before .before .before .before .before .pre .1 .0) (c .before .before .before .before .before .before .before .before .before .before .before .before .before .pre .1 .1) (c .before .before .before .before .before .before .before .before .before .before .if1 .left) _ (c .before .before .before .before .before .before .before .before .before .past .ensures) _ (c .before .before .before .before .before .before .before .r .given .1) _ (c .before .before .named-spread .result) (c .before .before .named-spread .ensures)
@@ -299,7 +299,7 @@ spread-enum-told-2 : (t : ℕ) → spread-lts.Need-enum-told-2 (spread-calls t) 
 spread-enum-told-2 t c = search needs
 
 spread-same-length-2 : (t : ℕ) → spread-lts.Need-same-length-2 (spread-calls t) (spread-at t) spread.Post
-spread-same-length-2 t c = search needs
+spread-same-length-2 t c = c .before .before .before .before .inline-head .kept .1 .0
 
 spread-returns-4 : (t : ℕ) → spread-lts.Need-returns-4 (spread-calls t) (spread-at t) spread.Post
 spread-returns-4 t c = rw (c .enum-told2 .given .1) (spread-stops _ _ _ _ _ (c .before .before .before .before .before .before .before .before .before .before .before .before .before .before .before .pre .1 .0) (c .before .before .before .before .before .before .before .before .before .before .before .before .before .before .before .pre .1 .1) (c .before .before .before .before .before .before .before .before .before .before .before .before .if1 .left) _ (c .before .before .before .before .before .before .before .before .before .before .before .past .ensures) _ (c .before .before .before .before .before .before .before .before .before .r .given .1) _ _ (c .before .before .before .before .inline-head .ensures) _ (c .enum-told2 .given .1))
@@ -308,7 +308,7 @@ spread-body-requires : (t : ℕ) → spread-lts.Need-body-requires (spread-calls
 spread-body-requires t c κs = (omega (arith, c .before .before .before .before .before .before .before .before .before .before .before .before .before .before .before .before .before .pre .0), (spread-set-ready _ _ _ _ _ (c .before .before .before .before .before .before .before .before .before .before .before .before .before .before .before .before .before .pre .1 .0) (c .before .before .before .before .before .before .before .before .before .before .before .before .before .before .before .before .before .pre .1 .1) (c .before .before .before .before .before .before .before .before .before .before .before .before .before .before .if1 .left) _ (c .before .before .before .before .before .before .before .before .before .before .before .before .before .past .ensures) _ (c .before .before .before .before .before .before .before .before .before .before .before .r .given .1) _ _ (c .before .before .before .before .before .before .inline-head .ensures) _ (c .before .before .t .given .1), spread-room _ _ _ _ 0 (c .before .before .before .before .before .before .before .before .before .before .before .before .before .before .before .before .before .pre .1 .0) (c .before .before .before .before .before .before .before .before .before .before .before .before .before .before .before .before .before .pre .1 .1) (c .before .before .before .before .before .before .before .before .before .before .before .before .before .before .if1 .left)))
 
 spread-same-length-3 : (t : ℕ) → spread-lts.Need-same-length-3 (spread-calls t) (spread-at t) spread.Post
-spread-same-length-3 t c = search needs
+spread-same-length-3 t c = c .before .before .body .kept .1 .0 ∙ c .before .before .before .before .before .before .before .before .before .inline-head .kept .1 .0
 
 spread-returns-5 : (t : ℕ) → spread-lts.Need-returns-5 (spread-calls t) (spread-at t) spread.Post
 spread-returns-5 t c = spread-set _ _ _ _ _ (c .before .before .before .before .before .before .before .before .before .before .before .before .before .before .before .before .before .before .before .before .pre .1 .0) (c .before .before .before .before .before .before .before .before .before .before .before .before .before .before .before .before .before .before .before .before .pre .1 .1) (c .before .before .before .before .before .before .before .before .before .before .before .before .before .before .before .before .before .if1 .left) _ (c .before .before .before .before .before .before .before .before .before .before .before .before .before .before .before .before .past .ensures) _ (c .before .before .before .before .before .before .before .before .before .before .before .before .before .before .r .given .1) _ _ (c .before .before .before .before .before .before .before .before .before .inline-head .ensures) _ (c .before .before .before .before .before .t .given .1) _ (c .before .before .body .result) (c .before .before .body .ensures)

@@ -1,4 +1,5 @@
 -- `field_head` is the machine at a field, up to its selection set.
+use mathlib.Core.Path.{_∙_}
 use Rattle.arguments.proofs.Onward.{ready-past, ready-order}
 use Rattle.selections.proofs.FieldLaws.{head-full, head-bad, head-rows, head-ready, head-size, head-aliased, head-plain}
 use borrow.Author.Needs.{needs}
@@ -27,7 +28,7 @@ aliased-requires : tie.Need-aliased-requires
 aliased-requires c κs = (head-ready _ _ _ _ 0 (c .before .before .before .before .before .before .before .before .before .before .pre .0) (c .before .before .before .before .before .before .before .before .before .before .pre .1) (c .before .before .before .before .before .before .before .if1 .left) _ (c .before .before .before .before .before .before .past .ensures) _ (c .before .before .before .before .r .given .1) _ (c .before .before .before .before .before .before .before .before .before .before .pre .0 .size), c .before .if2 .taken, head-rows _ _ _ _ 0 (c .before .before .before .before .before .before .before .before .before .before .pre .0) (c .before .before .before .before .before .before .before .before .before .before .pre .1) (c .before .before .before .before .before .before .before .if1 .left) _ (c .before .before .before .before .before .before .past .ensures) _ (c .before .before .before .before .r .given .1))
 
 same-length : tie.Need-same-length
-same-length c = search needs
+same-length c = c .before .before .aliased .kept .1 .0
 
 returns-3 : tie.Need-returns-3
 returns-3 c = head-aliased _ _ _ _ (c .before .before .before .before .before .before .before .before .before .before .before .before .before .args .left) (c .before .before .before .before .before .before .before .before .before .before .before .before .before .pre .0) (c .before .before .before .before .before .before .before .before .before .before .before .before .before .pre .1) (c .before .before .before .before .before .before .before .before .before .before .if1 .left) _ (c .before .before .before .before .before .before .before .before .before .past .ensures) _ (c .before .before .before .before .before .before .before .r .given .1) _ (c .before .before .aliased .result) (c .before .before .aliased .ensures)
@@ -42,7 +43,7 @@ field-rest-requires : tie.Need-field-rest-requires
 field-rest-requires c κs = head-ready _ _ _ _ 0 (c .before .before .before .before .before .before .before .before .before .before .before .before .before .before .before .pre .0) (c .before .before .before .before .before .before .before .before .before .before .before .before .before .before .before .pre .1) (c .before .before .before .before .before .before .before .before .before .before .before .before .if1 .left) _ (c .before .before .before .before .before .before .before .before .before .before .before .past .ensures) _ (c .before .before .before .before .before .before .before .before .before .r .given .1) _ (head-size _ _ _ _ 0 (c .before .before .before .before .before .before .before .before .before .before .before .before .before .before .before .pre .0) (c .before .before .before .before .before .before .before .before .before .before .before .before .before .before .before .pre .1) (c .before .before .before .before .before .before .before .before .before .before .before .before .if1 .left) _ (c .before .before .before .before .before .before .before .before .before .before .before .past .ensures) _ (c .before .before .before .before .before .before .before .before .before .r .given .1) _ (c .before .before .before .put-row .ensures))
 
 same-length-2 : tie.Need-same-length-2
-same-length-2 c = search needs
+same-length-2 c = c .before .before .field-rest .kept .1 .0 ∙ c .before .before .before .before .before .before .put-row .kept .0
 
 returns-4 : tie.Need-returns-4
 returns-4 c = head-plain _ _ _ _ (c .before .before .before .before .before .before .before .before .before .before .before .before .before .before .before .before .before .before .args .left) (c .before .before .before .before .before .before .before .before .before .before .before .before .before .before .before .before .before .before .pre .0) (c .before .before .before .before .before .before .before .before .before .before .before .before .before .before .before .before .before .before .pre .1) (c .before .before .before .before .before .before .before .before .before .before .before .before .before .before .before .if1 .left) _ (c .before .before .before .before .before .before .before .before .before .before .before .before .before .before .past .ensures) _ (c .before .before .before .before .before .before .before .before .before .before .before .before .r .given .1) (c .before .before .before .before .before .before .before .before .before .if2 .left) _ (c .before .before .before .before .before .before .put-row .ensures) _ (c .before .before .field-rest .result) (c .before .before .field-rest .ensures)
