@@ -1,3 +1,4 @@
+-- `documents::definition` meets its contract: each way out is a law of `DefinitionLaws`, over the answer of the definition that it is.
 use mathlib.Core.Path.{sym, _∙_}
 use native.Mathlib.Omega.{arith}
 use Rattle.types.proofs.MovedLaws.{end-within}
@@ -5,83 +6,58 @@ use Rattle.documents.proofs.DefinitionLaws.{after-other, after-brace, a
 use borrow.Author.Needs.{needs}
 use Rattle.documents.proofs.definition.Statement.{statement}
 use Rattle.documents.proofs.definition.Tie as tie
-use Rattle.documents.proofs.definition.Reads as reads
-use Rattle.documents.proofs.definition.Lts as lts
-use Rattle.documents.proofs.fragment.Reads as fragment-reads
-use Rattle.documents.proofs.operation.Reads as operation-reads
-use Rattle.documents.proofs.short_operation.Reads as short-operation-reads
-use Rattle.documents.proofs.word_at.Reads as word-at-reads
-use Rattle.reader.proofs.no_going.Reads as no-going-reads
 
--- src/lib.rt:292:9
 short-operation-requires : tie.Need-short-operation-requires
 short-operation-requires c κs = search needs
 
--- src/lib.rt:292:9
 same-length : tie.Need-same-length
 same-length c = search needs
 
--- src/lib.rt:292:9
 returns : tie.Need-returns
 returns c = definition-operation _ _ _ _ _ (after-brace (c .before .before .before .before .before .before .before .before .args .s .now) (c .before .before .before .before .before .before .before .before .args .c) _ (c .before .before .before .before .if1 .taken)) (c .before .before .short-operation .result) (c .before .before .short-operation .ensures)
 
--- src/lib.rt:294:9
 word-at-requires : tie.Need-word-at-requires
 word-at-requires c κs = end-within _ (c .before .before .before .before .args .c) (c .before .before .before .before .pre .within) (c .before .before .before .before .pre .looks)
 
--- src/lib.rt:296:9
 operation-requires : tie.Need-operation-requires
 operation-requires c κs = (c .before .before .before .before .before .before .before .pre, at-type _ (c .before .before .before .before .before .before .before .args .c) 0 (sym (c .before .before .word-at .ensures) ∙ c .before .if2 .taken) (omega arith))
 
--- src/lib.rt:296:9
 same-length-2 : tie.Need-same-length-2
 same-length-2 c = search needs
 
--- src/lib.rt:296:9
 returns-2 : tie.Need-returns-2
 returns-2 c = definition-operation _ _ _ _ _ (after-other _ (c .before .before .before .before .before .before .before .before .before .before .args .c) _ (λ e. let i = c .before .before .before .before .if2 .taken in let j = c .before .before .before .before .before .word-at .ensures in let x : ⊥ = omega arith in x)) (c .before .before .operation .result) (c .before .before .operation .ensures)
 
--- src/lib.rt:299:9
 fragment-requires : tie.Need-fragment-requires
 fragment-requires c κs = (c .before .before .before .before .before .before .before .before .pre, at-fragment _ (c .before .before .before .before .before .before .before .before .args .c) (sym (c .before .before .before .word-at .ensures) ∙ c .before .if3 .taken))
 
--- src/lib.rt:299:9
 same-length-3 : tie.Need-same-length-3
 same-length-3 c = search needs
 
--- src/lib.rt:299:9
 returns-3 : tie.Need-returns-3
 returns-3 c = definition-fragment _ _ _ _ _ (sym (c .before .before .before .before .before .before .word-at .ensures) ∙ c .before .before .before .before .if3 .taken) (c .before .before .fragment .result) (c .before .before .fragment .ensures)
 
--- src/lib.rt:302:9
 operation-requires-2 : tie.Need-operation-requires-2
 operation-requires-2 c κs = (c .before .before .before .before .before .before .before .before .before .pre, at-type _ (c .before .before .before .before .before .before .before .before .before .args .c) 1 (sym (c .before .before .before .before .word-at .ensures) ∙ c .before .if4 .taken) (omega arith))
 
--- src/lib.rt:302:9
 same-length-4 : tie.Need-same-length-4
 same-length-4 c = search needs
 
--- src/lib.rt:302:9
 returns-4 : tie.Need-returns-4
 returns-4 c = definition-operation _ _ _ _ _ (after-other _ (c .before .before .before .before .before .before .before .before .before .before .before .before .args .c) _ (λ e. c .before .before .before .before .before .if3 .left (c .before .before .before .before .before .before .before .word-at .ensures ∙ e))) (c .before .before .operation2 .result) (c .before .before .operation2 .ensures)
 
--- src/lib.rt:305:9
 operation-requires-3 : tie.Need-operation-requires-3
 operation-requires-3 c κs = (c .before .before .before .before .before .before .before .before .before .before .pre, at-type _ (c .before .before .before .before .before .before .before .before .before .before .args .c) 2 (sym (c .before .before .before .before .before .word-at .ensures) ∙ c .before .if5 .taken) (omega arith))
 
--- src/lib.rt:305:9
 same-length-5 : tie.Need-same-length-5
 same-length-5 c = search needs
 
--- src/lib.rt:305:9
 returns-5 : tie.Need-returns-5
 returns-5 c = definition-operation _ _ _ _ _ (after-other _ (c .before .before .before .before .before .before .before .before .before .before .before .before .before .args .c) _ (λ e. c .before .before .before .before .before .before .if3 .left (c .before .before .before .before .before .before .before .before .word-at .ensures ∙ e))) (c .before .before .operation3 .result) (c .before .before .operation3 .ensures)
 
--- src/lib.rt:307:5
 no-going-requires : tie.Need-no-going-requires
 no-going-requires c κs = search needs
 
--- src/lib.rt:287:1
 returns-6 : tie.Need-returns-6
 returns-6 c = definition-none _ _ _ _ _ (c .before .before .before .before .before .before .before .before .before .before .pre) (c .before .before .before .before .before .before .if1 .left) (λ e. c .before .before .before .before .if2 .left (c .before .before .before .before .before .word-at .ensures ∙ e)) (λ e. c .before .before .before .if3 .left (c .before .before .before .before .before .word-at .ensures ∙ e)) (λ e. c .before .before .if4 .left (c .before .before .before .before .before .word-at .ensures ∙ e)) (λ e. c .before .if5 .left (c .before .before .before .before .before .word-at .ensures ∙ e)) (c .no-going .result) (c .no-going .ensures)
 

@@ -1,64 +1,46 @@
-use mathlib.Core.Path.{sym, _∙_}
+-- `documents::definition_body` meets its contract: each way out is a law of `BodyLaws`.
 use Rattle.variables.proofs.CountedLaws.{said-went, went-ready}
 use Rattle.documents.proofs.BodyLaws.{body-stop, body-stop-2, body-done}
 use borrow.Author.Needs.{needs}
 use Rattle.documents.proofs.definition_body.Statement.{statement}
 use Rattle.documents.proofs.definition_body.Tie as tie
-use Rattle.documents.proofs.definition_body.Reads as reads
-use Rattle.documents.proofs.definition_body.Lts as lts
-use Rattle.reader.proofs.put_end.Reads as put-end-reads
-use Rattle.selections.proofs.directives_if.Reads as directives-if-reads
-use Rattle.selections.proofs.selection_set.Reads as selection-set-reads
 
--- src/lib.rt:158:9
 directives-if-requires : tie.Need-directives-if-requires
 directives-if-requires c κs = search needs
 
--- src/lib.rt:159:20
 enum-known-r : tie.Need-enum-known-r
 enum-known-r c = search needs
 
--- src/lib.rt:160:9
 enum-told : tie.Need-enum-told
 enum-told c = search needs
 
--- src/lib.rt:160:9
 same-length : tie.Need-same-length
 same-length c = search needs
 
--- src/lib.rt:160:9
 returns : tie.Need-returns
 returns c = body-stop _ _ _ _ _ _ (c .before .before .before .before .directives-if .result) (c .before .before .before .before .directives-if .ensures) _ (c .enum-told .given .1)
 
--- src/lib.rt:162:9
 selection-set-requires : tie.Need-selection-set-requires
 selection-set-requires c κs = went-ready _ _ _ _ _ _ _ _ _ (c .before .before .before .before .before .before .before .before .before .before .pre .0 .short) (said-went _ _ _ _ _ _ _ _ (c .before .before .before .before .before .before .directives-if .result) (c .before .before .before .before .before .before .directives-if .ensures) _ (c .before .before .r .given .1)) _ (c .before .before .before .before .before .before .before .before .before .before .pre .0 .below)
 
--- src/lib.rt:163:20
 enum-known-t : tie.Need-enum-known-t
 enum-known-t c = search needs
 
--- src/lib.rt:164:9
 enum-told-2 : tie.Need-enum-told-2
 enum-told-2 c = search needs
 
--- src/lib.rt:164:9
 same-length-2 : tie.Need-same-length-2
 same-length-2 c = search needs
 
--- src/lib.rt:164:9
 returns-2 : tie.Need-returns-2
 returns-2 c = body-stop-2 _ _ _ _ _ _ (said-went _ _ _ _ _ _ _ _ (c .before .before .before .before .before .before .before .before .before .before .before .directives-if .result) (c .before .before .before .before .before .before .before .before .before .before .before .directives-if .ensures) _ (c .before .before .before .before .before .before .before .r .given .1)) _ _ (c .before .before .before .before .selection-set .result) (c .before .before .before .before .selection-set .ensures) _ (c .enum-told2 .given .1)
 
--- src/lib.rt:166:5
 put-end-requires : tie.Need-put-end-requires
 put-end-requires c κs = search needs
 
--- src/lib.rt:154:1
 same-length-3 : tie.Need-same-length-3
 same-length-3 c = search needs
 
--- src/lib.rt:154:1
 returns-3 : tie.Need-returns-3
 returns-3 c = body-done _ _ _ _ _ _ (said-went _ _ _ _ _ _ _ _ (c .before .before .before .before .before .before .before .before .before .before .before .before .before .before .before .before .directives-if .result) (c .before .before .before .before .before .before .before .before .before .before .before .before .before .before .before .before .directives-if .ensures) _ (c .before .before .before .before .before .before .before .before .before .before .before .before .r .given .1)) _ _ _ (said-went _ _ _ _ _ _ _ _ (c .before .before .before .before .before .before .before .before .before .selection-set .result) (c .before .before .before .before .before .before .before .before .before .selection-set .ensures) _ (c .before .before .before .before .before .t .given .1)) (c .before .before .put-end .ensures)
 

@@ -1,74 +1,53 @@
+-- `documents::fragment` meets its contract: each way out is a law of `FragmentLaws`.
 use mathlib.Core.Path.{sym, _∙_}
 use Rattle.types.proofs.MovedLaws.{end-within}
 use Rattle.documents.proofs.FragmentLaws.{fragment-full, fragment-many, fragment-bad, fragment-ends, fragment-nameless, fragment-ready, fragment-says}
 use borrow.Author.Needs.{needs}
 use Rattle.documents.proofs.fragment.Statement.{statement}
 use Rattle.documents.proofs.fragment.Tie as tie
-use Rattle.documents.proofs.fragment.Reads as reads
-use Rattle.documents.proofs.fragment.Lts as lts
-use Rattle.documents.proofs.fragment_rest.Reads as fragment-rest-reads
-use Rattle.reader.proofs.Cursor.past.Reads as past-reads
-use Rattle.reader.proofs.no_going.Reads as no-going-reads
-use Rattle.reader.proofs.put_row.Reads as put-row-reads
-use Rattle.selections.proofs.names_fragment.Reads as names-fragment-reads
 
--- src/lib.rt:236:9
 returns : tie.Need-returns
 returns c = fragment-full _ _ _ _ (c .before .before .before .pre .0) (c .before .before .before .pre .1) (c .if1 .taken)
 
--- src/lib.rt:239:9
 returns-2 : tie.Need-returns-2
 returns-2 c = fragment-many _ _ _ _ (c .before .before .before .before .pre .0) (c .before .before .before .before .pre .1) (c .before .if1 .left) (c .if2 .taken)
 
--- src/lib.rt:241:23
 add-past : tie.Need-add-past
 add-past c = search needs
 
--- src/lib.rt:241:9
 past-requires : tie.Need-past-requires
 past-requires c κs = (c .before .before .before .before .pre .0 .short, end-within _ (c .before .before .before .before .args .c) (c .before .before .before .before .pre .0 .within) (c .before .before .before .before .pre .0 .looks) .1)
 
--- src/lib.rt:242:20
 enum-known-r : tie.Need-enum-known-r
 enum-known-r c = search needs
 
--- src/lib.rt:243:9
 enum-told : tie.Need-enum-told
 enum-told c = search needs
 
--- src/lib.rt:243:9
 returns-3 : tie.Need-returns-3
 returns-3 c = fragment-bad _ _ _ _ (c .before .before .before .before .before .before .before .pre .0) (c .before .before .before .before .before .before .before .pre .1) (c .before .before .before .before .if1 .left) (c .before .before .before .if2 .left) (c .before .before .past .result) (c .before .before .past .ensures) _ _ (c .enum-told .given .1)
 
--- src/lib.rt:245:8
 names-fragment-requires : tie.Need-names-fragment-requires
 names-fragment-requires c κs = fragment-ends _ _ _ (c .before .before .before .before .before .before .before .before .args .before) (c .before .before .before .before .before .before .before .before .pre .0) (c .before .before .before .before .before .before .before .before .pre .1) (c .before .before .before .before .before .if1 .left) (c .before .before .before .before .if2 .left) (c .before .before .before .past .result) (c .before .before .before .past .ensures) _ (c .before .r .given .1)
 
--- src/lib.rt:246:76
 sub-put-row : tie.Need-sub-put-row
 sub-put-row c = fragment-ends _ _ _ (c .before .before .before .before .before .before .before .before .before .before .before .before .args .before) (c .before .before .before .before .before .before .before .before .before .before .before .before .pre .0) (c .before .before .before .before .before .before .before .before .before .before .before .before .pre .1) (c .before .before .before .before .before .before .before .before .before .if1 .left) (c .before .before .before .before .before .before .before .before .if2 .left) (c .before .before .before .before .before .before .before .past .result) (c .before .before .before .before .before .before .before .past .ensures) _ (c .before .before .before .before .before .r .given .1) .0
 
--- src/lib.rt:246:9
 put-row-requires : tie.Need-put-row-requires
 put-row-requires c κs = search needs
 
--- src/lib.rt:247:9
 fragment-rest-requires : tie.Need-fragment-rest-requires
 fragment-rest-requires c κs = fragment-ready _ _ _ (c .before .before .before .before .before .before .before .before .before .before .before .before .before .before .before .before .args .before) (c .before .before .before .before .before .before .before .before .before .before .before .before .before .before .before .before .pre .0) (c .before .before .before .before .before .before .before .before .before .before .before .before .before .before .before .before .pre .1) (c .before .before .before .before .before .before .before .before .before .before .before .before .before .if1 .left) (c .before .before .before .before .before .before .before .before .before .before .before .before .if2 .left) (c .before .before .before .before .before .before .before .before .before .before .before .past .result) (c .before .before .before .before .before .before .before .before .before .before .before .past .ensures) _ (c .before .before .before .before .before .before .before .before .before .r .given .1) _ (c .before .before .before .put-row .ensures) (sym (c .before .before .before .before .before .before .before .names-fragment .ensures) ∙ c .before .before .before .before .before .before .if3 .taken)
 
--- src/lib.rt:247:9
 same-length : tie.Need-same-length
 same-length c = search needs
 
--- src/lib.rt:247:9
 returns-4 : tie.Need-returns-4
 returns-4 c = fragment-says _ _ _ _ (c .before .before .before .before .before .before .before .before .before .before .before .before .before .before .before .before .before .before .before .pre .0) (c .before .before .before .before .before .before .before .before .before .before .before .before .before .before .before .before .before .before .before .pre .1) (c .before .before .before .before .before .before .before .before .before .before .before .before .before .before .before .before .if1 .left) (c .before .before .before .before .before .before .before .before .before .before .before .before .before .before .before .if2 .left) (c .before .before .before .before .before .before .before .before .before .before .before .before .before .before .past .result) (c .before .before .before .before .before .before .before .before .before .before .before .before .before .before .past .ensures) _ (c .before .before .before .before .before .before .before .before .before .before .before .before .r .given .1) _ (c .before .before .before .before .before .before .put-row .ensures) _ (c .before .before .fragment-rest .result) (c .before .before .fragment-rest .ensures)
 
--- src/lib.rt:249:5
 no-going-requires : tie.Need-no-going-requires
 no-going-requires c κs = search needs
 
--- src/lib.rt:230:1
 returns-5 : tie.Need-returns-5
 returns-5 c = fragment-nameless _ _ _ _ (c .before .before .before .before .before .before .before .before .before .before .before .pre .0) (c .before .before .before .before .before .before .before .before .before .before .before .pre .1) (c .before .before .before .before .before .before .before .before .if1 .left) (c .before .before .before .before .before .before .before .if2 .left) (c .before .before .before .before .before .before .past .result) (c .before .before .before .before .before .before .past .ensures) _ (c .before .before .before .before .r .given .1) _ (sym (c .before .before .names-fragment .ensures) ∙ c .before .if3 .left) (c .no-going .result) (c .no-going .ensures)
 

@@ -1,13 +1,10 @@
-use native.Mathlib.Omega.{arith}
+-- `types::bang_if` meets its contract: each way out is a law of `BangLaws`.
 use borrow.Author.Needs.{needs}
 use Rattle.types.proofs.MovedLaws.{end-within}
 use Rattle.types.proofs.BangLaws.{bang-none, bang-many, bang-bad, bang-done}
 -- `types::bang_if` meets its contract: each way out is a law of `BangLaws`.
 use Rattle.types.proofs.bang_if.Statement.{statement}
 use Rattle.types.proofs.bang_if.Tie as tie
-use Rattle.types.proofs.bang_if.Reads as reads
-use Rattle.types.proofs.bang_if.Lts as lts
-use Rattle.reader.proofs.Cursor.past.Reads as past-reads
 
 returns : tie.Need-returns
 returns c = bang-none _ _ (c .before .before .before .before .pre) (c .if1 .taken)

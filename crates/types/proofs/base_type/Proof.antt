@@ -1,52 +1,37 @@
-use native.Mathlib.Omega.{arith}
+-- `types::base_type` meets its contract: each way out is a law of `BaseLaws`.
 use Rattle.types.proofs.MovedLaws.{end-within}
 use Rattle.types.proofs.BaseLaws.{named-bad, bare-marked, named-stop, named-ready, named-says}
 use borrow.Author.Needs.{needs}
 use Rattle.types.proofs.base_type.Statement.{statement}
 use Rattle.types.proofs.base_type.Tie as tie
-use Rattle.types.proofs.base_type.Reads as reads
-use Rattle.types.proofs.base_type.Lts as lts
-use Rattle.reader.proofs.Cursor.past.Reads as past-reads
-use Rattle.types.proofs.bang_if.Reads as bang-if-reads
-use Rattle.types.proofs.close_brackets.Reads as close-brackets-reads
 
--- src/lib.rt:131:9
 past-requires : tie.Need-past-requires
 past-requires c κs = (c .before .pre .0 .short, end-within _ (c .before .args .c) (c .before .pre .0 .within) (c .before .pre .0 .looks) .1)
 
--- src/lib.rt:133:20
 enum-known-r : tie.Need-enum-known-r
 enum-known-r c = search needs
 
--- src/lib.rt:134:17
 bang-if-requires : tie.Need-bang-if-requires
 bang-if-requires c κs = bare-marked _ _ _ (c .before .before .before .before .before .pre .0) (c .before .before .before .before .before .pre .1) (c .before .before .before .before .before .pre .2) _ (c .before .before .before .past .ensures) _ (c .before .r .given .1)
 
--- src/lib.rt:135:33
 enum-known-t : tie.Need-enum-known-t
 enum-known-t c = search needs
 
--- src/lib.rt:136:17
 enum-told : tie.Need-enum-told
 enum-told c = search needs
 
--- src/lib.rt:136:17
 returns : tie.Need-returns
 returns c = named-stop _ _ _ (c .before .before .before .before .before .before .before .before .pre .0) (c .before .before .before .before .before .before .before .before .pre .1) (c .before .before .before .before .before .before .before .before .pre .2) _ (c .before .before .before .before .before .before .past .ensures) _ (c .before .before .before .before .r .given .1) (c .before .before .bang-if .result) _ (c .before .before .bang-if .ensures) (c .enum-told .given .1)
 
--- src/lib.rt:138:13
 close-brackets-requires : tie.Need-close-brackets-requires
 close-brackets-requires c κs = named-ready _ _ _ (c .before .before .before .before .before .before .before .before .before .pre .0) (c .before .before .before .before .before .before .before .before .before .pre .1) (c .before .before .before .before .before .before .before .before .before .pre .2) _ (c .before .before .before .before .before .before .before .past .ensures) _ (c .before .before .before .before .before .r .given .1) (c .before .before .before .bang-if .result) _ (c .before .before .before .bang-if .ensures) (c .before .t .given .1)
 
--- src/lib.rt:140:23
 enum-known-r-2 : tie.Need-enum-known-r-2
 enum-known-r-2 c = search needs
 
--- src/lib.rt:126:1
 returns-2 : tie.Need-returns-2
 returns-2 c = named-says _ _ _ (c .before .before .before .before .before .before .before .before .before .before .pre .0) (c .before .before .before .before .before .before .before .before .before .before .pre .1) (c .before .before .before .before .before .before .before .before .before .before .pre .2) _ (c .before .before .before .before .before .before .before .before .past .ensures) _ (c .before .before .before .before .before .before .r .given .1) (c .before .before .before .before .bang-if .result) _ (c .before .before .before .before .bang-if .ensures) (c .before .before .t .given .1) (c .close-brackets .result) (c .close-brackets .ensures)
 
--- src/lib.rt:126:1
 returns-3 : tie.Need-returns-3
 returns-3 c = named-bad _ _ _ (c .before .before .before .before .before .pre .0) (c .before .before .before .before .before .pre .1) (c .before .before .before .before .before .pre .2) _ (c .before .before .before .past .ensures) _ (c .before .r2 .given .1)
 

@@ -1,47 +1,34 @@
-use native.Mathlib.Omega.{arith}
+-- `types::close_bracket` meets its contract: each way out is a law of `CloseLaws`.
 use Rattle.types.proofs.MovedLaws.{end-within}
 use Rattle.types.proofs.CloseLaws.{close-none, close-bad, close-marked, close-says}
 use borrow.Author.Needs.{needs}
 use Rattle.types.proofs.close_bracket.Statement.{statement}
 use Rattle.types.proofs.close_bracket.Tie as tie
-use Rattle.types.proofs.close_bracket.Reads as reads
-use Rattle.types.proofs.close_bracket.Lts as lts
-use Rattle.reader.proofs.Cursor.past.Reads as past-reads
-use Rattle.types.proofs.bang_if.Reads as bang-if-reads
 
--- src/lib.rt:95:9
 returns : tie.Need-returns
 returns c = close-none _ _ (c .before .before .before .before .pre) (c .if1 .taken)
 
--- src/lib.rt:98:9
 past-requires : tie.Need-past-requires
 past-requires c κs = (c .before .before .before .before .pre .seen .short, end-within _ (c .before .before .before .before .args .w .at) (c .before .before .before .before .pre .seen .within) (c .before .before .before .before .pre .seen .looks) .1)
 
--- src/lib.rt:100:20
 enum-known-r : tie.Need-enum-known-r
 enum-known-r c = search needs
 
--- src/lib.rt:100:67
 mul-t13 : tie.Need-mul-t13
 mul-t13 c = search needs
 
--- src/lib.rt:100:67
 add-t14 : tie.Need-add-t14
 add-t14 c = search needs
 
--- src/lib.rt:100:29
 bang-if-requires : tie.Need-bang-if-requires
 bang-if-requires c κs = close-marked _ _ (c .before .before .before .before .before .before .before .before .pre) (c .before .before .before .before .if1 .left) _ (c .before .before .before .past .ensures) _ (c .before .r .given .1)
 
--- src/lib.rt:101:23
 enum-known-r-2 : tie.Need-enum-known-r-2
 enum-known-r-2 c = search needs
 
--- src/lib.rt:87:1
 returns-2 : tie.Need-returns-2
 returns-2 c = close-says _ _ (c .before .before .before .before .before .before .before .before .before .pre) (c .before .before .before .before .before .if1 .left) _ (c .before .before .before .before .past .ensures) _ (c .before .before .r .given .1) (c .bang-if .result) (c .bang-if .ensures)
 
--- src/lib.rt:87:1
 returns-3 : tie.Need-returns-3
 returns-3 c = close-bad _ _ (c .before .before .before .before .before .before .before .before .pre) (c .before .before .before .before .if1 .left) _ (c .before .before .before .past .ensures) _ (c .before .r2 .given .1)
 

@@ -1,3 +1,4 @@
+-- `types::open_brackets` meets its contract: the loop has opened so many brackets; each counts as a mark, and there are seven at most.
 use Prim.Native.Nat.{_-_}
 use native.Mathlib.Omega.{arith}
 use borrow.Author.Needs.{needs}
@@ -6,9 +7,6 @@ use Rattle.types.proofs.MovedLaws.{end-within}
 use Rattle.types.proofs.OpenLaws.{Opening, none-open, opened-all, opened-deep, opened-many, opened-bad, opened-more}
 use Rattle.types.proofs.open_brackets.Statement.{statement}
 use Rattle.types.proofs.open_brackets.Tie as tie
-use Rattle.types.proofs.open_brackets.Reads as reads
-use Rattle.types.proofs.open_brackets.Lts as lts
-use Rattle.reader.proofs.Cursor.past.Reads as past-reads
 
 abbrev Inv-loop : tie.InvT-loop
 Inv-loop s left n d₀ marks₀ d marks = Opening s d₀ left n d marks
@@ -16,47 +14,36 @@ Inv-loop s left n d₀ marks₀ d marks = Opening s d₀ left n d marks
 abbrev μ-loop : tie.MeasureT-loop
 μ-loop s left n d₀ marks₀ d marks = mostWrappers - marks
 
--- src/lib.rt:43:5
 loop-holds : tie.Need-loop-holds Inv-loop μ-loop
 loop-holds c = none-open _ _ _ (c .before .pre)
 
--- src/lib.rt:45:13
 returns : tie.Need-returns Inv-loop μ-loop
 returns c = opened-all _ _ _ _ _ _ (c .before .before .loop .inv) (c .if1 .taken)
 
--- src/lib.rt:48:13
 returns-2 : tie.Need-returns-2 Inv-loop μ-loop
 returns-2 c = opened-deep _ _ _ _ _ _ (c .before .before .before .loop .inv) (c .before .if1 .left) (c .if2 .taken)
 
--- src/lib.rt:51:13
 returns-3 : tie.Need-returns-3 Inv-loop μ-loop
 returns-3 c = opened-many _ _ _ _ _ _ (c .before .before .before .before .loop .inv) (c .before .before .if1 .left) (c .before .if2 .left) (c .if3 .taken)
 
--- src/lib.rt:53:13
 past-requires : tie.Need-past-requires Inv-loop μ-loop
 past-requires c κs = (c .before .before .before .before .before .before .pre .short, end-within _ (c .before .before .before .before .loop .d) (c .before .before .before .before .loop .inv .seen .within) (c .before .before .before .before .loop .inv .seen .looks) .1)
 
--- src/lib.rt:55:24
 enum-known-r : tie.Need-enum-known-r Inv-loop μ-loop
 enum-known-r c = search needs
 
--- src/lib.rt:57:17
 add-marks : tie.Need-add-marks Inv-loop μ-loop
 add-marks c = omega arith
 
--- src/lib.rt:43:5
 loop-less : tie.Need-loop-less Inv-loop μ-loop
 loop-less c = omega arith
 
--- src/lib.rt:43:5
 loop-again : tie.Need-loop-again Inv-loop μ-loop
 loop-again c = opened-more _ _ _ _ _ _ (c .before .before .before .before .before .before .before .before .loop .inv) (c .before .before .before .before .before .before .if1 .left) (c .before .before .before .before .before .if2 .left) (c .before .before .before .before .if3 .left) _ (c .before .before .before .past .ensures) _ (c .before .r .given .1)
 
--- src/lib.rt:59:27
 enum-known-r-2 : tie.Need-enum-known-r-2 Inv-loop μ-loop
 enum-known-r-2 c = search needs
 
--- src/lib.rt:59:35
 returns-4 : tie.Need-returns-4 Inv-loop μ-loop
 returns-4 c = opened-bad _ _ _ _ _ _ (c .before .before .before .before .before .before .before .before .loop .inv) (c .before .before .before .before .before .before .if1 .left) (c .before .before .before .before .before .if2 .left) (c .before .before .before .before .if3 .left) _ (c .before .before .before .past .ensures) _ (c .before .r2 .given .1)
 

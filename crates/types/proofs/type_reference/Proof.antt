@@ -1,61 +1,45 @@
+-- `types::type_reference` meets its contract: each way out is a law of `TypeLaws`.
 use mathlib.Core.Logic.{⊎-elim, inl, inr}
 use mathlib.Core.List.{[]}
 use native.Mathlib.Omega.{arith}
-use Rattle.types.proofs.TypeLaws.{type-none, type-deep, type-full, type-seen, type-stop, type-ready, type-says}
+use Rattle.types.proofs.TypeLaws.{type-none, type-deep, type-full, type-stop, type-ready, type-says}
 use borrow.Author.Needs.{needs}
 use Rattle.types.proofs.type_reference.Statement.{statement}
 use Rattle.types.proofs.type_reference.Tie as tie
-use Rattle.types.proofs.type_reference.Reads as reads
-use Rattle.types.proofs.type_reference.Lts as lts
-use Rattle.reader.proofs.no_going.Reads as no-going-reads
-use Rattle.types.proofs.open_brackets.Reads as open-brackets-reads
-use Rattle.types.proofs.typed.Reads as typed-reads
 
--- src/lib.rt:153:13
 no-going-requires : tie.Need-no-going-requires
 no-going-requires c κs = search needs
 
--- src/lib.rt:153:13
 returns : tie.Need-returns
 returns c = type-none _ _ _ _ _ (c .before .before .before .before .before .before .before .pre) _ (c .before .before .before .if1 .taken) (c .before .if2 .taken) (c .no-going .result) (c .no-going .ensures)
 
--- src/lib.rt:156:13
 returns-2 : tie.Need-returns-2
 returns-2 c = type-deep _ _ _ _ _ (c .before .before .before .before .before .before .before .pre) [] (c .before .if2 .left) (c .if3 .taken)
 
--- src/lib.rt:160:9
 returns-3 : tie.Need-returns-3
 returns-3 c = type-full _ _ _ _ _ (c .before .before .before .before .before .pre) [] (⊎-elim (λ x. inr (x .2 .left, omega (arith, x .3 .left))) (λ x. inl (x .left)) (c .before .if1 .came)) (c .if4 .taken)
 
--- src/lib.rt:162:99
 add-t15 : tie.Need-add-t15
 add-t15 c = search needs
 
--- src/lib.rt:162:9
 open-brackets-requires : tie.Need-open-brackets-requires
 open-brackets-requires c κs = search needs
 
--- src/lib.rt:164:25
 enum-known-o : tie.Need-enum-known-o
 enum-known-o c = search needs
 
--- src/lib.rt:164:31
 typed-requires : tie.Need-typed-requires
 typed-requires c κs = type-ready _ _ _ _ _ (c .before .before .before .before .before .before .before .before .before .before .pre) (c .before .before .before .before .before .if4 .left) (c .before .before .before .before .open-brackets .result) _ (c .before .before .before .before .open-brackets .ensures) (c .before .before .o .given .1)
 
--- src/lib.rt:165:27
 enum-known-o-2 : tie.Need-enum-known-o-2
 enum-known-o-2 c = search needs
 
--- src/lib.rt:145:1
 same-length : tie.Need-same-length
 same-length c = search needs
 
--- src/lib.rt:145:1
 returns-4 : tie.Need-returns-4
 returns-4 c = type-says _ _ _ _ _ (c .before .before .before .before .before .before .before .before .before .before .before .before .before .pre) (c .before .before .before .before .before .before .before .before .if4 .left) (c .before .before .before .before .before .before .before .open-brackets .result) _ (c .before .before .before .before .before .before .before .open-brackets .ensures) (c .before .before .before .before .before .o .given .1) _ (c .before .before .typed .result) (c .before .before .typed .ensures)
 
--- src/lib.rt:145:1
 returns-5 : tie.Need-returns-5
 returns-5 c = type-stop _ _ _ _ _ (c .before .before .before .before .before .before .before .before .before .pre) (c .before .before .before .before .if4 .left) [] (c .before .before .before .open-brackets .result) _ (c .before .before .before .open-brackets .ensures) (c .before .o2 .given .1)
 

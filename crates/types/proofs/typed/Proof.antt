@@ -1,53 +1,38 @@
+-- `types::typed` meets its contract: each way out is a law of `TypeLaws`.
 use mathlib.Core.List.{[]}
-use native.Mathlib.Omega.{arith}
 use Rattle.types.proofs.MovedLaws.{end-within}
 use Rattle.types.proofs.TypeLaws.{rest-none, rest-stop, rest-done}
 use borrow.Author.Needs.{needs}
 use Rattle.types.proofs.typed.Statement.{statement}
 use Rattle.types.proofs.typed.Tie as tie
-use Rattle.types.proofs.typed.Reads as reads
-use Rattle.types.proofs.typed.Lts as lts
-use Rattle.reader.proofs.no_going.Reads as no-going-reads
-use Rattle.reader.proofs.put_row.Reads as put-row-reads
-use Rattle.types.proofs.base_type.Reads as base-type-reads
 
--- src/lib.rt:177:9
 no-going-requires : tie.Need-no-going-requires
 no-going-requires c κs = search needs
 
--- src/lib.rt:177:9
 returns : tie.Need-returns
 returns c = rest-none _ _ _ _ _ _ (c .before .before .before .before .before .before .pre) _ (c .before .if1 .taken) (c .no-going .result) (c .no-going .ensures)
 
--- src/lib.rt:179:9
 base-type-requires : tie.Need-base-type-requires
 base-type-requires c κs = search needs
 
--- src/lib.rt:181:25
 enum-known-t : tie.Need-enum-known-t
 enum-known-t c = search needs
 
--- src/lib.rt:183:86
 sub-put-row : tie.Need-sub-put-row
 sub-put-row c = end-within _ (c .before .before .before .before .before .before .before .before .before .before .before .before .args .w .at) (c .before .before .before .before .before .before .before .before .before .before .before .before .pre .seen .within) (c .before .before .before .before .before .before .before .before .before .before .before .before .pre .seen .looks) .0
 
--- src/lib.rt:183:13
 put-row-requires : tie.Need-put-row-requires
 put-row-requires c κs = search needs
 
--- src/lib.rt:186:27
 enum-known-t-2 : tie.Need-enum-known-t-2
 enum-known-t-2 c = search needs
 
--- src/lib.rt:170:1
 same-length : tie.Need-same-length
 same-length c = search needs
 
--- src/lib.rt:170:1
 returns-2 : tie.Need-returns-2
 returns-2 c = rest-done _ _ _ _ _ _ (c .before .before .before .before .before .before .before .before .before .before .before .before .before .before .before .pre) _ (c .before .before .before .before .before .before .before .before .before .base-type .result) _ (c .before .before .before .before .before .before .before .before .before .base-type .ensures) (c .before .before .before .before .before .before .before .t .given .1) (c .before .before .put-row .ensures)
 
--- src/lib.rt:170:1
 returns-3 : tie.Need-returns-3
 returns-3 c = rest-stop _ _ _ _ _ _ (c .before .before .before .before .before .before .before .before .before .pre) [] (c .before .before .before .base-type .result) _ (c .before .before .before .base-type .ensures) (c .before .t2 .given .1)
 

@@ -1,42 +1,31 @@
+-- `variables::default_if` meets its contract: each way out is a law of `DefaultLaws`.
 use Rattle.types.proofs.MovedLaws.{end-within}
 use Rattle.variables.proofs.DefaultLaws.{default-none, default-bad, default-ready, default-says}
 use borrow.Author.Needs.{needs}
 use Rattle.variables.proofs.default_if.Statement.{statement}
 use Rattle.variables.proofs.default_if.Tie as tie
-use Rattle.variables.proofs.default_if.Reads as reads
-use Rattle.variables.proofs.default_if.Lts as lts
-use Rattle.reader.proofs.Cursor.past.Reads as past-reads
-use Rattle.values.proofs.value.Reads as value-reads
 
--- src/lib.rt:59:9
 returns : tie.Need-returns
 returns c = default-none _ _ _ _ _ (c .before .before .before .before .pre) (c .if1 .taken)
 
--- src/lib.rt:62:9
 past-requires : tie.Need-past-requires
 past-requires c κs = (c .before .before .before .before .pre .short, end-within _ (c .before .before .before .before .args .c) (c .before .before .before .before .pre .within) (c .before .before .before .before .pre .looks) .1)
 
--- src/lib.rt:63:20
 enum-known-r : tie.Need-enum-known-r
 enum-known-r c = search needs
 
--- src/lib.rt:64:9
 enum-told : tie.Need-enum-told
 enum-told c = search needs
 
--- src/lib.rt:64:9
 returns-2 : tie.Need-returns-2
 returns-2 c = default-bad _ _ _ _ _ (c .before .before .before .before .before .before .before .pre) (c .before .before .before .if1 .left) (c .before .before .past .result) (c .before .before .past .ensures) _ _ (c .enum-told .given .1)
 
--- src/lib.rt:66:5
 value-requires : tie.Need-value-requires
 value-requires c κs = default-ready _ _ _ _ 0 (c .before .before .before .before .before .before .before .before .before .pre) (c .before .before .before .before .before .if1 .left) (c .before .before .before .before .past .result) (c .before .before .before .before .past .ensures) _ (c .before .before .r .given .1)
 
--- src/lib.rt:54:1
 same-length : tie.Need-same-length
 same-length c = search needs
 
--- src/lib.rt:54:1
 returns-3 : tie.Need-returns-3
 returns-3 c = default-says _ _ _ _ _ (c .before .before .before .before .before .before .before .before .before .before .before .before .pre) (c .before .before .before .before .before .before .before .before .if1 .left) (c .before .before .before .before .before .before .before .past .result) (c .before .before .before .before .before .before .before .past .ensures) _ (c .before .before .before .before .before .r .given .1) _ (c .before .before .value .result) (c .before .before .value .ensures)
 
