@@ -1,5 +1,6 @@
 -- `documents::fragment` meets its contract: each way out is a law of `FragmentLaws`.
 use mathlib.Core.Path.{sym, _∙_}
+use native.Mathlib.Omega.{arith}
 use Rattle.types.proofs.MovedLaws.{end-within}
 use Rattle.documents.proofs.FragmentLaws.{fragment-full, fragment-many, fragment-bad, fragment-ends, fragment-nameless, fragment-ready, fragment-says}
 use borrow.Author.Needs.{needs}
@@ -10,7 +11,7 @@ returns : tie.Need-returns
 returns c = fragment-full _ _ _ _ (c .before .before .before .pre .0) (c .before .before .before .pre .1) (c .if1 .taken)
 
 returns-2 : tie.Need-returns-2
-returns-2 c = fragment-many _ _ _ _ (c .before .before .before .before .pre .0) (c .before .before .before .before .pre .1) (c .before .if1 .left) (c .if2 .taken)
+returns-2 c = fragment-many _ _ _ _ (c .before .before .before .before .pre .0) (c .before .before .before .before .pre .1) (c .before .if1 .left) (omega arith)
 
 add-past : tie.Need-add-past
 add-past c = search needs
@@ -28,7 +29,7 @@ returns-3 : tie.Need-returns-3
 returns-3 c = fragment-bad _ _ _ _ (c .before .before .before .before .before .before .before .pre .0) (c .before .before .before .before .before .before .before .pre .1) (c .before .before .before .before .if1 .left) (c .before .before .before .if2 .left) (c .before .before .past .result) (c .before .before .past .ensures) _ _ (c .enum-told .given .1)
 
 names-fragment-requires : tie.Need-names-fragment-requires
-names-fragment-requires c κs = fragment-ends _ _ _ (c .before .before .before .before .before .before .before .before .args .before) (c .before .before .before .before .before .before .before .before .pre .0) (c .before .before .before .before .before .before .before .before .pre .1) (c .before .before .before .before .before .if1 .left) (c .before .before .before .before .if2 .left) (c .before .before .before .past .result) (c .before .before .before .past .ensures) _ (c .before .r .given .1)
+names-fragment-requires c κs = omega (arith, fragment-ends _ _ _ (c .before .before .before .before .before .before .before .before .args .before) (c .before .before .before .before .before .before .before .before .pre .0) (c .before .before .before .before .before .before .before .before .pre .1) (c .before .before .before .before .before .if1 .left) (c .before .before .before .before .if2 .left) (c .before .before .before .past .result) (c .before .before .before .past .ensures) _ (c .before .r .given .1), end-within _ (c .before .before .before .before .before .before .before .before .args .c) (c .before .before .before .before .before .before .before .before .pre .0 .within) (c .before .before .before .before .before .before .before .before .pre .0 .looks))
 
 sub-put-row : tie.Need-sub-put-row
 sub-put-row c = fragment-ends _ _ _ (c .before .before .before .before .before .before .before .before .before .before .before .before .args .before) (c .before .before .before .before .before .before .before .before .before .before .before .before .pre .0) (c .before .before .before .before .before .before .before .before .before .before .before .before .pre .1) (c .before .before .before .before .before .before .before .before .before .if1 .left) (c .before .before .before .before .before .before .before .before .if2 .left) (c .before .before .before .before .before .before .before .past .result) (c .before .before .before .before .before .before .before .past .ensures) _ (c .before .before .before .before .before .r .given .1) .0

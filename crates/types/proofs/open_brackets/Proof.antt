@@ -24,7 +24,7 @@ returns-2 : tie.Need-returns-2 Inv-loop μ-loop
 returns-2 c = opened-deep _ _ _ _ _ _ (c .before .before .before .loop .inv) (c .before .if1 .left) (c .if2 .taken)
 
 returns-3 : tie.Need-returns-3 Inv-loop μ-loop
-returns-3 c = opened-many _ _ _ _ _ _ (c .before .before .before .before .loop .inv) (c .before .before .if1 .left) (c .before .if2 .left) (c .if3 .taken)
+returns-3 c = opened-many _ _ _ _ _ _ (c .before .before .before .before .loop .inv) (c .before .before .if1 .left) (c .before .if2 .left) (omega arith)
 
 past-requires : tie.Need-past-requires Inv-loop μ-loop
 past-requires c κs = (c .before .before .before .before .before .before .pre .short, end-within _ (c .before .before .before .before .loop .d) (c .before .before .before .before .loop .inv .seen .within) (c .before .before .before .before .loop .inv .seen .looks) .1)
@@ -39,13 +39,13 @@ loop-less : tie.Need-loop-less Inv-loop μ-loop
 loop-less c = omega arith
 
 loop-again : tie.Need-loop-again Inv-loop μ-loop
-loop-again c = opened-more _ _ _ _ _ _ (c .before .before .before .before .before .before .before .before .loop .inv) (c .before .before .before .before .before .before .if1 .left) (c .before .before .before .before .before .if2 .left) (c .before .before .before .before .if3 .left) _ (c .before .before .before .past .ensures) _ (c .before .r .given .1)
+loop-again c = opened-more _ _ _ _ _ _ (c .before .before .before .before .before .before .before .before .loop .inv) (c .before .before .before .before .before .before .if1 .left) (c .before .before .before .before .before .if2 .left) (omega arith) _ (c .before .before .before .past .ensures) _ (c .before .r .given .1)
 
 enum-known-r-2 : tie.Need-enum-known-r-2 Inv-loop μ-loop
 enum-known-r-2 c = search needs
 
 returns-4 : tie.Need-returns-4 Inv-loop μ-loop
-returns-4 c = opened-bad _ _ _ _ _ _ (c .before .before .before .before .before .before .before .before .loop .inv) (c .before .before .before .before .before .before .if1 .left) (c .before .before .before .before .before .if2 .left) (c .before .before .before .before .if3 .left) _ (c .before .before .before .past .ensures) _ (c .before .r2 .given .1)
+returns-4 c = opened-bad _ _ _ _ _ _ (c .before .before .before .before .before .before .before .before .loop .inv) (c .before .before .before .before .before .before .if1 .left) (c .before .before .before .before .before .if2 .left) (omega arith) _ (c .before .before .before .past .ensures) _ (c .before .r2 .given .1)
 
 pub open-brackets-spec : {M : Type 1} → statement M
 open-brackets-spec =

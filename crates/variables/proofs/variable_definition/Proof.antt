@@ -17,7 +17,7 @@ returns-2 : tie.Need-returns-2
 returns-2 c = variable-full _ _ _ _ _ _ (c .before .before .before .before .before .pre) (c .before .if1 .left) (c .if2 .taken)
 
 returns-3 : tie.Need-returns-3
-returns-3 c = variable-many _ _ _ _ _ _ (c .before .before .before .before .before .before .pre) (c .before .before .if1 .left) (c .before .if2 .left) (c .if3 .taken)
+returns-3 c = variable-many _ _ _ _ _ _ (c .before .before .before .before .before .before .pre) (c .before .before .if1 .left) (c .before .if2 .left) (omega arith)
 
 variable-head-requires : tie.Need-variable-head-requires
 variable-head-requires c κs = search needs
