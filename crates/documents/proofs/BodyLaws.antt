@@ -44,10 +44,13 @@ module _ (s rows : List ℕ) (c : Cursor) (n : ℕ) where
           few = u .few;
           looks = u .looks;
           on = omega (arith, w .on, u .on);
-          goes = λ σ o q t f m.
-              (q, f, refl,
-              w .goes (nt SelectionSet ∷ act end ∷ σ) o q t f ∙ u .goes (act end ∷ σ) o q t f
-              ∙ go-act (st rows₂ (d .rows) o (d .stop) mostLevels q) end σ (from s (d .stop)) ∙ rw (t, z) refl);
+          goes = λ σ o q t f m. (
+            q,
+            f,
+            refl,
+            w .goes (nt SelectionSet ∷ act end ∷ σ) o q t f ∙ u .goes (act end ∷ σ) o q t f
+                ∙ go-act (st rows₂ (d .rows) o (d .stop) mostLevels q) end σ (from s (d .stop)) ∙ rw (t, z) refl,
+          );
         }
 
 -- the same behind the name of an operation, with variable definitions or none
@@ -65,9 +68,12 @@ module _ (s rows : List ℕ) (c : Cursor) (n : ℕ) (g : Ready s rows c n) where
         looks = w .looks;
         on = w .on;
         goes = λ σ o q t f m.
-            let y = w .goes σ o q t f tt in
-            (y .0, y .1, ap (λ (p : Counts). p .fragments) (y .2),
-            null s c (g .within) (g .looks) rows (c .rows) o mostLevels q (bodyStack ++ σ) VariableDefinitions? {α = []} (List·Memᴰ·head refl) tt refl (λ y. not (is 8 y)) (not-is 8 (c .kind) h) tt ∙ y .3);
+            let y = w .goes σ o q t f tt in (
+              y .0,
+              y .1,
+              ap (λ (p : Counts). p .fragments) (y .2),
+              null s c (g .within) (g .looks) rows (c .rows) o mostLevels q (bodyStack ++ σ) VariableDefinitions? {α = []} (List·Memᴰ·head refl) tt refl (λ y. not (is 8 y)) (not-is 8 (c .kind) h) tt ∙ y .3,
+            );
       }
   rest-bare h rows′ (Refused x) w = λ σ o q t f m.
       null s c (g .within) (g .looks) rows (c .rows) o mostLevels q (bodyStack ++ σ) VariableDefinitions? {α = []} (List·Memᴰ·head refl) tt refl (λ y. not (is 8 y)) (not-is 8 (c .kind) h) tt ∙ w σ o q t f tt

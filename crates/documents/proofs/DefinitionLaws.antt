@@ -73,5 +73,5 @@ module _ (s rows rows′ : List ℕ) (c : Cursor) (before : ℕ) where
           let w = worded s c (g .within) (g .looks) (eqb-false (c .kind) 0 j) in
           rw (w .text)
           (class-refuse (w .class) (c .start) (c .end) (from s (c .end)) (st rows (c .rows) o (c .stop) mostLevels q) σ Definition
-            (by-word (refuses Definition) (λ x y. not (is 15 x) && (not (is 1 y) && (not (is 4 y) && (not (is 2 y) && not (is 3 y))))) tt (w .class) (c .kind) (wordAt s c) (w .kind) (w .word)
-              (rw (ne-eqb (c .kind) 15 h, ne-eqb (wordAt s c) 1 i₁, ne-eqb (wordAt s c) 4 i₄, ne-eqb (wordAt s c) 2 i₂, ne-eqb (wordAt s c) 3 i₃) tt)))
+          (by-word (refuses Definition) (λ x y. not (is 15 x) && (not (is 1 y) && (not (is 4 y) && (not (is 2 y) && not (is 3 y))))) tt (w .class) (c .kind) (wordAt s c) (w .kind) (w .word)
+          (rw (ne-eqb (c .kind) 15 h, ne-eqb (wordAt s c) 1 i₁, ne-eqb (wordAt s c) 4 i₄, ne-eqb (wordAt s c) 2 i₂, ne-eqb (wordAt s c) 3 i₃) tt)))

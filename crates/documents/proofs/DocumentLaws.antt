@@ -85,7 +85,7 @@ star-more S x t = by (begins (x .class)) refl
     by true e = class-first (x .class) (x .start) (x .stop) t S [] Definition* {α = moreStack} (List·Memᴰ·tail (List·Memᴰ·head refl)) (by-begin (fst graphql moreStack) tt (x .class) (T-of (begins (x .class)) e))
     by false e =
         class-null (x .class) (x .start) (x .stop) t S [] Definition* {α = []} (List·Memᴰ·head refl) tt
-          (λ i. let z : T (not (graphql .first Definition* (x .class))) = by-other (λ k. not (graphql .first Definition* k)) tt (x .class) (T-not (begins (x .class)) e) in let y = T→eq (graphql .first Definition* (x .class)) i in (rw y at z))
+        (λ i. let z : T (not (graphql .first Definition* (x .class))) = by-other (λ k. not (graphql .first Definition* k)) tt (x .class) (T-not (begins (x .class)) e) in let y = T→eq (graphql .first Definition* (x .class)) i in (rw y at z))
         ∙ empty-halts S x t
         ∙ sym (class-refuse (x .class) (x .start) (x .stop) t S (nt Definition* ∷ []) Definition (by-other (refuses Definition) tt (x .class) (T-not (begins (x .class)) e)))
 
@@ -180,23 +180,23 @@ module _ (s rows : List ℕ) (short : length s ≤ mostText) (size : length rows
         start-at VariablesText
         ∙ first s c₀ (begin-ready .within) (begin-ready .looks) rows (c₀ .rows) [] mostLevels noCounts [] VariablesText {α = act row ∷ act (kind kindObject 0) ∷ nt ConstObjectValue ∷ act end ∷ []} (List·Memᴰ·head refl) 14 h tt
         ∙ sym (first s c₀ (begin-ready .within) (begin-ready .looks) rows (c₀ .rows) [] mostLevels noCounts [] ConstValue {α = act row ∷ act (kind kindObject 0) ∷ nt ConstObjectValue ∷ act end ∷ []}
-          (List·Memᴰ·tail (List·Memᴰ·tail (List·Memᴰ·tail (List·Memᴰ·tail (List·Memᴰ·tail (List·Memᴰ·tail (List·Memᴰ·tail (List·Memᴰ·tail (List·Memᴰ·head refl))))))))) 14 h tt)
+        (List·Memᴰ·tail (List·Memᴰ·tail (List·Memᴰ·tail (List·Memᴰ·tail (List·Memᴰ·tail (List·Memᴰ·tail (List·Memᴰ·tail (List·Memᴰ·tail (List·Memᴰ·head refl))))))))) 14 h tt)
 
     pub text-stop : (rows₁ rows′ : List ℕ) (u : Read) → Said 1 s rows rows₁ c₀ noParent mostLevels (valueStack true) u → (x : Refusal) → u ≡ Refused x → Ended VariablesText s rows rows′ u
     text-stop rows₁ rows′ u w x i = rw i (text-at ∙ said-halts 1 s rows rows₁ c₀ noParent mostLevels (valueStack true) u w x i [] [] noCounts refl refl)
 
     module _ (rows₁ : List ℕ) (d : Cursor) (w : Went 1 s rows rows₁ c₀ d noParent mostLevels (valueStack true)) where
-      text-ends : (rows′ : List ℕ) → go (start rows) (nt VariablesText ∷ []) (from s 0) ≡ at s rows₁ d [] mostLevels noCounts []
-      text-ends rows′ = text-at ∙ w .goes [] [] noCounts refl refl
+      text-ends : go (start rows) (nt VariablesText ∷ []) (from s 0) ≡ at s rows₁ d [] mostLevels noCounts []
+      text-ends = text-at ∙ w .goes [] [] noCounts refl refl
 
       pub text-more : (rows′ : List ℕ) → (d .kind ≡ 0 → ⊥) → (u : Read) → u ≡ noGoingOf d → Ended VariablesText s rows rows′ u
       text-more rows′ k u i =
           let f = front-token s d (w .within) (w .looks) k in
-          rw i (text-ends rows′ ∙ rw (f .2) (empty-halts (st rows₁ (d .rows) [] (d .stop) mostLevels noCounts) (tokenOf (f .0) (d .start) (d .end)) (from s (d .end))))
+          rw i (text-ends ∙ rw (f .2) (empty-halts (st rows₁ (d .rows) [] (d .stop) mostLevels noCounts) (tokenOf (f .0) (d .start) (d .end)) (from s (d .end))))
 
       pub text-all : d .kind ≡ 0 → Ended VariablesText s rows rows₁ (Done d)
       unfolding go step
-      text-all k = (st rows₁ (d .rows) [] (d .stop) mostLevels noCounts, text-ends rows₁ ∙ ends (front s d (w .within) (w .looks)), refl, refl)
+      text-all k = (st rows₁ (d .rows) [] (d .stop) mostLevels noCounts, text-ends ∙ ends (front s d (w .within) (w .looks)), refl, refl)
         where
           ends : Front s d → at s rows₁ d [] mostLevels noCounts [] ≡ whole (st rows₁ (d .rows) [] (d .stop) mostLevels noCounts)
           ends (the-end a b i j) = rw b refl

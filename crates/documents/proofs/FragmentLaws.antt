@@ -76,9 +76,9 @@ module _ (s : List ℕ) (c : Cursor) (h : c .stop ≤ length s) (l : Looks s c) 
       rw (w .text)
       (class-first (w .class) (c .start) (c .end) (from s (c .end)) (st rows (c .rows) o (c .stop) left q) σ FragmentName {α = tm nameButOn ∷ []} (List·Memᴰ·head refl) (by-word (fst graphql (tm nameButOn ∷ [])) butOn tt (w .class) (c .kind) (wordAt s c) (w .kind) (w .word) t)
       ∙ class-take (w .class) (c .start) (c .end) (from s (c .end)) rows (c .rows) o (c .stop) left q σ nameButOn
-        (by-word (hits nameButOn) butOn tt (w .class) (c .kind) (wordAt s c) (w .kind) (w .word) t)
-        (by-word (λ k. not (opens k)) butOn tt (w .class) (c .kind) (wordAt s c) (w .kind) (w .word) t)
-        (by-word (λ k. not (closes k)) butOn tt (w .class) (c .kind) (wordAt s c) (w .kind) (w .word) t)
+      (by-word (hits nameButOn) butOn tt (w .class) (c .kind) (wordAt s c) (w .kind) (w .word) t)
+      (by-word (λ k. not (opens k)) butOn tt (w .class) (c .kind) (wordAt s c) (w .kind) (w .word) t)
+      (by-word (λ k. not (closes k)) butOn tt (w .class) (c .kind) (wordAt s c) (w .kind) (w .word) t)
       ∙ rw (le-ltb mostRows (c .rows) k, f) refl)
 
   -- what is no fragment's name is refused
@@ -92,7 +92,7 @@ module _ (s : List ℕ) (c : Cursor) (h : c .stop ≤ length s) (l : Looks s c) 
           let w = worded s c h l (eqb-false (c .kind) 0 i) in
           rw (w .text)
           (class-refuse (w .class) (c .start) (c .end) (from s (c .end)) (st rows (c .rows) o (c .stop) left q) σ FragmentName
-            (by-word (refuses FragmentName) (λ x y. not (butOn x y)) tt (w .class) (c .kind) (wordAt s c) (w .kind) (w .word) (false-T (butOn (c .kind) (wordAt s c)) (sym (names-test s c) ∙ e))))
+          (by-word (refuses FragmentName) (λ x y. not (butOn x y)) tt (w .class) (c .kind) (wordAt s c) (w .kind) (w .word) (false-T (butOn (c .kind) (wordAt s c)) (sym (names-test s c) ∙ e))))
 
   -- a type condition begins with `on`
   condition-none : (c .kind ≡ 1 → ⊥) → (σ : Stack) → at s rows c o left q (nt TypeCondition ∷ σ) ≡ halt (NoGoing (c .start))
@@ -105,7 +105,7 @@ module _ (s : List ℕ) (c : Cursor) (h : c .stop ≤ length s) (l : Looks s c) 
       let w = worded s c h l (λ z. let i = names-kind s c e in let x : ⊥ = omega arith in x) in
       rw (w .text)
       (class-refuse (w .class) (c .start) (c .end) (from s (c .end)) (st rows (c .rows) o (c .stop) left q) σ TypeCondition
-        (by-word (refuses TypeCondition) butOn tt (w .class) (c .kind) (wordAt s c) (w .kind) (w .word) (true-T (butOn (c .kind) (wordAt s c)) (sym (names-test s c) ∙ e))))
+      (by-word (refuses TypeCondition) butOn tt (w .class) (c .kind) (wordAt s c) (w .kind) (w .word) (true-T (butOn (c .kind) (wordAt s c)) (sym (names-test s c) ∙ e))))
 
 -- FROM ITS NAME ON
 abbrev nameStack : Stack
@@ -182,8 +182,8 @@ module _ (s rows : List ℕ) (c : Cursor) (before : ℕ) (g : Ready s rows c noP
       let i : mostRows < c .rows + 1 = omega arith in
       fragment-row σ o q t
       ∙ rw (fragment-text s c (g .within) (g .looks) h)
-        (class-take n-fragment (c .start) (c .end) (from s (c .end)) first-cells (c .rows + 1) (c .rows ∷ o) (c .stop) mostLevels (kinded kindFragment q) (act named ∷ (nameStack ++ σ)) (the n-fragment) tt tt tt
-        ∙ rw (lt-ltb mostRows (c .rows + 1) i) refl)
+      (class-take n-fragment (c .start) (c .end) (from s (c .end)) first-cells (c .rows + 1) (c .rows ∷ o) (c .stop) mostLevels (kinded kindFragment q) (act named ∷ (nameStack ++ σ)) (the n-fragment) tt tt tt
+      ∙ rw (lt-ltb mostRows (c .rows + 1) i) refl)
 
   module _ (room : c .rows ≡ mostRows → ⊥) where
     pub fragment-many : before ≡ mostFragments → CountedHalts s rows c noParent mostLevels oneDefinition (fragmentsAre before) (TooMany (c .start))
@@ -192,8 +192,8 @@ module _ (s rows : List ℕ) (c : Cursor) (before : ℕ) (g : Ready s rows c noP
         let j : mostFragments ≤ q .fragments = omega arith in
         fragment-row σ o q t
         ∙ rw (fragment-text s c (g .within) (g .looks) h)
-          (class-take n-fragment (c .start) (c .end) (from s (c .end)) first-cells (c .rows + 1) (c .rows ∷ o) (c .stop) mostLevels (kinded kindFragment q) (act named ∷ (nameStack ++ σ)) (the n-fragment) tt tt tt
-          ∙ rw (le-ltb mostRows (c .rows + 1) i, fragment-over q j) refl)
+        (class-take n-fragment (c .start) (c .end) (from s (c .end)) first-cells (c .rows + 1) (c .rows ∷ o) (c .stop) mostLevels (kinded kindFragment q) (act named ∷ (nameStack ++ σ)) (the n-fragment) tt tt tt
+        ∙ rw (le-ltb mostRows (c .rows + 1) i, fragment-over q j) refl)
 
     module _ (less : before ≡ mostFragments → ⊥) where
       one-more : (q : Counts) → overCounts q ≡ false → fragmentsAre before q → overCounts (kinded kindFragment q) ≡ false
@@ -205,8 +205,8 @@ module _ (s rows : List ℕ) (c : Cursor) (before : ℕ) (g : Ready s rows c noP
           let i : c .rows + 1 ≤ mostRows = omega (arith, g .few, room) in
           fragment-row σ o q t
           ∙ rw (fragment-text s c (g .within) (g .looks) h)
-            (class-take n-fragment (c .start) (c .end) (from s (c .end)) first-cells (c .rows + 1) (c .rows ∷ o) (c .stop) mostLevels (kinded kindFragment q) (act named ∷ (nameStack ++ σ)) (the n-fragment) tt tt tt
-            ∙ rw (le-ltb mostRows (c .rows + 1) i, one-more q f m) refl)
+          (class-take n-fragment (c .start) (c .end) (from s (c .end)) first-cells (c .rows + 1) (c .rows ∷ o) (c .stop) mostLevels (kinded kindFragment q) (act named ∷ (nameStack ++ σ)) (the n-fragment) tt tt tt
+          ∙ rw (le-ltb mostRows (c .rows + 1) i, one-more q f m) refl)
 
       module _ (r : Read) (e : r ≡ movedTo (c .end) (c .rows + 1) (headOf (from s (c .end)))) where
         pub fragment-bad : (rows′ : List ℕ) (x : Refusal) → r ≡ Refused x → CountedSaid 1 s rows rows′ c noParent mostLevels oneDefinition stays (fragmentsAre before) (fragmentsBecome (before + 1)) r
@@ -234,8 +234,8 @@ module _ (s rows : List ℕ) (c : Cursor) (before : ℕ) (g : Ready s rows c noP
           name-at σ o q t f m =
               fragment-past σ o q t f m
               ∙ rw (sym (word-next .stop), sym (word-next .rows))
-                (name-told rows (d .rows) o (d .stop) mostLevels (kinded kindFragment q) (nameStack ++ σ) (from s (d .stop)) (c .rows) kindFragment (c .start) 0 noParent 0 0 0
-                ∙ rw (start-in s d (word-next .looks), stop-in s d (word-next .looks)) refl)
+              (name-told rows (d .rows) o (d .stop) mostLevels (kinded kindFragment q) (nameStack ++ σ) (from s (d .stop)) (c .rows) kindFragment (c .start) 0 noParent 0 0 0
+              ∙ rw (start-in s d (word-next .looks), stop-in s d (word-next .looks)) refl)
 
           pub fragment-nameless : (rows′ : List ℕ) → namesFragment s d ≡ false → (u : Read) → u ≡ noGoingOf d → CountedSaid 1 s rows rows′ c noParent mostLevels oneDefinition stays (fragmentsAre before) (fragmentsBecome (before + 1)) u
           fragment-nameless rows′ k u z =
@@ -243,9 +243,11 @@ module _ (s rows : List ℕ) (c : Cursor) (before : ℕ) (g : Ready s rows c noP
 
           module _ (rows₁ : List ℕ) (z : rows₁ ≡ named-cells) where
             pub fragment-ready : namesFragment s d ≡ true → Ready s rows₁ d (c .rows) × (c .rows < mostRows) × (namesFragment s d ≡ true)
-            fragment-ready k =
-                (next-ready s rows₁ (c .end) (c .rows + 1) d (g .short) (ap length z ∙ put-length rows (c .rows) kindFragment (c .start) 0 noParent (d .start) (d .end - d .start) 0 ∙ g .size) (word-begins .2) (omega (arith, g .few, room)) word-next (c .rows) (g .few),
-                omega (arith, g .few, room), k)
+            fragment-ready k = (
+              next-ready s rows₁ (c .end) (c .rows + 1) d (g .short) (ap length z ∙ put-length rows (c .rows) kindFragment (c .start) 0 noParent (d .start) (d .end - d .start) 0 ∙ g .size) (word-begins .2) (omega (arith, g .few, room)) word-next (c .rows) (g .few),
+              omega (arith, g .few, room),
+              k,
+            )
 
             pub fragment-says : (rows′ : List ℕ) (u : Read) → CountedSaid 1 s rows₁ rows′ d (c .rows) mostLevels nameStack pop anyCounts sameCounts u → CountedSaid 1 s rows rows′ c noParent mostLevels oneDefinition stays (fragmentsAre before) (fragmentsBecome (before + 1)) u
             fragment-says rows′ (Done b) w =

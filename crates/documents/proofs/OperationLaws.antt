@@ -97,8 +97,8 @@ module _ (s rows : List ℕ) (c : Cursor) (extra : ℕ) (g : Ready s rows c noPa
       let i : mostRows < c .rows + 1 = omega arith in
       operation-row σ o q t
       ∙ rw (type-text s c extra (g .within) (g .looks) h)
-        (class-take (typeClass extra) (c .start) (c .end) (from s (c .end)) first-cells (c .rows + 1) (c .rows ∷ o) (c .stop) mostLevels (kinded kindOperation q) (nt OperationName? ∷ (restStack ++ σ)) (the (typeClass extra)) (y .0) (y .1) (y .2)
-        ∙ rw (lt-ltb mostRows (c .rows + 1) i) refl)
+      (class-take (typeClass extra) (c .start) (c .end) (from s (c .end)) first-cells (c .rows + 1) (c .rows ∷ o) (c .stop) mostLevels (kinded kindOperation q) (nt OperationName? ∷ (restStack ++ σ)) (the (typeClass extra)) (y .0) (y .1) (y .2)
+      ∙ rw (lt-ltb mostRows (c .rows + 1) i) refl)
 
   module _ (room : c .rows ≡ mostRows → ⊥) where
     operation-past : (σ : Stack) (o : List ℕ) (q : Counts) → top o ≡ noParent → overCounts q ≡ false →
@@ -108,8 +108,8 @@ module _ (s rows : List ℕ) (c : Cursor) (extra : ℕ) (g : Ready s rows c noPa
         let i : c .rows + 1 ≤ mostRows = omega (arith, g .few, room) in
         operation-row σ o q t
         ∙ rw (type-text s c extra (g .within) (g .looks) h)
-          (class-take (typeClass extra) (c .start) (c .end) (from s (c .end)) first-cells (c .rows + 1) (c .rows ∷ o) (c .stop) mostLevels (kinded kindOperation q) (nt OperationName? ∷ (restStack ++ σ)) (the (typeClass extra)) (y .0) (y .1) (y .2)
-          ∙ rw (le-ltb mostRows (c .rows + 1) i, operation-fine q f) refl)
+        (class-take (typeClass extra) (c .start) (c .end) (from s (c .end)) first-cells (c .rows + 1) (c .rows ∷ o) (c .stop) mostLevels (kinded kindOperation q) (nt OperationName? ∷ (restStack ++ σ)) (the (typeClass extra)) (y .0) (y .1) (y .2)
+        ∙ rw (le-ltb mostRows (c .rows + 1) i, operation-fine q f) refl)
 
     -- the rest is read, where the machine is at it
     operation-says : (rows₁ : List ℕ) (d : Cursor) → c .stop ≤ d .stop →
@@ -146,18 +146,19 @@ module _ (s rows : List ℕ) (c : Cursor) (extra : ℕ) (g : Ready s rows c noPa
 
         -- what the rest asks, where there is no name
         pub unnamed-ready : (rows₁ : List ℕ) → rows₁ ≡ first-cells → Ready s rows₁ d (c .rows) × (c .rows < mostRows)
-        unnamed-ready rows₁ z =
-            (next-ready s rows₁ (c .end) (c .rows + 1) d (g .short) (ap length z ∙ put-length rows (c .rows) kindOperation (c .start) 0 noParent 0 0 extra ∙ g .size) (begins .2) (omega (arith, g .few, room)) next (c .rows) (g .few),
-            omega (arith, g .few, room))
+        unnamed-ready rows₁ z = (
+          next-ready s rows₁ (c .end) (c .rows + 1) d (g .short) (ap length z ∙ put-length rows (c .rows) kindOperation (c .start) 0 noParent 0 0 extra ∙ g .size) (begins .2) (omega (arith, g .few, room)) next (c .rows) (g .few),
+          omega (arith, g .few, room),
+        )
 
         pub unnamed-says : (d .kind ≡ 1 → ⊥) → (rows₁ : List ℕ) → rows₁ ≡ first-cells → (rows′ : List ℕ) (u : Read) → CountedSaid 1 s rows₁ rows′ d (c .rows) mostLevels restStack pop (variablesAre 0) sameFragments u →
             CountedSaid 1 s rows rows′ c noParent mostLevels oneDefinition stays anyCounts sameFragments u
         unfolding factored language choose
         unnamed-says k rows₁ z rows′ u w =
             operation-says rows₁ d (omega (arith, next .stop, begins))
-              (λ σ o q t f. operation-past σ o q t f
-              ∙ rw (sym (next .stop), sym (next .rows)) (null s d name-within (next .looks) first-cells (d .rows) (c .rows ∷ o) mostLevels (kinded kindOperation q) (restStack ++ σ) OperationName? {α = []} (List·Memᴰ·head refl) tt refl (λ y. not (is 1 y)) (not-is 1 (d .kind) k) tt ∙ rw z refl))
-              rows′ u w
+            (λ σ o q t f. operation-past σ o q t f
+            ∙ rw (sym (next .stop), sym (next .rows)) (null s d name-within (next .looks) first-cells (d .rows) (c .rows ∷ o) mostLevels (kinded kindOperation q) (restStack ++ σ) OperationName? {α = []} (List·Memᴰ·head refl) tt refl (λ y. not (is 1 y)) (not-is 1 (d .kind) k) tt ∙ rw z refl))
+            rows′ u w
 
         module _ (k : d .kind ≡ 1) where
           abbrev named-cells : List ℕ
@@ -169,11 +170,11 @@ module _ (s rows : List ℕ) (c : Cursor) (extra : ℕ) (g : Ready s rows c noPa
           named-past σ o q t f =
               operation-past σ o q t f
               ∙ rw (sym (next .stop), sym (next .rows))
-                (first s d name-within (next .looks) first-cells (d .rows) (c .rows ∷ o) mostLevels (kinded kindOperation q) (restStack ++ σ) OperationName? {α = act named ∷ nt Name ∷ []} (List·Memᴰ·tail (List·Memᴰ·head refl)) 0 k tt
-                ∙ name-told rows (d .rows) o (d .stop) mostLevels (kinded kindOperation q) (nt Name ∷ (restStack ++ σ)) (from s (d .stop)) (c .rows) kindOperation (c .start) 0 noParent 0 0 extra
-                ∙ rw (start-in s d (next .looks), stop-in s d (next .looks))
-                  (first s d name-within (next .looks) named-cells (d .rows) (c .rows ∷ o) mostLevels (kinded kindOperation q) (restStack ++ σ) Name {α = tm anyName ∷ []} (List·Memᴰ·head refl) 0 k tt
-                  ∙ plain s d name-within (next .looks) named-cells (d .rows) (c .rows ∷ o) mostLevels (kinded kindOperation q) (restStack ++ σ) anyName 0 k tt tt (omega (arith, next .rows, g .few, room)) (operation-fine q f)))
+              (first s d name-within (next .looks) first-cells (d .rows) (c .rows ∷ o) mostLevels (kinded kindOperation q) (restStack ++ σ) OperationName? {α = act named ∷ nt Name ∷ []} (List·Memᴰ·tail (List·Memᴰ·head refl)) 0 k tt
+              ∙ name-told rows (d .rows) o (d .stop) mostLevels (kinded kindOperation q) (nt Name ∷ (restStack ++ σ)) (from s (d .stop)) (c .rows) kindOperation (c .start) 0 noParent 0 0 extra
+              ∙ rw (start-in s d (next .looks), stop-in s d (next .looks))
+              (first s d name-within (next .looks) named-cells (d .rows) (c .rows ∷ o) mostLevels (kinded kindOperation q) (restStack ++ σ) Name {α = tm anyName ∷ []} (List·Memᴰ·head refl) 0 k tt
+              ∙ plain s d name-within (next .looks) named-cells (d .rows) (c .rows ∷ o) mostLevels (kinded kindOperation q) (restStack ++ σ) anyName 0 k tt tt (omega (arith, next .rows, g .few, room)) (operation-fine q f)))
 
           module _ (v : Read) (i : v ≡ movedTo (d .end) (c .rows + 1) (headOf (from s (d .end)))) where
             pub operation-bad-2 : (rows′ : List ℕ) (x : Refusal) → v ≡ Refused x → CountedSaid 1 s rows rows′ c noParent mostLevels oneDefinition stays anyCounts sameFragments v
@@ -185,15 +186,16 @@ module _ (s rows : List ℕ) (c : Cursor) (extra : ℕ) (g : Ready s rows c noPa
               next-2 = next-of s (d .end) (c .rows + 1) v b i j
 
               pub named-ready : (rows₁ : List ℕ) → rows₁ ≡ named-cells → Ready s rows₁ b (c .rows) × (c .rows < mostRows)
-              named-ready rows₁ z =
-                  (next-ready s rows₁ (d .end) (c .rows + 1) b (g .short) (ap length z ∙ put-length rows (c .rows) kindOperation (c .start) 0 noParent (d .start) (d .end - d .start) extra ∙ g .size) (name-ends .1) (omega (arith, g .few, room)) next-2 (c .rows) (g .few),
-                  omega (arith, g .few, room))
+              named-ready rows₁ z = (
+                next-ready s rows₁ (d .end) (c .rows + 1) b (g .short) (ap length z ∙ put-length rows (c .rows) kindOperation (c .start) 0 noParent (d .start) (d .end - d .start) extra ∙ g .size) (name-ends .1) (omega (arith, g .few, room)) next-2 (c .rows) (g .few),
+                omega (arith, g .few, room),
+              )
 
               pub named-says : (rows₁ : List ℕ) → rows₁ ≡ named-cells → (rows′ : List ℕ) (u : Read) → CountedSaid 1 s rows₁ rows′ b (c .rows) mostLevels restStack pop (variablesAre 0) sameFragments u →
                   CountedSaid 1 s rows rows′ c noParent mostLevels oneDefinition stays anyCounts sameFragments u
               named-says rows₁ z rows′ u w =
                   operation-says rows₁ b (let p = ahead s d name-within (next .looks) (λ z. let x : ⊥ = omega (arith, k) in x) in omega (arith, next .stop, next-2 .stop, begins, p))
-                    (λ σ o q t f. named-past σ o q t f ∙ rw (next-2 .stop, next-2 .rows, z) refl) rows′ u w
+                  (λ σ o q t f. named-past σ o q t f ∙ rw (next-2 .stop, next-2 .rows, z) refl) rows′ u w
 
 -- A SELECTION SET ALONE
 module _ (s rows : List ℕ) (c : Cursor) (g : Ready s rows c noParent) (h : c .kind ≡ 15) where
@@ -238,9 +240,12 @@ module _ (s rows : List ℕ) (c : Cursor) (g : Ready s rows c noParent) (h : c .
           few = w .few;
           looks = w .looks;
           on = w .on;
-          goes = λ σ o q t f m.
-              (kinded kindOperation q, operation-fine q f, refl,
-              short-at σ o q t ∙ w .goes (act end ∷ σ) (c .rows ∷ o) (kinded kindOperation q) refl (operation-fine q f)
-              ∙ ends-row rows₂ (d .rows) o (d .stop) mostLevels (kinded kindOperation q) σ (from s (d .stop)) (c .rows)
-              ∙ rw e refl);
+          goes = λ σ o q t f m. (
+            kinded kindOperation q,
+            operation-fine q f,
+            refl,
+            short-at σ o q t ∙ w .goes (act end ∷ σ) (c .rows ∷ o) (kinded kindOperation q) refl (operation-fine q f)
+                ∙ ends-row rows₂ (d .rows) o (d .stop) mostLevels (kinded kindOperation q) σ (from s (d .stop)) (c .rows)
+                ∙ rw e refl,
+          );
         }

@@ -89,10 +89,6 @@ module _ (k : Class) (a e : ℕ) (t : Text) where
   unfolding go refuses
   class-refuse S σ p h = rw (step-none fits p (some k) σ (none-is (choose graphql p (some k)) h)) refl
 
-  pub class-lacks : (S : State) (σ : Stack) (w : Terminal) → T (not (hits w k)) → go S (tm w ∷ σ) (token (tokenOf k a e) t) ≡ halt (NoGoing a)
-  unfolding go step
-  class-lacks S σ w h = rw (not-eq (hits w k) h) refl
-
   pub class-take : (cells : List ℕ) (n : ℕ) (o : List ℕ) (stop left : ℕ) (q : Counts) (σ : Stack) (w : Terminal) → T (hits w k) → T (not (opens k)) → T (not (closes k)) →
       go (st cells n o stop left q) (tm w ∷ σ) (token (tokenOf k a e) t) ≡ many (ltb mostRows n) (TooManyRows a) (many (overCounts q) (TooMany a) (go (st cells n o e left q) σ t))
   unfolding go step

@@ -1,23 +1,6 @@
 // Reads documents and variables texts, and writes their rows.
-use paper::Refusal;
-use paper::EXTRA_MUTATION;
-use paper::EXTRA_QUERY;
-use paper::EXTRA_SUBSCRIPTION;
-use paper::KIND_FRAGMENT;
-use paper::KIND_OPERATION;
-use paper::MOST_FRAGMENTS;
-use paper::MOST_LEVELS;
-use paper::MOST_ROWS;
-use paper::NO_PARENT;
-use reader::no_going;
-use reader::put_end;
-use reader::put_row;
-use reader::Cursor;
-use reader::Read;
 use arguments::condition;
 use arguments::directives_if;
-use selections::names_fragment;
-use selections::selection_set;
 use characters::TOKEN_BRACE_OPEN;
 use characters::TOKEN_END;
 use characters::TOKEN_NAME;
@@ -27,6 +10,23 @@ use characters::WORD_MUTATION;
 use characters::WORD_OTHER;
 use characters::WORD_QUERY;
 use characters::WORD_SUBSCRIPTION;
+use paper::EXTRA_MUTATION;
+use paper::EXTRA_QUERY;
+use paper::EXTRA_SUBSCRIPTION;
+use paper::KIND_FRAGMENT;
+use paper::KIND_OPERATION;
+use paper::MOST_FRAGMENTS;
+use paper::MOST_LEVELS;
+use paper::MOST_ROWS;
+use paper::NO_PARENT;
+use paper::Refusal;
+use reader::Cursor;
+use reader::Read;
+use reader::no_going;
+use reader::put_end;
+use reader::put_row;
+use selections::names_fragment;
+use selections::selection_set;
 use variables::variable_definitions;
 ghost use mathlib.Core.Path.{_≡_};
 ghost use mathlib.Core.Bool.{true};
@@ -94,7 +94,17 @@ fn operation(s: &[u8], rows: &mut [u32], c: Cursor, extra: u32) -> Read
         put_row(rows, n, KIND_OPERATION, c.start, 0, NO_PARENT, 0, 0, extra);
         return operation_rest(s, rows, d, n);
     }
-    put_row(rows, n, KIND_OPERATION, c.start, 0, NO_PARENT, d.start, d.end - d.start, extra);
+    put_row(
+        rows,
+        n,
+        KIND_OPERATION,
+        c.start,
+        0,
+        NO_PARENT,
+        d.start,
+        d.end - d.start,
+        extra,
+    );
     let t = d.past(s, n + 1);
     let Read::Done(e) = t else {
         return t;
@@ -111,8 +121,24 @@ fn short_operation(s: &[u8], rows: &mut [u32], c: Cursor) -> Read
     if n == MOST_ROWS {
         return Read::Refused(Refusal::TooManyRows(c.start));
     }
-    put_row(rows, n, KIND_OPERATION, c.start, 0, NO_PARENT, 0, 0, EXTRA_QUERY);
-    let d = Cursor { kind: c.kind, start: c.start, end: c.end, stop: c.stop, rows: n + 1 };
+    put_row(
+        rows,
+        n,
+        KIND_OPERATION,
+        c.start,
+        0,
+        NO_PARENT,
+        0,
+        0,
+        EXTRA_QUERY,
+    );
+    let d = Cursor {
+        kind: c.kind,
+        start: c.start,
+        end: c.end,
+        stop: c.stop,
+        rows: n + 1,
+    };
     let t = selection_set(s, rows, d, n, MOST_LEVELS);
     let Read::Done(e) = t else {
         return t;
@@ -138,7 +164,17 @@ fn fragment(s: &[u8], rows: &mut [u32], c: Cursor, before: u32) -> Read
         return r;
     };
     if names_fragment(s, name) {
-        put_row(rows, n, KIND_FRAGMENT, c.start, 0, NO_PARENT, name.start, name.end - name.start, 0);
+        put_row(
+            rows,
+            n,
+            KIND_FRAGMENT,
+            c.start,
+            0,
+            NO_PARENT,
+            name.start,
+            name.end - name.start,
+            0,
+        );
         return fragment_rest(s, rows, name, n);
     }
     no_going(name)
@@ -218,7 +254,13 @@ fn begin(s: &[u8]) -> Read
     requires { ⌜ length (now s) ≤ mostText ⌝ }
     ensures { λ r. ⌜ r ≡ movedTo 0 0 (headOf (from (now (s .entry)) 0)) ⌝ }
 {
-    let c = Cursor { kind: TOKEN_END, start: 0, end: 0, stop: 0, rows: 0 };
+    let c = Cursor {
+        kind: TOKEN_END,
+        start: 0,
+        end: 0,
+        stop: 0,
+        rows: 0,
+    };
     c.past(s, 0)
 }
 

@@ -39,7 +39,7 @@ name-first s c i l h cells n a p o left marks q σ =
     ∙ first s c i l (put cells n kindTypeReference a 0 p 0 0 0) (c .rows) (n ∷ o) left (wrappedBy marks q) (nt Bang? ∷ σ) NamedType {α = act named ∷ nt Name ∷ []} (List·Memᴰ·head refl) 0 h tt
     ∙ name-told cells (c .rows) o (c .stop) left (wrappedBy marks q) (nt Name ∷ nt Bang? ∷ σ) (from s (c .stop)) n kindTypeReference a 0 p 0 0 0
     ∙ rw (start-in s c l, stop-in s c l)
-      (first s c i l (put cells n kindTypeReference a 0 p (c .start) (c .end - c .start) 0) (c .rows) (n ∷ o) left (wrappedBy marks q) (nt Bang? ∷ σ) Name {α = tm anyName ∷ []} (List·Memᴰ·head refl) 0 h tt)
+    (first s c i l (put cells n kindTypeReference a 0 p (c .start) (c .end - c .start) 0) (c .rows) (n ∷ o) left (wrappedBy marks q) (nt Bang? ∷ σ) Name {α = tm anyName ∷ []} (List·Memᴰ·head refl) 0 h tt)
 
 module _ (s : List ℕ) (c : Cursor) (marks : ℕ) (g : Seen s c) (h : c .kind ≡ 1) (k : marks ≤ mostWrappers) where
   named-past : (cells : List ℕ) (n a p : ℕ) (o : List ℕ) (left : ℕ) (q : Counts) (σ : Stack) → overCounts q ≡ false →

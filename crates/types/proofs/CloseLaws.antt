@@ -33,7 +33,7 @@ module _ (s : List ℕ) (w : Wrapped) (ready : Marked s w mostBefore) where
   pub close-none : (w .at .kind ≡ 14 → ⊥) → WrapHalts s w (closers 1) (NoGoing (w .at .start))
   close-none h cells n a p m z o left q σ l f =
       lacks s (w .at) (ready .seen .within) (ready .seen .looks) (put cells n kindTypeReference a 0 p m z (w .extra)) (w .at .rows) (n ∷ o) left (wrappedBy (w .marks) q)
-        (act (wrap wrapList) ∷ nt Bang? ∷ σ) (the bracketR) (λ y. not (is 14 y)) (not-is 14 (w .at .kind) h) tt
+      (act (wrap wrapList) ∷ nt Bang? ∷ σ) (the bracketR) (λ y. not (is 14 y)) (not-is 14 (w .at .kind) h) tt
 
   module _ (h : w .at .kind ≡ 14) where
     close-past : (cells : List ℕ) (n a p m z : ℕ) (o : List ℕ) (left : ℕ) (q : Counts) (σ : Stack) → overCounts q ≡ false →
@@ -41,7 +41,7 @@ module _ (s : List ℕ) (w : Wrapped) (ready : Marked s w mostBefore) where
         ≡ go (st (put cells n kindTypeReference a 0 p m z (w .extra)) (w .at .rows) (n ∷ o) (w .at .end) (suc left) (wrappedBy (w .marks) q)) (act (wrap wrapList) ∷ nt Bang? ∷ σ) (from s (w .at .end))
     close-past cells n a p m z o left q σ f =
         closing s (w .at) (ready .seen .within) (ready .seen .looks) (put cells n kindTypeReference a 0 p m z (w .extra)) (w .at .rows) (n ∷ o) left (wrappedBy (w .marks) q)
-          (act (wrap wrapList) ∷ nt Bang? ∷ σ) (the bracketR) 13 h tt tt (ready .seen .few) (wrapped-fine q (w .marks) f (ready .marks))
+        (act (wrap wrapList) ∷ nt Bang? ∷ σ) (the bracketR) 13 h tt tt (ready .seen .few) (wrapped-fine q (w .marks) f (ready .marks))
 
     module _ (r : Read) (e : r ≡ movedTo (w .at .end) (w .at .rows) (headOf (from s (w .at .end)))) where
       pub close-bad : (x : Refusal) → r ≡ Refused x → WrapHalts s w (closers 1) x
@@ -144,7 +144,6 @@ module _ (s : List ℕ) (w : Wrapped) where
     pub closed-stop : (opened : ℕ) → i < opened → (x : Refusal) → WrapHalts s v (closers 1) x → WrapHalts s w (closers opened) x
     closed-stop opened h x b cells n a p m z o left q σ l f =
         let e : opened ≡ i + (1 + (opened - (i + 1))) = omega arith in
-        let k = opened - (i + 1) in
         ap (λ (j : ℕ). inside s w cells n a p m z o left q (closers j ++ σ)) e
         ∙ ap (λ (τ : Stack). inside s w cells n a p m z o left q (τ ++ σ)) (closers-add i (1 + (opened - (i + 1))))
         ∙ ap (λ (τ : Stack). inside s w cells n a p m z o left q τ) (append-assoc (closers i) (closers (1 + (opened - (i + 1)))) σ)

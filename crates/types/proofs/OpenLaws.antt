@@ -82,7 +82,7 @@ module _ (s : List ℕ) (c : Cursor) (left n : ℕ) (d : Cursor) (marks : ℕ) (
         g .goes cells o q σ f
         ∙ open-first s d (g .seen .within) (g .seen .looks) h cells o (left - marks) marks q (closers marks ++ σ)
         ∙ too-many-open s d (g .seen .within) (g .seen .looks) cells (d .rows) o (left - marks) (wrappedBy (marks + 1) q) (nt TypeRef ∷ tm (the bracketR) ∷ act (wrap wrapList) ∷ nt Bang? ∷ (closers marks ++ σ)) (the bracketL) 12 h tt tt
-          (left - marks - 1) (omega arith) (g .seen .few) (wrapped-over q (marks + 1) f (omega arith))
+        (left - marks - 1) (omega arith) (g .seen .few) (wrapped-over q (marks + 1) f (omega arith))
 
     module _ (l : marks < left) (k : marks < mostWrappers) (r : Read) (e : r ≡ movedTo (d .end) n (headOf (from s (d .end)))) where
       opened-past : (cells o : List ℕ) (q : Counts) (σ : Stack) → overCounts q ≡ false →
@@ -92,7 +92,7 @@ module _ (s : List ℕ) (c : Cursor) (left n : ℕ) (d : Cursor) (marks : ℕ) (
           g .goes cells o q σ f
           ∙ open-first s d (g .seen .within) (g .seen .looks) h cells o (left - marks) marks q (closers marks ++ σ)
           ∙ opening s d (g .seen .within) (g .seen .looks) cells (d .rows) o (left - marks) (wrappedBy (marks + 1) q) (nt TypeRef ∷ tm (the bracketR) ∷ act (wrap wrapList) ∷ nt Bang? ∷ (closers marks ++ σ)) (the bracketL) 12 h tt tt
-            (left - (marks + 1)) (omega arith) (g .seen .few) (wrapped-fine q (marks + 1) f (omega arith))
+          (left - (marks + 1)) (omega arith) (g .seen .few) (wrapped-fine q (marks + 1) f (omega arith))
 
       pub opened-bad : (x : Refusal) → r ≡ Refused x → OpenHalts s c left x
       opened-bad x y cells o q σ f =

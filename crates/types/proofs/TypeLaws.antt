@@ -26,7 +26,7 @@ use Rattle.reader.proofs.Cells.{put, put-length, row-opens, row-ends}
 use Rattle.types.specs.declared.Wrapped.{Wrapped}
 use Rattle.types.specs.declared.TypeRead.{TypeRead}
 use Rattle.types.specs.declared.TypeRead.the-variants.{Typed, Untyped}
-use Rattle.types.specs.Types.{wrappedBy, typeStack, closers, Seen, Opened, Opens, Based, Named, TypedReady, Rested, RestSaid, TypeSaid}
+use Rattle.types.specs.Types.{wrappedBy, typeStack, closers, Opened, Opens, Based, Named, TypedReady, Rested, RestSaid, TypeSaid}
 use Rattle.types.proofs.MovedLaws.{start-in}
 use Rattle.types.proofs.OpenLaws.{open-first, open-deep}
 use Rattle.types.proofs.BaseLaws.{name-first}
@@ -91,12 +91,9 @@ module _ (s rows : List ℕ) (c : Cursor) (parent left : ℕ) (g : Ready s rows 
       type-begins σ o q t
       ∙ open-first s begun (g .within) (g .looks) (h .0) (put rows (c .rows) kindTypeReference (c .start) 0 parent 0 0 0) (c .rows ∷ o) left 0 q (act end ∷ σ)
       ∙ too-many-rows-open s begun (g .within) (g .looks) (put rows (c .rows) kindTypeReference (c .start) 0 parent 0 0 0) (c .rows + 1) (c .rows ∷ o) left (wrappedBy (0 + 1) q)
-        (nt TypeRef ∷ tm (the bracketR) ∷ act (wrap wrapList) ∷ nt Bang? ∷ act end ∷ σ) (the bracketL) 12 (h .0) tt tt (left - 1) (omega (arith, h .1)) (omega arith)
+      (nt TypeRef ∷ tm (the bracketR) ∷ act (wrap wrapList) ∷ nt Bang? ∷ act end ∷ σ) (the bracketL) 12 (h .0) tt tt (left - 1) (omega (arith, h .1)) (omega arith)
 
   module _ (room : c .rows ≡ mostRows → ⊥) where
-    pub type-seen : Seen s begun
-    type-seen = record { short = g .short; within = g .within; few = omega (arith, g .few, room); looks = g .looks }
-
     pub type-stop : (rows′ : List ℕ) (t : TypeRead) (x : Refusal) → Opens s begun left t → t ≡ Untyped x → TypeSaid s rows rows′ c parent left (Refused x)
     type-stop rows′ t x b e σ o q z f =
         type-begins σ o q z ∙ subst (λ (t : TypeRead). Opens s begun left t) e b (put rows (c .rows) kindTypeReference (c .start) 0 parent 0 0 0) (c .rows ∷ o) q (act end ∷ σ) f

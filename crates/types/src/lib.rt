@@ -1,18 +1,18 @@
 // Reads type references, and writes their rows.
-use paper::Refusal;
-use paper::KIND_TYPE_REFERENCE;
-use paper::MOST_ROWS;
-use paper::MOST_WRAPPERS;
-use paper::WRAP_LIST;
-use paper::WRAP_NON_NULL;
-use reader::no_going;
-use reader::put_row;
-use reader::Cursor;
-use reader::Read;
 use characters::TOKEN_BANG;
 use characters::TOKEN_BRACKET_CLOSE;
 use characters::TOKEN_BRACKET_OPEN;
 use characters::TOKEN_NAME;
+use paper::KIND_TYPE_REFERENCE;
+use paper::MOST_ROWS;
+use paper::MOST_WRAPPERS;
+use paper::Refusal;
+use paper::WRAP_LIST;
+use paper::WRAP_NON_NULL;
+use reader::Cursor;
+use reader::Read;
+use reader::no_going;
+use reader::put_row;
 ghost use mathlib.Core.Path.{_≡_};
 ghost use Prim.Native.Nat.{_≤_};
 ghost use Rattle.paper.specs.Numbers.{mostWrappers};
@@ -42,7 +42,11 @@ fn open_brackets(s: &[u8], c: Cursor, left: u32) -> TypeRead
     let mut marks: u32 = 0;
     loop {
         if d.kind != TOKEN_BRACKET_OPEN {
-            return TypeRead::Typed(Wrapped { at: d, extra: 0, marks: marks });
+            return TypeRead::Typed(Wrapped {
+                at: d,
+                extra: 0,
+                marks: marks,
+            });
         }
         if left <= marks {
             return TypeRead::Untyped(Refusal::TooDeep(d.start));
@@ -78,7 +82,11 @@ fn bang_if(s: &[u8], w: Wrapped) -> TypeRead
     let n = c.rows;
     let r = c.past(s, n);
     match r {
-        Read::Done(next) => TypeRead::Typed(Wrapped { at: next, extra: extra * 4 + WRAP_NON_NULL, marks: marks + 1 }),
+        Read::Done(next) => TypeRead::Typed(Wrapped {
+            at: next,
+            extra: extra * 4 + WRAP_NON_NULL,
+            marks: marks + 1,
+        }),
         Read::Refused(why) => TypeRead::Untyped(why),
     }
 }
@@ -97,7 +105,14 @@ fn close_bracket(s: &[u8], w: Wrapped) -> TypeRead
     let n = c.rows;
     let r = c.past(s, n);
     match r {
-        Read::Done(next) => bang_if(s, Wrapped { at: next, extra: extra * 4 + WRAP_LIST, marks: marks }),
+        Read::Done(next) => bang_if(
+            s,
+            Wrapped {
+                at: next,
+                extra: extra * 4 + WRAP_LIST,
+                marks: marks,
+            },
+        ),
         Read::Refused(why) => TypeRead::Untyped(why),
     }
 }
@@ -131,7 +146,14 @@ fn base_type(s: &[u8], c: Cursor, marks: u32) -> TypeRead
     let r = c.past(s, n);
     match r {
         Read::Done(next) => {
-            let t = bang_if(s, Wrapped { at: next, extra: 0, marks: marks });
+            let t = bang_if(
+                s,
+                Wrapped {
+                    at: next,
+                    extra: 0,
+                    marks: marks,
+                },
+            );
             let TypeRead::Typed(w) = t else {
                 return t;
             };
@@ -159,7 +181,17 @@ pub fn type_reference(s: &[u8], rows: &mut [u32], c: Cursor, parent: u32, left: 
     if n == MOST_ROWS {
         return Read::Refused(Refusal::TooManyRows(start));
     }
-    let o = open_brackets(s, Cursor { kind: c.kind, start: start, end: c.end, stop: c.stop, rows: n + 1 }, left);
+    let o = open_brackets(
+        s,
+        Cursor {
+            kind: c.kind,
+            start: start,
+            end: c.end,
+            stop: c.stop,
+            rows: n + 1,
+        },
+        left,
+    );
     match o {
         TypeRead::Typed(w) => typed(s, rows, w, parent, n, start),
         TypeRead::Untyped(why) => Read::Refused(why),
@@ -180,7 +212,17 @@ fn typed(s: &[u8], rows: &mut [u32], w: Wrapped, parent: u32, n: u32, start: u32
     match t {
         TypeRead::Typed(v) => {
             let d = v.at;
-            put_row(rows, n, KIND_TYPE_REFERENCE, start, d.stop, parent, name.start, name.end - name.start, v.extra);
+            put_row(
+                rows,
+                n,
+                KIND_TYPE_REFERENCE,
+                start,
+                d.stop,
+                parent,
+                name.start,
+                name.end - name.start,
+                v.extra,
+            );
             Read::Done(d)
         }
         TypeRead::Untyped(why) => Read::Refused(why),

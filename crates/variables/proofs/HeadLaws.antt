@@ -34,7 +34,7 @@ module _ (s rows : List ℕ) (c : Cursor) (parent : ℕ) (g : Ready s rows c par
   dollar-past left σ o q t f k =
       row-opens rows (c .rows) o (c .stop) left q (tm (the dollar) ∷ act named ∷ nt Name ∷ tm (the colon) ∷ σ) (from s (c .stop)) kindVariableDefinition 0
       ∙ rw (start-in s c (g .looks), t)
-        (plain s c (g .within) (g .looks) (put rows (c .rows) kindVariableDefinition (c .start) 0 parent 0 0 0) (c .rows + 1) (c .rows ∷ o) left (kinded kindVariableDefinition q) (act named ∷ nt Name ∷ tm (the colon) ∷ σ) (the dollar) 6 h tt tt (omega arith) (variable-fine q f k))
+      (plain s c (g .within) (g .looks) (put rows (c .rows) kindVariableDefinition (c .start) 0 parent 0 0 0) (c .rows + 1) (c .rows ∷ o) left (kinded kindVariableDefinition q) (act named ∷ nt Name ∷ tm (the colon) ∷ σ) (the dollar) 6 h tt tt (omega arith) (variable-fine q f k))
 
   module _ (r : Read) (e : r ≡ movedTo (c .end) (c .rows + 1) (headOf (from s (c .end)))) where
     pub head-bad : (rows′ : List ℕ) (x : Refusal) → r ≡ Refused x → (left : ℕ) → CountedSaid 1 s rows rows′ c parent left headStack (opens (c .rows)) oneVariableMore variableBegun r
@@ -65,9 +65,9 @@ module _ (s rows : List ℕ) (c : Cursor) (parent : ℕ) (g : Ready s rows c par
       name-at left σ o q t f k =
           dollar-past left σ o q t f k
           ∙ (let n = next in
-            rw (sym (n .stop))
-            (name-told rows (c .rows + 1) o (d .stop) left (kinded kindVariableDefinition q) (nt Name ∷ tm (the colon) ∷ σ) (from s (d .stop)) (c .rows) kindVariableDefinition (c .start) 0 parent 0 0 0
-            ∙ rw (start-in s d (n .looks), stop-in s d (n .looks), n .rows) refl))
+          rw (sym (n .stop))
+          (name-told rows (c .rows + 1) o (d .stop) left (kinded kindVariableDefinition q) (nt Name ∷ tm (the colon) ∷ σ) (from s (d .stop)) (c .rows) kindVariableDefinition (c .start) 0 parent 0 0 0
+          ∙ rw (start-in s d (n .looks), stop-in s d (n .looks), n .rows) refl))
 
       pub head-nameless : (rows′ : List ℕ) → (d .kind ≡ 1 → ⊥) → (t : Read) → t ≡ noGoingOf d → (left : ℕ) → CountedSaid 1 s rows rows′ c parent left headStack (opens (c .rows)) oneVariableMore variableBegun t
       unfolding factored language choose refuses refusesEnd

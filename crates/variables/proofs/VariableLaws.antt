@@ -49,7 +49,7 @@ module _ (s rows : List ℕ) (c : Cursor) (parent left before : ℕ) (g : Ready 
     variable-row : (σ : Stack) (o : List ℕ) (q : Counts) → top o ≡ parent →
         at s rows c o left q (definitionStack ++ σ)
         ≡ go (st (put rows (c .rows) kindVariableDefinition (c .start) 0 parent 0 0 0) (c .rows + 1) (c .rows ∷ o) (c .stop) left (kinded kindVariableDefinition q))
-          (tm (the dollar) ∷ act named ∷ nt Name ∷ tm (the colon) ∷ (typeStack ++ defaultEnd σ)) (from s (c .stop))
+        (tm (the dollar) ∷ act named ∷ nt Name ∷ tm (the colon) ∷ (typeStack ++ defaultEnd σ)) (from s (c .stop))
     variable-row σ o q t =
         variable-first σ o q
         ∙ row-opens rows (c .rows) o (c .stop) left q (tm (the dollar) ∷ act named ∷ nt Name ∷ tm (the colon) ∷ (typeStack ++ defaultEnd σ)) (from s (c .stop)) kindVariableDefinition 0
@@ -59,14 +59,14 @@ module _ (s rows : List ℕ) (c : Cursor) (parent left before : ℕ) (g : Ready 
     variable-full k σ o q t f m =
         variable-row σ o q t
         ∙ too-many-rows s c (g .within) (g .looks) (put rows (c .rows) kindVariableDefinition (c .start) 0 parent 0 0 0) (c .rows + 1) (c .rows ∷ o) left (kinded kindVariableDefinition q)
-          (act named ∷ nt Name ∷ tm (the colon) ∷ (typeStack ++ defaultEnd σ)) (the dollar) 6 h tt tt (omega arith)
+        (act named ∷ nt Name ∷ tm (the colon) ∷ (typeStack ++ defaultEnd σ)) (the dollar) 6 h tt tt (omega arith)
 
     module _ (room : c .rows ≡ mostRows → ⊥) where
       pub variable-many : before ≡ mostVariables → CountedHalts s rows c parent left definitionStack (variablesAre before) (TooMany (c .start))
       variable-many k σ o q t f m =
           variable-row σ o q t
           ∙ too-many s c (g .within) (g .looks) (put rows (c .rows) kindVariableDefinition (c .start) 0 parent 0 0 0) (c .rows + 1) (c .rows ∷ o) left (kinded kindVariableDefinition q)
-            (act named ∷ nt Name ∷ tm (the colon) ∷ (typeStack ++ defaultEnd σ)) (the dollar) 6 h tt tt (omega (arith, g .few, room)) (variable-over q f (omega arith))
+          (act named ∷ nt Name ∷ tm (the colon) ∷ (typeStack ++ defaultEnd σ)) (the dollar) 6 h tt tt (omega (arith, g .few, room)) (variable-over q f (omega arith))
 
       module _ (k : before ≡ mostVariables → ⊥) where
         one-more : (q : Counts) → overCounts q ≡ false → variablesAre before q → oneVariableMore q
@@ -116,12 +116,15 @@ module _ (s rows : List ℕ) (c : Cursor) (parent left before : ℕ) (g : Ready 
                   few = y .few;
                   looks = y .looks;
                   on = omega (arith, y .on, u .on, w .on);
-                  goes = λ σ o q t f m.
-                      (wrappedBy (u .wrappers) (kinded kindVariableDefinition q), typed-fine q f m, (refl, ap (λ (n : ℕ). n + 1) m),
-                      typed σ o q t f m
-                      ∙ y .goes (act end ∷ σ) (c .rows ∷ o) (wrappedBy (u .wrappers) (kinded kindVariableDefinition q)) refl (typed-fine q f m)
-                      ∙ ends-row rows₃ (d .rows) o (d .stop) left (wrappedBy (u .wrappers) (kinded kindVariableDefinition q)) σ (from s (d .stop)) (c .rows)
-                      ∙ rw z refl);
+                  goes = λ σ o q t f m. (
+                    wrappedBy (u .wrappers) (kinded kindVariableDefinition q),
+                    typed-fine q f m,
+                    (refl, ap (λ (n : ℕ). n + 1) m),
+                    typed σ o q t f m
+                        ∙ y .goes (act end ∷ σ) (c .rows ∷ o) (wrappedBy (u .wrappers) (kinded kindVariableDefinition q)) refl (typed-fine q f m)
+                        ∙ ends-row rows₃ (d .rows) o (d .stop) left (wrappedBy (u .wrappers) (kinded kindVariableDefinition q)) σ (from s (d .stop)) (c .rows)
+                        ∙ rw z refl,
+                  );
                 }
 
 -- what the reader of a type reference answers, and what it leaves to the next

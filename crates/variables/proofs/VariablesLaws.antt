@@ -113,9 +113,9 @@ module _ (s rows : List ℕ) (c : Cursor) (parent left : ℕ) (g : Ready s rows 
               CountedSaid 1 s rows rows′ c parent left listStack stays (variablesAre 0) sameFragments u
           turn-stop rows₂ rows′ u z x j =
               rw j (λ σ o q t f m.
-                let a = w .goes σ o q t f m in
-                list-begins σ o q f ∙ a .3
-                ∙ counted-halts 1 s rows₁ rows₂ d parent (left - 1) (nt VariableDefinition ∷ []) u stays (variablesAre i) (variablesBecome (i + 1)) z x j (nt VariableDefinition* ∷ tm (the parenR) ∷ σ) o (a .0) t (a .1) (a .2 .1))
+              let a = w .goes σ o q t f m in
+              list-begins σ o q f ∙ a .3
+              ∙ counted-halts 1 s rows₁ rows₂ d parent (left - 1) (nt VariableDefinition ∷ []) u stays (variablesAre i) (variablesBecome (i + 1)) z x j (nt VariableDefinition* ∷ tm (the parenR) ∷ σ) o (a .0) t (a .1) (a .2 .1))
 
           module _ (rows₂ : List ℕ) (b : Cursor) (z : Counted 1 s rows₁ rows₂ d b parent (left - 1) (nt VariableDefinition ∷ []) stays (variablesAre i) (variablesBecome (i + 1))) where
             pub turn-again : (b .kind ≡ 9 → ⊥) → Turns s rows rows₂ d₀ b parent (left - 1) (i + 1)
@@ -141,12 +141,15 @@ module _ (s rows : List ℕ) (c : Cursor) (parent left : ℕ) (g : Ready s rows 
               unfolding factored language choose
               closed σ o q t f m =
                   let a = w .goes σ o q t f m in
-                  let y = z .goes (nt VariableDefinition* ∷ tm (the parenR) ∷ σ) o (a .0) t (a .1) (a .2 .1) in
-                  (y .0, y .1, y .2 .0 ∙ a .2 .0,
-                  list-begins σ o q f ∙ a .3 ∙ y .3
-                  ∙ null s b (z .within) (z .looks) rows₂ (b .rows) o (left - 1) (y .0) (tm (the parenR) ∷ σ) VariableDefinition* {α = []} (List·Memᴰ·head refl) tt refl (is 9) (rw j tt) tt
-                  ∙ closing s b (z .within) (z .looks) rows₂ (b .rows) o (left - 1) (y .0) σ (the parenR) 8 j tt tt (z .few) (y .1)
-                  ∙ (let p : suc (left - 1) ≡ left = omega (arith, k) in ap (λ (l : ℕ). go (st rows₂ (b .rows) o (b .end) l (y .0)) σ (from s (b .end))) p))
+                  let y = z .goes (nt VariableDefinition* ∷ tm (the parenR) ∷ σ) o (a .0) t (a .1) (a .2 .1) in (
+                    y .0,
+                    y .1,
+                    y .2 .0 ∙ a .2 .0,
+                    list-begins σ o q f ∙ a .3 ∙ y .3
+                        ∙ null s b (z .within) (z .looks) rows₂ (b .rows) o (left - 1) (y .0) (tm (the parenR) ∷ σ) VariableDefinition* {α = []} (List·Memᴰ·head refl) tt refl (is 9) (rw j tt) tt
+                        ∙ closing s b (z .within) (z .looks) rows₂ (b .rows) o (left - 1) (y .0) σ (the parenR) 8 j tt tt (z .few) (y .1)
+                        ∙ (let p : suc (left - 1) ≡ left = omega (arith, k) in ap (λ (l : ℕ). go (st rows₂ (b .rows) o (b .end) l (y .0)) σ (from s (b .end))) p),
+                  )
 
               pub list-says : (a : Read) → a ≡ movedTo (b .end) (b .rows) (headOf (from s (b .end))) → CountedSaid 1 s rows rows₂ c parent left listStack stays (variablesAre 0) sameFragments a
               list-says (Refused x) v = λ σ o q t f m. let n = closed σ o q t f m in n .3 ∙ moved-halts s (b .end) (b .rows) (Refused x) x v refl (st rows₂ (b .rows) o (b .end) left (n .0)) σ

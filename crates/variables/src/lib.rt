@@ -1,18 +1,18 @@
 // Reads variable definitions, and writes their rows.
-use paper::Refusal;
-use paper::KIND_VARIABLE_DEFINITION;
-use paper::MOST_ROWS;
-use paper::MOST_VARIABLES;
 use characters::TOKEN_COLON;
 use characters::TOKEN_DOLLAR;
 use characters::TOKEN_EQUALS;
 use characters::TOKEN_NAME;
 use characters::TOKEN_PAREN_CLOSE;
+use paper::KIND_VARIABLE_DEFINITION;
+use paper::MOST_ROWS;
+use paper::MOST_VARIABLES;
+use paper::Refusal;
+use reader::Cursor;
+use reader::Read;
 use reader::no_going;
 use reader::put_end;
 use reader::put_row;
-use reader::Cursor;
-use reader::Read;
 use types::type_reference;
 ghost use mathlib.Core.Path.{_≡_};
 ghost use mathlib.Core.List.{[], _∷_};
@@ -53,7 +53,17 @@ fn variable_head(s: &[u8], rows: &mut [u32], c: Cursor, parent: u32) -> Read
     if name.kind != TOKEN_NAME {
         return no_going(name);
     }
-    put_row(rows, n, KIND_VARIABLE_DEFINITION, c.start, 0, parent, name.start, name.end - name.start, 0);
+    put_row(
+        rows,
+        n,
+        KIND_VARIABLE_DEFINITION,
+        c.start,
+        0,
+        parent,
+        name.start,
+        name.end - name.start,
+        0,
+    );
     let t = name.past(s, n + 1);
     let Read::Done(colon) = t else {
         return t;
@@ -65,7 +75,14 @@ fn variable_head(s: &[u8], rows: &mut [u32], c: Cursor, parent: u32) -> Read
 }
 
 // VariableDefinition, the one after `before` others
-fn variable_definition(s: &[u8], rows: &mut [u32], c: Cursor, parent: u32, left: u32, before: u32) -> Read
+fn variable_definition(
+    s: &[u8],
+    rows: &mut [u32],
+    c: Cursor,
+    parent: u32,
+    left: u32,
+    before: u32,
+) -> Read
     requires { ⌜ Ready (now s) (now rows) c parent ⌝ }
     ensures { λ r. ⌜ CountedSaid 1 (now (s .entry)) (now (rows .entry)) (now (rows .exit)) c parent left (nt VariableDefinition ∷ []) stays (variablesAre before) (variablesBecome (before + 1)) r ⌝ }
 {
