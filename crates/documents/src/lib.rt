@@ -1,6 +1,7 @@
 // Reads documents and variables texts, and writes their rows.
 use arguments::condition;
 use arguments::directives_if;
+use characters::TokenRead;
 use characters::TOKEN_BRACE_OPEN;
 use characters::TOKEN_END;
 use characters::TOKEN_NAME;
@@ -22,6 +23,7 @@ use paper::NO_PARENT;
 use paper::Refusal;
 use reader::Cursor;
 use reader::Read;
+use reader::located;
 use reader::no_going;
 use reader::put_end;
 use reader::put_row;
@@ -249,19 +251,16 @@ fn fragments_after(s: &[u8], c: Cursor, before: u32) -> u32
     before
 }
 
-// The cursor at the beginning of a text
+// The cursor at the beginning of a text. It asks for the token itself: with two callers `next` stays apart, and `past` is small enough to be inlined
 fn begin(s: &[u8]) -> Read
     requires { ⌜ length (now s) ≤ mostText ⌝ }
     ensures { λ r. ⌜ r ≡ movedTo 0 0 (headOf (from (now (s .entry)) 0)) ⌝ }
 {
-    let c = Cursor {
-        kind: TOKEN_END,
-        start: 0,
-        end: 0,
-        stop: 0,
-        rows: 0,
+    let t = tokens::next(s, 0);
+    let TokenRead::Token { kind, start, end } = t else {
+        return located(t);
     };
-    c.past(s, 0)
+    Read::Done(Cursor { kind: kind, start: start as u32, end: end as u32, stop: 0, rows: 0 })
 }
 
 // Document: the rows are written, and the answer's cursor counts them
