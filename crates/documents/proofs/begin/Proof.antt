@@ -23,11 +23,11 @@ located-requires c κs =
 returns : tie.Need-returns
 returns c = moved-bad _ _ _ _ _ _ (c .located .ensures) (c .before .enum-told .given .1) (c .before .before .before .next .ensures)
 
-cast-t10 : tie.Need-cast-t10
-cast-t10 c = let l = token-lies _ _ _ _ _ (omega arith) (sym (c .before .before .before .next .ensures) ∙ c .before .t .given .1) in omega arith
+cast-t6 : tie.Need-cast-t6
+cast-t6 c = let l = token-lies _ _ _ _ _ (omega arith) (sym (c .before .before .before .next .ensures) ∙ c .before .t .given .1) in omega arith
 
-cast-t11 : tie.Need-cast-t11
-cast-t11 c = let l = token-lies _ _ _ _ _ (omega arith) (sym (c .before .before .before .next .ensures) ∙ c .before .t .given .1) in omega arith
+cast-t7 : tie.Need-cast-t7
+cast-t7 c = let l = token-lies _ _ _ _ _ (omega arith) (sym (c .before .before .before .next .ensures) ∙ c .before .t .given .1) in omega arith
 
 returns-2 : tie.Need-returns-2
 returns-2 c = ap (movedTo _ _) (sym (c .before .t .given .1) ∙ c .before .before .before .next .ensures)
@@ -41,6 +41,6 @@ begin-spec =
     enum-told
     located-requires
     returns
-    cast-t10
-    cast-t11
+    cast-t6
+    cast-t7
     returns-2)
