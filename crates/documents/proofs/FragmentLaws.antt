@@ -28,8 +28,8 @@ use Rattle.reader.proofs.Steps.{is, not-is, tokenOf, refuse, refuses, refusesEn
 use Rattle.reader.proofs.Cells.{put, put-length, row-opens, name-told}
 use Rattle.arguments.specs.Arguments.{bytesAt, AtOn, conditionStack}
 use Rattle.selections.specs.Selections.{namesFragment}
-use Rattle.types.proofs.CountsLaws.{fine-parts}
-use Rattle.types.proofs.MovedLaws.{Next, next-of, moved-halts, ahead, end-within, start-in, stop-in}
+use Rattle.references.proofs.CountsLaws.{fine-parts}
+use Rattle.references.proofs.MovedLaws.{Next, next-of, moved-halts, ahead, end-within, start-in, stop-in}
 use Rattle.variables.specs.Counted.{CountedHalts, CountedSaid, stays, anyCounts, fragmentsAre, sameCounts, fragmentsBecome}
 use Rattle.documents.specs.Words.{bodyStack, wordAt, AtFragment}
 use Rattle.variables.proofs.CountedLaws.{said-halts, fragment-fine, fragment-over, next-ready}

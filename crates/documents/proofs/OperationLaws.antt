@@ -27,7 +27,7 @@ use Rattle.reader.specs.declared.Read.the-variants.{Done, Refused}
 use Rattle.reader.proofs.Steps.{is, not-is, tokenOf, null, first, plain, too-many-rows-open}
 use Rattle.reader.proofs.Cells.{put, put-length, row-opens, name-told, ends-row}
 use Rattle.selections.specs.Selections.{selectionSetStack}
-use Rattle.types.proofs.MovedLaws.{Next, next-of, moved-halts, ahead, end-within, start-in, stop-in}
+use Rattle.references.proofs.MovedLaws.{Next, next-of, moved-halts, ahead, end-within, start-in, stop-in}
 use Rattle.variables.specs.Counted.{Counted, CountedHalts, CountedSaid, stays, anyCounts, variablesAre, sameFragments}
 use Rattle.documents.specs.Words.{AtType}
 use Rattle.variables.proofs.CountedLaws.{said-halts, operation-fine, next-ready}

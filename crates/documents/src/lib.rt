@@ -1,11 +1,11 @@
 // Reads documents and variables texts, and writes their rows.
 use arguments::condition;
 use arguments::directives_if;
-use characters::TokenRead;
 use characters::TOKEN_BRACE_OPEN;
 use characters::TOKEN_END;
 use characters::TOKEN_NAME;
 use characters::TOKEN_PAREN_OPEN;
+use characters::TokenRead;
 use characters::WORD_FRAGMENT;
 use characters::WORD_MUTATION;
 use characters::WORD_OTHER;
@@ -260,7 +260,13 @@ fn begin(s: &[u8]) -> Read
     let TokenRead::Token { kind, start, end } = t else {
         return located(t);
     };
-    Read::Done(Cursor { kind: kind, start: start as u32, end: end as u32, stop: 0, rows: 0 })
+    Read::Done(Cursor {
+        kind: kind,
+        start: start as u32,
+        end: end as u32,
+        stop: 0,
+        rows: 0,
+    })
 }
 
 // Document: the rows are written, and the answer's cursor counts them

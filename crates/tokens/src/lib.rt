@@ -1,7 +1,4 @@
 // Reads one token of a text at a time, by longest match.
-use characters::comment;
-use characters::string;
-use characters::TokenRead;
 use characters::TOKEN_AT;
 use characters::TOKEN_BANG;
 use characters::TOKEN_BAR;
@@ -19,6 +16,9 @@ use characters::TOKEN_NAME;
 use characters::TOKEN_PAREN_CLOSE;
 use characters::TOKEN_PAREN_OPEN;
 use characters::TOKEN_SPREAD;
+use characters::TokenRead;
+use characters::comment;
+use characters::string;
 ghost use mathlib.Core.Path.{_≡_};
 ghost use Prim.Native.Nat.{_+_, _-_, _≤_, _<_};
 ghost use mathlib.Core.Bool.{cond};

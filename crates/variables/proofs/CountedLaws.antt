@@ -13,8 +13,8 @@ use Rattle.reader.specs.Reader.{Ready, Went, Halts, Said}
 use Rattle.reader.specs.declared.Cursor.{Cursor}
 use Rattle.reader.specs.declared.Read.{Read}
 use Rattle.reader.specs.declared.Read.the-variants.{Done, Refused}
-use Rattle.types.proofs.CountsLaws.{fine-parts, parts-fine, over-fragments, over-variables}
-use Rattle.types.proofs.MovedLaws.{Next}
+use Rattle.references.proofs.CountsLaws.{fine-parts, parts-fine, over-fragments, over-variables}
+use Rattle.references.proofs.MovedLaws.{Next}
 use Rattle.variables.specs.Counted.{Counted, CountedHalts, CountedSaid}
 
 module _ (gain : ℕ) (s rows rows′ : List ℕ) (c : Cursor) (parent left : ℕ) (α : Stack) (r : Read) where

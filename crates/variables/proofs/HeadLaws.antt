@@ -22,7 +22,7 @@ use Rattle.reader.specs.declared.Read.{Read}
 use Rattle.reader.specs.declared.Read.the-variants.{Done, Refused}
 use Rattle.reader.proofs.Steps.{is, not-is, first, refuse, refuses, refusesEnd, lacks, plain}
 use Rattle.reader.proofs.Cells.{put, put-length, row-opens, name-told}
-use Rattle.types.proofs.MovedLaws.{Next, next-of, moved-halts, ahead, end-within, start-in, stop-in}
+use Rattle.references.proofs.MovedLaws.{Next, next-of, moved-halts, ahead, end-within, start-in, stop-in}
 use Rattle.variables.specs.Counted.{CountedSaid, opens}
 use Rattle.variables.specs.Variables.{oneVariableMore, variableBegun, headStack}
 use Rattle.variables.proofs.CountedLaws.{variable-fine}

@@ -22,9 +22,9 @@ use Rattle.reader.specs.declared.Read.{Read}
 use Rattle.reader.specs.declared.Read.the-variants.{Done, Refused}
 use Rattle.reader.proofs.Steps.{is, not-is, first, refuse, refuses, refusesEnd, too-many-rows, too-many}
 use Rattle.reader.proofs.Cells.{put, row-opens, ends-row}
-use Rattle.types.specs.Types.{wrappedBy, typeStack, TypeWent, TypeSaid}
-use Rattle.types.proofs.CountsLaws.{fine-parts, wrapped-fine}
-use Rattle.types.proofs.MovedLaws.{start-in}
+use Rattle.references.specs.Types.{wrappedBy, typeStack, TypeWent, TypeSaid}
+use Rattle.references.proofs.CountsLaws.{fine-parts, wrapped-fine}
+use Rattle.references.proofs.MovedLaws.{start-in}
 use Rattle.variables.specs.Counted.{Counted, CountedHalts, CountedSaid, stays, opens, variablesAre}
 use Rattle.variables.specs.Variables.{oneVariableMore, variableBegun, variablesBecome, headStack}
 use Rattle.variables.proofs.CountedLaws.{variable-fine, variable-over, said-went, said-halts, counted-halts}

@@ -24,7 +24,7 @@ use Rattle.reader.specs.declared.Cursor.{Cursor}
 use Rattle.reader.specs.declared.Read.{Read}
 use Rattle.reader.specs.declared.Read.the-variants.{Done, Refused}
 use Rattle.reader.proofs.Steps.{is, not-is, first, null, refuse, refuses, refusesEnd, lacks, opening, closing, too-deep}
-use Rattle.types.proofs.MovedLaws.{next-of, moved-halts, ahead}
+use Rattle.references.proofs.MovedLaws.{next-of, moved-halts, ahead}
 use Rattle.variables.specs.Counted.{Counted, CountedHalts, CountedSaid, stays, variablesAre, sameFragments}
 use Rattle.variables.specs.Variables.{variablesBecome}
 use Rattle.variables.proofs.CountedLaws.{counted-halts, next-ready}

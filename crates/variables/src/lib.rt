@@ -13,7 +13,7 @@ use reader::Read;
 use reader::no_going;
 use reader::put_end;
 use reader::put_row;
-use types::type_reference;
+use references::type_reference;
 ghost use mathlib.Core.Path.{_≡_};
 ghost use mathlib.Core.List.{[], _∷_};
 ghost use Prim.Native.Nat.{ℕ, _+_, _<_};

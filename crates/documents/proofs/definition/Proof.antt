@@ -1,7 +1,7 @@
 -- `documents::definition` meets its contract: each way out is a law of `DefinitionLaws`, over the answer of the definition that it is.
 use mathlib.Core.Path.{sym, _∙_}
 use native.Mathlib.Omega.{arith}
-use Rattle.types.proofs.MovedLaws.{end-within}
+use Rattle.references.proofs.MovedLaws.{end-within}
 use Rattle.documents.proofs.DefinitionLaws.{after-other, after-brace, at-type, at-fragment, definition-operation, definition-fragment, definition-none}
 use borrow.Author.Needs.{needs}
 use Rattle.documents.proofs.definition.Statement.{statement}

@@ -4,7 +4,7 @@ use mathlib.Core.Path.{sym, _∙_}
 use native.Mathlib.Omega.{arith}
 use borrow.Author.Needs.{needs}
 use lib.ListN.{length}
-use Rattle.types.proofs.MovedLaws.{end-within}
+use Rattle.references.proofs.MovedLaws.{end-within}
 use Rattle.variables.proofs.CountedLaws.{counted-went}
 use Rattle.documents.proofs.DocumentLaws.{Defined, begin-halts, defined-none, defined-ready, defined-stop, defined-all, defined-more}
 use Rattle.documents.proofs.document.Statement.{statement}

@@ -1,7 +1,7 @@
 -- `documents::fragment` meets its contract: each way out is a law of `FragmentLaws`.
 use mathlib.Core.Path.{sym, _∙_}
 use native.Mathlib.Omega.{arith}
-use Rattle.types.proofs.MovedLaws.{end-within}
+use Rattle.references.proofs.MovedLaws.{end-within}
 use Rattle.documents.proofs.FragmentLaws.{fragment-full, fragment-many, fragment-bad, fragment-ends, fragment-nameless, fragment-ready, fragment-says}
 use borrow.Author.Needs.{needs}
 use Rattle.documents.proofs.fragment.Statement.{statement}

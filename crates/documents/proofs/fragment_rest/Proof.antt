@@ -1,6 +1,6 @@
 -- `documents::fragment_rest` meets its contract: each way out is a law of `FragmentLaws`.
 use mathlib.Core.Path.{sym, _∙_}
-use Rattle.types.proofs.MovedLaws.{end-within}
+use Rattle.references.proofs.MovedLaws.{end-within}
 use Rattle.variables.proofs.CountedLaws.{said-went, went-ready}
 use Rattle.documents.proofs.FragmentLaws.{at-on, from-name-bad, condition-ready, from-name-none, from-name-other, from-name-stop, from-name-says}
 use borrow.Author.Needs.{needs}

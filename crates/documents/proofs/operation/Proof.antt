@@ -1,5 +1,5 @@
 -- `documents::operation` meets its contract: each way out is a law of `OperationLaws`.
-use Rattle.types.proofs.MovedLaws.{end-within}
+use Rattle.references.proofs.MovedLaws.{end-within}
 use Rattle.documents.proofs.OperationLaws.{operation-full, operation-bad, name-ends, unnamed-ready, unnamed-says, operation-bad-2, named-ready, named-says}
 use borrow.Author.Needs.{needs}
 use Rattle.documents.proofs.operation.Statement.{statement}

@@ -1,5 +1,5 @@
 -- `variables::default_if` meets its contract: each way out is a law of `DefaultLaws`.
-use Rattle.types.proofs.MovedLaws.{end-within}
+use Rattle.references.proofs.MovedLaws.{end-within}
 use Rattle.variables.proofs.DefaultLaws.{default-none, default-bad, default-ready, default-says}
 use borrow.Author.Needs.{needs}
 use Rattle.variables.proofs.default_if.Statement.{statement}

@@ -4,7 +4,7 @@ use native.Mathlib.Omega.{arith}
 use borrow.Author.Needs.{needs}
 use mathlib.Core.Path.{sym, _∙_}
 use lib.ListN.{length}
-use Rattle.types.proofs.MovedLaws.{end-within}
+use Rattle.references.proofs.MovedLaws.{end-within}
 use Rattle.variables.proofs.CountedLaws.{counted-went}
 use Rattle.variables.proofs.VariablesLaws.{Turns, turns-none, list-deep, list-bad, list-ready, turn-ready, turn-stop, turn-again, close-end, list-says}
 use Rattle.variables.proofs.variable_definitions.Statement.{statement}

@@ -1,6 +1,6 @@
 -- `variables::variable_head` meets its contract: each way out is a law of `HeadLaws`.
 use native.Mathlib.Omega.{arith}
-use Rattle.types.proofs.MovedLaws.{end-within}
+use Rattle.references.proofs.MovedLaws.{end-within}
 use Rattle.variables.proofs.HeadLaws.{head-bad, head-nameless, name-ends, head-bad-2, colon-end, head-colonless, head-says}
 use borrow.Author.Needs.{needs}
 use Rattle.variables.proofs.variable_head.Statement.{statement}

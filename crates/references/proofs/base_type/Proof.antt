@@ -1,9 +1,9 @@
--- `types::base_type` meets its contract: each way out is a law of `BaseLaws`.
-use Rattle.types.proofs.MovedLaws.{end-within}
-use Rattle.types.proofs.BaseLaws.{named-bad, bare-marked, named-stop, named-ready, named-says}
+-- `references::base_type` meets its contract: each way out is a law of `BaseLaws`.
+use Rattle.references.proofs.MovedLaws.{end-within}
+use Rattle.references.proofs.BaseLaws.{named-bad, bare-marked, named-stop, named-ready, named-says}
 use borrow.Author.Needs.{needs}
-use Rattle.types.proofs.base_type.Statement.{statement}
-use Rattle.types.proofs.base_type.Tie as tie
+use Rattle.references.proofs.base_type.Statement.{statement}
+use Rattle.references.proofs.base_type.Tie as tie
 
 past-requires : tie.Need-past-requires
 past-requires c κs = (c .before .pre .0 .short, end-within _ (c .before .args .c) (c .before .pre .0 .within) (c .before .pre .0 .looks) .1)

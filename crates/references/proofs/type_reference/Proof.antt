@@ -1,11 +1,11 @@
--- `types::type_reference` meets its contract: each way out is a law of `TypeLaws`.
+-- `references::type_reference` meets its contract: each way out is a law of `TypeLaws`.
 use mathlib.Core.Logic.{⊎-elim, inl, inr}
 use mathlib.Core.List.{[]}
 use native.Mathlib.Omega.{arith}
-use Rattle.types.proofs.TypeLaws.{type-none, type-deep, type-full, type-stop, type-ready, type-says}
+use Rattle.references.proofs.TypeLaws.{type-none, type-deep, type-full, type-stop, type-ready, type-says}
 use borrow.Author.Needs.{needs}
-use Rattle.types.proofs.type_reference.Statement.{statement}
-use Rattle.types.proofs.type_reference.Tie as tie
+use Rattle.references.proofs.type_reference.Statement.{statement}
+use Rattle.references.proofs.type_reference.Tie as tie
 
 no-going-requires : tie.Need-no-going-requires
 no-going-requires c κs = search needs

@@ -23,13 +23,13 @@ use Rattle.reader.specs.declared.Read.{Read}
 use Rattle.reader.specs.declared.Read.the-variants.{Done, Refused}
 use Rattle.reader.proofs.Steps.{is, not-two, refuse, refuses, refusesEnd, too-many-rows, too-many-rows-open}
 use Rattle.reader.proofs.Cells.{put, put-length, row-opens, row-ends}
-use Rattle.types.specs.declared.Wrapped.{Wrapped}
-use Rattle.types.specs.declared.TypeRead.{TypeRead}
-use Rattle.types.specs.declared.TypeRead.the-variants.{Typed, Untyped}
-use Rattle.types.specs.Types.{wrappedBy, typeStack, closers, Opened, Opens, Based, Named, TypedReady, Rested, RestSaid, TypeSaid}
-use Rattle.types.proofs.MovedLaws.{start-in}
-use Rattle.types.proofs.OpenLaws.{open-first, open-deep}
-use Rattle.types.proofs.BaseLaws.{name-first}
+use Rattle.references.specs.declared.Wrapped.{Wrapped}
+use Rattle.references.specs.declared.TypeRead.{TypeRead}
+use Rattle.references.specs.declared.TypeRead.the-variants.{Typed, Untyped}
+use Rattle.references.specs.Types.{wrappedBy, typeStack, closers, Opened, Opens, Based, Named, TypedReady, Rested, RestSaid, TypeSaid}
+use Rattle.references.proofs.MovedLaws.{start-in}
+use Rattle.references.proofs.OpenLaws.{open-first, open-deep}
+use Rattle.references.proofs.BaseLaws.{name-first}
 
 -- no type reference begins so
 ref-refused : (s : List ℕ) (c : Cursor) → c .stop ≤ length s → Looks s c → (c .kind ≡ 1 → ⊥) → (c .kind ≡ 13 → ⊥) → (cells o : List ℕ) (left : ℕ) (q : Counts) (σ : Stack) →

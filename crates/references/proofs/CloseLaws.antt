@@ -21,12 +21,12 @@ use Rattle.reader.specs.declared.Read.{Read}
 use Rattle.reader.specs.declared.Read.the-variants.{Done, Refused}
 use Rattle.reader.proofs.Steps.{is, not-is, lacks, closing}
 use Rattle.reader.proofs.Cells.{put, wrap-told}
-use Rattle.types.specs.declared.Wrapped.{Wrapped}
-use Rattle.types.specs.declared.TypeRead.{TypeRead}
-use Rattle.types.specs.declared.TypeRead.the-variants.{Typed, Untyped}
-use Rattle.types.specs.Types.{wrappedBy, bangStack, closers, four, mostBefore, mostInside, Marked, inside, Wraps, WrapHalts, Says}
-use Rattle.types.proofs.CountsLaws.{wrapped-fine}
-use Rattle.types.proofs.MovedLaws.{next-of, moved-halts, ahead}
+use Rattle.references.specs.declared.Wrapped.{Wrapped}
+use Rattle.references.specs.declared.TypeRead.{TypeRead}
+use Rattle.references.specs.declared.TypeRead.the-variants.{Typed, Untyped}
+use Rattle.references.specs.Types.{wrappedBy, bangStack, closers, four, mostBefore, mostInside, Marked, inside, Wraps, WrapHalts, Says}
+use Rattle.references.proofs.CountsLaws.{wrapped-fine}
+use Rattle.references.proofs.MovedLaws.{next-of, moved-halts, ahead}
 
 -- ONE BRACKET
 module _ (s : List ℕ) (w : Wrapped) (ready : Marked s w mostBefore) where

@@ -1,11 +1,11 @@
--- `types::close_brackets` meets its contract: the loop has closed i brackets.
+-- `references::close_brackets` meets its contract: the loop has closed i brackets.
 use Prim.Native.Nat.{_-_, _≤_}
 use native.Mathlib.Omega.{arith}
 use borrow.Author.Needs.{needs}
-use Rattle.types.specs.Types.{closers, Wraps}
-use Rattle.types.proofs.CloseLaws.{none-closed, close-ready, closed-more, closed-stop, closed-all, says-typed, says-untyped}
-use Rattle.types.proofs.close_brackets.Statement.{statement}
-use Rattle.types.proofs.close_brackets.Tie as tie
+use Rattle.references.specs.Types.{closers, Wraps}
+use Rattle.references.proofs.CloseLaws.{none-closed, close-ready, closed-more, closed-stop, closed-all, says-typed, says-untyped}
+use Rattle.references.proofs.close_brackets.Statement.{statement}
+use Rattle.references.proofs.close_brackets.Tie as tie
 
 abbrev Inv-loop : tie.InvT-loop
 Inv-loop s opened v₀ i₀ v i = Wraps s v₀ v (closers i) i × (i ≤ opened)

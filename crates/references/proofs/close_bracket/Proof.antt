@@ -1,9 +1,9 @@
--- `types::close_bracket` meets its contract: each way out is a law of `CloseLaws`.
-use Rattle.types.proofs.MovedLaws.{end-within}
-use Rattle.types.proofs.CloseLaws.{close-none, close-bad, close-marked, close-says}
+-- `references::close_bracket` meets its contract: each way out is a law of `CloseLaws`.
+use Rattle.references.proofs.MovedLaws.{end-within}
+use Rattle.references.proofs.CloseLaws.{close-none, close-bad, close-marked, close-says}
 use borrow.Author.Needs.{needs}
-use Rattle.types.proofs.close_bracket.Statement.{statement}
-use Rattle.types.proofs.close_bracket.Tie as tie
+use Rattle.references.proofs.close_bracket.Statement.{statement}
+use Rattle.references.proofs.close_bracket.Tie as tie
 
 returns : tie.Need-returns
 returns c = close-none _ _ (c .before .before .before .before .pre) (c .if1 .taken)

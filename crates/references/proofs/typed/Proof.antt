@@ -1,10 +1,10 @@
--- `types::typed` meets its contract: each way out is a law of `TypeLaws`.
+-- `references::typed` meets its contract: each way out is a law of `TypeLaws`.
 use mathlib.Core.List.{[]}
-use Rattle.types.proofs.MovedLaws.{end-within}
-use Rattle.types.proofs.TypeLaws.{rest-none, rest-stop, rest-done}
+use Rattle.references.proofs.MovedLaws.{end-within}
+use Rattle.references.proofs.TypeLaws.{rest-none, rest-stop, rest-done}
 use borrow.Author.Needs.{needs}
-use Rattle.types.proofs.typed.Statement.{statement}
-use Rattle.types.proofs.typed.Tie as tie
+use Rattle.references.proofs.typed.Statement.{statement}
+use Rattle.references.proofs.typed.Tie as tie
 
 no-going-requires : tie.Need-no-going-requires
 no-going-requires c κs = search needs

@@ -22,9 +22,9 @@ use Rattle.reader.specs.declared.Read.{Read}
 use Rattle.reader.specs.declared.Read.the-variants.{Done, Refused}
 use Rattle.reader.proofs.Steps.{first, opening, too-deep, too-many-open}
 use Rattle.reader.proofs.Cells.{wrapper-counted}
-use Rattle.types.specs.Types.{wrappedBy, closers, Seen, Opened}
-use Rattle.types.proofs.CountsLaws.{wrapped-fine, wrapped-over}
-use Rattle.types.proofs.MovedLaws.{next-of, moved-halts, ahead}
+use Rattle.references.specs.Types.{wrappedBy, closers, Seen, Opened}
+use Rattle.references.proofs.CountsLaws.{wrapped-fine, wrapped-over}
+use Rattle.references.proofs.MovedLaws.{next-of, moved-halts, ahead}
 
 -- the machine halts at the type reference
 abbrev pub OpenHalts : List ℕ → Cursor → ℕ → Refusal → Type 0

@@ -1,10 +1,10 @@
--- `types::bang_if` meets its contract: each way out is a law of `BangLaws`.
+-- `references::bang_if` meets its contract: each way out is a law of `BangLaws`.
 use borrow.Author.Needs.{needs}
-use Rattle.types.proofs.MovedLaws.{end-within}
-use Rattle.types.proofs.BangLaws.{bang-none, bang-many, bang-bad, bang-done}
--- `types::bang_if` meets its contract: each way out is a law of `BangLaws`.
-use Rattle.types.proofs.bang_if.Statement.{statement}
-use Rattle.types.proofs.bang_if.Tie as tie
+use Rattle.references.proofs.MovedLaws.{end-within}
+use Rattle.references.proofs.BangLaws.{bang-none, bang-many, bang-bad, bang-done}
+-- `references::bang_if` meets its contract: each way out is a law of `BangLaws`.
+use Rattle.references.proofs.bang_if.Statement.{statement}
+use Rattle.references.proofs.bang_if.Tie as tie
 
 returns : tie.Need-returns
 returns c = bang-none _ _ (c .before .before .before .before .pre) (c .if1 .taken)

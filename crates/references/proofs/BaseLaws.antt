@@ -21,13 +21,13 @@ use Rattle.reader.specs.declared.Read.{Read}
 use Rattle.reader.specs.declared.Read.the-variants.{Done, Refused}
 use Rattle.reader.proofs.Steps.{first, plain}
 use Rattle.reader.proofs.Cells.{put, name-told}
-use Rattle.types.specs.declared.Wrapped.{Wrapped}
-use Rattle.types.specs.declared.TypeRead.{TypeRead}
-use Rattle.types.specs.declared.TypeRead.the-variants.{Typed, Untyped}
-use Rattle.types.specs.Types.{wrappedBy, bangStack, closers, four, mostInside, Seen, Marked, inside, Wraps, Says, unnamed, Named}
-use Rattle.types.proofs.CountsLaws.{wrapped-fine}
-use Rattle.types.proofs.CloseLaws.{four-mono}
-use Rattle.types.proofs.MovedLaws.{next-of, moved-halts, ahead, start-in, stop-in}
+use Rattle.references.specs.declared.Wrapped.{Wrapped}
+use Rattle.references.specs.declared.TypeRead.{TypeRead}
+use Rattle.references.specs.declared.TypeRead.the-variants.{Typed, Untyped}
+use Rattle.references.specs.Types.{wrappedBy, bangStack, closers, four, mostInside, Seen, Marked, inside, Wraps, Says, unnamed, Named}
+use Rattle.references.proofs.CountsLaws.{wrapped-fine}
+use Rattle.references.proofs.CloseLaws.{four-mono}
+use Rattle.references.proofs.MovedLaws.{next-of, moved-halts, ahead, start-in, stop-in}
 
 -- the machine at a name: it is the row's, and it is looked at
 pub name-first : (s : List ℕ) (c : Cursor) → c .stop ≤ length s → Looks s c → c .kind ≡ 1 → (cells : List ℕ) (n a p : ℕ) (o : List ℕ) (left marks : ℕ) (q : Counts) (σ : Stack) →

@@ -17,9 +17,9 @@ use Rattle.reader.specs.declared.Cursor.{Cursor}
 use Rattle.reader.specs.declared.Read.{Read}
 use Rattle.reader.specs.declared.Read.the-variants.{Done, Refused}
 use Rattle.reader.proofs.Cells.{put}
-use Rattle.types.specs.declared.Wrapped.{Wrapped}
-use Rattle.types.specs.declared.TypeRead.{TypeRead}
-use Rattle.types.specs.declared.TypeRead.the-variants.{Typed, Untyped}
+use Rattle.references.specs.declared.Wrapped.{Wrapped}
+use Rattle.references.specs.declared.TypeRead.{TypeRead}
+use Rattle.references.specs.declared.TypeRead.the-variants.{Typed, Untyped}
 
 -- the counts with k wrappers
 abbrev pub wrappedBy : ℕ → Counts → Counts

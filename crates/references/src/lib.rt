@@ -17,7 +17,7 @@ ghost use mathlib.Core.Path.{_≡_};
 ghost use Prim.Native.Nat.{_≤_};
 ghost use Rattle.paper.specs.Numbers.{mostWrappers};
 ghost use Rattle.reader.specs.Reader.{Ready};
-ghost use Rattle.types.specs.Types.{bangStack, closers, four, mostBefore, mostInside, Seen, Marked, Opens, Says, Named, TypedReady, TypeSaid, RestSaid};
+ghost use Rattle.references.specs.Types.{bangStack, closers, four, mostBefore, mostInside, Seen, Marked, Opens, Says, Named, TypedReady, TypeSaid, RestSaid};
 
 // Where a type reference has been read to: the cursor, its wrappers so far, and how many marks they are.
 pub struct Wrapped {

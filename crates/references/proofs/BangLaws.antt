@@ -22,10 +22,10 @@ use Rattle.reader.specs.declared.Read.{Read}
 use Rattle.reader.specs.declared.Read.the-variants.{Done, Refused}
 use Rattle.reader.proofs.Steps.{is, not-is, null, first, plain, too-many}
 use Rattle.reader.proofs.Cells.{put, wrapper-counted, wrap-told}
-use Rattle.types.specs.declared.Wrapped.{Wrapped}
-use Rattle.types.specs.Types.{wrappedBy, bangStack, four, Marked, inside, Wraps, WrapHalts}
-use Rattle.types.proofs.CountsLaws.{wrapped-fine, wrapped-over}
-use Rattle.types.proofs.MovedLaws.{next-of, moved-halts, ahead}
+use Rattle.references.specs.declared.Wrapped.{Wrapped}
+use Rattle.references.specs.Types.{wrappedBy, bangStack, four, Marked, inside, Wraps, WrapHalts}
+use Rattle.references.proofs.CountsLaws.{wrapped-fine, wrapped-over}
+use Rattle.references.proofs.MovedLaws.{next-of, moved-halts, ahead}
 
 module _ (s : List ℕ) (w : Wrapped) {most : ℕ} (ready : Marked s w most) where
   pub bang-none : (w .at .kind ≡ 6 → ⊥) → Wraps s w w bangStack 0

@@ -7,7 +7,7 @@ use lib.Dec.{ltb}
 use borrow.Author.Tests.{ltb-false, lt-ltb, le-ltb}
 use Rattle.paper.specs.Numbers.{mostFragments, mostVariables, mostWrappers}
 use Rattle.paper.specs.Sizes.{Counts, overCounts}
-use Rattle.types.specs.Types.{wrappedBy}
+use Rattle.references.specs.Types.{wrappedBy}
 
 or-left : (a b : Bool) → (a || b) ≡ false → a ≡ false
 or-left true b e = e

@@ -1,12 +1,12 @@
--- `types::open_brackets` meets its contract: the loop has opened so many brackets; each counts as a mark, and there are seven at most.
+-- `references::open_brackets` meets its contract: the loop has opened so many brackets; each counts as a mark, and there are seven at most.
 use Prim.Native.Nat.{_-_}
 use native.Mathlib.Omega.{arith}
 use borrow.Author.Needs.{needs}
 use Rattle.paper.specs.Numbers.{mostWrappers}
-use Rattle.types.proofs.MovedLaws.{end-within}
-use Rattle.types.proofs.OpenLaws.{Opening, none-open, opened-all, opened-deep, opened-many, opened-bad, opened-more}
-use Rattle.types.proofs.open_brackets.Statement.{statement}
-use Rattle.types.proofs.open_brackets.Tie as tie
+use Rattle.references.proofs.MovedLaws.{end-within}
+use Rattle.references.proofs.OpenLaws.{Opening, none-open, opened-all, opened-deep, opened-many, opened-bad, opened-more}
+use Rattle.references.proofs.open_brackets.Statement.{statement}
+use Rattle.references.proofs.open_brackets.Tie as tie
 
 abbrev Inv-loop : tie.InvT-loop
 Inv-loop s left n d₀ marks₀ d marks = Opening s d₀ left n d marks
