@@ -9,7 +9,7 @@ use mathlib.Core.Logic.{_⊎_, _↔_}
 use Prim.Native.Nat.{ℕ, suc, _-_, _*_, _≤_, _<_}
 use lib.Dec.{T}
 use lib.ListN.{length, take, drop, replicate}
-use Rattle.paper.specs.Numbers.{reportSize, rowSize, rowsSize, mostLevels, mostRows}
+use Rattle.paper.specs.Numbers.{reportSize, rowSize, rowsSize, mostLevels, mostRows, inputDocument}
 use Rattle.paper.specs.Grammar.{Ev}
 use Rattle.paper.specs.Language.{Class, Mark, Part, Document, VariablesText}
 use Rattle.paper.specs.Lexical.{comment}
@@ -17,7 +17,8 @@ use Rattle.paper.specs.Tokens.{Text, Tokens, NoPiece, Longest, lineEnd}
 use Rattle.paper.specs.Rows.{Row, rowsOf, flat}
 use Rattle.paper.specs.Sizes.{Sums, nothing, sums, through, opens, overLevels, overRows, overCounts}
 use Rattle.paper.specs.Reading.{tokensOf, classesOf, placeOf, Whole, Reads, Is, StopsAt, Summed, Fault, NoLater, Answer, rows-are, refuses, Said}
-use Rattle.paper.specs.Calls.{Parsed}
+use Rattle.paper.specs.Refusals.{numberOf, shownInText}
+use Rattle.paper.specs.Calls.{Parsed, filled, tells}
 use Rattle.paper.specs.declared.Refusal.{Refusal}
 use Rattle.paper.specs.declared.Refusal.the-variants.{NoToken, NoGoing, TooDeep, TooManyRows, TooMany}
 use Rattle.paper.proofs.TokensLaws as tokens
@@ -158,6 +159,10 @@ pub summed-one : (n : Part) (ts : List Class) (k : ℕ) (m m′ : Sums) → Summ
 summed-one = fits.summed-one
 
 -- ---- THE VARIABLES TEXT
+
+-- A refusal of a text shows its offset and the text's number, 1 for the variables; the document's is 0, as the rest of its report.
+pub document-shows : (r : Refusal) (old : List ℕ) → filled reportSize (numberOf r ∷ shownInText inputDocument r) old ≡ tells r old
+document-shows = variables.document-shown
 
 -- `documents::variables_text` meets its contract, `Ended VariablesText`, for every text of at most 16,384 bytes.
 pub variables-text-meets : {M : Type 1} → variables-text.statement M

@@ -6,14 +6,16 @@ use Prim.Native.Nat.{ℕ, zero, suc, _*_, _≤_}
 use lib.Dec.{T, eqb}
 use lib.ListN.{length, take}
 use Rattle.paper.specs.Grammar.{Sym, nt, tm, act, Ev, tok, mark, Derives, done, take as take-token, note, by}
-use Rattle.paper.specs.Numbers.{rowSize, rowsSize, mostRows, kindOperation, kindFragment, kindVariableDefinition}
+use Rattle.paper.specs.Numbers.{reportSize, inputDocument, rowSize, rowsSize, mostRows, kindOperation, kindFragment, kindVariableDefinition}
 use Rattle.paper.specs.Language.{Class, Terminal, Mark, row, kind, named, wrapper, wrap, end, Part, language, hits, VariablesText}
 use Rattle.paper.specs.Tokens.{Text, Tokens}
 use Rattle.paper.specs.Rows.{Row, flat}
 use Rattle.paper.specs.Sizes.{Counts, Sums, nothing, counted, sums, through, overCounts}
 use Rattle.paper.specs.Reading.{classesOf, Summed, Fault, too-many, rows-are, refuses, Said, refused}
 use Rattle.paper.specs.declared.Refusal.{Refusal}
-use Rattle.paper.specs.declared.Refusal.the-variants.{TooMany}
+use Rattle.paper.specs.declared.Refusal.the-variants.{Buffer, OverLength, NoToken, NoGoing, TooDeep, TooManyRows, TooMany}
+use Rattle.paper.specs.Refusals.{numberOf, shownInText}
+use Rattle.paper.specs.Calls.{filled, tells}
 use Rattle.paper.specs.Language.{ConstValue, ConstListValue, ConstValue+, ConstValue*, ConstObjectValue, ConstObjectField+, ConstObjectField*, ConstObjectField, EnumValue, Name}
 use Rattle.paper.proofs.Theory.{and-l, and-r, and-i}
 use Rattle.paper.proofs.Test.{all, all-at, all-mem, implies, implies-out}
@@ -147,3 +149,13 @@ fault-counts t at (too-many k {s = m} s o) = subst T (summed-counts (classesOf t
 
 pub variables-never-8 : (t : Text) (at : ℕ) → Said VariablesText t (refuses (TooMany at)) → ⊥
 variables-never-8 t at (refused f l) = fault-counts t at f
+
+-- the document's number is 0, as the rest of a report
+pub document-shown : (r : Refusal) (old : List ℕ) → filled reportSize (numberOf r ∷ shownInText inputDocument r) old ≡ tells r old
+document-shown Buffer old = refl
+document-shown (OverLength input) old = refl
+document-shown (NoToken at) old = refl
+document-shown (NoGoing at) old = refl
+document-shown (TooDeep at) old = refl
+document-shown (TooManyRows at) old = refl
+document-shown (TooMany at) old = refl
