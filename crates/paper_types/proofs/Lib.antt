@@ -1,0 +1,1 @@
+-- Laws of the definitions of the type table, and worked examples. Nothing here need be believed.
