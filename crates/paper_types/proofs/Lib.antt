@@ -1,5 +1,9 @@
 -- Laws of the definitions of the type table, and worked examples. Nothing here need be believed.
+pub mod ListsLaws
 pub mod TextLaws
 pub mod SubTypesLaws
+pub mod PiecesLaws
+pub mod Rising
+pub mod HolderLaws
 pub mod TableCallsOne
 pub mod WorkedTables

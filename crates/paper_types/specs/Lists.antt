@@ -3,7 +3,7 @@
 use mathlib.Core.Bool.{Bool, true, false, _&&_, _||_, cond}
 use mathlib.Core.Option.{Option, none, some}
 use mathlib.Core.List.{List, [], _∷_, _++_}
-use Prim.Native.Nat.{ℕ, _+_}
+use Prim.Native.Nat.{ℕ, suc}
 use Prim.Native.Char.{code}
 use Prim.Native.String.{String, [] as empty, _∷_ as _then_}
 
@@ -24,7 +24,7 @@ allOf p (x ∷ xs) = p x && allOf p xs
 -- how many stand before the first that passes; the list's length if none does
 unfoldable pub firstAt : {A : Type 0} → (A → Bool) → List A → ℕ
 firstAt p [] = 0
-firstAt p (x ∷ xs) = cond (p x) 0 (1 + firstAt p xs)
+firstAt p (x ∷ xs) = cond (p x) 0 (suc (firstAt p xs))
 
 -- the first that passes
 unfoldable pub find : {A : Type 0} → (A → Bool) → List A → Option A
@@ -34,7 +34,7 @@ find p (x ∷ xs) = cond (p x) (some x) (find p xs)
 -- what f gives for each element, in order; f is told its number too, counted from i, or from 0
 unfoldable pub eachFrom : {A B : Type 0} → ℕ → (ℕ → A → List B) → List A → List B
 eachFrom i f [] = []
-eachFrom i f (x ∷ xs) = f i x ++ eachFrom (1 + i) f xs
+eachFrom i f (x ∷ xs) = f i x ++ eachFrom (suc i) f xs
 
 abbrev pub each : {A B : Type 0} → (ℕ → A → List B) → List A → List B
 each f xs = eachFrom 0 f xs
