@@ -5,5 +5,8 @@ pub mod SubTypesLaws
 pub mod PiecesLaws
 pub mod Rising
 pub mod HolderLaws
+pub mod Before
+pub mod LeastLaws
+pub mod RuleOrder
 pub mod TableCallsOne
 pub mod WorkedTables
