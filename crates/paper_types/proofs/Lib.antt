@@ -8,5 +8,7 @@ pub mod HolderLaws
 pub mod Before
 pub mod LeastLaws
 pub mod RuleOrder
+pub mod BreakOrder
+pub mod TableFits
 pub mod TableCallsOne
 pub mod WorkedTables
