@@ -10,5 +10,6 @@ pub mod LeastLaws
 pub mod RuleOrder
 pub mod BreakOrder
 pub mod TableFits
+pub mod Walk
 pub mod TableCallsOne
 pub mod WorkedTables

@@ -4,7 +4,8 @@
 use mathlib.Core.Bool.{Bool, true, false, _&&_, _||_, cond}
 use mathlib.Core.Option.{Option, none, some}
 use mathlib.Core.List.{List, [], _∷_}
-use Prim.Native.Nat.{ℕ, zero, suc}
+use Prim.Native.Nat.{ℕ}
+use lib.ListN.{getD}
 use lib.Dec.{leb, eqb}
 use Rattle.paper.specs.Tokens.{same}
 use Rattle.paper_types.specs.TableNumbers.{tagScalar, tagObject, tagInterface, tagUnion, tagEnum, tagInputObject, tagDirective, tagRoots, tagName, tagImplements, tagField, tagArgument, tagReference, tagUnionMember}
@@ -138,19 +139,13 @@ meaning t n = cond (isBuiltIn n) builtIn (cond (anyOf (typeNamed n) t) (definiti
 abbrev pub blank : ℕ → Definition
 blank tag = record { tag = tag; name = []; implements = []; members = [] }
 
-abbrev pub noTag : ℕ
-noTag = 0
-
--- the definition of a number
-unfoldable pub definitionAt : Table → ℕ → Definition
-definitionAt [] i = blank noTag
-definitionAt (d ∷ t) zero = d
-definitionAt (d ∷ t) (suc i) = definitionAt t i
+abbrev pub tagNothing : ℕ
+tagNothing = 0
 
 abbrev pub definitionBy : Table → Meaning → Definition
 definitionBy t builtIn = blank tagScalar
-definitionBy t nothing = blank noTag
-definitionBy t (definition i) = definitionAt t i
+definitionBy t nothing = blank tagNothing
+definitionBy t (definition i) = getD t i (blank tagNothing)
 
 -- the definition that a name means
 abbrev pub meant : Table → List ℕ → Definition
@@ -158,7 +153,7 @@ meant t n = definitionBy t (meaning t n)
 
 -- a name of no type
 abbrev pub isUnknown : Definition → Bool
-isUnknown d = eqb (d .tag) noTag
+isUnknown d = eqb (d .tag) tagNothing
 
 -- The interface or union a can be the object o: o names the interface, or the union names o.
 unfoldable pub canBe : Table → List ℕ → List ℕ → Bool
