@@ -11,5 +11,6 @@ pub mod RuleOrder
 pub mod BreakOrder
 pub mod TableFits
 pub mod Walk
+pub mod JudgingLaws
 pub mod TableCallsOne
 pub mod WorkedTables
