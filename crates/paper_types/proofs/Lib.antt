@@ -12,5 +12,6 @@ pub mod BreakOrder
 pub mod TableFits
 pub mod Walk
 pub mod JudgingLaws
+pub mod BreaksLaws
 pub mod TableCallsOne
 pub mod WorkedTables
