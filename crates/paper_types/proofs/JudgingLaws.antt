@@ -1,20 +1,17 @@
 -- What each answer to a table means: accepted exactly where framing is right, no count is over and no rule is broken; and which break is shown.
-use mathlib.Core.Path.{_≡_, refl, sym, ap, subst, _∙_}
+use mathlib.Core.Path.{_≡_, refl, sym, ap}
 use mathlib.Core.Logic.{_↔_}
-use mathlib.Core.Bool.{Bool, true, false, cond, true≢false}
+use mathlib.Core.Bool.{true}
 use mathlib.Core.Option.{Option, none, some}
-use mathlib.Core.List.{List, [], _∷_, _++_, map, head?, List·Memᴰ, List·Memᴰ·head, List·Memᴰ·tail}
-use Prim.Native.Nat.{ℕ, zero, suc, _+_, _<_, _≤_}
-use native.Mathlib.Nat.{not-suc-le-zero, le-of-suc-le-suc}
+use mathlib.Core.List.{List, [], head?, List·Memᴰ}
+use Prim.Native.Nat.{ℕ, _<_, _≤_}
 use native.Mathlib.Omega.{arith}
-use lib.ListN.{length, getD}
-use Rattle.paper_types.specs.TableNumbers.{mostTable, ruleRoot}
-use Rattle.paper_types.specs.Lists.{eachFrom, each, onlyIf}
+use lib.ListN.{length}
+use Rattle.paper_types.specs.TableNumbers.{mostTable}
 use Rattle.paper_types.specs.House.{framing, pieces, tableWrongs, mostDeep}
 use Rattle.paper_types.specs.TableSizes.{counts, roomInTable, oversIn, overs}
-use Rattle.paper_types.specs.Types.{Definition, Table, tableOf, blank, tagNothing}
-use Rattle.paper_types.specs.Rules.{Place, wholeOf, Rule, queryNotObject}
-use Rattle.paper_types.specs.Judging.{Numbered, rules, Break, break, breaksOfRule, breaksOf, breaks, numbersOf, leastBreak, answer, judge}
+use Rattle.paper_types.specs.Types.{Table, tableOf}
+use Rattle.paper_types.specs.Judging.{Numbered, rules, Break, breaks, numbersOf, leastBreak, answer, judge}
 use Rattle.paper_types.specs.declared.TableAnswer.{TableAnswer}
 use Rattle.paper_types.specs.declared.TableAnswer.the-variants.{Accepted, Framing, TooMany, Breaks}
 use Rattle.paper_types.proofs.Before.{Before}
@@ -22,6 +19,7 @@ use Rattle.paper_types.proofs.LeastLaws.{least-member, least-least, lea
 use Rattle.paper_types.proofs.Rising.{framing-first, counts-first}
 use Rattle.paper_types.proofs.TableFits.{judged-first}
 use Rattle.paper_types.proofs.Walk.{definitionAt}
+use Rattle.paper_types.proofs.BreaksLaws.{Broken, breaks-sound, breaks-complete, breaks-none, breaks-nil, rule-kept}
 
 -- For the code: the answer by the first wrong offset, the first over a size, the first break.
 pub judge-first : (s : List ℕ) → length s ≤ mostTable
@@ -61,36 +59,46 @@ judge-too-many s at = (to (framing s) (counts s) (leastBreak (breaks (tableOf s)
     to none none (some x) e = absurd (clash e (omega arith))
     to none none none e = absurd (clash e (omega arith))
 
--- framing is right and no count is over
-abbrev pub Sound : List ℕ → Type 0
-Sound s = (framing s ≡ none) × (counts s ≡ none)
-
--- accepted exactly where nothing is broken
-pub judge-accepted : (s : List ℕ) → (judge s ≡ Accepted) ↔ ((framing s ≡ none) × (counts s ≡ none) × (breaks (tableOf s) ≡ []))
+-- accepted exactly where framing is right, no count is over, and no rule is broken
+pub judge-accepted : (s : List ℕ) → (judge s ≡ Accepted) ↔ ((framing s ≡ none) × (counts s ≡ none) × ((b : Break) → Broken (tableOf s) b → ⊥))
 unfolding judge answer
-judge-accepted s = (λ e. let q = to (framing s) (counts s) (leastBreak (breaks (tableOf s))) e in (q .0, q .1, least-none (breaks (tableOf s)) (q .2)), from)
+judge-accepted s = (λ e. let q = to (framing s) (counts s) (leastBreak (breaks (tableOf s))) e in (q .0, q .1, breaks-none (tableOf s) (least-none (breaks (tableOf s)) (q .2))), from)
   where
     to : (f c : Option ℕ) (b : Option Break) → answer f c b ≡ Accepted → (f ≡ none) × (c ≡ none) × (b ≡ none)
     to (some w) c b e = absurd (clash e (omega arith))
     to none (some w) b e = absurd (clash e (omega arith))
     to none none (some x) e = absurd (clash e (omega arith))
     to none none none e = (refl, refl, refl)
-    from : (framing s ≡ none) × (counts s ≡ none) × (breaks (tableOf s) ≡ []) → answer (framing s) (counts s) (leastBreak (breaks (tableOf s))) ≡ Accepted
-    from q = rw (q .0, q .1, q .2, least-nil)
+    from : (framing s ≡ none) × (counts s ≡ none) × ((b : Break) → Broken (tableOf s) b → ⊥) → answer (framing s) (counts s) (leastBreak (breaks (tableOf s))) ≡ Accepted
+    from q = rw (q .0, q .1, breaks-nil (tableOf s) (q .2), least-nil)
+
+-- of an accepted table each rule's places are none
+pub accepted-kept : (s : List ℕ) → judge s ≡ Accepted → (i : ℕ) → i < length (tableOf s) → (n : Numbered) → List·Memᴰ n rules → n .rule (tableOf s) i (definitionAt (tableOf s) i) ≡ []
+accepted-kept s e = rule-kept (tableOf s) (breaks-nil (tableOf s) (judge-accepted s .0 e .2))
 
 -- the numbers of a break, as the answer shows them
 abbrev pub shownAs : Break → TableAnswer
 shownAs b = Breaks (b .definition) (b .rule) (b .place .member) (b .place .part) (b .place .argument)
 
--- 9 shows a break, and none is before it
-pub judge-breaks : (s : List ℕ) (i k m p a : ℕ) → judge s ≡ Breaks i k m p a
-    → (b : Break) × (shownAs b ≡ Breaks i k m p a) × List·Memᴰ b (breaks (tableOf s)) × ((c : Break) → List·Memᴰ c (breaks (tableOf s)) → Before (numbersOf b) (numbersOf c))
+-- 9 shows a broken rule with its place, and none that is broken is before it
+pub record Shown (t : Table) (a : TableAnswer) : Type 0 where
+  pub least : Break
+  pub shows : a ≡ shownAs least
+  pub broken : Broken t least
+  pub first : (c : Break) → Broken t c → Before (numbersOf least) (numbersOf c)
+
+pub judge-breaks : (s : List ℕ) (i k m p a : ℕ) → judge s ≡ Breaks i k m p a → (framing s ≡ none) × (counts s ≡ none) × Shown (tableOf s) (Breaks i k m p a)
 unfolding judge answer
 judge-breaks s i k m p a e = go (framing s) (counts s) (leastBreak (breaks (tableOf s))) refl e
   where
-    go : (f c : Option ℕ) (o : Option Break) → leastBreak (breaks (tableOf s)) ≡ o → answer f c o ≡ Breaks i k m p a
-        → (b : Break) × (shownAs b ≡ Breaks i k m p a) × List·Memᴰ b (breaks (tableOf s)) × ((c : Break) → List·Memᴰ c (breaks (tableOf s)) → Before (numbersOf b) (numbersOf c))
+    go : (f c : Option ℕ) (o : Option Break) → leastBreak (breaks (tableOf s)) ≡ o → answer f c o ≡ Breaks i k m p a → (f ≡ none) × (c ≡ none) × Shown (tableOf s) (Breaks i k m p a)
     go (some w) c o q e = absurd (clash e (omega arith))
     go none (some w) o q e = absurd (clash e (omega arith))
-    go none none (some b) q e = (b, e, least-member (breaks (tableOf s)) b q, least-least (breaks (tableOf s)) b q)
+    go none none (some b) q e =
+        (refl, refl, record {
+          least = b;
+          shows = sym e;
+          broken = breaks-sound (tableOf s) b (least-member (breaks (tableOf s)) b q);
+          first = λ c k. least-least (breaks (tableOf s)) b q c (breaks-complete (tableOf s) c k);
+        })
     go none none none q e = absurd (clash e (omega arith))

@@ -11,7 +11,7 @@ pub mod RuleOrder
 pub mod BreakOrder
 pub mod TableFits
 pub mod Walk
-pub mod JudgingLaws
 pub mod BreaksLaws
+pub mod JudgingLaws
 pub mod TableCallsOne
 pub mod WorkedTables
