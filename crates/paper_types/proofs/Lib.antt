@@ -1,6 +1,7 @@
 -- Laws of the definitions of the type table, and worked examples. Nothing here need be believed.
 pub mod ListsLaws
 pub mod TextLaws
+pub mod ReferenceLaws
 pub mod SubTypesLaws
 pub mod PiecesLaws
 pub mod Rising
