@@ -2,6 +2,7 @@
 pub mod ListsLaws
 pub mod TextLaws
 pub mod ReferenceLaws
+pub mod ReferenceTexts
 pub mod SubTypesLaws
 pub mod PiecesLaws
 pub mod Rising
