@@ -17,3 +17,7 @@ pub mod BreaksLaws
 pub mod JudgingLaws
 pub mod TableCallsOne
 pub mod WorkedTables
+pub mod ExamplesTables
+pub mod ExamplesFraming
+pub mod ExamplesRules
+pub mod ExamplesSizes
