@@ -7,7 +7,7 @@ use native.Mathlib.Nat.{le-refl}
 use native.Mathlib.Omega.{arith}
 use lib.ListN.{length}
 use Rattle.paper_types.specs.TableNumbers.{noPlace, ruleRoot}
-use Rattle.paper_types.specs.Lists.{eachFrom, each, onlyIf}
+use Rattle.paper_types.specs.Lists.{gather}
 use Rattle.paper_types.specs.Types.{Definition, Table}
 use Rattle.paper_types.specs.Rules.{Place, wholeOf, Rule, queryNotObject}
 use Rattle.paper_types.specs.Judging.{r, rules, Break, break, breaksOf, breaks, numbersOf, leastBreak}
@@ -31,7 +31,7 @@ abbrev pub AllFit : Definition → Type 0
 AllFit d = Every Fits (d .members)
 
 definition-rises : (t : Table) (i : ℕ) (d : Definition) → AllFit d → Rise numbersOf (i ∷ []) (breaksOf t i d) (suc i ∷ [])
-unfolding breaksOf rules eachFrom
+unfolding breaksOf rules gather
 definition-rises t i d fits =
     rise-lower numbersOf (same refl empty)
     (by 1 (reservedName-ordered t i d fits) (by 2 (nameKnown-ordered t i d fits) (by 3 (noMembers-ordered t i d fits) (by 4 (nameRepeated-ordered t i d fits)

@@ -8,7 +8,7 @@ use native.Mathlib.Nat.{zero-add}
 use native.Mathlib.Omega.{arith}
 use lib.ListN.{length, getD}
 use Rattle.paper_types.specs.TableNumbers.{ruleRoot}
-use Rattle.paper_types.specs.Lists.{eachFrom, onlyIf}
+use Rattle.paper_types.specs.Lists.{gather, eachFrom, onlyIf}
 use Rattle.paper_types.specs.Types.{Definition, Table, blank, tagNothing}
 use Rattle.paper_types.specs.Rules.{Place, wholeOf, queryNotObject}
 use Rattle.paper_types.specs.Judging.{Numbered, rules, Break, break, breaksOfRule, breaksOf, breaks}
@@ -42,21 +42,20 @@ module _ {A B : Type 0} where
   each-complete f d i (x ∷ xs) b (suc j) h m =
       Memᴰ·append-right (f i x) (each-complete f d (suc i) xs b j (omega arith) (subst (λ (n : ℕ). List·Memᴰ b (f n (getD xs j d))) (let e : i + suc j ≡ suc i + j = omega arith in e) m))
 
--- the same where the number plays no part
-  same-sound : (g : A → List B) (i : ℕ) (xs : List A) (b : B) → List·Memᴰ b (eachFrom i (λ j x. g x) xs) → (x : A) × List·Memᴰ x xs × List·Memᴰ b (g x)
-  unfolding eachFrom
-  same-sound g i [] b m = absurd (List·Memᴰ·not-nil m)
-  same-sound g i (x ∷ xs) b m = go (List·Memᴰ·append-cases (g x) m) (λ (k : List·Memᴰ b (eachFrom (suc i) (λ j x. g x) xs)). same-sound g (suc i) xs b k)
+  -- the same where no number is told
+  pub gather-sound : (g : A → List B) (xs : List A) (b : B) → List·Memᴰ b (gather g xs) → (x : A) × List·Memᴰ x xs × List·Memᴰ b (g x)
+  unfolding gather
+  gather-sound g [] b m = absurd (List·Memᴰ·not-nil m)
+  gather-sound g (x ∷ xs) b m = go (List·Memᴰ·append-cases (g x) m) (λ (k : List·Memᴰ b (gather g xs)). gather-sound g xs b k)
     where
-      go : List·Memᴰ b (g x) ⊎ List·Memᴰ b (eachFrom (suc i) (λ j x. g x) xs) → (List·Memᴰ b (eachFrom (suc i) (λ j x. g x) xs) → (y : A) × List·Memᴰ y xs × List·Memᴰ b (g y))
-          → (y : A) × List·Memᴰ y (x ∷ xs) × List·Memᴰ b (g y)
+      go : List·Memᴰ b (g x) ⊎ List·Memᴰ b (gather g xs) → (List·Memᴰ b (gather g xs) → (y : A) × List·Memᴰ y xs × List·Memᴰ b (g y)) → (y : A) × List·Memᴰ y (x ∷ xs) × List·Memᴰ b (g y)
       go (inl k) ih = (x, List·Memᴰ·head refl, k)
       go (inr k) ih = let r = ih k in (r .0, List·Memᴰ·tail (r .1), r .2)
 
-  same-complete : (g : A → List B) (i : ℕ) (xs : List A) (b : B) (x : A) → List·Memᴰ x xs → List·Memᴰ b (g x) → List·Memᴰ b (eachFrom i (λ j x. g x) xs)
-  unfolding eachFrom
-  same-complete g i (y ∷ xs) b x (List·Memᴰ·head e) m = Memᴰ·append-left (eachFrom (suc i) (λ j x. g x) xs) (subst (λ (z : A). List·Memᴰ b (g z)) e m)
-  same-complete g i (y ∷ xs) b x (List·Memᴰ·tail k) m = Memᴰ·append-right (g y) (same-complete g (suc i) xs b x k m)
+  pub gather-complete : (g : A → List B) (xs : List A) (b : B) (x : A) → List·Memᴰ x xs → List·Memᴰ b (g x) → List·Memᴰ b (gather g xs)
+  unfolding gather
+  gather-complete g (y ∷ xs) b x (List·Memᴰ·head e) m = Memᴰ·append-left (gather g xs) (subst (λ (z : A). List·Memᴰ b (g z)) e m)
+  gather-complete g (y ∷ xs) b x (List·Memᴰ·tail k) m = Memᴰ·append-right (g y) (gather-complete g xs b x k m)
 
   map-sound : (f : A → B) (xs : List A) (b : B) → List·Memᴰ b (map f xs) → (x : A) × List·Memᴰ x xs × (b ≡ f x)
   map-sound f [] b m = absurd (List·Memᴰ·not-nil m)
@@ -66,9 +65,6 @@ module _ {A B : Type 0} where
   map-complete : (f : A → B) (xs : List A) (x : A) → List·Memᴰ x xs → List·Memᴰ (f x) (map f xs)
   map-complete f (y ∷ xs) x (List·Memᴰ·head e) = List·Memᴰ·head (ap f e)
   map-complete f (y ∷ xs) x (List·Memᴰ·tail m) = List·Memᴰ·tail (map-complete f xs x m)
-
-abbrev ofRule : Table → ℕ → Definition → Numbered → List Break
-ofRule t i d n = map (break i (n .number)) (n .rule t i d)
 
 pub breaks-sound : (t : Table) (b : Break) → List·Memᴰ b (breaks t) → Broken t b
 unfolding breaks breaksOf
@@ -84,7 +80,7 @@ breaks-sound t b m = go (List·Memᴰ·append-cases (eachFrom 0 (breaksOf t) t) 
         let r = each-sound (breaksOf t) (blank tagNothing) 0 t b k in
         let i : ℕ = r .0 in
         let c : List·Memᴰ b (breaksOf t i (definitionAt t i)) = subst (λ (j : ℕ). List·Memᴰ b (breaksOf t j (definitionAt t i))) (zero-add i) (r .2) in
-        let n = same-sound (ofRule t i (definitionAt t i)) 0 rules b c in
+        let n = gather-sound (breaksOfRule t i (definitionAt t i)) rules b c in
         let q = map-sound (break i (n .0 .number)) (n .0 .rule t i (definitionAt t i)) b (n .2) in
         subst (Broken t) (sym (q .2)) (at-place i (n .0) (q .0) (r .1) (n .1) (q .1))
 
@@ -93,7 +89,7 @@ unfolding breaks breaksOf
 breaks-complete t b (at-place i n q h r m) =
     Memᴰ·append-left _ (each-complete (breaksOf t) (blank tagNothing) 0 t (break i (n .number) q) i h
     (subst (λ (j : ℕ). List·Memᴰ (break i (n .number) q) (breaksOf t j (definitionAt t i))) (sym (zero-add i))
-    (same-complete (ofRule t i (definitionAt t i)) 0 rules (break i (n .number) q) n r (map-complete (break i (n .number)) (n .rule t i (definitionAt t i)) q m))))
+    (gather-complete (breaksOfRule t i (definitionAt t i)) rules (break i (n .number) q) n r (map-complete (break i (n .number)) (n .rule t i (definitionAt t i)) q m))))
 breaks-complete t b (at-query e) = Memᴰ·append-right (eachFrom 0 (breaksOf t) t) (rw e (List·Memᴰ·head refl))
 
 -- there is none exactly where no rule is broken

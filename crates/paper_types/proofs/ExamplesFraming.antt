@@ -2,7 +2,7 @@
 -- The answers are those of document 01 and of its readings; none was taken from what is computed here.
 use mathlib.Core.List.{List, [], _∷_, _++_}
 use lib.Dec.{T}
-use Rattle.paper_types.specs.Lists.{bytes, anyOf, allOf, firstAt, find, eachFrom}
+use Rattle.paper_types.specs.Lists.{bytes, anyOf, allOf, firstAt, find, gather, eachFrom}
 use Rattle.paper_types.specs.References.{isName, sameRef, marked, closed, readName, refFrom, wholeRef, refOf}
 use Rattle.paper_types.specs.House.{piecesFrom, contents, lookUp, openAfter, inOrder, byContent, wrongs, tableWrongs, smallest, framing}
 use Rattle.paper_types.specs.TableSizes.{roomIn, oversIn, wrappersOver, oversBy, overs, counts}
@@ -84,7 +84,7 @@ fields =
     []
 
 fields-told : T (agreed fields)
-unfolding anyOf allOf firstAt find eachFrom isName sameRef marked closed readName refFrom wholeRef refOf piecesFrom contents lookUp openAfter inOrder byContent wrongs tableWrongs smallest framing roomIn oversIn wrappersOver oversBy overs counts textOf memberOf definitionOf tableOf builtIns builtInDirectives meaning canBe subTest reservedName nameKnown noMembers nameRepeated reservedMember noEnumValues enumValue noType wrongBase notObjectOrInterface implementedTwice promised fieldMissing fieldType argumentMissing argumentType argumentExtra rootNotObject queryNotObject rules breaksOf breaks before leastBreak answer judge
+unfolding anyOf allOf firstAt find gather eachFrom isName sameRef marked closed readName refFrom wholeRef refOf piecesFrom contents lookUp openAfter inOrder byContent wrongs tableWrongs smallest framing roomIn oversIn wrappersOver oversBy overs counts textOf memberOf definitionOf tableOf builtIns builtInDirectives meaning canBe subTest reservedName nameKnown noMembers nameRepeated reservedMember noEnumValues enumValue noType wrongBase notObjectOrInterface implementedTwice promised fieldMissing fieldType argumentMissing argumentType argumentExtra rootNotObject queryNotObject rules breaksOf breaks before leastBreak answer judge
 fields-told = tt
 
 -- texts that are no type reference's
@@ -112,5 +112,5 @@ references =
     []
 
 references-told : T (agreed references)
-unfolding anyOf allOf firstAt find eachFrom isName sameRef marked closed readName refFrom wholeRef refOf piecesFrom contents lookUp openAfter inOrder byContent wrongs tableWrongs smallest framing roomIn oversIn wrappersOver oversBy overs counts textOf memberOf definitionOf tableOf builtIns builtInDirectives meaning canBe subTest reservedName nameKnown noMembers nameRepeated reservedMember noEnumValues enumValue noType wrongBase notObjectOrInterface implementedTwice promised fieldMissing fieldType argumentMissing argumentType argumentExtra rootNotObject queryNotObject rules breaksOf breaks before leastBreak answer judge
+unfolding anyOf allOf firstAt find gather eachFrom isName sameRef marked closed readName refFrom wholeRef refOf piecesFrom contents lookUp openAfter inOrder byContent wrongs tableWrongs smallest framing roomIn oversIn wrappersOver oversBy overs counts textOf memberOf definitionOf tableOf builtIns builtInDirectives meaning canBe subTest reservedName nameKnown noMembers nameRepeated reservedMember noEnumValues enumValue noType wrongBase notObjectOrInterface implementedTwice promised fieldMissing fieldType argumentMissing argumentType argumentExtra rootNotObject queryNotObject rules breaksOf breaks before leastBreak answer judge
 references-told = tt

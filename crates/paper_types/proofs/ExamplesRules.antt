@@ -2,7 +2,7 @@
 -- The answers are those of document 01 and of its readings; none was taken from what is computed here.
 use mathlib.Core.List.{List, [], _∷_, _++_}
 use lib.Dec.{T}
-use Rattle.paper_types.specs.Lists.{anyOf, allOf, firstAt, find, eachFrom}
+use Rattle.paper_types.specs.Lists.{anyOf, allOf, firstAt, find, gather, eachFrom}
 use Rattle.paper_types.specs.References.{isName, sameRef, marked, closed, readName, refFrom, wholeRef, refOf}
 use Rattle.paper_types.specs.House.{piecesFrom, contents, lookUp, openAfter, inOrder, byContent, wrongs, tableWrongs, smallest, framing}
 use Rattle.paper_types.specs.TableSizes.{roomIn, oversIn, wrappersOver, oversBy, overs, counts}
@@ -25,7 +25,7 @@ ruleOne =
     []
 
 ruleOne-told : T (agreed ruleOne)
-unfolding anyOf allOf firstAt find eachFrom isName sameRef marked closed readName refFrom wholeRef refOf piecesFrom contents lookUp openAfter inOrder byContent wrongs tableWrongs smallest framing roomIn oversIn wrappersOver oversBy overs counts textOf memberOf definitionOf tableOf builtIns builtInDirectives meaning canBe subTest reservedName nameKnown noMembers nameRepeated reservedMember noEnumValues enumValue noType wrongBase notObjectOrInterface implementedTwice promised fieldMissing fieldType argumentMissing argumentType argumentExtra rootNotObject queryNotObject rules breaksOf breaks before leastBreak answer judge
+unfolding anyOf allOf firstAt find gather eachFrom isName sameRef marked closed readName refFrom wholeRef refOf piecesFrom contents lookUp openAfter inOrder byContent wrongs tableWrongs smallest framing roomIn oversIn wrappersOver oversBy overs counts textOf memberOf definitionOf tableOf builtIns builtInDirectives meaning canBe subTest reservedName nameKnown noMembers nameRepeated reservedMember noEnumValues enumValue noType wrongBase notObjectOrInterface implementedTwice promised fieldMissing fieldType argumentMissing argumentType argumentExtra rootNotObject queryNotObject rules breaksOf breaks before leastBreak answer judge
 ruleOne-told = tt
 
 -- rule 2
@@ -43,7 +43,7 @@ ruleTwo =
     []
 
 ruleTwo-told : T (agreed ruleTwo)
-unfolding anyOf allOf firstAt find eachFrom isName sameRef marked closed readName refFrom wholeRef refOf piecesFrom contents lookUp openAfter inOrder byContent wrongs tableWrongs smallest framing roomIn oversIn wrappersOver oversBy overs counts textOf memberOf definitionOf tableOf builtIns builtInDirectives meaning canBe subTest reservedName nameKnown noMembers nameRepeated reservedMember noEnumValues enumValue noType wrongBase notObjectOrInterface implementedTwice promised fieldMissing fieldType argumentMissing argumentType argumentExtra rootNotObject queryNotObject rules breaksOf breaks before leastBreak answer judge
+unfolding anyOf allOf firstAt find gather eachFrom isName sameRef marked closed readName refFrom wholeRef refOf piecesFrom contents lookUp openAfter inOrder byContent wrongs tableWrongs smallest framing roomIn oversIn wrappersOver oversBy overs counts textOf memberOf definitionOf tableOf builtIns builtInDirectives meaning canBe subTest reservedName nameKnown noMembers nameRepeated reservedMember noEnumValues enumValue noType wrongBase notObjectOrInterface implementedTwice promised fieldMissing fieldType argumentMissing argumentType argumentExtra rootNotObject queryNotObject rules breaksOf breaks before leastBreak answer judge
 ruleTwo-told = tt
 
 -- rule 3
@@ -58,7 +58,7 @@ ruleThree =
     []
 
 ruleThree-told : T (agreed ruleThree)
-unfolding anyOf allOf firstAt find eachFrom isName sameRef marked closed readName refFrom wholeRef refOf piecesFrom contents lookUp openAfter inOrder byContent wrongs tableWrongs smallest framing roomIn oversIn wrappersOver oversBy overs counts textOf memberOf definitionOf tableOf builtIns builtInDirectives meaning canBe subTest reservedName nameKnown noMembers nameRepeated reservedMember noEnumValues enumValue noType wrongBase notObjectOrInterface implementedTwice promised fieldMissing fieldType argumentMissing argumentType argumentExtra rootNotObject queryNotObject rules breaksOf breaks before leastBreak answer judge
+unfolding anyOf allOf firstAt find gather eachFrom isName sameRef marked closed readName refFrom wholeRef refOf piecesFrom contents lookUp openAfter inOrder byContent wrongs tableWrongs smallest framing roomIn oversIn wrappersOver oversBy overs counts textOf memberOf definitionOf tableOf builtIns builtInDirectives meaning canBe subTest reservedName nameKnown noMembers nameRepeated reservedMember noEnumValues enumValue noType wrongBase notObjectOrInterface implementedTwice promised fieldMissing fieldType argumentMissing argumentType argumentExtra rootNotObject queryNotObject rules breaksOf breaks before leastBreak answer judge
 ruleThree-told = tt
 
 -- rule 4
@@ -75,7 +75,7 @@ ruleFour =
     []
 
 ruleFour-told : T (agreed ruleFour)
-unfolding anyOf allOf firstAt find eachFrom isName sameRef marked closed readName refFrom wholeRef refOf piecesFrom contents lookUp openAfter inOrder byContent wrongs tableWrongs smallest framing roomIn oversIn wrappersOver oversBy overs counts textOf memberOf definitionOf tableOf builtIns builtInDirectives meaning canBe subTest reservedName nameKnown noMembers nameRepeated reservedMember noEnumValues enumValue noType wrongBase notObjectOrInterface implementedTwice promised fieldMissing fieldType argumentMissing argumentType argumentExtra rootNotObject queryNotObject rules breaksOf breaks before leastBreak answer judge
+unfolding anyOf allOf firstAt find gather eachFrom isName sameRef marked closed readName refFrom wholeRef refOf piecesFrom contents lookUp openAfter inOrder byContent wrongs tableWrongs smallest framing roomIn oversIn wrappersOver oversBy overs counts textOf memberOf definitionOf tableOf builtIns builtInDirectives meaning canBe subTest reservedName nameKnown noMembers nameRepeated reservedMember noEnumValues enumValue noType wrongBase notObjectOrInterface implementedTwice promised fieldMissing fieldType argumentMissing argumentType argumentExtra rootNotObject queryNotObject rules breaksOf breaks before leastBreak answer judge
 ruleFour-told = tt
 
 -- rule 5
@@ -90,7 +90,7 @@ ruleFive =
     []
 
 ruleFive-told : T (agreed ruleFive)
-unfolding anyOf allOf firstAt find eachFrom isName sameRef marked closed readName refFrom wholeRef refOf piecesFrom contents lookUp openAfter inOrder byContent wrongs tableWrongs smallest framing roomIn oversIn wrappersOver oversBy overs counts textOf memberOf definitionOf tableOf builtIns builtInDirectives meaning canBe subTest reservedName nameKnown noMembers nameRepeated reservedMember noEnumValues enumValue noType wrongBase notObjectOrInterface implementedTwice promised fieldMissing fieldType argumentMissing argumentType argumentExtra rootNotObject queryNotObject rules breaksOf breaks before leastBreak answer judge
+unfolding anyOf allOf firstAt find gather eachFrom isName sameRef marked closed readName refFrom wholeRef refOf piecesFrom contents lookUp openAfter inOrder byContent wrongs tableWrongs smallest framing roomIn oversIn wrappersOver oversBy overs counts textOf memberOf definitionOf tableOf builtIns builtInDirectives meaning canBe subTest reservedName nameKnown noMembers nameRepeated reservedMember noEnumValues enumValue noType wrongBase notObjectOrInterface implementedTwice promised fieldMissing fieldType argumentMissing argumentType argumentExtra rootNotObject queryNotObject rules breaksOf breaks before leastBreak answer judge
 ruleFive-told = tt
 
 -- rule 6
@@ -105,7 +105,7 @@ ruleSix =
     []
 
 ruleSix-told : T (agreed ruleSix)
-unfolding anyOf allOf firstAt find eachFrom isName sameRef marked closed readName refFrom wholeRef refOf piecesFrom contents lookUp openAfter inOrder byContent wrongs tableWrongs smallest framing roomIn oversIn wrappersOver oversBy overs counts textOf memberOf definitionOf tableOf builtIns builtInDirectives meaning canBe subTest reservedName nameKnown noMembers nameRepeated reservedMember noEnumValues enumValue noType wrongBase notObjectOrInterface implementedTwice promised fieldMissing fieldType argumentMissing argumentType argumentExtra rootNotObject queryNotObject rules breaksOf breaks before leastBreak answer judge
+unfolding anyOf allOf firstAt find gather eachFrom isName sameRef marked closed readName refFrom wholeRef refOf piecesFrom contents lookUp openAfter inOrder byContent wrongs tableWrongs smallest framing roomIn oversIn wrappersOver oversBy overs counts textOf memberOf definitionOf tableOf builtIns builtInDirectives meaning canBe subTest reservedName nameKnown noMembers nameRepeated reservedMember noEnumValues enumValue noType wrongBase notObjectOrInterface implementedTwice promised fieldMissing fieldType argumentMissing argumentType argumentExtra rootNotObject queryNotObject rules breaksOf breaks before leastBreak answer judge
 ruleSix-told = tt
 
 -- rule 7
@@ -121,7 +121,7 @@ ruleSeven =
     []
 
 ruleSeven-told : T (agreed ruleSeven)
-unfolding anyOf allOf firstAt find eachFrom isName sameRef marked closed readName refFrom wholeRef refOf piecesFrom contents lookUp openAfter inOrder byContent wrongs tableWrongs smallest framing roomIn oversIn wrappersOver oversBy overs counts textOf memberOf definitionOf tableOf builtIns builtInDirectives meaning canBe subTest reservedName nameKnown noMembers nameRepeated reservedMember noEnumValues enumValue noType wrongBase notObjectOrInterface implementedTwice promised fieldMissing fieldType argumentMissing argumentType argumentExtra rootNotObject queryNotObject rules breaksOf breaks before leastBreak answer judge
+unfolding anyOf allOf firstAt find gather eachFrom isName sameRef marked closed readName refFrom wholeRef refOf piecesFrom contents lookUp openAfter inOrder byContent wrongs tableWrongs smallest framing roomIn oversIn wrappersOver oversBy overs counts textOf memberOf definitionOf tableOf builtIns builtInDirectives meaning canBe subTest reservedName nameKnown noMembers nameRepeated reservedMember noEnumValues enumValue noType wrongBase notObjectOrInterface implementedTwice promised fieldMissing fieldType argumentMissing argumentType argumentExtra rootNotObject queryNotObject rules breaksOf breaks before leastBreak answer judge
 ruleSeven-told = tt
 
 -- rule 8
@@ -136,7 +136,7 @@ ruleEight =
     []
 
 ruleEight-told : T (agreed ruleEight)
-unfolding anyOf allOf firstAt find eachFrom isName sameRef marked closed readName refFrom wholeRef refOf piecesFrom contents lookUp openAfter inOrder byContent wrongs tableWrongs smallest framing roomIn oversIn wrappersOver oversBy overs counts textOf memberOf definitionOf tableOf builtIns builtInDirectives meaning canBe subTest reservedName nameKnown noMembers nameRepeated reservedMember noEnumValues enumValue noType wrongBase notObjectOrInterface implementedTwice promised fieldMissing fieldType argumentMissing argumentType argumentExtra rootNotObject queryNotObject rules breaksOf breaks before leastBreak answer judge
+unfolding anyOf allOf firstAt find gather eachFrom isName sameRef marked closed readName refFrom wholeRef refOf piecesFrom contents lookUp openAfter inOrder byContent wrongs tableWrongs smallest framing roomIn oversIn wrappersOver oversBy overs counts textOf memberOf definitionOf tableOf builtIns builtInDirectives meaning canBe subTest reservedName nameKnown noMembers nameRepeated reservedMember noEnumValues enumValue noType wrongBase notObjectOrInterface implementedTwice promised fieldMissing fieldType argumentMissing argumentType argumentExtra rootNotObject queryNotObject rules breaksOf breaks before leastBreak answer judge
 ruleEight-told = tt
 
 -- rule 9
@@ -152,7 +152,7 @@ ruleNine =
     []
 
 ruleNine-told : T (agreed ruleNine)
-unfolding anyOf allOf firstAt find eachFrom isName sameRef marked closed readName refFrom wholeRef refOf piecesFrom contents lookUp openAfter inOrder byContent wrongs tableWrongs smallest framing roomIn oversIn wrappersOver oversBy overs counts textOf memberOf definitionOf tableOf builtIns builtInDirectives meaning canBe subTest reservedName nameKnown noMembers nameRepeated reservedMember noEnumValues enumValue noType wrongBase notObjectOrInterface implementedTwice promised fieldMissing fieldType argumentMissing argumentType argumentExtra rootNotObject queryNotObject rules breaksOf breaks before leastBreak answer judge
+unfolding anyOf allOf firstAt find gather eachFrom isName sameRef marked closed readName refFrom wholeRef refOf piecesFrom contents lookUp openAfter inOrder byContent wrongs tableWrongs smallest framing roomIn oversIn wrappersOver oversBy overs counts textOf memberOf definitionOf tableOf builtIns builtInDirectives meaning canBe subTest reservedName nameKnown noMembers nameRepeated reservedMember noEnumValues enumValue noType wrongBase notObjectOrInterface implementedTwice promised fieldMissing fieldType argumentMissing argumentType argumentExtra rootNotObject queryNotObject rules breaksOf breaks before leastBreak answer judge
 ruleNine-told = tt
 
 -- rule 10
@@ -165,7 +165,7 @@ ruleTen =
     []
 
 ruleTen-told : T (agreed ruleTen)
-unfolding anyOf allOf firstAt find eachFrom isName sameRef marked closed readName refFrom wholeRef refOf piecesFrom contents lookUp openAfter inOrder byContent wrongs tableWrongs smallest framing roomIn oversIn wrappersOver oversBy overs counts textOf memberOf definitionOf tableOf builtIns builtInDirectives meaning canBe subTest reservedName nameKnown noMembers nameRepeated reservedMember noEnumValues enumValue noType wrongBase notObjectOrInterface implementedTwice promised fieldMissing fieldType argumentMissing argumentType argumentExtra rootNotObject queryNotObject rules breaksOf breaks before leastBreak answer judge
+unfolding anyOf allOf firstAt find gather eachFrom isName sameRef marked closed readName refFrom wholeRef refOf piecesFrom contents lookUp openAfter inOrder byContent wrongs tableWrongs smallest framing roomIn oversIn wrappersOver oversBy overs counts textOf memberOf definitionOf tableOf builtIns builtInDirectives meaning canBe subTest reservedName nameKnown noMembers nameRepeated reservedMember noEnumValues enumValue noType wrongBase notObjectOrInterface implementedTwice promised fieldMissing fieldType argumentMissing argumentType argumentExtra rootNotObject queryNotObject rules breaksOf breaks before leastBreak answer judge
 ruleTen-told = tt
 
 -- rule 11
@@ -179,7 +179,7 @@ ruleEleven =
     []
 
 ruleEleven-told : T (agreed ruleEleven)
-unfolding anyOf allOf firstAt find eachFrom isName sameRef marked closed readName refFrom wholeRef refOf piecesFrom contents lookUp openAfter inOrder byContent wrongs tableWrongs smallest framing roomIn oversIn wrappersOver oversBy overs counts textOf memberOf definitionOf tableOf builtIns builtInDirectives meaning canBe subTest reservedName nameKnown noMembers nameRepeated reservedMember noEnumValues enumValue noType wrongBase notObjectOrInterface implementedTwice promised fieldMissing fieldType argumentMissing argumentType argumentExtra rootNotObject queryNotObject rules breaksOf breaks before leastBreak answer judge
+unfolding anyOf allOf firstAt find gather eachFrom isName sameRef marked closed readName refFrom wholeRef refOf piecesFrom contents lookUp openAfter inOrder byContent wrongs tableWrongs smallest framing roomIn oversIn wrappersOver oversBy overs counts textOf memberOf definitionOf tableOf builtIns builtInDirectives meaning canBe subTest reservedName nameKnown noMembers nameRepeated reservedMember noEnumValues enumValue noType wrongBase notObjectOrInterface implementedTwice promised fieldMissing fieldType argumentMissing argumentType argumentExtra rootNotObject queryNotObject rules breaksOf breaks before leastBreak answer judge
 ruleEleven-told = tt
 
 -- rule 12
@@ -197,7 +197,7 @@ ruleTwelve =
     []
 
 ruleTwelve-told : T (agreed ruleTwelve)
-unfolding anyOf allOf firstAt find eachFrom isName sameRef marked closed readName refFrom wholeRef refOf piecesFrom contents lookUp openAfter inOrder byContent wrongs tableWrongs smallest framing roomIn oversIn wrappersOver oversBy overs counts textOf memberOf definitionOf tableOf builtIns builtInDirectives meaning canBe subTest reservedName nameKnown noMembers nameRepeated reservedMember noEnumValues enumValue noType wrongBase notObjectOrInterface implementedTwice promised fieldMissing fieldType argumentMissing argumentType argumentExtra rootNotObject queryNotObject rules breaksOf breaks before leastBreak answer judge
+unfolding anyOf allOf firstAt find gather eachFrom isName sameRef marked closed readName refFrom wholeRef refOf piecesFrom contents lookUp openAfter inOrder byContent wrongs tableWrongs smallest framing roomIn oversIn wrappersOver oversBy overs counts textOf memberOf definitionOf tableOf builtIns builtInDirectives meaning canBe subTest reservedName nameKnown noMembers nameRepeated reservedMember noEnumValues enumValue noType wrongBase notObjectOrInterface implementedTwice promised fieldMissing fieldType argumentMissing argumentType argumentExtra rootNotObject queryNotObject rules breaksOf breaks before leastBreak answer judge
 ruleTwelve-told = tt
 
 -- rule 13
@@ -211,7 +211,7 @@ ruleThirteen =
     []
 
 ruleThirteen-told : T (agreed ruleThirteen)
-unfolding anyOf allOf firstAt find eachFrom isName sameRef marked closed readName refFrom wholeRef refOf piecesFrom contents lookUp openAfter inOrder byContent wrongs tableWrongs smallest framing roomIn oversIn wrappersOver oversBy overs counts textOf memberOf definitionOf tableOf builtIns builtInDirectives meaning canBe subTest reservedName nameKnown noMembers nameRepeated reservedMember noEnumValues enumValue noType wrongBase notObjectOrInterface implementedTwice promised fieldMissing fieldType argumentMissing argumentType argumentExtra rootNotObject queryNotObject rules breaksOf breaks before leastBreak answer judge
+unfolding anyOf allOf firstAt find gather eachFrom isName sameRef marked closed readName refFrom wholeRef refOf piecesFrom contents lookUp openAfter inOrder byContent wrongs tableWrongs smallest framing roomIn oversIn wrappersOver oversBy overs counts textOf memberOf definitionOf tableOf builtIns builtInDirectives meaning canBe subTest reservedName nameKnown noMembers nameRepeated reservedMember noEnumValues enumValue noType wrongBase notObjectOrInterface implementedTwice promised fieldMissing fieldType argumentMissing argumentType argumentExtra rootNotObject queryNotObject rules breaksOf breaks before leastBreak answer judge
 ruleThirteen-told = tt
 
 -- rule 14
@@ -226,7 +226,7 @@ ruleFourteen =
     []
 
 ruleFourteen-told : T (agreed ruleFourteen)
-unfolding anyOf allOf firstAt find eachFrom isName sameRef marked closed readName refFrom wholeRef refOf piecesFrom contents lookUp openAfter inOrder byContent wrongs tableWrongs smallest framing roomIn oversIn wrappersOver oversBy overs counts textOf memberOf definitionOf tableOf builtIns builtInDirectives meaning canBe subTest reservedName nameKnown noMembers nameRepeated reservedMember noEnumValues enumValue noType wrongBase notObjectOrInterface implementedTwice promised fieldMissing fieldType argumentMissing argumentType argumentExtra rootNotObject queryNotObject rules breaksOf breaks before leastBreak answer judge
+unfolding anyOf allOf firstAt find gather eachFrom isName sameRef marked closed readName refFrom wholeRef refOf piecesFrom contents lookUp openAfter inOrder byContent wrongs tableWrongs smallest framing roomIn oversIn wrappersOver oversBy overs counts textOf memberOf definitionOf tableOf builtIns builtInDirectives meaning canBe subTest reservedName nameKnown noMembers nameRepeated reservedMember noEnumValues enumValue noType wrongBase notObjectOrInterface implementedTwice promised fieldMissing fieldType argumentMissing argumentType argumentExtra rootNotObject queryNotObject rules breaksOf breaks before leastBreak answer judge
 ruleFourteen-told = tt
 
 -- rule 15
@@ -240,7 +240,7 @@ ruleFifteen =
     []
 
 ruleFifteen-told : T (agreed ruleFifteen)
-unfolding anyOf allOf firstAt find eachFrom isName sameRef marked closed readName refFrom wholeRef refOf piecesFrom contents lookUp openAfter inOrder byContent wrongs tableWrongs smallest framing roomIn oversIn wrappersOver oversBy overs counts textOf memberOf definitionOf tableOf builtIns builtInDirectives meaning canBe subTest reservedName nameKnown noMembers nameRepeated reservedMember noEnumValues enumValue noType wrongBase notObjectOrInterface implementedTwice promised fieldMissing fieldType argumentMissing argumentType argumentExtra rootNotObject queryNotObject rules breaksOf breaks before leastBreak answer judge
+unfolding anyOf allOf firstAt find gather eachFrom isName sameRef marked closed readName refFrom wholeRef refOf piecesFrom contents lookUp openAfter inOrder byContent wrongs tableWrongs smallest framing roomIn oversIn wrappersOver oversBy overs counts textOf memberOf definitionOf tableOf builtIns builtInDirectives meaning canBe subTest reservedName nameKnown noMembers nameRepeated reservedMember noEnumValues enumValue noType wrongBase notObjectOrInterface implementedTwice promised fieldMissing fieldType argumentMissing argumentType argumentExtra rootNotObject queryNotObject rules breaksOf breaks before leastBreak answer judge
 ruleFifteen-told = tt
 
 -- rule 16
@@ -259,7 +259,7 @@ ruleSixteen =
     []
 
 ruleSixteen-told : T (agreed ruleSixteen)
-unfolding anyOf allOf firstAt find eachFrom isName sameRef marked closed readName refFrom wholeRef refOf piecesFrom contents lookUp openAfter inOrder byContent wrongs tableWrongs smallest framing roomIn oversIn wrappersOver oversBy overs counts textOf memberOf definitionOf tableOf builtIns builtInDirectives meaning canBe subTest reservedName nameKnown noMembers nameRepeated reservedMember noEnumValues enumValue noType wrongBase notObjectOrInterface implementedTwice promised fieldMissing fieldType argumentMissing argumentType argumentExtra rootNotObject queryNotObject rules breaksOf breaks before leastBreak answer judge
+unfolding anyOf allOf firstAt find gather eachFrom isName sameRef marked closed readName refFrom wholeRef refOf piecesFrom contents lookUp openAfter inOrder byContent wrongs tableWrongs smallest framing roomIn oversIn wrappersOver oversBy overs counts textOf memberOf definitionOf tableOf builtIns builtInDirectives meaning canBe subTest reservedName nameKnown noMembers nameRepeated reservedMember noEnumValues enumValue noType wrongBase notObjectOrInterface implementedTwice promised fieldMissing fieldType argumentMissing argumentType argumentExtra rootNotObject queryNotObject rules breaksOf breaks before leastBreak answer judge
 ruleSixteen-told = tt
 
 -- several breaks: the least
@@ -275,7 +275,7 @@ least =
     []
 
 least-told : T (agreed least)
-unfolding anyOf allOf firstAt find eachFrom isName sameRef marked closed readName refFrom wholeRef refOf piecesFrom contents lookUp openAfter inOrder byContent wrongs tableWrongs smallest framing roomIn oversIn wrappersOver oversBy overs counts textOf memberOf definitionOf tableOf builtIns builtInDirectives meaning canBe subTest reservedName nameKnown noMembers nameRepeated reservedMember noEnumValues enumValue noType wrongBase notObjectOrInterface implementedTwice promised fieldMissing fieldType argumentMissing argumentType argumentExtra rootNotObject queryNotObject rules breaksOf breaks before leastBreak answer judge
+unfolding anyOf allOf firstAt find gather eachFrom isName sameRef marked closed readName refFrom wholeRef refOf piecesFrom contents lookUp openAfter inOrder byContent wrongs tableWrongs smallest framing roomIn oversIn wrappersOver oversBy overs counts textOf memberOf definitionOf tableOf builtIns builtInDirectives meaning canBe subTest reservedName nameKnown noMembers nameRepeated reservedMember noEnumValues enumValue noType wrongBase notObjectOrInterface implementedTwice promised fieldMissing fieldType argumentMissing argumentType argumentExtra rootNotObject queryNotObject rules breaksOf breaks before leastBreak answer judge
 least-told = tt
 
 -- near those: accepted
@@ -299,5 +299,5 @@ accepted =
     []
 
 accepted-told : T (agreed accepted)
-unfolding anyOf allOf firstAt find eachFrom isName sameRef marked closed readName refFrom wholeRef refOf piecesFrom contents lookUp openAfter inOrder byContent wrongs tableWrongs smallest framing roomIn oversIn wrappersOver oversBy overs counts textOf memberOf definitionOf tableOf builtIns builtInDirectives meaning canBe subTest reservedName nameKnown noMembers nameRepeated reservedMember noEnumValues enumValue noType wrongBase notObjectOrInterface implementedTwice promised fieldMissing fieldType argumentMissing argumentType argumentExtra rootNotObject queryNotObject rules breaksOf breaks before leastBreak answer judge
+unfolding anyOf allOf firstAt find gather eachFrom isName sameRef marked closed readName refFrom wholeRef refOf piecesFrom contents lookUp openAfter inOrder byContent wrongs tableWrongs smallest framing roomIn oversIn wrappersOver oversBy overs counts textOf memberOf definitionOf tableOf builtIns builtInDirectives meaning canBe subTest reservedName nameKnown noMembers nameRepeated reservedMember noEnumValues enumValue noType wrongBase notObjectOrInterface implementedTwice promised fieldMissing fieldType argumentMissing argumentType argumentExtra rootNotObject queryNotObject rules breaksOf breaks before leastBreak answer judge
 accepted-told = tt

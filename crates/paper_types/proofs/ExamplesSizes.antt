@@ -2,7 +2,7 @@
 -- The answers are those of document 01 and of its readings; none was taken from what is computed here.
 use mathlib.Core.List.{List, [], _∷_, _++_}
 use lib.Dec.{T}
-use Rattle.paper_types.specs.Lists.{anyOf, allOf, firstAt, find, eachFrom}
+use Rattle.paper_types.specs.Lists.{anyOf, allOf, firstAt, find, gather, eachFrom}
 use Rattle.paper_types.specs.References.{isName, sameRef, marked, closed, readName, refFrom, wholeRef, refOf}
 use Rattle.paper_types.specs.House.{piecesFrom, contents, lookUp, openAfter, inOrder, byContent, wrongs, tableWrongs, smallest, framing}
 use Rattle.paper_types.specs.TableSizes.{roomIn, oversIn, wrappersOver, oversBy, overs, counts}
@@ -27,7 +27,7 @@ counted =
     []
 
 counted-told : T (agreed counted)
-unfolding anyOf allOf firstAt find eachFrom isName sameRef marked closed readName refFrom wholeRef refOf piecesFrom contents lookUp openAfter inOrder byContent wrongs tableWrongs smallest framing roomIn oversIn wrappersOver oversBy overs counts textOf memberOf definitionOf tableOf builtIns builtInDirectives meaning canBe subTest reservedName nameKnown noMembers nameRepeated reservedMember noEnumValues enumValue noType wrongBase notObjectOrInterface implementedTwice promised fieldMissing fieldType argumentMissing argumentType argumentExtra rootNotObject queryNotObject rules breaksOf breaks before leastBreak answer judge
+unfolding anyOf allOf firstAt find gather eachFrom isName sameRef marked closed readName refFrom wholeRef refOf piecesFrom contents lookUp openAfter inOrder byContent wrongs tableWrongs smallest framing roomIn oversIn wrappersOver oversBy overs counts textOf memberOf definitionOf tableOf builtIns builtInDirectives meaning canBe subTest reservedName nameKnown noMembers nameRepeated reservedMember noEnumValues enumValue noType wrongBase notObjectOrInterface implementedTwice promised fieldMissing fieldType argumentMissing argumentType argumentExtra rootNotObject queryNotObject rules breaksOf breaks before leastBreak answer judge
 counted-told = tt
 
 -- 7 and 8 wrappers
@@ -44,5 +44,5 @@ wrappers =
     []
 
 wrappers-told : T (agreed wrappers)
-unfolding anyOf allOf firstAt find eachFrom isName sameRef marked closed readName refFrom wholeRef refOf piecesFrom contents lookUp openAfter inOrder byContent wrongs tableWrongs smallest framing roomIn oversIn wrappersOver oversBy overs counts textOf memberOf definitionOf tableOf builtIns builtInDirectives meaning canBe subTest reservedName nameKnown noMembers nameRepeated reservedMember noEnumValues enumValue noType wrongBase notObjectOrInterface implementedTwice promised fieldMissing fieldType argumentMissing argumentType argumentExtra rootNotObject queryNotObject rules breaksOf breaks before leastBreak answer judge
+unfolding anyOf allOf firstAt find gather eachFrom isName sameRef marked closed readName refFrom wholeRef refOf piecesFrom contents lookUp openAfter inOrder byContent wrongs tableWrongs smallest framing roomIn oversIn wrappersOver oversBy overs counts textOf memberOf definitionOf tableOf builtIns builtInDirectives meaning canBe subTest reservedName nameKnown noMembers nameRepeated reservedMember noEnumValues enumValue noType wrongBase notObjectOrInterface implementedTwice promised fieldMissing fieldType argumentMissing argumentType argumentExtra rootNotObject queryNotObject rules breaksOf breaks before leastBreak answer judge
 wrappers-told = tt

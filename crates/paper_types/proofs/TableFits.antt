@@ -8,9 +8,9 @@ use native.Mathlib.Omega.{arith}
 use lib.ListN.{length, length-append}
 use lib.Dec.{eqb, leb}
 use Rattle.paper_types.specs.TableNumbers.{mostTable, noPlace, tagField, tagArgument, tagUnionMember}
-use Rattle.paper_types.specs.Lists.{eachFrom, each, onlyIf}
+use Rattle.paper_types.specs.Lists.{gather, onlyIf}
 use Rattle.paper_types.specs.House.{Piece, piece, cut, pieces, inside}
-use Rattle.paper_types.specs.Types.{Argument, Member, Definition, Table, nameIn, typeIn, argumentOf, typed, untyped, memberOf, implementedOf, definitionOf, tableOf}
+use Rattle.paper_types.specs.Types.{Argument, Member, Definition, argumentIn, argumentOf, fieldIn, inputIn, nameOnly, memberOf, definitionOf, tableOf}
 use Rattle.paper_types.specs.Judging.{breaks, leastBreak}
 use Rattle.paper_types.proofs.PiecesLaws.{Laid, nil, torn, next, pieces-laid, laid-size}
 use Rattle.paper_types.proofs.RuleOrder.{Every, no-more, one-more, Fits}
@@ -20,15 +20,15 @@ every-append : {A : Type 0} {P : A → Type 0} {xs ys : List A} → Every P xs �
 every-append no-more q = q
 every-append (one-more h p) q = one-more h (every-append p q)
 
-every-each : {A B : Type 0} (P : A → Type 0) (Q : B → Type 0) (f : ℕ → A → List B) → ((i : ℕ) (x : A) → P x → Every Q (f i x)) → (i : ℕ) (xs : List A) → Every P xs → Every Q (eachFrom i f xs)
-unfolding eachFrom
-every-each P Q f h i [] no-more = no-more
-every-each P Q f h i (x ∷ xs) (one-more p ps) = every-append (h i x p) (every-each P Q f h (suc i) xs ps)
+every-gather : {A B : Type 0} (P : A → Type 0) (Q : B → Type 0) (f : A → List B) → ((x : A) → P x → Every Q (f x)) → (xs : List A) → Every P xs → Every Q (gather f xs)
+unfolding gather
+every-gather P Q f h [] no-more = no-more
+every-gather P Q f h (x ∷ xs) (one-more p ps) = every-append (h x p) (every-gather P Q f h xs ps)
 
-each-size : {A B : Type 0} (f : ℕ → A → List B) → ((i : ℕ) (x : A) → length (f i x) ≤ 1) → (i : ℕ) (xs : List A) → length (eachFrom i f xs) ≤ length xs
-unfolding eachFrom
-each-size f h i [] = le-refl 0
-each-size f h i (x ∷ xs) = omega (arith, length-append (f i x) (eachFrom (suc i) f xs), h i x, each-size f h (suc i) xs)
+gather-size : {A B : Type 0} (f : A → List B) → ((x : A) → length (f x) ≤ 1) → (xs : List A) → length (gather f xs) ≤ length xs
+unfolding gather
+gather-size f h [] = le-refl 0
+gather-size f h (x ∷ xs) = omega (arith, length-append (f x) (gather f xs), h x, gather-size f h xs)
 
 -- a field that ends at n or before
 abbrev Ends : ℕ → Piece → Type 0
@@ -52,38 +52,38 @@ inside-ends n at s h = laid-ends n h (pieces-laid (at + 3) s)
 inside-size : (n at : ℕ) (s : List ℕ) → at + 3 + length s ≤ n → length (inside at s) ≤ n
 inside-size n at s h = let k = laid-size (pieces-laid (at + 3) s) in omega arith
 
-one-argument : (i : ℕ) (p : Piece) → length (argumentOf i p) ≤ 1
-one-argument i (cut at) = omega arith
-one-argument i (piece at tag s) = go (eqb tag tagArgument) (record { name = nameIn (inside at s); type = typeIn (inside at s) })
+one-argument : (p : Piece) → length (argumentOf p) ≤ 1
+one-argument (cut at) = omega arith
+one-argument (piece at tag s) = go (eqb tag tagArgument) (argumentIn at s)
   where
     go : (b : Bool) (x : Argument) → length (onlyIf b x) ≤ 1
     go true x = le-refl 1
     go false x = omega arith
 
-member-fits : (n : ℕ) → n ≤ noPlace → (i : ℕ) (p : Piece) → Ends n p → Every Fits (memberOf i p)
+member-fits : (n : ℕ) → n ≤ noPlace → (p : Piece) → Ends n p → Every Fits (memberOf p)
 unfolding memberOf
-member-fits n h i (cut at) e = no-more
-member-fits n h i (piece at tag s) e = go (eqb tag tagField) (eqb tag tagArgument) (leb tagUnionMember tag)
+member-fits n h (cut at) e = no-more
+member-fits n h (piece at tag s) e = go (eqb tag tagField) (eqb tag tagArgument) (leb tagUnionMember tag)
   where
-    few : length (each argumentOf (inside at s)) ≤ noPlace
-    few = le-trans (each-size argumentOf one-argument 0 (inside at s)) (le-trans (inside-size n at s e) h)
+    few : length (gather argumentOf (inside at s)) ≤ noPlace
+    few = le-trans (gather-size argumentOf one-argument (inside at s)) (le-trans (inside-size n at s e) h)
     nothing : 0 ≤ noPlace
     nothing = omega arith
     go : (a b c : Bool)
-        → Every Fits (cond a (typed tag (inside at s) (each argumentOf (inside at s)) ∷ []) (cond b (typed tag (inside at s) [] ∷ []) (onlyIf c (untyped tag s))))
+        → Every Fits (cond a (fieldIn at s ∷ []) (cond b (inputIn at s ∷ []) (onlyIf c (nameOnly tag s))))
     go true b c = one-more few no-more
     go false true c = one-more nothing no-more
     go false false true = one-more nothing no-more
     go false false false = no-more
 
-definition-fits : (n : ℕ) → n ≤ noPlace → (i : ℕ) (p : Piece) → Ends n p → Every AllFit (definitionOf i p)
+definition-fits : (n : ℕ) → n ≤ noPlace → (p : Piece) → Ends n p → Every AllFit (definitionOf p)
 unfolding definitionOf
-definition-fits n h i (cut at) e = no-more
-definition-fits n h i (piece at tag s) e = one-more (every-each (Ends n) Fits memberOf (member-fits n h) 0 (inside at s) (inside-ends n at s e)) no-more
+definition-fits n h (cut at) e = no-more
+definition-fits n h (piece at tag s) e = one-more (every-gather (Ends n) Fits memberOf (member-fits n h) (inside at s) (inside-ends n at s e)) no-more
 
 pub tableOf-fits : (s : List ℕ) → length s ≤ mostTable → Every AllFit (tableOf s)
 unfolding tableOf
-tableOf-fits s h = every-each (Ends noPlace) AllFit definitionOf (definition-fits noPlace (le-refl noPlace)) 0 (pieces 0 s) (laid-ends noPlace (let k : 0 + length s ≤ noPlace = omega arith in k) (pieces-laid 0 s))
+tableOf-fits s h = every-gather (Ends noPlace) AllFit definitionOf (definition-fits noPlace (le-refl noPlace)) (pieces 0 s) (laid-ends noPlace (let k : 0 + length s ≤ noPlace = omega arith in k) (pieces-laid 0 s))
 
 -- The shown break is the first in the order of definitions, rules and places.
 pub judged-first : (s : List ℕ) → length s ≤ mostTable → leastBreak (breaks (tableOf s)) ≡ head? (breaks (tableOf s))

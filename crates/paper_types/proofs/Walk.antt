@@ -7,7 +7,7 @@ use Prim.Native.Nat.{ℕ, suc, _<_, _≤_}
 use native.Mathlib.Nat.{le-refl}
 use lib.ListN.{length, drop, getD}
 use Rattle.paper_types.specs.TableNumbers.{noPlace, ruleRoot}
-use Rattle.paper_types.specs.Lists.{eachFrom, onlyIf}
+use Rattle.paper_types.specs.Lists.{gather, eachFrom, onlyIf}
 use Rattle.paper_types.specs.Types.{Definition, Table, blank, tagNothing}
 use Rattle.paper_types.specs.Rules.{Place, wholeOf, Rule, reservedName, nameKnown, noMembers, nameRepeated, reservedMember, enumValue, noType, wrongBase, notObjectOrInterface, implementedTwice, fieldMissing, fieldType, argumentMissing, argumentType, argumentExtra, rootNotObject, queryNotObject}
 use Rattle.paper_types.specs.Judging.{rules, Break, break, breaksOf, breaks}
@@ -44,7 +44,7 @@ pub breaksOf-first : (t : Table) (i : ℕ) (d : Definition) → head? (breaksOf 
     (orElse (shows 5 reservedMember t i d) (orElse (shows 6 enumValue t i d) (orElse (shows 7 noType t i d) (orElse (shows 8 wrongBase t i d)
     (orElse (shows 9 notObjectOrInterface t i d) (orElse (shows 10 implementedTwice t i d) (orElse (shows 11 fieldMissing t i d) (orElse (shows 12 fieldType t i d)
     (orElse (shows 13 argumentMissing t i d) (orElse (shows 14 argumentType t i d) (orElse (shows 15 argumentExtra t i d) (orElse (shows 16 rootNotObject t i d) none)))))))))))))))
-unfolding breaksOf rules eachFrom
+unfolding breaksOf rules gather
 breaksOf-first t i d =
     by-rule i 1 (reservedName t i d) (by-rule i 2 (nameKnown t i d) (by-rule i 3 (noMembers t i d) (by-rule i 4 (nameRepeated t i d)
     (by-rule i 5 (reservedMember t i d) (by-rule i 6 (enumValue t i d) (by-rule i 7 (noType t i d) (by-rule i 8 (wrongBase t i d)

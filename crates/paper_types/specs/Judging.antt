@@ -9,7 +9,7 @@ use lib.ListN.{length}
 use lib.Dec.{ltb, eqb}
 use Rattle.paper.specs.Numbers.{accepted, refuseTooMany}
 use Rattle.paper_types.specs.TableNumbers.{refuseFraming, refuseSchema, ruleReservedName, ruleNameKnown, ruleNoMembers, ruleNameRepeated, ruleReservedMember, ruleEnumValue, ruleNoType, ruleBase, ruleNotObjectOrInterface, ruleImplementedTwice, ruleFieldMissing, ruleFieldType, ruleArgumentMissing, ruleArgumentType, ruleArgumentExtra, ruleRoot}
-use Rattle.paper_types.specs.Lists.{each, onlyIf}
+use Rattle.paper_types.specs.Lists.{gather, each, onlyIf}
 use Rattle.paper_types.specs.House.{framing}
 use Rattle.paper_types.specs.TableSizes.{counts}
 use Rattle.paper_types.specs.Types.{Definition, Table, tableOf}
@@ -55,11 +55,11 @@ abbrev pub break : ℕ → ℕ → Place → Break
 break i k q = record { definition = i; rule = k; place = q }
 
 -- all breaks of a table, in this order
-abbrev pub breaksOfRule : Table → ℕ → Definition → ℕ → Numbered → List Break
-breaksOfRule t i d j n = map (break i (n .number)) (n .rule t i d)
+abbrev pub breaksOfRule : Table → ℕ → Definition → Numbered → List Break
+breaksOfRule t i d n = map (break i (n .number)) (n .rule t i d)
 
 unfoldable pub breaksOf : Table → ℕ → Definition → List Break
-breaksOf t i d = each (breaksOfRule t i d) rules
+breaksOf t i d = gather (breaksOfRule t i d) rules
 
 unfoldable pub breaks : Table → List Break
 breaks t = each (breaksOf t) t ++ onlyIf (queryNotObject t) (break (length t) ruleRoot wholeOf)

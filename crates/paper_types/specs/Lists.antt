@@ -31,7 +31,12 @@ unfoldable pub find : {A : Type 0} → (A → Bool) → List A → Option A
 find p [] = none
 find p (x ∷ xs) = cond (p x) (some x) (find p xs)
 
--- what f gives for each element, in order; f is told its number too, counted from i, or from 0
+-- what f gives for each element, in order
+unfoldable pub gather : {A B : Type 0} → (A → List B) → List A → List B
+gather f [] = []
+gather f (x ∷ xs) = f x ++ gather f xs
+
+-- the same, where f is told the element's number too, counted from i, or from 0
 unfoldable pub eachFrom : {A B : Type 0} → ℕ → (ℕ → A → List B) → List A → List B
 eachFrom i f [] = []
 eachFrom i f (x ∷ xs) = f i x ++ eachFrom (suc i) f xs

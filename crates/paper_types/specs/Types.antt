@@ -9,7 +9,7 @@ use lib.ListN.{getD}
 use lib.Dec.{leb, eqb}
 use Rattle.paper.specs.Tokens.{same}
 use Rattle.paper_types.specs.TableNumbers.{tagScalar, tagObject, tagInterface, tagUnion, tagEnum, tagInputObject, tagDirective, tagRoots, tagName, tagImplements, tagField, tagArgument, tagReference, tagUnionMember}
-use Rattle.paper_types.specs.Lists.{bytes, anyOf, firstAt, each, onlyIf}
+use Rattle.paper_types.specs.Lists.{bytes, anyOf, firstAt, gather, onlyIf}
 use Rattle.paper_types.specs.References.{Ref, named, refOf}
 use Rattle.paper_types.specs.House.{Piece, piece, cut, pieces, inside}
 
@@ -36,7 +36,7 @@ pub record Definition : Type 0 where
 abbrev pub Table : Type 0
 Table = List Definition
 
--- The definitions that a table's bytes write.
+-- What a table's bytes write.
 -- the content of the first field with this tag, no bytes if there is none
 unfoldable pub textOf : ℕ → List Piece → List ℕ
 textOf k [] = []
@@ -54,35 +54,45 @@ nameIn ps = textOf tagName ps
 abbrev pub typeIn : List Piece → Ref
 typeIn ps = orNone (refOf (textOf tagReference ps))
 
-abbrev pub argumentOf : ℕ → Piece → List Argument
-argumentOf i (cut at) = []
-argumentOf i (piece at tag s) = onlyIf (eqb tag tagArgument) (record { name = nameIn (inside at s); type = typeIn (inside at s) })
+-- an argument of the content s, at the offset `at`
+abbrev pub argumentIn : ℕ → List ℕ → Argument
+argumentIn at s = record { name = nameIn (inside at s); type = typeIn (inside at s) }
 
--- a member of these fields; a member of one name
-abbrev pub typed : ℕ → List Piece → List Argument → Member
-typed tag ps arguments = record { tag = tag; name = nameIn ps; type = typeIn ps; arguments = arguments }
+abbrev pub argumentOf : Piece → List Argument
+argumentOf (cut at) = []
+argumentOf (piece at tag s) = onlyIf (eqb tag tagArgument) (argumentIn at s)
 
-abbrev pub untyped : ℕ → List ℕ → Member
-untyped tag name = record { tag = tag; name = name; type = named []; arguments = [] }
+-- a field; an input field or a directive's argument; a member that is one name
+abbrev pub fieldIn : ℕ → List ℕ → Member
+fieldIn at s = record { tag = tagField; name = nameIn (inside at s); type = typeIn (inside at s); arguments = gather argumentOf (inside at s) }
 
-unfoldable pub memberOf : ℕ → Piece → List Member
-memberOf i (cut at) = []
-memberOf i (piece at tag s) =
-    cond (eqb tag tagField) (typed tag (inside at s) (each argumentOf (inside at s)) ∷ [])
-    (cond (eqb tag tagArgument) (typed tag (inside at s) [] ∷ [])
-    (onlyIf (leb tagUnionMember tag) (untyped tag s)))
+abbrev pub inputIn : ℕ → List ℕ → Member
+inputIn at s = record { tag = tagArgument; name = nameIn (inside at s); type = typeIn (inside at s); arguments = [] }
 
-abbrev pub implementedOf : ℕ → Piece → List (List ℕ)
-implementedOf i (cut at) = []
-implementedOf i (piece at tag s) = onlyIf (eqb tag tagImplements) s
+abbrev pub nameOnly : ℕ → List ℕ → Member
+nameOnly tag s = record { tag = tag; name = s; type = named []; arguments = [] }
 
-unfoldable pub definitionOf : ℕ → Piece → List Definition
-definitionOf i (cut at) = []
-definitionOf i (piece at tag s) =
-    record { tag = tag; name = nameIn (inside at s); implements = each implementedOf (inside at s); members = each memberOf (inside at s) } ∷ []
+unfoldable pub memberOf : Piece → List Member
+memberOf (cut at) = []
+memberOf (piece at tag s) =
+    cond (eqb tag tagField) (fieldIn at s ∷ [])
+    (cond (eqb tag tagArgument) (inputIn at s ∷ [])
+    (onlyIf (leb tagUnionMember tag) (nameOnly tag s)))
+
+abbrev pub implementedOf : Piece → List (List ℕ)
+implementedOf (cut at) = []
+implementedOf (piece at tag s) = onlyIf (eqb tag tagImplements) s
+
+-- a record
+abbrev pub definitionIn : ℕ → ℕ → List ℕ → Definition
+definitionIn at tag s = record { tag = tag; name = nameIn (inside at s); implements = gather implementedOf (inside at s); members = gather memberOf (inside at s) }
+
+unfoldable pub definitionOf : Piece → List Definition
+definitionOf (cut at) = []
+definitionOf (piece at tag s) = definitionIn at tag s ∷ []
 
 unfoldable pub tableOf : List ℕ → Table
-tableOf s = each definitionOf (pieces 0 s)
+tableOf s = gather definitionOf (pieces 0 s)
 
 -- What a definition is.
 abbrev pub isObject : Definition → Bool
