@@ -66,23 +66,29 @@ module _ {A B : Type 0} where
   map-complete f (y ∷ xs) x (List·Memᴰ·head e) = List·Memᴰ·head (ap f e)
   map-complete f (y ∷ xs) x (List·Memᴰ·tail m) = List·Memᴰ·tail (map-complete f xs x m)
 
+-- a break of definition i
+of-definition : (t : Table) (b : Break) (i : ℕ) → i < length t → List·Memᴰ b (breaksOf t i (definitionAt t i)) → Broken t b
+unfolding breaksOf
+of-definition t b i h m = by-rule (gather-sound (breaksOfRule t i (definitionAt t i)) rules b m)
+  where
+    at : (n : Numbered) → List·Memᴰ n rules → (q : Place) × List·Memᴰ q (n .rule t i (definitionAt t i)) × (b ≡ break i (n .number) q) → Broken t b
+    at n r q = subst (Broken t) (sym (q .2)) (at-place i n (q .0) h r (q .1))
+    by-rule : (n : Numbered) × List·Memᴰ n rules × List·Memᴰ b (breaksOfRule t i (definitionAt t i) n) → Broken t b
+    by-rule n = at (n .0) (n .1) (map-sound (break i (n .0 .number)) (n .0 .rule t i (definitionAt t i)) b (n .2))
+
 pub breaks-sound : (t : Table) (b : Break) → List·Memᴰ b (breaks t) → Broken t b
-unfolding breaks breaksOf
+unfolding breaks
 breaks-sound t b m = go (List·Memᴰ·append-cases (eachFrom 0 (breaksOf t) t) m)
   where
     query : (c : Bool) → queryNotObject t ≡ c → List·Memᴰ b (onlyIf c (break (length t) ruleRoot wholeOf)) → Broken t b
     query true q (List·Memᴰ·head e) = subst (Broken t) (sym e) (at-query q)
     query true q (List·Memᴰ·tail k) = absurd (List·Memᴰ·not-nil k)
     query false q k = absurd (List·Memᴰ·not-nil k)
+    numbered : (j : ℕ) × (j < length t) × List·Memᴰ b (breaksOf t (0 + j) (definitionAt t j)) → Broken t b
+    numbered r = of-definition t b (r .0) (r .1) (subst (λ (j : ℕ). List·Memᴰ b (breaksOf t j (definitionAt t (r .0)))) (zero-add (r .0)) (r .2))
     go : List·Memᴰ b (eachFrom 0 (breaksOf t) t) ⊎ List·Memᴰ b (onlyIf (queryNotObject t) (break (length t) ruleRoot wholeOf)) → Broken t b
+    go (inl k) = numbered (each-sound (breaksOf t) (blank tagNothing) 0 t b k)
     go (inr k) = query (queryNotObject t) refl k
-    go (inl k) =
-        let r = each-sound (breaksOf t) (blank tagNothing) 0 t b k in
-        let i : ℕ = r .0 in
-        let c : List·Memᴰ b (breaksOf t i (definitionAt t i)) = subst (λ (j : ℕ). List·Memᴰ b (breaksOf t j (definitionAt t i))) (zero-add i) (r .2) in
-        let n = gather-sound (breaksOfRule t i (definitionAt t i)) rules b c in
-        let q = map-sound (break i (n .0 .number)) (n .0 .rule t i (definitionAt t i)) b (n .2) in
-        subst (Broken t) (sym (q .2)) (at-place i (n .0) (q .0) (r .1) (n .1) (q .1))
 
 pub breaks-complete : (t : Table) (b : Break) → Broken t b → List·Memᴰ b (breaks t)
 unfolding breaks breaksOf

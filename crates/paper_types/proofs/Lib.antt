@@ -3,10 +3,12 @@ pub mod ListsLaws
 pub mod TextLaws
 pub mod ReferenceLaws
 pub mod ReferenceTexts
+pub mod ReferenceSizes
 pub mod SubTypesLaws
 pub mod PiecesLaws
 pub mod Rising
 pub mod HolderLaws
+pub mod MeaningLaws
 pub mod Before
 pub mod LeastLaws
 pub mod RuleOrder

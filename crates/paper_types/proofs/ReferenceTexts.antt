@@ -60,7 +60,7 @@ letter-open b h = go (eqb b byteBracketL) refl
     go true q = absurd (false≢true (rw (eqb-true b byteBracketL q) at h))
     go false q = refl
 
-name-all : (n : List ℕ) → isName n ≡ true → allOf (oneOf letterOrDigit) n ≡ true
+pub name-all : (n : List ℕ) → isName n ≡ true → allOf (oneOf letterOrDigit) n ≡ true
 unfolding isName allOf
 name-all [] h = refl
 name-all (b ∷ n) h = go (oneOf letter b) refl h
