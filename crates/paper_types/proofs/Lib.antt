@@ -8,6 +8,7 @@ pub mod SubTypesLaws
 pub mod PiecesLaws
 pub mod Rising
 pub mod HolderLaws
+pub mod Filled
 pub mod MeaningLaws
 pub mod Before
 pub mod LeastLaws
