@@ -180,3 +180,71 @@ filled-complete inner [] d (piece at t s ∷ ps) e l = absurd (cons≢nil e)
 filled-complete inner (one k ∷ ss) d ps e l = let z = and-inv (not (inPlace k ss)) (distinct ss) d in fill-one inner k ss (not-inv _ (z .0)) (filled-complete inner ss (z .1)) ps e l
 filled-complete inner (atMostOne k ∷ ss) d ps e l = let z = and-inv (not (inPlace k ss)) (distinct ss) d in fill-at-most inner k ss (not-inv _ (z .0)) (filled-complete inner ss (z .1)) ps e l
 filled-complete inner (many k ∷ ss) d ps e l = let z = and-inv (not (inPlace k ss)) (distinct ss) d in fill-many inner k ss (not-inv _ (z .0)) (filled-complete inner ss (z .1)) ps e l
+
+-- The other way round.
+eqb-sym : (a b : ℕ) → eqb a b ≡ false → eqb b a ≡ false
+eqb-sym a b h = go (eqb b a) refl
+  where
+    go : (c : Bool) → eqb b a ≡ c → c ≡ false
+    go true q = absurd (true≢false (sym (eq-eqb a b (sym (eqb-true b a q))) ∙ h))
+    go false q = refl
+
+-- a tag without a slot is none of the fields
+filled-none : (inner : Offsets) (k : ℕ) {ss : List Slot} {ps : List Piece} → Filled inner ss ps → inPlace k ss ≡ false → anyOf (tagIs k) ps ≡ false
+unfolding anyOf
+filled-none inner k filled h = refl
+filled-none inner k (the-one {k = j} {ss = ss} e f) h = let z = or-inv (eqb k j) (inPlace k ss) h in rw (eqb-sym k j (z .0)) (filled-none inner k f (z .1))
+filled-none inner k (not-there {k = j} {ss = ss} f) h = filled-none inner k f (or-inv (eqb k j) (inPlace k ss) h .1)
+filled-none inner k (once {k = j} {ss = ss} e f) h = let z = or-inv (eqb k j) (inPlace k ss) h in rw (eqb-sym k j (z .0)) (filled-none inner k f (z .1))
+filled-none inner k (no-more {k = j} {ss = ss} f) h = filled-none inner k f (or-inv (eqb k j) (inPlace k ss) h .1)
+filled-none inner k (once-more {k = j} {ss = ss} e f) h = rw (eqb-sym k j (or-inv (eqb k j) (inPlace k ss) h .0)) (filled-none inner k f h)
+
+-- a slot before these of whose tag there is no field
+module _ (inner : Offsets) (k : ℕ) (ss : List Slot) (x : Slot) (for : (t : ℕ) → isFor t x ≡ eqb t k) (on : (t : ℕ) → eqb t k ≡ false → openAfter t (x ∷ ss) ≡ openAfter t ss) where
+  unpassed : (ps : List Piece) → anyOf (tagIs k) ps ≡ false → inOrder inner ss ps ≡ [] → inOrder inner (x ∷ ss) ps ≡ []
+  unfolding anyOf inOrder
+  unpassed [] h e = refl
+  unpassed (cut at ∷ ps) h e = absurd (cons≢nil e)
+  unpassed (piece at t s ∷ ps) h e =
+      let q = or-inv (eqb t k) (anyOf (tagIs k) ps) h .0 in
+      let r = order-inv inner ss at t s ps e in
+      order-right inner (x ∷ ss) at t s ps (record {
+        placed = ap (λ (b : Bool). b || inPlace t ss) (for t ∙ q) ∙ r .placed;
+        whole = r .whole;
+        rest = subst (λ (us : List Slot). inOrder inner us ps ≡ []) (sym (on t q)) (r .rest);
+      })
+
+-- a field in the first slot
+first-right : (inner : Offsets) (at k : ℕ) (s : List ℕ) (x : Slot) (ss left : List Slot) (ps : List Piece) → isFor k x ≡ true → openAfter k (x ∷ ss) ≡ left → inner at k s ≡ [] → inOrder inner left ps ≡ []
+    → inOrder inner (x ∷ ss) (piece at k s ∷ ps) ≡ []
+unfolding anyOf
+first-right inner at k s x ss left ps f o e r =
+    order-right inner (x ∷ ss) at k s ps (record { placed = ap (λ (b : Bool). b || inPlace k ss) f; whole = e; rest = subst (λ (us : List Slot). inOrder inner us ps ≡ []) (sym o) r })
+
+pub filled-sound : (inner : Offsets) {ss : List Slot} {ps : List Piece} → Filled inner ss ps → distinct ss ≡ true → (inOrder inner ss ps ≡ []) × (lacks ss ps ≡ false)
+unfolding anyOf inOrder openAfter
+filled-sound inner filled d = (refl, refl)
+filled-sound inner (the-one {at = at} {k = k} {s = s} {ss = ss} {ps = ps} e f) d =
+    let z = and-inv (not (inPlace k ss)) (distinct ss) d in
+    let r = filled-sound inner f (z .1) in
+    let q = eq-eqb k k refl in
+    (first-right inner at k s (one k) ss ss ps q (ap (λ (b : Bool). cond b ss (openAfter k ss)) q) e (r .0),
+    rw q (lacks-on at k s ps ss (not-inv _ (z .0)) ∙ r .1))
+filled-sound inner (not-there {k = k} {ss = ss} {ps = ps} f) d =
+    let z = and-inv (not (inPlace k ss)) (distinct ss) d in
+    let r = filled-sound inner f (z .1) in
+    (unpassed inner k ss (atMostOne k) (λ t. refl) (λ t q. ap (λ (b : Bool). cond b ss (openAfter t ss)) q) ps (filled-none inner k f (not-inv _ (z .0))) (r .0), r .1)
+filled-sound inner (once {at = at} {k = k} {s = s} {ss = ss} {ps = ps} e f) d =
+    let z = and-inv (not (inPlace k ss)) (distinct ss) d in
+    let r = filled-sound inner f (z .1) in
+    let q = eq-eqb k k refl in
+    (first-right inner at k s (atMostOne k) ss ss ps q (ap (λ (b : Bool). cond b ss (openAfter k ss)) q) e (r .0), lacks-on at k s ps ss (not-inv _ (z .0)) ∙ r .1)
+filled-sound inner (no-more {k = k} {ss = ss} {ps = ps} f) d =
+    let z = and-inv (not (inPlace k ss)) (distinct ss) d in
+    let r = filled-sound inner f (z .1) in
+    (unpassed inner k ss (many k) (λ t. refl) (λ t q. ap (λ (b : Bool). cond b (many k ∷ ss) (openAfter t ss)) q) ps (filled-none inner k f (not-inv _ (z .0))) (r .0), r .1)
+filled-sound inner (once-more {at = at} {k = k} {s = s} {ss = ss} {ps = ps} e f) d =
+    let z = and-inv (not (inPlace k ss)) (distinct ss) d in
+    let r = filled-sound inner f d in
+    let q = eq-eqb k k refl in
+    (first-right inner at k s (many k) ss (many k ∷ ss) ps q (ap (λ (b : Bool). cond b (many k ∷ ss) (openAfter k ss)) q) e (r .0), lacks-on at k s ps ss (not-inv _ (z .0)) ∙ r .1)
