@@ -16,6 +16,7 @@ pub mod RuleOrder
 pub mod BreakOrder
 pub mod TableFits
 pub mod Walk
+pub mod FramedLaws
 pub mod BreaksLaws
 pub mod JudgingLaws
 pub mod TableCallsOne

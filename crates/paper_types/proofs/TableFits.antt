@@ -16,7 +16,7 @@ use Rattle.paper_types.proofs.PiecesLaws.{Laid, nil, torn, next, pieces
 use Rattle.paper_types.proofs.RuleOrder.{Every, no-more, one-more, Fits}
 use Rattle.paper_types.proofs.BreakOrder.{AllFit, breaks-first}
 
-every-append : {A : Type 0} {P : A → Type 0} {xs ys : List A} → Every P xs → Every P ys → Every P (xs ++ ys)
+pub every-append : {A : Type 0} {P : A → Type 0} {xs ys : List A} → Every P xs → Every P ys → Every P (xs ++ ys)
 every-append no-more q = q
 every-append (one-more h p) q = one-more h (every-append p q)
 
