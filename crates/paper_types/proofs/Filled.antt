@@ -27,7 +27,7 @@ abbrev pub distinct : List Slot → Bool
 distinct [] = true
 distinct (x ∷ ss) = not (inPlace (slotTag x) ss) && distinct ss
 
-append-inv : {A : Type 0} (xs ys : List A) → xs ++ ys ≡ [] → (xs ≡ []) × (ys ≡ [])
+pub append-inv : {A : Type 0} (xs ys : List A) → xs ++ ys ≡ [] → (xs ≡ []) × (ys ≡ [])
 append-inv [] ys e = (refl, e)
 append-inv (x ∷ xs) ys e = absurd (cons≢nil e)
 
@@ -35,7 +35,7 @@ or-inv : (a b : Bool) → a || b ≡ false → (a ≡ false) × (b ≡ false)
 or-inv true b e = absurd (true≢false e)
 or-inv false b e = (refl, e)
 
-and-inv : (a b : Bool) → a && b ≡ true → (a ≡ true) × (b ≡ true)
+pub and-inv : (a b : Bool) → a && b ≡ true → (a ≡ true) × (b ≡ true)
 and-inv true b e = (refl, e)
 and-inv false b e = absurd (false≢true e)
 

@@ -17,6 +17,7 @@ pub mod BreakOrder
 pub mod TableFits
 pub mod Walk
 pub mod FramedLaws
+pub mod FramedTable
 pub mod BreaksLaws
 pub mod JudgingLaws
 pub mod TableCallsOne
