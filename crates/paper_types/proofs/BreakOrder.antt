@@ -11,9 +11,10 @@ use Rattle.paper_types.specs.Lists.{gather}
 use Rattle.paper_types.specs.Types.{Definition, Table}
 use Rattle.paper_types.specs.Rules.{Place, wholeOf, Rule, queryNotObject}
 use Rattle.paper_types.specs.Judging.{r, rules, Break, break, breaksOf, breaks, numbersOf, leastBreak}
+use Rattle.paper_types.proofs.Every.{Every}
 use Rattle.paper_types.proofs.Before.{Before, empty, less, same, before-refl, Rise, done, then, rise-lower, rise-higher, rise-append, rise-one}
 use Rattle.paper_types.proofs.LeastLaws.{rise-least}
-use Rattle.paper_types.proofs.RuleOrder.{Every, no-more, one-more, Fits, each-rises, keyOf, Ordered, RuleOrdered, reservedName-ordered, nameKnown-ordered, noMembers-ordered, nameRepeated-ordered, reservedMember-ordered, enumValue-ordered, noType-ordered, wrongBase-ordered, notObjectOrInterface-ordered, implementedTwice-ordered, fieldMissing-ordered, fieldType-ordered, argumentMissing-ordered, argumentType-ordered, argumentExtra-ordered, rootNotObject-ordered}
+use Rattle.paper_types.proofs.RuleOrder.{Fits, each-rises, keyOf, Ordered, RuleOrdered, reservedName-ordered, nameKnown-ordered, noMembers-ordered, nameRepeated-ordered, reservedMember-ordered, enumValue-ordered, noType-ordered, wrongBase-ordered, notObjectOrInterface-ordered, implementedTwice-ordered, fieldMissing-ordered, fieldType-ordered, argumentMissing-ordered, argumentType-ordered, argumentExtra-ordered, rootNotObject-ordered}
 
 below : (n : ℕ) → n < suc n
 below n = le-refl (suc n)

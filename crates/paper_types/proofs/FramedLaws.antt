@@ -11,8 +11,7 @@ use Rattle.paper_types.specs.References.{isName, Ref, refOf, found, isRe
 use Rattle.paper_types.specs.House.{Piece, piece, cut, pieces, inside, Slot, one, atMostOne, many, Content, aName, aReference, noTag, holds, contents, lookUp, contentOf, lacks, Offsets, inOrder, orLacking, byContent, wrongs, mostDeep, recordInPlace, tableWrongs, smallest, smaller, framing}
 use Rattle.paper_types.specs.Types.{Argument, Member, Definition, textOf, nameIn, typeIn, argumentIn, argumentOf, fieldIn, inputIn, nameOnly, memberOf, implementedOf, definitionIn, definitionOf, tableOf}
 use Rattle.paper_types.proofs.ReferenceTexts.{Written, refOf-sound}
-use Rattle.paper_types.proofs.RuleOrder.{Every, no-more, one-more}
-use Rattle.paper_types.proofs.TableFits.{every-append}
+use Rattle.paper_types.proofs.Every.{Every, no-more, one-more, every-append}
 use Rattle.paper_types.proofs.Filled.{Filled, filled, the-one, not-there, once, slotTag, distinct, filled-complete}
 
 -- A field that is right, by its content.

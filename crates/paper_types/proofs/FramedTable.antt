@@ -11,7 +11,7 @@ use Rattle.paper_types.specs.TableNumbers.{tagScalar, tagRoots}
 use Rattle.paper_types.specs.Lists.{gather}
 use Rattle.paper_types.specs.House.{Piece, piece, cut, pieces, wrongs, mostDeep, recordInPlace, tableWrongs, smallest, smaller, framing}
 use Rattle.paper_types.specs.Types.{Definition, definitionIn, definitionOf, tableOf}
-use Rattle.paper_types.proofs.RuleOrder.{Every, no-more, one-more}
+use Rattle.paper_types.proofs.Every.{Every, no-more, one-more}
 use Rattle.paper_types.proofs.Filled.{append-inv, and-inv}
 use Rattle.paper_types.proofs.FramedLaws.{RightDefinition, scalar-right, object-right, interface-right, union-right, enum-right, input-object-right, directive-right, roots-right}
 
@@ -63,9 +63,3 @@ framing-wrongs s e = smallest-none (tableWrongs true (pieces 0 s)) e
 pub framing-right : (s : List ℕ) → framing s ≡ none → Every RightDefinition (tableOf s)
 unfolding tableOf
 framing-right s e = table-right (pieces 0 s) true (framing-wrongs s e)
-
--- number i of a list whose elements all have a property has it
-pub every-at : {A : Type 0} (P : A → Type 0) {xs : List A} → Every P xs → (d : A) (i : ℕ) → suc i ≤ lib.ListN.length xs → P (lib.ListN.getD xs i d)
-every-at P no-more d i h = absurd (omega arith)
-every-at P (one-more p ps) d zero h = p
-every-at P (one-more p ps) d (suc i) h = every-at P ps d i (omega arith)

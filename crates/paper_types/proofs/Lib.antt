@@ -1,5 +1,6 @@
 -- Laws of the definitions of the type table, and worked examples. Nothing here need be believed.
 pub mod ListsLaws
+pub mod Every
 pub mod TextLaws
 pub mod ReferenceLaws
 pub mod ReferenceTexts
@@ -19,6 +20,7 @@ pub mod Walk
 pub mod FramedLaws
 pub mod FramedTable
 pub mod BreaksLaws
+pub mod RootsLaws
 pub mod JudgingLaws
 pub mod TableCallsOne
 pub mod WorkedTables
