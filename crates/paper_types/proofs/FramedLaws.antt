@@ -1,15 +1,15 @@
 -- What a table whose framing is right holds: names that are names, references that are references, and in each record the members due there.
-use mathlib.Core.Path.{_≡_, refl, sym, ap, subst, _∙_}
-use mathlib.Core.Bool.{Bool, true, false, not, _&&_, _||_, cond, true≢false, false≢true}
+use mathlib.Core.Path.{_≡_, refl, sym, subst}
+use mathlib.Core.Bool.{Bool, true, false, not, _&&_, false≢true}
 use mathlib.Core.Option.{Option, none, some}
-use mathlib.Core.List.{List, [], _∷_, _++_, cons≢nil}
-use Prim.Native.Nat.{ℕ, suc, _+_}
-use lib.Dec.{eqb, leb}
+use mathlib.Core.List.{List, [], _∷_, cons≢nil}
+use Prim.Native.Nat.{ℕ, suc}
+use lib.Dec.{leb}
 use Rattle.paper_types.specs.TableNumbers.{tagScalar, tagObject, tagInterface, tagUnion, tagEnum, tagInputObject, tagDirective, tagRoots, tagName, tagImplements, tagField, tagArgument, tagReference, tagUnionMember, tagEnumValue, tagQueryRoot, tagMutationRoot, tagSubscriptionRoot}
 use Rattle.paper_types.specs.Lists.{anyOf, gather, onlyIf}
 use Rattle.paper_types.specs.References.{isName, Ref, refOf, found, isReference}
-use Rattle.paper_types.specs.House.{Piece, piece, cut, pieces, inside, Slot, one, atMostOne, many, Content, aName, aReference, noTag, holds, contents, lookUp, contentOf, lacks, Offsets, inOrder, orLacking, byContent, wrongs, mostDeep, recordInPlace, tableWrongs, smallest, smaller, framing}
-use Rattle.paper_types.specs.Types.{Argument, Member, Definition, textOf, nameIn, typeIn, argumentIn, argumentOf, fieldIn, inputIn, nameOnly, memberOf, implementedOf, definitionIn, definitionOf, tableOf}
+use Rattle.paper_types.specs.House.{Piece, piece, inside, Slot, one, atMostOne, many, aName, aReference, holds, contents, lookUp, contentOf, lacks, Offsets, inOrder, orLacking, byContent, wrongs, mostDeep}
+use Rattle.paper_types.specs.Types.{Argument, Member, Definition, textOf, nameIn, typeIn, argumentOf, fieldIn, inputIn, nameOnly, memberOf, implementedOf, definitionIn}
 use Rattle.paper_types.proofs.ReferenceTexts.{Written, refOf-sound}
 use Rattle.paper_types.proofs.Every.{Every, no-more, one-more, every-append}
 use Rattle.paper_types.proofs.Filled.{Filled, filled, the-one, not-there, once, slotTag, distinct, filled-complete}

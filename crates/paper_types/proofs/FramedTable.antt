@@ -1,5 +1,5 @@
 -- Every definition of a table whose framing is right is a right one.
-use mathlib.Core.Path.{_≡_, refl, subst}
+use mathlib.Core.Path.{_≡_, refl}
 use mathlib.Core.Bool.{Bool, true, false, not, _&&_, _||_, cond, false≢true}
 use mathlib.Core.Option.{Option, none, some}
 use mathlib.Core.List.{List, [], _∷_, _++_, cons≢nil}
@@ -10,7 +10,7 @@ use borrow.Author.Tests.{leb-true}
 use Rattle.paper_types.specs.TableNumbers.{tagScalar, tagRoots}
 use Rattle.paper_types.specs.Lists.{gather}
 use Rattle.paper_types.specs.House.{Piece, piece, cut, pieces, wrongs, mostDeep, recordInPlace, tableWrongs, smallest, smaller, framing}
-use Rattle.paper_types.specs.Types.{Definition, definitionIn, definitionOf, tableOf}
+use Rattle.paper_types.specs.Types.{definitionIn, definitionOf, tableOf}
 use Rattle.paper_types.proofs.Every.{Every, no-more, one-more}
 use Rattle.paper_types.proofs.Filled.{append-inv, and-inv}
 use Rattle.paper_types.proofs.FramedLaws.{RightDefinition, scalar-right, object-right, interface-right, union-right, enum-right, input-object-right, directive-right, roots-right}

@@ -9,7 +9,7 @@ use lib.ListN.{length, take, drop, getD, getElem?, drop-of-length-le}
 use lib.Seq.{drop-cons}
 use lib.Dec.{ltb, leb·suc-suc}
 use borrow.Author.Tests.{lt-ltb, le-ltb}
-use Rattle.paper_types.specs.Lists.{anyOf, firstAt, find, eachFrom, each}
+use Rattle.paper_types.specs.Lists.{anyOf, firstAt, find, eachFrom}
 
 module _ {A : Type 0} where
   -- the first of two lists joined is the first of the first, or where that is empty the second's

@@ -1,8 +1,8 @@
 -- A table of at most 32,768 bytes has members and arguments whose numbers are below 65,535; so its least break is its first.
-use mathlib.Core.Path.{_≡_, refl, ap}
+use mathlib.Core.Path.{_≡_}
 use mathlib.Core.Bool.{Bool, true, false, cond}
-use mathlib.Core.List.{List, [], _∷_, _++_, head?}
-use Prim.Native.Nat.{ℕ, suc, _+_, _≤_}
+use mathlib.Core.List.{List, [], _∷_, head?}
+use Prim.Native.Nat.{ℕ, _+_, _≤_}
 use native.Mathlib.Nat.{le-refl, le-trans}
 use native.Mathlib.Omega.{arith}
 use lib.ListN.{length}
@@ -10,7 +10,7 @@ use lib.Dec.{eqb, leb}
 use Rattle.paper_types.specs.TableNumbers.{mostTable, noPlace, tagField, tagArgument, tagUnionMember}
 use Rattle.paper_types.specs.Lists.{gather, onlyIf}
 use Rattle.paper_types.specs.House.{Piece, piece, cut, pieces, inside}
-use Rattle.paper_types.specs.Types.{Argument, Member, Definition, argumentIn, argumentOf, fieldIn, inputIn, nameOnly, memberOf, definitionOf, tableOf}
+use Rattle.paper_types.specs.Types.{Argument, argumentIn, argumentOf, fieldIn, inputIn, nameOnly, memberOf, definitionOf, tableOf}
 use Rattle.paper_types.specs.Judging.{breaks, leastBreak}
 use Rattle.paper_types.proofs.PiecesLaws.{Laid, nil, torn, next, pieces-laid, laid-size}
 use Rattle.paper_types.proofs.Every.{Every, no-more, one-more, every-gather, gather-size}
@@ -54,8 +54,10 @@ member-fits n h (piece at tag s) e = go (eqb tag tagField) (eqb tag tagArgument)
   where
     few : length (gather argumentOf (inside at s)) ≤ noPlace
     few = le-trans (gather-size argumentOf one-argument (inside at s)) (le-trans (inside-size n at s e) h)
+
     nothing : 0 ≤ noPlace
     nothing = omega arith
+
     go : (a b c : Bool)
         → Every Fits (cond a (fieldIn at s ∷ []) (cond b (inputIn at s ∷ []) (onlyIf c (nameOnly tag s))))
     go true b c = one-more few no-more

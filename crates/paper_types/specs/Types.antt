@@ -1,7 +1,7 @@
 -- A table as types: its definitions with their members and references, and what a name means.
 -- States: 01, "The type table": "A name means the first type so named. The five built-in scalars, skip and include are always known."
 -- Assumes nothing.
-use mathlib.Core.Bool.{Bool, true, false, _&&_, _||_, cond}
+use mathlib.Core.Bool.{Bool, _&&_, _||_, cond}
 use mathlib.Core.Option.{Option, none, some}
 use mathlib.Core.List.{List, [], _∷_}
 use Prim.Native.Nat.{ℕ}
