@@ -16,7 +16,7 @@ use Rattle.paper_types.proofs.Filled.{append-inv, and-inv}
 use Rattle.paper_types.proofs.FramedLaws.{RightDefinition, scalar-right, object-right, interface-right, union-right, enum-right, input-object-right, directive-right, roots-right}
 
 -- a number from 1 to 8
-one-of-eight : (P : ℕ → Type 0) → P 1 → P 2 → P 3 → P 4 → P 5 → P 6 → P 7 → P 8 → (n : ℕ) → 1 ≤ n → n ≤ 8 → P n
+pub one-of-eight : (P : ℕ → Type 0) → P 1 → P 2 → P 3 → P 4 → P 5 → P 6 → P 7 → P 8 → (n : ℕ) → 1 ≤ n → n ≤ 8 → P n
 one-of-eight P a b c d e f g h zero lo hi = absurd (omega arith)
 one-of-eight P a b c d e f g h (suc zero) lo hi = a
 one-of-eight P a b c d e f g h (suc (suc zero)) lo hi = b

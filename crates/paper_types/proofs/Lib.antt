@@ -7,6 +7,7 @@ pub mod ReferenceTexts
 pub mod ReferenceSizes
 pub mod SubTypesLaws
 pub mod PiecesLaws
+pub mod PartsLaws
 pub mod Rising
 pub mod HolderLaws
 pub mod Filled
@@ -19,6 +20,7 @@ pub mod TableFits
 pub mod Walk
 pub mod FramedLaws
 pub mod FramedTable
+pub mod DeepEnough
 pub mod BreaksLaws
 pub mod RootsLaws
 pub mod JudgingLaws
