@@ -9,7 +9,7 @@ use Rattle.paper_types.specs.TableNumbers.{ruleRoot}
 use Rattle.paper_types.specs.Lists.{bytes, find, anyOf}
 use Rattle.paper_types.specs.Types.{Member, Definition, Table, isObject, isRoots, blank, tagNothing, meant, rootsIn, rootsOf}
 use Rattle.paper_types.specs.Rules.{memberAt, wholeOf, rootNotObject, queryNotObject}
-use Rattle.paper_types.specs.Judging.{r, rules, breaks, break}
+use Rattle.paper_types.specs.Judging.{numbered, rules, breaks, break}
 use Rattle.paper_types.proofs.ListsLaws.{find-some, find-none}
 use Rattle.paper_types.proofs.Every.{Every, no-more, one-more, every-passes}
 use Rattle.paper_types.proofs.Walk.{definitionAt}
@@ -19,7 +19,7 @@ use Rattle.paper_types.proofs.BreaksLaws.{at-query, breaks-none, rule-k
 abbrev pub IsObjectRoot : Table → Member → Type 0
 IsObjectRoot t e = not (isObject (meant t (e .name))) ≡ false
 
-last-rule : List·Memᴰ (r ruleRoot rootNotObject) rules
+last-rule : List·Memᴰ (numbered ruleRoot rootNotObject) rules
 unfolding rules
 last-rule =
     List·Memᴰ·tail (List·Memᴰ·tail (List·Memᴰ·tail (List·Memᴰ·tail (List·Memᴰ·tail (List·Memᴰ·tail (List·Memᴰ·tail (List·Memᴰ·tail (List·Memᴰ·tail (List·Memᴰ·tail (List·Memᴰ·tail (List·Memᴰ·tail
@@ -35,7 +35,7 @@ rootsOf-objects t e = go (find isRoots t) refl
 
     written : (d : Definition) (i : ℕ) → i < length t → definitionAt t i ≡ d → isRoots d ≡ true → Every (IsObjectRoot t) (d .members)
     written d i h q b =
-        let k : rootNotObject t i d ≡ [] = subst (λ (c : Definition). rootNotObject t i c ≡ []) q (rule-kept t e i h (r ruleRoot rootNotObject) last-rule) in
+        let k : rootNotObject t i d ≡ [] = subst (λ (c : Definition). rootNotObject t i c ≡ []) q (rule-kept t e i h (numbered ruleRoot rootNotObject) last-rule) in
         every-passes (λ (c : Member). not (isObject (meant t (c .name)))) (λ m c. memberAt m) 0 (d .members) (rw b at k)
 
     go : (o : Option Definition) → find isRoots t ≡ o → Every (IsObjectRoot t) (rootsIn o)
