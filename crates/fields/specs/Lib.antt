@@ -1,0 +1,2 @@
+-- What the readers of a table's parts answer.
+pub mod Fields
