@@ -1,5 +1,6 @@
 -- One house field, by places of the table.
 -- Assumes nothing.
+use mathlib.Core.Path.{_≡_}
 use mathlib.Core.Bool.{Bool, true, false, cond}
 use mathlib.Core.List.{List, [], _∷_}
 use Prim.Native.Nat.{ℕ, _+_, _-_, _*_, _≤_, _<_}
@@ -8,6 +9,7 @@ use lib.Seq.{slice}
 use lib.Dec.{leb, ltb}
 use Rattle.paper_types.specs.TableNumbers.{mostTable}
 use Rattle.paper_types.specs.House.{Piece, piece, cut, pieces}
+use Rattle.paper_types.specs.Types.{textOf}
 use Rattle.fields.specs.declared.FieldRead.{FieldRead}
 use Rattle.fields.specs.declared.FieldRead.the-variants.{Field, Cut}
 
@@ -31,3 +33,10 @@ fieldAt t at end =
 abbrev pub piecesBy : List ℕ → ℕ → ℕ → FieldRead → List Piece
 piecesBy t at end (Field tag start stop) = piece at tag (slice start stop t) ∷ pieces stop (slice stop end t)
 piecesBy t at end Cut = cut at ∷ []
+
+-- from `from` up to `to` stands the content of the first field of a tag, among those from `at` on; no bytes if there is none
+pub record Finds (t : List ℕ) (at end tag from to : ℕ) : Type 0 where
+  pub text : slice from to t ≡ textOf tag (pieces at (slice at end t))
+  pub begins : at ≤ from
+  pub order : from ≤ to
+  pub within : to ≤ end
