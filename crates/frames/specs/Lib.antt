@@ -1,0 +1,2 @@
+-- What the readers of a table's frame answer.
+pub mod Holders
