@@ -23,6 +23,10 @@ isMany k = leb tagImplements k && leb k tagEnumValue && not (eqb k tagReference)
 abbrev pub leastAfter : ℕ → ℕ
 leastAfter k = cond (isMany k) (rank k) (rank k + 1)
 
+-- a field of this tag is in place from the least rank on, in a holder of these
+abbrev pub placed : ℕ → ℕ → ℕ → ℕ → ℕ → Bool
+placed first from to least k = leb least (rank k) && (eqb k first || leb from k && leb k to)
+
 abbrev pub slotTag : Slot → ℕ
 slotTag (one k) = k
 slotTag (atMostOne k) = k
