@@ -26,6 +26,10 @@ take-drop n (suc a) (x ∷ l) = let e : suc a + n ≡ suc (a + n) = omega arith 
 pub slice-take : (t : List ℕ) (a e n : ℕ) → a + n ≤ e → take n (slice a e t) ≡ slice a (a + n) t
 slice-take t a e n h = take-drop n a (take e t) ∙ ap (drop a) (take-take (a + n) e t h)
 
+-- by the number of its bytes
+pub slice-part : (t : List ℕ) (a e : ℕ) → a ≤ e → slice a e t ≡ take (e - a) (drop a t)
+slice-part t a e h = let q : e ≡ a + (e - a) = omega arith in ap (λ (m : ℕ). slice a m t) q ∙ sym (take-drop (e - a) a t)
+
 -- no byte is left; the next byte
 pub slice-none : (t : List ℕ) (a e : ℕ) → e ≤ a → e ≤ length t → slice a e t ≡ []
 slice-none t a e h w = drop-of-length-le (take e t) (let q : length (take e t) ≤ a = omega (arith, length-take-le e t w) in q)

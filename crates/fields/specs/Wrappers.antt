@@ -18,12 +18,6 @@ packOf (named n) = 0
 packOf (listOf r) = 4 * packOf r + 1
 packOf (nonNull r) = 4 * packOf r + 2
 
--- how many there are
-unfoldable pub wrapperCount : Ref → ℕ
-wrapperCount (named n) = 0
-wrapperCount (listOf r) = 1 + wrapperCount r
-wrapperCount (nonNull r) = 1 + wrapperCount r
-
 -- seven fit
 abbrev pub packLimit : ℕ
 packLimit = 16384

@@ -180,11 +180,12 @@ fn first_wrong(t: &[u8], at: usize, tag: u8, end: usize, depth: u32) -> Framed
         least = least_after(k);
         i = e;
     }
+    let lacking = at as u32;
     if !has_tag(t, at + 3, end, first) {
-        return Framed::Wrong(at as u32);
+        return Framed::Wrong(lacking);
     }
     if !has_tag(t, at + 3, end, second) {
-        return Framed::Wrong(at as u32);
+        return Framed::Wrong(lacking);
     }
     Framed::Right
 }

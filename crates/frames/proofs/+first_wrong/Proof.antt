@@ -61,8 +61,8 @@ lies : (t : ℕ) (c : first-wrong-lts.After-k (first-wrong-calls t) (first-wrong
 lies t c =
     field-lies (c .before .before .before .before .before .before .before .before .before .before .before .args .t .now) (c .before .before .before .before .loop .i) (c .before .before .before .before .before .before .before .before .before .before .before .args .end) _ _ _ (c .before .before .before .before .loop .inv .order) (read t c)
 
-first-wrong-cast-t17 : (t : ℕ) → first-wrong-lts.Need-cast-t17 (first-wrong-calls t) (first-wrong-at t) first-wrong.Post first-wrong-Inv-loop first-wrong-μ-loop
-first-wrong-cast-t17 t c = omega (arith, c .before .before .pre .1 .order, c .before .before .pre .1 .within, c .before .before .pre .1 .most)
+first-wrong-cast-t18 : (t : ℕ) → first-wrong-lts.Need-cast-t18 (first-wrong-calls t) (first-wrong-at t) first-wrong.Post first-wrong-Inv-loop first-wrong-μ-loop
+first-wrong-cast-t18 t c = omega (arith, c .before .before .pre .1 .order, c .before .before .pre .1 .within, c .before .before .pre .1 .most)
 
 first-wrong-returns : (t : ℕ) → first-wrong-lts.Need-returns (first-wrong-calls t) (first-wrong-at t) first-wrong.Post first-wrong-Inv-loop first-wrong-μ-loop
 first-wrong-returns t c = wrong-deep (c .before .before .args .depth) (c .before .before .args .at) (c .before .before .args .tag) (slice (c .before .before .args .at + 3) (c .before .before .args .end) (c .before .before .args .t .now)) (c .if1 .taken)
@@ -82,8 +82,8 @@ first-wrong-is-leaf-requires t c κs = c .before .before .before .before .pre .1
 first-wrong-returns-2 : (t : ℕ) → first-wrong-lts.Need-returns-2 (first-wrong-calls t) (first-wrong-at t) first-wrong.Post first-wrong-Inv-loop first-wrong-μ-loop
 first-wrong-returns-2 t c = leaf-is (c .before .before .before .before .before .before .args .depth) (c .before .before .before .before .before .before .args .at) (c .before .before .before .before .before .before .args .tag) (slice (c .before .before .before .before .before .before .args .at + 3) (c .before .before .before .before .before .before .args .end) (c .before .before .before .before .before .before .args .t .now)) (c .before .before .before .content-of .result) true (c .before .is-leaf .result) (c .before .before .before .before .if1 .left) (c .before .before .before .content-of .ensures) (c .before .before .match .keys2) (c .before .is-leaf .ensures) (c .if2 .taken)
 
-first-wrong-cast-t20 : (t : ℕ) → first-wrong-lts.Need-cast-t20 (first-wrong-calls t) (first-wrong-at t) first-wrong.Post first-wrong-Inv-loop first-wrong-μ-loop
-first-wrong-cast-t20 t c = omega (arith, c .before .before .before .before .before .before .pre .1 .order, c .before .before .before .before .before .before .pre .1 .within, c .before .before .before .before .before .before .pre .1 .most)
+first-wrong-cast-t21 : (t : ℕ) → first-wrong-lts.Need-cast-t21 (first-wrong-calls t) (first-wrong-at t) first-wrong.Post first-wrong-Inv-loop first-wrong-μ-loop
+first-wrong-cast-t21 t c = omega (arith, c .before .before .before .before .before .before .pre .1 .order, c .before .before .before .before .before .before .pre .1 .within, c .before .before .before .before .before .before .pre .1 .most)
 
 first-wrong-returns-3 : (t : ℕ) → first-wrong-lts.Need-returns-3 (first-wrong-calls t) (first-wrong-at t) first-wrong.Post first-wrong-Inv-loop first-wrong-μ-loop
 first-wrong-returns-3 t c = leaf-is (c .before .before .before .before .before .before .args .depth) (c .before .before .before .before .before .before .args .at) (c .before .before .before .before .before .before .args .tag) (slice (c .before .before .before .before .before .before .args .at + 3) (c .before .before .before .before .before .before .args .end) (c .before .before .before .before .before .before .args .t .now)) (c .before .before .before .content-of .result) false (c .before .is-leaf .result) (c .before .before .before .before .if1 .left) (c .before .before .before .content-of .ensures) (c .before .before .match .keys2) (c .before .is-leaf .ensures) (c .if2 .left)
@@ -103,8 +103,8 @@ first-wrong-enum-known-k t c = search needs
 first-wrong-enum-told : (t : ℕ) → first-wrong-lts.Need-enum-told (first-wrong-calls t) (first-wrong-at t) first-wrong.Post first-wrong-Inv-loop first-wrong-μ-loop
 first-wrong-enum-told t c = search needs
 
-first-wrong-cast-t23 : (t : ℕ) → first-wrong-lts.Need-cast-t23 (first-wrong-calls t) (first-wrong-at t) first-wrong.Post first-wrong-Inv-loop first-wrong-μ-loop
-first-wrong-cast-t23 t c = omega (arith, c .before .before .before .before .loop .inv .order, c .before .before .before .before .before .before .before .before .before .before .before .pre .1 .within, c .before .before .before .before .before .before .before .before .before .before .before .pre .1 .most)
+first-wrong-cast-t24 : (t : ℕ) → first-wrong-lts.Need-cast-t24 (first-wrong-calls t) (first-wrong-at t) first-wrong.Post first-wrong-Inv-loop first-wrong-μ-loop
+first-wrong-cast-t24 t c = omega (arith, c .before .before .before .before .loop .inv .order, c .before .before .before .before .before .before .before .before .before .before .before .pre .1 .within, c .before .before .before .before .before .before .before .before .before .before .before .pre .1 .most)
 
 first-wrong-returns-4 : (t : ℕ) → first-wrong-lts.Need-returns-4 (first-wrong-calls t) (first-wrong-at t) first-wrong.Post first-wrong-Inv-loop first-wrong-μ-loop
 first-wrong-returns-4 t c = ordered-torn (c .before .before .before .before .before .before .before .before .before .before .before .args .t .now) (c .before .before .before .before .before .before .before .before .before .before .before .args .at) (c .before .before .before .before .before .before .before .before .before .before .before .args .tag) (c .before .before .before .before .before .before .before .before .before .before .before .args .end) (c .before .before .before .before .before .before .before .before .before .before .before .args .depth) _ _ _ _ _ (c .before .before .before .before .loop .i) (c .before .before .before .before .before .before .before .before .before .before .before .pre .1 .within) (c .before .before .before .before .before .before .before .before .before .if1 .left) (c .before .before .before .before .loop .inv) (c .before .before .before .loop-test .taken) (sym (c .before .before .read-field .ensures) ∙ c .enum-told .given .1)
@@ -112,8 +112,8 @@ first-wrong-returns-4 t c = ordered-torn (c .before .before .before .before .bef
 first-wrong-in-place-requires : (t : ℕ) → first-wrong-lts.Need-in-place-requires (first-wrong-calls t) (first-wrong-at t) first-wrong.Post first-wrong-Inv-loop first-wrong-μ-loop
 first-wrong-in-place-requires t c κs = search needs
 
-first-wrong-cast-t25 : (t : ℕ) → first-wrong-lts.Need-cast-t25 (first-wrong-calls t) (first-wrong-at t) first-wrong.Post first-wrong-Inv-loop first-wrong-μ-loop
-first-wrong-cast-t25 t c = omega (arith, c .before .before .before .before .before .before .before .loop .inv .order, c .before .before .before .before .before .before .before .before .before .before .before .before .before .before .pre .1 .within, c .before .before .before .before .before .before .before .before .before .before .before .before .before .before .pre .1 .most)
+first-wrong-cast-t26 : (t : ℕ) → first-wrong-lts.Need-cast-t26 (first-wrong-calls t) (first-wrong-at t) first-wrong.Post first-wrong-Inv-loop first-wrong-μ-loop
+first-wrong-cast-t26 t c = omega (arith, c .before .before .before .before .before .before .before .loop .inv .order, c .before .before .before .before .before .before .before .before .before .before .before .before .before .before .pre .1 .within, c .before .before .before .before .before .before .before .before .before .before .before .before .before .before .pre .1 .most)
 
 first-wrong-returns-5 : (t : ℕ) → first-wrong-lts.Need-returns-5 (first-wrong-calls t) (first-wrong-at t) first-wrong.Post first-wrong-Inv-loop first-wrong-μ-loop
 first-wrong-returns-5 t c = ordered-out (c .before .before .before .before .before .before .before .before .before .before .before .before .before .before .args .t .now) (c .before .before .before .before .before .before .before .before .before .before .before .before .before .before .args .at) (c .before .before .before .before .before .before .before .before .before .before .before .before .before .before .args .tag) (c .before .before .before .before .before .before .before .before .before .before .before .before .before .before .args .end) (c .before .before .before .before .before .before .before .before .before .before .before .before .before .before .args .depth) _ _ _ _ _ (c .before .before .before .before .before .before .before .loop .i) (c .before .before .before .before .before .before .before .before .before .before .before .before .before .before .pre .1 .within) (c .before .before .before .before .before .before .before .before .before .before .before .before .if1 .left) (c .before .before .before .before .before .before .before .loop .inv) (c .before .before .before .before .before .before .loop-test .taken) _ _ _ (read t ((c .before .before .before))) _ (c .before .in-place .ensures) (not-true _ (c .if3 .taken))
@@ -142,14 +142,14 @@ first-wrong-loop-less t c = let l = lies t ((c .before .before .before .before .
 first-wrong-loop-again : (t : ℕ) → first-wrong-lts.Need-loop-again (first-wrong-calls t) (first-wrong-at t) first-wrong.Post first-wrong-Inv-loop first-wrong-μ-loop
 first-wrong-loop-again t c = ordered-on (c .before .before .before .before .before .before .before .before .before .before .before .before .before .before .before .before .before .before .args .t .now) (c .before .before .before .before .before .before .before .before .before .before .before .before .before .before .before .before .before .before .args .at) (c .before .before .before .before .before .before .before .before .before .before .before .before .before .before .before .before .before .before .args .tag) (c .before .before .before .before .before .before .before .before .before .before .before .before .before .before .before .before .before .before .args .end) (c .before .before .before .before .before .before .before .before .before .before .before .before .before .before .before .before .before .before .args .depth) _ _ _ _ _ (c .before .before .before .before .before .before .before .before .before .before .before .loop .i) (c .before .before .before .before .before .before .before .before .before .before .before .before .before .before .before .before .before .before .pre .1 .within) (c .before .before .before .before .before .before .before .before .before .before .before .before .before .before .before .before .if1 .left) (c .before .before .before .before .before .before .before .before .before .before .before .loop .inv) (c .before .before .before .before .before .before .before .before .before .before .loop-test .taken) _ _ _ (read t ((c .before .before .before .before .before .before .before))) _ (c .before .before .before .before .before .in-place .ensures) (not-false _ (c .before .before .before .before .if3 .left)) _ (c .before .before .before .first-wrong .ensures) (c .before .enum-told2 .given .1) _ (c .least-after .ensures)
 
+first-wrong-cast-lacking : (t : ℕ) → first-wrong-lts.Need-cast-lacking (first-wrong-calls t) (first-wrong-at t) first-wrong.Post first-wrong-Inv-loop first-wrong-μ-loop
+first-wrong-cast-lacking t c = omega (arith, c .before .before .before .before .before .before .before .before .pre .1 .order, c .before .before .before .before .before .before .before .before .pre .1 .within, c .before .before .before .before .before .before .before .before .pre .1 .most)
+
 first-wrong-add-has-tag : (t : ℕ) → first-wrong-lts.Need-add-has-tag (first-wrong-calls t) (first-wrong-at t) first-wrong.Post first-wrong-Inv-loop first-wrong-μ-loop
 first-wrong-add-has-tag t c = omega (arith, c .before .before .before .before .before .before .before .before .pre .1 .order, c .before .before .before .before .before .before .before .before .pre .1 .within, c .before .before .before .before .before .before .before .before .pre .1 .most)
 
 first-wrong-has-tag-requires : (t : ℕ) → first-wrong-lts.Need-has-tag-requires (first-wrong-calls t) (first-wrong-at t) first-wrong.Post first-wrong-Inv-loop first-wrong-μ-loop
 first-wrong-has-tag-requires t c κs = c .before .before .before .before .before .before .before .before .pre .1
-
-first-wrong-cast-t29 : (t : ℕ) → first-wrong-lts.Need-cast-t29 (first-wrong-calls t) (first-wrong-at t) first-wrong.Post first-wrong-Inv-loop first-wrong-μ-loop
-first-wrong-cast-t29 t c = omega (arith, c .before .before .before .before .before .before .before .before .before .before .pre .1 .order, c .before .before .before .before .before .before .before .before .before .before .pre .1 .within, c .before .before .before .before .before .before .before .before .before .before .pre .1 .most)
 
 first-wrong-returns-7 : (t : ℕ) → first-wrong-lts.Need-returns-7 (first-wrong-calls t) (first-wrong-at t) first-wrong.Post first-wrong-Inv-loop first-wrong-μ-loop
 first-wrong-returns-7 t c = ordered-first (c .before .before .before .before .before .before .before .before .before .before .args .t .now) (c .before .before .before .before .before .before .before .before .before .before .args .at) (c .before .before .before .before .before .before .before .before .before .before .args .tag) (c .before .before .before .before .before .before .before .before .before .before .args .end) (c .before .before .before .before .before .before .before .before .before .before .args .depth) _ _ _ _ _ (c .before .before .before .loop .i) (c .before .before .before .before .before .before .before .before .before .before .pre .1 .within) (c .before .before .before .before .before .before .before .before .if1 .left) (c .before .before .before .loop .inv) (c .before .before .loop-test .left) _ (c .before .has-tag .ensures) (not-true _ (c .if4 .taken))
@@ -159,9 +159,6 @@ first-wrong-add-has-tag-2 t c = omega (arith, c .before .before .before .before 
 
 first-wrong-has-tag-requires-2 : (t : ℕ) → first-wrong-lts.Need-has-tag-requires-2 (first-wrong-calls t) (first-wrong-at t) first-wrong.Post first-wrong-Inv-loop first-wrong-μ-loop
 first-wrong-has-tag-requires-2 t c κs = c .before .before .before .before .before .before .before .before .before .before .pre .1
-
-first-wrong-cast-t30 : (t : ℕ) → first-wrong-lts.Need-cast-t30 (first-wrong-calls t) (first-wrong-at t) first-wrong.Post first-wrong-Inv-loop first-wrong-μ-loop
-first-wrong-cast-t30 t c = omega (arith, c .before .before .before .before .before .before .before .before .before .before .before .before .pre .1 .order, c .before .before .before .before .before .before .before .before .before .before .before .before .pre .1 .within, c .before .before .before .before .before .before .before .before .before .before .before .before .pre .1 .most)
 
 first-wrong-returns-8 : (t : ℕ) → first-wrong-lts.Need-returns-8 (first-wrong-calls t) (first-wrong-at t) first-wrong.Post first-wrong-Inv-loop first-wrong-μ-loop
 first-wrong-returns-8 t c = ordered-second (c .before .before .before .before .before .before .before .before .before .before .before .before .args .t .now) (c .before .before .before .before .before .before .before .before .before .before .before .before .args .at) (c .before .before .before .before .before .before .before .before .before .before .before .before .args .tag) (c .before .before .before .before .before .before .before .before .before .before .before .before .args .end) (c .before .before .before .before .before .before .before .before .before .before .before .before .args .depth) _ _ _ _ _ (c .before .before .before .before .before .loop .i) (c .before .before .before .before .before .before .before .before .before .before .before .before .pre .1 .within) (c .before .before .before .before .before .before .before .before .before .before .if1 .left) (c .before .before .before .before .before .loop .inv) (c .before .before .before .before .loop-test .left) _ _ (c .before .before .before .has-tag .ensures) (not-false _ (c .before .before .if4 .left)) (c .before .has-tag2 .ensures) (not-true _ (c .if5 .taken))
@@ -174,24 +171,24 @@ pub +first-wrong-spec : {M : Type 1} → statement M
     first-wrong.Post
     first-wrong-Inv-loop
     first-wrong-μ-loop
-    (first-wrong-cast-t17 t)
+    (first-wrong-cast-t18 t)
     (first-wrong-returns t)
     (first-wrong-content-of-requires t)
     (first-wrong-enum-known-h t)
     (first-wrong-add-is-leaf t)
     (first-wrong-is-leaf-requires t)
     (first-wrong-returns-2 t)
-    (first-wrong-cast-t20 t)
+    (first-wrong-cast-t21 t)
     (first-wrong-returns-3 t)
     (first-wrong-add-i t)
     (first-wrong-loop-holds t)
     (first-wrong-read-field-requires t)
     (first-wrong-enum-known-k t)
     (first-wrong-enum-told t)
-    (first-wrong-cast-t23 t)
+    (first-wrong-cast-t24 t)
     (first-wrong-returns-4 t)
     (first-wrong-in-place-requires t)
-    (first-wrong-cast-t25 t)
+    (first-wrong-cast-t26 t)
     (first-wrong-returns-5 t)
     (first-wrong-sub-first-wrong t)
     (first-wrong-first-wrong-requires t)
@@ -201,12 +198,11 @@ pub +first-wrong-spec : {M : Type 1} → statement M
     (first-wrong-least-after-requires t)
     (first-wrong-loop-less t)
     (first-wrong-loop-again t)
+    (first-wrong-cast-lacking t)
     (first-wrong-add-has-tag t)
     (first-wrong-has-tag-requires t)
-    (first-wrong-cast-t29 t)
     (first-wrong-returns-7 t)
     (first-wrong-add-has-tag-2 t)
     (first-wrong-has-tag-requires-2 t)
-    (first-wrong-cast-t30 t)
     (first-wrong-returns-8 t)
     (first-wrong-returns-9 t)
