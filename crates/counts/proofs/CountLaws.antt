@@ -3,7 +3,7 @@ use mathlib.Core.Path.{_≡_, refl, sym, ap, _∙_}
 use mathlib.Core.Bool.{Bool, true, false, _&&_, _||_, cond}
 use mathlib.Core.Option.{Option, none, some}
 use mathlib.Core.List.{List, [], _∷_, _++_, map, head?}
-use mathlib.Core.Logic.{_⊎_, inl, inr}
+use mathlib.Core.Logic.{inl, inr}
 use Prim.Native.Nat.{ℕ, zero, suc, _+_, _-_, _%_, _/_, _≤_, _<_, pred}
 use native.Mathlib.Omega.{arith}
 use native.Mathlib.Nat.{le-refl}
@@ -16,14 +16,14 @@ use denote.Enum.Declared.{tagOf}
 use Rattle.paper.specs.Numbers.{mostWrappers}
 use Rattle.paper_types.specs.TableNumbers.{mostImplemented, mostMembers, mostArguments, mostRecords, tagScalar, tagRoots, tagImplements, tagField, tagArgument, tagSubscriptionRoot}
 use Rattle.paper_types.specs.Lists.{anyOf, onlyIf}
-use Rattle.paper_types.specs.House.{Piece, piece, cut, pieces, inside, Slot, Content, aName, aReference, noTag, holds, contentOf, mostDeep}
-use Rattle.paper_types.specs.TableSizes.{Room, room, counted, isOver, lessRoom, roomInTable, roomIn, oversIn, isWrapper, wrappersOver, oversBy, overs, counts}
+use Rattle.paper_types.specs.House.{piece, pieces, contentOf, mostDeep}
+use Rattle.paper_types.specs.TableSizes.{Room, room, isOver, lessRoom, roomInTable, roomIn, oversIn, isWrapper, wrappersOver, oversBy, overs, counts}
 use Rattle.paper_types.proofs.ListsLaws.{head-nil}
-use Rattle.paper_types.proofs.HolderLaws.{over-on, over-here, over-inside, over-end}
+use Rattle.paper_types.proofs.HolderLaws.{over-on, over-here, over-inside}
 use Rattle.paper_types.proofs.Rising.{counts-first}
 use Rattle.fields.specs.declared.FieldRead.the-variants.{Field, Cut}
 use Rattle.fields.specs.Fields.{fieldAt}
-use Rattle.fields.proofs.FieldLaws.{Lies, field-lies, pieces-read, pieces-torn, pieces-none, slice-none, slice-next}
+use Rattle.fields.proofs.FieldLaws.{field-lies, pieces-read, pieces-torn, pieces-none, slice-none, slice-next}
 use Rattle.frames.specs.declared.Holding.{Holding}
 use Rattle.frames.specs.declared.Holding.the-variants.{Name, Reference, Fields, Nothing}
 use Rattle.frames.specs.Holders.{Holder, HoldsAs}

@@ -2,17 +2,17 @@
 use mathlib.Core.Path.{_≡_, refl, sym, ap, subst, _∙_}
 use mathlib.Core.Bool.{Bool, true, false, cond}
 use mathlib.Core.List.{List, [], _∷_}
-use Prim.Native.Nat.{ℕ, zero, suc, _+_, _-_, _*_, _≤_, _<_}
+use Prim.Native.Nat.{ℕ, zero, suc, _+_, _-_, _≤_, _<_}
 use native.Mathlib.Omega.{arith}
-use lib.ListN.{length, take, drop, getD, length-drop, drop-of-length-le}
-use lib.Seq.{slice, slice-empty, slice-cons, length-slice, take-nil, length-take-le, take-take, drop-drop}
+use lib.ListN.{length, take, drop, getD, drop-of-length-le}
+use lib.Seq.{slice, slice-cons, length-slice, take-nil, length-take-le, take-take, drop-drop}
 use lib.Dec.{leb, ltb}
 use borrow.Author.Tests.{ltb-true, ltb-false, leb-true, leb-false}
-use Rattle.paper_types.specs.House.{Piece, piece, cut, pieces}
+use Rattle.paper_types.specs.House.{piece, cut, pieces}
 use Rattle.paper_types.proofs.PiecesLaws.{pieces-nil, pieces-one, pieces-two, pieces-cut, pieces-field as pieces-whole}
 use Rattle.fields.specs.declared.FieldRead.{FieldRead}
 use Rattle.fields.specs.declared.FieldRead.the-variants.{Field, Cut}
-use Rattle.fields.specs.Fields.{Bounds, fieldAt, sizeAt, piecesBy}
+use Rattle.fields.specs.Fields.{fieldAt, sizeAt, piecesBy}
 
 -- a part of a part
 pub slice-drop : (t : List ℕ) (a e n : ℕ) → drop n (slice a e t) ≡ slice (a + n) e t

@@ -1,7 +1,7 @@
 -- The first field of a tag, one field after the other.
-use mathlib.Core.Path.{_≡_, refl, sym, ap, _∙_}
-use mathlib.Core.List.{List, [], _∷_}
-use Prim.Native.Nat.{ℕ, _+_, _≤_, _<_}
+use mathlib.Core.Path.{_≡_, refl, _∙_}
+use mathlib.Core.List.{List, []}
+use Prim.Native.Nat.{ℕ, _≤_, _<_}
 use native.Mathlib.Omega.{arith}
 use native.Mathlib.Nat.{le-refl}
 use lib.ListN.{length}
@@ -11,7 +11,7 @@ use Rattle.paper_types.specs.House.{pieces}
 use Rattle.paper_types.specs.Types.{textOf}
 use Rattle.fields.specs.declared.FieldRead.the-variants.{Field, Cut}
 use Rattle.fields.specs.Fields.{fieldAt, Finds}
-use Rattle.fields.proofs.FieldLaws.{Lies, field-lies, pieces-read, pieces-torn, pieces-none, slice-none}
+use Rattle.fields.proofs.FieldLaws.{field-lies, pieces-read, pieces-torn, pieces-none, slice-none}
 
 -- from a place i on the text found is the one from `at` on
 pub record Seeks (t : List ℕ) (at end tag i : ℕ) : Type 0 where

@@ -1,12 +1,12 @@
 -- The number of a reference's wrappers holds seven, and so all of a reference that is within its size.
-use mathlib.Core.Path.{_≡_, sym, _∙_}
-use mathlib.Core.Option.{Option, none, some}
+use mathlib.Core.Path.{_≡_}
+use mathlib.Core.Option.{none}
 use mathlib.Core.List.{List, head?}
-use Prim.Native.Nat.{ℕ, zero, suc, _*_, _%_, _≤_, _<_}
+use Prim.Native.Nat.{ℕ, zero, suc, _*_, _≤_, _<_}
 use native.Mathlib.Omega.{arith}
 use lib.Seq.{slice}
 use Rattle.paper.specs.Numbers.{mostWrappers}
-use Rattle.paper_types.specs.References.{Ref, named, listOf, nonNull, refOf}
+use Rattle.paper_types.specs.References.{Ref, named, listOf, nonNull}
 use Rattle.paper_types.specs.TableSizes.{wrappersOver}
 use Rattle.paper_types.proofs.ReferenceSizes.{wrappers, refOf-marks, over-none}
 use Rattle.fields.specs.Wrappers.{packOf, packLimit, Refers}

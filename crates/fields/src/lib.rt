@@ -1,8 +1,7 @@
 // Reads a table's parts: one house field, one name, one type reference's text, the first field of a tag.
 // Nothing is asked of the bytes; a part is named by where it starts and where it ends.
 ghost use mathlib.Core.Path.{_≡_};
-ghost use Prim.Native.Nat.{_+_, _-_, _≤_, _<_};
-ghost use lib.ListN.{length, take, drop};
+ghost use Prim.Native.Nat.{_+_};
 ghost use lib.Seq.{slice};
 ghost use Rattle.paper.specs.Lexical.{letter, letterOrDigit, oneOf};
 ghost use Rattle.paper_types.specs.References.{isName, isReference, nameSize};

@@ -1,14 +1,14 @@
 -- What each tag's content is, as the code's table has it.
 use mathlib.Core.Path.{_≡_, refl, sym, ap, _∙_}
 use mathlib.Core.Bool.{Bool, true, false, not, _&&_, _||_}
-use mathlib.Core.List.{List, [], _∷_}
-use Prim.Native.Nat.{ℕ, suc, _≤_, _<_}
+use mathlib.Core.List.{[], _∷_}
+use Prim.Native.Nat.{ℕ, suc}
 use native.Mathlib.Omega.{arith}
 use lib.Dec.{leb, eqb}
-use borrow.Author.Tests.{le-leb, lt-leb, eq-eqb, ne-eqb, eqb-true, eqb-false, leb-true, leb-false}
+use borrow.Author.Tests.{le-leb, lt-leb, ne-eqb, eqb-true, eqb-false, leb-true}
 use Rattle.paper_types.specs.TableNumbers.{tagScalar, tagObject, tagInterface, tagUnion, tagEnum, tagInputObject, tagDirective, tagRoots, tagName, tagImplements, tagField, tagArgument, tagReference, tagUnionMember, tagEnumValue, tagQueryRoot, tagMutationRoot, tagSubscriptionRoot}
 use Rattle.paper_types.specs.Lists.{anyOf}
-use Rattle.paper_types.specs.House.{Piece, Slot, one, atMostOne, many, Content, aName, aReference, noTag, holds, contents, lookUp, contentOf, tagIs}
+use Rattle.paper_types.specs.House.{one, atMostOne, many, aName, aReference, noTag, contents, lookUp, contentOf, tagIs}
 use Rattle.frames.specs.Holders.{ranked, Holder}
 
 -- the tags of slots as a span of numbers

@@ -3,7 +3,7 @@ use mathlib.Core.Path.{_≡_, refl, sym, ap, _∙_}
 use mathlib.Core.Bool.{Bool, true, false, not, _&&_, _||_, cond}
 use mathlib.Core.Option.{Option, none, some}
 use mathlib.Core.List.{List, [], _∷_, head?}
-use mathlib.Core.Logic.{_⊎_, inl, inr}
+use mathlib.Core.Logic.{inl, inr}
 use Prim.Native.Nat.{ℕ, zero, suc, _+_, _-_, _≤_, _<_}
 use native.Mathlib.Omega.{arith}
 use native.Mathlib.Nat.{le-refl}
@@ -15,13 +15,13 @@ use types.Run.{OneOf}
 use denote.Enum.Declared.{tagOf}
 use Rattle.paper_types.specs.Lists.{anyOf, onlyIf}
 use Rattle.paper_types.specs.References.{isName, isReference}
-use Rattle.paper_types.specs.House.{Piece, piece, cut, pieces, Slot, Content, aName, aReference, noTag, holds, contentOf, inPlace, openAfter, tagIs, lacks, inOrder, orLacking, byContent, wrongs, mostDeep, recordInPlace, tableWrongs, framing}
+use Rattle.paper_types.specs.House.{Piece, piece, pieces, Slot, contentOf, inPlace, openAfter, tagIs, lacks, inOrder, orLacking, byContent, wrongs, mostDeep, recordInPlace, tableWrongs, framing}
 use Rattle.paper_types.proofs.ListsLaws.{head-nil}
 use Rattle.paper_types.proofs.HolderLaws.{order-on, order-inside, order-out, order-cut, order-end, lacking-first, lacking-end, table-on, table-inside, table-out, table-cut, table-end}
 use Rattle.paper_types.proofs.Rising.{framing-first}
 use Rattle.fields.specs.declared.FieldRead.the-variants.{Field, Cut}
 use Rattle.fields.specs.Fields.{fieldAt}
-use Rattle.fields.proofs.FieldLaws.{Lies, field-lies, pieces-read, pieces-torn, pieces-none}
+use Rattle.fields.proofs.FieldLaws.{field-lies, pieces-read, pieces-torn, pieces-none}
 use Rattle.frames.specs.declared.Framed.{Framed}
 use Rattle.frames.specs.declared.Framed.the-variants.{Right, Wrong}
 use Rattle.frames.specs.declared.Holding.{Holding}

@@ -7,7 +7,7 @@ use Prim.Native.Nat.{ℕ, suc, _+_, _*_}
 use lib.Dec.{leb, eqb}
 use Rattle.paper_types.specs.TableNumbers.{tagReference, tagImplements, tagEnumValue}
 use Rattle.paper_types.specs.Lists.{anyOf}
-use Rattle.paper_types.specs.House.{Piece, Slot, one, atMostOne, many, Content, aName, aReference, noTag, holds, contentOf, inPlace, tagIs, lacks}
+use Rattle.paper_types.specs.House.{Piece, Slot, one, atMostOne, many, aName, aReference, noTag, holds, contentOf, inPlace, tagIs, lacks}
 use Rattle.frames.specs.declared.Holding.{Holding}
 use Rattle.frames.specs.declared.Holding.the-variants.{Name, Reference, Fields, Nothing}
 
