@@ -142,7 +142,7 @@ module _ (names rest k : ℕ) where
 
   record-less : (x y : Bool) → (x ≡ true → y ≡ false)
       → _≡_ {A = List Room} (room tagImplements tagImplements (cond x (pred names) names) ∷ room tagField tagSubscriptionRoot (cond y (pred rest) rest) ∷ [])
-          (room tagImplements tagImplements (names - cond x 1 (cond y 2 0) % 2) ∷ room tagField tagSubscriptionRoot (rest - cond x 1 (cond y 2 0) / 2) ∷ [])
+      (room tagImplements tagImplements (names - cond x 1 (cond y 2 0) % 2) ∷ room tagField tagSubscriptionRoot (rest - cond x 1 (cond y 2 0) / 2) ∷ [])
   record-less true true f = let z : true ≡ false = f refl in cc
   record-less true false f = rw (pred-is names, less-none rest)
   record-less false true f = rw (less-none names, pred-is rest)
@@ -171,7 +171,7 @@ room-start tag = go (leb tag tagRoots) (eqb tag tagField)
   where
     go : (x y : Bool)
         → cond x (room tagImplements tagImplements mostImplemented ∷ room tagField tagSubscriptionRoot (cond x mostMembers mostArguments) ∷ [])
-          (cond y (room tagArgument tagArgument (cond x mostMembers mostArguments) ∷ []) []) ≡
+        (cond y (room tagArgument tagArgument (cond x mostMembers mostArguments) ∷ []) []) ≡
         cond x (room tagImplements tagImplements mostImplemented ∷ room tagField tagSubscriptionRoot mostMembers ∷ []) (cond y (room tagArgument tagArgument mostArguments ∷ []) [])
     go true y = refl
     go false true = refl
@@ -207,10 +207,11 @@ pub record Counting (t : List ℕ) (at tag end depth names others i : ℕ) : Typ
 pub counting-start : (t : List ℕ) (at tag end depth first second from to others : ℕ) → (depth ≡ 0 → ⊥) → Holder tag first second from to → others ≡ restRoom tag → at + 3 ≤ end
     → Counting t at tag end depth mostImplemented others (at + 3)
 unfolding oversBy
-counting-start t at tag end depth first second from to others n a q h = record
-  { rest = rw (q, room-start tag, deeper depth at tag (slice (at + 3) end t) n, a .is)
-  ; begins = le-refl (at + 3)
-  ; order = h }
+counting-start t at tag end depth first second from to others n a q h = record {
+  rest = rw (q, room-start tag, deeper depth at tag (slice (at + 3) end t) n, a .is);
+  begins = le-refl (at + 3);
+  order = h;
+}
 
 module _ (t : List ℕ) (at tag end depth names others i : ℕ) (w : end ≤ length t) (o : Counting t at tag end depth names others i) where
   pub counting-end : end ≤ i → Within ≡ toldOver (head? (overs depth at tag (slice (at + 3) end t)))
@@ -256,12 +257,13 @@ module _ (t : List ℕ) (at tag end depth names others i : ℕ) (w : end ≤ len
       counting-on x g z =
           let y : overs (depth - 1) i k (slice a e t) ≡ [] = head-nil (overs (depth - 1) i k (slice a e t)) (rw content at (told-within (head? (overs (depth - 1) i k (slice (i + 3) e t))) (sym g ∙ z))) in
           let f = field-lies t i end k a e (o .order) q in
-          record
-            { rest =
+          record {
+            rest =
                 ap (λ (rs : List Room). head? (oversIn (overs (depth - 1)) rs (pieces e (slice e end t)))) (sym (room-less names others k tag n p))
-                ∙ sym (ap head? (split ∙ over-on (overs (depth - 1)) (roomsOf tag names others) i k (slice a e t) (pieces e (slice e end t)) left y)) ∙ o .rest
-            ; begins = omega (arith, o .begins, f .begins, f .order)
-            ; order = f .within }
+                ∙ sym (ap head? (split ∙ over-on (overs (depth - 1)) (roomsOf tag names others) i k (slice a e t) (pieces e (slice e end t)) left y)) ∙ o .rest;
+            begins = omega (arith, o .begins, f .begins, f .order);
+            order = f .within;
+          }
 
 -- A table up to the place i, so many records left.
 pub record Recording (t : List ℕ) (left i : ℕ) : Type 0 where
@@ -269,9 +271,10 @@ pub record Recording (t : List ℕ) (left i : ℕ) : Type 0 where
   pub order : i ≤ length t
 
 pub recording-start : (t : List ℕ) → Recording t mostRecords 0
-recording-start t = record
-  { rest = ap (λ (s : List ℕ). head? (oversIn (overs mostDeep) roomInTable (pieces 0 s))) (take-length t) ∙ sym (counts-first t)
-  ; order = omega arith }
+recording-start t = record {
+  rest = ap (λ (s : List ℕ). head? (oversIn (overs mostDeep) roomInTable (pieces 0 s))) (take-length t) ∙ sym (counts-first t);
+  order = omega arith;
+}
 
 module _ (t : List ℕ) (left i : ℕ) (o : Recording t left i) where
   pub recording-end : length t ≤ i → Within ≡ toldOver (counts t)
@@ -320,8 +323,9 @@ module _ (t : List ℕ) (left i : ℕ) (o : Recording t left i) where
       recording-on x g z =
           let y : overs mostDeep i k (slice a e t) ≡ [] = head-nil (overs mostDeep i k (slice a e t)) (rw content-table at (told-within (head? (overs mostDeep i k (slice (i + 3) e t))) (sym g ∙ z))) in
           let f = field-lies t i (length t) k a e (o .order) q in
-          record
-            { rest =
+          record {
+            rest =
                 ap (λ (rs : List Room). head? (oversIn (overs mostDeep) rs (pieces e (slice e (length t) t)))) (sym less-table)
-                ∙ sym (ap head? (split-table ∙ over-on (overs mostDeep) rooms i k (slice a e t) (pieces e (slice e (length t) t)) (full-table false (le-ltb left n l)) y)) ∙ o .rest
-            ; order = f .within }
+                ∙ sym (ap head? (split-table ∙ over-on (overs mostDeep) rooms i k (slice a e t) (pieces e (slice e (length t) t)) (full-table false (le-ltb left n l)) y)) ∙ o .rest;
+            order = f .within;
+          }

@@ -72,7 +72,12 @@ fn leaf_over(t: &[u8], start: usize, end: usize, h: Holding) -> Counted
     match h {
         Holding::Name => Counted::Within,
         Holding::Reference => wrapper_over(t, start, end),
-        Holding::Fields { first: _, second: _, from: _, to: _ } => Counted::Within,
+        Holding::Fields {
+            first: _,
+            second: _,
+            from: _,
+            to: _,
+        } => Counted::Within,
         Holding::Nothing => Counted::Within,
     }
 }
@@ -120,14 +125,25 @@ fn first_over(t: &[u8], at: usize, tag: u8, end: usize, depth: u32) -> Counted
         return Counted::Within;
     }
     let h = content_of(tag);
-    let Holding::Fields { first: _, second: _, from: _, to: _ } = h else {
+    let Holding::Fields {
+        first: _,
+        second: _,
+        from: _,
+        to: _,
+    } = h
+    else {
         return leaf_over(t, at + 3, end, h);
     };
     let mut names = MOST_IMPLEMENTED;
     let mut rest = rest_room(tag);
     let mut i = at + 3;
     while i < end {
-        let FieldRead::Field { tag: k, start: _, end: e } = read_field(t, i, end) else {
+        let FieldRead::Field {
+            tag: k,
+            start: _,
+            end: e,
+        } = read_field(t, i, end)
+        else {
             return Counted::Within;
         };
         let n = room_of(tag, k);
@@ -171,7 +187,12 @@ pub fn over(t: &[u8]) -> Counted
     let mut left = MOST_RECORDS;
     let mut i = 0;
     while i < t.len() {
-        let FieldRead::Field { tag: k, start: _, end: e } = read_field(t, i, t.len()) else {
+        let FieldRead::Field {
+            tag: k,
+            start: _,
+            end: e,
+        } = read_field(t, i, t.len())
+        else {
             return Counted::Within;
         };
         let n = is_record(k);

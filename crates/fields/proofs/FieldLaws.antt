@@ -68,11 +68,13 @@ module _ (t : List ℕ) (at end : ℕ) (w : end ≤ length t) where
           let m : end - at - 3 < sizeAt t at = leb-false (sizeAt t at) (end - at - 3) q in
           ap (pieces at) (three k)
           ∙ pieces-cut at (getD t at 0) (getD t (at + 1) 0) (getD t (at + 2) 0) (slice (at + 3) end t) (omega (arith, length-slice (at + 3) end t w))
+
       short : (n : ℕ) → end - at ≡ n → n < 3 → pieces at (slice at end t) ≡ cut at ∷ []
       short zero e k = absurd (omega arith)
       short (suc zero) e k = cut-one (omega arith)
       short (suc (suc zero)) e k = cut-two (omega arith)
       short (suc (suc (suc n))) e k = absurd (omega arith)
+
       go : (b : Bool) → ltb (end - at) 3 ≡ b
           → pieces at (slice at end t) ≡ piecesBy t at end (cond b Cut (cond (leb (sizeAt t at) (end - at - 3)) (Field (getD t at 0) (at + 3) (at + 3 + sizeAt t at)) Cut))
       go true q = short (end - at) refl (ltb-true (end - at) 3 q)
@@ -106,6 +108,7 @@ field-lies t at end tag start stop h q = subst (LiesRead at end) q (go (ltb (end
     last : 3 ≤ end - at → (b : Bool) → leb (sizeAt t at) (end - at - 3) ≡ b → LiesRead at end (cond b (Field (getD t at 0) (at + 3) (at + 3 + sizeAt t at)) Cut)
     last k true e = let m : sizeAt t at ≤ end - at - 3 = leb-true (sizeAt t at) (end - at - 3) e in record { begins = refl; order = omega arith; within = omega arith }
     last k false e = tt
+
     go : (b : Bool) → ltb (end - at) 3 ≡ b → LiesRead at end (cond b Cut (cond (leb (sizeAt t at) (end - at - 3)) (Field (getD t at 0) (at + 3) (at + 3 + sizeAt t at)) Cut))
     go true e = tt
     go false e = last (ltb-false (end - at) 3 e) (leb (sizeAt t at) (end - at - 3)) refl

@@ -24,11 +24,12 @@ seeks-start t at end tag h = record { text = refl; begins = le-refl at; order = 
 
 module _ (t : List ℕ) (at end tag i : ℕ) (w : end ≤ length t) (s : Seeks t at end tag i) where
   none-found : [] ≡ textOf tag (pieces i (slice i end t)) → Finds t at end tag end end
-  none-found e = record
-    { text = slice-none t end end (le-refl end) w ∙ e ∙ s .text
-    ; begins = omega (arith, s .begins, s .order)
-    ; order = le-refl end
-    ; within = le-refl end }
+  none-found e = record {
+    text = slice-none t end end (le-refl end) w ∙ e ∙ s .text;
+    begins = omega (arith, s .begins, s .order);
+    order = le-refl end;
+    within = le-refl end;
+  }
 
   pub seeks-end : end ≤ i → Finds t at end tag end end
   unfolding textOf
@@ -44,17 +45,19 @@ module _ (t : List ℕ) (at end tag i : ℕ) (w : end ≤ length t) (s : Seeks t
       unfolding textOf
       seeks-here e =
           let l = field-lies t i end k from to (s .order) q in
-          record
-            { text = rw (pieces-read t i end w h k from to q, eq-eqb k tag e) at (s .text)
-            ; begins = omega (arith, s .begins, l .begins)
-            ; order = l .order
-            ; within = l .within }
+          record {
+            text = rw (pieces-read t i end w h k from to q, eq-eqb k tag e) at (s .text);
+            begins = omega (arith, s .begins, l .begins);
+            order = l .order;
+            within = l .within;
+          }
 
       pub seeks-on : (k ≡ tag → ⊥) → Seeks t at end tag to
       unfolding textOf
       seeks-on e =
           let l = field-lies t i end k from to (s .order) q in
-          record
-            { text = rw (pieces-read t i end w h k from to q, ne-eqb k tag e) at (s .text)
-            ; begins = omega (arith, s .begins, l .begins, l .order)
-            ; order = l .within }
+          record {
+            text = rw (pieces-read t i end w h k from to q, ne-eqb k tag e) at (s .text);
+            begins = omega (arith, s .begins, l .begins, l .order);
+            order = l .within;
+          }

@@ -50,6 +50,7 @@ in-open m k (s ∷ ss) = go (eqb k (slotTag s)) refl (leb m (rank (slotTag s))) 
   where
     like : eqb k (slotTag s) ≡ true → leb m (rank k) ≡ leb m (rank (slotTag s))
     like p = ap (λ (z : ℕ). leb m (rank z)) (eqb-true k (slotTag s) p)
+
     go : (e : Bool) → eqb k (slotTag s) ≡ e → (l : Bool) → leb m (rank (slotTag s)) ≡ l → (x : Bool) → leb m (rank k) ≡ x
         → inPlace k (openFrom m ss) ≡ x && inPlace k ss
         → inPlace k (cond l (s ∷ openFrom m ss) (openFrom m ss)) ≡ x && inPlace k (s ∷ ss)
@@ -106,6 +107,7 @@ at-first m n s ss r l =
   where
     behind : ranked (suc (rank (slotTag s))) ss ≡ true
     behind = rest-ranked n s ss r
+
     go : (x y : Bool) → agrees x y ≡ true → cond x (s ∷ ss) ss ≡ openFrom (cond y (rank (slotTag s)) (rank (slotTag s) + 1)) (s ∷ ss)
     go true true e = sym (open-cons (rank (slotTag s)) s ss ∙ rw (le-leb (rank (slotTag s)) (rank (slotTag s)) (omega arith)) (ap (λ (t : List Slot). s ∷ t) (open-all (rank (slotTag s)) (suc (rank (slotTag s))) ss (omega arith) behind)))
     go true false e = absurd (false≢true e)

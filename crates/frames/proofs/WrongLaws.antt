@@ -102,11 +102,12 @@ pub record Ordered (t : List ℕ) (at tag end depth first second from to least i
 
 pub ordered-start : (t : List ℕ) (at tag end depth first second from to : ℕ) → Holder tag first second from to → at + 3 ≤ end
     → Ordered t at tag end depth first second from to 0 (at + 3)
-ordered-start t at tag end depth first second from to a h = record
-  { holder = a
-  ; rest = ap (λ (ss : List Slot). head? (inOrder (wrongs (depth - 1)) ss (pieces (at + 3) (slice (at + 3) end t)))) (sym (open-start (a .slots)))
-  ; begins = le-refl (at + 3)
-  ; order = h }
+ordered-start t at tag end depth first second from to a h = record {
+  holder = a;
+  rest = ap (λ (ss : List Slot). head? (inOrder (wrongs (depth - 1)) ss (pieces (at + 3) (slice (at + 3) end t)))) (sym (open-start (a .slots)));
+  begins = le-refl (at + 3);
+  order = h;
+}
 
 module _ (t : List ℕ) (at tag end depth first second from to least i : ℕ) (w : end ≤ length t) (n : depth ≡ 0 → ⊥) (o : Ordered t at tag end depth first second from to least i) where
   -- all the fields of the holder, its slots; and those that are left
@@ -154,24 +155,25 @@ module _ (t : List ℕ) (at tag end depth first second from to least i : ℕ) (w
         let y : wrongs (depth - 1) i k (slice a e t) ≡ [] = head-nil (wrongs (depth - 1) i k (slice a e t)) (rw content at (told-right (head? (wrongs (depth - 1) i k (slice (i + 3) e t))) (sym g ∙ z))) in
         let u : leb least (rank k) && (eqb k first || leb from k && leb k to) ≡ true = sym p ∙ f in
         let v : openAfter k open′ ≡ openFrom m slots =
-            open-after least 0 k slots (o .holder .rises) (and-left (leb least (rank k)) _ u) (o .holder .known k ∙ and-right (leb least (rank k)) _ u) ∙ ap (λ (b : ℕ). openFrom b slots) (sym c) in
+        open-after least 0 k slots (o .holder .rises) (and-left (leb least (rank k)) _ u) (o .holder .known k ∙ and-right (leb least (rank k)) _ u) ∙ ap (λ (b : ℕ). openFrom b slots) (sym c) in
         let l = field-lies t i end k a e (o .order) q in
-        record
-          { holder = o .holder
-          ; rest =
+        record {
+          holder = o .holder;
+          rest =
               sym
               (ap head?
               (split ∙ order-on (wrongs (depth - 1)) open′ i k (slice a e t) (pieces e (slice e end t)) (in-is ∙ f) y
               ∙ ap (λ (ss : List Slot). inOrder (wrongs (depth - 1)) ss (pieces e (slice e end t))) v))
-              ∙ o .rest
-          ; begins = omega (arith, o .begins, l .begins, l .order)
-          ; order = l .within }
+              ∙ o .rest;
+          begins = omega (arith, o .begins, l .begins, l .order);
+          order = l .within;
+        }
 
   ordered-lacks : end ≤ i → (x y : Bool) → x ≡ anyOf (tagIs first) all → y ≡ anyOf (tagIs second) all
       → cond (not x || not y) (Wrong at) Right ≡ told (head? (wrongs depth at tag (slice (at + 3) end t)))
   ordered-lacks h x y f g =
       let none-left : head? (inOrder (wrongs (depth - 1)) slots all) ≡ none =
-          sym (o .rest) ∙ ap (λ (ps : List Piece). head? (inOrder (wrongs (depth - 1)) open′ ps)) (pieces-none t i end h w) ∙ ap head? (order-end (wrongs (depth - 1)) open′) in
+      sym (o .rest) ∙ ap (λ (ps : List Piece). head? (inOrder (wrongs (depth - 1)) open′ ps)) (pieces-none t i end h w) ∙ ap head? (order-end (wrongs (depth - 1)) open′) in
       let lack : not x || not y ≡ lacks slots all = rw (f, g) (sym (o .holder .dues all)) in
       sym
       (ap told
@@ -200,9 +202,10 @@ pub record Framing (t : List ℕ) (roots : Bool) (i : ℕ) : Type 0 where
   pub order : i ≤ length t
 
 pub framing-start : (t : List ℕ) → Framing t true 0
-framing-start t = record
-  { rest = ap (λ (s : List ℕ). head? (tableWrongs true (pieces 0 s))) (take-length t) ∙ sym (framing-first t)
-  ; order = omega arith }
+framing-start t = record {
+  rest = ap (λ (s : List ℕ). head? (tableWrongs true (pieces 0 s))) (take-length t) ∙ sym (framing-first t);
+  order = omega arith;
+}
 
 module _ (t : List ℕ) (roots : Bool) (i : ℕ) (o : Framing t roots i) where
   pub framing-end : length t ≤ i → Right ≡ told (framing t)
@@ -230,8 +233,9 @@ module _ (t : List ℕ) (roots : Bool) (i : ℕ) (o : Framing t roots i) where
     framing-on f x g z b c =
         let y : wrongs mostDeep i k (slice a e t) ≡ [] = head-nil (wrongs mostDeep i k (slice a e t)) (rw content-table at (told-right (head? (wrongs mostDeep i k (slice (i + 3) e t))) (sym g ∙ z))) in
         let l = field-lies t i (length t) k a e (o .order) q in
-        record
-          { rest =
+        record {
+          rest =
               ap (λ (d : Bool). head? (tableWrongs d (pieces e (slice e (length t) t)))) c
-              ∙ sym (ap head? (split-table ∙ table-on roots i k (slice a e t) (pieces e (slice e (length t) t)) (sym p ∙ f) y)) ∙ o .rest
-          ; order = l .within }
+              ∙ sym (ap head? (split-table ∙ table-on roots i k (slice a e t) (pieces e (slice e (length t) t)) (sym p ∙ f) y)) ∙ o .rest;
+          order = l .within;
+        }

@@ -38,7 +38,12 @@ ghost use Rattle.frames.specs.Framing.{told, isLeaf, rootsAfter};
 pub enum Holding {
     Name,
     Reference,
-    Fields { first: u8, second: u8, from: u8, to: u8 },
+    Fields {
+        first: u8,
+        second: u8,
+        from: u8,
+        to: u8,
+    },
     Nothing,
 }
 
@@ -46,16 +51,66 @@ pub fn content_of(tag: u8) -> Holding
     ensures { λ r. ⌜ HoldsAs tag r ⌝ }
 {
     match tag {
-        TAG_SCALAR => Holding::Fields { first: TAG_NAME, second: TAG_NAME, from: 1, to: 0 },
-        TAG_OBJECT => Holding::Fields { first: TAG_NAME, second: TAG_NAME, from: TAG_IMPLEMENTS, to: TAG_FIELD },
-        TAG_INTERFACE => Holding::Fields { first: TAG_NAME, second: TAG_NAME, from: TAG_FIELD, to: TAG_FIELD },
-        TAG_UNION => Holding::Fields { first: TAG_NAME, second: TAG_NAME, from: TAG_UNION_MEMBER, to: TAG_UNION_MEMBER },
-        TAG_ENUM => Holding::Fields { first: TAG_NAME, second: TAG_NAME, from: TAG_ENUM_VALUE, to: TAG_ENUM_VALUE },
-        TAG_INPUT_OBJECT => Holding::Fields { first: TAG_NAME, second: TAG_NAME, from: TAG_ARGUMENT, to: TAG_ARGUMENT },
-        TAG_DIRECTIVE => Holding::Fields { first: TAG_NAME, second: TAG_NAME, from: TAG_ARGUMENT, to: TAG_ARGUMENT },
-        TAG_ROOTS => Holding::Fields { first: TAG_QUERY_ROOT, second: TAG_QUERY_ROOT, from: TAG_MUTATION_ROOT, to: TAG_SUBSCRIPTION_ROOT },
-        TAG_FIELD => Holding::Fields { first: TAG_NAME, second: TAG_REFERENCE, from: TAG_ARGUMENT, to: TAG_REFERENCE },
-        TAG_ARGUMENT => Holding::Fields { first: TAG_NAME, second: TAG_REFERENCE, from: TAG_REFERENCE, to: TAG_REFERENCE },
+        TAG_SCALAR => Holding::Fields {
+            first: TAG_NAME,
+            second: TAG_NAME,
+            from: 1,
+            to: 0,
+        },
+        TAG_OBJECT => Holding::Fields {
+            first: TAG_NAME,
+            second: TAG_NAME,
+            from: TAG_IMPLEMENTS,
+            to: TAG_FIELD,
+        },
+        TAG_INTERFACE => Holding::Fields {
+            first: TAG_NAME,
+            second: TAG_NAME,
+            from: TAG_FIELD,
+            to: TAG_FIELD,
+        },
+        TAG_UNION => Holding::Fields {
+            first: TAG_NAME,
+            second: TAG_NAME,
+            from: TAG_UNION_MEMBER,
+            to: TAG_UNION_MEMBER,
+        },
+        TAG_ENUM => Holding::Fields {
+            first: TAG_NAME,
+            second: TAG_NAME,
+            from: TAG_ENUM_VALUE,
+            to: TAG_ENUM_VALUE,
+        },
+        TAG_INPUT_OBJECT => Holding::Fields {
+            first: TAG_NAME,
+            second: TAG_NAME,
+            from: TAG_ARGUMENT,
+            to: TAG_ARGUMENT,
+        },
+        TAG_DIRECTIVE => Holding::Fields {
+            first: TAG_NAME,
+            second: TAG_NAME,
+            from: TAG_ARGUMENT,
+            to: TAG_ARGUMENT,
+        },
+        TAG_ROOTS => Holding::Fields {
+            first: TAG_QUERY_ROOT,
+            second: TAG_QUERY_ROOT,
+            from: TAG_MUTATION_ROOT,
+            to: TAG_SUBSCRIPTION_ROOT,
+        },
+        TAG_FIELD => Holding::Fields {
+            first: TAG_NAME,
+            second: TAG_REFERENCE,
+            from: TAG_ARGUMENT,
+            to: TAG_REFERENCE,
+        },
+        TAG_ARGUMENT => Holding::Fields {
+            first: TAG_NAME,
+            second: TAG_REFERENCE,
+            from: TAG_REFERENCE,
+            to: TAG_REFERENCE,
+        },
         TAG_REFERENCE => Holding::Reference,
         TAG_NAME => Holding::Name,
         TAG_IMPLEMENTS => Holding::Name,
@@ -75,7 +130,12 @@ fn has_tag(t: &[u8], start: usize, end: usize, tag: u8) -> bool
 {
     let mut i = start;
     while i < end {
-        let FieldRead::Field { tag: k, start: _, end: to } = read_field(t, i, end) else {
+        let FieldRead::Field {
+            tag: k,
+            start: _,
+            end: to,
+        } = read_field(t, i, end)
+        else {
             return false;
         };
         if k == tag {
@@ -137,7 +197,12 @@ fn is_leaf(t: &[u8], start: usize, end: usize, h: Holding) -> bool
     match h {
         Holding::Name => is_name(t, start, end),
         Holding::Reference => is_reference(t, start, end),
-        Holding::Fields { first: _, second: _, from: _, to: _ } => false,
+        Holding::Fields {
+            first: _,
+            second: _,
+            from: _,
+            to: _,
+        } => false,
         Holding::Nothing => false,
     }
 }
@@ -157,7 +222,13 @@ fn first_wrong(t: &[u8], at: usize, tag: u8, end: usize, depth: u32) -> Framed
         return Framed::Wrong(at as u32);
     }
     let h = content_of(tag);
-    let Holding::Fields { first, second, from, to } = h else {
+    let Holding::Fields {
+        first,
+        second,
+        from,
+        to,
+    } = h
+    else {
         if is_leaf(t, at + 3, end, h) {
             return Framed::Right;
         }
@@ -166,7 +237,12 @@ fn first_wrong(t: &[u8], at: usize, tag: u8, end: usize, depth: u32) -> Framed
     let mut least = 0;
     let mut i = at + 3;
     while i < end {
-        let FieldRead::Field { tag: k, start: _, end: e } = read_field(t, i, end) else {
+        let FieldRead::Field {
+            tag: k,
+            start: _,
+            end: e,
+        } = read_field(t, i, end)
+        else {
             return Framed::Wrong(i as u32);
         };
         if !in_place(first, from, to, least, k) {
@@ -225,7 +301,12 @@ pub fn framing(t: &[u8]) -> Framed
     let mut roots = true;
     let mut i = 0;
     while i < t.len() {
-        let FieldRead::Field { tag: k, start: _, end: e } = read_field(t, i, t.len()) else {
+        let FieldRead::Field {
+            tag: k,
+            start: _,
+            end: e,
+        } = read_field(t, i, t.len())
+        else {
             return Framed::Wrong(i as u32);
         };
         if !record_in_place(roots, k) {

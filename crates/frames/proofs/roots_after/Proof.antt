@@ -9,6 +9,7 @@ use Rattle.frames.proofs.roots_after.Tie as tie
 and-no : (b : Bool) → false ≡ b && false
 and-no true = refl
 and-no false = refl
+
 and-yes : (b : Bool) → b ≡ b && true
 and-yes true = refl
 and-yes false = refl
