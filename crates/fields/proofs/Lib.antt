@@ -1,0 +1,6 @@
+-- Laws of the readers of a table's parts.
+pub mod FieldLaws
+pub mod NameLaws
+pub mod FindLaws
+pub mod RefLaws
+pub mod PackLaws

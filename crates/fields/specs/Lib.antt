@@ -1,0 +1,3 @@
+-- What the readers of a table's parts answer.
+pub mod Fields
+pub mod Wrappers
