@@ -3,8 +3,8 @@ use mathlib.Core.List.{List}
 use Prim.Native.Nat.{ℕ}
 use Rattle.paper.specs.Language.{Class, bang, dollar, parenL, parenR, spread, colon, equals, atSign, bracketL, bracketR, braceL, bar, braceR, n-query, n-mutation, n-subscription, n-fragment, n-on, n-true, n-false, n-null, n-other, int, float, string}
 use Rattle.paper.specs.Tokens.{Text, over, bad, token, nameClass}
-use Rattle.tokens.specs.declared.TokenRead.{TokenRead}
-use Rattle.tokens.specs.declared.TokenRead.the-variants.{Token, Bad}
+use Rattle.characters.specs.declared.TokenRead.{TokenRead}
+use Rattle.characters.specs.declared.TokenRead.the-variants.{Token, Bad}
 
 -- the number by which the code knows a class: all names are one kind
 abbrev pub kindOf : Class → ℕ

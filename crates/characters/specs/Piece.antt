@@ -1,5 +1,5 @@
 -- What stands at the front of some bytes: a token, or an ignored piece.
-use mathlib.Core.Bool.{Bool, cond}
+use mathlib.Core.Bool.{cond}
 use mathlib.Core.Option.{Option, none, some}
 use mathlib.Core.List.{List, [], _∷_}
 use Prim.Native.Nat.{ℕ, _+_}
@@ -9,9 +9,9 @@ use Rattle.paper.specs.Lexical.{What, is, ignored, comment, Piece}
 use Rattle.paper.specs.Tokens.{whatOf, lineEnd}
 use Rattle.paper.proofs.Longest.{Match, scan}
 use Rattle.paper.proofs.LexTables.{lexer}
-use Rattle.tokens.specs.Head.{kindOf}
-use Rattle.tokens.specs.declared.TokenRead.{TokenRead}
-use Rattle.tokens.specs.declared.TokenRead.the-variants.{Token, Bad}
+use Rattle.characters.specs.Head.{kindOf}
+use Rattle.characters.specs.declared.TokenRead.{TokenRead}
+use Rattle.characters.specs.declared.TokenRead.the-variants.{Token, Bad}
 
 -- the longest piece
 unfoldable pub pieceAt : List ℕ → Option (Match ℕ What)
