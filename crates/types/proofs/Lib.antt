@@ -1,3 +1,4 @@
+-- Laws of this crate, in the order in which they use each other.
 pub mod BuiltIns
 pub mod Meanings
 pub mod Objects

@@ -1,5 +1,6 @@
+-- Each way out is a law of the test; the wrappers of the first reference fall.
 use mathlib.Core.Path.{sym, _∙_}
-use Prim.Native.Nat.{ℕ}
+use Prim.Native.Nat.{ℕ, _<_}
 use borrow.Author.Needs.{needs}
 use Rattle.index.proofs.SubLaws.{sub-equal, sub-named, sub-named-no, sub-non-null, sub-list, sub-none}
 use borrow.Fn.Kinds.{In}

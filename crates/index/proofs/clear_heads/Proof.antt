@@ -1,3 +1,4 @@
+-- Bucket by bucket: those before h are at their end.
 use mathlib.Core.Path.{_≡_, refl}
 use Prim.Native.Nat.{_-_}
 use native.Mathlib.Omega.{arith}

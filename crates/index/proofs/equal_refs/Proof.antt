@@ -1,3 +1,4 @@
+-- By the two cases.
 use borrow.Author.Needs.{needs}
 use Rattle.index.proofs.equal_refs.Statement.{statement}
 use Rattle.index.proofs.equal_refs.Tie as tie

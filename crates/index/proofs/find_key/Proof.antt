@@ -1,3 +1,4 @@
+-- Along the chain of the name's bucket: the first from here on is the first of all.
 use mathlib.Core.Path.{sym, _∙_}
 use Prim.Native.Nat.{_-_, _≤_, _<_}
 use native.Mathlib.Omega.{arith}

@@ -1,3 +1,4 @@
+-- Byte by byte: what is left of the name, hashed from here, gives the whole.
 use mathlib.Core.Path.{_≡_, _∙_}
 use Prim.Native.Nat.{_+_, _-_, _<_, _≤_}
 use native.Mathlib.Omega.{arith}

@@ -1,3 +1,4 @@
+-- The kind first, then the name.
 use mathlib.Core.Path.{_∙_}
 use Prim.Native.Nat.{_+_}
 use native.Mathlib.Omega.{arith}

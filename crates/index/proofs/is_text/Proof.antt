@@ -1,3 +1,4 @@
+-- Texts of two lengths are not the same.
 use mathlib.Core.Path.{sym, _∙_}
 use Rattle.index.specs.Book.{part}
 use Rattle.index.proofs.Texts.{same-lengths, length-part}

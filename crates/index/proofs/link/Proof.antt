@@ -1,3 +1,4 @@
+-- From the last entry to the first: those from j on are linked.
 use borrow.Author.Needs.{needs}
 use native.Mathlib.Omega.{arith}
 use mathlib.Core.Path.{_∙_}

@@ -1,3 +1,4 @@
+-- Two stores.
 use native.Mathlib.Omega.{arith}
 use Prim.Native.Nat.{_+_}
 use lib.ListN.{getD, length-set}

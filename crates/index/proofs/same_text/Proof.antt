@@ -1,3 +1,4 @@
+-- Byte by byte: what is left of both is as alike as the whole.
 use mathlib.Core.Path.{_≡_, _∙_}
 use Prim.Native.Nat.{_+_, _-_, _≤_}
 use native.Mathlib.Omega.{arith}

@@ -1,3 +1,4 @@
+-- Member by member: those that are not entered yet stand from here on.
 use borrow.Author.Needs.{needs}
 use mathlib.Core.Path.{sym, subst, _∙_}
 use Prim.Native.Nat.{_-_, _≤_}

@@ -1,3 +1,4 @@
+-- The member's name, then five stores.
 use Rattle.listings.proofs.Listing.{entering-is}
 use borrow.Author.Needs.{needs}
 use Rattle.listings.proofs.enter.Statement.{statement}

@@ -1,3 +1,4 @@
+-- The first entry of the name is the first member of the name.
 use Prim.Native.Nat.{_<_}
 use native.Mathlib.Omega.{arith}
 use Rattle.index.specs.Book.{part, countIn}

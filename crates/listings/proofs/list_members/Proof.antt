@@ -1,3 +1,4 @@
+-- The entries, their count, the links.
 use Rattle.listings.proofs.Listing.{counted-held, listed-is}
 use borrow.Author.Needs.{needs}
 use Rattle.listings.proofs.list_members.Statement.{statement}

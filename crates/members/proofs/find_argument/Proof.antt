@@ -1,3 +1,4 @@
+-- Argument by argument: what is found from here on is what is found from the start.
 use borrow.Author.Needs.{needs}
 use mathlib.Core.Path.{sym, subst, _∙_}
 use Prim.Native.Nat.{_-_}

@@ -1,3 +1,4 @@
+-- Name by name: one of those from here on is it if and only if one of all is.
 use borrow.Author.Needs.{needs}
 use mathlib.Core.Path.{sym, subst, _∙_}
 use Prim.Native.Nat.{_-_}

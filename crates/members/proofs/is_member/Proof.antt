@@ -1,3 +1,4 @@
+-- By the three cases.
 use borrow.Author.Tests.{eq-eqb, ne-eqb}
 use Rattle.members.proofs.is_member.Statement.{statement}
 use Rattle.members.proofs.is_member.Tie as tie

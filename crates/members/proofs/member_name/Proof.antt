@@ -1,3 +1,4 @@
+-- By what the tag holds.
 use native.Mathlib.Omega.{arith}
 use Rattle.members.proofs.MemberLaws.{field-is, input-is, name-is}
 use Rattle.members.proofs.TagLaws.{part-slice}

@@ -1,3 +1,4 @@
+-- The first field of the tag.
 use mathlib.Core.Path.{subst}
 use Rattle.paper_types.specs.TableNumbers.{tagName}
 use Rattle.members.specs.Members.{NextTag}

@@ -1,3 +1,4 @@
+-- The fields of the tag are the arguments.
 use Rattle.members.proofs.TagLaws.{next-argument}
 use borrow.Author.Needs.{needs}
 use Rattle.members.proofs.next_argument.Statement.{statement}

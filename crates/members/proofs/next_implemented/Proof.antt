@@ -1,3 +1,4 @@
+-- The fields of the tag are the implemented names.
 use Rattle.members.proofs.TagLaws.{next-implemented}
 use borrow.Author.Needs.{needs}
 use Rattle.members.proofs.next_implemented.Statement.{statement}

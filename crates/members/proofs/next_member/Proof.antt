@@ -1,3 +1,4 @@
+-- Field by field: the members from here on are all.
 use borrow.Author.Needs.{needs}
 use mathlib.Core.Path.{sym, _∙_}
 use Prim.Native.Nat.{_-_}

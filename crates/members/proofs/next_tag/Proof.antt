@@ -1,3 +1,4 @@
+-- Field by field: the first of the tag from here on is the first of all.
 use borrow.Author.Needs.{needs}
 use mathlib.Core.Path.{sym, _∙_}
 use Prim.Native.Nat.{_-_}

@@ -1,3 +1,4 @@
+-- The reference in the first field of the tag.
 use mathlib.Core.Path.{subst}
 use Rattle.fields.specs.Wrappers.{Refers, RefersRead}
 use Rattle.members.proofs.TypeLaws.{type-found, type-none}

@@ -1,3 +1,4 @@
+-- By the definitions that the two names mean.
 use mathlib.Core.Path.{_≡_, sym, _∙_}
 use native.Mathlib.Omega.{arith}
 use Rattle.paper_types.specs.Types.{tableOf, meant}

@@ -1,3 +1,4 @@
+-- The name in the content, then five stores.
 use native.Mathlib.Omega.{arith}
 use Rattle.types.proofs.Recording.{entering-is}
 use borrow.Author.Needs.{needs}

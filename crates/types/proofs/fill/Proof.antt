@@ -1,3 +1,4 @@
+-- The entries, their count, the links.
 use Rattle.types.proofs.Recording.{counted-held, booked-is}
 use borrow.Author.Needs.{needs}
 use Rattle.types.proofs.fill.Statement.{statement}

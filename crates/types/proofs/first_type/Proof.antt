@@ -1,3 +1,4 @@
+-- The first entry of the kinds is the first type.
 use mathlib.Core.Path.{_∙_}
 use Rattle.index.specs.Book.{part}
 use Rattle.types.proofs.Meanings.{type-first}

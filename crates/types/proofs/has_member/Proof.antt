@@ -1,3 +1,4 @@
+-- One is there if and only if one is found.
 use mathlib.Core.Path.{sym, ap, subst, _∙_}
 use Rattle.paper_types.specs.Rules.{memberNamed}
 use Rattle.paper_types.specs.References.{found}

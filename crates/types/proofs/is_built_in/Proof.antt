@@ -1,3 +1,4 @@
+-- Name by name.
 use mathlib.Core.Path.{sym, _∙_}
 use Rattle.index.specs.Book.{part}
 use Rattle.types.proofs.BuiltIns.{built-1, built-2, built-3, built-4, built-5}

@@ -1,3 +1,4 @@
+-- By the two base names: the same, or the second can be the first or not.
 use Rattle.types.proofs.SubTyping.{sub-alike, sub-other}
 use borrow.Author.Needs.{needs}
 use Rattle.types.proofs.is_sub_type.Statement.{statement}

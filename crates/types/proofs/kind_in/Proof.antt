@@ -1,3 +1,4 @@
+-- By whether there is such an entry.
 use mathlib.Core.Path.{_∙_}
 use Prim.Native.Nat.{_<_, _≤_}
 use native.Mathlib.Omega.{arith}

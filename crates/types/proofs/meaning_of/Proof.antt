@@ -1,3 +1,4 @@
+-- A built-in scalar, a number found, or none.
 use mathlib.Core.Path.{sym, _∙_}
 use native.Mathlib.Omega.{arith}
 use Rattle.index.specs.Book.{part}

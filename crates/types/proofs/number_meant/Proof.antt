@@ -1,3 +1,4 @@
+-- A built-in scalar, or the number found.
 use mathlib.Core.Path.{sym, _∙_}
 use Rattle.index.specs.Book.{part}
 use Rattle.types.proofs.Meanings.{number-built-in, number-first}

@@ -1,3 +1,4 @@
+-- Five stores.
 use native.Mathlib.Omega.{arith}
 use Rattle.types.proofs.Recording.{put-is, l1, l2, l3, l4}
 use borrow.Author.Needs.{needs}

@@ -1,3 +1,4 @@
+-- Record by record: the definitions that are not entered yet stand from here on.
 use borrow.Author.Needs.{needs}
 use mathlib.Core.Path.{_≡_, sym, _∙_}
 use lib.ListN.{length}

@@ -1,3 +1,4 @@
+-- The tag of a built-in scalar, of the number found, or none.
 use mathlib.Core.Path.{sym, _∙_}
 use native.Mathlib.Omega.{arith}
 use Rattle.index.specs.Book.{part}
