@@ -11,14 +11,13 @@ use borrow.Author.Tests.{le-leb, lt-leb, leb-true, leb-false, eqb-true, ne-eqb}
 use Rattle.paper.specs.Numbers.{mostWrappers}
 use Rattle.paper_types.specs.TableNumbers.{mostRecords, mostMembers, mostImplemented, tagScalar, tagRoots, tagImplements, tagField, tagArgument, tagReference, tagUnionMember, tagSubscriptionRoot}
 use Rattle.paper_types.specs.Lists.{anyOf, allOf, gather, onlyIf}
-use Rattle.paper_types.specs.References.{Ref, named, listOf, nonNull, refOf}
+use Rattle.paper_types.specs.References.{Ref, refOf}
 use Rattle.paper_types.specs.House.{Piece, piece, cut, pieces, inside, Slot, Content, aName, aReference, noTag, holds, contents, lookUp, contentOf, Offsets, mostDeep, inPlace, openBehind, inOrder, orLacking, byContent, wrongs, recordInPlace, tableWrongs, framing}
 use Rattle.paper_types.specs.TableSizes.{Room, room, counted, isOver, lessRoom, roomInTable, roomIn, oversIn, wrappersOver, oversBy, overs, counts}
 use Rattle.paper_types.specs.Types.{Argument, Member, Definition, orNone, typeIn, textOf, argumentIn, argumentOf, fieldIn, inputIn, nameOnly, memberOf, definitionOf, tableOf}
 use Rattle.paper_types.proofs.ListsLaws.{head-nil}
 use Rattle.paper_types.proofs.Rising.{framing-first, counts-first}
-use Rattle.paper_types.proofs.ReferenceSizes.{wrappers, marksIn, refOf-marks, over-none}
-use Rattle.fields.specs.Wrappers.{wrapperCount}
+use Rattle.paper_types.proofs.ReferenceSizes.{wrappers as wrapperCount, marksIn, refOf-marks, over-none}
 
 -- nothing in two lists
 no-left : {A : Type 0} (xs ys : List A) → xs ++ ys ≡ [] → xs ≡ []
@@ -87,19 +86,12 @@ record-overs d at (suc (suc (suc (suc (suc (suc (suc (suc zero)))))))) s h k = r
 record-overs d at (suc (suc (suc (suc (suc (suc (suc (suc (suc n))))))))) s h k = absurd (omega arith)
 
 -- References: at most seven wrappers.
-same-count : (r : Ref) → wrapperCount r ≡ wrappers r
-unfolding wrapperCount
-same-count (named n) = refl
-same-count (listOf r) = let e = same-count r in omega arith
-same-count (nonNull r) = let e = same-count r in omega arith
-
 ref-slim : (s : List ℕ) → marksIn s ≤ mostWrappers → wrapperCount (orNone (refOf s)) ≤ mostWrappers
-unfolding wrapperCount
 ref-slim s h = go (refOf s) refl
   where
     go : (o : Option Ref) → refOf s ≡ o → wrapperCount (orNone o) ≤ mostWrappers
     go none e = omega arith
-    go (some r) e = omega (arith, same-count r, refOf-marks s r e)
+    go (some r) e = omega (arith, refOf-marks s r e)
 
 text-marks : (d : ℕ) (rooms : List Room) (ps : List Piece) → oversIn (overs (suc d)) rooms ps ≡ [] → marksIn (textOf tagReference ps) ≤ mostWrappers
 unfolding textOf marksIn
@@ -142,7 +134,7 @@ arguments-slim d rooms (piece at tag s ∷ ps) e =
     go false q ih = ih
 
 members-slim : (d : ℕ) (rooms : List Room) (ps : List Piece) → oversIn (overs (suc (suc (suc d)))) rooms ps ≡ [] → allOf slimMember (gather memberOf ps) ≡ true
-unfolding gather allOf memberOf wrapperCount
+unfolding gather allOf memberOf
 members-slim d rooms [] e = refl
 members-slim d rooms (cut at ∷ ps) e = members-slim d rooms ps (cut-fits (overs (suc (suc (suc d)))) rooms at ps e)
 members-slim d rooms (piece at tag s ∷ ps) e =

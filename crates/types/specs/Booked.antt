@@ -11,7 +11,7 @@ use Rattle.paper_types.specs.TableNumbers.{mostTable, tagScalar}
 use Rattle.paper_types.specs.References.{Ref}
 use Rattle.paper_types.specs.Types.{Definition, tableOf, blank, tagNothing, Meaning, builtIn, nothing, definition, meant, canBe}
 use Rattle.paper_types.specs.SubTypes.{subTest}
-use Rattle.fields.specs.Wrappers.{wrapperCount}
+use Rattle.paper_types.proofs.ReferenceSizes.{wrappers as wrapperCount}
 use Rattle.index.specs.Book.{Key, key, part, room, cellName, cellSize, cellStart, cellEnd, bookSize, countIn, keysOf, Indexed}
 use Rattle.members.specs.Members.{definitionFrom, Typed}
 use Rattle.types.specs.declared.Meant.{Meant}
