@@ -42,10 +42,11 @@ module _ (t old book : List ℕ) (k : Kept old book) where
   keys-kept m = rw count-kept (from-kept 0 (countIn old) (omega arith))
 
   pub held-kept : Held t old → Held t book
-  held-kept h = record
-    { cells = k .cells ∙ h .cells
-    ; most = omega (arith, count-kept, h .most)
-    ; within = λ j l.
+  held-kept h = record {
+    cells = k .cells ∙ h .cells;
+    most = omega (arith, count-kept, h .most);
+    within = λ j l.
         let m : j < countIn old = omega (arith, count-kept) in
         let r : j < room = omega (arith, h .most) in
-        rw (k .entries (cellName + j) (omega arith), k .entries (cellSize + j) (omega arith)) (h .within j m) }
+        rw (k .entries (cellName + j) (omega arith), k .entries (cellSize + j) (omega arith)) (h .within j m);
+  }

@@ -21,23 +21,25 @@ use Rattle.listings.specs.Listed.{mostTag, memberOn, Entered, Listed, Li
 
 pub entering-is : (t old book : List ℕ) (i tag start stop at n : ℕ) → Named t at n (memberFrom t tag start stop .name)
     → Put old book i tag at n start stop → Entering t old book i tag start stop
-entering-is t old book i tag start stop at n m p = record
-  { cells = p .cells
-  ; tag-is = p .tag-is
-  ; start-is = p .start-is
-  ; end-is = p .end-is
-  ; name = rw (p .name-is, p .size-is) (m .is)
-  ; name-within = rw (p .name-is, p .size-is) (m .within)
-  ; others = p .others }
+entering-is t old book i tag start stop at n m p = record {
+  cells = p .cells;
+  tag-is = p .tag-is;
+  start-is = p .start-is;
+  end-is = p .end-is;
+  name = rw (p .name-is, p .size-is) (m .is);
+  name-within = rw (p .name-is, p .size-is) (m .within);
+  others = p .others;
+}
 
 -- an entry that is as it was is that of the same member
 entered-same : (t old book : List ℕ) (from end i : ℕ) (m : Member) → SameEntry old book i → Entered t old from end i m → Entered t book from end i m
-entered-same t old book from end i m s e = record
-  { is = e .is ∙ rw (s .kind, s .start, s .end)
-  ; lies = rw (s .start, s .end) (e .lies)
-  ; small = rw (s .kind) (e .small)
-  ; name = rw (s .name, s .size) (e .name)
-  ; name-within = rw (s .name, s .size) (e .name-within) }
+entered-same t old book from end i m s e = record {
+  is = e .is ∙ rw (s .kind, s .start, s .end);
+  lies = rw (s .start, s .end) (e .lies);
+  small = rw (s .kind) (e .small);
+  name = rw (s .name, s .size) (e .name);
+  name-within = rw (s .name, s .size) (e .name-within);
+}
 
 -- what is behind the first i of a list: one more, or nothing
 module _ {A : Type 0} (xs : List A) (i : ℕ) where
@@ -66,13 +68,14 @@ pub record Collecting (t book : List ℕ) (from end at i : ℕ) : Type 0 where
   pub entered : (j : ℕ) → j < i → Entered t book from end j (memberOn t from end j)
 
 pub collecting-start : (t book : List ℕ) (from end : ℕ) → Listable t book from end → Collecting t book from end from 0
-collecting-start t book from end l = record
-  { cells = l .cells
-  ; count = omega arith
-  ; begun = omega arith
-  ; within = l .bounds .order
-  ; rest = refl
-  ; entered = λ j h. absurd (omega arith) }
+collecting-start t book from end l = record {
+  cells = l .cells;
+  count = omega arith;
+  begun = omega arith;
+  within = l .bounds .order;
+  rest = refl;
+  entered = λ j h. absurd (omega arith);
+}
 
 module _ (t book : List ℕ) (from end at i : ℕ) (r : Collecting t book from end at i) where
   pub collecting-end : membersIn t at end ≡ [] → Collected t book from end i
@@ -86,21 +89,24 @@ module _ (t book : List ℕ) (from end at i : ℕ) (r : Collecting t book from e
     member-below = left-below (membersIn t from end) i _ _ next-is
 
     pub collecting-more : (book′ : List ℕ) → tag ≤ mostTag → Entering t book book′ i tag start stop → Collecting t book′ from end stop (i + 1)
-    collecting-more book′ small e = record
-      { cells = e .cells ∙ r .cells
-      ; count = omega (arith, member-below)
-      ; begun = omega (arith, r .begun, f .lies .begins, f .lies .order)
-      ; within = f .lies .within
-      ; rest = left-behind (membersIn t from end) i _ _ next-is
-      ; entered = λ j m. go j m (ltb j i) refl }
+    collecting-more book′ small e = record {
+      cells = e .cells ∙ r .cells;
+      count = omega (arith, member-below);
+      begun = omega (arith, r .begun, f .lies .begins, f .lies .order);
+      within = f .lies .within;
+      rest = left-behind (membersIn t from end) i _ _ next-is;
+      entered = λ j m. go j m (ltb j i) refl;
+    }
       where
         here : Entered t book′ from end i (memberFrom t tag start stop)
-        here = record
-          { is = rw (e .tag-is, e .start-is, e .end-is)
-          ; lies = rw (e .start-is, e .end-is) (record { begins = omega (arith, r .begun, f .lies .begins); order = f .lies .order; within = f .lies .within })
-          ; small = rw (e .tag-is) small
-          ; name = e .name
-          ; name-within = e .name-within }
+        here = record {
+          is = rw (e .tag-is, e .start-is, e .end-is);
+          lies = rw (e .start-is, e .end-is) (record { begins = omega (arith, r .begun, f .lies .begins); order = f .lies .order; within = f .lies .within });
+          small = rw (e .tag-is) small;
+          name = e .name;
+          name-within = e .name-within;
+        }
+
         go : (j : ℕ) → j < i + 1 → (b : Bool) → ltb j i ≡ b → Entered t book′ from end j (memberOn t from end j)
         go j m true z =
             let k : j < i = ltb-true j i z in
@@ -122,35 +128,40 @@ module _ (t book : List ℕ) (from end n : ℕ) (r : Collected t book from end n
   counted-entered j l =
       let h : j < room = omega (arith, r .count-is) in
       entered-same t book counted from end j (memberOn t from end j)
-      (record
-        { kind = getD-set-other book cellCount j n 0 (λ z. omega arith)
-        ; name = getD-set-other book cellCount (cellName + j) n 0 (λ z. omega arith)
-        ; size = getD-set-other book cellCount (cellSize + j) n 0 (λ z. omega arith)
-        ; start = getD-set-other book cellCount (cellStart + j) n 0 (λ z. omega arith)
-        ; end = getD-set-other book cellCount (cellEnd + j) n 0 (λ z. omega arith) })
+      (record {
+        kind = getD-set-other book cellCount j n 0 (λ z. omega arith);
+        name = getD-set-other book cellCount (cellName + j) n 0 (λ z. omega arith);
+        size = getD-set-other book cellCount (cellSize + j) n 0 (λ z. omega arith);
+        start = getD-set-other book cellCount (cellStart + j) n 0 (λ z. omega arith);
+        end = getD-set-other book cellCount (cellEnd + j) n 0 (λ z. omega arith);
+      })
       (r .entered j l)
 
   pub counted-held : Held t counted
-  counted-held = record
-    { cells = length-set book cellCount n ∙ r .cells
-    ; most = omega (arith, counted-is, r .count-is)
-    ; within = λ j l. counted-entered j (omega (arith, counted-is)) .name-within }
+  counted-held = record {
+    cells = length-set book cellCount n ∙ r .cells;
+    most = omega (arith, counted-is, r .count-is);
+    within = λ j l. counted-entered j (omega (arith, counted-is)) .name-within;
+  }
 
   pub listed-is : (linked : List ℕ) → Linked t counted linked → Listed t linked from end
-  listed-is linked k = record
-    { count = e ∙ r .count-is
-    ; entered = λ j l. let m : j < n = omega (arith, e) in entered-same t counted linked from end j (memberOn t from end j) (same-entry j (omega (arith, r .count-is))) (counted-entered j m)
-    ; indexed = k .indexed }
+  listed-is linked k = record {
+    count = e ∙ r .count-is;
+    entered = λ j l. let m : j < n = omega (arith, e) in entered-same t counted linked from end j (memberOn t from end j) (same-entry j (omega (arith, r .count-is))) (counted-entered j m);
+    indexed = k .indexed;
+  }
     where
       e : countIn linked ≡ n
       e = count-kept t counted linked (k .kept) ∙ counted-is
+
       same-entry : (j : ℕ) → j < room → SameEntry counted linked j
-      same-entry j l = record
-        { kind = k .kept .entries j (omega arith)
-        ; name = k .kept .entries (cellName + j) (omega arith)
-        ; size = k .kept .entries (cellSize + j) (omega arith)
-        ; start = k .kept .entries (cellStart + j) (omega arith)
-        ; end = k .kept .entries (cellEnd + j) (omega arith) }
+      same-entry j l = record {
+        kind = k .kept .entries j (omega arith);
+        name = k .kept .entries (cellName + j) (omega arith);
+        size = k .kept .entries (cellSize + j) (omega arith);
+        start = k .kept .entries (cellStart + j) (omega arith);
+        end = k .kept .entries (cellEnd + j) (omega arith);
+      }
 
 -- two lists whose elements pass two tests at the same numbers have their first at the same number
 first-points : {A B : Type 0} (p : A → Bool) (q : B → Bool) (a : A) (b : B) (xs : List A) (ys : List B) → length xs ≡ length ys
@@ -198,11 +209,12 @@ module _ (t book : List ℕ) (from end : ℕ) (b : Listed t book from end) (n : 
     pub listed-found : k < countIn book → Finds from end (startIn book k) (endIn book k) (find (memberNamed n) (membersIn t from end)) (memberFrom t (getD book k 0) (startIn book k) (endIn book k))
     listed-found l =
         let f : firstAt (memberNamed n) (membersIn t from end) ≡ k = sym (e ∙ listed-first) in
-        record
-        { lies = b .entered k l .lies
-        ; is =
-            find-at (memberNamed n) (nameOnly tagNothing []) (membersIn t from end) (omega (arith, f, b .count))
-            ∙ rw f (ap (λ (m : Member). some m) (b .entered k l .is)) }
+        record {
+          lies = b .entered k l .lies;
+          is =
+              find-at (memberNamed n) (nameOnly tagNothing []) (membersIn t from end) (omega (arith, f, b .count))
+              ∙ rw f (ap (λ (m : Member). some m) (b .entered k l .is));
+        }
 
     pub listed-none : countIn book ≤ k → find (memberNamed n) (membersIn t from end) ≡ none
     listed-none l =

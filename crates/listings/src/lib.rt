@@ -26,7 +26,12 @@ fn collect(t: &[u8], book: &mut [u32], from: usize, end: usize) -> usize
     let mut at = from;
     let mut i = 0;
     loop {
-        let FieldFound::Found { tag, start, end: stop } = members::next_member(t, at, end) else {
+        let FieldFound::Found {
+            tag,
+            start,
+            end: stop,
+        } = members::next_member(t, at, end)
+        else {
             return i;
         };
         enter(t, book, i, tag, start, stop);
@@ -50,13 +55,25 @@ const LOWEST: u32 = 0;
 const HIGHEST: u32 = 255;
 
 // The first member, of the record with the content from `from` up to `end`, whose name is the n bytes of s from `at` on.
-pub fn find_listed(t: &[u8], book: &[u32], from: usize, end: usize, s: &[u8], at: usize, n: usize) -> FieldFound
+pub fn find_listed(
+    t: &[u8],
+    book: &[u32],
+    from: usize,
+    end: usize,
+    s: &[u8],
+    at: usize,
+    n: usize,
+) -> FieldFound
     requires { ⌜ Listed (now t) (now book) from end × (at + n ≤ length (now s)) ⌝ }
     ensures { λ r. ⌜ FindMember (now (t .entry)) from end (part (now (s .entry)) at n) r ⌝ }
 {
     let k = index::find_key(t, book, LOWEST, HIGHEST, s, at, n);
     if k < index::count_of(book) {
-        return FieldFound::Found { tag: index::kind_of(book, k) as u8, start: index::start_of(book, k), end: index::end_of(book, k) };
+        return FieldFound::Found {
+            tag: index::kind_of(book, k) as u8,
+            start: index::start_of(book, k),
+            end: index::end_of(book, k),
+        };
     }
     FieldFound::Nothing
 }

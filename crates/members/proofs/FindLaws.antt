@@ -48,15 +48,17 @@ module _ {A : Type 0} (p : A → Bool) (at end i : ℕ) (all left : List A) wher
 
     module _ (start stop : ℕ) (one : A) (others : List A) (f : First i end start stop left one others) where
       pub find-found : p one ≡ true → Finds at end start stop (find p all) one
-      find-found e = record
-        { lies = record { begins = omega (arith, h .begun, f .lies .begins); order = f .lies .order; within = f .lies .within }
-        ; is = h .same ∙ ap (find p) (f .all-are) ∙ find-here p one others e }
+      find-found e = record {
+        lies = record { begins = omega (arith, h .begun, f .lies .begins); order = f .lies .order; within = f .lies .within };
+        is = h .same ∙ ap (find p) (f .all-are) ∙ find-here p one others e;
+      }
 
       pub find-more : p one ≡ false → Sought at end stop (find p all) (find p others)
-      find-more e = record
-        { begun = omega (arith, h .begun, f .lies .begins, f .lies .order)
-        ; within = f .lies .within
-        ; same = h .same ∙ ap (find p) (f .all-are) ∙ find-on p one others e }
+      find-more e = record {
+        begun = omega (arith, h .begun, f .lies .begins, f .lies .order);
+        within = f .lies .within;
+        same = h .same ∙ ap (find p) (f .all-are) ∙ find-on p one others e;
+      }
 
   module _ (h : Sought at end i (anyOf p all) (anyOf p left)) where
     pub any-none : left ≡ [] → false ≡ anyOf p all
@@ -67,10 +69,11 @@ module _ {A : Type 0} (p : A → Bool) (at end i : ℕ) (all left : List A) wher
       any-found e = sym (h .same ∙ ap (anyOf p) (f .all-are) ∙ any-here p one others e)
 
       pub any-more : p one ≡ false → Sought at end stop (anyOf p all) (anyOf p others)
-      any-more e = record
-        { begun = omega (arith, h .begun, f .lies .begins, f .lies .order)
-        ; within = f .lies .within
-        ; same = h .same ∙ ap (anyOf p) (f .all-are) ∙ any-on p one others e }
+      any-more e = record {
+        begun = omega (arith, h .begun, f .lies .begins, f .lies .order);
+        within = f .lies .within;
+        same = h .same ∙ ap (anyOf p) (f .all-are) ∙ any-on p one others e;
+      }
 
 pub first-moves : {A : Type 0} (i end start stop : ℕ) (all : List A) (one : A) (others : List A) → First i end start stop all one others → i < stop
 first-moves i end start stop all one others f = omega (arith, f .lies .begins, f .lies .order)

@@ -62,21 +62,23 @@ module _ (t : List ℕ) (at end i : ℕ) (w : end ≤ length t) (h : Walked at e
     pub members-here : isMember tag ≡ true → First at end start stop (membersIn t at end) (memberFrom t tag start stop) (membersIn t stop end)
     members-here e =
         let f = field-lies t i end tag start stop (h .within) q in
-        record
-        { lies = record { begins = omega (arith, h .begun, f .begins); order = f .order; within = f .within }
-        ; all-are =
-            h .same ∙ gather-field memberOf member-cut t i end w l tag start stop q
-            ∙ ap (λ (m : List Member). m ++ membersIn t stop end) (member-is t i tag start stop (f .begins) e) }
+        record {
+          lies = record { begins = omega (arith, h .begun, f .begins); order = f .order; within = f .within };
+          all-are =
+              h .same ∙ gather-field memberOf member-cut t i end w l tag start stop q
+              ∙ ap (λ (m : List Member). m ++ membersIn t stop end) (member-is t i tag start stop (f .begins) e);
+        }
 
     pub members-on : isMember tag ≡ false → Walked at end stop (membersIn t at end) (membersIn t stop end)
     members-on e =
         let f = field-lies t i end tag start stop (h .within) q in
-        record
-        { begun = omega (arith, h .begun, f .begins, f .order)
-        ; within = f .within
-        ; same =
-            h .same ∙ gather-field memberOf member-cut t i end w l tag start stop q
-            ∙ ap (λ (m : List Member). m ++ membersIn t stop end) (member-not i tag (slice start stop t) e) }
+        record {
+          begun = omega (arith, h .begun, f .begins, f .order);
+          within = f .within;
+          same =
+              h .same ∙ gather-field memberOf member-cut t i end w l tag start stop q
+              ∙ ap (λ (m : List Member). m ++ membersIn t stop end) (member-not i tag (slice start stop t) e);
+        }
 
     pub field-moves : i < stop
     field-moves = let f = field-lies t i end tag start stop (h .within) q in omega (arith, f .begins, f .order)

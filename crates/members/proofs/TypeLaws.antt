@@ -31,10 +31,11 @@ module _ (t : List ℕ) (start end from to : ℕ) (f : Finds t start end tagRefe
   pub type-found : (a e wrappers : ℕ) → Refers t from to a e wrappers → Typed t a (e - a) wrappers (typeIn (fieldsIn t start end))
   type-found a e wrappers r =
       let q : typeIn (fieldsIn t start end) ≡ r .ref = ap (λ (s : List ℕ). orNone (refOf s)) (sym (f .text)) ∙ ap orNone (r .is) in
-      rw q (record
-        { base = part-slice t a e ∙ sym (r .base)
-        ; packs = r .packs
-        ; within = omega (arith, r .order, r .within, f .within) })
+      rw q (record {
+        base = part-slice t a e ∙ sym (r .base);
+        packs = r .packs;
+        within = omega (arith, r .order, r .within, f .within);
+      })
 
   pub type-none : start ≤ end → refOf (slice from to t) ≡ none → Typed t start 0 0 (typeIn (fieldsIn t start end))
   type-none h e =

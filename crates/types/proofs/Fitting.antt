@@ -143,6 +143,7 @@ members-slim d rooms (piece at tag s ∷ ps) e =
   where
     fits : overs (suc (suc (suc d))) at tag s ≡ []
     fits = inner-fits (overs (suc (suc (suc d)))) rooms at tag s ps e
+
     go : (b : Bool) → eqb tag tagField ≡ b → (c : Bool) → eqb tag tagArgument ≡ c → (u : Bool) → allOf slimMember (gather memberOf ps) ≡ true
         → allOf slimMember (cond b (fieldIn at s ∷ []) (cond c (inputIn at s ∷ []) (onlyIf u (nameOnly tag s))) ++ gather memberOf ps) ≡ true
     go true q c r u ih =
@@ -221,11 +222,26 @@ definitions-few inner roots n (piece at tag s ∷ ps) w e =
 no-such-tag : (tag : ℕ) → tagSubscriptionRoot < tag → contentOf tag ≡ noTag
 unfolding lookUp contents
 no-such-tag tag h =
-    rw (ne-eqb tag 1 (λ z. omega arith), ne-eqb tag 2 (λ z. omega arith), ne-eqb tag 3 (λ z. omega arith), ne-eqb tag 4 (λ z. omega arith),
-    ne-eqb tag 5 (λ z. omega arith), ne-eqb tag 6 (λ z. omega arith), ne-eqb tag 7 (λ z. omega arith), ne-eqb tag 8 (λ z. omega arith),
-    ne-eqb tag 18 (λ z. omega arith), ne-eqb tag 19 (λ z. omega arith), ne-eqb tag 16 (λ z. omega arith), ne-eqb tag 17 (λ z. omega arith),
-    ne-eqb tag 20 (λ z. omega arith), ne-eqb tag 21 (λ z. omega arith), ne-eqb tag 22 (λ z. omega arith), ne-eqb tag 23 (λ z. omega arith),
-    ne-eqb tag 24 (λ z. omega arith), ne-eqb tag 25 (λ z. omega arith))
+    rw (
+      ne-eqb tag 1 (λ z. omega arith),
+      ne-eqb tag 2 (λ z. omega arith),
+      ne-eqb tag 3 (λ z. omega arith),
+      ne-eqb tag 4 (λ z. omega arith),
+      ne-eqb tag 5 (λ z. omega arith),
+      ne-eqb tag 6 (λ z. omega arith),
+      ne-eqb tag 7 (λ z. omega arith),
+      ne-eqb tag 8 (λ z. omega arith),
+      ne-eqb tag 18 (λ z. omega arith),
+      ne-eqb tag 19 (λ z. omega arith),
+      ne-eqb tag 16 (λ z. omega arith),
+      ne-eqb tag 17 (λ z. omega arith),
+      ne-eqb tag 20 (λ z. omega arith),
+      ne-eqb tag 21 (λ z. omega arith),
+      ne-eqb tag 22 (λ z. omega arith),
+      ne-eqb tag 23 (λ z. omega arith),
+      ne-eqb tag 24 (λ z. omega arith),
+      ne-eqb tag 25 (λ z. omega arith),
+    )
 
 right-tag : (d at tag : ℕ) (s : List ℕ) → wrongs (suc d) at tag s ≡ [] → tag ≤ tagSubscriptionRoot
 unfolding wrongs byContent
@@ -310,6 +326,7 @@ members-few d inner slots m n (piece at tag s ∷ ps) w e =
         go′ : (b : Bool) → leb tagField tag ≡ b → tag < tagField
         go′ true q = absurd (false≢true (sym c ∙ rw (q, le-leb tag tagSubscriptionRoot (order-tag d slots at tag s ps w))))
         go′ false q = leb-false tagField tag q
+
     go : (b : Bool) → isCounted tag ≡ b → (k : ℕ) → (isCounted tag ≡ true → k ≡ 0 → ⊥) → length (gather memberOf ps) ≤ cond b (pred k) k → length (memberOf (piece at tag s) ++ gather memberOf ps) ≤ k
     go true c zero z i = absurd (z c refl)
     go true c (suc k) z i = omega (arith, length-append (memberOf (piece at tag s)) (gather memberOf ps), one-member at tag s, i)

@@ -70,11 +70,13 @@ module _ (t book : List ℕ) (b : Booked t book) (n : List ℕ) where
 
   -- the number of the definition meant
   pub number-built-in : {i : ℕ} → isBuiltIn n ≡ true → i ≡ countIn book → NumberMeant t book n i
-  number-built-in q e = record
-    { is = λ l. absurd (omega arith)
-    ; none = λ l. let k = tag-built-in q in omega (arith, k) }
+  number-built-in q e = record {
+    is = λ l. absurd (omega arith);
+    none = λ l. let k = tag-built-in q in omega (arith, k);
+  }
 
   pub number-first : {i : ℕ} → isBuiltIn n ≡ false → i ≡ firstAt (typeNamed n) (tableOf t) → NumberMeant t book n i
-  number-first q e = record
-    { is = λ l. meant-first (tableOf t) n ∙ rw (q, ← e)
-    ; none = λ l. let k = tag-nothing e q l in omega (arith, k) }
+  number-first q e = record {
+    is = λ l. meant-first (tableOf t) n ∙ rw (q, ← e);
+    none = λ l. let k = tag-nothing e q l in omega (arith, k);
+  }

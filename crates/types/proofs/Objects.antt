@@ -122,7 +122,8 @@ module _ (t : Table) (a o : List ℕ) where
 
 -- the content of an entry lies in the table
 pub entry-bounds : (t book : List ℕ) (b : Booked t book) (i : ℕ) {start end : ℕ} → i < countIn book → start ≡ startIn book i → end ≡ endIn book i → Bounds t start end
-entry-bounds t book b i l e f = record
-  { order = omega (arith, e, f, b .entered i l .order)
-  ; within = omega (arith, f, b .entered i l .within)
-  ; most = b .short }
+entry-bounds t book b i l e f = record {
+  order = omega (arith, e, f, b .entered i l .order);
+  within = omega (arith, f, b .entered i l .within);
+  most = b .short;
+}

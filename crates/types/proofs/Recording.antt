@@ -69,47 +69,52 @@ module _ (old : List ℕ) (i tag name size start end : ℕ) (l : length old ≡ 
       ∙ getD-set-other b1 (cellName + i) k name 0 f ∙ getD-set-other old i k tag 0 e
 
   pub put-is : Put old b5 i tag name size start end
-  put-is = record
-    { cells = put-length old i tag name size start end
-    ; tag-is =
+  put-is = record {
+    cells = put-length old i tag name size start end;
+    tag-is =
         getD-set-other b4 (cellEnd + i) i end 0 (λ z. omega arith) ∙ getD-set-other b3 (cellStart + i) i start 0 (λ z. omega arith)
         ∙ getD-set-other b2 (cellSize + i) i size 0 (λ z. omega arith) ∙ getD-set-other b1 (cellName + i) i name 0 (λ z. omega arith)
-        ∙ getD-set-same old i tag 0 (omega arith)
-    ; name-is =
+        ∙ getD-set-same old i tag 0 (omega arith);
+    name-is =
         getD-set-other b4 (cellEnd + i) (cellName + i) end 0 (λ z. omega arith) ∙ getD-set-other b3 (cellStart + i) (cellName + i) start 0 (λ z. omega arith)
-        ∙ getD-set-other b2 (cellSize + i) (cellName + i) size 0 (λ z. omega arith) ∙ getD-set-same b1 (cellName + i) name 0 (omega (arith, l1))
-    ; size-is =
+        ∙ getD-set-other b2 (cellSize + i) (cellName + i) size 0 (λ z. omega arith) ∙ getD-set-same b1 (cellName + i) name 0 (omega (arith, l1));
+    size-is =
         getD-set-other b4 (cellEnd + i) (cellSize + i) end 0 (λ z. omega arith) ∙ getD-set-other b3 (cellStart + i) (cellSize + i) start 0 (λ z. omega arith)
-        ∙ getD-set-same b2 (cellSize + i) size 0 (omega (arith, l2))
-    ; start-is = getD-set-other b4 (cellEnd + i) (cellStart + i) end 0 (λ z. omega arith) ∙ getD-set-same b3 (cellStart + i) start 0 (omega (arith, l3))
-    ; end-is = getD-set-same b4 (cellEnd + i) end 0 (omega (arith, l4))
-    ; others = λ j h. record
-      { kind = other j (λ z. omega arith) (λ z. omega arith) (λ z. omega arith) (λ z. omega arith) (λ z. omega arith)
-      ; name = other (cellName + j) (λ z. omega arith) (λ z. omega arith) (λ z. omega arith) (λ z. omega arith) (λ z. omega arith)
-      ; size = other (cellSize + j) (λ z. omega arith) (λ z. omega arith) (λ z. omega arith) (λ z. omega arith) (λ z. omega arith)
-      ; start = other (cellStart + j) (λ z. omega arith) (λ z. omega arith) (λ z. omega arith) (λ z. omega arith) (λ z. omega arith)
-      ; end = other (cellEnd + j) (λ z. omega arith) (λ z. omega arith) (λ z. omega arith) (λ z. omega arith) (λ z. omega arith) } }
+        ∙ getD-set-same b2 (cellSize + i) size 0 (omega (arith, l2));
+    start-is = getD-set-other b4 (cellEnd + i) (cellStart + i) end 0 (λ z. omega arith) ∙ getD-set-same b3 (cellStart + i) start 0 (omega (arith, l3));
+    end-is = getD-set-same b4 (cellEnd + i) end 0 (omega (arith, l4));
+    others = λ j h. record {
+      kind = other j (λ z. omega arith) (λ z. omega arith) (λ z. omega arith) (λ z. omega arith) (λ z. omega arith);
+      name = other (cellName + j) (λ z. omega arith) (λ z. omega arith) (λ z. omega arith) (λ z. omega arith) (λ z. omega arith);
+      size = other (cellSize + j) (λ z. omega arith) (λ z. omega arith) (λ z. omega arith) (λ z. omega arith) (λ z. omega arith);
+      start = other (cellStart + j) (λ z. omega arith) (λ z. omega arith) (λ z. omega arith) (λ z. omega arith) (λ z. omega arith);
+      end = other (cellEnd + j) (λ z. omega arith) (λ z. omega arith) (λ z. omega arith) (λ z. omega arith) (λ z. omega arith);
+    };
+  }
 
 -- an entry that is as it was is that of the same definition
 pub entered-same : (t old book : List ℕ) (i : ℕ) (d : Definition) → SameEntry old book i → Entered t old i d → Entered t book i d
-entered-same t old book i d s e = record
-  { is = e .is ∙ rw (s .kind, s .start, s .end)
-  ; order = rw (s .start, s .end) (e .order)
-  ; within = rw (s .end) (e .within)
-  ; name = rw (s .name, s .size) (e .name)
-  ; name-within = rw (s .name, s .size) (e .name-within) }
+entered-same t old book i d s e = record {
+  is = e .is ∙ rw (s .kind, s .start, s .end);
+  order = rw (s .start, s .end) (e .order);
+  within = rw (s .end) (e .within);
+  name = rw (s .name, s .size) (e .name);
+  name-within = rw (s .name, s .size) (e .name-within);
+}
 
 pub entering-is : (t old book : List ℕ) (i tag start end at n : ℕ) → start ≤ end → end ≤ length t → Named t at n (nameIn (fieldsIn t start end))
     → Put old book i tag at n start end → Entering t old book i tag start end
-entering-is t old book i tag start end at n h w m p = record
-  { cells = p .cells
-  ; entered = record
-    { is = rw (p .tag-is, p .start-is, p .end-is)
-    ; order = rw (p .start-is, p .end-is) h
-    ; within = rw (p .end-is) w
-    ; name = rw (p .name-is, p .size-is) (m .is)
-    ; name-within = rw (p .name-is, p .size-is) (m .within) }
-  ; others = p .others }
+entering-is t old book i tag start end at n h w m p = record {
+  cells = p .cells;
+  entered = record {
+    is = rw (p .tag-is, p .start-is, p .end-is);
+    order = rw (p .start-is, p .end-is) h;
+    within = rw (p .end-is) w;
+    name = rw (p .name-is, p .size-is) (m .is);
+    name-within = rw (p .name-is, p .size-is) (m .within);
+  };
+  others = p .others;
+}
 
 -- the first i definitions are entered, and the others stand from `at` on
 pub record Recording (t book : List ℕ) (at i : ℕ) : Type 0 where
@@ -132,12 +137,13 @@ unfolding definitionOf
 definition-is t at tag start stop e = rw (← e)
 
 pub recording-start : (t book : List ℕ) → Bookable t book → Recording t book 0 0
-recording-start t book b = record
-  { cells = b .cells
-  ; count = omega arith
-  ; within = omega arith
-  ; rest = table-is t
-  ; entered = λ j l. absurd (omega arith) }
+recording-start t book b = record {
+  cells = b .cells;
+  count = omega arith;
+  within = omega arith;
+  rest = table-is t;
+  entered = λ j l. absurd (omega arith);
+}
 
 nothing-left : {A : Type 0} (xs : List A) (i : ℕ) → i ≤ length xs → drop i xs ≡ [] → i ≡ length xs
 nothing-left xs i h e = let k : length (drop i xs) ≡ 0 = ap length e in omega (arith, k, length-drop i xs)
@@ -182,12 +188,13 @@ module _ (t book : List ℕ) (at i : ℕ) (r : Recording t book at i) where
     behind = sym (drop-drop 1 i (tableOf t)) ∙ ap (drop 1) next-is
 
     pub recording-more : (book′ : List ℕ) → Entering t book book′ i tag start stop → Recording t book′ stop (i + 1)
-    recording-more book′ e = record
-      { cells = e .cells ∙ r .cells
-      ; count = omega (arith, next-below)
-      ; within = next-bounds .1
-      ; rest = behind
-      ; entered = λ j m. go j m (ltb j i) refl }
+    recording-more book′ e = record {
+      cells = e .cells ∙ r .cells;
+      count = omega (arith, next-below);
+      within = next-bounds .1;
+      rest = behind;
+      entered = λ j m. go j m (ltb j i) refl;
+    }
       where
         go : (j : ℕ) → j < i + 1 → (b : Bool) → ltb j i ≡ b → Entered t book′ j (definitionOn t j)
         go j m true z =
@@ -212,33 +219,36 @@ module _ (t book : List ℕ) (n : ℕ) (r : Recorded t book n) (few : length (ta
   counted-is = getD-set-same book cellCount n 0 (omega (arith, r .cells))
 
   counted-same : (j : ℕ) → j < room → SameEntry book counted j
-  counted-same j l = record
-    { kind = getD-set-other book cellCount j n 0 (λ z. omega arith)
-    ; name = getD-set-other book cellCount (cellName + j) n 0 (λ z. omega arith)
-    ; size = getD-set-other book cellCount (cellSize + j) n 0 (λ z. omega arith)
-    ; start = getD-set-other book cellCount (cellStart + j) n 0 (λ z. omega arith)
-    ; end = getD-set-other book cellCount (cellEnd + j) n 0 (λ z. omega arith) }
+  counted-same j l = record {
+    kind = getD-set-other book cellCount j n 0 (λ z. omega arith);
+    name = getD-set-other book cellCount (cellName + j) n 0 (λ z. omega arith);
+    size = getD-set-other book cellCount (cellSize + j) n 0 (λ z. omega arith);
+    start = getD-set-other book cellCount (cellStart + j) n 0 (λ z. omega arith);
+    end = getD-set-other book cellCount (cellEnd + j) n 0 (λ z. omega arith);
+  }
 
   counted-entered : (j : ℕ) → j < n → Entered t counted j (definitionOn t j)
   counted-entered j l = entered-same t book counted j (definitionOn t j) (counted-same j (omega (arith, r .count-is))) (r .entered j l)
 
   pub counted-held : Held t counted
-  counted-held = record
-    { cells = length-set book cellCount n ∙ r .cells
-    ; most = omega (arith, counted-is, r .count-is)
-    ; within = λ j l. counted-entered j (omega (arith, counted-is)) .name-within }
+  counted-held = record {
+    cells = length-set book cellCount n ∙ r .cells;
+    most = omega (arith, counted-is, r .count-is);
+    within = λ j l. counted-entered j (omega (arith, counted-is)) .name-within;
+  }
 
   module _ (linked : List ℕ) (k : Linked t counted linked) where
     count-linked : countIn linked ≡ n
     count-linked = count-kept t counted linked (k .kept) ∙ counted-is
 
     linked-same : (j : ℕ) → j < room → SameEntry counted linked j
-    linked-same j l = record
-      { kind = k .kept .entries j (omega arith)
-      ; name = k .kept .entries (cellName + j) (omega arith)
-      ; size = k .kept .entries (cellSize + j) (omega arith)
-      ; start = k .kept .entries (cellStart + j) (omega arith)
-      ; end = k .kept .entries (cellEnd + j) (omega arith) }
+    linked-same j l = record {
+      kind = k .kept .entries j (omega arith);
+      name = k .kept .entries (cellName + j) (omega arith);
+      size = k .kept .entries (cellSize + j) (omega arith);
+      start = k .kept .entries (cellStart + j) (omega arith);
+      end = k .kept .entries (cellEnd + j) (omega arith);
+    }
 
     linked-entered : (j : ℕ) → j < n → Entered t linked j (definitionOn t j)
     linked-entered j l = entered-same t counted linked j (definitionOn t j) (linked-same j (omega (arith, r .count-is))) (counted-entered j l)
@@ -257,9 +267,10 @@ module _ (t book : List ℕ) (n : ℕ) (r : Recorded t book n) (few : length (ta
         keys-at t linked j (omega (arith, count-linked)) ∙ one-key j m ∙ sym (map-keys (tableOf t) j))
 
     pub booked-is : length t ≤ mostTable → Booked t linked
-    booked-is s = record
-      { short = s
-      ; count = count-linked ∙ r .count-is
-      ; entered = λ i l. linked-entered i (omega (arith, count-linked))
-      ; keys = linked-keys
-      ; indexed = k .indexed }
+    booked-is s = record {
+      short = s;
+      count = count-linked ∙ r .count-is;
+      entered = λ i l. linked-entered i (omega (arith, count-linked));
+      keys = linked-keys;
+      indexed = k .indexed;
+    }
