@@ -642,7 +642,7 @@ def size_tables():
 def random_case(rng):
     """One table; most are small."""
     way = rng.randrange(20)
-    definitions = valid(rng, rng.choice([0, 1, 1, 1, 2, 2, 3] + [5] * (way == 0)))
+    definitions = valid(rng, rng.choice([0, 1, 1, 1, 1, 2, 3] + [5] * (way == 0)))
     if way < 3:
         return table(definitions)
     if way < 12:
