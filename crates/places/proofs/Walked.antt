@@ -1,0 +1,59 @@
+-- A walk by numbers over what stands in a content: the first place that it meets.
+use mathlib.Core.Path.{_≡_, refl, sym, ap, _∙_}
+use mathlib.Core.Bool.{Bool, true, false, cond}
+use mathlib.Core.Option.{Option, none, some}
+use mathlib.Core.List.{List, [], _∷_, _++_, head?}
+use Prim.Native.Nat.{ℕ, suc, _+_, _≤_, _<_}
+use native.Mathlib.Omega.{arith}
+use Rattle.paper_types.specs.Lists.{eachFrom, each, onlyIf}
+use Rattle.paper_types.specs.Rules.{Place}
+use Rattle.paper_types.proofs.ListsLaws.{head-right, eachFrom-nil, eachFrom-cons}
+use Rattle.members.specs.Members.{Lies, First}
+use Rattle.places.specs.Places.{placed}
+use Rattle.places.specs.declared.PlaceRead.{PlaceRead}
+use Rattle.places.specs.declared.PlaceRead.the-variants.{At, Kept}
+
+-- Kept is said of no place
+pub kept-none : (o : Option Place) → Kept ≡ placed o → o ≡ none
+kept-none none e = refl
+kept-none (some q) e = let z : Kept ≡ At (q .member) (q .part) (q .argument) = e in cc
+
+-- a test's place
+pub only-head : (b : Bool) (q : Place) → placed (head? (onlyIf b q)) ≡ cond b (At (q .member) (q .part) (q .argument)) Kept
+only-head true q = refl
+only-head false q = refl
+
+-- places of two lists: the first's, or else the second's
+pub placed-left : (xs ys : List Place) (m p a : ℕ) → At m p a ≡ placed (head? xs) → At m p a ≡ placed (head? (xs ++ ys))
+placed-left [] ys m p a e = let z : At m p a ≡ Kept = e in cc
+placed-left (x ∷ xs) ys m p a e = e
+
+pub placed-right : (xs ys : List Place) → Kept ≡ placed (head? xs) → placed (head? (xs ++ ys)) ≡ placed (head? ys)
+placed-right xs ys e = ap placed (head-right xs ys (kept-none (head? xs) e))
+
+-- what a walk at i knows, where m were met: what is met first from there on is what is met first of all
+pub record Walking {A : Type 0} (f : ℕ → A → List Place) (at end i m : ℕ) (all left : List A) : Type 0 where
+  pub begun : at + m ≤ i
+  pub within : i ≤ end
+  pub same : placed (head? (each f all)) ≡ placed (head? (eachFrom m f left))
+
+module _ {A : Type 0} (f : ℕ → A → List Place) where
+  pub walking-start : (at end : ℕ) (all : List A) → at ≤ end → Walking f at end at 0 all all
+  walking-start at end all h = record { begun = omega arith; within = h; same = refl }
+
+  module _ (at end i m : ℕ) (all left : List A) (w : Walking f at end i m all left) where
+    pub walking-end : left ≡ [] → Kept ≡ placed (head? (each f all))
+    walking-end e = sym (w .same ∙ ap (λ (xs : List A). placed (head? (eachFrom m f xs))) e ∙ ap (λ (ps : List Place). placed (head? ps)) (eachFrom-nil m f))
+
+    module _ (start stop : ℕ) (one : A) (others : List A) (n : First i end start stop left one others) where
+      opened : placed (head? (each f all)) ≡ placed (head? (f m one ++ eachFrom (suc m) f others))
+      opened = w .same ∙ ap (λ (xs : List A). placed (head? (eachFrom m f xs))) (n .all-are) ∙ ap (λ (ps : List Place). placed (head? ps)) (eachFrom-cons m f one others)
+
+      pub walking-here : (k p a : ℕ) → At k p a ≡ placed (head? (f m one)) → At k p a ≡ placed (head? (each f all))
+      walking-here k p a e = placed-left (f m one) (eachFrom (suc m) f others) k p a e ∙ sym opened
+
+      pub walking-on : Kept ≡ placed (head? (f m one)) → Walking f at end stop (suc m) all others
+      walking-on e = record
+        { begun = omega (arith, w .begun, n .lies .begins, n .lies .order)
+        ; within = n .lies .within
+        ; same = opened ∙ placed-right (f m one) (eachFrom (suc m) f others) e }
