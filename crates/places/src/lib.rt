@@ -1,7 +1,8 @@
-// Where a schema rule is broken first. No function.
+// The first place of a definition that breaks a rule, as the functions that look for it answer. No function.
 
-// Member, part and argument of the place, 65,535 where there is none; or the rule is kept.
 pub enum PlaceRead {
+    // the place in the definition; 65,535 is none
     At { member: u32, part: u32, argument: u32 },
+    // the rule is kept
     Kept,
 }

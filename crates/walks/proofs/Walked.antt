@@ -9,9 +9,9 @@ use Rattle.paper_types.specs.Lists.{eachFrom, each, onlyIf}
 use Rattle.paper_types.specs.Rules.{Place}
 use Rattle.paper_types.proofs.ListsLaws.{head-right, eachFrom-nil, eachFrom-cons}
 use Rattle.members.specs.Members.{Lies, First}
-use Rattle.places.specs.Places.{placed}
+use Rattle.places.specs.Placed.{placed}
 use Rattle.places.specs.declared.PlaceRead.{PlaceRead}
 use Rattle.places.specs.declared.PlaceRead.the-variants.{At, Kept}
 
 -- Kept is said of no place
 pub kept-none : (o : Option Place) → Kept ≡ placed o → o ≡ none

@@ -1,0 +1,49 @@
+use borrow.Author.Needs.{needs}
+use mathlib.Core.Path.{_≡_, ap, _∙_}
+use mathlib.Core.Bool.{not}
+use Prim.Native.Nat.{ℕ, _-_}
+use native.Mathlib.Omega.{arith}
+use lib.Dec.{eqb}
+use Rattle.paper_types.specs.Types.{tableOf}
+use Rattle.index.specs.Book.{part}
+use Rattle.members.specs.Members.{implementedIn}
+use Rattle.faults.proofs.FailLaws.{implemented-ten, implemented-other}
+use Rattle.faults.proofs.is_implemented_broken.Statement.{statement}
+use Rattle.faults.proofs.is_implemented_broken.Tie as tie
+use Rattle.faults.proofs.is_implemented_before.Reads as is-implemented-before-reads
+use Rattle.faults.proofs.is_implemented_broken.Reads as reads
+use Rattle.types.proofs.tag_meant.Reads as tag-meant-reads
+use Rattle.faults.proofs.is_implemented_broken.Lts as lts
+
+sub-is-implemented-before : tie.Need-sub-is-implemented-before
+sub-is-implemented-before c = search needs
+
+is-implemented-before-requires : tie.Need-is-implemented-before-requires
+is-implemented-before-requires c κs = search needs
+
+returns : tie.Need-returns
+returns c =
+    let a = c .before .before .before .before .args in
+    c .is-implemented-before .ensures ∙ implemented-ten (a .rule) (tableOf (a .t .now)) (implementedIn (a .t .now) (a .from) (a .end)) (a .m) (part (a .t .now) (a .start) (a .stop - a .start)) (c .before .if1 .taken)
+
+sub-tag-meant : tie.Need-sub-tag-meant
+sub-tag-meant c = search needs
+
+tag-meant-requires : tie.Need-tag-meant-requires
+tag-meant-requires c κs = search needs
+
+returns-2 : tie.Need-returns-2
+returns-2 c =
+    let a = c .before .before .before .before .args in
+    ap (λ (k : ℕ). not (eqb k 3)) (c .tag-meant .ensures) ∙ implemented-other (a .rule) (tableOf (a .t .now)) (implementedIn (a .t .now) (a .from) (a .end)) (a .m) (part (a .t .now) (a .start) (a .stop - a .start)) (c .before .if1 .left)
+
+pub is-implemented-broken-spec : {M : Type 1} → statement M
+is-implemented-broken-spec =
+    tie.close
+    (tie.spec
+    sub-is-implemented-before
+    is-implemented-before-requires
+    returns
+    sub-tag-meant
+    tag-meant-requires
+    returns-2)
