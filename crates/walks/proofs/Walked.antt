@@ -1,6 +1,6 @@
 -- A walk by numbers over what stands in a content: the first place that it meets.
 use mathlib.Core.Path.{_≡_, refl, sym, ap, _∙_}
-use mathlib.Core.Bool.{Bool, true, false, cond}
+use mathlib.Core.Bool.{Bool, true, false}
 use mathlib.Core.Option.{Option, none, some}
 use mathlib.Core.List.{List, [], _∷_, _++_, head?}
 use Prim.Native.Nat.{ℕ, suc, _+_, _≤_, _<_}
@@ -19,9 +19,11 @@ kept-none none e = refl
 kept-none (some q) e = let z : Kept ≡ At (q .member) (q .part) (q .argument) = e in cc
 
 -- a test's place
-pub only-head : (b : Bool) (q : Place) → placed (head? (onlyIf b q)) ≡ cond b (At (q .member) (q .part) (q .argument)) Kept
-only-head true q = refl
-only-head false q = refl
+pub only-true : (b : Bool) (q : Place) → b ≡ true → At (q .member) (q .part) (q .argument) ≡ placed (head? (onlyIf b q))
+only-true b q e = rw e refl
+
+pub only-false : (b : Bool) (q : Place) → b ≡ false → Kept ≡ placed (head? (onlyIf b q))
+only-false b q e = rw e refl
 
 -- places of two lists: the first's, or else the second's
 pub placed-left : (xs ys : List Place) (m p a : ℕ) → At m p a ≡ placed (head? xs) → At m p a ≡ placed (head? (xs ++ ys))
@@ -30,6 +32,9 @@ placed-left (x ∷ xs) ys m p a e = e
 
 pub placed-right : (xs ys : List Place) → Kept ≡ placed (head? xs) → placed (head? (xs ++ ys)) ≡ placed (head? ys)
 placed-right xs ys e = ap placed (head-right xs ys (kept-none (head? xs) e))
+
+pub told-left : (xs ys : List Place) (r : PlaceRead) (m p a : ℕ) → r ≡ placed (head? xs) → r ≡ At m p a → r ≡ placed (head? (xs ++ ys))
+told-left xs ys r m p a e f = f ∙ placed-left xs ys m p a (sym f ∙ e)
 
 -- what a walk at i knows, where m were met: what is met first from there on is what is met first of all
 pub record Walking {A : Type 0} (f : ℕ → A → List Place) (at end i m : ℕ) (all left : List A) : Type 0 where
@@ -52,8 +57,13 @@ module _ {A : Type 0} (f : ℕ → A → List Place) where
       pub walking-here : (k p a : ℕ) → At k p a ≡ placed (head? (f m one)) → At k p a ≡ placed (head? (each f all))
       walking-here k p a e = placed-left (f m one) (eachFrom (suc m) f others) k p a e ∙ sym opened
 
-      pub walking-on : Kept ≡ placed (head? (f m one)) → Walking f at end stop (suc m) all others
+      pub walking-told : (r : PlaceRead) (k p a : ℕ) → r ≡ placed (head? (f m one)) → r ≡ At k p a → r ≡ placed (head? (each f all))
+      walking-told r k p a e g = g ∙ walking-here k p a (sym g ∙ e)
+
+      pub walking-on : Kept ≡ placed (head? (f m one)) → Walking f at end stop (m + 1) all others
       walking-on e = record
         { begun = omega (arith, w .begun, n .lies .begins, n .lies .order)
         ; within = n .lies .within
-        ; same = opened ∙ placed-right (f m one) (eachFrom (suc m) f others) e }
+        ; same =
+            opened ∙ placed-right (f m one) (eachFrom (suc m) f others) e
+            ∙ ap (λ (k : ℕ). placed (head? (eachFrom k f others))) (let q : suc m ≡ m + 1 = omega arith in q) }
