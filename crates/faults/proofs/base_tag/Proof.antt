@@ -5,10 +5,6 @@ use Prim.Native.Nat.{ℕ}
 use Rattle.paper_types.specs.Types.{tableOf, meant}
 use Rattle.faults.proofs.base_tag.Statement.{statement}
 use Rattle.faults.proofs.base_tag.Tie as tie
-use Rattle.faults.proofs.base_tag.Reads as reads
-use Rattle.members.proofs.type_in.Reads as type-in-reads
-use Rattle.types.proofs.tag_meant.Reads as tag-meant-reads
-use Rattle.faults.proofs.base_tag.Lts as lts
 
 type-in-requires : tie.Need-type-in-requires
 type-in-requires c κs = search needs

@@ -11,11 +11,6 @@ use Rattle.faults.proofs.CountedLaws.{Counting, counting-start, countin
 use Rattle.paper_types.specs.Rules.{argumentNamed}
 use Rattle.faults.proofs.is_argument_before.Statement.{statement}
 use Rattle.faults.proofs.is_argument_before.Tie as tie
-use Rattle.faults.proofs.is_argument_before.Reads as reads
-use Rattle.index.proofs.is_text.Reads as is-text-reads
-use Rattle.members.proofs.name_in.Reads as name-in-reads
-use Rattle.members.proofs.next_argument.Reads as next-argument-reads
-use Rattle.faults.proofs.is_argument_before.Lts as lts
 
 abbrev Inv-loop : tie.InvT-loop
 Inv-loop t from end count at n i₀ left₀ i left = Counting (argumentNamed (part t at n)) from end i count left (argumentsIn t from end) (argumentsIn t i end)

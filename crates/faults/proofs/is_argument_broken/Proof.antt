@@ -14,13 +14,6 @@ use Rattle.faults.specs.Faults.{isOutputTag}
 use Rattle.faults.proofs.FailLaws.{argument-seven, argument-eight, argument-four, argument-five, argument-other}
 use Rattle.faults.proofs.is_argument_broken.Statement.{statement}
 use Rattle.faults.proofs.is_argument_broken.Tie as tie
-use Rattle.faults.proofs.base_tag.Reads as base-tag-reads
-use Rattle.faults.proofs.is_argument_before.Reads as is-argument-before-reads
-use Rattle.faults.proofs.is_argument_broken.Reads as reads
-use Rattle.faults.proofs.is_output.Reads as is-output-reads
-use Rattle.faults.proofs.is_reserved.Reads as is-reserved-reads
-use Rattle.members.proofs.name_in.Reads as name-in-reads
-use Rattle.faults.proofs.is_argument_broken.Lts as lts
 
 base-tag-requires : tie.Need-base-tag-requires
 base-tag-requires c κs = search needs

@@ -10,10 +10,6 @@ use Rattle.members.specs.declared.FieldFound.the-variants.{Found}
 use Rattle.faults.proofs.CountedLaws.{Counting, counting-start, counting-none, counting-end, counting-found, counting-more}
 use Rattle.faults.proofs.is_implemented_before.Statement.{statement}
 use Rattle.faults.proofs.is_implemented_before.Tie as tie
-use Rattle.faults.proofs.is_implemented_before.Reads as reads
-use Rattle.index.proofs.is_text.Reads as is-text-reads
-use Rattle.members.proofs.next_implemented.Reads as next-implemented-reads
-use Rattle.faults.proofs.is_implemented_before.Lts as lts
 
 abbrev Inv-loop : tie.InvT-loop
 Inv-loop t from end count at n i₀ left₀ i left = Counting (same (part t at n)) from end i count left (implementedIn t from end) (implementedIn t i end)

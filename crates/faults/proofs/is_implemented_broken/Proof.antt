@@ -10,10 +10,6 @@ use Rattle.members.specs.Members.{implementedIn}
 use Rattle.faults.proofs.FailLaws.{implemented-ten, implemented-other}
 use Rattle.faults.proofs.is_implemented_broken.Statement.{statement}
 use Rattle.faults.proofs.is_implemented_broken.Tie as tie
-use Rattle.faults.proofs.is_implemented_before.Reads as is-implemented-before-reads
-use Rattle.faults.proofs.is_implemented_broken.Reads as reads
-use Rattle.types.proofs.tag_meant.Reads as tag-meant-reads
-use Rattle.faults.proofs.is_implemented_broken.Lts as lts
 
 sub-is-implemented-before : tie.Need-sub-is-implemented-before
 sub-is-implemented-before c = search needs

@@ -7,9 +7,6 @@ use Rattle.index.specs.Book.{part}
 use Rattle.faults.proofs.TestLaws.{word-here, word-later, word-last}
 use Rattle.faults.proofs.is_known_directive.Statement.{statement}
 use Rattle.faults.proofs.is_known_directive.Tie as tie
-use Rattle.faults.proofs.is_known_directive.Reads as reads
-use Rattle.index.proofs.is_text.Reads as is-text-reads
-use Rattle.faults.proofs.is_known_directive.Lts as lts
 
 slice-aggregate-is-text : tie.Need-slice-aggregate-is-text
 slice-aggregate-is-text c = search needs

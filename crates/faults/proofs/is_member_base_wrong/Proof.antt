@@ -4,10 +4,6 @@ use Rattle.faults.specs.Faults.{isOutputTag}
 use Rattle.faults.proofs.TestLaws.{wrong-field, wrong-input, wrong-other}
 use Rattle.faults.proofs.is_member_base_wrong.Statement.{statement}
 use Rattle.faults.proofs.is_member_base_wrong.Tie as tie
-use Rattle.faults.proofs.base_tag.Reads as base-tag-reads
-use Rattle.faults.proofs.is_member_base_wrong.Reads as reads
-use Rattle.faults.proofs.is_output.Reads as is-output-reads
-use Rattle.faults.proofs.is_member_base_wrong.Lts as lts
 
 base-tag-requires : tie.Need-base-tag-requires
 base-tag-requires c κs = search needs

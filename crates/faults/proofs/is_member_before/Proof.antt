@@ -11,11 +11,6 @@ use Rattle.faults.proofs.CountedLaws.{Counting, counting-start, countin
 use Rattle.paper_types.specs.Rules.{memberNamed}
 use Rattle.faults.proofs.is_member_before.Statement.{statement}
 use Rattle.faults.proofs.is_member_before.Tie as tie
-use Rattle.faults.proofs.is_member_before.Reads as reads
-use Rattle.index.proofs.is_text.Reads as is-text-reads
-use Rattle.members.proofs.member_name.Reads as member-name-reads
-use Rattle.members.proofs.next_member.Reads as next-member-reads
-use Rattle.faults.proofs.is_member_before.Lts as lts
 
 abbrev Inv-loop : tie.InvT-loop
 Inv-loop t from end count at n i₀ left₀ i left = Counting (memberNamed (part t at n)) from end i count left (membersIn t from end) (membersIn t i end)

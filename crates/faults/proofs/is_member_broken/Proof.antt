@@ -13,15 +13,6 @@ use Rattle.members.specs.Members.{membersIn, argumentsIn, memberFrom, argumentF
 use Rattle.faults.proofs.FailLaws.{member-seven, member-eight, member-four, member-five, member-six, member-other}
 use Rattle.faults.proofs.is_member_broken.Statement.{statement}
 use Rattle.faults.proofs.is_member_broken.Tie as tie
-use Rattle.faults.proofs.is_member_base_wrong.Reads as is-member-base-wrong-reads
-use Rattle.faults.proofs.is_member_before.Reads as is-member-before-reads
-use Rattle.faults.proofs.is_member_broken.Reads as reads
-use Rattle.faults.proofs.is_member_unknown.Reads as is-member-unknown-reads
-use Rattle.faults.proofs.is_no_enum_value.Reads as is-no-enum-value-reads
-use Rattle.faults.proofs.is_reserved.Reads as is-reserved-reads
-use Rattle.members.proofs.member_name.Reads as member-name-reads
-use Rattle.types.proofs.tag_meant.Reads as tag-meant-reads
-use Rattle.faults.proofs.is_member_broken.Lts as lts
 
 is-member-unknown-requires : tie.Need-is-member-unknown-requires
 is-member-unknown-requires c κs = search needs

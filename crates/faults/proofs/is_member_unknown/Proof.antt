@@ -4,9 +4,6 @@ use Rattle.faults.specs.Faults.{isOutputTag}
 use Rattle.faults.proofs.TestLaws.{unknown-field, unknown-input, unknown-other}
 use Rattle.faults.proofs.is_member_unknown.Statement.{statement}
 use Rattle.faults.proofs.is_member_unknown.Tie as tie
-use Rattle.faults.proofs.base_tag.Reads as base-tag-reads
-use Rattle.faults.proofs.is_member_unknown.Reads as reads
-use Rattle.faults.proofs.is_member_unknown.Lts as lts
 
 base-tag-requires : tie.Need-base-tag-requires
 base-tag-requires c κs = search needs

@@ -2,8 +2,6 @@ use borrow.Author.Needs.{needs}
 use Rattle.faults.proofs.TestLaws.{output-low, output-high}
 use Rattle.faults.proofs.is_output.Statement.{statement}
 use Rattle.faults.proofs.is_output.Tie as tie
-use Rattle.faults.proofs.is_output.Reads as reads
-use Rattle.faults.proofs.is_output.Lts as lts
 
 returns : tie.Need-returns
 returns c = output-low _ (c .if1 .taken)

@@ -2,8 +2,6 @@ use borrow.Author.Needs.{needs}
 use Rattle.faults.proofs.TestLaws.{short-reserved, reserved-other, reserved-second}
 use Rattle.faults.proofs.is_reserved.Statement.{statement}
 use Rattle.faults.proofs.is_reserved.Tie as tie
-use Rattle.faults.proofs.is_reserved.Reads as reads
-use Rattle.faults.proofs.is_reserved.Lts as lts
 
 returns : tie.Need-returns
 returns c = short-reserved (c .before .args .t .now) (c .before .args .at) (c .before .args .n) (c .if1 .taken)

@@ -12,10 +12,6 @@ use Rattle.places.specs.Placed.{placed}
 use Rattle.walks.proofs.ArgumentLaws.{argumentFaults, field-arguments, other-arguments}
 use Rattle.walks.proofs.arguments_place.Statement.{statement}
 use Rattle.walks.proofs.arguments_place.Tie as tie
-use Rattle.faults.proofs.is_argument_broken.Reads as is-argument-broken-reads
-use Rattle.members.proofs.next_argument.Reads as next-argument-reads
-use Rattle.walks.proofs.arguments_place.Reads as reads
-use Rattle.walks.proofs.arguments_place.Lts as lts
 
 abbrev Inv-loop : tie.InvT-loop
 Inv-loop t book rule m tag start end i₀ a₀ i a = Walking (argumentFaults rule (tableOf t) (argumentsIn t start end) m) start end i a (argumentsIn t start end) (argumentsIn t i end)

@@ -11,10 +11,6 @@ use Rattle.paper_types.specs.Rules.{memberAt}
 use Rattle.walks.specs.Walks.{nameAt}
 use Rattle.walks.proofs.implemented_place.Statement.{statement}
 use Rattle.walks.proofs.implemented_place.Tie as tie
-use Rattle.faults.proofs.is_implemented_broken.Reads as is-implemented-broken-reads
-use Rattle.members.proofs.next_implemented.Reads as next-implemented-reads
-use Rattle.walks.proofs.implemented_place.Reads as reads
-use Rattle.walks.proofs.implemented_place.Lts as lts
 
 abbrev Inv-loop : tie.InvT-loop
 Inv-loop t book rule from end i₀ m₀ i m = Walking (nameAt rule (tableOf t) (implementedIn t from end)) from end i m (implementedIn t from end) (implementedIn t i end)

@@ -9,10 +9,6 @@ use Rattle.walks.specs.Walks.{argumentsAt}
 use Rattle.walks.proofs.Walked.{only-true, only-false, placed-right, told-left}
 use Rattle.walks.proofs.member_place.Statement.{statement}
 use Rattle.walks.proofs.member_place.Tie as tie
-use Rattle.faults.proofs.is_member_broken.Reads as is-member-broken-reads
-use Rattle.walks.proofs.arguments_place.Reads as arguments-place-reads
-use Rattle.walks.proofs.member_place.Reads as reads
-use Rattle.walks.proofs.member_place.Lts as lts
 
 arguments-place-requires : tie.Need-arguments-place-requires
 arguments-place-requires c κs = search needs

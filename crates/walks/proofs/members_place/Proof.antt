@@ -10,10 +10,6 @@ use Rattle.walks.proofs.Walked.{Walking, walking-start, walking-end, wa
 use Rattle.walks.specs.Walks.{memberAndArgumentsAt}
 use Rattle.walks.proofs.members_place.Statement.{statement}
 use Rattle.walks.proofs.members_place.Tie as tie
-use Rattle.members.proofs.next_member.Reads as next-member-reads
-use Rattle.walks.proofs.member_place.Reads as member-place-reads
-use Rattle.walks.proofs.members_place.Reads as reads
-use Rattle.walks.proofs.members_place.Lts as lts
 
 abbrev Inv-loop : tie.InvT-loop
 Inv-loop t book rule from end i₀ m₀ i m = Walking (memberAndArgumentsAt rule (tableOf t) (membersIn t from end)) from end i m (membersIn t from end) (membersIn t i end)
