@@ -2,17 +2,17 @@
 use mathlib.Core.Path.{_≡_, refl, sym, ap, subst, _∙_}
 use mathlib.Core.Bool.{Bool, true, false, cond}
 use mathlib.Core.List.{List, [], _∷_}
-use Prim.Native.Nat.{ℕ, zero, suc, _+_, _-_, _*_, _≤_, _<_}
+use Prim.Native.Nat.{ℕ, zero, suc, _+_, _-_, _≤_, _<_}
 use native.Mathlib.Omega.{arith}
-use lib.ListN.{length, take, drop, getD, length-drop, drop-of-length-le}
-use lib.Seq.{slice, slice-empty, slice-cons, length-slice, take-nil, length-take-le, take-take, drop-drop}
+use lib.ListN.{length, take, drop, getD, drop-of-length-le}
+use lib.Seq.{slice, slice-cons, length-slice, take-nil, length-take-le, take-take, drop-drop}
 use lib.Dec.{leb, ltb}
 use borrow.Author.Tests.{ltb-true, ltb-false, leb-true, leb-false}
-use Rattle.paper_types.specs.House.{Piece, piece, cut, pieces}
+use Rattle.paper_types.specs.House.{piece, cut, pieces}
 use Rattle.paper_types.proofs.PiecesLaws.{pieces-nil, pieces-one, pieces-two, pieces-cut, pieces-field as pieces-whole}
 use Rattle.fields.specs.declared.FieldRead.{FieldRead}
 use Rattle.fields.specs.declared.FieldRead.the-variants.{Field, Cut}
-use Rattle.fields.specs.Fields.{Bounds, fieldAt, sizeAt, piecesBy}
+use Rattle.fields.specs.Fields.{fieldAt, sizeAt, piecesBy}
 
 -- a part of a part
 pub slice-drop : (t : List ℕ) (a e n : ℕ) → drop n (slice a e t) ≡ slice (a + n) e t
@@ -25,6 +25,10 @@ take-drop n (suc a) (x ∷ l) = let e : suc a + n ≡ suc (a + n) = omega arith 
 
 pub slice-take : (t : List ℕ) (a e n : ℕ) → a + n ≤ e → take n (slice a e t) ≡ slice a (a + n) t
 slice-take t a e n h = take-drop n a (take e t) ∙ ap (drop a) (take-take (a + n) e t h)
+
+-- by the number of its bytes
+pub slice-part : (t : List ℕ) (a e : ℕ) → a ≤ e → slice a e t ≡ take (e - a) (drop a t)
+slice-part t a e h = let q : e ≡ a + (e - a) = omega arith in ap (λ (m : ℕ). slice a m t) q ∙ sym (take-drop (e - a) a t)
 
 -- no byte is left; the next byte
 pub slice-none : (t : List ℕ) (a e : ℕ) → e ≤ a → e ≤ length t → slice a e t ≡ []
@@ -64,11 +68,13 @@ module _ (t : List ℕ) (at end : ℕ) (w : end ≤ length t) where
           let m : end - at - 3 < sizeAt t at = leb-false (sizeAt t at) (end - at - 3) q in
           ap (pieces at) (three k)
           ∙ pieces-cut at (getD t at 0) (getD t (at + 1) 0) (getD t (at + 2) 0) (slice (at + 3) end t) (omega (arith, length-slice (at + 3) end t w))
+
       short : (n : ℕ) → end - at ≡ n → n < 3 → pieces at (slice at end t) ≡ cut at ∷ []
       short zero e k = absurd (omega arith)
       short (suc zero) e k = cut-one (omega arith)
       short (suc (suc zero)) e k = cut-two (omega arith)
       short (suc (suc (suc n))) e k = absurd (omega arith)
+
       go : (b : Bool) → ltb (end - at) 3 ≡ b
           → pieces at (slice at end t) ≡ piecesBy t at end (cond b Cut (cond (leb (sizeAt t at) (end - at - 3)) (Field (getD t at 0) (at + 3) (at + 3 + sizeAt t at)) Cut))
       go true q = short (end - at) refl (ltb-true (end - at) 3 q)
@@ -102,6 +108,7 @@ field-lies t at end tag start stop h q = subst (LiesRead at end) q (go (ltb (end
     last : 3 ≤ end - at → (b : Bool) → leb (sizeAt t at) (end - at - 3) ≡ b → LiesRead at end (cond b (Field (getD t at 0) (at + 3) (at + 3 + sizeAt t at)) Cut)
     last k true e = let m : sizeAt t at ≤ end - at - 3 = leb-true (sizeAt t at) (end - at - 3) e in record { begins = refl; order = omega arith; within = omega arith }
     last k false e = tt
+
     go : (b : Bool) → ltb (end - at) 3 ≡ b → LiesRead at end (cond b Cut (cond (leb (sizeAt t at) (end - at - 3)) (Field (getD t at 0) (at + 3) (at + 3 + sizeAt t at)) Cut))
     go true e = tt
     go false e = last (ltb-false (end - at) 3 e) (leb (sizeAt t at) (end - at - 3)) refl

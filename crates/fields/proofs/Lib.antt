@@ -3,3 +3,4 @@ pub mod FieldLaws
 pub mod NameLaws
 pub mod FindLaws
 pub mod RefLaws
+pub mod PackLaws

@@ -1,6 +1,6 @@
 -- A type reference's text from left to right: `[`s, a name, then wrapper by wrapper from inside out; and that this is how the definition reads it.
 use mathlib.Core.Path.{_≡_, refl, sym, ap, _∙_}
-use mathlib.Core.Bool.{Bool, true, false, not, _&&_, _||_, cond, false≢true}
+use mathlib.Core.Bool.{Bool, true, false, not, _&&_, cond}
 use mathlib.Core.Option.{Option, none, some}
 use mathlib.Core.List.{List, [], _∷_}
 use Prim.Native.Nat.{ℕ, zero, suc, _+_, _-_, _*_, _%_, _≤_, _<_}
@@ -157,7 +157,7 @@ module _ (t : List ℕ) (start end from : ℕ) (o : start ≤ end) (w : end ≤ 
         sym
         (ref-from
         ∙ ap (λ (x : ReadRef). wholeRef (closedTimes (from - start) x))
-          (ap readName (slice-next t from end h w) ∙ name-yes (getD t from 0) (slice (from + 1) end t) l ∙ rw (name-is, slice-drop t (from + 1) end n, ← z))
+        (ap readName (slice-next t from end h w) ∙ name-yes (getD t from 0) (slice (from + 1) end t) l ∙ rw (name-is, slice-drop t (from + 1) end n, ← z))
         ∙ whole (slice to end t) .0 (from - start) (named (slice from to t)) refl)
 
 -- a reference's last two bits tell whether it is Non-Null
@@ -194,15 +194,16 @@ pub wrapped-start : (t : List ℕ) (start end from to : ℕ) → start ≤ end �
 unfolding packOf
 wrapped-start t start end from to o w q h l z =
     let k = to-order t start end from o w q to h l z in
-    record
-      { ref = named (slice from to t)
-      ; base = refl
-      ; packs = refl
-      ; rest = ref-name t start end from o w q to h l z
-      ; begins = omega arith
-      ; order = omega (arith, k .0)
-      ; before = le-refl to
-      ; within = k .1 }
+    record {
+      ref = named (slice from to t);
+      base = refl;
+      packs = refl;
+      rest = ref-name t start end from o w q to h l z;
+      begins = omega arith;
+      order = omega (arith, k .0);
+      before = le-refl to;
+      within = k .1;
+    }
 
 module _ (t : List ℕ) (start end from to wrappers lists i : ℕ) (w : end ≤ length t) (s : Wrapped t start end from to wrappers lists i) where
   pub wrapped-small : wrappers < packLimit
@@ -210,14 +211,15 @@ module _ (t : List ℕ) (start end from to wrappers lists i : ℕ) (w : end ≤ 
 
   pub wrapped-whole : end ≤ i → lists ≡ 0 → Refers t start end from to wrappers
   unfolding wraps
-  wrapped-whole h e = record
-    { ref = s .ref
-    ; is = sym (rw (slice-none t i end h w, eq-eqb lists 0 e) at (s .rest))
-    ; base = s .base
-    ; packs = s .packs
-    ; begins = s .begins
-    ; order = s .order
-    ; within = omega (arith, s .before, s .within) }
+  wrapped-whole h e = record {
+    ref = s .ref;
+    is = sym (rw (slice-none t i end h w, eq-eqb lists 0 e) at (s .rest));
+    base = s .base;
+    packs = s .packs;
+    begins = s .begins;
+    order = s .order;
+    within = omega (arith, s .before, s .within);
+  }
 
   pub wrapped-short : end ≤ i → (lists ≡ 0 → ⊥) → refOf (slice start end t) ≡ none
   unfolding wraps
@@ -240,24 +242,26 @@ module _ (t : List ℕ) (start end from to wrappers lists i : ℕ) (w : end ≤ 
       where
         go : (v : ℕ) → v ≡ wrapperOf (isNonNull (s .ref)) lists (getD t i 0) → v ≤ 2 → (v ≡ 0 → ⊥) → Wrapped t start end from to ((4 * wrappers + v) % packLimit) (lists - v % 2) (i + 1)
         go zero q m e = absurd (e refl)
-        go (suc zero) q m e = record
-          { ref = listOf (s .ref)
-          ; base = s .base
-          ; packs = omega (arith, s .packs)
-          ; rest = rw (slice-next t i end h w, sym q) at (s .rest)
-          ; begins = s .begins
-          ; order = s .order
-          ; before = omega (arith, s .before)
-          ; within = omega arith }
-        go (suc (suc zero)) q m e = record
-          { ref = nonNull (s .ref)
-          ; base = s .base
-          ; packs = omega (arith, s .packs)
-          ; rest = let z : lists - 0 ≡ lists = omega arith in rw z (rw (slice-next t i end h w, sym q) at (s .rest))
-          ; begins = s .begins
-          ; order = s .order
-          ; before = omega (arith, s .before)
-          ; within = omega arith }
+        go (suc zero) q m e = record {
+          ref = listOf (s .ref);
+          base = s .base;
+          packs = omega (arith, s .packs);
+          rest = rw (slice-next t i end h w, sym q) at (s .rest);
+          begins = s .begins;
+          order = s .order;
+          before = omega (arith, s .before);
+          within = omega arith;
+        }
+        go (suc (suc zero)) q m e = record {
+          ref = nonNull (s .ref);
+          base = s .base;
+          packs = omega (arith, s .packs);
+          rest = let z : lists - 0 ≡ lists = omega arith in rw z (rw (slice-next t i end h w, sym q) at (s .rest));
+          begins = s .begins;
+          order = s .order;
+          before = omega (arith, s .before);
+          within = omega arith;
+        }
         go (suc (suc (suc n))) q m e = absurd (omega arith)
 
 -- whether there is a reference at all, by what is read

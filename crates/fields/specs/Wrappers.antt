@@ -1,8 +1,8 @@
 -- A type reference's wrappers as one number, and the reading of its text.
 -- Assumes nothing.
 use mathlib.Core.Path.{_≡_}
-use mathlib.Core.Bool.{Bool, true, false, not, cond}
-use mathlib.Core.Option.{Option, none, some}
+use mathlib.Core.Bool.{Bool, not, cond}
+use mathlib.Core.Option.{none, some}
 use mathlib.Core.List.{List}
 use Prim.Native.Nat.{ℕ, _+_, _*_, _%_, _≤_}
 use lib.Seq.{slice}
@@ -17,12 +17,6 @@ unfoldable pub packOf : Ref → ℕ
 packOf (named n) = 0
 packOf (listOf r) = 4 * packOf r + 1
 packOf (nonNull r) = 4 * packOf r + 2
-
--- how many there are
-unfoldable pub wrapperCount : Ref → ℕ
-wrapperCount (named n) = 0
-wrapperCount (listOf r) = 1 + wrapperCount r
-wrapperCount (nonNull r) = 1 + wrapperCount r
 
 -- seven fit
 abbrev pub packLimit : ℕ

@@ -1,8 +1,7 @@
 // Reads a table's parts: one house field, one name, one type reference's text, the first field of a tag.
 // Nothing is asked of the bytes; a part is named by where it starts and where it ends.
 ghost use mathlib.Core.Path.{_≡_};
-ghost use Prim.Native.Nat.{_+_, _-_, _≤_, _<_};
-ghost use lib.ListN.{length, take, drop};
+ghost use Prim.Native.Nat.{_+_};
 ghost use lib.Seq.{slice};
 ghost use Rattle.paper.specs.Lexical.{letter, letterOrDigit, oneOf};
 ghost use Rattle.paper_types.specs.References.{isName, isReference, nameSize};
@@ -25,7 +24,11 @@ pub fn read_field(t: &[u8], at: usize, end: usize) -> FieldRead
     }
     let n = 256 * (t[at + 1] as usize) + t[at + 2] as usize;
     if n <= end - at - 3 {
-        return FieldRead::Field { tag: t[at], start: at + 3, end: at + 3 + n };
+        return FieldRead::Field {
+            tag: t[at],
+            start: at + 3,
+            end: at + 3 + n,
+        };
     }
     FieldRead::Cut
 }
@@ -43,15 +46,29 @@ pub fn find_tag(t: &[u8], at: usize, end: usize, tag: u8) -> Part
 {
     let mut i = at;
     while i < end {
-        let FieldRead::Field { tag: k, start: from, end: to } = read_field(t, i, end) else {
-            return Part { start: end, end: end };
+        let FieldRead::Field {
+            tag: k,
+            start: from,
+            end: to,
+        } = read_field(t, i, end)
+        else {
+            return Part {
+                start: end,
+                end: end,
+            };
         };
         if k == tag {
-            return Part { start: from, end: to };
+            return Part {
+                start: from,
+                end: to,
+            };
         }
         i = to;
     }
-    Part { start: end, end: end }
+    Part {
+        start: end,
+        end: end,
+    }
 }
 
 // A letter or `_`.
@@ -126,7 +143,11 @@ pub const BYTE_BRACKET_R: u8 = 0x5d;
 // A type reference's text: where its name lies, and its wrappers as one number, from outside in, lowest two bits first, 1 list, 2 Non-Null;
 // of more than seven the outer seven. Or the text is none.
 pub enum RefRead {
-    Reference { start: usize, end: usize, wrappers: u32 },
+    Reference {
+        start: usize,
+        end: usize,
+        wrappers: u32,
+    },
     Bad,
 }
 
@@ -192,7 +213,11 @@ pub fn read_reference(t: &[u8], start: usize, end: usize) -> RefRead
         i += 1;
     }
     if lists == 0 {
-        return RefRead::Reference { start: from, end: to, wrappers: wrappers };
+        return RefRead::Reference {
+            start: from,
+            end: to,
+            wrappers: wrappers,
+        };
     }
     RefRead::Bad
 }
@@ -202,7 +227,12 @@ pub fn is_reference(t: &[u8], start: usize, end: usize) -> bool
     requires { ⌜ Bounds (now t) start end ⌝ }
     ensures { λ r. ⌜ r ≡ isReference (slice start end (now (t .entry))) ⌝ }
 {
-    let RefRead::Reference { start: _, end: _, wrappers: _ } = read_reference(t, start, end) else {
+    let RefRead::Reference {
+        start: _,
+        end: _,
+        wrappers: _,
+    } = read_reference(t, start, end)
+    else {
         return false;
     };
     true

@@ -1,14 +1,14 @@
 -- What each tag's content is, as the code's table has it.
 use mathlib.Core.Path.{_≡_, refl, sym, ap, _∙_}
 use mathlib.Core.Bool.{Bool, true, false, not, _&&_, _||_}
-use mathlib.Core.List.{List, [], _∷_}
-use Prim.Native.Nat.{ℕ, suc, _≤_, _<_}
+use mathlib.Core.List.{[], _∷_}
+use Prim.Native.Nat.{ℕ, suc}
 use native.Mathlib.Omega.{arith}
 use lib.Dec.{leb, eqb}
-use borrow.Author.Tests.{le-leb, lt-leb, eq-eqb, ne-eqb, eqb-true, eqb-false, leb-true, leb-false}
+use borrow.Author.Tests.{le-leb, lt-leb, ne-eqb, eqb-true, eqb-false, leb-true}
 use Rattle.paper_types.specs.TableNumbers.{tagScalar, tagObject, tagInterface, tagUnion, tagEnum, tagInputObject, tagDirective, tagRoots, tagName, tagImplements, tagField, tagArgument, tagReference, tagUnionMember, tagEnumValue, tagQueryRoot, tagMutationRoot, tagSubscriptionRoot}
 use Rattle.paper_types.specs.Lists.{anyOf}
-use Rattle.paper_types.specs.House.{Piece, Slot, one, atMostOne, many, Content, aName, aReference, noTag, holds, contents, lookUp, contentOf, tagIs}
+use Rattle.paper_types.specs.House.{one, atMostOne, many, aName, aReference, noTag, contents, lookUp, contentOf, tagIs}
 use Rattle.frames.specs.Holders.{ranked, Holder}
 
 -- the tags of slots as a span of numbers
@@ -66,93 +66,103 @@ two-due x y = or-false (not x) (not y)
 
 pub holds-scalar : Holder tagScalar tagName tagName 1 0
 unfolding contents lookUp anyOf ranked
-holds-scalar = record
-  { slots = one tagName ∷ []
-  ; is = refl
-  ; known = λ k. ap (λ (b : Bool). eqb k tagName || b) (none-between k)
-  ; dues = λ ps. one-due (anyOf (tagIs tagName) ps)
-  ; rises = refl }
+holds-scalar = record {
+  slots = one tagName ∷ [];
+  is = refl;
+  known = λ k. ap (λ (b : Bool). eqb k tagName || b) (none-between k);
+  dues = λ ps. one-due (anyOf (tagIs tagName) ps);
+  rises = refl;
+}
 
 pub holds-object : Holder tagObject tagName tagName tagImplements tagField
 unfolding contents lookUp anyOf ranked
-holds-object = record
-  { slots = one tagName ∷ many tagImplements ∷ many tagField ∷ []
-  ; is = refl
-  ; known = λ k. ap (λ (b : Bool). eqb k tagName || b) (two-up tagImplements k)
-  ; dues = λ ps. one-due (anyOf (tagIs tagName) ps)
-  ; rises = refl }
+holds-object = record {
+  slots = one tagName ∷ many tagImplements ∷ many tagField ∷ [];
+  is = refl;
+  known = λ k. ap (λ (b : Bool). eqb k tagName || b) (two-up tagImplements k);
+  dues = λ ps. one-due (anyOf (tagIs tagName) ps);
+  rises = refl;
+}
 
 pub holds-interface : Holder tagInterface tagName tagName tagField tagField
 unfolding contents lookUp anyOf ranked
-holds-interface = record
-  { slots = one tagName ∷ many tagField ∷ []
-  ; is = refl
-  ; known = λ k. ap (λ (b : Bool). eqb k tagName || b) (one-of tagField k)
-  ; dues = λ ps. one-due (anyOf (tagIs tagName) ps)
-  ; rises = refl }
+holds-interface = record {
+  slots = one tagName ∷ many tagField ∷ [];
+  is = refl;
+  known = λ k. ap (λ (b : Bool). eqb k tagName || b) (one-of tagField k);
+  dues = λ ps. one-due (anyOf (tagIs tagName) ps);
+  rises = refl;
+}
 
 pub holds-union : Holder tagUnion tagName tagName tagUnionMember tagUnionMember
 unfolding contents lookUp anyOf ranked
-holds-union = record
-  { slots = one tagName ∷ many tagUnionMember ∷ []
-  ; is = refl
-  ; known = λ k. ap (λ (b : Bool). eqb k tagName || b) (one-of tagUnionMember k)
-  ; dues = λ ps. one-due (anyOf (tagIs tagName) ps)
-  ; rises = refl }
+holds-union = record {
+  slots = one tagName ∷ many tagUnionMember ∷ [];
+  is = refl;
+  known = λ k. ap (λ (b : Bool). eqb k tagName || b) (one-of tagUnionMember k);
+  dues = λ ps. one-due (anyOf (tagIs tagName) ps);
+  rises = refl;
+}
 
 pub holds-enum : Holder tagEnum tagName tagName tagEnumValue tagEnumValue
 unfolding contents lookUp anyOf ranked
-holds-enum = record
-  { slots = one tagName ∷ many tagEnumValue ∷ []
-  ; is = refl
-  ; known = λ k. ap (λ (b : Bool). eqb k tagName || b) (one-of tagEnumValue k)
-  ; dues = λ ps. one-due (anyOf (tagIs tagName) ps)
-  ; rises = refl }
+holds-enum = record {
+  slots = one tagName ∷ many tagEnumValue ∷ [];
+  is = refl;
+  known = λ k. ap (λ (b : Bool). eqb k tagName || b) (one-of tagEnumValue k);
+  dues = λ ps. one-due (anyOf (tagIs tagName) ps);
+  rises = refl;
+}
 
 pub holds-input-object : Holder tagInputObject tagName tagName tagArgument tagArgument
 unfolding contents lookUp anyOf ranked
-holds-input-object = record
-  { slots = one tagName ∷ many tagArgument ∷ []
-  ; is = refl
-  ; known = λ k. ap (λ (b : Bool). eqb k tagName || b) (one-of tagArgument k)
-  ; dues = λ ps. one-due (anyOf (tagIs tagName) ps)
-  ; rises = refl }
+holds-input-object = record {
+  slots = one tagName ∷ many tagArgument ∷ [];
+  is = refl;
+  known = λ k. ap (λ (b : Bool). eqb k tagName || b) (one-of tagArgument k);
+  dues = λ ps. one-due (anyOf (tagIs tagName) ps);
+  rises = refl;
+}
 
 pub holds-directive : Holder tagDirective tagName tagName tagArgument tagArgument
 unfolding contents lookUp anyOf ranked
-holds-directive = record
-  { slots = one tagName ∷ many tagArgument ∷ []
-  ; is = refl
-  ; known = λ k. ap (λ (b : Bool). eqb k tagName || b) (one-of tagArgument k)
-  ; dues = λ ps. one-due (anyOf (tagIs tagName) ps)
-  ; rises = refl }
+holds-directive = record {
+  slots = one tagName ∷ many tagArgument ∷ [];
+  is = refl;
+  known = λ k. ap (λ (b : Bool). eqb k tagName || b) (one-of tagArgument k);
+  dues = λ ps. one-due (anyOf (tagIs tagName) ps);
+  rises = refl;
+}
 
 pub holds-roots : Holder tagRoots tagQueryRoot tagQueryRoot tagMutationRoot tagSubscriptionRoot
 unfolding contents lookUp anyOf ranked
-holds-roots = record
-  { slots = one tagQueryRoot ∷ atMostOne tagMutationRoot ∷ atMostOne tagSubscriptionRoot ∷ []
-  ; is = refl
-  ; known = λ k. ap (λ (b : Bool). eqb k tagQueryRoot || b) (two-up tagMutationRoot k)
-  ; dues = λ ps. one-due (anyOf (tagIs tagQueryRoot) ps)
-  ; rises = refl }
+holds-roots = record {
+  slots = one tagQueryRoot ∷ atMostOne tagMutationRoot ∷ atMostOne tagSubscriptionRoot ∷ [];
+  is = refl;
+  known = λ k. ap (λ (b : Bool). eqb k tagQueryRoot || b) (two-up tagMutationRoot k);
+  dues = λ ps. one-due (anyOf (tagIs tagQueryRoot) ps);
+  rises = refl;
+}
 
 pub holds-field : Holder tagField tagName tagReference tagArgument tagReference
 unfolding contents lookUp anyOf ranked
-holds-field = record
-  { slots = one tagName ∷ one tagReference ∷ many tagArgument ∷ []
-  ; is = refl
-  ; known = λ k. ap (λ (b : Bool). eqb k tagName || b) (two-down tagArgument k)
-  ; dues = λ ps. two-due (anyOf (tagIs tagName) ps) (anyOf (tagIs tagReference) ps)
-  ; rises = refl }
+holds-field = record {
+  slots = one tagName ∷ one tagReference ∷ many tagArgument ∷ [];
+  is = refl;
+  known = λ k. ap (λ (b : Bool). eqb k tagName || b) (two-down tagArgument k);
+  dues = λ ps. two-due (anyOf (tagIs tagName) ps) (anyOf (tagIs tagReference) ps);
+  rises = refl;
+}
 
 pub holds-argument : Holder tagArgument tagName tagReference tagReference tagReference
 unfolding contents lookUp anyOf ranked
-holds-argument = record
-  { slots = one tagName ∷ one tagReference ∷ []
-  ; is = refl
-  ; known = λ k. ap (λ (b : Bool). eqb k tagName || b) (one-of tagReference k)
-  ; dues = λ ps. two-due (anyOf (tagIs tagName) ps) (anyOf (tagIs tagReference) ps)
-  ; rises = refl }
+holds-argument = record {
+  slots = one tagName ∷ one tagReference ∷ [];
+  is = refl;
+  known = λ k. ap (λ (b : Bool). eqb k tagName || b) (one-of tagReference k);
+  dues = λ ps. two-due (anyOf (tagIs tagName) ps) (anyOf (tagIs tagReference) ps);
+  rises = refl;
+}
 
 -- the tags of leaves, and no tag
 pub leaf-reference : contentOf tagReference ≡ aReference

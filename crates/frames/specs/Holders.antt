@@ -7,7 +7,7 @@ use Prim.Native.Nat.{ℕ, suc, _+_, _*_}
 use lib.Dec.{leb, eqb}
 use Rattle.paper_types.specs.TableNumbers.{tagReference, tagImplements, tagEnumValue}
 use Rattle.paper_types.specs.Lists.{anyOf}
-use Rattle.paper_types.specs.House.{Piece, Slot, one, atMostOne, many, Content, aName, aReference, noTag, holds, contentOf, inPlace, tagIs, lacks}
+use Rattle.paper_types.specs.House.{Piece, Slot, one, atMostOne, many, aName, aReference, noTag, holds, contentOf, inPlace, tagIs, lacks}
 use Rattle.frames.specs.declared.Holding.{Holding}
 use Rattle.frames.specs.declared.Holding.the-variants.{Name, Reference, Fields, Nothing}
 
@@ -22,6 +22,10 @@ isMany k = leb tagImplements k && leb k tagEnumValue && not (eqb k tagReference)
 -- behind a field of this tag: the least rank that is in place
 abbrev pub leastAfter : ℕ → ℕ
 leastAfter k = cond (isMany k) (rank k) (rank k + 1)
+
+-- a field of this tag is in place from the least rank on, in a holder of these
+abbrev pub placed : ℕ → ℕ → ℕ → ℕ → ℕ → Bool
+placed first from to least k = leb least (rank k) && (eqb k first || leb from k && leb k to)
 
 abbrev pub slotTag : Slot → ℕ
 slotTag (one k) = k

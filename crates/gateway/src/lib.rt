@@ -1,5 +1,4 @@
 // The calls that the host makes, and nothing else: each tests its buffers and calls one proved function.
-use paper::Refusal;
 use paper::ACCEPTED;
 use paper::INPUT_DOCUMENT;
 use paper::MOST_TEXT;
@@ -11,12 +10,23 @@ use paper::REFUSE_TOO_DEEP;
 use paper::REFUSE_TOO_MANY;
 use paper::REFUSE_TOO_MANY_ROWS;
 use paper::REPORT_SIZE;
-use paper::ROWS_SIZE;
 use paper::ROW_SIZE;
+use paper::ROWS_SIZE;
+use paper::Refusal;
 use reader::Read;
+ghost use mathlib.Core.Path.{_≡_};
+ghost use mathlib.Core.List.{[], _∷_};
+ghost use Prim.Native.Nat.{_≤_};
+ghost use lib.ListN.{length};
+ghost use Rattle.paper.specs.Numbers.{mostText, rowsSize, reportSize};
+ghost use Rattle.paper.specs.Language.{Document};
+ghost use Rattle.paper.specs.Refusals.{numberOf, shownOf};
+ghost use Rattle.paper.specs.Calls.{filled, Parsed};
+ghost use Rattle.gateway.specs.Gateway.{firstOf, cleared, Filled};
 
 // A refusal's number.
 fn number_of(r: Refusal) -> u32
+    ensures { λ n. ⌜ n ≡ numberOf r ⌝ }
 {
     match r {
         Refusal::Buffer => REFUSE_BUFFER,
@@ -29,8 +39,9 @@ fn number_of(r: Refusal) -> u32
     }
 }
 
-// What a refusal shows.
+// What a refusal shows, or 0.
 fn shown_of(r: Refusal) -> u32
+    ensures { λ n. ⌜ n ≡ firstOf (shownOf r) ⌝ }
 {
     match r {
         Refusal::Buffer => 0,
@@ -45,6 +56,8 @@ fn shown_of(r: Refusal) -> u32
 
 // Writes the report: a number, what it shows, and zeros.
 fn tell(report: &mut [u32], number: u32, shown: u32)
+    requires { ⌜ reportSize ≤ length (now report) ⌝ }
+    ensures { λ _. ⌜ now (report .exit) ≡ filled reportSize (number ∷ shown ∷ []) (now (report .entry)) ⌝ }
 {
     report[0] = number;
     report[1] = shown;
@@ -58,6 +71,8 @@ fn tell(report: &mut [u32], number: u32, shown: u32)
 
 // Sets the rows from place `from` on to 0.
 fn clear(rows: &mut [u32], from: usize)
+    requires { ⌜ from ≤ length (now rows) ⌝ }
+    ensures { λ _. ⌜ now (rows .exit) ≡ cleared from (now (rows .entry)) ⌝ }
 {
     let mut i = from;
     while i < rows.len() {
@@ -68,6 +83,8 @@ fn clear(rows: &mut [u32], from: usize)
 
 // Reads a document into rows of the fixed size, and clears what it does not use.
 fn parse(s: &[u8], rows: &mut [u32]) -> Read
+    requires { ⌜ (length (now s) ≤ mostText) × (length (now rows) ≡ rowsSize) ⌝ }
+    ensures { λ r. ⌜ Filled Document (now (s .entry)) (now (rows .entry)) (now (rows .exit)) r ⌝ }
 {
     let r = documents::document(s, rows);
     match r {
@@ -91,6 +108,7 @@ fn parse(s: &[u8], rows: &mut [u32]) -> Read
 // Answers 0 and the number of rows, or a refusal's number and what it shows.
 #[no_mangle]
 pub extern "C" fn gw_parse(document: &[u8], rows: &mut [u32], report: &mut [u32]) -> u32
+    ensures { λ r. ⌜ Parsed (now (document .entry)) (now (rows .entry)) (now (report .entry)) (now (rows .exit)) (now (report .exit)) r ⌝ }
 {
     if report.len() < REPORT_SIZE {
         return REFUSE_BUFFER;

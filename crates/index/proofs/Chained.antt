@@ -1,6 +1,6 @@
 -- The chains of a book: how one more entry is put in front, and how a search goes along one.
 use mathlib.Core.Path.{_≡_, refl, sym, ap, _∙_}
-use mathlib.Core.Bool.{Bool, true, false, _&&_, false≢true}
+use mathlib.Core.Bool.{Bool, true, false, _&&_}
 use mathlib.Core.List.{List}
 use Prim.Native.Nat.{ℕ, suc, _+_, _<_, _≤_}
 use native.Mathlib.Omega.{arith}
@@ -16,21 +16,23 @@ use Rattle.index.proofs.Firsts.{first-here, first-step, first-end, firs
 
 pub chains-none : (book : List ℕ) (keys : List Key) (count : ℕ) → count ≡ length keys → length book ≡ bookSize
     → ((h : ℕ) → h < room → getD book (cellHead + h) 0 ≡ count) → Chains book keys count
-chains-none book keys count e b f = record
-  { cells = b
-  ; first = λ h w. f h w ∙ first-end (inBucket h) keys count (omega arith)
-  ; next = λ j u v. absurd (omega arith) }
+chains-none book keys count e b f = record {
+  cells = b;
+  first = λ h w. f h w ∙ first-end (inBucket h) keys count (omega arith);
+  next = λ j u v. absurd (omega arith);
+}
 
 -- entry j in front of the bucket h
 abbrev pub putFirst : List ℕ → ℕ → ℕ → List ℕ
 putFirst book h j = set (set book (cellNext + j) (getD book (cellHead + h) 0)) (cellHead + h) j
 
 pub put-kept : (old book : List ℕ) (h j : ℕ) → Kept old book → Kept old (putFirst book h j)
-put-kept old book h j k = record
-  { cells = length-set (set book (cellNext + j) v) (cellHead + h) j ∙ length-set book (cellNext + j) v ∙ k .cells
-  ; entries = λ i l.
+put-kept old book h j k = record {
+  cells = length-set (set book (cellNext + j) v) (cellHead + h) j ∙ length-set book (cellNext + j) v ∙ k .cells;
+  entries = λ i l.
       getD-set-other (set book (cellNext + j) v) (cellHead + h) i j 0 (λ e. omega arith)
-      ∙ getD-set-other book (cellNext + j) i v 0 (λ e. omega arith) ∙ k .entries i l }
+      ∙ getD-set-other book (cellNext + j) i v 0 (λ e. omega arith) ∙ k .entries i l;
+}
   where
     v : ℕ
     v = getD book (cellHead + h) 0
@@ -69,10 +71,11 @@ module _ (book : List ℕ) (keys : List Key) (j h : ℕ) (c : Chains book keys (
 
   -- entry j is put in front of its bucket
   pub chains-more : Chains (putFirst book h j) keys j
-  chains-more = record
-    { cells = length-set (set book (cellNext + j) was) (cellHead + h) j ∙ length-set book (cellNext + j) was ∙ c .cells
-    ; first = new-first
-    ; next = new-next }
+  chains-more = record {
+    cells = length-set (set book (cellNext + j) was) (cellHead + h) j ∙ length-set book (cellNext + j) was ∙ c .cells;
+    first = new-first;
+    next = new-next;
+  }
 
 -- an entry of another bucket is not the one looked for
 apart : (low high : ℕ) (n : List ℕ) (h : ℕ) → h ≡ hashOf n → (x : Key) → inBucket h x ≡ false → keyed low high n x ≡ false
@@ -92,9 +95,10 @@ pub record Sought (keys : List Key) (low high : ℕ) (n : List ℕ) (h k : ℕ) 
 -- it starts at the bucket's first, and goes on at the next
 module _ (keys : List Key) (low high : ℕ) (n : List ℕ) (h : ℕ) (e : h ≡ hashOf n) where
   pub sought-from : (i k : ℕ) → k ≡ firstFrom (inBucket h) keys i → firstFrom (keyed low high n) keys i ≡ firstFrom (keyed low high n) keys 0 → Sought keys low high n h k
-  sought-from i k q z = record
-    { first = rw q (first-jump (keyed low high n) (inBucket h) keys i (apart low high n h e) ∙ z)
-    ; bucket = λ l. eqb-true _ _ (rw (← q) at (first-passes (inBucket h) keys i (omega arith))) }
+  sought-from i k q z = record {
+    first = rw q (first-jump (keyed low high n) (inBucket h) keys i (apart low high n h e) ∙ z);
+    bucket = λ l. eqb-true _ _ (rw (← q) at (first-passes (inBucket h) keys i (omega arith)));
+  }
 
   pub sought-next : (k m : ℕ) → k < length keys → Sought keys low high n h k → keyed low high n (getD keys k noKey) ≡ false
       → m ≡ firstFrom (inBucket (hashOf (getD keys k noKey .name))) keys (suc k) → Sought keys low high n h m
@@ -116,11 +120,13 @@ pub heads-none : (old : List ℕ) → HeadsTo old old 0
 heads-none old = record { kept = record { cells = refl; entries = λ k l. refl }; empty = λ g l. absurd (omega arith) }
 
 pub heads-more : (old book : List ℕ) (h count : ℕ) → HeadsTo old book h → length old ≡ bookSize → h < room → count ≡ countIn old → HeadsTo old (set book (cellHead + h) count) (h + 1)
-heads-more old book h count s b l e = record
-  { kept = record
-    { cells = length-set book (cellHead + h) count ∙ s .kept .cells
-    ; entries = λ k m. getD-set-other book (cellHead + h) k count 0 (λ z. omega arith) ∙ s .kept .entries k m }
-  ; empty = λ g m. go g m (eqb g h) refl }
+heads-more old book h count s b l e = record {
+  kept = record {
+    cells = length-set book (cellHead + h) count ∙ s .kept .cells;
+    entries = λ k m. getD-set-other book (cellHead + h) k count 0 (λ z. omega arith) ∙ s .kept .entries k m;
+  };
+  empty = λ g m. go g m (eqb g h) refl;
+}
   where
     go : (g : ℕ) → g < h + 1 → (b : Bool) → eqb g h ≡ b → getD (set book (cellHead + h) count) (cellHead + g) 0 ≡ countIn old
     go g m true q =

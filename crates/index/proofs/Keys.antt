@@ -1,11 +1,11 @@
 -- The entries of a book, one by one; a book that keeps its entries has the same ones.
 use mathlib.Core.Path.{_≡_, refl, sym, ap, _∙_}
-use mathlib.Core.List.{List, [], _∷_}
+use mathlib.Core.List.{List}
 use Prim.Native.Nat.{ℕ, zero, suc, _+_, _<_, _≤_}
 use native.Mathlib.Nat.{add-zero}
 use native.Mathlib.Omega.{arith}
 use lib.ListN.{length, getD}
-use Rattle.index.specs.Book.{Key, noKey, part, room, cellName, cellSize, cellCount, cellNext, countIn, keyAt, keysFrom, keysOf, Held, Kept}
+use Rattle.index.specs.Book.{noKey, room, cellName, cellSize, cellCount, countIn, keyAt, keysFrom, keysOf, Held, Kept}
 
 length-from : (t book : List ℕ) (j n : ℕ) → length (keysFrom t book j n) ≡ n
 unfolding keysFrom
@@ -42,10 +42,11 @@ module _ (t old book : List ℕ) (k : Kept old book) where
   keys-kept m = rw count-kept (from-kept 0 (countIn old) (omega arith))
 
   pub held-kept : Held t old → Held t book
-  held-kept h = record
-    { cells = k .cells ∙ h .cells
-    ; most = omega (arith, count-kept, h .most)
-    ; within = λ j l.
+  held-kept h = record {
+    cells = k .cells ∙ h .cells;
+    most = omega (arith, count-kept, h .most);
+    within = λ j l.
         let m : j < countIn old = omega (arith, count-kept) in
         let r : j < room = omega (arith, h .most) in
-        rw (k .entries (cellName + j) (omega arith), k .entries (cellSize + j) (omega arith)) (h .within j m) }
+        rw (k .entries (cellName + j) (omega arith), k .entries (cellSize + j) (omega arith)) (h .within j m);
+  }

@@ -1,3 +1,4 @@
+-- Laws of this crate, in the order in which they use each other.
 pub mod Texts
 pub mod Firsts
 pub mod Keys

@@ -4,7 +4,7 @@ use mathlib.Core.List.{List}
 use Prim.Native.Nat.{ℕ, suc, _+_, _-_, _<_, _≤_}
 use native.Mathlib.Omega.{arith}
 use lib.ListN.{length, getD}
-use Rattle.index.specs.Book.{Key, noKey, part, room, cellName, cellSize, countIn, keyAt, keysOf, Held, hashOf, Chains, Kept, Cleared, Linked}
+use Rattle.index.specs.Book.{Key, noKey, part, room, cellName, cellSize, countIn, keysOf, Held, hashOf, Chains, Kept, Cleared, Linked}
 use Rattle.index.proofs.Keys.{keys-count, keys-at, keys-kept, held-kept, count-kept}
 use Rattle.index.proofs.Chained.{chains-none, chains-more, putFirst, put-kept}
 
@@ -16,13 +16,14 @@ pub record Linking (t old book : List ℕ) (j : ℕ) : Type 0 where
   pub most : j ≤ countIn old
 
 pub linking-start : (t first old : List ℕ) {j : ℕ} → Held t first → Cleared first old → j ≡ countIn old → Linking t old old j
-linking-start t first old {j = j} h c e = record
-  { held = held-kept t first old (c .kept) h
-  ; kept = record { cells = refl; entries = λ k l. refl }
-  ; chains =
+linking-start t first old {j = j} h c e = record {
+  held = held-kept t first old (c .kept) h;
+  kept = record { cells = refl; entries = λ k l. refl };
+  chains =
       chains-none old (keysOf t old) j (e ∙ sym (keys-count t old)) (c .kept .cells ∙ h .cells)
-      (λ g l. c .empty g l ∙ sym (e ∙ count-kept t first old (c .kept)))
-  ; most = omega arith }
+      (λ g l. c .empty g l ∙ sym (e ∙ count-kept t first old (c .kept)));
+  most = omega arith;
+}
 
 module _ (t old book : List ℕ) {j : ℕ} (l : Linking t old book j) (p : 0 < j) where
   pub linking-room : j - 1 < room
@@ -44,17 +45,20 @@ module _ (t old book : List ℕ) {j : ℕ} (l : Linking t old book j) (p : 0 < j
       let y : a ≡ getD old (cellName + (j - 1)) 0 = u ∙ l .kept .entries (cellName + (j - 1)) (omega arith) in
       let z : n ≡ getD old (cellSize + (j - 1)) 0 = v ∙ l .kept .entries (cellSize + (j - 1)) (omega arith) in
       let g : h ≡ hashOf (getD (keysOf t old) (j - 1) noKey .name) = e ∙ rw (y, z) (sym (ap (λ (x : Key). hashOf (x .name)) (keys-at t old (j - 1) k))) in
-      rw q (record
-        { held = l .held
-        ; kept = put-kept old book h (j - 1) (l .kept)
-        ; chains =
+      rw q (record {
+        held = l .held;
+        kept = put-kept old book h (j - 1) (l .kept);
+        chains =
             chains-more book (keysOf t old) (j - 1) h (subst (λ (x : ℕ). Chains book (keysOf t old) x) i (l .chains)) (omega (arith, keys-count t old))
-            (omega (arith, keys-count t old, l .held .most)) w g
-        ; most = omega (arith, l .most) })
+            (omega (arith, keys-count t old, l .held .most)) w g;
+        most = omega (arith, l .most);
+      })
 
 pub linking-end : (t first old book : List ℕ) {j : ℕ} → Cleared first old → Linking t old book j → j ≡ 0 → Linked t first book
-linking-end t first old book {j = j} c l e = record
-  { kept = record { cells = l .kept .cells ∙ c .kept .cells; entries = λ k w. l .kept .entries k w ∙ c .kept .entries k w }
-  ; indexed = record
-    { held = held-kept t old book (l .kept) (l .held)
-    ; chains = rw (keys-kept t old book (l .kept) (l .held .most)) (subst (λ (x : ℕ). Chains book (keysOf t old) x) e (l .chains)) } }
+linking-end t first old book {j = j} c l e = record {
+  kept = record { cells = l .kept .cells ∙ c .kept .cells; entries = λ k w. l .kept .entries k w ∙ c .kept .entries k w };
+  indexed = record {
+    held = held-kept t old book (l .kept) (l .held);
+    chains = rw (keys-kept t old book (l .kept) (l .held .most)) (subst (λ (x : ℕ). Chains book (keysOf t old) x) e (l .chains));
+  };
+}

@@ -1,6 +1,6 @@
 -- A search of a book: where it begins, how it goes on, what it ends with.
-use mathlib.Core.Path.{_≡_, refl, sym, ap, _∙_}
-use mathlib.Core.Bool.{Bool, true, false}
+use mathlib.Core.Path.{_≡_, refl, ap, _∙_}
+use mathlib.Core.Bool.{true, false}
 use mathlib.Core.List.{List}
 use Prim.Native.Nat.{ℕ, suc, _+_, _<_, _≤_}
 use native.Mathlib.Omega.{arith}
@@ -30,9 +30,10 @@ module _ (t book : List ℕ) (x : Indexed t book) (low high : ℕ) (n : List ℕ
   pub search-more : {k m : ℕ} → At k → k < countIn book → keyed low high n (keyAt t book k) ≡ false → m ≡ getD book (cellNext + k) 0 → At m
   search-more {k = k} {m = m} a l f q =
       let v : k < length keys = omega (arith, keys-count t book) in
-      let g = q ∙ x .chains .next k (omega arith) v in
-      (sought-next keys low high n h e k m v (a .0) (ap (keyed low high n) (keys-at t book k l) ∙ f) g,
-      omega (arith, g, first-most (inBucket (hashOf (getD keys k noKey .name))) keys (suc k) (omega arith), keys-count t book))
+      let g = q ∙ x .chains .next k (omega arith) v in (
+        sought-next keys low high n h e k m v (a .0) (ap (keyed low high n) (keys-at t book k l) ∙ f) g,
+        omega (arith, g, first-most (inBucket (hashOf (getD keys k noKey .name))) keys (suc k) (omega arith), keys-count t book),
+      )
 
   pub search-here : {k : ℕ} → At k → k < countIn book → keyed low high n (keyAt t book k) ≡ true → k ≡ firstAt (keyed low high n) keys
   search-here {k = k} a l f = sought-here keys low high n h e k (omega (arith, keys-count t book)) (a .0) (ap (keyed low high n) (keys-at t book k l) ∙ f)

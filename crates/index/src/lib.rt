@@ -133,7 +133,16 @@ fn hash(s: &[u8], at: usize, n: usize) -> usize
 }
 
 // Is entry j of a kind from low to high, and its name the n bytes of s from `at` on?
-fn is_keyed(t: &[u8], book: &[u32], j: usize, low: u32, high: u32, s: &[u8], at: usize, n: usize) -> bool
+fn is_keyed(
+    t: &[u8],
+    book: &[u32],
+    j: usize,
+    low: u32,
+    high: u32,
+    s: &[u8],
+    at: usize,
+    n: usize,
+) -> bool
     requires { ⌜ Held (now t) (now book) × (j < countIn (now book)) × (at + n ≤ length (now s)) ⌝ }
     ensures { λ r. ⌜ r ≡ keyed low high (part (now (s .entry)) at n) (keyAt (now (t .entry)) (now (book .entry)) j) ⌝ }
 {

@@ -1,13 +1,12 @@
 -- The first member, or argument, of a name; an implemented name.
 use mathlib.Core.Path.{_≡_, refl, sym, ap, _∙_}
-use mathlib.Core.Bool.{Bool, true, false, _||_, cond}
-use mathlib.Core.Option.{Option, none, some}
+use mathlib.Core.Bool.{Bool, true, false}
+use mathlib.Core.Option.{none, some}
 use mathlib.Core.List.{List, [], _∷_}
-use Prim.Native.Nat.{ℕ, _+_, _≤_, _<_}
+use Prim.Native.Nat.{ℕ, _≤_, _<_}
 use native.Mathlib.Omega.{arith}
 use Rattle.paper_types.specs.Lists.{anyOf, find}
-use Rattle.members.specs.Members.{Lies, First, Finds}
-use Rattle.members.proofs.MemberLaws.{Walked}
+use Rattle.members.specs.Members.{First, Finds}
 
 find-nil : {A : Type 0} (p : A → Bool) → find p [] ≡ none
 unfolding find
@@ -49,15 +48,17 @@ module _ {A : Type 0} (p : A → Bool) (at end i : ℕ) (all left : List A) wher
 
     module _ (start stop : ℕ) (one : A) (others : List A) (f : First i end start stop left one others) where
       pub find-found : p one ≡ true → Finds at end start stop (find p all) one
-      find-found e = record
-        { lies = record { begins = omega (arith, h .begun, f .lies .begins); order = f .lies .order; within = f .lies .within }
-        ; is = h .same ∙ ap (find p) (f .all-are) ∙ find-here p one others e }
+      find-found e = record {
+        lies = record { begins = omega (arith, h .begun, f .lies .begins); order = f .lies .order; within = f .lies .within };
+        is = h .same ∙ ap (find p) (f .all-are) ∙ find-here p one others e;
+      }
 
       pub find-more : p one ≡ false → Sought at end stop (find p all) (find p others)
-      find-more e = record
-        { begun = omega (arith, h .begun, f .lies .begins, f .lies .order)
-        ; within = f .lies .within
-        ; same = h .same ∙ ap (find p) (f .all-are) ∙ find-on p one others e }
+      find-more e = record {
+        begun = omega (arith, h .begun, f .lies .begins, f .lies .order);
+        within = f .lies .within;
+        same = h .same ∙ ap (find p) (f .all-are) ∙ find-on p one others e;
+      }
 
   module _ (h : Sought at end i (anyOf p all) (anyOf p left)) where
     pub any-none : left ≡ [] → false ≡ anyOf p all
@@ -68,10 +69,11 @@ module _ {A : Type 0} (p : A → Bool) (at end i : ℕ) (all left : List A) wher
       any-found e = sym (h .same ∙ ap (anyOf p) (f .all-are) ∙ any-here p one others e)
 
       pub any-more : p one ≡ false → Sought at end stop (anyOf p all) (anyOf p others)
-      any-more e = record
-        { begun = omega (arith, h .begun, f .lies .begins, f .lies .order)
-        ; within = f .lies .within
-        ; same = h .same ∙ ap (anyOf p) (f .all-are) ∙ any-on p one others e }
+      any-more e = record {
+        begun = omega (arith, h .begun, f .lies .begins, f .lies .order);
+        within = f .lies .within;
+        same = h .same ∙ ap (anyOf p) (f .all-are) ∙ any-on p one others e;
+      }
 
 pub first-moves : {A : Type 0} (i end start stop : ℕ) (all : List A) (one : A) (others : List A) → First i end start stop all one others → i < stop
 first-moves i end start stop all one others f = omega (arith, f .lies .begins, f .lies .order)

@@ -1,5 +1,5 @@
 -- A record's members, field by field.
-use mathlib.Core.Path.{_≡_, refl, sym, ap, subst, _∙_}
+use mathlib.Core.Path.{_≡_, refl, sym, ap, _∙_}
 use mathlib.Core.Bool.{Bool, true, false, _||_, cond, false≢true}
 use mathlib.Core.List.{List, [], _∷_, _++_}
 use Prim.Native.Nat.{ℕ, _+_, _≤_, _<_}
@@ -15,7 +15,7 @@ use Rattle.paper_types.specs.Types.{Member, fieldIn, inputIn, nameOnly, memberO
 use Rattle.fields.specs.Fields.{fieldAt}
 use Rattle.fields.specs.declared.FieldRead.the-variants.{Field, Cut}
 use Rattle.fields.proofs.FieldLaws.{field-lies}
-use Rattle.members.specs.Members.{fieldsIn, membersIn, fieldFrom, inputFrom, memberFrom, isMember, Lies, First}
+use Rattle.members.specs.Members.{membersIn, fieldFrom, inputFrom, memberFrom, isMember, First}
 use Rattle.members.proofs.GatherLaws.{gather-none, gather-torn, gather-field}
 
 pub member-cut : (at : ℕ) → memberOf (cut at) ≡ []
@@ -62,21 +62,23 @@ module _ (t : List ℕ) (at end i : ℕ) (w : end ≤ length t) (h : Walked at e
     pub members-here : isMember tag ≡ true → First at end start stop (membersIn t at end) (memberFrom t tag start stop) (membersIn t stop end)
     members-here e =
         let f = field-lies t i end tag start stop (h .within) q in
-        record
-        { lies = record { begins = omega (arith, h .begun, f .begins); order = f .order; within = f .within }
-        ; all-are =
-            h .same ∙ gather-field memberOf member-cut t i end w l tag start stop q
-            ∙ ap (λ (m : List Member). m ++ membersIn t stop end) (member-is t i tag start stop (f .begins) e) }
+        record {
+          lies = record { begins = omega (arith, h .begun, f .begins); order = f .order; within = f .within };
+          all-are =
+              h .same ∙ gather-field memberOf member-cut t i end w l tag start stop q
+              ∙ ap (λ (m : List Member). m ++ membersIn t stop end) (member-is t i tag start stop (f .begins) e);
+        }
 
     pub members-on : isMember tag ≡ false → Walked at end stop (membersIn t at end) (membersIn t stop end)
     members-on e =
         let f = field-lies t i end tag start stop (h .within) q in
-        record
-        { begun = omega (arith, h .begun, f .begins, f .order)
-        ; within = f .within
-        ; same =
-            h .same ∙ gather-field memberOf member-cut t i end w l tag start stop q
-            ∙ ap (λ (m : List Member). m ++ membersIn t stop end) (member-not i tag (slice start stop t) e) }
+        record {
+          begun = omega (arith, h .begun, f .begins, f .order);
+          within = f .within;
+          same =
+              h .same ∙ gather-field memberOf member-cut t i end w l tag start stop q
+              ∙ ap (λ (m : List Member). m ++ membersIn t stop end) (member-not i tag (slice start stop t) e);
+        }
 
     pub field-moves : i < stop
     field-moves = let f = field-lies t i end tag start stop (h .within) q in omega (arith, f .begins, f .order)

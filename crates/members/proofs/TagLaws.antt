@@ -1,22 +1,22 @@
 -- The fields of one tag in a content, field by field; what is taken from them.
 use mathlib.Core.Path.{_≡_, refl, sym, ap, _∙_}
-use mathlib.Core.Bool.{Bool, true, false, cond, false≢true}
+use mathlib.Core.Bool.{Bool, true, false, cond}
 use mathlib.Core.List.{List, [], _∷_, _++_}
 use Prim.Native.Nat.{ℕ, zero, suc, _+_, _-_, _≤_, _<_}
 use native.Mathlib.Omega.{arith}
 use lib.ListN.{length, take, drop}
 use lib.Seq.{slice}
 use lib.Dec.{eqb}
-use borrow.Author.Tests.{eq-eqb, ne-eqb, eqb-true}
+use borrow.Author.Tests.{eq-eqb, ne-eqb}
 use Rattle.paper_types.specs.TableNumbers.{tagName, tagImplements, tagArgument}
-use Rattle.paper_types.specs.Lists.{gather, onlyIf}
-use Rattle.paper_types.specs.House.{Piece, piece, cut, pieces, inside}
-use Rattle.paper_types.specs.Types.{Argument, textOf, nameIn, argumentOf, implementedOf}
+use Rattle.paper_types.specs.Lists.{gather}
+use Rattle.paper_types.specs.House.{Piece, piece, cut}
+use Rattle.paper_types.specs.Types.{textOf, nameIn, argumentOf, implementedOf}
 use Rattle.fields.specs.Fields.{fieldAt}
 use Rattle.fields.specs.declared.FieldRead.the-variants.{Field, Cut}
-use Rattle.fields.proofs.FieldLaws.{pieces-read, pieces-torn, pieces-none, field-lies, slice-none}
+use Rattle.fields.proofs.FieldLaws.{pieces-read, pieces-torn, pieces-none, field-lies}
 use Rattle.index.specs.Book.{part}
-use Rattle.members.specs.Members.{fieldsIn, argumentsIn, implementedIn, argumentFrom, fromTag, Lies, First, NextTag, NextArgument, NextImplemented, Named}
+use Rattle.members.specs.Members.{fieldsIn, implementedIn, fromTag, First, NextTag, NextArgument, NextImplemented, Named}
 use Rattle.members.specs.declared.FieldFound.{FieldFound}
 use Rattle.members.specs.declared.FieldFound.the-variants.{Found, Nothing}
 use Rattle.members.proofs.GatherLaws.{gather-nil, gather-cons}
@@ -51,21 +51,23 @@ module _ (t : List ℕ) (at end k i : ℕ) (w : end ≤ length t) (h : Walked at
     tags-here e =
         let f = field-lies t i end tag start stop (h .within) q in
         let z : start - 3 ≡ i = omega (arith, f .begins) in
-        record
-        { lies = record { begins = omega (arith, h .begun, f .begins); order = f .order; within = f .within }
-        ; all-are =
-            h .same ∙ ap (fromTag k) (pieces-read t i end w l tag start stop q)
-            ∙ rw (z, e) (from-here k i (slice start stop t) (fieldsIn t stop end)) }
+        record {
+          lies = record { begins = omega (arith, h .begun, f .begins); order = f .order; within = f .within };
+          all-are =
+              h .same ∙ ap (fromTag k) (pieces-read t i end w l tag start stop q)
+              ∙ rw (z, e) (from-here k i (slice start stop t) (fieldsIn t stop end));
+        }
 
     pub tags-on : (tag ≡ k → ⊥) → Walked at end stop (fromTag k (fieldsIn t at end)) (fromTag k (fieldsIn t stop end))
     tags-on e =
         let f = field-lies t i end tag start stop (h .within) q in
-        record
-        { begun = omega (arith, h .begun, f .begins, f .order)
-        ; within = f .within
-        ; same =
-            h .same ∙ ap (fromTag k) (pieces-read t i end w l tag start stop q)
-            ∙ from-on k i tag (slice start stop t) (fieldsIn t stop end) e }
+        record {
+          begun = omega (arith, h .begun, f .begins, f .order);
+          within = f .within;
+          same =
+              h .same ∙ ap (fromTag k) (pieces-read t i end w l tag start stop q)
+              ∙ from-on k i tag (slice start stop t) (fieldsIn t stop end) e;
+        }
 
     pub tags-move : i < stop
     tags-move = let f = field-lies t i end tag start stop (h .within) q in omega (arith, f .begins, f .order)
@@ -125,31 +127,35 @@ module _ (t : List ℕ) (at end : ℕ) where
   next-argument Nothing e = sym (gather-tag argumentOf tagArgument (λ i. refl) argument-other (fieldsIn t at end)) ∙ ap (gather argumentOf) e ∙ gather-nil argumentOf
   next-argument (Found tag start stop) f =
       let z : start - 3 + 3 ≡ start = omega (arith, f .lies .begins) in
-      record
-      { lies = f .lies
-      ; all-are =
-          sym (gather-tag argumentOf tagArgument (λ i. refl) argument-other (fieldsIn t at end)) ∙ ap (gather argumentOf) (f .all-are)
-          ∙ gather-cons argumentOf (piece (start - 3) tagArgument (slice start stop t)) (fieldsIn t stop end)
-          ∙ rw z }
+      record {
+        lies = f .lies;
+        all-are =
+            sym (gather-tag argumentOf tagArgument (λ i. refl) argument-other (fieldsIn t at end)) ∙ ap (gather argumentOf) (f .all-are)
+            ∙ gather-cons argumentOf (piece (start - 3) tagArgument (slice start stop t)) (fieldsIn t stop end)
+            ∙ rw z;
+      }
 
   pub next-implemented : (r : FieldFound) → NextTag t at end tagImplements r → NextImplemented t at end r
   next-implemented Nothing e = sym (gather-tag implementedOf tagImplements (λ i. refl) implemented-other (fieldsIn t at end)) ∙ ap (gather implementedOf) e ∙ gather-nil implementedOf
   next-implemented (Found tag start stop) f =
-      record
-      { lies = f .lies
-      ; all-are =
-          sym (gather-tag implementedOf tagImplements (λ i. refl) implemented-other (fieldsIn t at end)) ∙ ap (gather implementedOf) (f .all-are)
-          ∙ gather-cons implementedOf (piece (start - 3) tagImplements (slice start stop t)) (fieldsIn t stop end)
-          ∙ ap (λ (n : List ℕ). n ∷ implementedIn t stop end) (sym (part-slice t start stop)) }
+      record {
+        lies = f .lies;
+        all-are =
+            sym (gather-tag implementedOf tagImplements (λ i. refl) implemented-other (fieldsIn t at end)) ∙ ap (gather implementedOf) (f .all-are)
+            ∙ gather-cons implementedOf (piece (start - 3) tagImplements (slice start stop t)) (fieldsIn t stop end)
+            ∙ ap (λ (n : List ℕ). n ∷ implementedIn t stop end) (sym (part-slice t start stop));
+      }
 
   pub name-found : (w : end ≤ length t) (tag start stop : ℕ) → NextTag t at end tagName (Found tag start stop) → Named t start (stop - start) (nameIn (fieldsIn t at end))
   name-found w tag start stop f =
-      record
-      { is = part-slice t start stop ∙ sym (sym (text-tag tagName (fieldsIn t at end)) ∙ ap (textOf tagName) (f .all-are) ∙ text-here tagName (start - 3) (slice start stop t) (fieldsIn t stop end))
-      ; within = omega (arith, f .lies .order, f .lies .within) }
+      record {
+        is = part-slice t start stop ∙ sym (sym (text-tag tagName (fieldsIn t at end)) ∙ ap (textOf tagName) (f .all-are) ∙ text-here tagName (start - 3) (slice start stop t) (fieldsIn t stop end));
+        within = omega (arith, f .lies .order, f .lies .within);
+      }
 
   pub name-none : at ≤ end → end ≤ length t → NextTag t at end tagName Nothing → Named t at 0 (nameIn (fieldsIn t at end))
   name-none h w e =
-      record
-      { is = sym (sym (text-tag tagName (fieldsIn t at end)) ∙ ap (textOf tagName) e ∙ text-nil tagName)
-      ; within = omega arith }
+      record {
+        is = sym (sym (text-tag tagName (fieldsIn t at end)) ∙ ap (textOf tagName) e ∙ text-nil tagName);
+        within = omega arith;
+      }

@@ -1,9 +1,9 @@
 -- The type in a content, by the text of its reference; its wrappers as a number.
 use mathlib.Core.Path.{_≡_, refl, sym, ap, _∙_}
 use mathlib.Core.Bool.{Bool, true, false, _&&_, false≢true}
-use mathlib.Core.Option.{Option, none, some}
+use mathlib.Core.Option.{none}
 use mathlib.Core.List.{List, []}
-use Prim.Native.Nat.{ℕ, zero, suc, _+_, _-_, _*_, _%_, _≤_, _<_}
+use Prim.Native.Nat.{ℕ, _-_, _%_, _≤_, _<_}
 use native.Mathlib.Omega.{arith}
 use lib.ListN.{length}
 use lib.Seq.{slice}
@@ -13,9 +13,11 @@ use Rattle.paper.specs.Tokens.{same}
 use Rattle.paper.specs.Numbers.{mostWrappers}
 use Rattle.paper_types.specs.TableNumbers.{tagReference}
 use Rattle.paper_types.specs.References.{Ref, named, listOf, nonNull, baseOf, isNonNull, sameRef, refOf}
-use Rattle.paper_types.specs.Types.{orNone, typeIn, textOf}
+use Rattle.paper_types.specs.Types.{orNone, typeIn}
+use Rattle.paper_types.proofs.ReferenceSizes.{wrappers as wrapperCount}
 use Rattle.fields.specs.Fields.{Finds}
-use Rattle.fields.specs.Wrappers.{packOf, packLimit, isMarked, wrapperCount, Refers}
+use Rattle.fields.specs.Wrappers.{packOf, packLimit, isMarked, Refers}
+use Rattle.fields.proofs.PackLaws.{pack-fits}
 use Rattle.index.specs.Book.{part}
 use Rattle.index.proofs.SubLaws.{same-ref, same-pack, same-base}
 use Rattle.members.specs.Members.{fieldsIn, Typed}
@@ -29,33 +31,16 @@ module _ (t : List ℕ) (start end from to : ℕ) (f : Finds t start end tagRefe
   pub type-found : (a e wrappers : ℕ) → Refers t from to a e wrappers → Typed t a (e - a) wrappers (typeIn (fieldsIn t start end))
   type-found a e wrappers r =
       let q : typeIn (fieldsIn t start end) ≡ r .ref = ap (λ (s : List ℕ). orNone (refOf s)) (sym (f .text)) ∙ ap orNone (r .is) in
-      rw q (record
-        { base = part-slice t a e ∙ sym (r .base)
-        ; packs = r .packs
-        ; within = omega (arith, r .order, r .within, f .within) })
+      rw q (record {
+        base = part-slice t a e ∙ sym (r .base);
+        packs = r .packs;
+        within = omega (arith, r .order, r .within, f .within);
+      })
 
   pub type-none : start ≤ end → refOf (slice from to t) ≡ none → Typed t start 0 0 (typeIn (fieldsIn t start end))
   type-none h e =
       let q : typeIn (fieldsIn t start end) ≡ named [] = ap (λ (s : List ℕ). orNone (refOf s)) (sym (f .text)) ∙ ap orNone e in
       rw q (none-typed t start (omega arith))
-
--- seven wrappers fit
-unfoldable fours : ℕ → ℕ
-fours zero = 1
-fours (suc k) = 4 * fours k
-
-pack-below : (r : Ref) (k : ℕ) → wrapperCount r ≤ k → packOf r < fours k
-unfolding packOf wrapperCount fours
-pack-below (named n) zero h = omega arith
-pack-below (named n) (suc k) h = let i : packOf (named n) < fours k = pack-below (named n) k (omega arith) in omega arith
-pack-below (listOf r) zero h = absurd (omega arith)
-pack-below (listOf r) (suc k) h = let i : packOf r < fours k = pack-below r k (omega arith) in omega arith
-pack-below (nonNull r) zero h = absurd (omega arith)
-pack-below (nonNull r) (suc k) h = let i : packOf r < fours k = pack-below r k (omega arith) in omega arith
-
-pub pack-fits : (r : Ref) → wrapperCount r ≤ mostWrappers → packOf r < packLimit
-unfolding fours
-pack-fits r h = pack-below r mostWrappers h
 
 module _ {t : List ℕ} {at n o : ℕ} {r : Ref} (p : Typed t at n o r) where
   pub typed-packs : wrapperCount r ≤ mostWrappers → o ≡ packOf r

@@ -48,11 +48,20 @@ pub fn next_tag(t: &[u8], at: usize, end: usize, tag: u8) -> FieldFound
 {
     let mut i = at;
     while i < end {
-        let FieldRead::Field { tag: k, start: from, end: to } = fields::read_field(t, i, end) else {
+        let FieldRead::Field {
+            tag: k,
+            start: from,
+            end: to,
+        } = fields::read_field(t, i, end)
+        else {
             return FieldFound::Nothing;
         };
         if k == tag {
-            return FieldFound::Found { tag: k, start: from, end: to };
+            return FieldFound::Found {
+                tag: k,
+                start: from,
+                end: to,
+            };
         }
         i = to;
     }
@@ -79,11 +88,20 @@ pub fn next_member(t: &[u8], at: usize, end: usize) -> FieldFound
 {
     let mut i = at;
     while i < end {
-        let FieldRead::Field { tag: k, start: from, end: to } = fields::read_field(t, i, end) else {
+        let FieldRead::Field {
+            tag: k,
+            start: from,
+            end: to,
+        } = fields::read_field(t, i, end)
+        else {
             return FieldFound::Nothing;
         };
         if is_member(k) {
-            return FieldFound::Found { tag: k, start: from, end: to };
+            return FieldFound::Found {
+                tag: k,
+                start: from,
+                end: to,
+            };
         }
         i = to;
     }
@@ -112,10 +130,18 @@ pub fn name_in(t: &[u8], start: usize, end: usize) -> Name
     ensures { λ r. ⌜ Named (now (t .entry)) (r .at) (r .size) (nameIn (fieldsIn (now (t .entry)) start end)) ⌝ }
 {
     let f = next_tag(t, start, end, TAG_NAME);
-    let FieldFound::Found { tag: _, start: from, end: to } = f else {
+    let FieldFound::Found {
+        tag: _,
+        start: from,
+        end: to,
+    } = f
+    else {
         return Name { at: start, size: 0 };
     };
-    Name { at: from, size: to - from }
+    Name {
+        at: from,
+        size: to - from,
+    }
 }
 
 // The name of the member with this tag and content.
@@ -129,7 +155,10 @@ pub fn member_name(t: &[u8], tag: u8, start: usize, end: usize) -> Name
     if tag == TAG_ARGUMENT {
         return name_in(t, start, end);
     }
-    Name { at: start, size: end - start }
+    Name {
+        at: start,
+        size: end - start,
+    }
 }
 
 // The type in a content; one of no name if there is none.
@@ -138,14 +167,35 @@ pub fn type_in(t: &[u8], start: usize, end: usize) -> TypeRead
     ensures { λ r. ⌜ Typed (now (t .entry)) (r .at) (r .size) (r .wrappers) (typeIn (fieldsIn (now (t .entry)) start end)) ⌝ }
 {
     let p = fields::find_tag(t, start, end, TAG_REFERENCE);
-    let RefRead::Reference { start: from, end: to, wrappers } = fields::read_reference(t, p.start, p.end) else {
-        return TypeRead { at: start, size: 0, wrappers: 0 };
+    let RefRead::Reference {
+        start: from,
+        end: to,
+        wrappers,
+    } = fields::read_reference(t, p.start, p.end)
+    else {
+        return TypeRead {
+            at: start,
+            size: 0,
+            wrappers: 0,
+        };
     };
-    TypeRead { at: from, size: to - from, wrappers: wrappers }
+    TypeRead {
+        at: from,
+        size: to - from,
+        wrappers: wrappers,
+    }
 }
 
 // Is a member's name the n bytes of s from `at` on?
-fn is_member_named(t: &[u8], tag: u8, start: usize, end: usize, s: &[u8], at: usize, n: usize) -> bool
+fn is_member_named(
+    t: &[u8],
+    tag: u8,
+    start: usize,
+    end: usize,
+    s: &[u8],
+    at: usize,
+    n: usize,
+) -> bool
     requires { ⌜ Bounds (now t) start end × (at + n ≤ length (now s)) ⌝ }
     ensures { λ r. ⌜ r ≡ memberNamed (part (now (s .entry)) at n) (memberFrom (now (t .entry)) tag start end) ⌝ }
 {
@@ -169,11 +219,20 @@ pub fn find_member(t: &[u8], from: usize, end: usize, s: &[u8], at: usize, n: us
 {
     let mut i = from;
     loop {
-        let FieldFound::Found { tag, start, end: stop } = next_member(t, i, end) else {
+        let FieldFound::Found {
+            tag,
+            start,
+            end: stop,
+        } = next_member(t, i, end)
+        else {
             return FieldFound::Nothing;
         };
         if is_member_named(t, tag, start, stop, s, at, n) {
-            return FieldFound::Found { tag: tag, start: start, end: stop };
+            return FieldFound::Found {
+                tag: tag,
+                start: start,
+                end: stop,
+            };
         }
         i = stop;
     }
@@ -186,11 +245,20 @@ pub fn find_argument(t: &[u8], from: usize, end: usize, s: &[u8], at: usize, n: 
 {
     let mut i = from;
     loop {
-        let FieldFound::Found { tag, start, end: stop } = next_argument(t, i, end) else {
+        let FieldFound::Found {
+            tag,
+            start,
+            end: stop,
+        } = next_argument(t, i, end)
+        else {
             return FieldFound::Nothing;
         };
         if is_named(t, start, stop, s, at, n) {
-            return FieldFound::Found { tag: tag, start: start, end: stop };
+            return FieldFound::Found {
+                tag: tag,
+                start: start,
+                end: stop,
+            };
         }
         i = stop;
     }
@@ -203,7 +271,12 @@ pub fn implements(t: &[u8], from: usize, end: usize, s: &[u8], at: usize, n: usi
 {
     let mut i = from;
     loop {
-        let FieldFound::Found { tag: _, start, end: stop } = next_implemented(t, i, end) else {
+        let FieldFound::Found {
+            tag: _,
+            start,
+            end: stop,
+        } = next_implemented(t, i, end)
+        else {
             return false;
         };
         if index::is_text(s, at, n, t, start, stop - start) {

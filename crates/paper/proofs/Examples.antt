@@ -7,7 +7,7 @@ use lib.ListN.{length}
 use lib.Dec.{T}
 use Rattle.paper.specs.Language.{Part, language, Document, VariablesText}
 use Rattle.paper.specs.Lexical.{lexical}
-use Rattle.paper.specs.Numbers.{accepted}
+use Rattle.paper.specs.Numbers.{inputVariables, accepted}
 use Rattle.paper.specs.Rows.{Row, rowsOf, book, flat}
 use Rattle.paper.specs.Reading.{tokensOf}
 use Rattle.paper.proofs.Machine.{run, step, enter, choose}
@@ -17,6 +17,8 @@ use Rattle.paper.proofs.LexTables.{lexFactored}
 use Rattle.paper.proofs.Lexing.{text, from}
 use Rattle.paper.proofs.Going.{go}
 use Rattle.paper.proofs.Worked.{bytes, agree, reads, rowsBy, r}
+use Rattle.paper.specs.Refusals.{numberOf, shownInText}
+use Rattle.paper.specs.declared.Refusal.the-variants.{NoGoing}
 
 -- a text and its rows
 abbrev Case : Type 0
@@ -227,3 +229,7 @@ variables-read = tt
 variables-stop : map (reads VariablesText 0) (bytes "{x:$x}" ∷ bytes "{} {}" ∷ []) ≡ (4 ∷ 3 ∷ []) ∷ (4 ∷ 3 ∷ []) ∷ []
 unfolding from text scan step enter choose lexical lexFactored language factored go
 variables-stop = refl
+
+-- the variables `{a 1 %}` are refused by 4 at offset 3, and text 1 is shown
+pub shown-of-variables : numberOf (NoGoing 3) ∷ shownInText inputVariables (NoGoing 3) ≡ 4 ∷ 3 ∷ 1 ∷ []
+shown-of-variables = refl

@@ -46,7 +46,6 @@ either P (e ∷ es) h n s = go (sameL (e .0) n) refl (either P es (h .1) n s)
     go true q k = inl (subst P (same-part (e .0) n (subst T (sym q) tt)) (h .0))
     go false q k = k
 
-
 -- productions that both have
 kept : (q : Lex → Rules) (n : Lex) (rs : Rules) → ((α : Syms) → List·Memᴰ α rs → List·Memᴰ α (q n)) → AdmitsAll q n rs
 kept q n [] h = tt
@@ -80,22 +79,30 @@ piece-to = (λ σ es d. number σ (ints σ (by-one lexFactored hitsByte {n = Int
 
 float-to : AdmitsAll lexFactored FloatValue (lexical FloatValue)
 unfolding lexical lexFactored
-float-to = (λ σ es d. whole σ (behind lexFactored IntegerPart (nt FractionalPart ∷ σ) (nt FloatRest ∷ σ) (λ vs k. by (first-of lexFactored hitsByte {n = FloatRest} refl) (behind lexFactored FractionalPart σ (nt ExponentPart? ∷ σ) (λ ws j. by (first-of lexFactored hitsByte {n = ExponentPart?} refl) j) k)) d),
-    (λ σ es d. whole σ (behind lexFactored IntegerPart (nt ExponentPart ∷ σ) (nt FloatRest ∷ σ) (λ vs k. by (second-of lexFactored hitsByte {n = FloatRest} refl) k) d),
-    (λ σ es d. whole σ (behind lexFactored IntegerPart (nt FractionalPart ∷ nt ExponentPart ∷ σ) (nt FloatRest ∷ σ) (λ vs k. by (first-of lexFactored hitsByte {n = FloatRest} refl) (behind lexFactored FractionalPart (nt ExponentPart ∷ σ) (nt ExponentPart? ∷ σ) (λ ws j. by (second-of lexFactored hitsByte {n = ExponentPart?} refl) j) k)) d), tt)))
+float-to = (
+  λ σ es d. whole σ (behind lexFactored IntegerPart (nt FractionalPart ∷ σ) (nt FloatRest ∷ σ) (λ vs k. by (first-of lexFactored hitsByte {n = FloatRest} refl) (behind lexFactored FractionalPart σ (nt ExponentPart? ∷ σ) (λ ws j. by (first-of lexFactored hitsByte {n = ExponentPart?} refl) j) k)) d),
+  (
+    λ σ es d. whole σ (behind lexFactored IntegerPart (nt ExponentPart ∷ σ) (nt FloatRest ∷ σ) (λ vs k. by (second-of lexFactored hitsByte {n = FloatRest} refl) k) d),
+    (λ σ es d. whole σ (behind lexFactored IntegerPart (nt FractionalPart ∷ nt ExponentPart ∷ σ) (nt FloatRest ∷ σ) (λ vs k. by (first-of lexFactored hitsByte {n = FloatRest} refl) (behind lexFactored FractionalPart (nt ExponentPart ∷ σ) (nt ExponentPart? ∷ σ) (λ ws j. by (second-of lexFactored hitsByte {n = ExponentPart?} refl) j) k)) d), tt),
+  ),
+)
   where
     whole : (σ : Syms) {es : Evs} → Derives lexFactored hitsByte (nt IntegerPart ∷ nt FloatRest ∷ σ) es → Derives lexFactored hitsByte (nt FloatValue ∷ σ) es
     whole σ d = by (first-of lexFactored hitsByte {n = FloatValue} refl) d
 
 integer-to : AdmitsAll lexFactored IntegerPart (lexical IntegerPart)
 unfolding lexical lexFactored
-integer-to = (λ σ es d. by (first-of lexFactored hitsByte {n = IntegerPart} refl) (behind lexFactored NegativeSign? (tm zero ∷ σ) (nt Whole ∷ σ) (λ vs k. by (first-of lexFactored hitsByte {n = Whole} refl) k) d),
-    (λ σ es d. by (first-of lexFactored hitsByte {n = IntegerPart} refl) (behind lexFactored NegativeSign? (tm nonZero ∷ nt Digit* ∷ σ) (nt Whole ∷ σ) (λ vs k. by (second-of lexFactored hitsByte {n = Whole} refl) k) d), tt))
+integer-to = (
+  λ σ es d. by (first-of lexFactored hitsByte {n = IntegerPart} refl) (behind lexFactored NegativeSign? (tm zero ∷ σ) (nt Whole ∷ σ) (λ vs k. by (first-of lexFactored hitsByte {n = Whole} refl) k) d),
+  (λ σ es d. by (first-of lexFactored hitsByte {n = IntegerPart} refl) (behind lexFactored NegativeSign? (tm nonZero ∷ nt Digit* ∷ σ) (nt Whole ∷ σ) (λ vs k. by (second-of lexFactored hitsByte {n = Whole} refl) k) d), tt),
+)
 
 string-to : AdmitsAll lexFactored StringValue (lexical StringValue)
 unfolding lexical lexFactored
-string-to = (λ σ es d. by (first-of lexFactored hitsByte {n = StringValue} refl) (bracket-none lexFactored hitsByte quote quote StringCharacter StringCharacter+ StringCharacter* refl refl d),
-    (λ σ es d. by (first-of lexFactored hitsByte {n = StringValue} refl) (bracket-some lexFactored hitsByte quote quote StringCharacter StringCharacter+ StringCharacter* refl refl d), tt))
+string-to = (
+  λ σ es d. by (first-of lexFactored hitsByte {n = StringValue} refl) (bracket-none lexFactored hitsByte quote quote StringCharacter StringCharacter+ StringCharacter* refl refl d),
+  (λ σ es d. by (first-of lexFactored hitsByte {n = StringValue} refl) (bracket-some lexFactored hitsByte quote quote StringCharacter StringCharacter+ StringCharacter* refl refl d), tt),
+)
 
 to-factored : Each (λ n. AdmitsAll lexFactored n (lexical n)) changedL
 unfolding lexical lexFactored

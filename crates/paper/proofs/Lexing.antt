@@ -55,9 +55,10 @@ longest bs = go (scan lexer (nt Piece ∷ []) bs) (piece bs)
   where
     go : (o : Option (Match ℕ What)) → Best fitsL (nt Piece ∷ []) bs o → Found bs o
     go none h = λ p es s. h p (s .0 .0) (s .0 .1) (es, lexical→factored (s .1), s .2)
-    go (some m) h =
-        (((drop (m .size) bs, take-append-drop (m .size) bs), factored→lexical (h .0), h .1),
-        λ p es s. h .2 p (s .0 .0) (s .0 .1) (es, lexical→factored (s .1), s .2))
+    go (some m) h = (
+      ((drop (m .size) bs, take-append-drop (m .size) bs), factored→lexical (h .0), h .1),
+      λ p es s. h .2 p (s .0 .0) (s .0 .1) (es, lexical→factored (s .1), s .2),
+    )
 
 -- a piece has a byte at least
 pub piece-byte : (bs : List ℕ) (m : Match ℕ What) → scan lexer (nt Piece ∷ []) bs ≡ some m → 0 < m .size

@@ -208,7 +208,6 @@ look (e ∷ es) n s = orThat (sameN (e .0) n) (e .1) (look es n s)
 unfoldable pub factored : Part → Rules
 factored n = look changed n (language n)
 
-
 -- what may follow a part
 abbrev pub followers : Part → List Class
 followers Document = []

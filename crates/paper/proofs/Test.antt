@@ -134,21 +134,23 @@ module _ {N P C A : Type 0} (G : Tables N P C A) (follow : N → C → Bool) (al
     followsT-out n (act a ∷ ss) h = followsT-out n ss h
     followsT-out n (nt m ∷ ss) h =
         let h₁ = and-l (all (afterT m ss) allC) (all (lastT n m ss) allC && followsT n ss) h in
-        let h₂ = and-r (all (afterT m ss) allC) (all (lastT n m ss) allC && followsT n ss) h in
-        (λ t k. implies-out (fst G ss t) (follow m t) (at-class (afterT m ss) h₁ (λ c f. rw (fst-far f ss) tt) t) k,
-        λ t k j. implies-out (follow n t) (follow m t) (implies-out (nul G ss) (implies (follow n t) (follow m t)) (at-class (lastT n m ss) (and-l (all (lastT n m ss) allC) (followsT n ss) h₂) (λ c f. rw (f .follow-not n) (implies-true (nul G ss))) t) k) j,
-        followsT-out n ss (and-r (all (lastT n m ss) allC) (followsT n ss) h₂))
+        let h₂ = and-r (all (afterT m ss) allC) (all (lastT n m ss) allC && followsT n ss) h in (
+          λ t k. implies-out (fst G ss t) (follow m t) (at-class (afterT m ss) h₁ (λ c f. rw (fst-far f ss) tt) t) k,
+          λ t k j. implies-out (follow n t) (follow m t) (implies-out (nul G ss) (implies (follow n t) (follow m t)) (at-class (lastT n m ss) (and-l (all (lastT n m ss) allC) (followsT n ss) h₂) (λ c f. rw (f .follow-not n) (implies-true (nul G ss))) t) k) j,
+          followsT-out n ss (and-r (all (lastT n m ss) allC) (followsT n ss) h₂),
+        )
 
     pub fit : {sample : N → List C} → Tested sample → Fit G follow
     fit h = record {
-        first-closed = λ n {α} t m k. implies-out (fst G α t) (G .first n t) (at-class (λ u. implies (fst G α u) (G .first n u))
-            (all-mem (λ β. all (λ u. implies (fst G β u) (G .first n u)) allC) (at-part (λ n. all (λ α. all (λ t. implies (fst G α t) (G .first n t)) allC) (G .prods n)) (h .first-closed) n) m) (λ c f. rw (fst-far f α) tt) t) k;
-        null-closed = λ n {α} m k. implies-out (nul G α) (G .null n) (all-mem (λ β. implies (nul G β) (G .null n)) (at-part (λ n. all (λ α. implies (nul G α) (G .null n)) (G .prods n)) (h .null-closed) n) m) k;
-        one-first = λ n t. at-class (λ u. atMostOne (λ α. fst G α u) (G .prods n)) (at-part (λ n. all (λ t. atMostOne (λ α. fst G α t) (G .prods n)) allC) (h .one-first) n) (λ c f. one-far f (G .prods n)) t;
-        one-null = λ n. at-part (λ n. atMostOne (λ α. nul G α) (G .prods n)) (h .one-null) n;
-        apart = λ n t. not-both (G .null n) (G .first n t) (follow n t) (at-class (λ u. implies (G .null n) (implies (G .first n u) (not (follow n u)))) (at-part (λ n. all (λ t. implies (G .null n) (implies (G .first n t) (not (follow n t)))) allC) (h .apart) n) (λ c f. rw (f .first-not n) (implies-true (G .null n))) t);
-        follows = λ n {α} m. followsT-out n α (all-mem (λ β. followsT n β) (at-part (λ n. all (λ α. followsT n α) (G .prods n)) (h .follows) n) m);
-        deep = λ n l. deep-at n l }
+      first-closed = λ n {α} t m k. implies-out (fst G α t) (G .first n t) (at-class (λ u. implies (fst G α u) (G .first n u))
+          (all-mem (λ β. all (λ u. implies (fst G β u) (G .first n u)) allC) (at-part (λ n. all (λ α. all (λ t. implies (fst G α t) (G .first n t)) allC) (G .prods n)) (h .first-closed) n) m) (λ c f. rw (fst-far f α) tt) t) k;
+      null-closed = λ n {α} m k. implies-out (nul G α) (G .null n) (all-mem (λ β. implies (nul G β) (G .null n)) (at-part (λ n. all (λ α. implies (nul G α) (G .null n)) (G .prods n)) (h .null-closed) n) m) k;
+      one-first = λ n t. at-class (λ u. atMostOne (λ α. fst G α u) (G .prods n)) (at-part (λ n. all (λ t. atMostOne (λ α. fst G α t) (G .prods n)) allC) (h .one-first) n) (λ c f. one-far f (G .prods n)) t;
+      one-null = λ n. at-part (λ n. atMostOne (λ α. nul G α) (G .prods n)) (h .one-null) n;
+      apart = λ n t. not-both (G .null n) (G .first n t) (follow n t) (at-class (λ u. implies (G .null n) (implies (G .first n u) (not (follow n u)))) (at-part (λ n. all (λ t. implies (G .null n) (implies (G .first n t) (not (follow n t)))) allC) (h .apart) n) (λ c f. rw (f .first-not n) (implies-true (G .null n))) t);
+      follows = λ n {α} m. followsT-out n α (all-mem (λ β. followsT n β) (at-part (λ n. all (λ α. followsT n α) (G .prods n)) (h .follows) n) m);
+      deep = λ n l. deep-at n l;
+    }
       where
         deep-end-at : (n : N) → T (alive (enter G (G .depth) n none))
         deep-end-at n = at-part (λ n. alive (enter G (G .depth) n none)) (h .deep-end) n

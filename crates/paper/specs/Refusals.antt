@@ -26,3 +26,13 @@ shownOf (NoGoing at) = at ∷ []
 shownOf (TooDeep at) = at ∷ []
 shownOf (TooManyRows at) = at ∷ []
 shownOf (TooMany at) = at ∷ []
+
+-- "3 to 6 then show the text as in 2": the same beside the number of the text that is refused
+abbrev pub shownInText : ℕ → Refusal → List ℕ
+shownInText text Buffer = []
+shownInText text (OverLength input) = input ∷ []
+shownInText text (NoToken at) = at ∷ text ∷ []
+shownInText text (NoGoing at) = at ∷ text ∷ []
+shownInText text (TooDeep at) = at ∷ text ∷ []
+shownInText text (TooManyRows at) = at ∷ text ∷ []
+shownInText text (TooMany at) = at ∷ []

@@ -1,15 +1,15 @@
 -- Which breaks a table has: a rule's places in a definition, or `Query` where there is no record 8.
-use mathlib.Core.Path.{_≡_, refl, sym, ap, subst, _∙_}
+use mathlib.Core.Path.{_≡_, refl, sym, ap, subst}
 use mathlib.Core.Logic.{_⊎_, inl, inr}
-use mathlib.Core.Bool.{Bool, true, false, true≢false}
-use mathlib.Core.List.{List, [], _∷_, _++_, map, List·Memᴰ, List·Memᴰ·head, List·Memᴰ·tail, List·Memᴰ·not-nil, List·Memᴰ·append-cases, Memᴰ·append-left, Memᴰ·append-right, Memᴰ·cast}
+use mathlib.Core.Bool.{Bool, true, false}
+use mathlib.Core.List.{List, [], _∷_, map, List·Memᴰ, List·Memᴰ·head, List·Memᴰ·tail, List·Memᴰ·not-nil, List·Memᴰ·append-cases, Memᴰ·append-left, Memᴰ·append-right}
 use Prim.Native.Nat.{ℕ, zero, suc, _+_, _<_}
 use native.Mathlib.Nat.{zero-add}
 use native.Mathlib.Omega.{arith}
 use lib.ListN.{length, getD}
 use Rattle.paper_types.specs.TableNumbers.{ruleRoot}
 use Rattle.paper_types.specs.Lists.{gather, eachFrom, onlyIf}
-use Rattle.paper_types.specs.Types.{Definition, Table, blank, tagNothing}
+use Rattle.paper_types.specs.Types.{Table, blank, tagNothing}
 use Rattle.paper_types.specs.Rules.{Place, wholeOf, queryNotObject}
 use Rattle.paper_types.specs.Judging.{Numbered, rules, Break, break, breaksOfRule, breaksOf, breaks}
 use Rattle.paper_types.proofs.Walk.{definitionAt}
@@ -73,6 +73,7 @@ of-definition t b i h m = by-rule (gather-sound (breaksOfRule t i (definitionAt 
   where
     at : (n : Numbered) → List·Memᴰ n rules → (q : Place) × List·Memᴰ q (n .rule t i (definitionAt t i)) × (b ≡ break i (n .number) q) → Broken t b
     at n r q = subst (Broken t) (sym (q .2)) (at-place i n (q .0) h r (q .1))
+
     by-rule : (n : Numbered) × List·Memᴰ n rules × List·Memᴰ b (breaksOfRule t i (definitionAt t i) n) → Broken t b
     by-rule n = at (n .0) (n .1) (map-sound (break i (n .0 .number)) (n .0 .rule t i (definitionAt t i)) b (n .2))
 
@@ -84,8 +85,10 @@ breaks-sound t b m = go (List·Memᴰ·append-cases (eachFrom 0 (breaksOf t) t) 
     query true q (List·Memᴰ·head e) = subst (Broken t) (sym e) (at-query q)
     query true q (List·Memᴰ·tail k) = absurd (List·Memᴰ·not-nil k)
     query false q k = absurd (List·Memᴰ·not-nil k)
+
     numbered : (j : ℕ) × (j < length t) × List·Memᴰ b (breaksOf t (0 + j) (definitionAt t j)) → Broken t b
     numbered r = of-definition t b (r .0) (r .1) (subst (λ (j : ℕ). List·Memᴰ b (breaksOf t j (definitionAt t (r .0)))) (zero-add (r .0)) (r .2))
+
     go : List·Memᴰ b (eachFrom 0 (breaksOf t) t) ⊎ List·Memᴰ b (onlyIf (queryNotObject t) (break (length t) ruleRoot wholeOf)) → Broken t b
     go (inl k) = numbered (each-sound (breaksOf t) (blank tagNothing) 0 t b k)
     go (inr k) = query (queryNotObject t) refl k

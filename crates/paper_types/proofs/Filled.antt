@@ -6,7 +6,7 @@ use Prim.Native.Nat.{ℕ}
 use lib.Dec.{eqb}
 use borrow.Author.Tests.{eqb-true, eq-eqb}
 use Rattle.paper_types.specs.Lists.{anyOf}
-use Rattle.paper_types.specs.House.{Piece, piece, cut, Slot, one, atMostOne, many, isFor, inPlace, openAfter, openBehind, tagIs, lackedBy, lacks, Offsets, inOrder}
+use Rattle.paper_types.specs.House.{Piece, piece, cut, Slot, one, atMostOne, many, isFor, inPlace, openAfter, tagIs, lacks, Offsets, inOrder}
 
 -- the fields of a holder fill its slots, and nothing is wrong in any of them
 pub data Filled (inner : Offsets) : List Slot → List Piece → Type 0 where
@@ -27,7 +27,7 @@ abbrev pub distinct : List Slot → Bool
 distinct [] = true
 distinct (x ∷ ss) = not (inPlace (slotTag x) ss) && distinct ss
 
-append-inv : {A : Type 0} (xs ys : List A) → xs ++ ys ≡ [] → (xs ≡ []) × (ys ≡ [])
+pub append-inv : {A : Type 0} (xs ys : List A) → xs ++ ys ≡ [] → (xs ≡ []) × (ys ≡ [])
 append-inv [] ys e = (refl, e)
 append-inv (x ∷ xs) ys e = absurd (cons≢nil e)
 
@@ -35,7 +35,7 @@ or-inv : (a b : Bool) → a || b ≡ false → (a ≡ false) × (b ≡ false)
 or-inv true b e = absurd (true≢false e)
 or-inv false b e = (refl, e)
 
-and-inv : (a b : Bool) → a && b ≡ true → (a ≡ true) × (b ≡ true)
+pub and-inv : (a b : Bool) → a && b ≡ true → (a ≡ true) × (b ≡ true)
 and-inv true b e = (refl, e)
 and-inv false b e = absurd (false≢true e)
 
@@ -227,9 +227,10 @@ filled-sound inner filled d = (refl, refl)
 filled-sound inner (the-one {at = at} {k = k} {s = s} {ss = ss} {ps = ps} e f) d =
     let z = and-inv (not (inPlace k ss)) (distinct ss) d in
     let r = filled-sound inner f (z .1) in
-    let q = eq-eqb k k refl in
-    (first-right inner at k s (one k) ss ss ps q (ap (λ (b : Bool). cond b ss (openAfter k ss)) q) e (r .0),
-    rw q (lacks-on at k s ps ss (not-inv _ (z .0)) ∙ r .1))
+    let q = eq-eqb k k refl in (
+      first-right inner at k s (one k) ss ss ps q (ap (λ (b : Bool). cond b ss (openAfter k ss)) q) e (r .0),
+      rw q (lacks-on at k s ps ss (not-inv _ (z .0)) ∙ r .1),
+    )
 filled-sound inner (not-there {k = k} {ss = ss} {ps = ps} f) d =
     let z = and-inv (not (inPlace k ss)) (distinct ss) d in
     let r = filled-sound inner f (z .1) in

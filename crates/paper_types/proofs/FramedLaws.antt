@@ -1,18 +1,17 @@
 -- What a table whose framing is right holds: names that are names, references that are references, and in each record the members due there.
-use mathlib.Core.Path.{_≡_, refl, sym, ap, subst, _∙_}
-use mathlib.Core.Bool.{Bool, true, false, not, _&&_, _||_, cond, true≢false, false≢true}
+use mathlib.Core.Path.{_≡_, refl, sym, subst}
+use mathlib.Core.Bool.{Bool, true, false, not, _&&_, false≢true}
 use mathlib.Core.Option.{Option, none, some}
-use mathlib.Core.List.{List, [], _∷_, _++_, cons≢nil}
-use Prim.Native.Nat.{ℕ, suc, _+_}
-use lib.Dec.{eqb, leb}
+use mathlib.Core.List.{List, [], _∷_, cons≢nil}
+use Prim.Native.Nat.{ℕ, suc}
+use lib.Dec.{leb}
 use Rattle.paper_types.specs.TableNumbers.{tagScalar, tagObject, tagInterface, tagUnion, tagEnum, tagInputObject, tagDirective, tagRoots, tagName, tagImplements, tagField, tagArgument, tagReference, tagUnionMember, tagEnumValue, tagQueryRoot, tagMutationRoot, tagSubscriptionRoot}
 use Rattle.paper_types.specs.Lists.{anyOf, gather, onlyIf}
 use Rattle.paper_types.specs.References.{isName, Ref, refOf, found, isReference}
-use Rattle.paper_types.specs.House.{Piece, piece, cut, pieces, inside, Slot, one, atMostOne, many, Content, aName, aReference, noTag, holds, contents, lookUp, contentOf, lacks, Offsets, inOrder, orLacking, byContent, wrongs, mostDeep, recordInPlace, tableWrongs, smallest, smaller, framing}
-use Rattle.paper_types.specs.Types.{Argument, Member, Definition, textOf, nameIn, typeIn, argumentIn, argumentOf, fieldIn, inputIn, nameOnly, memberOf, implementedOf, definitionIn, definitionOf, tableOf}
+use Rattle.paper_types.specs.House.{Piece, piece, inside, Slot, one, atMostOne, many, aName, aReference, holds, contents, lookUp, contentOf, lacks, Offsets, inOrder, orLacking, byContent, wrongs, mostDeep}
+use Rattle.paper_types.specs.Types.{Argument, Member, Definition, textOf, nameIn, typeIn, argumentOf, fieldIn, inputIn, nameOnly, memberOf, implementedOf, definitionIn}
 use Rattle.paper_types.proofs.ReferenceTexts.{Written, refOf-sound}
-use Rattle.paper_types.proofs.RuleOrder.{Every, no-more, one-more}
-use Rattle.paper_types.proofs.TableFits.{every-append}
+use Rattle.paper_types.proofs.Every.{Every, no-more, one-more, every-append}
 use Rattle.paper_types.proofs.Filled.{Filled, filled, the-one, not-there, once, slotTag, distinct, filled-complete}
 
 -- A field that is right, by its content.
@@ -21,7 +20,7 @@ lacking-inv at true [] e = absurd (cons≢nil e)
 lacking-inv at false [] e = (refl, refl)
 lacking-inv at b (w ∷ ws) e = absurd (cons≢nil e)
 
-holder-right : (d at tag : ℕ) (s : List ℕ) (ss : List Slot) → contentOf tag ≡ holds ss → distinct ss ≡ true → wrongs (suc d) at tag s ≡ [] → Filled (wrongs d) ss (inside at s)
+pub holder-right : (d at tag : ℕ) (s : List ℕ) (ss : List Slot) → contentOf tag ≡ holds ss → distinct ss ≡ true → wrongs (suc d) at tag s ≡ [] → Filled (wrongs d) ss (inside at s)
 unfolding wrongs byContent
 holder-right d at tag s ss c n e =
     let z = lacking-inv at (lacks ss (inside at s)) (inOrder (wrongs d) ss (inside at s)) (rw c at e) in
@@ -31,7 +30,7 @@ only-inv : (b : Bool) (at : ℕ) → onlyIf (not b) at ≡ [] → b ≡ true
 only-inv true at e = refl
 only-inv false at e = absurd (cons≢nil e)
 
-name-right : (d at tag : ℕ) (s : List ℕ) → contentOf tag ≡ aName → wrongs (suc d) at tag s ≡ [] → isName s ≡ true
+pub name-right : (d at tag : ℕ) (s : List ℕ) → contentOf tag ≡ aName → wrongs (suc d) at tag s ≡ [] → isName s ≡ true
 unfolding wrongs byContent
 name-right d at tag s c e = only-inv (isName s) at (rw c at e)
 
@@ -39,12 +38,12 @@ found-inv : (o : Option Ref) → found o ≡ true → (r : Ref) × (o ≡ some r
 found-inv none e = absurd (false≢true e)
 found-inv (some r) e = (r, refl)
 
-reference-right : (d at tag : ℕ) (s : List ℕ) → contentOf tag ≡ aReference → wrongs (suc d) at tag s ≡ [] → (r : Ref) × (refOf s ≡ some r)
+pub reference-right : (d at tag : ℕ) (s : List ℕ) → contentOf tag ≡ aReference → wrongs (suc d) at tag s ≡ [] → (r : Ref) × (refOf s ≡ some r)
 unfolding wrongs byContent
 reference-right d at tag s c e = found-inv (refOf s) (only-inv (isReference s) at (rw c at e))
 
 -- what a right holder's fields give
-filled-gather : {B : Type 0} (inner : Offsets) (Q : B → Type 0) (g : Piece → List B) {ss : List Slot} {ps : List Piece}
+pub filled-gather : {B : Type 0} (inner : Offsets) (Q : B → Type 0) (g : Piece → List B) {ss : List Slot} {ps : List Piece}
     → Every (λ x. (at : ℕ) (s : List ℕ) → inner at (slotTag x) s ≡ [] → Every Q (g (piece at (slotTag x) s))) ss → Filled inner ss ps → Every Q (gather g ps)
 unfolding gather
 filled-gather inner Q g h filled = no-more
@@ -158,7 +157,7 @@ root-right : (at : ℕ) (k : ℕ) (s : List ℕ) → contentOf k ≡ aName → l
 root-right at k s c b e = (b, a-name k refl (name-right 2 at k s c e) refl)
 
 -- Each kind of record.
-scalar-right : (at : ℕ) (s : List ℕ) → wrongs mostDeep at tagScalar s ≡ [] → RightDefinition (definitionIn at tagScalar s)
+pub scalar-right : (at : ℕ) (s : List ℕ) → wrongs mostDeep at tagScalar s ≡ [] → RightDefinition (definitionIn at tagScalar s)
 unfolding contents lookUp anyOf memberOf
 scalar-right at s e =
     let f = holder-right 3 at tagScalar s (one tagName ∷ []) refl refl e in
@@ -166,7 +165,7 @@ scalar-right at s e =
     (nothing-in (filled-gather (wrongs 3) (λ x. ⊥) implementedOf (one-more (λ at s e. no-more) no-more) f))
     (nothing-in (filled-gather (wrongs 3) (λ x. ⊥) memberOf (one-more (λ at s e. no-more) no-more) f))
 
-object-right : (at : ℕ) (s : List ℕ) → wrongs mostDeep at tagObject s ≡ [] → RightDefinition (definitionIn at tagObject s)
+pub object-right : (at : ℕ) (s : List ℕ) → wrongs mostDeep at tagObject s ≡ [] → RightDefinition (definitionIn at tagObject s)
 unfolding contents lookUp anyOf memberOf
 object-right at s e =
     let f = holder-right 3 at tagObject s (one tagName ∷ many tagImplements ∷ many tagField ∷ []) refl refl e in
@@ -174,31 +173,31 @@ object-right at s e =
     (filled-gather (wrongs 3) IsName implementedOf (one-more (λ at s e. no-more) (one-more (λ at s e. one-more (name-right 2 at tagImplements s refl e) no-more) (one-more (λ at s e. no-more) no-more))) f)
     (filled-gather (wrongs 3) (MemberOf tagField) memberOf (one-more (λ at s e. no-more) (one-more (λ at s e. no-more) (one-more fields-right no-more))) f)
 
-interface-right : (at : ℕ) (s : List ℕ) → wrongs mostDeep at tagInterface s ≡ [] → RightDefinition (definitionIn at tagInterface s)
+pub interface-right : (at : ℕ) (s : List ℕ) → wrongs mostDeep at tagInterface s ≡ [] → RightDefinition (definitionIn at tagInterface s)
 unfolding contents lookUp anyOf
 interface-right at s e =
     let f = holder-right 3 at tagInterface s (one tagName ∷ many tagField ∷ []) refl refl e in
     an-interface refl (name-of 2 f) (none-implemented tagField fields-right (λ at s. refl) f) (members-right tagField fields-right (λ at s. refl) f)
 
-union-right : (at : ℕ) (s : List ℕ) → wrongs mostDeep at tagUnion s ≡ [] → RightDefinition (definitionIn at tagUnion s)
+pub union-right : (at : ℕ) (s : List ℕ) → wrongs mostDeep at tagUnion s ≡ [] → RightDefinition (definitionIn at tagUnion s)
 unfolding contents lookUp anyOf
 union-right at s e =
     let f = holder-right 3 at tagUnion s (one tagName ∷ many tagUnionMember ∷ []) refl refl e in
     a-union refl (name-of 2 f) (none-implemented tagUnionMember union-members-right (λ at s. refl) f) (members-right tagUnionMember union-members-right (λ at s. refl) f)
 
-enum-right : (at : ℕ) (s : List ℕ) → wrongs mostDeep at tagEnum s ≡ [] → RightDefinition (definitionIn at tagEnum s)
+pub enum-right : (at : ℕ) (s : List ℕ) → wrongs mostDeep at tagEnum s ≡ [] → RightDefinition (definitionIn at tagEnum s)
 unfolding contents lookUp anyOf
 enum-right at s e =
     let f = holder-right 3 at tagEnum s (one tagName ∷ many tagEnumValue ∷ []) refl refl e in
     an-enum refl (name-of 2 f) (none-implemented tagEnumValue values-right (λ at s. refl) f) (members-right tagEnumValue values-right (λ at s. refl) f)
 
-input-object-right : (at : ℕ) (s : List ℕ) → wrongs mostDeep at tagInputObject s ≡ [] → RightDefinition (definitionIn at tagInputObject s)
+pub input-object-right : (at : ℕ) (s : List ℕ) → wrongs mostDeep at tagInputObject s ≡ [] → RightDefinition (definitionIn at tagInputObject s)
 unfolding contents lookUp anyOf
 input-object-right at s e =
     let f = holder-right 3 at tagInputObject s (one tagName ∷ many tagArgument ∷ []) refl refl e in
     an-input-object refl (name-of 2 f) (none-implemented tagArgument inputs-right (λ at s. refl) f) (members-right tagArgument inputs-right (λ at s. refl) f)
 
-directive-right : (at : ℕ) (s : List ℕ) → wrongs mostDeep at tagDirective s ≡ [] → RightDefinition (definitionIn at tagDirective s)
+pub directive-right : (at : ℕ) (s : List ℕ) → wrongs mostDeep at tagDirective s ≡ [] → RightDefinition (definitionIn at tagDirective s)
 unfolding contents lookUp anyOf
 directive-right at s e =
     let f = holder-right 3 at tagDirective s (one tagName ∷ many tagArgument ∷ []) refl refl e in
@@ -211,7 +210,7 @@ no-name (the-one e (not-there (once e′ filled))) = refl
 no-name (the-one e (once e′ (not-there filled))) = refl
 no-name (the-one e (once e′ (once e″ filled))) = refl
 
-roots-right : (at : ℕ) (s : List ℕ) → wrongs mostDeep at tagRoots s ≡ [] → RightDefinition (definitionIn at tagRoots s)
+pub roots-right : (at : ℕ) (s : List ℕ) → wrongs mostDeep at tagRoots s ≡ [] → RightDefinition (definitionIn at tagRoots s)
 unfolding contents lookUp anyOf memberOf
 roots-right at s e =
     let f = holder-right 3 at tagRoots s (one tagQueryRoot ∷ atMostOne tagMutationRoot ∷ atMostOne tagSubscriptionRoot ∷ []) refl refl e in

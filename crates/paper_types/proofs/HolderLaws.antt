@@ -1,13 +1,13 @@
 -- One field more of a holder, a record or a table: what its loop adds to the first wrong offset, and to the first over a size.
-use mathlib.Core.Path.{_≡_, refl, ap}
+use mathlib.Core.Path.{_≡_, refl}
 use mathlib.Core.Bool.{Bool, true, false, not, _&&_, _||_, cond}
 use mathlib.Core.Option.{Option, none, some}
-use mathlib.Core.List.{List, [], _∷_, _++_, map, head?}
+use mathlib.Core.List.{List, [], _∷_, map, head?}
 use Prim.Native.Nat.{ℕ}
 use lib.Dec.{eqb}
 use Rattle.paper_types.specs.TableNumbers.{tagRoots}
-use Rattle.paper_types.specs.Lists.{anyOf, onlyIf}
-use Rattle.paper_types.specs.House.{Piece, piece, cut, Slot, inPlace, openAfter, openBehind, tagIs, Offsets, inOrder, orLacking, wrongs, mostDeep, recordInPlace, tableWrongs}
+use Rattle.paper_types.specs.Lists.{anyOf}
+use Rattle.paper_types.specs.House.{Piece, piece, cut, Slot, inPlace, openAfter, tagIs, Offsets, inOrder, orLacking, wrongs, mostDeep, recordInPlace, tableWrongs}
 use Rattle.paper_types.specs.TableSizes.{Room, isOver, lessRoom, oversIn}
 use Rattle.paper_types.proofs.ListsLaws.{head-left}
 

@@ -69,6 +69,7 @@ judge-accepted s = (λ e. let q = to (framing s) (counts s) (leastBreak (breaks 
     to none (some w) b e = absurd (clash e (omega arith))
     to none none (some x) e = absurd (clash e (omega arith))
     to none none none e = (refl, refl, refl)
+
     from : (framing s ≡ none) × (counts s ≡ none) × ((b : Break) → Broken (tableOf s) b → ⊥) → answer (framing s) (counts s) (leastBreak (breaks (tableOf s))) ≡ Accepted
     from q = rw (q .0, q .1, breaks-nil (tableOf s) (q .2), least-nil)
 
@@ -94,11 +95,14 @@ judge-breaks s i k m p a e = go (framing s) (counts s) (leastBreak (breaks (tabl
     go : (f c : Option ℕ) (o : Option Break) → leastBreak (breaks (tableOf s)) ≡ o → answer f c o ≡ Breaks i k m p a → (f ≡ none) × (c ≡ none) × Shown (tableOf s) (Breaks i k m p a)
     go (some w) c o q e = absurd (clash e (omega arith))
     go none (some w) o q e = absurd (clash e (omega arith))
-    go none none (some b) q e =
-        (refl, refl, record {
-          least = b;
-          shows = sym e;
-          broken = breaks-sound (tableOf s) b (least-member (breaks (tableOf s)) b q);
-          first = λ c k. least-least (breaks (tableOf s)) b q c (breaks-complete (tableOf s) c k);
-        })
+    go none none (some b) q e = (
+      refl,
+      refl,
+      record {
+        least = b;
+        shows = sym e;
+        broken = breaks-sound (tableOf s) b (least-member (breaks (tableOf s)) b q);
+        first = λ c k. least-least (breaks (tableOf s)) b q c (breaks-complete (tableOf s) c k);
+      },
+    )
     go none none none q e = absurd (clash e (omega arith))

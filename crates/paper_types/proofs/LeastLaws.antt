@@ -2,7 +2,7 @@
 use mathlib.Core.Path.{_≡_, refl, sym, ap, subst, _∙_}
 use mathlib.Core.Bool.{Bool, true, false, cond, true≢false}
 use mathlib.Core.Option.{Option, none, some}
-use mathlib.Core.List.{List, [], _∷_, _++_, head?, List·Memᴰ, List·Memᴰ·head, List·Memᴰ·tail, List·Memᴰ·not-nil}
+use mathlib.Core.List.{List, [], _∷_, head?, List·Memᴰ, List·Memᴰ·head, List·Memᴰ·tail, List·Memᴰ·not-nil}
 use Prim.Native.Nat.{ℕ}
 use Rattle.paper_types.specs.Judging.{Break, numbersOf, before, lesser, leastBreak}
 use Rattle.paper_types.proofs.Before.{Before, before-complete, before-sound, before-refl, before-trans, before-total, Rise, done, then}
@@ -35,6 +35,7 @@ least-least (x ∷ bs) b e c m = go (leastBreak bs) refl e (λ (d : Break) (q : 
   where
     at : (y : Break) → y ≡ b → c ≡ y → Before (numbersOf b) (numbersOf c)
     at y p q = subst (λ (z : Break). Before (numbersOf b) (numbersOf z)) (sym (q ∙ p)) (before-refl (numbersOf b))
+
     go : (o : Option Break) → leastBreak bs ≡ o → lesser x o ≡ some b → ((d : Break) → leastBreak bs ≡ some d → (c : Break) → List·Memᴰ c bs → Before (numbersOf d) (numbersOf c))
         → List·Memᴰ c (x ∷ bs) → Before (numbersOf b) (numbersOf c)
     go none q e ih (List·Memᴰ·head p) = at x (some-inj e) p

@@ -1,11 +1,13 @@
 -- Laws of the definitions of the type table, and worked examples. Nothing here need be believed.
 pub mod ListsLaws
+pub mod Every
 pub mod TextLaws
 pub mod ReferenceLaws
 pub mod ReferenceTexts
 pub mod ReferenceSizes
 pub mod SubTypesLaws
 pub mod PiecesLaws
+pub mod PartsLaws
 pub mod Rising
 pub mod HolderLaws
 pub mod Filled
@@ -17,7 +19,10 @@ pub mod BreakOrder
 pub mod TableFits
 pub mod Walk
 pub mod FramedLaws
+pub mod FramedTable
+pub mod DeepEnough
 pub mod BreaksLaws
+pub mod RootsLaws
 pub mod JudgingLaws
 pub mod TableCallsOne
 pub mod WorkedTables

@@ -1,6 +1,6 @@
 -- The first of a list of lists joined; the first element that passes; a walk by numbers.
 use mathlib.Core.Path.{_≡_, refl, sym, ap, _∙_}
-use mathlib.Core.Bool.{Bool, true, false, _||_, cond}
+use mathlib.Core.Bool.{Bool, true, false, _||_, cond, true≢false}
 use mathlib.Core.Option.{Option, none, some}
 use mathlib.Core.List.{List, [], _∷_, _++_, map, head?}
 use Prim.Native.Nat.{ℕ, zero, suc, _≤_, _<_}
@@ -9,7 +9,7 @@ use lib.ListN.{length, take, drop, getD, getElem?, drop-of-length-le}
 use lib.Seq.{drop-cons}
 use lib.Dec.{ltb, leb·suc-suc}
 use borrow.Author.Tests.{lt-ltb, le-ltb}
-use Rattle.paper_types.specs.Lists.{anyOf, firstAt, find, eachFrom, each}
+use Rattle.paper_types.specs.Lists.{anyOf, firstAt, find, eachFrom}
 
 module _ {A : Type 0} where
   -- the first of two lists joined is the first of the first, or where that is empty the second's
@@ -81,6 +81,26 @@ module _ {A : Type 0} where
       go : (b : Bool) → b || anyOf p xs ≡ false → (anyOf p xs ≡ false → find p xs ≡ none) → cond b (some x) (find p xs) ≡ none
       go true q ih = let z : true ≡ false = q in cc
       go false q ih = ih q
+
+  -- what is found stands there, and passes
+  pub find-some : (p : A → Bool) (xs : List A) (x d : A) → find p xs ≡ some x → (i : ℕ) × (i < length xs) × (getD xs i d ≡ x) × (p x ≡ true)
+  unfolding find
+  find-some p [] x d e = let z : _≡_ {A = Option A} none (some x) = e in absurd (true≢false cc)
+  find-some p (y ∷ xs) x d e = go (p y) refl e (λ q. find-some p xs x d q)
+    where
+      go : (b : Bool) → p y ≡ b → cond b (some y) (find p xs) ≡ some x → (find p xs ≡ some x → (i : ℕ) × (i < length xs) × (getD xs i d ≡ x) × (p x ≡ true))
+          → (i : ℕ) × (i < suc (length xs)) × (getD (y ∷ xs) i d ≡ x) × (p x ≡ true)
+      go true q e ih = let z : y ≡ x = cc in (0, omega arith, z, ap p (sym z) ∙ q)
+      go false q e ih = let r = ih e in let h = r .1 in (suc (r .0), omega arith, r .2, r .3)
+
+  pub find-none : (p : A → Bool) (xs : List A) → find p xs ≡ none → anyOf p xs ≡ false
+  unfolding find anyOf
+  find-none p [] e = refl
+  find-none p (y ∷ xs) e = go (p y) e (λ q. find-none p xs q)
+    where
+      go : (b : Bool) → cond b (some y) (find p xs) ≡ none → (find p xs ≡ none → anyOf p xs ≡ false) → b || anyOf p xs ≡ false
+      go true e ih = let z : _≡_ {A = Option A} (some y) none = e in absurd (true≢false cc)
+      go false e ih = ih e
 
 module _ {A B : Type 0} where
   -- the first that passes in a list of what f gives

@@ -2,13 +2,13 @@
 use mathlib.Core.Path.{_≡_, refl, sym, ap, _∙_}
 use mathlib.Core.Bool.{Bool, true, false, cond}
 use mathlib.Core.List.{List}
-use Prim.Native.Nat.{ℕ, _≤_}
+use Prim.Native.Nat.{ℕ}
 use lib.ListN.{length, getD, List·getD-eq-default}
 use lib.Dec.{ltb}
 use borrow.Author.Tests.{ltb-false}
-use Rattle.paper_types.specs.Lists.{anyOf, firstAt}
+use Rattle.paper_types.specs.Lists.{firstAt}
 use Rattle.paper_types.specs.TableNumbers.{tagScalar}
-use Rattle.paper_types.specs.Types.{Definition, Table, typeNamed, isBuiltIn, Meaning, builtIn, nothing, definition, meaning, blank, tagNothing, definitionBy, meant}
+use Rattle.paper_types.specs.Types.{Table, typeNamed, isBuiltIn, builtIn, nothing, definition, meaning, blank, tagNothing, definitionBy, meant}
 use Rattle.paper_types.proofs.ListsLaws.{any-first}
 
 -- the number found, or nothing where it is the count

@@ -88,7 +88,7 @@ from-laid (suc f) at (t ∷ h ∷ l ∷ s) = go (leb (256 * h + l) (length s)) r
         let g : at + 3 + n + length (drop n s) ≡ at + suc (suc (suc (length s))) = omega (arith, length-drop n s) in
         let a : Laid (at + 3 + n) (piecesFrom f (at + 3 + n) (drop n s)) (at + suc (suc (suc (length s)))) = subst (λ (x : ℕ). Laid (at + 3 + n) (piecesFrom f (at + 3 + n) (drop n s)) x) g r in
         let b : Laid (at + 3 + length (take n s)) (piecesFrom f (at + 3 + n) (drop n s)) (at + suc (suc (suc (length s)))) =
-            subst (λ (x : ℕ). Laid (at + 3 + x) (piecesFrom f (at + 3 + n) (drop n s)) (at + suc (suc (suc (length s))))) (sym e) a in
+        subst (λ (x : ℕ). Laid (at + 3 + x) (piecesFrom f (at + 3 + n) (drop n s)) (at + suc (suc (suc (length s))))) (sym e) a in
         next b
     go false q r = torn (grow at (suc (suc (suc (length s)))))
 

@@ -1,16 +1,13 @@
 -- A type reference's text from front to back: opening brackets, the name, then the marks `]` and `!` behind it. And `refOf` takes exactly the references' texts.
-use mathlib.Core.Path.{_≡_, refl, sym, ap, subst, _∙_}
-use mathlib.Core.Bool.{Bool, true, false, not, _&&_, cond, true≢false, false≢true}
+use mathlib.Core.Path.{_≡_, refl}
+use mathlib.Core.Bool.{Bool, true, false, not, _&&_, cond}
 use mathlib.Core.Option.{Option, none, some}
-use mathlib.Core.List.{List, [], _∷_, _++_, append-nil, append-assoc}
-use Prim.Native.Nat.{ℕ, zero, suc, _+_, _≤_, _<_}
+use mathlib.Core.List.{List, [], _∷_}
+use Prim.Native.Nat.{ℕ, zero, suc, _≤_}
 use native.Mathlib.Omega.{arith}
-use lib.ListN.{length, take, drop, length-append, length-drop, take-append-drop}
+use lib.ListN.{length, take, drop}
 use lib.Dec.{eqb}
-use borrow.Author.Tests.{eqb-true, eqb-false, eq-eqb, ne-eqb}
-use Rattle.paper.specs.Lexical.{letter, letterOrDigit, oneOf}
-use Rattle.paper_types.specs.Lists.{allOf, firstAt}
-use Rattle.paper_types.specs.References.{isName, Ref, named, listOf, nonNull, isNonNull, byteBang, byteBracketL, byteBracketR, ReadRef, got, bad, marked, closed, nameSize, readName, refFrom, wholeRef, refOf}
+use Rattle.paper_types.specs.References.{isName, Ref, named, listOf, nonNull, byteBang, byteBracketL, byteBracketR, ReadRef, got, bad, marked, closed, nameSize, readName, refFrom, wholeRef, refOf}
 
 -- the marks behind a reference r: k brackets are open, and `last` is whether a `!` stands just before
 unfoldable pub behind : ℕ → Bool → Ref → List ℕ → Option Ref
@@ -52,9 +49,11 @@ both-more b s ih = (one, λ k r. two k r (eqb b byteBang) refl)
     close : (k : ℕ) (r : Ref) (c : Bool) → closings k (cond c (marked (listOf r) s) bad) ≡ cond c (behind k false (listOf r) s) none
     close k r true = ih .1 k (listOf r)
     close k r false = closings-bad k
+
     one : (k : ℕ) (r : Ref) → closings k (got r (b ∷ s)) ≡ behind k true r (b ∷ s)
     one zero r = rw (and-false (eqb b byteBang))
     one (suc k) r = rw (and-false (eqb b byteBang)) (close k r (eqb b byteBracketR))
+
     two : (k : ℕ) (r : Ref) (c : Bool) → eqb b byteBang ≡ c → closings k (marked r (b ∷ s)) ≡ behind k false r (b ∷ s)
     two zero r true q = rw q (ih .0 zero (nonNull r))
     two zero r false q = rw q
@@ -68,6 +67,7 @@ closings-both [] = (nothing, nothing-marked)
     nothing : (k : ℕ) (r : Ref) → closings k (got r []) ≡ behind k true r []
     nothing zero r = refl
     nothing (suc k) r = closings-bad k
+
     nothing-marked : (k : ℕ) (r : Ref) → closings k (got r []) ≡ behind k false r []
     nothing-marked zero r = refl
     nothing-marked (suc k) r = closings-bad k
@@ -84,6 +84,7 @@ refFrom-opened (suc f) k (b ∷ s) h = go (eqb b byteBracketL) (refFrom-opened f
         ≡ cond c (behind k false (named (take (nameSize (b ∷ s)) (b ∷ s))) (drop (nameSize (b ∷ s)) (b ∷ s))) none
     name true = closings-both (drop (nameSize (b ∷ s)) (b ∷ s)) .1 k (named (take (nameSize (b ∷ s)) (b ∷ s)))
     name false = closings-bad k
+
     go : (c : Bool) → closings (suc k) (refFrom f s) ≡ opened (suc k) s
         → closings k (elim c [ true ↦ closed (refFrom f s) | false ↦ readName (b ∷ s) ]) ≡ cond c (opened (suc k) s) (nameThen k (b ∷ s))
     go true e = e

@@ -9,7 +9,7 @@ use lib.Dec.{eqb}
 use borrow.Author.Tests.{eqb-true, ne-eqb}
 use Rattle.paper.specs.Lexical.{letterOrDigit, oneOf}
 use Rattle.paper_types.specs.Lists.{allOf, onlyIf}
-use Rattle.paper_types.specs.References.{isName, Ref, named, listOf, nonNull, byteBang, byteBracketL, byteBracketR, refOf}
+use Rattle.paper_types.specs.References.{Ref, named, listOf, nonNull, byteBang, byteBracketL, byteBracketR, refOf}
 use Rattle.paper_types.specs.TableSizes.{isWrapper, wrappersOver}
 use Rattle.paper_types.proofs.ReferenceTexts.{refText, Written, a-name, a-list, a-non-null, name-all, refOf-sound}
 
@@ -64,6 +64,7 @@ over-none n at (b ∷ s) h = go (isWrapper b) n h (λ m e. over-none m (at + 1) 
   where
     some≢none : {w : ℕ} → _≡_ {A = Option ℕ} (some w) none → ⊥
     some≢none e = false≢true cc
+
     go : (c : Bool) (n : ℕ) → head? (onlyIf (c && eqb n 0) at ++ wrappersOver (cond c (pred n) n) (at + 1) s) ≡ none
         → ((m : ℕ) → head? (wrappersOver m (at + 1) s) ≡ none → marksIn s ≤ m) → cond c 1 0 + marksIn s ≤ n
     go true zero h ih = absurd (some≢none h)

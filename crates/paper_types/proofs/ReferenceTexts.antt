@@ -10,7 +10,7 @@ use borrow.Author.Tests.{eqb-true}
 use Rattle.paper.specs.Lexical.{letter, letterOrDigit, oneOf}
 use Rattle.paper_types.specs.Lists.{allOf, firstAt}
 use Rattle.paper_types.specs.References.{isName, Ref, named, listOf, nonNull, isNonNull, byteBang, byteBracketL, byteBracketR, nameSize, refOf}
-use Rattle.paper_types.proofs.ListsLaws.{firstAt-here, firstAt-later}
+use Rattle.paper_types.proofs.ListsLaws.{firstAt-later}
 use Rattle.paper_types.proofs.ReferenceLaws.{behind, nameThen, opened, refOf-walk}
 
 -- a reference's text
@@ -78,10 +78,10 @@ name-opened k [] s h st = absurd (no-name h)
 name-opened k (b ∷ n) s h st =
     let z : nameSize (b ∷ (n ++ s)) ≡ suc (length n) = size-all (b ∷ n) s (name-all (b ∷ n) h) st in
     let e : nameThen k (b ∷ (n ++ s)) ≡ behind k false (named (b ∷ n)) s =
-        ap (λ (m : ℕ). cond (isName (take m (b ∷ (n ++ s)))) (behind k false (named (take m (b ∷ (n ++ s)))) (drop m (b ∷ (n ++ s)))) none) z
-        ∙ ap (λ (w : List ℕ). cond (isName w) (behind k false (named w) (drop (length n) (n ++ s))) none) (take-all (b ∷ n) s)
-        ∙ ap (λ (c : Bool). cond c (behind k false (named (b ∷ n)) (drop (length n) (n ++ s))) none) h
-        ∙ ap (behind k false (named (b ∷ n))) (drop-all n s) in
+    ap (λ (m : ℕ). cond (isName (take m (b ∷ (n ++ s)))) (behind k false (named (take m (b ∷ (n ++ s)))) (drop m (b ∷ (n ++ s)))) none) z
+    ∙ ap (λ (w : List ℕ). cond (isName w) (behind k false (named w) (drop (length n) (n ++ s))) none) (take-all (b ∷ n) s)
+    ∙ ap (λ (c : Bool). cond c (behind k false (named (b ∷ n)) (drop (length n) (n ++ s))) none) h
+    ∙ ap (behind k false (named (b ∷ n))) (drop-all n s) in
     rw (letter-open b (first b n h)) e
   where
     first : (b : ℕ) (n : List ℕ) → isName (b ∷ n) ≡ true → oneOf letter b ≡ true
@@ -151,6 +151,7 @@ module _ (b : ℕ) (s : List ℕ) (ih : (k : ℕ) (r q : Ref) → Written r → 
       close : (c : Bool) → eqb b byteBracketR ≡ c → cond c (behind k false (listOf r) s) none ≡ some q → Reads′ q (brackets (suc k) (refText r ++ (b ∷ s)))
       close true e g = with-close k r q w e g
       close false e g = absurd (none≢some g)
+
       go : (c n : Bool) → eqb b byteBang ≡ c → isNonNull r ≡ n → cond (c && not n) (behind (suc k) true (nonNull r) s) (cond (eqb b byteBracketR) (behind k false (listOf r) s) none) ≡ some q
           → Reads′ q (brackets (suc k) (refText r ++ (b ∷ s)))
       go true false e f g = with-bang (suc k) r q w e f g
@@ -170,11 +171,13 @@ opened-sound (b ∷ s) k q h = go (eqb b byteBracketL) refl h (opened-sound s (s
   where
     m : ℕ
     m = nameSize (b ∷ s)
+
     name : (c : Bool) → isName (take m (b ∷ s)) ≡ c → cond c (behind k false (named (take m (b ∷ s))) (drop m (b ∷ s))) none ≡ some q → Reads′ q (brackets k (b ∷ s))
     name true e g =
         let z = behind-sound (drop m (b ∷ s)) k (named (take m (b ∷ s))) q (a-name e) g in
         (z .0, z .1 ∙ ap (brackets k) (take-append-drop m (b ∷ s)))
     name false e g = absurd (none≢some g)
+
     go : (c : Bool) → eqb b byteBracketL ≡ c → cond c (opened (suc k) s) (nameThen k (b ∷ s)) ≡ some q → (opened (suc k) s ≡ some q → Reads′ q (brackets (suc k) s)) → Reads′ q (brackets k (b ∷ s))
     go true e g ih = let z = ih g in (z .0, z .1 ∙ ap (λ (c : ℕ). brackets k (c ∷ s)) (sym (eqb-true b byteBracketL e)))
     go false e g ih = name (isName (take m (b ∷ s))) refl g

@@ -1,19 +1,19 @@
 -- The smallest wrong offset of a table, and the smallest over a size, are the first that a reader from front to back meets.
 use mathlib.Core.Path.{_≡_, refl, ap, _∙_}
 use mathlib.Core.Bool.{Bool, true, false, not, _&&_, cond}
-use mathlib.Core.Option.{Option, none, some}
+use mathlib.Core.Option.{some}
 use mathlib.Core.List.{List, [], _∷_, _++_, map, head?}
 use Prim.Native.Nat.{ℕ, zero, suc, _+_, _≤_, pred}
 use native.Mathlib.Omega.{arith}
 use native.Mathlib.Nat.{le-refl, le-trans}
 use lib.ListN.{length}
-use lib.Dec.{leb, eqb}
+use lib.Dec.{eqb}
 use borrow.Author.Tests.{le-leb}
 use Rattle.paper.specs.Numbers.{mostWrappers}
 use Rattle.paper_types.specs.TableNumbers.{tagRoots}
 use Rattle.paper_types.specs.Lists.{anyOf, onlyIf}
 use Rattle.paper_types.specs.References.{isName, isReference}
-use Rattle.paper_types.specs.House.{Piece, piece, cut, pieces, inside, Slot, Content, aName, aReference, noTag, holds, contentOf, inPlace, openBehind, lacks, Offsets, inOrder, orLacking, byContent, wrongs, mostDeep, recordInPlace, tableWrongs, smaller, smallest, framing}
+use Rattle.paper_types.specs.House.{Piece, pieces, inside, Slot, Content, aName, aReference, noTag, holds, contentOf, inPlace, openBehind, lacks, Offsets, inOrder, orLacking, byContent, wrongs, mostDeep, recordInPlace, tableWrongs, smaller, smallest, framing}
 use Rattle.paper_types.specs.TableSizes.{Room, isOver, lessRoom, roomInTable, roomIn, oversIn, isWrapper, wrappersOver, oversBy, overs, counts}
 use Rattle.paper_types.proofs.PiecesLaws.{Laid, nil, torn, next, pieces-laid}
 

@@ -2,7 +2,7 @@
 use mathlib.Core.Path.{_≡_, refl, subst}
 use mathlib.Core.Bool.{Bool, true, false, _&&_, _||_, cond}
 use mathlib.Core.Option.{Option, none, some}
-use mathlib.Core.List.{List, [], _∷_, _++_}
+use mathlib.Core.List.{List, [], _∷_}
 use Prim.Native.Nat.{ℕ, suc, _+_, _≤_, _<_}
 use native.Mathlib.Nat.{le-refl}
 use native.Mathlib.Omega.{arith}
@@ -13,12 +13,8 @@ use Rattle.paper_types.specs.TableNumbers.{noPlace}
 use Rattle.paper_types.specs.Lists.{eachFrom, each, onlyIf}
 use Rattle.paper_types.specs.Types.{Argument, Member, Definition, Table, isObject, isInterface, isUnion, isEnum, isDirective, isRoots, isType, meant}
 use Rattle.paper_types.specs.Rules.{Place, wholeOf, memberAt, argumentAt, partAt, partArgumentAt, Rule, membersThat, argumentPlaces, memberPlaces, membersOrArgumentsThat, implementedThat, isReserved, typeKnown, directiveKnown, isComposed, memberRepeats, argumentRepeats, memberReserved, argumentReserved, isNoEnumValue, memberUnknown, argumentUnknown, memberBaseWrong, argumentBaseWrong, memberNoObject, noInterface, implementedBefore, Ask, promisedBy, promised, own, ifAny, lacksField, askField, noSubType, askType, lacksArgument, askArgument, differs, ownArgument, askArgumentType, isExtra, askExtra, reservedName, nameKnown, noMembers, nameRepeated, reservedMember, enumValue, noType, wrongBase, notObjectOrInterface, implementedTwice, fieldMissing, fieldType, argumentMissing, argumentType, argumentExtra, rootNotObject}
-use Rattle.paper_types.proofs.Before.{Before, empty, less, same, before-refl, Rise, done, then, rise-lower, rise-higher, rise-append, rise-one}
-
--- each element of a list has the property
-pub data Every {A : Type 0} (P : A → Type 0) : List A → Type 0 where
-  no-more : Every P []
-  one-more : {x : A} {xs : List A} → P x → Every P xs → Every P (x ∷ xs)
+use Rattle.paper_types.proofs.Every.{Every, no-more, one-more}
+use Rattle.paper_types.proofs.Before.{Before, empty, less, same, before-refl, Rise, done, rise-lower, rise-higher, rise-append, rise-one}
 
 abbrev Any′ : {A : Type 0} → A → Type 0
 Any′ x = Unit {0}
@@ -39,6 +35,7 @@ at-most n k xs h = go (ltb n k) refl
   where
     equal : k ≤ n → n ≡ k
     equal g = omega arith
+
     go : (b : Bool) → ltb n k ≡ b → Before (n ∷ []) (k ∷ xs)
     go true q = less (ltb-true n k q)
     go false q = same (equal (ltb-false n k q)) empty

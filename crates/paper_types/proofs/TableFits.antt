@@ -1,34 +1,21 @@
 -- A table of at most 32,768 bytes has members and arguments whose numbers are below 65,535; so its least break is its first.
-use mathlib.Core.Path.{_≡_, refl, ap}
+use mathlib.Core.Path.{_≡_}
 use mathlib.Core.Bool.{Bool, true, false, cond}
-use mathlib.Core.List.{List, [], _∷_, _++_, head?}
-use Prim.Native.Nat.{ℕ, suc, _+_, _≤_}
+use mathlib.Core.List.{List, [], _∷_, head?}
+use Prim.Native.Nat.{ℕ, _+_, _≤_}
 use native.Mathlib.Nat.{le-refl, le-trans}
 use native.Mathlib.Omega.{arith}
-use lib.ListN.{length, length-append}
+use lib.ListN.{length}
 use lib.Dec.{eqb, leb}
 use Rattle.paper_types.specs.TableNumbers.{mostTable, noPlace, tagField, tagArgument, tagUnionMember}
 use Rattle.paper_types.specs.Lists.{gather, onlyIf}
 use Rattle.paper_types.specs.House.{Piece, piece, cut, pieces, inside}
-use Rattle.paper_types.specs.Types.{Argument, Member, Definition, argumentIn, argumentOf, fieldIn, inputIn, nameOnly, memberOf, definitionOf, tableOf}
+use Rattle.paper_types.specs.Types.{Argument, argumentIn, argumentOf, fieldIn, inputIn, nameOnly, memberOf, definitionOf, tableOf}
 use Rattle.paper_types.specs.Judging.{breaks, leastBreak}
 use Rattle.paper_types.proofs.PiecesLaws.{Laid, nil, torn, next, pieces-laid, laid-size}
-use Rattle.paper_types.proofs.RuleOrder.{Every, no-more, one-more, Fits}
+use Rattle.paper_types.proofs.Every.{Every, no-more, one-more, every-gather, gather-size}
+use Rattle.paper_types.proofs.RuleOrder.{Fits}
 use Rattle.paper_types.proofs.BreakOrder.{AllFit, breaks-first}
-
-pub every-append : {A : Type 0} {P : A → Type 0} {xs ys : List A} → Every P xs → Every P ys → Every P (xs ++ ys)
-every-append no-more q = q
-every-append (one-more h p) q = one-more h (every-append p q)
-
-every-gather : {A B : Type 0} (P : A → Type 0) (Q : B → Type 0) (f : A → List B) → ((x : A) → P x → Every Q (f x)) → (xs : List A) → Every P xs → Every Q (gather f xs)
-unfolding gather
-every-gather P Q f h [] no-more = no-more
-every-gather P Q f h (x ∷ xs) (one-more p ps) = every-append (h x p) (every-gather P Q f h xs ps)
-
-gather-size : {A B : Type 0} (f : A → List B) → ((x : A) → length (f x) ≤ 1) → (xs : List A) → length (gather f xs) ≤ length xs
-unfolding gather
-gather-size f h [] = le-refl 0
-gather-size f h (x ∷ xs) = omega (arith, length-append (f x) (gather f xs), h x, gather-size f h xs)
 
 -- a field that ends at n or before
 abbrev Ends : ℕ → Piece → Type 0
@@ -67,8 +54,10 @@ member-fits n h (piece at tag s) e = go (eqb tag tagField) (eqb tag tagArgument)
   where
     few : length (gather argumentOf (inside at s)) ≤ noPlace
     few = le-trans (gather-size argumentOf one-argument (inside at s)) (le-trans (inside-size n at s e) h)
+
     nothing : 0 ≤ noPlace
     nothing = omega arith
+
     go : (a b c : Bool)
         → Every Fits (cond a (fieldIn at s ∷ []) (cond b (inputIn at s ∷ []) (onlyIf c (nameOnly tag s))))
     go true b c = one-more few no-more

@@ -3,10 +3,10 @@ use mathlib.Core.Path.{_≡_, refl, sym, ap, _∙_}
 use mathlib.Core.Bool.{Bool, true, false, cond}
 use mathlib.Core.Option.{Option, none, some}
 use mathlib.Core.List.{List, [], _∷_, _++_, map, head?}
-use Prim.Native.Nat.{ℕ, suc, _<_, _≤_}
+use Prim.Native.Nat.{ℕ, suc, _<_}
 use native.Mathlib.Nat.{le-refl}
 use lib.ListN.{length, drop, getD}
-use Rattle.paper_types.specs.TableNumbers.{noPlace, ruleRoot}
+use Rattle.paper_types.specs.TableNumbers.{ruleRoot}
 use Rattle.paper_types.specs.Lists.{gather, eachFrom, onlyIf}
 use Rattle.paper_types.specs.Types.{Definition, Table, blank, tagNothing}
 use Rattle.paper_types.specs.Rules.{Place, wholeOf, Rule, reservedName, nameKnown, noMembers, nameRepeated, reservedMember, enumValue, noType, wrongBase, notObjectOrInterface, implementedTwice, fieldMissing, fieldType, argumentMissing, argumentType, argumentExtra, rootNotObject, queryNotObject}

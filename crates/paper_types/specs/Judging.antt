@@ -22,27 +22,27 @@ pub record Numbered : Type 0 where
   pub number : ℕ
   pub rule : Rule
 
-abbrev pub r : ℕ → Rule → Numbered
-r n q = record { number = n; rule = q }
+abbrev pub numbered : ℕ → Rule → Numbered
+numbered n q = record { number = n; rule = q }
 
 unfoldable pub rules : List Numbered
 rules =
-    r ruleReservedName reservedName ∷
-    r ruleNameKnown nameKnown ∷
-    r ruleNoMembers noMembers ∷
-    r ruleNameRepeated nameRepeated ∷
-    r ruleReservedMember reservedMember ∷
-    r ruleEnumValue enumValue ∷
-    r ruleNoType noType ∷
-    r ruleBase wrongBase ∷
-    r ruleNotObjectOrInterface notObjectOrInterface ∷
-    r ruleImplementedTwice implementedTwice ∷
-    r ruleFieldMissing fieldMissing ∷
-    r ruleFieldType fieldType ∷
-    r ruleArgumentMissing argumentMissing ∷
-    r ruleArgumentType argumentType ∷
-    r ruleArgumentExtra argumentExtra ∷
-    r ruleRoot rootNotObject ∷
+    numbered ruleReservedName reservedName ∷
+    numbered ruleNameKnown nameKnown ∷
+    numbered ruleNoMembers noMembers ∷
+    numbered ruleNameRepeated nameRepeated ∷
+    numbered ruleReservedMember reservedMember ∷
+    numbered ruleEnumValue enumValue ∷
+    numbered ruleNoType noType ∷
+    numbered ruleBase wrongBase ∷
+    numbered ruleNotObjectOrInterface notObjectOrInterface ∷
+    numbered ruleImplementedTwice implementedTwice ∷
+    numbered ruleFieldMissing fieldMissing ∷
+    numbered ruleFieldType fieldType ∷
+    numbered ruleArgumentMissing argumentMissing ∷
+    numbered ruleArgumentType argumentType ∷
+    numbered ruleArgumentExtra argumentExtra ∷
+    numbered ruleRoot rootNotObject ∷
     []
 
 -- a break: a rule's place in the definition of a number

@@ -2,13 +2,12 @@
 -- States: 01, "Sizes and refusals", the paragraph "Order", for a call that is given a table alone.
 -- Assumes nothing.
 use mathlib.Core.Path.{_≡_}
-use mathlib.Core.List.{List, [], _∷_}
+use mathlib.Core.List.{List, _∷_}
 use Prim.Native.Nat.{ℕ, _≤_, _<_}
 use lib.ListN.{length}
 use Rattle.paper.specs.Numbers.{reportSize}
 use Rattle.paper.specs.Refusals.{numberOf}
 use Rattle.paper.specs.Calls.{filled, tells}
-use Rattle.paper.specs.declared.Refusal.{Refusal}
 use Rattle.paper.specs.declared.Refusal.the-variants.{Buffer, OverLength}
 use Rattle.paper_types.specs.TableNumbers.{mostTable, inputTable}
 use Rattle.paper_types.specs.Judging.{judge, tableNumber, tableShown}

@@ -2,7 +2,7 @@
 -- States: 01, "Sizes and refusals": "Table: 256 top-level records, 64 members and 64 implemented names each, 16 arguments per field, 7 wrappers (`[` or `!`)
 -- per type reference"; row 8 of the refusals.
 -- Assumes nothing.
-use mathlib.Core.Bool.{Bool, true, false, _&&_, _||_, cond}
+use mathlib.Core.Bool.{Bool, _&&_, _||_, cond}
 use mathlib.Core.Option.{Option}
 use mathlib.Core.List.{List, [], _∷_, _++_, map}
 use Prim.Native.Nat.{ℕ, zero, suc, _+_, pred}

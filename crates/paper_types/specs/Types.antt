@@ -1,15 +1,15 @@
 -- A table as types: its definitions with their members and references, and what a name means.
 -- States: 01, "The type table": "A name means the first type so named. The five built-in scalars, skip and include are always known."
 -- Assumes nothing.
-use mathlib.Core.Bool.{Bool, true, false, _&&_, _||_, cond}
+use mathlib.Core.Bool.{Bool, _&&_, _||_, cond}
 use mathlib.Core.Option.{Option, none, some}
 use mathlib.Core.List.{List, [], _∷_}
 use Prim.Native.Nat.{ℕ}
 use lib.ListN.{getD}
 use lib.Dec.{leb, eqb}
 use Rattle.paper.specs.Tokens.{same}
-use Rattle.paper_types.specs.TableNumbers.{tagScalar, tagObject, tagInterface, tagUnion, tagEnum, tagInputObject, tagDirective, tagRoots, tagName, tagImplements, tagField, tagArgument, tagReference, tagUnionMember}
-use Rattle.paper_types.specs.Lists.{bytes, anyOf, firstAt, gather, onlyIf}
+use Rattle.paper_types.specs.TableNumbers.{tagScalar, tagObject, tagInterface, tagUnion, tagEnum, tagInputObject, tagDirective, tagRoots, tagName, tagImplements, tagField, tagArgument, tagReference, tagUnionMember, tagQueryRoot}
+use Rattle.paper_types.specs.Lists.{bytes, anyOf, firstAt, find, gather, onlyIf}
 use Rattle.paper_types.specs.References.{Ref, named, refOf}
 use Rattle.paper_types.specs.House.{Piece, piece, cut, pieces, inside}
 
@@ -164,6 +164,14 @@ meant t n = definitionBy t (meaning t n)
 -- a name of no type
 abbrev pub isUnknown : Definition → Bool
 isUnknown d = eqb (d .tag) tagNothing
+
+-- The roots: record 8's members. "Without record 8, `Query` is the only root."
+abbrev pub rootsIn : Option Definition → List Member
+rootsIn none = nameOnly tagQueryRoot (bytes "Query") ∷ []
+rootsIn (some d) = d .members
+
+unfoldable pub rootsOf : Table → List Member
+rootsOf t = rootsIn (find isRoots t)
 
 -- The interface or union a can be the object o: o names the interface, or the union names o.
 unfoldable pub canBe : Table → List ℕ → List ℕ → Bool

@@ -103,5 +103,11 @@ pub enum TableAnswer {
     // 8: the offset of the first over a count
     TooMany(u32),
     // 9: the least break
-    Breaks { definition: u32, rule: u32, member: u32, part: u32, argument: u32 },
+    Breaks {
+        definition: u32,
+        rule: u32,
+        member: u32,
+        part: u32,
+        argument: u32,
+    },
 }

@@ -26,9 +26,9 @@ use Rattle.paper.proofs.Tables.{graphql, factored, allC, atC}
 use Rattle.paper.specs.Language.{numC}
 use Rattle.paper.proofs.Checked.{fits}
 use Rattle.paper.proofs.Going.{Stack, State, st, Out, halt, go, goes, heed, deep, many, marked}
-use Rattle.tokens.specs.Head.{headOf, kindOf}
-use Rattle.tokens.specs.declared.TokenRead.{TokenRead}
-use Rattle.tokens.specs.declared.TokenRead.the-variants.{Token, Bad}
+use Rattle.characters.specs.Head.{headOf, kindOf}
+use Rattle.characters.specs.declared.TokenRead.{TokenRead}
+use Rattle.characters.specs.declared.TokenRead.the-variants.{Token, Bad}
 use Rattle.reader.specs.declared.Cursor.{Cursor}
 use Rattle.reader.specs.Reader.{Looks}
 
@@ -71,8 +71,8 @@ front s c h l = go′ (from s (c .stop)) refl
         let d : k .stop ≡ c .end = cc in
         let z = from-token s (c .stop) k t h e in
         a-token (k .class) (cc)
-          (e ∙ ap (λ (u : Text). token k u) (z .3) ∙ ap (λ (v : ℕ). token k (from s v)) d ∙ ap (λ (v : ℕ). token (tokenOf (k .class) v (k .stop)) (from s (c .end))) b ∙ ap (λ (v : ℕ). token (tokenOf (k .class) (c .start) v) (from s (c .end))) d)
-          (omega (arith, z .0)) (omega (arith, z .1)) (omega (arith, z .2))
+        (e ∙ ap (λ (u : Text). token k u) (z .3) ∙ ap (λ (v : ℕ). token k (from s v)) d ∙ ap (λ (v : ℕ). token (tokenOf (k .class) v (k .stop)) (from s (c .end))) b ∙ ap (λ (v : ℕ). token (tokenOf (k .class) (c .start) v) (from s (c .end))) d)
+        (omega (arith, z .0)) (omega (arith, z .1)) (omega (arith, z .2))
 
 -- the same where the kind is not 0
 pub front-token : (s : List ℕ) (c : Cursor) → c .stop ≤ length s → Looks s c → (c .kind ≡ 0 → ⊥) →
@@ -150,7 +150,7 @@ module _ (s : List ℕ) (c : Cursor) (h : c .stop ≤ length s) (l : Looks s c) 
       let f = front-token s c h l (λ z. let w : ⊥ = omega arith in w) in
       rw (f .2)
       (expand (st cells n o (c .stop) left q) p σ (token (tokenOf (f .0) (c .start) (c .end)) (from s (c .end)))
-        (choose-first fits p (f .0) m (by-kind (fst graphql α) (is (suc x)) t (f .0) (suc x) (f .1 ∙ e) (is-T (suc x)))))
+      (choose-first fits p (f .0) m (by-kind (fst graphql α) (is (suc x)) t (f .0) (suc x) (f .1 ∙ e) (is-T (suc x)))))
 
   -- tokens, or the end, that begin none of the part's productions, while α is one of no token
   pub null : (σ : Stack) (p : Part) {α : Stack} → List·Memᴰ α (factored p) → T (nul graphql α) → choose graphql p none ≡ some α → (g : ℕ → Bool) → T (g (c .kind)) →

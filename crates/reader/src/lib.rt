@@ -1,7 +1,7 @@
 // What every reader shares: the cursor, the answer, and the rows in the lent numbers.
-use paper::Refusal;
+use characters::TokenRead;
 use paper::ROW_SIZE;
-use tokens::TokenRead;
+use paper::Refusal;
 ghost use mathlib.Core.Path.{_≡_};
 ghost use mathlib.Core.List.{[], _∷_};
 ghost use Prim.Native.Nat.{_+_, _*_, _≤_, _<_};
@@ -9,7 +9,7 @@ ghost use lib.ListN.{length, set};
 ghost use lib.Seq.{sets};
 ghost use Rattle.paper.specs.Numbers.{mostText, mostRows, rowsSize};
 ghost use Rattle.paper.proofs.Lexing.{from};
-ghost use Rattle.tokens.specs.Head.{headOf};
+ghost use Rattle.characters.specs.Head.{headOf};
 ghost use Rattle.reader.specs.Reader.{Within, locatedOf, movedTo, noGoingOf};
 
 // The token looked at, where the last one taken ended, and how many rows there are.
@@ -33,7 +33,11 @@ pub fn located(t: TokenRead) -> Read
     ensures { λ r. ⌜ r ≡ locatedOf t ⌝ }
 {
     match t {
-        TokenRead::Token { kind: _, start, end: _ } => Read::Refused(Refusal::NoGoing(start as u32)),
+        TokenRead::Token {
+            kind: _,
+            start,
+            end: _,
+        } => Read::Refused(Refusal::NoGoing(start as u32)),
         TokenRead::Bad(at) => Read::Refused(Refusal::NoToken(at as u32)),
     }
 }
@@ -49,7 +53,13 @@ impl Cursor {
         let TokenRead::Token { kind, start, end } = t else {
             return located(t);
         };
-        Read::Done(Cursor { kind: kind, start: start as u32, end: end as u32, stop: stop, rows: rows })
+        Read::Done(Cursor {
+            kind: kind,
+            start: start as u32,
+            end: end as u32,
+            stop: stop,
+            rows: rows,
+        })
     }
 }
 
@@ -61,7 +71,17 @@ pub fn no_going(c: Cursor) -> Read
 }
 
 // Writes row n.
-pub fn put_row(rows: &mut [u32], n: u32, kind: u32, start: u32, stop: u32, parent: u32, name: u32, size: u32, extra: u32)
+pub fn put_row(
+    rows: &mut [u32],
+    n: u32,
+    kind: u32,
+    start: u32,
+    stop: u32,
+    parent: u32,
+    name: u32,
+    size: u32,
+    extra: u32,
+)
     requires { ⌜ (n < mostRows) × (length (now rows) ≡ rowsSize) ⌝ }
     ensures { λ _. ⌜ now (rows .exit) ≡ sets (now (rows .entry)) (7 * n) (kind ∷ start ∷ stop ∷ parent ∷ name ∷ size ∷ extra ∷ []) ⌝ }
 {

@@ -1,134 +1,37 @@
-// Reads selection sets, with their arguments, directives and type conditions, and writes their rows.
-use paper::Refusal;
-use paper::KIND_ARGUMENT;
-use paper::KIND_DIRECTIVE;
+// Reads selection sets, with their fields, fragment spreads and inline fragments, and writes their rows.
+use arguments::arguments_if;
+use arguments::condition;
+use arguments::directives_if;
+use characters::TOKEN_BRACE_CLOSE;
+use characters::TOKEN_BRACE_OPEN;
+use characters::TOKEN_COLON;
+use characters::TOKEN_NAME;
+use characters::TOKEN_SPREAD;
+use characters::WORD_ON;
 use paper::KIND_FIELD;
 use paper::KIND_INLINE;
 use paper::KIND_SPREAD;
-use paper::KIND_TYPE_REFERENCE;
 use paper::MOST_ROWS;
+use paper::Refusal;
+use reader::Cursor;
+use reader::Read;
 use reader::no_going;
 use reader::put_end;
 use reader::put_row;
-use reader::Cursor;
-use reader::Read;
-use tokens::TOKEN_AT;
-use tokens::TOKEN_BRACE_CLOSE;
-use tokens::TOKEN_BRACE_OPEN;
-use tokens::TOKEN_COLON;
-use tokens::TOKEN_NAME;
-use tokens::TOKEN_PAREN_CLOSE;
-use tokens::TOKEN_PAREN_OPEN;
-use tokens::TOKEN_SPREAD;
-use tokens::WORD_ON;
-use values::entry;
 ghost use mathlib.Core.Path.{_≡_};
-ghost use Prim.Native.Nat.{_+_, _-_, _≤_, _<_};
-ghost use lib.ListN.{length, take, drop};
+ghost use mathlib.Core.Bool.{true, false};
+ghost use mathlib.Core.List.{[]};
+ghost use Prim.Native.Nat.{_+_, _≤_, _<_};
+ghost use lib.ListN.{length};
+ghost use Rattle.paper.specs.Numbers.{mostRows};
 ghost use Rattle.reader.specs.Reader.{Ready, Said};
-ghost use Rattle.selections.specs.Selections.{namesFragment, selectionSetStack, directivesStack, conditionStack, AtOn};
-
-// Arguments, at their (
-fn arguments(s: &[u8], rows: &mut [u32], c: Cursor, parent: u32, left: u32) -> Read
-{
-    if left == 0 {
-        return Read::Refused(Refusal::TooDeep(c.start));
-    }
-    let n = c.rows;
-    let r = c.past(s, n);
-    let Read::Done(first) = r else {
-        return r;
-    };
-    let mut d = first;
-    loop {
-        let t = entry(s, rows, d, parent, left - 1, KIND_ARGUMENT, false);
-        let Read::Done(next) = t else {
-            return t;
-        };
-        if next.kind == TOKEN_PAREN_CLOSE {
-            let m = next.rows;
-            return next.past(s, m);
-        }
-        d = next;
-    }
-}
-
-// Arguments, or none
-fn arguments_if(s: &[u8], rows: &mut [u32], c: Cursor, parent: u32, left: u32) -> Read
-{
-    if c.kind == TOKEN_PAREN_OPEN {
-        return arguments(s, rows, c, parent, left);
-    }
-    Read::Done(c)
-}
-
-// Directive, at its @
-fn directive(s: &[u8], rows: &mut [u32], c: Cursor, parent: u32, left: u32) -> Read
-{
-    let n = c.rows;
-    if n == MOST_ROWS {
-        return Read::Refused(Refusal::TooManyRows(c.start));
-    }
-    let r = c.past(s, n + 1);
-    let Read::Done(name) = r else {
-        return r;
-    };
-    if name.kind != TOKEN_NAME {
-        return no_going(name);
-    }
-    put_row(rows, n, KIND_DIRECTIVE, c.start, 0, parent, name.start, name.end - name.start, 0);
-    let t = name.past(s, n + 1);
-    let Read::Done(first) = t else {
-        return t;
-    };
-    let u = arguments_if(s, rows, first, n, left);
-    let Read::Done(d) = u else {
-        return u;
-    };
-    put_end(rows, n, d.stop);
-    u
-}
-
-// Directives, or none
-pub fn directives_if(s: &[u8], rows: &mut [u32], c: Cursor, parent: u32, left: u32) -> Read
-    requires { ⌜ Ready (now s) (now rows) c parent ⌝ }
-    ensures { λ r. ⌜ Said 0 (now (s .entry)) (now (rows .entry)) (now (rows .exit)) c parent left directivesStack r ⌝ }
-{
-    let mut d = c;
-    loop {
-        if d.kind != TOKEN_AT {
-            return Read::Done(d);
-        }
-        let r = directive(s, rows, d, parent, left);
-        let Read::Done(next) = r else {
-            return r;
-        };
-        d = next;
-    }
-}
-
-// TypeCondition, at its `on`
-pub fn condition(s: &[u8], rows: &mut [u32], c: Cursor, parent: u32, left: u32) -> Read
-    requires { ⌜ Ready (now s) (now rows) c parent × AtOn (now s) c ⌝ }
-    ensures { λ r. ⌜ Said 1 (now (s .entry)) (now (rows .entry)) (now (rows .exit)) c parent left conditionStack r ⌝ }
-{
-    let n = c.rows;
-    let r = c.past(s, n);
-    let Read::Done(name) = r else {
-        return r;
-    };
-    if name.kind != TOKEN_NAME {
-        return no_going(name);
-    }
-    if n == MOST_ROWS {
-        return Read::Refused(Refusal::TooManyRows(name.start));
-    }
-    put_row(rows, n, KIND_TYPE_REFERENCE, name.start, name.end, parent, name.start, name.end - name.start, 0);
-    name.past(s, n + 1)
-}
+ghost use Rattle.arguments.specs.Passed.{Passes, opened, shut};
+ghost use Rattle.selections.specs.Selections.{namesFragment, selectionSetStack, selectionStack, bodyStack, fieldStack, fieldRestStack, spreadStack, spreadBegun, AliasSaid, HeadSaid};
 
 // Field up to its selection set, at its first name: Alias? Name Arguments? Directives?
 fn field_head(s: &[u8], rows: &mut [u32], c: Cursor, parent: u32, left: u32) -> Read
+    requires { ⌜ Ready (now s) (now rows) c parent × (c .kind ≡ 1) ⌝ }
+    ensures { λ r. ⌜ HeadSaid (now (s .entry)) (now (rows .entry)) (now (rows .exit)) c parent left r ⌝ }
 {
     let n = c.rows;
     if n == MOST_ROWS {
@@ -141,12 +44,32 @@ fn field_head(s: &[u8], rows: &mut [u32], c: Cursor, parent: u32, left: u32) -> 
     if after.kind == TOKEN_COLON {
         return aliased(s, rows, after, parent, left, n, c.start);
     }
-    put_row(rows, n, KIND_FIELD, c.start, 0, parent, c.start, c.end - c.start, 0);
+    put_row(
+        rows,
+        n,
+        KIND_FIELD,
+        c.start,
+        0,
+        parent,
+        c.start,
+        c.end - c.start,
+        0,
+    );
     field_rest(s, rows, after, n, left)
 }
 
 // The same from the colon of its alias on; row n begins at `start`
-fn aliased(s: &[u8], rows: &mut [u32], c: Cursor, parent: u32, left: u32, n: u32, start: u32) -> Read
+fn aliased(
+    s: &[u8],
+    rows: &mut [u32],
+    c: Cursor,
+    parent: u32,
+    left: u32,
+    n: u32,
+    start: u32,
+) -> Read
+    requires { ⌜ Ready (now s) (now rows) c n × (c .kind ≡ 10) × (c .rows ≡ n + 1) ⌝ }
+    ensures { λ r. ⌜ AliasSaid (now (s .entry)) (now (rows .entry)) (now (rows .exit)) c parent left n start r ⌝ }
 {
     let r = c.past(s, n + 1);
     let Read::Done(name) = r else {
@@ -155,7 +78,17 @@ fn aliased(s: &[u8], rows: &mut [u32], c: Cursor, parent: u32, left: u32, n: u32
     if name.kind != TOKEN_NAME {
         return no_going(name);
     }
-    put_row(rows, n, KIND_FIELD, start, 0, parent, name.start, name.end - name.start, 0);
+    put_row(
+        rows,
+        n,
+        KIND_FIELD,
+        start,
+        0,
+        parent,
+        name.start,
+        name.end - name.start,
+        0,
+    );
     let t = name.past(s, n + 1);
     let Read::Done(after) = t else {
         return t;
@@ -165,6 +98,8 @@ fn aliased(s: &[u8], rows: &mut [u32], c: Cursor, parent: u32, left: u32, n: u32
 
 // Arguments? Directives?
 fn field_rest(s: &[u8], rows: &mut [u32], c: Cursor, n: u32, left: u32) -> Read
+    requires { ⌜ Ready (now s) (now rows) c n ⌝ }
+    ensures { λ r. ⌜ Said 0 (now (s .entry)) (now (rows .entry)) (now (rows .exit)) c n left fieldRestStack r ⌝ }
 {
     let r = arguments_if(s, rows, c, n, left);
     let Read::Done(d) = r else {
@@ -174,9 +109,29 @@ fn field_rest(s: &[u8], rows: &mut [u32], c: Cursor, n: u32, left: u32) -> Read
 }
 
 // FragmentSpread, from its name on, at which the cursor stands; row n begins at `start`
-fn named_spread(s: &[u8], rows: &mut [u32], c: Cursor, parent: u32, left: u32, n: u32, start: u32) -> Read
+fn named_spread(
+    s: &[u8],
+    rows: &mut [u32],
+    c: Cursor,
+    parent: u32,
+    left: u32,
+    n: u32,
+    start: u32,
+) -> Read
+    requires { ⌜ Ready (now s) (now rows) c n × (namesFragment (now s) c ≡ true) × (c .rows ≡ n + 1) ⌝ }
+    ensures { λ r. ⌜ Passes 1 (now (s .entry)) (spreadBegun (now (rows .entry)) n start parent) (now (rows .exit)) c n left (opened n) shut spreadStack [] r ⌝ }
 {
-    put_row(rows, n, KIND_SPREAD, start, 0, parent, c.start, c.end - c.start, 0);
+    put_row(
+        rows,
+        n,
+        KIND_SPREAD,
+        start,
+        0,
+        parent,
+        c.start,
+        c.end - c.start,
+        0,
+    );
     let m = c.rows;
     let r = c.past(s, m);
     let Read::Done(after) = r else {
@@ -191,7 +146,17 @@ fn named_spread(s: &[u8], rows: &mut [u32], c: Cursor, parent: u32, left: u32, n
 }
 
 // InlineFragment, from behind its dots up to its selection set: TypeCondition? Directives?; row n begins at `start`
-fn inline_head(s: &[u8], rows: &mut [u32], c: Cursor, parent: u32, left: u32, n: u32, start: u32) -> Read
+fn inline_head(
+    s: &[u8],
+    rows: &mut [u32],
+    c: Cursor,
+    parent: u32,
+    left: u32,
+    n: u32,
+    start: u32,
+) -> Read
+    requires { ⌜ Ready (now s) (now rows) c n × (namesFragment (now s) c ≡ false) × (c .rows ≡ n + 1) ⌝ }
+    ensures { λ r. ⌜ Passes 0 (now (s .entry)) (spreadBegun (now (rows .entry)) n start parent) (now (rows .exit)) c n left (opened n) (opened n) spreadStack bodyStack r ⌝ }
 {
     put_row(rows, n, KIND_INLINE, start, 0, parent, 0, 0, 0);
     if c.kind == TOKEN_NAME {
@@ -236,6 +201,8 @@ pub fn selection_set(s: &[u8], rows: &mut [u32], c: Cursor, parent: u32, left: u
 
 // Selection
 fn selection(s: &[u8], rows: &mut [u32], c: Cursor, parent: u32, left: u32) -> Read
+    requires { ⌜ Ready (now s) (now rows) c parent ⌝ }
+    ensures { λ r. ⌜ Said 1 (now (s .entry)) (now (rows .entry)) (now (rows .exit)) c parent left selectionStack r ⌝ }
 {
     if c.kind == TOKEN_NAME {
         return field(s, rows, c, parent, left);
@@ -248,21 +215,25 @@ fn selection(s: &[u8], rows: &mut [u32], c: Cursor, parent: u32, left: u32) -> R
 
 // Field, at its first name
 fn field(s: &[u8], rows: &mut [u32], c: Cursor, parent: u32, left: u32) -> Read
+    requires { ⌜ Ready (now s) (now rows) c parent × (c .kind ≡ 1) ⌝ }
+    ensures { λ r. ⌜ Said 1 (now (s .entry)) (now (rows .entry)) (now (rows .exit)) c parent left fieldStack r ⌝ }
 {
     let n = c.rows;
     let r = field_head(s, rows, c, parent, left);
-    let Read::Done(d) = r else {
+    let Read::Done(head) = r else {
         return r;
     };
-    if d.kind == TOKEN_BRACE_OPEN {
-        return body(s, rows, d, n, left);
+    if head.kind == TOKEN_BRACE_OPEN {
+        return body(s, rows, head, n, left);
     }
-    put_end(rows, n, d.stop);
+    put_end(rows, n, head.stop);
     r
 }
 
 // FragmentSpread or InlineFragment, at its dots
 fn spread(s: &[u8], rows: &mut [u32], c: Cursor, parent: u32, left: u32) -> Read
+    requires { ⌜ Ready (now s) (now rows) c parent × (c .kind ≡ 5) ⌝ }
+    ensures { λ r. ⌜ Said 1 (now (s .entry)) (now (rows .entry)) (now (rows .exit)) c parent left selectionStack r ⌝ }
 {
     let n = c.rows;
     if n == MOST_ROWS {
@@ -288,13 +259,15 @@ pub fn names_fragment(s: &[u8], c: Cursor) -> bool
     ensures { λ r. ⌜ r ≡ namesFragment (now (s .entry)) c ⌝ }
 {
     if c.kind == TOKEN_NAME {
-        return tokens::word(s, c.start as usize, c.end as usize) != WORD_ON;
+        return characters::word(s, c.start as usize, c.end as usize) != WORD_ON;
     }
     false
 }
 
 // The selection set that ends row n
 fn body(s: &[u8], rows: &mut [u32], c: Cursor, n: u32, left: u32) -> Read
+    requires { ⌜ Ready (now s) (now rows) c n × (n < mostRows) ⌝ }
+    ensures { λ r. ⌜ Passes 1 (now (s .entry)) (now (rows .entry)) (now (rows .exit)) c n left (opened n) shut bodyStack [] r ⌝ }
 {
     let r = selection_set(s, rows, c, n, left);
     let Read::Done(d) = r else {

@@ -1,74 +1,39 @@
 // Reads one token of a text at a time, by longest match.
+use characters::TOKEN_AT;
+use characters::TOKEN_BANG;
+use characters::TOKEN_BAR;
+use characters::TOKEN_BRACE_CLOSE;
+use characters::TOKEN_BRACE_OPEN;
+use characters::TOKEN_BRACKET_CLOSE;
+use characters::TOKEN_BRACKET_OPEN;
+use characters::TOKEN_COLON;
+use characters::TOKEN_DOLLAR;
+use characters::TOKEN_END;
+use characters::TOKEN_EQUALS;
+use characters::TOKEN_FLOAT;
+use characters::TOKEN_INT;
+use characters::TOKEN_NAME;
+use characters::TOKEN_PAREN_CLOSE;
+use characters::TOKEN_PAREN_OPEN;
+use characters::TOKEN_SPREAD;
+use characters::TokenRead;
+use characters::comment;
+use characters::string;
 ghost use mathlib.Core.Path.{_≡_};
 ghost use Prim.Native.Nat.{_+_, _-_, _≤_, _<_};
-ghost use lib.ListN.{length, take, drop};
+ghost use mathlib.Core.Bool.{cond};
+ghost use lib.ListN.{length, take, drop, getD};
+ghost use Rattle.paper.specs.Lexical.{hitsByte, letter, letterOrDigit, digit};
 ghost use Rattle.paper.proofs.Lexing.{from};
-ghost use Rattle.tokens.specs.Head.{headOf, wordOf};
+ghost use Rattle.characters.specs.Head.{headOf};
+ghost use Rattle.characters.specs.Piece.{tokenHere, ignoredHere};
+ghost use Rattle.characters.specs.Run.{runOf, startsWith, fractionSize, signSize, exponentSize, wholeSize};
+ghost use Rattle.tokens.specs.Skip.{Skipped, Numeric, punctuatorOf};
 
-// What stands at a place: a token, or bytes that start none (also a string or a comment with bad text).
-pub enum TokenRead {
-    Token { kind: u32, start: usize, end: usize },
-    Bad(usize),
-}
-
-// The kinds of tokens; at the end of the text stands one of no bytes.
-pub const TOKEN_END: u32 = 0;
-
-pub const TOKEN_NAME: u32 = 1;
-
-pub const TOKEN_INT: u32 = 2;
-
-pub const TOKEN_FLOAT: u32 = 3;
-
-pub const TOKEN_STRING: u32 = 4;
-
-pub const TOKEN_SPREAD: u32 = 5;
-
-pub const TOKEN_BANG: u32 = 6;
-
-pub const TOKEN_DOLLAR: u32 = 7;
-
-pub const TOKEN_PAREN_OPEN: u32 = 8;
-
-pub const TOKEN_PAREN_CLOSE: u32 = 9;
-
-pub const TOKEN_COLON: u32 = 10;
-
-pub const TOKEN_EQUALS: u32 = 11;
-
-pub const TOKEN_AT: u32 = 12;
-
-pub const TOKEN_BRACKET_OPEN: u32 = 13;
-
-pub const TOKEN_BRACKET_CLOSE: u32 = 14;
-
-pub const TOKEN_BRACE_OPEN: u32 = 15;
-
-pub const TOKEN_BAR: u32 = 16;
-
-pub const TOKEN_BRACE_CLOSE: u32 = 17;
-
-// The names that the grammar tells apart.
-pub const WORD_OTHER: u32 = 0;
-
-pub const WORD_QUERY: u32 = 1;
-
-pub const WORD_MUTATION: u32 = 2;
-
-pub const WORD_SUBSCRIPTION: u32 = 3;
-
-pub const WORD_FRAGMENT: u32 = 4;
-
-pub const WORD_ON: u32 = 5;
-
-pub const WORD_TRUE: u32 = 6;
-
-pub const WORD_FALSE: u32 = 7;
-
-pub const WORD_NULL: u32 = 8;
-
-// Whether a byte may start a name: A to Z, a to z, _ (draft 2.1.9).
-pub fn starts_name(b: u8) -> bool {
+// Whether a byte may start a name: A to Z, a to z, _ (draft 2.1.9). The most frequent come first.
+pub fn starts_name(b: u8) -> bool
+    ensures { λ r. ⌜ r ≡ hitsByte letter b ⌝ }
+{
     if 96 < b {
         return b < 123;
     }
@@ -78,7 +43,9 @@ pub fn starts_name(b: u8) -> bool {
     64 < b
 }
 
-pub fn is_digit(b: u8) -> bool {
+pub fn is_digit(b: u8) -> bool
+    ensures { λ r. ⌜ r ≡ hitsByte digit b ⌝ }
+{
     if b < 48 {
         return false;
     }
@@ -86,240 +53,25 @@ pub fn is_digit(b: u8) -> bool {
 }
 
 // Whether a byte may go on with a name.
-pub fn in_name(b: u8) -> bool {
+pub fn in_name(b: u8) -> bool
+    ensures { λ r. ⌜ r ≡ hitsByte letterOrDigit b ⌝ }
+{
+    if 96 < b {
+        return b < 123;
+    }
     if b < 58 {
         return 47 < b;
     }
-    starts_name(b)
-}
-
-pub fn is_hex(b: u8) -> bool {
-    if is_digit(b) {
-        return true;
+    if 90 < b {
+        return b == 95;
     }
-    if b < 65 {
-        return false;
-    }
-    if b < 71 {
-        return true;
-    }
-    if b < 97 {
-        return false;
-    }
-    b < 103
-}
-
-// Whether a byte goes on with a character of UTF-8.
-pub fn is_tail(b: u8) -> bool {
-    if b < 128 {
-        return false;
-    }
-    b < 192
-}
-
-// Whether a byte may stand second in a character of three bytes that starts with `lead`: E0 bars overlong forms, ED surrogates.
-pub fn is_second(lead: u8, b: u8) -> bool {
-    if lead == 224 {
-        if b < 160 {
-            return false;
-        }
-    }
-    if lead == 237 {
-        if 159 < b {
-            return false;
-        }
-    }
-    is_tail(b)
-}
-
-// The size of the character of more than one byte at i, or 0.
-pub fn wide(s: &[u8], i: usize) -> usize
-    requires { ⌜ i < length (now s) ⌝ }
-{
-    let b = s[i];
-    if b < 194 {
-        return 0;
-    }
-    if s.len() <= i + 1 {
-        return 0;
-    }
-    if b < 224 {
-        if is_tail(s[i + 1]) {
-            return 2;
-        }
-        return 0;
-    }
-    if s.len() <= i + 2 {
-        return 0;
-    }
-    if b < 240 {
-        if is_second(b, s[i + 1]) {
-            if is_tail(s[i + 2]) {
-                return 3;
-            }
-        }
-    }
-    0
-}
-
-// The size of the character at i that may stand in a comment, or 0.
-pub fn character(s: &[u8], i: usize) -> usize
-    requires { ⌜ i < length (now s) ⌝ }
-{
-    let b = s[i];
-    if b < 32 {
-        if b == 9 {
-            return 1;
-        }
-        return 0;
-    }
-    if b < 128 {
-        return 1;
-    }
-    wide(s, i)
-}
-
-// Whether a byte may stand after a backslash, `u` apart.
-pub fn is_escaped(b: u8) -> bool {
-    if b == 34 {
-        return true;
-    }
-    if b == 92 {
-        return true;
-    }
-    if b == 47 {
-        return true;
-    }
-    if b == 98 {
-        return true;
-    }
-    if b == 102 {
-        return true;
-    }
-    if b == 110 {
-        return true;
-    }
-    if b == 114 {
-        return true;
-    }
-    b == 116
-}
-
-// Whether four hex digits stand at i.
-pub fn four_hex(s: &[u8], i: usize) -> bool
-    requires { ⌜ i ≤ length (now s) ⌝ }
-{
-    if s.len() - i < 4 {
-        return false;
-    }
-    if is_hex(s[i]) {
-        if is_hex(s[i + 1]) {
-            if is_hex(s[i + 2]) {
-                return is_hex(s[i + 3]);
-            }
-        }
-    }
-    false
-}
-
-// The size of the escape whose backslash stands at i, or 0.
-pub fn escape(s: &[u8], i: usize) -> usize
-    requires { ⌜ i < length (now s) ⌝ }
-{
-    if s.len() <= i + 1 {
-        return 0;
-    }
-    let b = s[i + 1];
-    if b == 117 {
-        if four_hex(s, i + 2) {
-            return 6;
-        }
-        return 0;
-    }
-    if is_escaped(b) {
-        return 2;
-    }
-    0
-}
-
-// The size of what stands at i in a string, or 0 where that is no part of one.
-pub fn string_part(s: &[u8], i: usize) -> usize
-    requires { ⌜ i < length (now s) ⌝ }
-{
-    let b = s[i];
-    if b == 92 {
-        return escape(s, i);
-    }
-    if b == 34 {
-        return 0;
-    }
-    character(s, i)
-}
-
-// One past the last of the characters of a string that stand from `from` on.
-pub fn string_end(s: &[u8], from: usize) -> usize
-    requires { ⌜ from ≤ length (now s) ⌝ }
-{
-    let mut i = from;
-    while i < s.len() {
-        let n = string_part(s, i);
-        if n == 0 {
-            return i;
-        }
-        i += n;
-    }
-    i
-}
-
-// The string whose quote stands at `at`.
-pub fn string(s: &[u8], at: usize) -> TokenRead
-    requires { ⌜ at < length (now s) ⌝ }
-{
-    let e = string_end(s, at + 1);
-    if e < s.len() {
-        if s[e] == 34 {
-            return TokenRead::Token { kind: TOKEN_STRING, start: at, end: e + 1 };
-        }
-    }
-    TokenRead::Bad(at)
-}
-
-// One past the last of a comment's characters that stand from `from` on.
-pub fn comment_end(s: &[u8], from: usize) -> usize
-    requires { ⌜ from ≤ length (now s) ⌝ }
-{
-    let mut i = from;
-    while i < s.len() {
-        let n = character(s, i);
-        if n == 0 {
-            return i;
-        }
-        i += n;
-    }
-    i
-}
-
-// The size of the comment whose # stands at i, or 0 where it has bad text.
-pub fn comment(s: &[u8], i: usize) -> usize
-    requires { ⌜ i < length (now s) ⌝ }
-{
-    let e = comment_end(s, i + 1);
-    if s.len() <= e {
-        return e - i;
-    }
-    let b = s[e];
-    if b == 10 {
-        return e - i;
-    }
-    if b == 13 {
-        return e - i;
-    }
-    0
+    64 < b
 }
 
 // Whether the byte order mark stands at i.
 pub fn is_mark(s: &[u8], i: usize) -> bool
-    requires { ⌜ i < length (now s) ⌝ }
+    requires { ⌜ (i < length (now s)) × (getD (now s) i 0 ≡ 239) ⌝ }
+    ensures { λ r. ⌜ cond r 3 0 ≡ ignoredHere (drop i (now (s .entry))) ⌝ }
 {
     if s.len() - i < 3 {
         return false;
@@ -333,6 +85,7 @@ pub fn is_mark(s: &[u8], i: usize) -> bool
 // The size of the ignored piece at i, or 0.
 pub fn ignored(s: &[u8], i: usize) -> usize
     requires { ⌜ i < length (now s) ⌝ }
+    ensures { λ r. ⌜ r ≡ ignoredHere (drop i (now (s .entry))) ⌝ }
 {
     let b = s[i];
     if b == 32 {
@@ -364,6 +117,7 @@ pub fn ignored(s: &[u8], i: usize) -> usize
 // The first place at or after `from` that is not ignored.
 pub fn skip(s: &[u8], from: usize) -> usize
     requires { ⌜ from ≤ length (now s) ⌝ }
+    ensures { λ r. ⌜ Skipped (now (s .entry)) from r ⌝ }
 {
     let mut i = from;
     while i < s.len() {
@@ -379,6 +133,7 @@ pub fn skip(s: &[u8], from: usize) -> usize
 // One past the last of the name's characters that stand from `from` on.
 pub fn name_end(s: &[u8], from: usize) -> usize
     requires { ⌜ from ≤ length (now s) ⌝ }
+    ensures { λ r. ⌜ r ≡ from + runOf letterOrDigit (drop from (now (s .entry))) ⌝ }
 {
     let mut i = from;
     while i < s.len() {
@@ -394,6 +149,7 @@ pub fn name_end(s: &[u8], from: usize) -> usize
 // One past the last of the digits that stand from `from` on.
 pub fn digits_end(s: &[u8], from: usize) -> usize
     requires { ⌜ from ≤ length (now s) ⌝ }
+    ensures { λ r. ⌜ r ≡ from + runOf digit (drop from (now (s .entry))) ⌝ }
 {
     let mut i = from;
     while i < s.len() {
@@ -407,7 +163,9 @@ pub fn digits_end(s: &[u8], from: usize) -> usize
 }
 
 // Whether a digit stands at i.
-pub fn digit_at(s: &[u8], i: usize) -> bool {
+pub fn digit_at(s: &[u8], i: usize) -> bool
+    ensures { λ r. ⌜ r ≡ startsWith digit (drop i (now (s .entry))) ⌝ }
+{
     if i < s.len() {
         return is_digit(s[i]);
     }
@@ -417,6 +175,7 @@ pub fn digit_at(s: &[u8], i: usize) -> bool {
 // One past the fraction at i, or i where there is none.
 pub fn fraction_end(s: &[u8], i: usize) -> usize
     requires { ⌜ i ≤ length (now s) ⌝ }
+    ensures { λ r. ⌜ r ≡ i + fractionSize (drop i (now (s .entry))) ⌝ }
 {
     if i < s.len() {
         if s[i] == 46 {
@@ -431,6 +190,7 @@ pub fn fraction_end(s: &[u8], i: usize) -> usize
 // One past the sign at i, or i where there is none.
 pub fn sign_end(s: &[u8], i: usize) -> usize
     requires { ⌜ i ≤ length (now s) ⌝ }
+    ensures { λ r. ⌜ r ≡ i + signSize (drop i (now (s .entry))) ⌝ }
 {
     if i < s.len() {
         let b = s[i];
@@ -447,6 +207,7 @@ pub fn sign_end(s: &[u8], i: usize) -> usize
 // One past the exponent at i, or i where there is none.
 pub fn exponent_end(s: &[u8], i: usize) -> usize
     requires { ⌜ i ≤ length (now s) ⌝ }
+    ensures { λ r. ⌜ r ≡ i + exponentSize (drop i (now (s .entry))) ⌝ }
 {
     if s.len() <= i {
         return i;
@@ -467,6 +228,7 @@ pub fn exponent_end(s: &[u8], i: usize) -> usize
 // One past the integer part whose first digit stands at i.
 pub fn whole_end(s: &[u8], i: usize) -> usize
     requires { ⌜ i < length (now s) ⌝ }
+    ensures { λ r. ⌜ r ≡ i + wholeSize (drop i (now (s .entry))) ⌝ }
 {
     if s[i] == 48 {
         return i + 1;
@@ -474,9 +236,10 @@ pub fn whole_end(s: &[u8], i: usize) -> usize
     digits_end(s, i + 1)
 }
 
-// The number at `at`.
+// The number at `at`, where no name, punctuator or string stands.
 pub fn number(s: &[u8], at: usize) -> TokenRead
-    requires { ⌜ at < length (now s) ⌝ }
+    requires { ⌜ Numeric (now s) at ⌝ }
+    ensures { λ r. ⌜ r ≡ tokenHere at (drop at (now (s .entry))) ⌝ }
 {
     let mut d = at;
     if s[at] == 45 {
@@ -487,30 +250,45 @@ pub fn number(s: &[u8], at: usize) -> TokenRead
         let f = fraction_end(s, w);
         let e = exponent_end(s, f);
         if e == w {
-            return TokenRead::Token { kind: TOKEN_INT, start: at, end: e };
+            return TokenRead::Token {
+                kind: TOKEN_INT,
+                start: at,
+                end: e,
+            };
         }
-        return TokenRead::Token { kind: TOKEN_FLOAT, start: at, end: e };
+        return TokenRead::Token {
+            kind: TOKEN_FLOAT,
+            start: at,
+            end: e,
+        };
     }
     TokenRead::Bad(at)
 }
 
 // The three dots at `at`.
 pub fn spread(s: &[u8], at: usize) -> TokenRead
-    requires { ⌜ at < length (now s) ⌝ }
+    requires { ⌜ (at < length (now s)) × (getD (now s) at 0 ≡ 46) ⌝ }
+    ensures { λ r. ⌜ r ≡ tokenHere at (drop at (now (s .entry))) ⌝ }
 {
     if s.len() - at < 3 {
         return TokenRead::Bad(at);
     }
     if s[at + 1] == 46 {
         if s[at + 2] == 46 {
-            return TokenRead::Token { kind: TOKEN_SPREAD, start: at, end: at + 3 };
+            return TokenRead::Token {
+                kind: TOKEN_SPREAD,
+                start: at,
+                end: at + 3,
+            };
         }
     }
     TokenRead::Bad(at)
 }
 
 // The kind of a punctuator of one byte, or TOKEN_END.
-pub fn punctuator(b: u8) -> u32 {
+pub fn punctuator(b: u8) -> u32
+    ensures { λ r. ⌜ r ≡ punctuatorOf b ⌝ }
+{
     if b == 123 {
         return TOKEN_BRACE_OPEN;
     }
@@ -557,16 +335,28 @@ pub fn next(s: &[u8], from: usize) -> TokenRead
 {
     let at = skip(s, from);
     if s.len() <= at {
-        return TokenRead::Token { kind: TOKEN_END, start: at, end: at };
+        return TokenRead::Token {
+            kind: TOKEN_END,
+            start: at,
+            end: at,
+        };
     }
     let b = s[at];
     if starts_name(b) {
         let e = name_end(s, at + 1);
-        return TokenRead::Token { kind: TOKEN_NAME, start: at, end: e };
+        return TokenRead::Token {
+            kind: TOKEN_NAME,
+            start: at,
+            end: e,
+        };
     }
     let k = punctuator(b);
     if k != TOKEN_END {
-        return TokenRead::Token { kind: k, start: at, end: at + 1 };
+        return TokenRead::Token {
+            kind: k,
+            start: at,
+            end: at + 1,
+        };
     }
     if b == 34 {
         return string(s, at);
@@ -575,65 +365,4 @@ pub fn next(s: &[u8], from: usize) -> TokenRead
         return spread(s, at);
     }
     number(s, at)
-}
-
-// Whether the bytes of s from `at` on begin with those of w.
-pub fn begins(s: &[u8], at: usize, w: &[u8]) -> bool
-    requires { ⌜ at + length (now w) ≤ length (now s) ⌝ }
-{
-    let mut i = 0;
-    while i < w.len() {
-        if s[at + i] != w[i] {
-            return false;
-        }
-        i += 1;
-    }
-    true
-}
-
-// Which of the words the name from `start` to `end` is.
-pub fn word(s: &[u8], start: usize, end: usize) -> u32
-    requires { ⌜ (start ≤ end) × (end ≤ length (now s)) ⌝ }
-    ensures { λ r. ⌜ r ≡ wordOf (take (end - start) (drop start (now (s .entry)))) ⌝ }
-{
-    let n = end - start;
-    if n == 2 {
-        if begins(s, start, b"on") {
-            return WORD_ON;
-        }
-        return WORD_OTHER;
-    }
-    if n == 4 {
-        if begins(s, start, b"true") {
-            return WORD_TRUE;
-        }
-        if begins(s, start, b"null") {
-            return WORD_NULL;
-        }
-        return WORD_OTHER;
-    }
-    if n == 5 {
-        if begins(s, start, b"query") {
-            return WORD_QUERY;
-        }
-        if begins(s, start, b"false") {
-            return WORD_FALSE;
-        }
-        return WORD_OTHER;
-    }
-    if n == 8 {
-        if begins(s, start, b"fragment") {
-            return WORD_FRAGMENT;
-        }
-        if begins(s, start, b"mutation") {
-            return WORD_MUTATION;
-        }
-        return WORD_OTHER;
-    }
-    if n == 12 {
-        if begins(s, start, b"subscription") {
-            return WORD_SUBSCRIPTION;
-        }
-    }
-    WORD_OTHER
 }

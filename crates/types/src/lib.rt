@@ -19,7 +19,7 @@ ghost use Rattle.paper_types.specs.Rules.{memberNamed};
 ghost use Rattle.fields.specs.Fields.{Bounds};
 ghost use Rattle.index.specs.Book.{part, room, bookSize, countIn};
 ghost use Rattle.members.specs.Members.{membersIn};
-ghost use Rattle.types.specs.Booked.{Booked, Bookable, Recorded, Put, Entering, spoken, SubTyped};
+ghost use Rattle.types.specs.Booked.{Booked, Bookable, Recorded, Put, Entering, NumberMeant, kindIn, spoken, SubTyped};
 
 // What a name means: a built-in scalar, the type that is the table's definition of a number, or nothing.
 pub enum Meant {
@@ -29,7 +29,15 @@ pub enum Meant {
 }
 
 // Writes entry i.
-fn put_entry(book: &mut [u32], i: usize, tag: u8, name: usize, size: usize, start: usize, end: usize)
+pub fn put_entry(
+    book: &mut [u32],
+    i: usize,
+    tag: u8,
+    name: usize,
+    size: usize,
+    start: usize,
+    end: usize,
+)
     requires { ⌜ (length (now book) ≡ bookSize) × (i < room) × (name ≤ mostTable) × (size ≤ mostTable) × (start ≤ mostTable) × (end ≤ mostTable) ⌝ }
     ensures { λ _. ⌜ Put (now (book .entry)) (now (book .exit)) i tag name size start end ⌝ }
 {
@@ -58,7 +66,12 @@ fn records(t: &[u8], book: &mut [u32]) -> usize
     let mut at = 0;
     let mut i = 0;
     while at < end {
-        let FieldRead::Field { tag, start, end: stop } = fields::read_field(t, at, end) else {
+        let FieldRead::Field {
+            tag,
+            start,
+            end: stop,
+        } = fields::read_field(t, at, end)
+        else {
             return i;
         };
         enter(t, book, i, tag, start, stop);
@@ -98,7 +111,16 @@ pub fn is_built_in(s: &[u8], at: usize, n: usize) -> bool
     index::is_text(s, at, n, b"ID", 0, 2)
 }
 
-const LOWEST_TYPE: u32 = 0;
+// tags, as a book has them
+const NO_TYPE: u32 = 0;
+
+const SCALAR: u32 = 1;
+
+const OBJECT: u32 = 2;
+
+const INTERFACE: u32 = 3;
+
+const UNION: u32 = 4;
 
 const HIGHEST_TYPE: u32 = 6;
 
@@ -109,7 +131,7 @@ pub fn first_type(t: &[u8], book: &[u32], s: &[u8], at: usize, n: usize) -> usiz
     requires { ⌜ Booked (now t) (now book) × (at + n ≤ length (now s)) ⌝ }
     ensures { λ r. ⌜ r ≡ firstAt (typeNamed (part (now (s .entry)) at n)) (tableOf (now (t .entry))) ⌝ }
 {
-    index::find_key(t, book, LOWEST_TYPE, HIGHEST_TYPE, s, at, n)
+    index::find_key(t, book, NO_TYPE, HIGHEST_TYPE, s, at, n)
 }
 
 // The same of directives.
@@ -135,16 +157,6 @@ pub fn meaning_of(t: &[u8], book: &[u32], s: &[u8], at: usize, n: usize) -> Mean
     Meant::Nothing
 }
 
-const SCALAR: u32 = 1;
-
-const OBJECT: u32 = 2;
-
-const INTERFACE: u32 = 3;
-
-const UNION: u32 = 4;
-
-const NO_TYPE: u32 = 0;
-
 // The tag of the type that a name means: 1 of a built-in scalar, 0 of nothing.
 pub fn tag_meant(t: &[u8], book: &[u32], s: &[u8], at: usize, n: usize) -> u32
     requires { ⌜ Booked (now t) (now book) × (at + n ≤ length (now s)) ⌝ }
@@ -165,10 +177,37 @@ pub fn has_member(t: &[u8], start: usize, end: usize, s: &[u8], at: usize, n: us
     requires { ⌜ Bounds (now t) start end × (at + n ≤ length (now s)) ⌝ }
     ensures { λ r. ⌜ r ≡ anyOf (memberNamed (part (now (s .entry)) at n)) (membersIn (now (t .entry)) start end) ⌝ }
 {
-    let FieldFound::Found { tag: _, start: _, end: _ } = members::find_member(t, start, end, s, at, n) else {
+    let FieldFound::Found {
+        tag: _,
+        start: _,
+        end: _,
+    } = members::find_member(t, start, end, s, at, n)
+    else {
         return false;
     };
     true
+}
+
+// Entry i's kind; 0 if there is no such entry.
+pub fn kind_in(book: &[u32], i: usize) -> u32
+    requires { ⌜ (length (now book) ≡ bookSize) × (countIn (now book) ≤ room) ⌝ }
+    ensures { λ r. ⌜ r ≡ kindIn (now (book .entry)) i ⌝ }
+{
+    if i < index::count_of(book) {
+        return index::kind_of(book, i);
+    }
+    NO_TYPE
+}
+
+// The number of the definition that a name means; one past the last if it is none of the table's.
+pub fn number_meant(t: &[u8], book: &[u32], s: &[u8], at: usize, n: usize) -> usize
+    requires { ⌜ Booked (now t) (now book) × (at + n ≤ length (now s)) ⌝ }
+    ensures { λ r. ⌜ NumberMeant (now (t .entry)) (now (book .entry)) (part (now (s .entry)) at n) r ⌝ }
+{
+    if is_built_in(s, at, n) {
+        return index::count_of(book);
+    }
+    first_type(t, book, s, at, n)
 }
 
 // Can the interface or union of the name at `a` be the object of the name at `o`?
@@ -176,21 +215,31 @@ pub fn can_be(t: &[u8], book: &[u32], s: &[u8], a: usize, an: usize, o: usize, o
     requires { ⌜ Booked (now t) (now book) × (a + an ≤ length (now s)) × (o + on ≤ length (now s)) ⌝ }
     ensures { λ r. ⌜ r ≡ canBe (tableOf (now (t .entry))) (part (now (s .entry)) a an) (part (now (s .entry)) o on) ⌝ }
 {
-    let Meant::Definition(i) = meaning_of(t, book, s, o, on) else {
-        return false;
-    };
-    if index::kind_of(book, i) != OBJECT {
+    let i = number_meant(t, book, s, o, on);
+    if kind_in(book, i) != OBJECT {
         return false;
     }
-    let Meant::Definition(j) = meaning_of(t, book, s, a, an) else {
-        return false;
-    };
-    let kind = index::kind_of(book, j);
+    let j = number_meant(t, book, s, a, an);
+    let kind = kind_in(book, j);
     if kind == INTERFACE {
-        return members::implements(t, index::start_of(book, i), index::end_of(book, i), s, a, an);
+        return members::implements(
+            t,
+            index::start_of(book, i),
+            index::end_of(book, i),
+            s,
+            a,
+            an,
+        );
     }
     if kind == UNION {
-        return has_member(t, index::start_of(book, j), index::end_of(book, j), s, o, on);
+        return has_member(
+            t,
+            index::start_of(book, j),
+            index::end_of(book, j),
+            s,
+            o,
+            on,
+        );
     }
     false
 }
@@ -203,5 +252,10 @@ pub fn is_sub_type(t: &[u8], book: &[u32], r: TypeRead, q: TypeRead) -> bool
     if index::is_text(t, r.at, r.size, t, q.at, q.size) {
         return index::sub_type(true, false, r.wrappers, q.wrappers);
     }
-    index::sub_type(false, can_be(t, book, t, q.at, q.size, r.at, r.size), r.wrappers, q.wrappers)
+    index::sub_type(
+        false,
+        can_be(t, book, t, q.at, q.size, r.at, r.size),
+        r.wrappers,
+        q.wrappers,
+    )
 }

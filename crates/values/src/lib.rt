@@ -1,5 +1,17 @@
 // Reads values, and the entries of arguments and objects, and writes their rows.
-use paper::Refusal;
+use characters::TOKEN_BRACE_CLOSE;
+use characters::TOKEN_BRACE_OPEN;
+use characters::TOKEN_BRACKET_CLOSE;
+use characters::TOKEN_BRACKET_OPEN;
+use characters::TOKEN_COLON;
+use characters::TOKEN_DOLLAR;
+use characters::TOKEN_FLOAT;
+use characters::TOKEN_INT;
+use characters::TOKEN_NAME;
+use characters::TOKEN_STRING;
+use characters::WORD_FALSE;
+use characters::WORD_NULL;
+use characters::WORD_TRUE;
 use paper::EXTRA_FALSE;
 use paper::EXTRA_TRUE;
 use paper::KIND_BOOLEAN;
@@ -13,47 +25,52 @@ use paper::KIND_OBJECT_FIELD;
 use paper::KIND_STRING;
 use paper::KIND_VARIABLE;
 use paper::MOST_ROWS;
+use paper::Refusal;
+use reader::Cursor;
+use reader::Read;
 use reader::no_going;
 use reader::put_end;
 use reader::put_row;
-use reader::Cursor;
-use reader::Read;
-use tokens::TOKEN_BRACE_CLOSE;
-use tokens::TOKEN_BRACE_OPEN;
-use tokens::TOKEN_BRACKET_CLOSE;
-use tokens::TOKEN_BRACKET_OPEN;
-use tokens::TOKEN_COLON;
-use tokens::TOKEN_DOLLAR;
-use tokens::TOKEN_FLOAT;
-use tokens::TOKEN_INT;
-use tokens::TOKEN_NAME;
-use tokens::TOKEN_STRING;
-use tokens::WORD_FALSE;
-use tokens::WORD_NULL;
-use tokens::WORD_TRUE;
 ghost use mathlib.Core.Path.{_≡_};
-ghost use Prim.Native.Nat.{_+_, _*_, _≤_, _<_};
-ghost use lib.ListN.{length};
+ghost use mathlib.Core.Logic.{_≢_};
+ghost use Prim.Native.Nat.{_<_};
+ghost use Rattle.paper.specs.Numbers.{mostRows};
+ghost use Rattle.paper.specs.Language.{dollar, bracketL, braceL, n-other};
+ghost use Rattle.characters.specs.Head.{kindOf};
 ghost use Rattle.reader.specs.Reader.{Ready, Said};
-ghost use Rattle.values.specs.Stacks.{valueStack, entryStack};
+ghost use Rattle.values.specs.Stacks.{valueStack, entryStack, EntryKind};
+ghost use Rattle.values.specs.Marks.{Leaf, Open, Close, SaidScalar, SaidVariable, SaidNamed};
 
 // A value that is one token: its row.
-fn leaf(s: &[u8], rows: &mut [u32], c: Cursor, parent: u32, kind: u32, name: u32, size: u32, extra: u32) -> Read
+fn leaf(
+    s: &[u8],
+    rows: &mut [u32],
+    c: Cursor,
+    parent: u32,
+    kind: u32,
+    name: u32,
+    size: u32,
+    extra: u32,
+) -> Read
+    requires { ⌜ Ready (now s) (now rows) c parent ⌝ }
+    ensures { λ r. ⌜ Leaf (now (s .entry)) (now (rows .entry)) (now (rows .exit)) c parent kind name size extra r ⌝ }
 {
-    let n = c.rows;
-    if n == MOST_ROWS {
+    if c.rows == MOST_ROWS {
         return Read::Refused(Refusal::TooManyRows(c.start));
     }
+    let n = c.rows;
     put_row(rows, n, kind, c.start, c.end, parent, name, size, extra);
     c.past(s, n + 1)
 }
 
 // A name as a value: true, false, null or an enum value.
 fn word_value(s: &[u8], rows: &mut [u32], c: Cursor, parent: u32) -> Read
+    requires { ⌜ Ready (now s) (now rows) c parent × (c .kind ≡ kindOf n-other) ⌝ }
+    ensures { λ r. ⌜ SaidScalar (now (s .entry)) (now (rows .entry)) (now (rows .exit)) c parent r ⌝ }
 {
     let start = c.start;
     let end = c.end;
-    let w = tokens::word(s, start as usize, end as usize);
+    let w = characters::word(s, start as usize, end as usize);
     if w == WORD_TRUE {
         return leaf(s, rows, c, parent, KIND_BOOLEAN, 0, 0, EXTRA_TRUE);
     }
@@ -68,6 +85,8 @@ fn word_value(s: &[u8], rows: &mut [u32], c: Cursor, parent: u32) -> Read
 
 // A value of one token, or none at all.
 fn scalar(s: &[u8], rows: &mut [u32], c: Cursor, parent: u32) -> Read
+    requires { ⌜ Ready (now s) (now rows) c parent × (c .kind ≢ kindOf dollar) × (c .kind ≢ kindOf bracketL) × (c .kind ≢ kindOf braceL) ⌝ }
+    ensures { λ r. ⌜ SaidScalar (now (s .entry)) (now (rows .entry)) (now (rows .exit)) c parent r ⌝ }
 {
     let kind = c.kind;
     if kind == TOKEN_NAME {
@@ -87,6 +106,8 @@ fn scalar(s: &[u8], rows: &mut [u32], c: Cursor, parent: u32) -> Read
 
 // Variable: $ Name
 fn variable(s: &[u8], rows: &mut [u32], c: Cursor, parent: u32) -> Read
+    requires { ⌜ Ready (now s) (now rows) c parent × (c .kind ≡ kindOf dollar) ⌝ }
+    ensures { λ r. ⌜ SaidVariable (now (s .entry)) (now (rows .entry)) (now (rows .exit)) c parent r ⌝ }
 {
     let n = c.rows;
     if n == MOST_ROWS {
@@ -99,7 +120,17 @@ fn variable(s: &[u8], rows: &mut [u32], c: Cursor, parent: u32) -> Read
     if name.kind != TOKEN_NAME {
         return no_going(name);
     }
-    put_row(rows, n, KIND_VARIABLE, c.start, name.end, parent, name.start, name.end - name.start, 0);
+    put_row(
+        rows,
+        n,
+        KIND_VARIABLE,
+        c.start,
+        name.end,
+        parent,
+        name.start,
+        name.end - name.start,
+        0,
+    );
     name.past(s, n + 1)
 }
 
@@ -124,16 +155,10 @@ pub fn value(s: &[u8], rows: &mut [u32], c: Cursor, parent: u32, left: u32, cons
     scalar(s, rows, c, parent)
 }
 
-// The closing mark of row n, at which the cursor stands.
-fn close(s: &[u8], rows: &mut [u32], c: Cursor, n: u32) -> Read
-{
-    put_end(rows, n, c.end);
-    let m = c.rows;
-    c.past(s, m)
-}
-
-// ListValue, at its [
-fn list(s: &[u8], rows: &mut [u32], c: Cursor, parent: u32, left: u32, constant: bool) -> Read
+// The opening mark of a list or an object: its row, and its level.
+fn enter(s: &[u8], rows: &mut [u32], c: Cursor, parent: u32, left: u32, kind: u32) -> Read
+    requires { ⌜ Ready (now s) (now rows) c parent ⌝ }
+    ensures { λ r. ⌜ Open (now (s .entry)) (now (rows .entry)) (now (rows .exit)) c parent left kind r ⌝ }
 {
     if left == 0 {
         return Read::Refused(Refusal::TooDeep(c.start));
@@ -142,8 +167,27 @@ fn list(s: &[u8], rows: &mut [u32], c: Cursor, parent: u32, left: u32, constant:
     if n == MOST_ROWS {
         return Read::Refused(Refusal::TooManyRows(c.start));
     }
-    put_row(rows, n, KIND_LIST, c.start, 0, parent, 0, 0, 0);
-    let r = c.past(s, n + 1);
+    put_row(rows, n, kind, c.start, 0, parent, 0, 0, 0);
+    c.past(s, n + 1)
+}
+
+// The closing mark of row n, at which the cursor stands.
+fn close(s: &[u8], rows: &mut [u32], c: Cursor, n: u32) -> Read
+    requires { ⌜ Ready (now s) (now rows) c n × (n < mostRows) ⌝ }
+    ensures { λ r. ⌜ Close (now (s .entry)) (now (rows .entry)) (now (rows .exit)) c n r ⌝ }
+{
+    put_end(rows, n, c.end);
+    let m = c.rows;
+    c.past(s, m)
+}
+
+// ListValue, at its [
+fn list(s: &[u8], rows: &mut [u32], c: Cursor, parent: u32, left: u32, constant: bool) -> Read
+    requires { ⌜ Ready (now s) (now rows) c parent × (c .kind ≡ kindOf bracketL) ⌝ }
+    ensures { λ r. ⌜ Said 1 (now (s .entry)) (now (rows .entry)) (now (rows .exit)) c parent left (valueStack constant) r ⌝ }
+{
+    let n = c.rows;
+    let r = enter(s, rows, c, parent, left, KIND_LIST);
     let Read::Done(first) = r else {
         return r;
     };
@@ -163,16 +207,11 @@ fn list(s: &[u8], rows: &mut [u32], c: Cursor, parent: u32, left: u32, constant:
 
 // ObjectValue, at its {
 fn object(s: &[u8], rows: &mut [u32], c: Cursor, parent: u32, left: u32, constant: bool) -> Read
+    requires { ⌜ Ready (now s) (now rows) c parent × (c .kind ≡ kindOf braceL) ⌝ }
+    ensures { λ r. ⌜ Said 1 (now (s .entry)) (now (rows .entry)) (now (rows .exit)) c parent left (valueStack constant) r ⌝ }
 {
-    if left == 0 {
-        return Read::Refused(Refusal::TooDeep(c.start));
-    }
     let n = c.rows;
-    if n == MOST_ROWS {
-        return Read::Refused(Refusal::TooManyRows(c.start));
-    }
-    put_row(rows, n, KIND_OBJECT, c.start, 0, parent, 0, 0, 0);
-    let r = c.past(s, n + 1);
+    let r = enter(s, rows, c, parent, left, KIND_OBJECT);
     let Read::Done(first) = r else {
         return r;
     };
@@ -190,10 +229,10 @@ fn object(s: &[u8], rows: &mut [u32], c: Cursor, parent: u32, left: u32, constan
     }
 }
 
-// Argument or ObjectField, by its row's kind: Name : Value
-pub fn entry(s: &[u8], rows: &mut [u32], c: Cursor, parent: u32, left: u32, kind: u32, constant: bool) -> Read
-    requires { ⌜ Ready (now s) (now rows) c parent ⌝ }
-    ensures { λ r. ⌜ Said 1 (now (s .entry)) (now (rows .entry)) (now (rows .exit)) c parent left (entryStack kind constant) r ⌝ }
+// Name : of an entry, whose row begins and is of this kind; the cursor comes to the value.
+fn entry_name(s: &[u8], rows: &mut [u32], c: Cursor, parent: u32, kind: u32) -> Read
+    requires { ⌜ Ready (now s) (now rows) c parent × EntryKind kind ⌝ }
+    ensures { λ r. ⌜ SaidNamed (now (s .entry)) (now (rows .entry)) (now (rows .exit)) c parent kind r ⌝ }
 {
     if c.kind != TOKEN_NAME {
         return no_going(c);
@@ -202,7 +241,8 @@ pub fn entry(s: &[u8], rows: &mut [u32], c: Cursor, parent: u32, left: u32, kind
     if n == MOST_ROWS {
         return Read::Refused(Refusal::TooManyRows(c.start));
     }
-    put_row(rows, n, kind, c.start, 0, parent, c.start, c.end - c.start, 0);
+    let size = c.end - c.start;
+    put_row(rows, n, kind, c.start, 0, parent, c.start, size, 0);
     let r = c.past(s, n + 1);
     let Read::Done(colon) = r else {
         return r;
@@ -210,9 +250,26 @@ pub fn entry(s: &[u8], rows: &mut [u32], c: Cursor, parent: u32, left: u32, kind
     if colon.kind != TOKEN_COLON {
         return no_going(colon);
     }
-    let t = colon.past(s, n + 1);
-    let Read::Done(first) = t else {
-        return t;
+    colon.past(s, n + 1)
+}
+
+// Argument or ObjectField, by its row's kind: Name : Value
+pub fn entry(
+    s: &[u8],
+    rows: &mut [u32],
+    c: Cursor,
+    parent: u32,
+    left: u32,
+    kind: u32,
+    constant: bool,
+) -> Read
+    requires { ⌜ Ready (now s) (now rows) c parent × EntryKind kind ⌝ }
+    ensures { λ r. ⌜ Said 1 (now (s .entry)) (now (rows .entry)) (now (rows .exit)) c parent left (entryStack kind constant) r ⌝ }
+{
+    let n = c.rows;
+    let r = entry_name(s, rows, c, parent, kind);
+    let Read::Done(first) = r else {
+        return r;
     };
     let v = value(s, rows, first, n, left, constant);
     let Read::Done(d) = v else {

@@ -1,32 +1,25 @@
+-- `reader::located` meets its contract.
 use native.Mathlib.Omega.{arith}
 use borrow.Author.Needs.{needs}
 use Rattle.reader.proofs.ReaderLaws.{within-token, within-bad}
 use Rattle.reader.proofs.located.Statement.{statement}
 use Rattle.reader.proofs.located.Tie as tie
-use Rattle.reader.proofs.located.Reads as reads
-use Rattle.reader.proofs.located.Lts as lts
 
--- src/lib.rt:36:37
 enum-known-t : tie.Need-enum-known-t
 enum-known-t c = search needs
 
--- src/lib.rt:36:87
 cast-t5 : tie.Need-cast-t5
 cast-t5 c = omega (arith, within-token _ _ _ _ (c .before .before .before .pre) (c .before .t .given .1))
 
--- src/lib.rt:37:24
 enum-known-t-2 : tie.Need-enum-known-t-2
 enum-known-t-2 c = search needs
 
--- src/lib.rt:37:62
 cast-t7 : tie.Need-cast-t7
 cast-t7 c = omega (arith, within-bad _ _ (c .before .before .before .pre) (c .before .t2 .given .1))
 
--- src/lib.rt:31:1
 returns : tie.Need-returns
 returns c = rw (c .before .t .given .1)
 
--- src/lib.rt:31:1
 returns-2 : tie.Need-returns-2
 returns-2 c = rw (c .before .t2 .given .1)
 

@@ -1,101 +1,77 @@
+-- `reader::put_row` meets its contract.
 use native.Mathlib.Omega.{arith}
 use native.Mathlib.Numerals.{towards-suc}
 use borrow.Author.Needs.{needs}
 use lib.ListN.{length-set}
 use Rattle.reader.proofs.put_row.Statement.{statement}
 use Rattle.reader.proofs.put_row.Tie as tie
-use Rattle.reader.proofs.put_row.Reads as reads
-use Rattle.reader.proofs.put_row.Lts as lts
 
--- src/lib.rt:68:13
 mul-i : tie.Need-mul-i
 mul-i c = search needs
 
--- src/lib.rt:69:5
 mul-rows : tie.Need-mul-rows
 mul-rows c = search needs
 
--- src/lib.rt:69:5
 slice-write-rows : tie.Need-slice-write-rows
 slice-write-rows c = search needs
 
--- src/lib.rt:70:10
 add-rows : tie.Need-add-rows
 add-rows c = search needs
 
--- src/lib.rt:70:5
 mul-rows-2 : tie.Need-mul-rows-2
 mul-rows-2 c = search needs
 
--- src/lib.rt:70:5
 slice-write-rows-2 : tie.Need-slice-write-rows-2
 slice-write-rows-2 c = simp length-set (omega arith)
 
--- src/lib.rt:71:10
 add-rows-2 : tie.Need-add-rows-2
 add-rows-2 c = search needs
 
--- src/lib.rt:71:5
 mul-rows-3 : tie.Need-mul-rows-3
 mul-rows-3 c = search needs
 
--- src/lib.rt:71:5
 slice-write-rows-3 : tie.Need-slice-write-rows-3
 slice-write-rows-3 c = simp length-set (omega arith)
 
--- src/lib.rt:72:10
 add-rows-3 : tie.Need-add-rows-3
 add-rows-3 c = search needs
 
--- src/lib.rt:72:5
 mul-rows-4 : tie.Need-mul-rows-4
 mul-rows-4 c = search needs
 
--- src/lib.rt:72:5
 slice-write-rows-4 : tie.Need-slice-write-rows-4
 slice-write-rows-4 c = simp length-set (omega arith)
 
--- src/lib.rt:73:10
 add-rows-4 : tie.Need-add-rows-4
 add-rows-4 c = search needs
 
--- src/lib.rt:73:5
 mul-rows-5 : tie.Need-mul-rows-5
 mul-rows-5 c = search needs
 
--- src/lib.rt:73:5
 slice-write-rows-5 : tie.Need-slice-write-rows-5
 slice-write-rows-5 c = simp length-set (omega arith)
 
--- src/lib.rt:74:10
 add-rows-5 : tie.Need-add-rows-5
 add-rows-5 c = search needs
 
--- src/lib.rt:74:5
 mul-rows-6 : tie.Need-mul-rows-6
 mul-rows-6 c = search needs
 
--- src/lib.rt:74:5
 slice-write-rows-6 : tie.Need-slice-write-rows-6
 slice-write-rows-6 c = simp length-set (omega arith)
 
--- src/lib.rt:75:10
 add-rows-6 : tie.Need-add-rows-6
 add-rows-6 c = search needs
 
--- src/lib.rt:75:5
 mul-rows-7 : tie.Need-mul-rows-7
 mul-rows-7 c = search needs
 
--- src/lib.rt:75:5
 slice-write-rows-7 : tie.Need-slice-write-rows-7
 slice-write-rows-7 c = simp length-set (omega arith)
 
--- src/lib.rt:64:1
 same-length : tie.Need-same-length
 same-length c = search needs
 
--- src/lib.rt:64:1
 returns : tie.Need-returns
 returns c = simp towards-suc
 

@@ -1,3 +1,4 @@
+-- `reader::past` meets its contract.
 use mathlib.Core.Path.{sym, ap, _∙_}
 use native.Mathlib.Omega.{arith}
 use borrow.Author.Needs.{needs}
@@ -5,45 +6,32 @@ use Rattle.reader.specs.Reader.{movedTo}
 use Rattle.reader.proofs.ReaderLaws.{head-within, token-lies, moved-bad}
 use Rattle.reader.proofs.Cursor.past.Statement.{statement}
 use Rattle.reader.proofs.Cursor.past.Tie as tie
-use Rattle.reader.proofs.Cursor.past.Reads as reads
-use Rattle.reader.proofs.Cursor.past.Lts as lts
-use Rattle.reader.proofs.located.Reads as located-reads
-use Rattle.tokens.proofs.next.Reads as next-reads
 
--- src/lib.rt:48:33
 cast-next : tie.Need-cast-next
 cast-next c = search needs
 
--- src/lib.rt:48:13
 next-requires : tie.Need-next-requires
 next-requires c κs = search needs
 
--- src/lib.rt:49:32
 enum-known-t : tie.Need-enum-known-t
 enum-known-t c = search needs
 
--- src/lib.rt:50:13
 enum-told : tie.Need-enum-told
 enum-told c = search needs
 
--- src/lib.rt:50:13
 located-requires : tie.Need-located-requires
 located-requires c κs =
     rw (c .before .before .next .ensures) (head-within _ _ (c .before .before .before .before .pre .0) (c .before .before .before .before .pre .1))
 
--- src/lib.rt:50:13
 returns : tie.Need-returns
 returns c = moved-bad _ _ _ _ _ _ (c .located .ensures) (c .before .enum-told .given .1) (c .before .before .before .next .ensures)
 
--- src/lib.rt:52:48
 cast-t10 : tie.Need-cast-t10
 cast-t10 c = let l = token-lies _ _ _ _ _ (c .before .before .before .before .before .pre .1) (sym (c .before .before .before .next .ensures) ∙ c .before .t .given .1) in omega arith
 
--- src/lib.rt:52:67
 cast-t11 : tie.Need-cast-t11
 cast-t11 c = let l = token-lies _ _ _ _ _ (c .before .before .before .before .before .pre .1) (sym (c .before .before .before .next .ensures) ∙ c .before .t .given .1) in omega arith
 
--- src/lib.rt:43:5
 returns-2 : tie.Need-returns-2
 returns-2 c = ap (movedTo _ _) (sym (c .before .t .given .1) ∙ c .before .before .before .next .ensures)
 

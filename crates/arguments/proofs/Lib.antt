@@ -1,0 +1,5 @@
+pub mod Onward
+pub mod Words
+pub mod ArgumentsLaws
+pub mod DirectivesLaws
+pub mod ConditionLaws

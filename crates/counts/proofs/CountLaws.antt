@@ -1,0 +1,331 @@
+-- The first offset over a size, one wrapper or one field more at a time.
+use mathlib.Core.Path.{_≡_, refl, sym, ap, _∙_}
+use mathlib.Core.Bool.{Bool, true, false, _&&_, _||_, cond}
+use mathlib.Core.Option.{Option, none, some}
+use mathlib.Core.List.{List, [], _∷_, _++_, map, head?}
+use mathlib.Core.Logic.{inl, inr}
+use Prim.Native.Nat.{ℕ, zero, suc, _+_, _-_, _%_, _/_, _≤_, _<_, pred}
+use native.Mathlib.Omega.{arith}
+use native.Mathlib.Nat.{le-refl}
+use lib.ListN.{length, getD}
+use lib.Seq.{slice, take-length}
+use lib.Dec.{leb, ltb, eqb}
+use borrow.Author.Tests.{eq-eqb, ne-eqb, lt-ltb, le-ltb, eqb-true, eqb-false, leb-true, lt-leb}
+use types.Run.{OneOf}
+use denote.Enum.Declared.{tagOf}
+use Rattle.paper.specs.Numbers.{mostWrappers}
+use Rattle.paper_types.specs.TableNumbers.{mostImplemented, mostMembers, mostArguments, mostRecords, tagScalar, tagRoots, tagImplements, tagField, tagArgument, tagSubscriptionRoot}
+use Rattle.paper_types.specs.Lists.{anyOf, onlyIf}
+use Rattle.paper_types.specs.House.{piece, pieces, contentOf, mostDeep}
+use Rattle.paper_types.specs.TableSizes.{Room, room, isOver, lessRoom, roomInTable, roomIn, oversIn, isWrapper, wrappersOver, oversBy, overs, counts}
+use Rattle.paper_types.proofs.ListsLaws.{head-nil}
+use Rattle.paper_types.proofs.HolderLaws.{over-on, over-here, over-inside}
+use Rattle.paper_types.proofs.Rising.{counts-first}
+use Rattle.fields.specs.declared.FieldRead.the-variants.{Field, Cut}
+use Rattle.fields.specs.Fields.{fieldAt}
+use Rattle.fields.proofs.FieldLaws.{field-lies, pieces-read, pieces-torn, pieces-none, slice-none, slice-next}
+use Rattle.frames.specs.declared.Holding.{Holding}
+use Rattle.frames.specs.declared.Holding.the-variants.{Name, Reference, Fields, Nothing}
+use Rattle.frames.specs.Holders.{Holder, HoldsAs}
+use Rattle.frames.proofs.Holding.{the-type}
+use Rattle.counts.specs.declared.Counted.{Counted}
+use Rattle.counts.specs.declared.Counted.the-variants.{Within, Over}
+use Rattle.counts.specs.Counts.{toldOver, wrapsBy, leafOvers, between, roomFor, restRoom, roomsOf, recordBy}
+
+-- What is told is what there is.
+told-within : (o : Option ℕ) → toldOver o ≡ Within → o ≡ none
+told-within none e = refl
+told-within (some v) e = let z : Over v ≡ Within = e in cc
+
+told-over : (o : Option ℕ) (v : ℕ) → toldOver o ≡ Over v → o ≡ some v
+told-over none v e = let z : Within ≡ Over v = e in cc
+told-over (some u) v e = let z : Over u ≡ Over v = e in cc
+
+pred-is : (n : ℕ) → pred n ≡ n - 1
+pred-is zero = refl
+pred-is (suc n) = let e : suc n - 1 ≡ n = omega arith in sym e
+
+-- A reference's text up to the place i, so many wrappers left.
+pub record Wrapping (t : List ℕ) (start end left i : ℕ) : Type 0 where
+  pub rest : head? (wrappersOver left i (slice i end t)) ≡ head? (wrappersOver mostWrappers start (slice start end t))
+  pub begins : start ≤ i
+  pub order : i ≤ end
+
+pub wrapping-start : (t : List ℕ) (start end : ℕ) → start ≤ end → Wrapping t start end mostWrappers start
+wrapping-start t start end h = record { rest = refl; begins = le-refl start; order = h }
+
+module _ (t : List ℕ) (start end left i : ℕ) (w : end ≤ length t) (o : Wrapping t start end left i) where
+  pub wrapping-end : end ≤ i → Within ≡ toldOver (head? (wrappersOver mostWrappers start (slice start end t)))
+  unfolding wrappersOver
+  wrapping-end h = ap toldOver (rw (slice-none t i end h w) at (o .rest))
+
+  module _ (h : i < end) (n : ℕ) (q : n ≡ wrapsBy (getD t i 0)) where
+    step : (x : Bool) → isWrapper (getD t i 0) ≡ x → wrappersOver left i (slice i end t) ≡ onlyIf (x && eqb left 0) i ++ wrappersOver (cond x (pred left) left) (i + 1) (slice (i + 1) end t)
+    unfolding wrappersOver
+    step x e = rw (slice-next t i end h w, e)
+
+    pub wrapping-over : left < n → Over i ≡ toldOver (head? (wrappersOver mostWrappers start (slice start end t)))
+    wrapping-over l = go (isWrapper (getD t i 0)) refl
+      where
+        go : (x : Bool) → isWrapper (getD t i 0) ≡ x → Over i ≡ toldOver (head? (wrappersOver mostWrappers start (slice start end t)))
+        go true e = let m : n ≡ 1 = rw e at q in ap toldOver (rw (eq-eqb left 0 (omega arith)) at (sym (ap head? (step true e)) ∙ o .rest))
+        go false e = let m : n ≡ 0 = rw e at q in absurd (omega arith)
+
+    pub wrapping-on : n ≤ left → Wrapping t start end (left - n) (i + 1)
+    wrapping-on l = record { rest = go (isWrapper (getD t i 0)) refl; begins = omega (arith, o .begins); order = omega arith }
+      where
+        go : (x : Bool) → isWrapper (getD t i 0) ≡ x → head? (wrappersOver (left - n) (i + 1) (slice (i + 1) end t)) ≡ head? (wrappersOver mostWrappers start (slice start end t))
+        go true e =
+            let m : n ≡ 1 = rw e at q in
+            let z : left - n ≡ pred left = rw m (sym (pred-is left)) in
+            rw z (rw (ne-eqb left 0 (λ f. omega arith)) at (sym (ap head? (step true e)) ∙ o .rest))
+        go false e =
+            let m : n ≡ 0 = rw e at q in
+            let z : left - n ≡ left = omega arith in
+            rw z (sym (ap head? (step false e)) ∙ o .rest)
+
+-- Fewer than one are none, and none are fewer than none.
+under-one : (n : ℕ) → ltb n 1 ≡ eqb n 0
+under-one n = go (eqb n 0) refl
+  where
+    go : (x : Bool) → eqb n 0 ≡ x → ltb n 1 ≡ x
+    go true e = let h = eqb-true n 0 e in lt-ltb n 1 (omega arith)
+    go false e = let h = eqb-false n 0 e in le-ltb n 1 (omega arith)
+
+under-none : (n : ℕ) → ltb n 0 ≡ false
+under-none n = le-ltb n 0 (omega arith)
+
+less-none : (n : ℕ) → n - 0 ≡ n
+less-none n = omega arith
+
+or-true : (b : Bool) → b || true ≡ true
+or-true true = refl
+or-true false = refl
+
+or-false : (b : Bool) → b || false ≡ b
+or-false true = refl
+or-false false = refl
+
+-- a name that a record implements is none of its members
+apart : (k : ℕ) → between tagImplements tagImplements k ≡ true → between tagField tagSubscriptionRoot k ≡ false
+apart k e = go (leb tagImplements k) refl (leb k tagImplements) refl e
+  where
+    go : (x : Bool) → leb tagImplements k ≡ x → (y : Bool) → leb k tagImplements ≡ y → x && y ≡ true → between tagField tagSubscriptionRoot k ≡ false
+    go true p true q f = rw (lt-leb tagField k (let h = leb-true k tagImplements q in omega arith))
+    go true p false q f = let z : false ≡ true = f in cc
+    go false p y q f = let z : false ≡ true = f in cc
+
+-- the rooms of a holder, by which of its counts a field is of
+module _ (names rest k : ℕ) where
+  record-over : (x y : Bool) → (x ≡ true → y ≡ false)
+      → x && eqb names 0 || (y && eqb rest 0 || false) ≡ ltb names (cond x 1 (cond y 2 0) % 2) || ltb rest (cond x 1 (cond y 2 0) / 2)
+  record-over true true f = let z : true ≡ false = f refl in cc
+  record-over true false f = rw (under-one names, under-none rest)
+  record-over false true f = rw (under-none names, under-one rest) (or-false (eqb rest 0))
+  record-over false false f = rw (under-none names, under-none rest)
+
+  field-over : (x : Bool) → x && eqb rest 0 || false ≡ ltb names (cond x 2 0 % 2) || ltb rest (cond x 2 0 / 2)
+  field-over true = rw (under-none names, under-one rest) (or-false (eqb rest 0))
+  field-over false = rw (under-none names, under-none rest)
+
+  pub room-over : (holder n : ℕ) → n ≡ roomFor holder k → anyOf (isOver k) (roomsOf holder names rest) ≡ ltb names (n % 2) || ltb rest (n / 2)
+  unfolding anyOf
+  room-over holder n q = rw q (go (leb holder tagRoots) (eqb holder tagField))
+    where
+      go : (x y : Bool)
+          → anyOf (isOver k) (cond x (room tagImplements tagImplements names ∷ room tagField tagSubscriptionRoot rest ∷ []) (cond y (room tagArgument tagArgument rest ∷ []) [])) ≡
+          ltb names (cond x (cond (between tagImplements tagImplements k) 1 (cond (between tagField tagSubscriptionRoot k) 2 0)) (cond y (cond (between tagArgument tagArgument k) 2 0) 0) % 2) ||
+          ltb rest (cond x (cond (between tagImplements tagImplements k) 1 (cond (between tagField tagSubscriptionRoot k) 2 0)) (cond y (cond (between tagArgument tagArgument k) 2 0) 0) / 2)
+      go true y = record-over (between tagImplements tagImplements k) (between tagField tagSubscriptionRoot k) (λ e. apart k e)
+      go false true = field-over (between tagArgument tagArgument k)
+      go false false = rw (under-none names, under-none rest)
+
+  record-less : (x y : Bool) → (x ≡ true → y ≡ false)
+      → _≡_ {A = List Room} (room tagImplements tagImplements (cond x (pred names) names) ∷ room tagField tagSubscriptionRoot (cond y (pred rest) rest) ∷ [])
+      (room tagImplements tagImplements (names - cond x 1 (cond y 2 0) % 2) ∷ room tagField tagSubscriptionRoot (rest - cond x 1 (cond y 2 0) / 2) ∷ [])
+  record-less true true f = let z : true ≡ false = f refl in cc
+  record-less true false f = rw (pred-is names, less-none rest)
+  record-less false true f = rw (less-none names, pred-is rest)
+  record-less false false f = rw (less-none names, less-none rest)
+
+  field-less : (x : Bool) → _≡_ {A = List Room} (room tagArgument tagArgument (cond x (pred rest) rest) ∷ []) (room tagArgument tagArgument (rest - cond x 2 0 / 2) ∷ [])
+  field-less true = rw (pred-is rest)
+  field-less false = rw (less-none rest)
+
+  pub room-less : (holder n : ℕ) → n ≡ roomFor holder k → map (lessRoom k) (roomsOf holder names rest) ≡ roomsOf holder (names - n % 2) (rest - n / 2)
+  room-less holder n q = rw q (go (leb holder tagRoots) (eqb holder tagField))
+    where
+      go : (x y : Bool)
+          → map (lessRoom k) (cond x (room tagImplements tagImplements names ∷ room tagField tagSubscriptionRoot rest ∷ []) (cond y (room tagArgument tagArgument rest ∷ []) [])) ≡
+          cond x
+          (room tagImplements tagImplements (names - (cond x (cond (between tagImplements tagImplements k) 1 (cond (between tagField tagSubscriptionRoot k) 2 0)) (cond y (cond (between tagArgument tagArgument k) 2 0) 0) % 2)) ∷
+          room tagField tagSubscriptionRoot (rest - (cond x (cond (between tagImplements tagImplements k) 1 (cond (between tagField tagSubscriptionRoot k) 2 0)) (cond y (cond (between tagArgument tagArgument k) 2 0) 0) / 2)) ∷ [])
+          (cond y (room tagArgument tagArgument (rest - (cond x (cond (between tagImplements tagImplements k) 1 (cond (between tagField tagSubscriptionRoot k) 2 0)) (cond y (cond (between tagArgument tagArgument k) 2 0) 0) / 2)) ∷ []) [])
+      go true y = record-less (between tagImplements tagImplements k) (between tagField tagSubscriptionRoot k) (λ e. apart k e)
+      go false true = field-less (between tagArgument tagArgument k)
+      go false false = refl
+
+room-start : (tag : ℕ) → roomsOf tag mostImplemented (restRoom tag) ≡ roomIn tag
+unfolding roomIn
+room-start tag = go (leb tag tagRoots) (eqb tag tagField)
+  where
+    go : (x y : Bool)
+        → cond x (room tagImplements tagImplements mostImplemented ∷ room tagField tagSubscriptionRoot (cond x mostMembers mostArguments) ∷ [])
+        (cond y (room tagArgument tagArgument (cond x mostMembers mostArguments) ∷ []) []) ≡
+        cond x (room tagImplements tagImplements mostImplemented ∷ room tagField tagSubscriptionRoot mostMembers ∷ []) (cond y (room tagArgument tagArgument mostArguments ∷ []) [])
+    go true y = refl
+    go false true = refl
+    go false false = refl
+
+-- no deeper
+pub over-deep : (depth at tag : ℕ) (s : List ℕ) → depth ≡ 0 → Within ≡ toldOver (head? (overs depth at tag s))
+unfolding overs
+over-deep depth at tag s e = rw e
+
+deeper : (depth at tag : ℕ) (s : List ℕ) → (depth ≡ 0 → ⊥) → overs depth at tag s ≡ oversBy (overs (depth - 1)) at tag s (contentOf tag)
+unfolding overs
+deeper zero at tag s n = absurd (n refl)
+deeper (suc d) at tag s n = let e : suc d - 1 ≡ d = omega arith in rw e
+
+-- a content that is no fields, by the keys of the code's other answers
+pub leaf-over : (depth at tag : ℕ) (s : List ℕ) (h : Holding) → (depth ≡ 0 → ⊥) → HoldsAs tag h → OneOf (0 ∷ 1 ∷ 3 ∷ []) (tagOf the-type h)
+    → leafOvers h (at + 3) s ≡ overs depth at tag s
+unfolding oversBy
+leaf-over depth at tag s Name n a l = rw (deeper depth at tag s n, a)
+leaf-over depth at tag s Reference n a l = rw (deeper depth at tag s n, a)
+leaf-over depth at tag s (Fields first second from to) n a (inl e) = absurd (omega (arith, e))
+leaf-over depth at tag s (Fields first second from to) n a (inr (inl e)) = absurd (omega (arith, e))
+leaf-over depth at tag s (Fields first second from to) n a (inr (inr e)) = absurd (omega (arith, e))
+leaf-over depth at tag s Nothing n a l = rw (deeper depth at tag s n, a)
+
+-- A holder up to the place i, so many names and others left.
+pub record Counting (t : List ℕ) (at tag end depth names others i : ℕ) : Type 0 where
+  pub rest : head? (oversIn (overs (depth - 1)) (roomsOf tag names others) (pieces i (slice i end t))) ≡ head? (overs depth at tag (slice (at + 3) end t))
+  pub begins : at + 3 ≤ i
+  pub order : i ≤ end
+
+pub counting-start : (t : List ℕ) (at tag end depth first second from to others : ℕ) → (depth ≡ 0 → ⊥) → Holder tag first second from to → others ≡ restRoom tag → at + 3 ≤ end
+    → Counting t at tag end depth mostImplemented others (at + 3)
+unfolding oversBy
+counting-start t at tag end depth first second from to others n a q h = record {
+  rest = rw (q, room-start tag, deeper depth at tag (slice (at + 3) end t) n, a .is);
+  begins = le-refl (at + 3);
+  order = h;
+}
+
+module _ (t : List ℕ) (at tag end depth names others i : ℕ) (w : end ≤ length t) (o : Counting t at tag end depth names others i) where
+  pub counting-end : end ≤ i → Within ≡ toldOver (head? (overs depth at tag (slice (at + 3) end t)))
+  unfolding oversIn
+  counting-end h = ap toldOver (rw (pieces-none t i end h w) at (o .rest))
+
+  pub counting-torn : i < end → fieldAt t i end ≡ Cut → Within ≡ toldOver (head? (overs depth at tag (slice (at + 3) end t)))
+  unfolding oversIn
+  counting-torn h q = ap toldOver (rw (pieces-torn t i end w h q) at (o .rest))
+
+  module _ (h : i < end) (k a e : ℕ) (q : fieldAt t i end ≡ Field k a e) (n : ℕ) (p : n ≡ roomFor tag k) where
+    split : oversIn (overs (depth - 1)) (roomsOf tag names others) (pieces i (slice i end t)) ≡
+        oversIn (overs (depth - 1)) (roomsOf tag names others) (piece i k (slice a e t) ∷ pieces e (slice e end t))
+    split = ap (oversIn (overs (depth - 1)) (roomsOf tag names others)) (pieces-read t i end w h k a e q)
+
+    content : slice (i + 3) e t ≡ slice a e t
+    content = let l = field-lies t i end k a e (o .order) q in rw (l .begins)
+
+    full : (b : Bool) → ltb names (n % 2) || ltb others (n / 2) ≡ b → anyOf (isOver k) (roomsOf tag names others) ≡ b
+    full b f = room-over names others k tag n p ∙ f
+
+    here : ltb names (n % 2) || ltb others (n / 2) ≡ true → Over i ≡ toldOver (head? (overs depth at tag (slice (at + 3) end t)))
+    here f = ap toldOver (sym (over-here (overs (depth - 1)) (roomsOf tag names others) i k (slice a e t) (pieces e (slice e end t)) (full true f)) ∙ sym (ap head? split) ∙ o .rest)
+
+    pub counting-names : names < n % 2 → Over i ≡ toldOver (head? (overs depth at tag (slice (at + 3) end t)))
+    counting-names l = here (rw (lt-ltb names (n % 2) l))
+
+    pub counting-others : others < n / 2 → Over i ≡ toldOver (head? (overs depth at tag (slice (at + 3) end t)))
+    counting-others l = here (rw (lt-ltb others (n / 2) l) (or-true (ltb names (n % 2))))
+
+    module _ (l : n % 2 ≤ names) (m : n / 2 ≤ others) where
+      left : anyOf (isOver k) (roomsOf tag names others) ≡ false
+      left = full false (rw (le-ltb names (n % 2) l, le-ltb others (n / 2) m))
+
+      pub counting-inside : (x : Counted) (v : ℕ) → x ≡ toldOver (head? (overs (depth - 1) i k (slice (i + 3) e t))) → x ≡ Over v
+          → x ≡ toldOver (head? (overs depth at tag (slice (at + 3) end t)))
+      counting-inside x v g z =
+          let y : head? (overs (depth - 1) i k (slice a e t)) ≡ some v = rw content at (told-over (head? (overs (depth - 1) i k (slice (i + 3) e t))) v (sym g ∙ z)) in
+          z ∙ ap toldOver (sym (over-inside (overs (depth - 1)) (roomsOf tag names others) i k (slice a e t) (pieces e (slice e end t)) v left y) ∙ sym (ap head? split) ∙ o .rest)
+
+      pub counting-on : (x : Counted) → x ≡ toldOver (head? (overs (depth - 1) i k (slice (i + 3) e t))) → x ≡ Within
+          → Counting t at tag end depth (names - n % 2) (others - n / 2) e
+      counting-on x g z =
+          let y : overs (depth - 1) i k (slice a e t) ≡ [] = head-nil (overs (depth - 1) i k (slice a e t)) (rw content at (told-within (head? (overs (depth - 1) i k (slice (i + 3) e t))) (sym g ∙ z))) in
+          let f = field-lies t i end k a e (o .order) q in
+          record {
+            rest =
+                ap (λ (rs : List Room). head? (oversIn (overs (depth - 1)) rs (pieces e (slice e end t)))) (sym (room-less names others k tag n p))
+                ∙ sym (ap head? (split ∙ over-on (overs (depth - 1)) (roomsOf tag names others) i k (slice a e t) (pieces e (slice e end t)) left y)) ∙ o .rest;
+            begins = omega (arith, o .begins, f .begins, f .order);
+            order = f .within;
+          }
+
+-- A table up to the place i, so many records left.
+pub record Recording (t : List ℕ) (left i : ℕ) : Type 0 where
+  pub rest : head? (oversIn (overs mostDeep) (room tagScalar tagRoots left ∷ []) (pieces i (slice i (length t) t))) ≡ counts t
+  pub order : i ≤ length t
+
+pub recording-start : (t : List ℕ) → Recording t mostRecords 0
+recording-start t = record {
+  rest = ap (λ (s : List ℕ). head? (oversIn (overs mostDeep) roomInTable (pieces 0 s))) (take-length t) ∙ sym (counts-first t);
+  order = omega arith;
+}
+
+module _ (t : List ℕ) (left i : ℕ) (o : Recording t left i) where
+  pub recording-end : length t ≤ i → Within ≡ toldOver (counts t)
+  unfolding oversIn
+  recording-end h = ap toldOver (rw (pieces-none t i (length t) h (le-refl (length t))) at (o .rest))
+
+  pub recording-torn : i < length t → fieldAt t i (length t) ≡ Cut → Within ≡ toldOver (counts t)
+  unfolding oversIn
+  recording-torn h q = ap toldOver (rw (pieces-torn t i (length t) (le-refl (length t)) h q) at (o .rest))
+
+  module _ (h : i < length t) (k a e : ℕ) (q : fieldAt t i (length t) ≡ Field k a e) (n : ℕ) (p : n ≡ recordBy k) where
+    abbrev rooms : List Room
+    rooms = room tagScalar tagRoots left ∷ []
+
+    split-table : oversIn (overs mostDeep) rooms (pieces i (slice i (length t) t)) ≡ oversIn (overs mostDeep) rooms (piece i k (slice a e t) ∷ pieces e (slice e (length t) t))
+    split-table = ap (oversIn (overs mostDeep) rooms) (pieces-read t i (length t) (le-refl (length t)) h k a e q)
+
+    content-table : slice (i + 3) e t ≡ slice a e t
+    content-table = let l = field-lies t i (length t) k a e (o .order) q in rw (l .begins)
+
+    full-table : (b : Bool) → ltb left n ≡ b → anyOf (isOver k) rooms ≡ b
+    unfolding anyOf
+    full-table b f = go (between tagScalar tagRoots k) ∙ rw (← p) f
+      where
+        go : (x : Bool) → x && eqb left 0 || false ≡ ltb left (cond x 1 0)
+        go true = or-false (eqb left 0) ∙ sym (under-one left)
+        go false = sym (under-none left)
+
+    less-table : _≡_ {A = List Room} (map (lessRoom k) rooms) (room tagScalar tagRoots (left - n) ∷ [])
+    less-table = rw p (go (between tagScalar tagRoots k))
+      where
+        go : (x : Bool) → _≡_ {A = List Room} (room tagScalar tagRoots (cond x (pred left) left) ∷ []) (room tagScalar tagRoots (left - cond x 1 0) ∷ [])
+        go true = rw (pred-is left)
+        go false = rw (less-none left)
+
+    pub recording-over : left < n → Over i ≡ toldOver (counts t)
+    recording-over l = ap toldOver (sym (over-here (overs mostDeep) rooms i k (slice a e t) (pieces e (slice e (length t) t)) (full-table true (lt-ltb left n l))) ∙ sym (ap head? split-table) ∙ o .rest)
+
+    module _ (l : n ≤ left) where
+      pub recording-inside : (x : Counted) (v : ℕ) → x ≡ toldOver (head? (overs mostDeep i k (slice (i + 3) e t))) → x ≡ Over v → x ≡ toldOver (counts t)
+      recording-inside x v g z =
+          let y : head? (overs mostDeep i k (slice a e t)) ≡ some v = rw content-table at (told-over (head? (overs mostDeep i k (slice (i + 3) e t))) v (sym g ∙ z)) in
+          z ∙ ap toldOver (sym (over-inside (overs mostDeep) rooms i k (slice a e t) (pieces e (slice e (length t) t)) v (full-table false (le-ltb left n l)) y) ∙ sym (ap head? split-table) ∙ o .rest)
+
+      pub recording-on : (x : Counted) → x ≡ toldOver (head? (overs mostDeep i k (slice (i + 3) e t))) → x ≡ Within → Recording t (left - n) e
+      recording-on x g z =
+          let y : overs mostDeep i k (slice a e t) ≡ [] = head-nil (overs mostDeep i k (slice a e t)) (rw content-table at (told-within (head? (overs mostDeep i k (slice (i + 3) e t))) (sym g ∙ z))) in
+          let f = field-lies t i (length t) k a e (o .order) q in
+          record {
+            rest =
+                ap (λ (rs : List Room). head? (oversIn (overs mostDeep) rs (pieces e (slice e (length t) t)))) (sym less-table)
+                ∙ sym (ap head? (split-table ∙ over-on (overs mostDeep) rooms i k (slice a e t) (pieces e (slice e (length t) t)) (full-table false (le-ltb left n l)) y)) ∙ o .rest;
+            order = f .within;
+          }

@@ -1,0 +1,2 @@
+-- Laws of the readers of a table's counts.
+pub mod CountLaws

@@ -1,0 +1,2 @@
+-- What the readers of a table's counts answer.
+pub mod Counts

@@ -1,0 +1,210 @@
+// Which of a table's fields, or of a reference's wrappers, is the first over a size. Nothing is asked of the bytes.
+use fields::BYTE_BANG;
+use fields::BYTE_BRACKET_L;
+use fields::FieldRead;
+use fields::read_field;
+use frames::Holding;
+use frames::content_of;
+use paper::MOST_WRAPPERS;
+use paper_types::MOST_ARGUMENTS;
+use paper_types::MOST_IMPLEMENTED;
+use paper_types::MOST_MEMBERS;
+use paper_types::MOST_RECORDS;
+use paper_types::TAG_ARGUMENT;
+use paper_types::TAG_FIELD;
+use paper_types::TAG_IMPLEMENTS;
+use paper_types::TAG_ROOTS;
+use paper_types::TAG_SCALAR;
+use paper_types::TAG_SUBSCRIPTION_ROOT;
+ghost use mathlib.Core.Path.{_≡_};
+ghost use mathlib.Core.List.{head?};
+ghost use Prim.Native.Nat.{_+_, _≤_};
+ghost use lib.ListN.{length};
+ghost use lib.Seq.{slice};
+ghost use Rattle.paper.specs.Numbers.{mostWrappers};
+ghost use Rattle.paper_types.specs.TableNumbers.{mostTable};
+ghost use Rattle.paper_types.specs.TableSizes.{wrappersOver, overs, counts};
+ghost use Rattle.fields.specs.Fields.{Bounds};
+ghost use Rattle.counts.specs.Counts.{toldOver, wrapsBy, roomFor, restRoom, leafOvers, recordBy};
+
+// Whether a part is within the sizes, or the offset of the first over one.
+pub enum Counted {
+    Within,
+    Over(u32),
+}
+
+// The wrappers that a byte of a reference's text is.
+fn wraps(b: u8) -> u32
+    ensures { λ r. ⌜ r ≡ wrapsBy b ⌝ }
+{
+    if b == BYTE_BRACKET_L {
+        return 1;
+    }
+    if b == BYTE_BANG {
+        return 1;
+    }
+    0
+}
+
+// The wrapper over the most, in a reference's text.
+fn wrapper_over(t: &[u8], start: usize, end: usize) -> Counted
+    requires { ⌜ Bounds (now t) start end ⌝ }
+    ensures { λ r. ⌜ r ≡ toldOver (head? (wrappersOver mostWrappers start (slice start end (now (t .entry))))) ⌝ }
+{
+    let mut left = MOST_WRAPPERS;
+    let mut i = start;
+    while i < end {
+        let n = wraps(t[i]);
+        if left < n {
+            return Counted::Over(i as u32);
+        }
+        left -= n;
+        i += 1;
+    }
+    Counted::Within
+}
+
+// What is over in a content that is no fields.
+fn leaf_over(t: &[u8], start: usize, end: usize, h: Holding) -> Counted
+    requires { ⌜ Bounds (now t) start end ⌝ }
+    ensures { λ r. ⌜ r ≡ toldOver (head? (leafOvers h start (slice start end (now (t .entry))))) ⌝ }
+{
+    match h {
+        Holding::Name => Counted::Within,
+        Holding::Reference => wrapper_over(t, start, end),
+        Holding::Fields {
+            first: _,
+            second: _,
+            from: _,
+            to: _,
+        } => Counted::Within,
+        Holding::Nothing => Counted::Within,
+    }
+}
+
+// Which of a holder's counts a field is of: 1 the names that a record implements, 2 a record's members or a field's arguments, 0 none.
+fn room_of(holder: u8, k: u8) -> u32
+    ensures { λ r. ⌜ r ≡ roomFor holder k ⌝ }
+{
+    if holder <= TAG_ROOTS {
+        if k == TAG_IMPLEMENTS {
+            return 1;
+        }
+        if k < TAG_FIELD {
+            return 0;
+        }
+        if k <= TAG_SUBSCRIPTION_ROOT {
+            return 2;
+        }
+        return 0;
+    }
+    if holder != TAG_FIELD {
+        return 0;
+    }
+    if k == TAG_ARGUMENT {
+        return 2;
+    }
+    0
+}
+
+fn rest_room(holder: u8) -> u32
+    ensures { λ r. ⌜ r ≡ restRoom holder ⌝ }
+{
+    if holder <= TAG_ROOTS {
+        return MOST_MEMBERS;
+    }
+    MOST_ARGUMENTS
+}
+
+// The field whose tag stands at `at` and whose content ends at `end`; fields stand in it `depth` deep at most.
+fn first_over(t: &[u8], at: usize, tag: u8, end: usize, depth: u32) -> Counted
+    requires { ⌜ Bounds (now t) (at + 3) end ⌝ }
+    ensures { λ r. ⌜ r ≡ toldOver (head? (overs depth at tag (slice (at + 3) end (now (t .entry))))) ⌝ }
+{
+    if depth == 0 {
+        return Counted::Within;
+    }
+    let h = content_of(tag);
+    let Holding::Fields {
+        first: _,
+        second: _,
+        from: _,
+        to: _,
+    } = h
+    else {
+        return leaf_over(t, at + 3, end, h);
+    };
+    let mut names = MOST_IMPLEMENTED;
+    let mut rest = rest_room(tag);
+    let mut i = at + 3;
+    while i < end {
+        let FieldRead::Field {
+            tag: k,
+            start: _,
+            end: e,
+        } = read_field(t, i, end)
+        else {
+            return Counted::Within;
+        };
+        let n = room_of(tag, k);
+        if names < n % 2 {
+            return Counted::Over(i as u32);
+        }
+        if rest < n / 2 {
+            return Counted::Over(i as u32);
+        }
+        let w = first_over(t, i, k, e, depth - 1);
+        let Counted::Within = w else {
+            return w;
+        };
+        names -= n % 2;
+        rest -= n / 2;
+        i = e;
+    }
+    Counted::Within
+}
+
+fn is_record(k: u8) -> u32
+    ensures { λ r. ⌜ r ≡ recordBy k ⌝ }
+{
+    if k < TAG_SCALAR {
+        return 0;
+    }
+    if k <= TAG_ROOTS {
+        return 1;
+    }
+    0
+}
+
+// A record, a field of it, its argument, its name.
+const MOST_DEEP: u32 = 4;
+
+// Refusal 8: the first over a size.
+pub fn over(t: &[u8]) -> Counted
+    requires { ⌜ length (now t) ≤ mostTable ⌝ }
+    ensures { λ r. ⌜ r ≡ toldOver (counts (now (t .entry))) ⌝ }
+{
+    let mut left = MOST_RECORDS;
+    let mut i = 0;
+    while i < t.len() {
+        let FieldRead::Field {
+            tag: k,
+            start: _,
+            end: e,
+        } = read_field(t, i, t.len())
+        else {
+            return Counted::Within;
+        };
+        let n = is_record(k);
+        if left < n {
+            return Counted::Over(i as u32);
+        }
+        let w = first_over(t, i, k, e, MOST_DEEP);
+        let Counted::Within = w else {
+            return w;
+        };
+        left -= n;
+        i = e;
+    }
+    Counted::Within
+}

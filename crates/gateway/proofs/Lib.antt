@@ -1,0 +1,3 @@
+-- Laws that the proofs of the calls cite.
+pub mod BufferLaws
+pub mod ParsedLaws

@@ -1,0 +1,7 @@
+pub mod MovedLaws
+pub mod StackSteps
+pub mod LeafLaws
+pub mod VariableLaws
+pub mod NestLaws
+pub mod NestParts
+pub mod EntryLaws

@@ -1,0 +1,5 @@
+pub mod CountedLaws
+pub mod DefaultLaws
+pub mod HeadLaws
+pub mod VariableLaws
+pub mod VariablesLaws

@@ -1,0 +1,76 @@
+/* The host: a program that calls the gateway core.
+
+     gateway parse FILE     prints the rows of a document, or why it is refused and where
+
+   FILE may be - for standard input. Ends with status 0 (accepted), 1 (refused) or 2 (bad usage, or no such file). */
+#include "gateway.h"
+#include "show.h"
+
+#include <stdio.h>
+#include <string.h>
+
+enum { ACCEPTED = 0, REFUSED = 1, TROUBLE = 2 };
+
+/* One byte more than a document may have: the library refuses what is longer. */
+static uint8_t document_bytes[GW_MOST_TEXT + 1];
+static uint32_t rows[GW_ROWS_SIZE];
+
+/* Reads the beginning of a file, as far as there is room. */
+static int read_text(const char *path, uint8_t *room, size_t size, struct text *text) {
+    int standard = strcmp(path, "-") == 0;
+    FILE *file = standard ? stdin : fopen(path, "rb");
+    if (!file) {
+        perror(path);
+        return 0;
+    }
+    *text = (struct text){standard ? "standard input" : path, room, fread(room, 1, size, file)};
+    int good = !ferror(file);
+    if (!good)
+        perror(path);
+    if (!standard)
+        fclose(file);
+    return good;
+}
+
+static int run_parse(char **words) {
+    struct text document;
+    uint32_t report[GW_REPORT_SIZE];
+    if (!read_text(words[0], document_bytes, sizeof document_bytes, &document))
+        return TROUBLE;
+    uint32_t answer = gw_parse(document.bytes, document.length, rows, GW_ROWS_SIZE, report, GW_REPORT_SIZE);
+    if (answer != GW_ACCEPTED) {
+        show_refusal(&document, report);
+        return REFUSED;
+    }
+    show_rows(&document, rows, report[1]);
+    return ACCEPTED;
+}
+
+static const struct command {
+    const char *name;
+    int words;
+    const char *usage;
+    int (*run)(char **words);
+} commands[] = {
+    {"parse", 1, "parse FILE", run_parse},
+};
+
+enum { COMMANDS = sizeof commands / sizeof *commands };
+
+static int usage(void) {
+    for (int i = 0; i < COMMANDS; i++)
+        fprintf(stderr, "%s gateway %s\n", i ? "      " : "usage:", commands[i].usage);
+    return TROUBLE;
+}
+
+int main(int argc, char **argv) {
+    for (int i = 0; i < COMMANDS; i++)
+        if (argc == commands[i].words + 2 && strcmp(argv[1], commands[i].name) == 0) {
+            int status = commands[i].run(argv + 2);
+            if (fflush(stdout) == 0 && !ferror(stdout))
+                return status;
+            perror("standard output");
+            return TROUBLE;
+        }
+    return usage();
+}

@@ -1,0 +1,19 @@
+/* Memory between two pages that trap: a read or write beside a buffer ends the program. */
+#ifndef GUARD_H
+#define GUARD_H
+
+#include <stddef.h>
+#include <stdint.h>
+
+struct guarded {
+    uint8_t *first;
+    size_t bytes; /* whole pages */
+};
+
+struct guarded guard_map(size_t bytes);
+
+/* A block of that many bytes right above the lower trap, or right below the upper one. */
+void *guard_low(struct guarded g, size_t bytes);
+void *guard_high(struct guarded g, size_t bytes);
+
+#endif

@@ -1,0 +1,32 @@
+#!/usr/bin/env python3
+"""Holds include/gateway.h to crates/paper/src/lib.rt: each number of the one is in the other, with GW_ before its name.
+
+The header alone names the columns of a row and the stack of a call.
+"""
+import pathlib
+import re
+import sys
+
+ROOT = pathlib.Path(__file__).resolve().parent.parent
+COLUMNS = 'ROW_KIND ROW_START ROW_END ROW_PARENT ROW_NAME_START ROW_NAME_LENGTH ROW_EXTRA'.split()
+
+
+def numbers(path, pattern):
+    return {name: int(value) for name, value in re.findall(pattern, (ROOT / path).read_text(), re.M)}
+
+
+def main():
+    code = numbers('crates/paper/src/lib.rt', r'^pub const (\w+): \w+ = (\d+);')
+    header = numbers('include/gateway.h', r'^#define GW_(\w+) (\d+)\b')
+    header.pop('PARSE_STACK')
+    columns = {name: header.pop(name, None) for name in COLUMNS if name not in code}
+    wrong = sorted(name for name in code.keys() | header.keys() if code.get(name) != header.get(name))
+    wrong += [name for i, name in enumerate(COLUMNS) if columns.get(name, i) != i]
+    for name in wrong:
+        print(f'header: {name} is {code.get(name)} in lib.rt and {header.get(name)} in gateway.h', file=sys.stderr)
+    print(f'header: {len(code)} numbers compared, {len(wrong)} differ')
+    return 1 if wrong or not code else 0
+
+
+if __name__ == '__main__':
+    sys.exit(main())
