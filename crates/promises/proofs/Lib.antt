@@ -1,0 +1,5 @@
+pub mod Walking
+pub mod SlimLaws
+pub mod ArgumentLaws
+pub mod AskedLaws
+pub mod MeantLaws
