@@ -1,11 +1,11 @@
 -- The entries of a book, one by one; a book that keeps its entries has the same ones.
 use mathlib.Core.Path.{_≡_, refl, sym, ap, _∙_}
-use mathlib.Core.List.{List, [], _∷_}
+use mathlib.Core.List.{List}
 use Prim.Native.Nat.{ℕ, zero, suc, _+_, _<_, _≤_}
 use native.Mathlib.Nat.{add-zero}
 use native.Mathlib.Omega.{arith}
 use lib.ListN.{length, getD}
-use Rattle.index.specs.Book.{Key, noKey, part, room, cellName, cellSize, cellCount, cellNext, countIn, keyAt, keysFrom, keysOf, Held, Kept}
+use Rattle.index.specs.Book.{noKey, room, cellName, cellSize, cellCount, countIn, keyAt, keysFrom, keysOf, Held, Kept}
 
 length-from : (t book : List ℕ) (j n : ℕ) → length (keysFrom t book j n) ≡ n
 unfolding keysFrom

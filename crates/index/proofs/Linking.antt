@@ -4,7 +4,7 @@ use mathlib.Core.List.{List}
 use Prim.Native.Nat.{ℕ, suc, _+_, _-_, _<_, _≤_}
 use native.Mathlib.Omega.{arith}
 use lib.ListN.{length, getD}
-use Rattle.index.specs.Book.{Key, noKey, part, room, cellName, cellSize, countIn, keyAt, keysOf, Held, hashOf, Chains, Kept, Cleared, Linked}
+use Rattle.index.specs.Book.{Key, noKey, part, room, cellName, cellSize, countIn, keysOf, Held, hashOf, Chains, Kept, Cleared, Linked}
 use Rattle.index.proofs.Keys.{keys-count, keys-at, keys-kept, held-kept, count-kept}
 use Rattle.index.proofs.Chained.{chains-none, chains-more, putFirst, put-kept}
 

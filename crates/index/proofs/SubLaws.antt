@@ -1,11 +1,10 @@
 -- The sub-type test on wrappers, one law for each way that it ends or goes on.
 use mathlib.Core.Path.{_≡_, refl, sym, ap, _∙_}
 use mathlib.Core.Bool.{Bool, true, false, _&&_, _||_, false≢true}
-use mathlib.Core.List.{List, [], _∷_}
-use Prim.Native.Nat.{ℕ, zero, suc, _+_, _-_, _*_, _%_, _/_, _<_, _≤_}
+use Prim.Native.Nat.{ℕ, _+_, _*_, _%_, _/_}
 use native.Mathlib.Omega.{arith}
 use lib.Dec.{eqb}
-use borrow.Author.Tests.{eq-eqb, ne-eqb, eqb-true, eqb-false}
+use borrow.Author.Tests.{eq-eqb, eqb-true}
 use Rattle.paper.specs.Tokens.{same}
 use Rattle.paper_types.specs.References.{Ref, named, listOf, nonNull, baseOf, sameRef}
 use Rattle.paper_types.specs.SubTypes.{subTest}

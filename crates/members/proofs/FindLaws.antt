@@ -1,13 +1,12 @@
 -- The first member, or argument, of a name; an implemented name.
 use mathlib.Core.Path.{_≡_, refl, sym, ap, _∙_}
-use mathlib.Core.Bool.{Bool, true, false, _||_, cond}
-use mathlib.Core.Option.{Option, none, some}
+use mathlib.Core.Bool.{Bool, true, false}
+use mathlib.Core.Option.{none, some}
 use mathlib.Core.List.{List, [], _∷_}
-use Prim.Native.Nat.{ℕ, _+_, _≤_, _<_}
+use Prim.Native.Nat.{ℕ, _≤_, _<_}
 use native.Mathlib.Omega.{arith}
 use Rattle.paper_types.specs.Lists.{anyOf, find}
-use Rattle.members.specs.Members.{Lies, First, Finds}
-use Rattle.members.proofs.MemberLaws.{Walked}
+use Rattle.members.specs.Members.{First, Finds}
 
 find-nil : {A : Type 0} (p : A → Bool) → find p [] ≡ none
 unfolding find

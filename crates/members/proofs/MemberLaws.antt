@@ -1,5 +1,5 @@
 -- A record's members, field by field.
-use mathlib.Core.Path.{_≡_, refl, sym, ap, subst, _∙_}
+use mathlib.Core.Path.{_≡_, refl, sym, ap, _∙_}
 use mathlib.Core.Bool.{Bool, true, false, _||_, cond, false≢true}
 use mathlib.Core.List.{List, [], _∷_, _++_}
 use Prim.Native.Nat.{ℕ, _+_, _≤_, _<_}
@@ -15,7 +15,7 @@ use Rattle.paper_types.specs.Types.{Member, fieldIn, inputIn, nameOnly, memberO
 use Rattle.fields.specs.Fields.{fieldAt}
 use Rattle.fields.specs.declared.FieldRead.the-variants.{Field, Cut}
 use Rattle.fields.proofs.FieldLaws.{field-lies}
-use Rattle.members.specs.Members.{fieldsIn, membersIn, fieldFrom, inputFrom, memberFrom, isMember, Lies, First}
+use Rattle.members.specs.Members.{membersIn, fieldFrom, inputFrom, memberFrom, isMember, First}
 use Rattle.members.proofs.GatherLaws.{gather-none, gather-torn, gather-field}
 
 pub member-cut : (at : ℕ) → memberOf (cut at) ≡ []

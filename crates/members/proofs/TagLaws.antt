@@ -1,22 +1,22 @@
 -- The fields of one tag in a content, field by field; what is taken from them.
 use mathlib.Core.Path.{_≡_, refl, sym, ap, _∙_}
-use mathlib.Core.Bool.{Bool, true, false, cond, false≢true}
+use mathlib.Core.Bool.{Bool, true, false, cond}
 use mathlib.Core.List.{List, [], _∷_, _++_}
 use Prim.Native.Nat.{ℕ, zero, suc, _+_, _-_, _≤_, _<_}
 use native.Mathlib.Omega.{arith}
 use lib.ListN.{length, take, drop}
 use lib.Seq.{slice}
 use lib.Dec.{eqb}
-use borrow.Author.Tests.{eq-eqb, ne-eqb, eqb-true}
+use borrow.Author.Tests.{eq-eqb, ne-eqb}
 use Rattle.paper_types.specs.TableNumbers.{tagName, tagImplements, tagArgument}
-use Rattle.paper_types.specs.Lists.{gather, onlyIf}
-use Rattle.paper_types.specs.House.{Piece, piece, cut, pieces, inside}
-use Rattle.paper_types.specs.Types.{Argument, textOf, nameIn, argumentOf, implementedOf}
+use Rattle.paper_types.specs.Lists.{gather}
+use Rattle.paper_types.specs.House.{Piece, piece, cut}
+use Rattle.paper_types.specs.Types.{textOf, nameIn, argumentOf, implementedOf}
 use Rattle.fields.specs.Fields.{fieldAt}
 use Rattle.fields.specs.declared.FieldRead.the-variants.{Field, Cut}
-use Rattle.fields.proofs.FieldLaws.{pieces-read, pieces-torn, pieces-none, field-lies, slice-none}
+use Rattle.fields.proofs.FieldLaws.{pieces-read, pieces-torn, pieces-none, field-lies}
 use Rattle.index.specs.Book.{part}
-use Rattle.members.specs.Members.{fieldsIn, argumentsIn, implementedIn, argumentFrom, fromTag, Lies, First, NextTag, NextArgument, NextImplemented, Named}
+use Rattle.members.specs.Members.{fieldsIn, implementedIn, fromTag, First, NextTag, NextArgument, NextImplemented, Named}
 use Rattle.members.specs.declared.FieldFound.{FieldFound}
 use Rattle.members.specs.declared.FieldFound.the-variants.{Found, Nothing}
 use Rattle.members.proofs.GatherLaws.{gather-nil, gather-cons}

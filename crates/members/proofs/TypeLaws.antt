@@ -1,9 +1,9 @@
 -- The type in a content, by the text of its reference; its wrappers as a number.
 use mathlib.Core.Path.{_≡_, refl, sym, ap, _∙_}
 use mathlib.Core.Bool.{Bool, true, false, _&&_, false≢true}
-use mathlib.Core.Option.{Option, none, some}
+use mathlib.Core.Option.{none}
 use mathlib.Core.List.{List, []}
-use Prim.Native.Nat.{ℕ, zero, suc, _+_, _-_, _*_, _%_, _≤_, _<_}
+use Prim.Native.Nat.{ℕ, zero, suc, _-_, _*_, _%_, _≤_, _<_}
 use native.Mathlib.Omega.{arith}
 use lib.ListN.{length}
 use lib.Seq.{slice}
@@ -13,7 +13,7 @@ use Rattle.paper.specs.Tokens.{same}
 use Rattle.paper.specs.Numbers.{mostWrappers}
 use Rattle.paper_types.specs.TableNumbers.{tagReference}
 use Rattle.paper_types.specs.References.{Ref, named, listOf, nonNull, baseOf, isNonNull, sameRef, refOf}
-use Rattle.paper_types.specs.Types.{orNone, typeIn, textOf}
+use Rattle.paper_types.specs.Types.{orNone, typeIn}
 use Rattle.fields.specs.Fields.{Finds}
 use Rattle.fields.specs.Wrappers.{packOf, packLimit, isMarked, wrapperCount, Refers}
 use Rattle.index.specs.Book.{part}

@@ -1,16 +1,15 @@
 -- What stands in a content of a table, by its places: the members of a record, the arguments of a member, the names a record implements.
 -- Assumes nothing.
 use mathlib.Core.Path.{_≡_}
-use mathlib.Core.Bool.{Bool, true, false, _||_, cond}
+use mathlib.Core.Bool.{Bool, _||_, cond}
 use mathlib.Core.Option.{Option, none, some}
 use mathlib.Core.List.{List, [], _∷_}
 use Prim.Native.Nat.{ℕ, _+_, _-_, _%_, _≤_}
 use lib.ListN.{length}
 use lib.Seq.{slice}
 use lib.Dec.{leb, eqb}
-use Rattle.paper.specs.Tokens.{same}
 use Rattle.paper_types.specs.TableNumbers.{tagField, tagArgument, tagUnionMember}
-use Rattle.paper_types.specs.Lists.{anyOf, find, gather}
+use Rattle.paper_types.specs.Lists.{find, gather}
 use Rattle.paper_types.specs.References.{Ref, baseOf}
 use Rattle.paper_types.specs.House.{Piece, piece, cut, pieces}
 use Rattle.paper_types.specs.Types.{Argument, Member, Definition, nameIn, typeIn, nameOnly, argumentOf, memberOf, implementedOf}

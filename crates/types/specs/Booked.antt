@@ -1,14 +1,15 @@
 -- The book of a table: what its numbers say of the table's definitions; what is asked of it.
 -- Assumes nothing.
 use mathlib.Core.Path.{_≡_}
-use mathlib.Core.Bool.{Bool}
+use mathlib.Core.Bool.{Bool, cond}
 use mathlib.Core.List.{List, map}
 use Prim.Native.Nat.{ℕ, _+_, _≤_, _<_}
 use lib.ListN.{length, getD}
+use lib.Dec.{ltb}
 use Rattle.paper.specs.Numbers.{mostWrappers}
-use Rattle.paper_types.specs.TableNumbers.{mostTable}
+use Rattle.paper_types.specs.TableNumbers.{mostTable, tagScalar}
 use Rattle.paper_types.specs.References.{Ref}
-use Rattle.paper_types.specs.Types.{Definition, tableOf, blank, tagNothing, Meaning, builtIn, nothing, definition, canBe}
+use Rattle.paper_types.specs.Types.{Definition, tableOf, blank, tagNothing, Meaning, builtIn, nothing, definition, meant, canBe}
 use Rattle.paper_types.specs.SubTypes.{subTest}
 use Rattle.fields.specs.Wrappers.{wrapperCount}
 use Rattle.index.specs.Book.{Key, key, part, room, cellName, cellSize, cellStart, cellEnd, bookSize, countIn, keysOf, Indexed}
@@ -87,6 +88,15 @@ abbrev pub spoken : Meaning → Meant
 spoken builtIn = BuiltIn
 spoken nothing = Nothing
 spoken (definition i) = Defined i
+
+-- entry i's kind, 0 if there is no such entry
+abbrev pub kindIn : List ℕ → ℕ → ℕ
+kindIn book i = cond (ltb i (countIn book)) (getD book i 0) tagNothing
+
+-- i is the number of the definition that the name n means; if there is no such entry it means a built-in scalar or nothing
+pub record NumberMeant (t book n : List ℕ) (i : ℕ) : Type 0 where
+  pub is : i < countIn book → meant (tableOf t) n ≡ definitionOn t i
+  pub none : countIn book ≤ i → meant (tableOf t) n .tag ≤ tagScalar
 
 -- q answers whether the first reference is a sub-type of the second, of two with at most seven wrappers
 abbrev pub SubTyped : List ℕ → ℕ → ℕ → ℕ → ℕ → ℕ → ℕ → Bool → Type 0

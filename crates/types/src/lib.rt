@@ -19,7 +19,7 @@ ghost use Rattle.paper_types.specs.Rules.{memberNamed};
 ghost use Rattle.fields.specs.Fields.{Bounds};
 ghost use Rattle.index.specs.Book.{part, room, bookSize, countIn};
 ghost use Rattle.members.specs.Members.{membersIn};
-ghost use Rattle.types.specs.Booked.{Booked, Bookable, Recorded, Put, Entering, spoken, SubTyped};
+ghost use Rattle.types.specs.Booked.{Booked, Bookable, Recorded, Put, Entering, NumberMeant, kindIn, spoken, SubTyped};
 
 // What a name means: a built-in scalar, the type that is the table's definition of a number, or nothing.
 pub enum Meant {
@@ -29,7 +29,7 @@ pub enum Meant {
 }
 
 // Writes entry i.
-fn put_entry(book: &mut [u32], i: usize, tag: u8, name: usize, size: usize, start: usize, end: usize)
+pub fn put_entry(book: &mut [u32], i: usize, tag: u8, name: usize, size: usize, start: usize, end: usize)
     requires { ⌜ (length (now book) ≡ bookSize) × (i < room) × (name ≤ mostTable) × (size ≤ mostTable) × (start ≤ mostTable) × (end ≤ mostTable) ⌝ }
     ensures { λ _. ⌜ Put (now (book .entry)) (now (book .exit)) i tag name size start end ⌝ }
 {
@@ -171,21 +171,39 @@ pub fn has_member(t: &[u8], start: usize, end: usize, s: &[u8], at: usize, n: us
     true
 }
 
+// Entry i's kind; 0 if there is no such entry.
+pub fn kind_in(book: &[u32], i: usize) -> u32
+    requires { ⌜ (length (now book) ≡ bookSize) × (countIn (now book) ≤ room) ⌝ }
+    ensures { λ r. ⌜ r ≡ kindIn (now (book .entry)) i ⌝ }
+{
+    if i < index::count_of(book) {
+        return index::kind_of(book, i);
+    }
+    NO_TYPE
+}
+
+// The number of the definition that a name means; one past the last if it is none of the table's.
+pub fn number_meant(t: &[u8], book: &[u32], s: &[u8], at: usize, n: usize) -> usize
+    requires { ⌜ Booked (now t) (now book) × (at + n ≤ length (now s)) ⌝ }
+    ensures { λ r. ⌜ NumberMeant (now (t .entry)) (now (book .entry)) (part (now (s .entry)) at n) r ⌝ }
+{
+    if is_built_in(s, at, n) {
+        return index::count_of(book);
+    }
+    first_type(t, book, s, at, n)
+}
+
 // Can the interface or union of the name at `a` be the object of the name at `o`?
 pub fn can_be(t: &[u8], book: &[u32], s: &[u8], a: usize, an: usize, o: usize, on: usize) -> bool
     requires { ⌜ Booked (now t) (now book) × (a + an ≤ length (now s)) × (o + on ≤ length (now s)) ⌝ }
     ensures { λ r. ⌜ r ≡ canBe (tableOf (now (t .entry))) (part (now (s .entry)) a an) (part (now (s .entry)) o on) ⌝ }
 {
-    let Meant::Definition(i) = meaning_of(t, book, s, o, on) else {
-        return false;
-    };
-    if index::kind_of(book, i) != OBJECT {
+    let i = number_meant(t, book, s, o, on);
+    if kind_in(book, i) != OBJECT {
         return false;
     }
-    let Meant::Definition(j) = meaning_of(t, book, s, a, an) else {
-        return false;
-    };
-    let kind = index::kind_of(book, j);
+    let j = number_meant(t, book, s, a, an);
+    let kind = kind_in(book, j);
     if kind == INTERFACE {
         return members::implements(t, index::start_of(book, i), index::end_of(book, i), s, a, an);
     }

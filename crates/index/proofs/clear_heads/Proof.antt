@@ -1,13 +1,11 @@
-use mathlib.Core.Path.{_≡_, refl, sym, _∙_}
-use Prim.Native.Nat.{_+_, _-_, _<_, _≤_}
+use mathlib.Core.Path.{_≡_, refl}
+use Prim.Native.Nat.{_-_}
 use native.Mathlib.Omega.{arith}
-use Rattle.index.specs.Book.{room, countIn, Cleared}
+use Rattle.index.specs.Book.{room, countIn}
 use Rattle.index.proofs.Chained.{HeadsTo, heads-none, heads-more, heads-all}
 use borrow.Author.Needs.{needs}
 use Rattle.index.proofs.clear_heads.Statement.{statement}
 use Rattle.index.proofs.clear_heads.Tie as tie
-use Rattle.index.proofs.clear_heads.Reads as reads
-use Rattle.index.proofs.clear_heads.Lts as lts
 
 abbrev Inv-loop : tie.InvT-loop
 Inv-loop book₀ count h₀ book h = HeadsTo book₀ book h × (count ≡ countIn book₀)

@@ -1,8 +1,6 @@
 use borrow.Author.Needs.{needs}
 use Rattle.index.proofs.equal_refs.Statement.{statement}
 use Rattle.index.proofs.equal_refs.Tie as tie
-use Rattle.index.proofs.equal_refs.Reads as reads
-use Rattle.index.proofs.equal_refs.Lts as lts
 
 returns : tie.Need-returns
 returns c = rw (c .if1 .taken)

@@ -1,4 +1,4 @@
-use mathlib.Core.Path.{_≡_, sym, _∙_}
+use mathlib.Core.Path.{sym, _∙_}
 use Prim.Native.Nat.{_-_, _≤_, _<_}
 use native.Mathlib.Omega.{arith}
 use Rattle.index.specs.Book.{part, keysOf, countIn}
@@ -7,13 +7,6 @@ use Rattle.index.proofs.Search.{search-start, search-less, search-more,
 use borrow.Author.Needs.{needs}
 use Rattle.index.proofs.find_key.Statement.{statement}
 use Rattle.index.proofs.find_key.Tie as tie
-use Rattle.index.proofs.find_key.Reads as reads
-use Rattle.index.proofs.find_key.Lts as lts
-use Rattle.index.proofs.count_of.Reads as count-of-reads
-use Rattle.index.proofs.hash.Reads as hash-reads
-use Rattle.index.proofs.head_of.Reads as head-of-reads
-use Rattle.index.proofs.is_keyed.Reads as is-keyed-reads
-use Rattle.index.proofs.next_of.Reads as next-of-reads
 
 abbrev Inv-loop : tie.InvT-loop
 Inv-loop t book low high s at n count h k₀ k = Sought (keysOf t book) low high (part s at n) h k × (k ≤ countIn book)

@@ -1,4 +1,4 @@
-use mathlib.Core.Path.{_≡_, sym, ap, _∙_}
+use mathlib.Core.Path.{_∙_}
 use Prim.Native.Nat.{_+_}
 use native.Mathlib.Omega.{arith}
 use lib.ListN.{getD}
@@ -8,12 +8,6 @@ use Rattle.index.proofs.KeyLaws.{kind-below, kind-above, kind-between}
 use borrow.Author.Needs.{needs}
 use Rattle.index.proofs.is_keyed.Statement.{statement}
 use Rattle.index.proofs.is_keyed.Tie as tie
-use Rattle.index.proofs.is_keyed.Reads as reads
-use Rattle.index.proofs.is_keyed.Lts as lts
-use Rattle.index.proofs.is_text.Reads as is-text-reads
-use Rattle.index.proofs.kind_of.Reads as kind-of-reads
-use Rattle.index.proofs.name_of.Reads as name-of-reads
-use Rattle.index.proofs.size_of.Reads as size-of-reads
 
 kind-of-requires : tie.Need-kind-of-requires
 kind-of-requires c κs = search needs

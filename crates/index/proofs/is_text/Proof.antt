@@ -1,10 +1,9 @@
-use mathlib.Core.Path.{_≡_, sym, _∙_}
+use mathlib.Core.Path.{sym, _∙_}
 use Rattle.index.specs.Book.{part}
 use Rattle.index.proofs.Texts.{same-lengths, length-part}
 use borrow.Author.Needs.{needs}
 use Rattle.index.proofs.is_text.Statement.{statement}
 use Rattle.index.proofs.is_text.Tie as tie
-use Rattle.index.proofs.same_text.Reads as same-text-reads
 
 returns : tie.Need-returns
 returns c =

@@ -4,14 +4,6 @@ use mathlib.Core.Path.{_∙_}
 use Rattle.index.proofs.Linking.{Linking, linking-start, linking-room, linking-cells, linking-within, linking-more, linking-end}
 use Rattle.index.proofs.link.Statement.{statement}
 use Rattle.index.proofs.link.Tie as tie
-use Rattle.index.proofs.link.Reads as reads
-use Rattle.index.proofs.link.Lts as lts
-use Rattle.index.proofs.clear_heads.Reads as clear-heads-reads
-use Rattle.index.proofs.count_of.Reads as count-of-reads
-use Rattle.index.proofs.hash.Reads as hash-reads
-use Rattle.index.proofs.name_of.Reads as name-of-reads
-use Rattle.index.proofs.put_first.Reads as put-first-reads
-use Rattle.index.proofs.size_of.Reads as size-of-reads
 
 abbrev Inv-loop : tie.InvT-loop
 Inv-loop t book₀ j₀ book j = Linking t book₀ book j

@@ -5,8 +5,6 @@ use Rattle.index.specs.Book.{cellNext, cellHead}
 use borrow.Author.Needs.{needs}
 use Rattle.index.proofs.put_first.Statement.{statement}
 use Rattle.index.proofs.put_first.Tie as tie
-use Rattle.index.proofs.put_first.Reads as reads
-use Rattle.index.proofs.put_first.Lts as lts
 
 add-book : tie.Need-add-book
 add-book c = search needs

@@ -1,19 +1,15 @@
 use borrow.Author.Needs.{needs}
-use mathlib.Core.Path.{_≡_, sym, ap, subst, _∙_}
+use mathlib.Core.Path.{sym, subst, _∙_}
 use Prim.Native.Nat.{_-_}
 use native.Mathlib.Omega.{arith}
 use Rattle.paper_types.specs.Lists.{find}
 use Rattle.paper_types.specs.Rules.{argumentNamed}
 use Rattle.index.specs.Book.{part}
-use Rattle.members.specs.Members.{argumentsIn, argumentFrom, NextArgument}
+use Rattle.members.specs.Members.{argumentsIn, NextArgument}
 use Rattle.members.specs.declared.FieldFound.the-variants.{Found}
-use Rattle.members.proofs.FindLaws.{Sought, sought-start, find-none, find-found, find-more, first-moves}
+use Rattle.members.proofs.FindLaws.{Sought, sought-start, find-none, find-found, find-more}
 use Rattle.members.proofs.find_argument.Statement.{statement}
 use Rattle.members.proofs.find_argument.Tie as tie
-use Rattle.members.proofs.find_argument.Reads as reads
-use Rattle.members.proofs.find_argument.Lts as lts
-use Rattle.members.proofs.is_named.Reads as is-named-reads
-use Rattle.members.proofs.next_argument.Reads as next-argument-reads
 
 abbrev Inv-loop : tie.InvT-loop
 Inv-loop t from end s at n i₀ i = Sought from end i (find (argumentNamed (part s at n)) (argumentsIn t from end)) (find (argumentNamed (part s at n)) (argumentsIn t i end))
@@ -25,7 +21,6 @@ found : (c : tie.After-tag Inv-loop μ-loop)
     → NextArgument (c .before .before .before .before .before .before .args .t .now) (c .before .before .before .loop .i) (c .before .before .before .before .before .before .args .end) (Found (c .tag .given .0 .0) (c .tag .given .0 .1 .0) (c .tag .given .0 .1 .1 .0))
 found c =
     subst (NextArgument (c .before .before .before .before .before .before .args .t .now) (c .before .before .before .loop .i) (c .before .before .before .before .before .before .args .end)) (c .tag .given .1) (c .before .before .next-argument .ensures)
-
 
 loop-holds : tie.Need-loop-holds Inv-loop μ-loop
 loop-holds c = sought-start _ _ _ (c .before .before .pre .0 .order)

@@ -1,19 +1,15 @@
 use borrow.Author.Needs.{needs}
-use mathlib.Core.Path.{_≡_, sym, ap, subst, _∙_}
+use mathlib.Core.Path.{sym, subst, _∙_}
 use Prim.Native.Nat.{_-_}
 use native.Mathlib.Omega.{arith}
 use Rattle.paper_types.specs.Lists.{find}
 use Rattle.paper_types.specs.Rules.{memberNamed}
 use Rattle.index.specs.Book.{part}
-use Rattle.members.specs.Members.{membersIn, memberFrom, NextMember}
+use Rattle.members.specs.Members.{membersIn, NextMember}
 use Rattle.members.specs.declared.FieldFound.the-variants.{Found}
-use Rattle.members.proofs.FindLaws.{Sought, sought-start, find-none, find-found, find-more, first-moves}
+use Rattle.members.proofs.FindLaws.{Sought, sought-start, find-none, find-found, find-more}
 use Rattle.members.proofs.find_member.Statement.{statement}
 use Rattle.members.proofs.find_member.Tie as tie
-use Rattle.members.proofs.find_member.Reads as reads
-use Rattle.members.proofs.find_member.Lts as lts
-use Rattle.members.proofs.is_member_named.Reads as is-member-named-reads
-use Rattle.members.proofs.next_member.Reads as next-member-reads
 
 abbrev Inv-loop : tie.InvT-loop
 Inv-loop t from end s at n i₀ i = Sought from end i (find (memberNamed (part s at n)) (membersIn t from end)) (find (memberNamed (part s at n)) (membersIn t i end))
@@ -25,7 +21,6 @@ found : (c : tie.After-tag Inv-loop μ-loop)
     → NextMember (c .before .before .before .before .before .before .args .t .now) (c .before .before .before .loop .i) (c .before .before .before .before .before .before .args .end) (Found (c .tag .given .0 .0) (c .tag .given .0 .1 .0) (c .tag .given .0 .1 .1 .0))
 found c =
     subst (NextMember (c .before .before .before .before .before .before .args .t .now) (c .before .before .before .loop .i) (c .before .before .before .before .before .before .args .end)) (c .tag .given .1) (c .before .before .next-member .ensures)
-
 
 loop-holds : tie.Need-loop-holds Inv-loop μ-loop
 loop-holds c = sought-start _ _ _ (c .before .before .pre .0 .order)

@@ -1,5 +1,5 @@
 use borrow.Author.Needs.{needs}
-use mathlib.Core.Path.{_≡_, sym, ap, subst, _∙_}
+use mathlib.Core.Path.{sym, subst, _∙_}
 use Prim.Native.Nat.{_-_}
 use native.Mathlib.Omega.{arith}
 use Rattle.paper.specs.Tokens.{same}
@@ -10,10 +10,6 @@ use Rattle.members.specs.declared.FieldFound.the-variants.{Found}
 use Rattle.members.proofs.FindLaws.{Sought, sought-start, any-none, any-found, any-more}
 use Rattle.members.proofs.implements.Statement.{statement}
 use Rattle.members.proofs.implements.Tie as tie
-use Rattle.members.proofs.implements.Reads as reads
-use Rattle.members.proofs.implements.Lts as lts
-use Rattle.index.proofs.is_text.Reads as is-text-reads
-use Rattle.members.proofs.next_implemented.Reads as next-implemented-reads
 
 abbrev Inv-loop : tie.InvT-loop
 Inv-loop t from end s at n i₀ i = Sought from end i (anyOf (same (part s at n)) (implementedIn t from end)) (anyOf (same (part s at n)) (implementedIn t i end))
@@ -25,7 +21,6 @@ found : (c : tie.After-start Inv-loop μ-loop)
     → NextImplemented (c .before .before .before .before .before .before .args .t .now) (c .before .before .before .loop .i) (c .before .before .before .before .before .before .args .end) (Found (c .start .given .0 .0) (c .start .given .0 .1 .0) (c .start .given .0 .1 .1 .0))
 found c =
     subst (NextImplemented (c .before .before .before .before .before .before .args .t .now) (c .before .before .before .loop .i) (c .before .before .before .before .before .before .args .end)) (c .start .given .1) (c .before .before .next-implemented .ensures)
-
 
 loop-holds : tie.Need-loop-holds Inv-loop μ-loop
 loop-holds c = sought-start _ _ _ (c .before .before .pre .0 .order)

@@ -1,8 +1,6 @@
 use borrow.Author.Tests.{eq-eqb, ne-eqb}
 use Rattle.members.proofs.is_member.Statement.{statement}
 use Rattle.members.proofs.is_member.Tie as tie
-use Rattle.members.proofs.is_member.Reads as reads
-use Rattle.members.proofs.is_member.Lts as lts
 
 returns : tie.Need-returns
 returns c = rw (eq-eqb _ _ (c .if1 .taken))

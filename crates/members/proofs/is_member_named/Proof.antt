@@ -1,4 +1,4 @@
-use mathlib.Core.Path.{_≡_, ap, _∙_}
+use mathlib.Core.Path.{ap, _∙_}
 use mathlib.Core.List.{List}
 use Prim.Native.Nat.{ℕ}
 use Rattle.paper.specs.Tokens.{same}
@@ -6,10 +6,6 @@ use Rattle.index.specs.Book.{part}
 use borrow.Author.Needs.{needs}
 use Rattle.members.proofs.is_member_named.Statement.{statement}
 use Rattle.members.proofs.is_member_named.Tie as tie
-use Rattle.members.proofs.is_member_named.Reads as reads
-use Rattle.members.proofs.is_member_named.Lts as lts
-use Rattle.index.proofs.is_text.Reads as is-text-reads
-use Rattle.members.proofs.member_name.Reads as member-name-reads
 
 member-name-requires : tie.Need-member-name-requires
 member-name-requires c κs = search needs

@@ -1,4 +1,4 @@
-use mathlib.Core.Path.{_≡_, ap, _∙_}
+use mathlib.Core.Path.{ap, _∙_}
 use mathlib.Core.List.{List}
 use Prim.Native.Nat.{ℕ}
 use Rattle.paper.specs.Tokens.{same}
@@ -6,10 +6,6 @@ use Rattle.index.specs.Book.{part}
 use borrow.Author.Needs.{needs}
 use Rattle.members.proofs.is_named.Statement.{statement}
 use Rattle.members.proofs.is_named.Tie as tie
-use Rattle.members.proofs.is_named.Reads as reads
-use Rattle.members.proofs.is_named.Lts as lts
-use Rattle.index.proofs.is_text.Reads as is-text-reads
-use Rattle.members.proofs.name_in.Reads as name-in-reads
 
 name-in-requires : tie.Need-name-in-requires
 name-in-requires c κs = search needs

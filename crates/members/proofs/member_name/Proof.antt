@@ -1,14 +1,9 @@
-use mathlib.Core.Path.{_≡_, sym, ap, _∙_}
 use native.Mathlib.Omega.{arith}
-use Rattle.paper_types.specs.Types.{Member}
 use Rattle.members.proofs.MemberLaws.{field-is, input-is, name-is}
 use Rattle.members.proofs.TagLaws.{part-slice}
 use borrow.Author.Needs.{needs}
 use Rattle.members.proofs.member_name.Statement.{statement}
 use Rattle.members.proofs.member_name.Tie as tie
-use Rattle.members.proofs.member_name.Reads as reads
-use Rattle.members.proofs.member_name.Lts as lts
-use Rattle.members.proofs.name_in.Reads as name-in-reads
 
 name-in-requires : tie.Need-name-in-requires
 name-in-requires c κs = search needs

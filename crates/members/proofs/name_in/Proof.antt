@@ -6,15 +6,11 @@ use Rattle.members.proofs.TagLaws.{name-found, name-none}
 use borrow.Author.Needs.{needs}
 use Rattle.members.proofs.name_in.Statement.{statement}
 use Rattle.members.proofs.name_in.Tie as tie
-use Rattle.members.proofs.name_in.Reads as reads
-use Rattle.members.proofs.name_in.Lts as lts
-use Rattle.members.proofs.next_tag.Reads as next-tag-reads
 
 found : (c : tie.After-f)
     → NextTag (c .before .before .before .before .args .t .now) (c .before .before .before .before .args .start) (c .before .before .before .before .args .end) tagName (Found (c .f .given .0 .0) (c .f .given .0 .1 .0) (c .f .given .0 .1 .1 .0))
 found c =
     subst (NextTag (c .before .before .before .before .args .t .now) (c .before .before .before .before .args .start) (c .before .before .before .before .args .end) tagName) (c .f .given .1) (c .before .before .next-tag .ensures)
-
 
 next-tag-requires : tie.Need-next-tag-requires
 next-tag-requires c κs = search needs

@@ -2,9 +2,6 @@ use Rattle.members.proofs.TagLaws.{next-implemented}
 use borrow.Author.Needs.{needs}
 use Rattle.members.proofs.next_implemented.Statement.{statement}
 use Rattle.members.proofs.next_implemented.Tie as tie
-use Rattle.members.proofs.next_implemented.Reads as reads
-use Rattle.members.proofs.next_implemented.Lts as lts
-use Rattle.members.proofs.next_tag.Reads as next-tag-reads
 
 next-tag-requires : tie.Need-next-tag-requires
 next-tag-requires c κs = search needs

@@ -1,15 +1,11 @@
 use borrow.Author.Needs.{needs}
-use mathlib.Core.Path.{_≡_, sym, _∙_}
+use mathlib.Core.Path.{sym, _∙_}
 use Prim.Native.Nat.{_-_}
 use native.Mathlib.Omega.{arith}
 use Rattle.members.specs.Members.{membersIn}
 use Rattle.members.proofs.MemberLaws.{Walked, walked-start, members-none, members-torn, members-here, members-on, field-moves}
 use Rattle.members.proofs.next_member.Statement.{statement}
 use Rattle.members.proofs.next_member.Tie as tie
-use Rattle.members.proofs.next_member.Reads as reads
-use Rattle.members.proofs.next_member.Lts as lts
-use Rattle.fields.proofs.read_field.Reads as read-field-reads
-use Rattle.members.proofs.is_member.Reads as is-member-reads
 
 abbrev Inv-loop : tie.InvT-loop
 Inv-loop t at end i₀ i = Walked at end i (membersIn t at end) (membersIn t i end)

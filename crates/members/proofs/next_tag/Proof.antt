@@ -1,5 +1,5 @@
 use borrow.Author.Needs.{needs}
-use mathlib.Core.Path.{_≡_, sym, _∙_}
+use mathlib.Core.Path.{sym, _∙_}
 use Prim.Native.Nat.{_-_}
 use native.Mathlib.Omega.{arith}
 use Rattle.members.specs.Members.{fieldsIn, fromTag}
@@ -7,9 +7,6 @@ use Rattle.members.proofs.MemberLaws.{Walked, walked-start}
 use Rattle.members.proofs.TagLaws.{tags-none, tags-torn, tags-here, tags-on, tags-move}
 use Rattle.members.proofs.next_tag.Statement.{statement}
 use Rattle.members.proofs.next_tag.Tie as tie
-use Rattle.members.proofs.next_tag.Reads as reads
-use Rattle.members.proofs.next_tag.Lts as lts
-use Rattle.fields.proofs.read_field.Reads as read-field-reads
 
 abbrev Inv-loop : tie.InvT-loop
 Inv-loop t at end tag i₀ i = Walked at end i (fromTag tag (fieldsIn t at end)) (fromTag tag (fieldsIn t i end))

@@ -4,16 +4,11 @@ use Rattle.members.proofs.TypeLaws.{type-found, type-none}
 use borrow.Author.Needs.{needs}
 use Rattle.members.proofs.type_in.Statement.{statement}
 use Rattle.members.proofs.type_in.Tie as tie
-use Rattle.members.proofs.type_in.Reads as reads
-use Rattle.members.proofs.type_in.Lts as lts
-use Rattle.fields.proofs.find_tag.Reads as find-tag-reads
-use Rattle.fields.proofs.read_reference.Reads as read-reference-reads
 
 found : (c : tie.After-from)
     → Refers (c .before .before .before .before .before .args .t .now) (c .before .before .before .find-tag .result .start) (c .before .before .before .find-tag .result .end) (c .from .given .0 .0) (c .from .given .0 .1 .0) (c .from .given .0 .1 .1 .0)
 found c =
     subst (RefersRead (c .before .before .before .before .before .args .t .now) (c .before .before .before .find-tag .result .start) (c .before .before .before .find-tag .result .end)) (c .from .given .1) (c .before .before .read-reference .ensures)
-
 
 find-tag-requires : tie.Need-find-tag-requires
 find-tag-requires c κs = search needs
