@@ -25,7 +25,8 @@ ghost use Rattle.places.specs.Placed.{placed};
 ghost use Rattle.fields.specs.Fields.{Bounds};
 ghost use Rattle.index.specs.Book.{part, countIn};
 ghost use Rattle.members.specs.Members.{membersIn, argumentsIn, implementedIn, memberFrom, argumentFrom, Typed};
-ghost use Rattle.types.specs.Booked.{Booked, definitionOn};
+ghost use Rattle.types.specs.Booked.{Booked, startIn, endIn, definitionOn};
+ghost use Rattle.listings.specs.Listed.{Listed};
 ghost use Rattle.promises.specs.Asked.{slimArgument, slimMember, Slim, ArgumentsFrom, failing, argumentsAsked, ownAsked, askedOf};
 
 // The type of the member with this tag and content.
@@ -151,13 +152,13 @@ fn own_place(t: &[u8], book: &[u32], rule: u32, member: u32, part: u32, tag: u8,
     first_wrong(t, rule, a, end, b, stop, member, part)
 }
 
-// The same, where the definition's members stand from `from` up to `stop`.
-fn field_place(t: &[u8], book: &[u32], rule: u32, member: u32, part: u32, tag: u8, start: usize, end: usize, from: usize, stop: usize) -> PlaceRead
-    requires { ⌜ Booked (now t) (now book) × Bounds (now t) start end × Bounds (now t) from stop × (slimMember (memberFrom (now t) tag start end) ≡ true) × (allOf slimMember (membersIn (now t) from stop) ≡ true) ⌝ }
+// The same, where the definition's members stand from `from` up to `stop`, and in the book `listed`.
+fn field_place(t: &[u8], book: &[u32], listed: &[u32], rule: u32, member: u32, part: u32, tag: u8, start: usize, end: usize, from: usize, stop: usize) -> PlaceRead
+    requires { ⌜ Booked (now t) (now book) × Bounds (now t) start end × Bounds (now t) from stop × (slimMember (memberFrom (now t) tag start end) ≡ true) × (allOf slimMember (membersIn (now t) from stop) ≡ true) × Listed (now t) (now listed) from stop ⌝ }
     ensures { λ r. ⌜ r ≡ placed (head? (askedOf rule (tableOf (now (t .entry))) (membersIn (now (t .entry)) from stop) member part (memberFrom (now (t .entry)) tag start end))) ⌝ }
 {
     let n = members::member_name(t, tag, start, end);
-    let FieldFound::Found { tag: own_tag, start: own, end: own_end } = members::find_member(t, from, stop, t, n.at, n.size) else {
+    let FieldFound::Found { tag: own_tag, start: own, end: own_end } = listings::find_listed(t, listed, from, stop, t, n.at, n.size) else {
         if rule == RULE_FIELD_MISSING {
             return PlaceRead::At { member: member, part: part, argument: NO_PLACE };
         }
@@ -167,8 +168,8 @@ fn field_place(t: &[u8], book: &[u32], rule: u32, member: u32, part: u32, tag: u
 }
 
 // The same, of the fields of the interface whose content stands from `at` up to `end`.
-fn interface_place(t: &[u8], book: &[u32], rule: u32, member: u32, at: usize, end: usize, from: usize, stop: usize) -> PlaceRead
-    requires { ⌜ Booked (now t) (now book) × Bounds (now t) at end × Bounds (now t) from stop × (allOf slimMember (membersIn (now t) at end) ≡ true) × (allOf slimMember (membersIn (now t) from stop) ≡ true) ⌝ }
+fn interface_place(t: &[u8], book: &[u32], listed: &[u32], rule: u32, member: u32, at: usize, end: usize, from: usize, stop: usize) -> PlaceRead
+    requires { ⌜ Booked (now t) (now book) × Bounds (now t) at end × Bounds (now t) from stop × (allOf slimMember (membersIn (now t) at end) ≡ true) × (allOf slimMember (membersIn (now t) from stop) ≡ true) × Listed (now t) (now listed) from stop ⌝ }
     ensures { λ r. ⌜ r ≡ placed (head? (each (askedOf rule (tableOf (now (t .entry))) (membersIn (now (t .entry)) from stop) member) (membersIn (now (t .entry)) at end))) ⌝ }
 {
     let mut i = at;
@@ -177,7 +178,7 @@ fn interface_place(t: &[u8], book: &[u32], rule: u32, member: u32, at: usize, en
         let FieldFound::Found { tag, start, end: to } = members::next_member(t, i, end) else {
             return PlaceRead::Kept;
         };
-        let r = field_place(t, book, rule, member, p, tag, start, to, from, stop);
+        let r = field_place(t, book, listed, rule, member, p, tag, start, to, from, stop);
         match r {
             PlaceRead::At { member: x, part: y, argument: z } => return PlaceRead::At { member: x, part: y, argument: z },
             PlaceRead::Kept => {
@@ -191,20 +192,20 @@ fn interface_place(t: &[u8], book: &[u32], rule: u32, member: u32, at: usize, en
 const INTERFACE: u32 = 3;
 
 // The same, of the implemented name that stands from `at` up to `end`.
-fn name_place(t: &[u8], book: &[u32], rule: u32, member: u32, at: usize, end: usize, from: usize, stop: usize) -> PlaceRead
-    requires { ⌜ Booked (now t) (now book) × Slim (tableOf (now t)) × Bounds (now t) at end × Bounds (now t) from stop × (allOf slimMember (membersIn (now t) from stop) ≡ true) ⌝ }
+fn name_place(t: &[u8], book: &[u32], listed: &[u32], rule: u32, member: u32, at: usize, end: usize, from: usize, stop: usize) -> PlaceRead
+    requires { ⌜ Booked (now t) (now book) × Slim (tableOf (now t)) × Bounds (now t) at end × Bounds (now t) from stop × (allOf slimMember (membersIn (now t) from stop) ≡ true) × Listed (now t) (now listed) from stop ⌝ }
     ensures { λ r. ⌜ r ≡ placed (head? (promisedBy (askedOf rule (tableOf (now (t .entry))) (membersIn (now (t .entry)) from stop)) (tableOf (now (t .entry))) member (part (now (t .entry)) at (end - at)))) ⌝ }
 {
     let k = types::number_meant(t, book, t, at, end - at);
     if types::kind_in(book, k) != INTERFACE {
         return PlaceRead::Kept;
     }
-    interface_place(t, book, rule, member, index::start_of(book, k), index::end_of(book, k), from, stop)
+    interface_place(t, book, listed, rule, member, index::start_of(book, k), index::end_of(book, k), from, stop)
 }
 
 // The same, of all the names that the definition with the content from `from` up to `stop` implements.
-fn first_place(t: &[u8], book: &[u32], rule: u32, from: usize, stop: usize) -> PlaceRead
-    requires { ⌜ Booked (now t) (now book) × Slim (tableOf (now t)) × Bounds (now t) from stop × (allOf slimMember (membersIn (now t) from stop) ≡ true) ⌝ }
+fn first_place(t: &[u8], book: &[u32], listed: &[u32], rule: u32, from: usize, stop: usize) -> PlaceRead
+    requires { ⌜ Booked (now t) (now book) × Slim (tableOf (now t)) × Bounds (now t) from stop × (allOf slimMember (membersIn (now t) from stop) ≡ true) × Listed (now t) (now listed) from stop ⌝ }
     ensures { λ r. ⌜ r ≡ placed (head? (each (promisedBy (askedOf rule (tableOf (now (t .entry))) (membersIn (now (t .entry)) from stop)) (tableOf (now (t .entry)))) (implementedIn (now (t .entry)) from stop))) ⌝ }
 {
     let mut i = from;
@@ -213,7 +214,7 @@ fn first_place(t: &[u8], book: &[u32], rule: u32, from: usize, stop: usize) -> P
         let FieldFound::Found { tag: _, start, end: to } = members::next_implemented(t, i, stop) else {
             return PlaceRead::Kept;
         };
-        let r = name_place(t, book, rule, m, start, to, from, stop);
+        let r = name_place(t, book, listed, rule, m, start, to, from, stop);
         match r {
             PlaceRead::At { member: x, part: y, argument: z } => return PlaceRead::At { member: x, part: y, argument: z },
             PlaceRead::Kept => {
@@ -225,49 +226,49 @@ fn first_place(t: &[u8], book: &[u32], rule: u32, from: usize, stop: usize) -> P
 }
 
 // The first place of definition i that breaks the rule.
-fn broken(t: &[u8], book: &[u32], rule: u32, i: usize) -> PlaceRead
-    requires { ⌜ Booked (now t) (now book) × Slim (tableOf (now t)) × (i < countIn (now book)) ⌝ }
+fn broken(t: &[u8], book: &[u32], listed: &[u32], rule: u32, i: usize) -> PlaceRead
+    requires { ⌜ Booked (now t) (now book) × Slim (tableOf (now t)) × (i < countIn (now book)) × Listed (now t) (now listed) (startIn (now book) i) (endIn (now book) i) ⌝ }
     ensures { λ r. ⌜ r ≡ placed (head? (promised (askedOf rule (tableOf (now (t .entry))) (definitionOn (now (t .entry)) i .members)) (tableOf (now (t .entry))) (definitionOn (now (t .entry)) i))) ⌝ }
 {
-    first_place(t, book, rule, index::start_of(book, i), index::end_of(book, i))
+    first_place(t, book, listed, rule, index::start_of(book, i), index::end_of(book, i))
 }
 
 // 11. Interface field missing.
-pub fn field_missing(t: &[u8], book: &[u32], i: usize) -> PlaceRead
-    requires { ⌜ Booked (now t) (now book) × Slim (tableOf (now t)) × (i < countIn (now book)) ⌝ }
+pub fn field_missing(t: &[u8], book: &[u32], listed: &[u32], i: usize) -> PlaceRead
+    requires { ⌜ Booked (now t) (now book) × Slim (tableOf (now t)) × (i < countIn (now book)) × Listed (now t) (now listed) (startIn (now book) i) (endIn (now book) i) ⌝ }
     ensures { λ r. ⌜ r ≡ placed (head? (fieldMissing (tableOf (now (t .entry))) i (definitionOn (now (t .entry)) i))) ⌝ }
 {
-    broken(t, book, RULE_FIELD_MISSING, i)
+    broken(t, book, listed, RULE_FIELD_MISSING, i)
 }
 
 // 12. Field type not a sub-type.
-pub fn field_type(t: &[u8], book: &[u32], i: usize) -> PlaceRead
-    requires { ⌜ Booked (now t) (now book) × Slim (tableOf (now t)) × (i < countIn (now book)) ⌝ }
+pub fn field_type(t: &[u8], book: &[u32], listed: &[u32], i: usize) -> PlaceRead
+    requires { ⌜ Booked (now t) (now book) × Slim (tableOf (now t)) × (i < countIn (now book)) × Listed (now t) (now listed) (startIn (now book) i) (endIn (now book) i) ⌝ }
     ensures { λ r. ⌜ r ≡ placed (head? (fieldType (tableOf (now (t .entry))) i (definitionOn (now (t .entry)) i))) ⌝ }
 {
-    broken(t, book, RULE_FIELD_TYPE, i)
+    broken(t, book, listed, RULE_FIELD_TYPE, i)
 }
 
 // 13. Interface argument missing.
-pub fn argument_missing(t: &[u8], book: &[u32], i: usize) -> PlaceRead
-    requires { ⌜ Booked (now t) (now book) × Slim (tableOf (now t)) × (i < countIn (now book)) ⌝ }
+pub fn argument_missing(t: &[u8], book: &[u32], listed: &[u32], i: usize) -> PlaceRead
+    requires { ⌜ Booked (now t) (now book) × Slim (tableOf (now t)) × (i < countIn (now book)) × Listed (now t) (now listed) (startIn (now book) i) (endIn (now book) i) ⌝ }
     ensures { λ r. ⌜ r ≡ placed (head? (argumentMissing (tableOf (now (t .entry))) i (definitionOn (now (t .entry)) i))) ⌝ }
 {
-    broken(t, book, RULE_ARGUMENT_MISSING, i)
+    broken(t, book, listed, RULE_ARGUMENT_MISSING, i)
 }
 
 // 14. Argument type differs.
-pub fn argument_type(t: &[u8], book: &[u32], i: usize) -> PlaceRead
-    requires { ⌜ Booked (now t) (now book) × Slim (tableOf (now t)) × (i < countIn (now book)) ⌝ }
+pub fn argument_type(t: &[u8], book: &[u32], listed: &[u32], i: usize) -> PlaceRead
+    requires { ⌜ Booked (now t) (now book) × Slim (tableOf (now t)) × (i < countIn (now book)) × Listed (now t) (now listed) (startIn (now book) i) (endIn (now book) i) ⌝ }
     ensures { λ r. ⌜ r ≡ placed (head? (argumentType (tableOf (now (t .entry))) i (definitionOn (now (t .entry)) i))) ⌝ }
 {
-    broken(t, book, RULE_ARGUMENT_TYPE, i)
+    broken(t, book, listed, RULE_ARGUMENT_TYPE, i)
 }
 
 // 15. Extra argument Non-Null.
-pub fn argument_extra(t: &[u8], book: &[u32], i: usize) -> PlaceRead
-    requires { ⌜ Booked (now t) (now book) × Slim (tableOf (now t)) × (i < countIn (now book)) ⌝ }
+pub fn argument_extra(t: &[u8], book: &[u32], listed: &[u32], i: usize) -> PlaceRead
+    requires { ⌜ Booked (now t) (now book) × Slim (tableOf (now t)) × (i < countIn (now book)) × Listed (now t) (now listed) (startIn (now book) i) (endIn (now book) i) ⌝ }
     ensures { λ r. ⌜ r ≡ placed (head? (argumentExtra (tableOf (now (t .entry))) i (definitionOn (now (t .entry)) i))) ⌝ }
 {
-    broken(t, book, RULE_ARGUMENT_EXTRA, i)
+    broken(t, book, listed, RULE_ARGUMENT_EXTRA, i)
 }

@@ -1,5 +1,6 @@
-use mathlib.Core.Path.{sym, _∙_}
-use Prim.Native.Nat.{ℕ}
+use mathlib.Core.Path.{_≡_, sym, _∙_}
+use Prim.Native.Nat.{ℕ, _<_}
+use native.Mathlib.Omega.{arith}
 use borrow.Author.Needs.{needs}
 use Rattle.index.proofs.SubLaws.{sub-equal, sub-named, sub-named-no, sub-non-null, sub-list, sub-none}
 use borrow.Fn.Kinds.{In}

@@ -14,7 +14,7 @@ broken-requires c κs = search needs
 
 returns : tie.Need-returns
 returns c =
-    let a = c .before .before .before .args in
+    let a = c .before .before .before .before .args in
     c .broken .ensures ∙ ap (λ (qs : List Place). placed (head? qs)) (sym (asks-extra (tableOf (a .t .now)) (a .i) (definitionOn (a .t .now) (a .i))))
 
 pub argument-extra-spec : {M : Type 1} → statement M

@@ -15,20 +15,20 @@ use Rattle.members.proofs.next_member.Reads as next-member-reads
 use Rattle.promises.proofs.field_place.Reads as field-place-reads
 
 abbrev Inv-loop : tie.InvT-loop
-Inv-loop t book rule member at end from stop i₀ p₀ i p = Walking (askedOf rule (tableOf t) (membersIn t from stop) member) slimMember at end i p (membersIn t at end) (membersIn t i end)
+Inv-loop t book listed rule member at end from stop i₀ p₀ i p = Walking (askedOf rule (tableOf t) (membersIn t from stop) member) slimMember at end i p (membersIn t at end) (membersIn t i end)
 
 abbrev μ-loop : tie.MeasureT-loop
-μ-loop t book rule member at end from stop i₀ p₀ i p = end - i
+μ-loop t book listed rule member at end from stop i₀ p₀ i p = end - i
 
 found : (c : tie.After-tag Inv-loop μ-loop)
-    → NextMember (c .before .before .before .before .before .before .args .t .now) (c .before .before .before .loop .i) (c .before .before .before .before .before .before .args .end) (Found (c .tag .given .0 .0) (c .tag .given .0 .1 .0) (c .tag .given .0 .1 .1 .0))
-found c = subst (NextMember (c .before .before .before .before .before .before .args .t .now) (c .before .before .before .loop .i) (c .before .before .before .before .before .before .args .end)) (c .tag .given .1) (c .before .before .next-member .ensures)
+    → NextMember (c .before .before .before .before .before .before .before .args .t .now) (c .before .before .before .loop .i) (c .before .before .before .before .before .before .before .args .end) (Found (c .tag .given .0 .0) (c .tag .given .0 .1 .0) (c .tag .given .0 .1 .1 .0))
+found c = subst (NextMember (c .before .before .before .before .before .before .before .args .t .now) (c .before .before .before .loop .i) (c .before .before .before .before .before .before .before .args .end)) (c .tag .given .1) (c .before .before .next-member .ensures)
 
 loop-holds : tie.Need-loop-holds Inv-loop μ-loop
-loop-holds c = walking-start _ _ _ _ _ (c .before .before .pre .1 .order) (c .before .before .pre .3)
+loop-holds c = walking-start _ _ _ _ _ (c .before .before .before .pre .1 .order) (c .before .before .before .pre .3)
 
 next-member-requires : tie.Need-next-member-requires Inv-loop μ-loop
-next-member-requires c κs = record { order = c .loop .inv .within; within = c .before .before .before .pre .1 .within; most = c .before .before .before .pre .1 .most }
+next-member-requires c κs = record { order = c .loop .inv .within; within = c .before .before .before .before .pre .1 .within; most = c .before .before .before .before .pre .1 .most }
 
 enum-known-tag : tie.Need-enum-known-tag Inv-loop μ-loop
 enum-known-tag c = search needs
@@ -37,13 +37,13 @@ enum-told : tie.Need-enum-told Inv-loop μ-loop
 enum-told c = search needs
 
 returns : tie.Need-returns Inv-loop μ-loop
-returns c = walking-none (c .before .before .before .loop .inv) (subst (NextMember (c .before .before .before .before .before .before .args .t .now) (c .before .before .before .loop .i) (c .before .before .before .before .before .before .args .end)) (c .enum-told .given .1) (c .before .before .next-member .ensures))
+returns c = walking-none (c .before .before .before .loop .inv) (subst (NextMember (c .before .before .before .before .before .before .before .args .t .now) (c .before .before .before .loop .i) (c .before .before .before .before .before .before .before .args .end)) (c .enum-told .given .1) (c .before .before .next-member .ensures))
 
 field-place-requires : tie.Need-field-place-requires Inv-loop μ-loop
 field-place-requires c κs = 
-    let p = c .before .before .before .before .before .before .before .pre in
+    let p = c .before .before .before .before .before .before .before .before .pre in
     let f = found (c .before) in
-    (p .0, record { order = f .lies .order; within = omega (arith, f .lies .within, p .1 .within); most = p .1 .most }, p .2, walking-pass (c .before .before .before .before .loop .inv) f, p .4)
+    (p .0, record { order = f .lies .order; within = omega (arith, f .lies .within, p .1 .within); most = p .1 .most }, p .2, walking-pass (c .before .before .before .before .loop .inv) f, p .4, p .5)
 
 enum-known-r : tie.Need-enum-known-r Inv-loop μ-loop
 enum-known-r c = search needs
@@ -59,7 +59,7 @@ enum-told-2 c = search needs
 add-p : tie.Need-add-p Inv-loop μ-loop
 add-p c = 
     let f = found (c .before .before .before .before) in
-    omega (arith, c .before .before .before .before .before .before .before .loop .inv .few, f .lies .begins, f .lies .order, f .lies .within, c .before .before .before .before .before .before .before .before .before .before .pre .1 .within, c .before .before .before .before .before .before .before .before .before .before .pre .1 .most)
+    omega (arith, c .before .before .before .before .before .before .before .loop .inv .few, f .lies .begins, f .lies .order, f .lies .within, c .before .before .before .before .before .before .before .before .before .before .before .pre .1 .within, c .before .before .before .before .before .before .before .before .before .before .before .pre .1 .most)
 
 loop-less : tie.Need-loop-less Inv-loop μ-loop
 loop-less c = 
