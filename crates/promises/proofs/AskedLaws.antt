@@ -14,7 +14,7 @@ use Rattle.paper_types.specs.Rules.{Place, partAt, partArgumentAt, memberNamed,
 use Rattle.places.specs.Placed.{placed}
 use Rattle.places.specs.declared.PlaceRead.{PlaceRead}
 use Rattle.places.specs.declared.PlaceRead.the-variants.{At, Kept}
-use Rattle.promises.specs.Asked.{failing, argumentsAsked, ownAsked, askedOf}
+use Rattle.promises.specs.Asked.{failing, argumentsAsked, ruleAsked, rulesAsked, anyRule, ownRules, ownAsked, askedOf}
 
 -- a test's place
 pub only-here : (m p a : ℕ) {r b : Bool} → r ≡ b → r ≡ true → At m p a ≡ placed (head? (onlyIf b (partArgumentAt m p a)))
@@ -32,35 +32,47 @@ asked-by rule m p xs ys {qs = qs} e f g h =
 
 -- the definition's own field, or none, by the rule's number
 module _ (rule : ℕ) (t : Table) (m p : ℕ) (f : Member) where
-  pub none-missing : rule ≡ ruleFieldMissing → At m p noPlace ≡ placed (head? (ownAsked rule t m p f none))
+  pub none-any : rule ≡ anyRule → At m p noPlace ≡ placed (head? (ownAsked rule t m p f none))
   unfolding ownAsked
-  none-missing h = rw (eq-eqb rule ruleFieldMissing h)
+  none-any h = rw (eq-eqb rule anyRule h)
 
-  pub none-other : (rule ≡ ruleFieldMissing → ⊥) → Kept ≡ placed (head? (ownAsked rule t m p f none))
+  pub none-missing : (rule ≡ anyRule → ⊥) → rule ≡ ruleFieldMissing → At m p noPlace ≡ placed (head? (ownAsked rule t m p f none))
   unfolding ownAsked
-  none-other h = rw (ne-eqb rule ruleFieldMissing h)
+  none-missing g h = rw (ne-eqb rule anyRule g, eq-eqb rule ruleFieldMissing h)
+
+  pub none-other : (rule ≡ anyRule → ⊥) → (rule ≡ ruleFieldMissing → ⊥) → Kept ≡ placed (head? (ownAsked rule t m p f none))
+  unfolding ownAsked
+  none-other g h = rw (ne-eqb rule anyRule g, ne-eqb rule ruleFieldMissing h)
 
   module _ (e : Member) where
-    pub own-missing : rule ≡ ruleFieldMissing → Kept ≡ placed (head? (ownAsked rule t m p f (some e)))
+    pub own-any : rule ≡ anyRule → ownAsked rule t m p f (some e) ≡ rulesAsked ownRules ruleFieldType t m p f e
     unfolding ownAsked
+    own-any h = rw (eq-eqb rule anyRule h)
+
+    pub own-one : (rule ≡ anyRule → ⊥) → ownAsked rule t m p f (some e) ≡ ruleAsked rule t m p f e
+    unfolding ownAsked
+    own-one h = rw (ne-eqb rule anyRule h)
+
+    pub own-missing : rule ≡ ruleFieldMissing → Kept ≡ placed (head? (ruleAsked rule t m p f e))
+    unfolding ruleAsked
     own-missing h = rw (eq-eqb rule ruleFieldMissing h)
 
     module _ (h : rule ≡ ruleFieldMissing → ⊥) (k : rule ≡ ruleFieldType → ⊥) where
-      pub own-extra : rule ≡ ruleArgumentExtra → ownAsked rule t m p f (some e) ≡ argumentsAsked rule m p (e .arguments) (f .arguments)
-      unfolding ownAsked
+      pub own-extra : rule ≡ ruleArgumentExtra → ruleAsked rule t m p f e ≡ argumentsAsked rule m p (e .arguments) (f .arguments)
+      unfolding ruleAsked
       own-extra l = rw (ne-eqb rule ruleFieldMissing h, ne-eqb rule ruleFieldType k, eq-eqb rule ruleArgumentExtra l)
 
-      pub own-other : (rule ≡ ruleArgumentExtra → ⊥) → ownAsked rule t m p f (some e) ≡ argumentsAsked rule m p (f .arguments) (e .arguments)
-      unfolding ownAsked
+      pub own-other : (rule ≡ ruleArgumentExtra → ⊥) → ruleAsked rule t m p f e ≡ argumentsAsked rule m p (f .arguments) (e .arguments)
+      unfolding ruleAsked
       own-other l = rw (ne-eqb rule ruleFieldMissing h, ne-eqb rule ruleFieldType k, ne-eqb rule ruleArgumentExtra l)
 
 -- rule 12, by the test of sub-types
-pub type-kept : (t : Table) (m p : ℕ) (f e : Member) → noSubType t f e ≡ false → Kept ≡ placed (head? (ownAsked ruleFieldType t m p f (some e)))
-unfolding ownAsked
+pub type-kept : (t : Table) (m p : ℕ) (f e : Member) → noSubType t f e ≡ false → Kept ≡ placed (head? (ruleAsked ruleFieldType t m p f e))
+unfolding ruleAsked
 type-kept t m p f e h = rw h
 
-pub type-broken : (t : Table) (m p : ℕ) (f e : Member) → noSubType t f e ≡ true → At m p noPlace ≡ placed (head? (ownAsked ruleFieldType t m p f (some e)))
-unfolding ownAsked
+pub type-broken : (t : Table) (m p : ℕ) (f e : Member) → noSubType t f e ≡ true → At m p noPlace ≡ placed (head? (ruleAsked ruleFieldType t m p f e))
+unfolding ruleAsked
 type-broken t m p f e h = rw h
 
 -- each asks the same, so all do
@@ -90,7 +102,7 @@ any-find {A = A} p (y ∷ xs) o e = go (p y) o e (λ (q : Option A) (f : find p 
 
 module _ (t : Table) (i : ℕ) (d : Definition) where
   pub asks-field : fieldMissing t i d ≡ promised (askedOf ruleFieldMissing t (d .members)) t d
-  unfolding fieldMissing ownAsked
+  unfolding fieldMissing ownAsked ruleAsked
   asks-field = promised-same (askField d) (askedOf ruleFieldMissing t (d .members)) at t d
     where
       at : (m p : ℕ) (f : Member) → askField d m p f ≡ askedOf ruleFieldMissing t (d .members) m p f
@@ -101,7 +113,7 @@ module _ (t : Table) (i : ℕ) (d : Definition) where
           go (some x) e = rw (any-find (memberNamed (f .name)) (d .members) (some x) e)
 
   pub asks-type : fieldType t i d ≡ promised (askedOf ruleFieldType t (d .members)) t d
-  unfolding fieldType ownAsked
+  unfolding fieldType ownAsked ruleAsked
   asks-type = promised-same (askType t d) (askedOf ruleFieldType t (d .members)) at t d
     where
       at : (m p : ℕ) (f : Member) → askType t d m p f ≡ askedOf ruleFieldType t (d .members) m p f
@@ -112,7 +124,7 @@ module _ (t : Table) (i : ℕ) (d : Definition) where
           go (some e) = refl
 
   pub asks-argument : argumentMissing t i d ≡ promised (askedOf ruleArgumentMissing t (d .members)) t d
-  unfolding argumentMissing ownAsked
+  unfolding argumentMissing ownAsked ruleAsked
   asks-argument = promised-same (askArgument d) (askedOf ruleArgumentMissing t (d .members)) at t d
     where
       one : (e : Member) (m p a : ℕ) (x : Argument) → onlyIf (lacksArgument e x) (partArgumentAt m p a) ≡ onlyIf (failing ruleArgumentMissing x (find (argumentNamed (x .name)) (e .arguments))) (partArgumentAt m p a)
@@ -129,7 +141,7 @@ module _ (t : Table) (i : ℕ) (d : Definition) where
           go (some e) = each-same _ _ (one e m p) 0 (f .arguments)
 
   pub asks-argument-type : argumentType t i d ≡ promised (askedOf ruleArgumentType t (d .members)) t d
-  unfolding argumentType ownAsked
+  unfolding argumentType ownAsked ruleAsked
   asks-argument-type = promised-same (askArgumentType d) (askedOf ruleArgumentType t (d .members)) at t d
     where
       one : (e : Member) (m p a : ℕ) (x : Argument)
@@ -147,7 +159,7 @@ module _ (t : Table) (i : ℕ) (d : Definition) where
           go (some e) = each-same _ _ (one e m p) 0 (f .arguments)
 
   pub asks-extra : argumentExtra t i d ≡ promised (askedOf ruleArgumentExtra t (d .members)) t d
-  unfolding argumentExtra ownAsked
+  unfolding argumentExtra ownAsked ruleAsked
   asks-extra = promised-same (askExtra d) (askedOf ruleArgumentExtra t (d .members)) at t d
     where
       one : (f : Member) (m p a : ℕ) (y : Argument) → onlyIf (isExtra f y) (partArgumentAt m p a) ≡ onlyIf (failing ruleArgumentExtra y (find (argumentNamed (y .name)) (f .arguments))) (partArgumentAt m p a)

@@ -3,3 +3,4 @@ pub mod SlimLaws
 pub mod ArgumentLaws
 pub mod AskedLaws
 pub mod MeantLaws
+pub mod AnyLaws

@@ -7,7 +7,7 @@ use Prim.Native.Nat.{ℕ, suc, _+_, _≤_, _<_}
 use native.Mathlib.Omega.{arith}
 use Rattle.paper_types.specs.Lists.{allOf, eachFrom}
 use Rattle.paper_types.specs.Rules.{Place}
-use Rattle.paper_types.proofs.ListsLaws.{head-left, head-right, eachFrom-nil, eachFrom-cons}
+use Rattle.paper_types.proofs.ListsLaws.{head-right, eachFrom-nil, eachFrom-cons}
 use Rattle.places.specs.Placed.{placed}
 use Rattle.places.specs.declared.PlaceRead.{PlaceRead}
 use Rattle.places.specs.declared.PlaceRead.the-variants.{At, Kept}
@@ -30,6 +30,11 @@ pub placed-none : (o : Option Place) → Kept ≡ placed o → o ≡ none
 placed-none none e = refl
 placed-none (some q) e = let z : Kept ≡ At (q .member) (q .part) (q .argument) = e in cc
 
+-- a place of the first list is that of the two joined
+pub placed-left : (xs ys : List Place) (m x a : ℕ) → At m x a ≡ placed (head? xs) → At m x a ≡ placed (head? (xs ++ ys))
+placed-left [] ys m x a e = let z : At m x a ≡ Kept = e in cc
+placed-left (q ∷ xs) ys m x a e = e
+
 module _ {A : Type 0} {f : ℕ → A → List Place} {p : A → Bool} {at end i k : ℕ} {all left : List A} (h : Walking f p at end i k all left) where
   pub walking-none : left ≡ [] → Kept ≡ placed (head? (eachFrom 0 f all))
   walking-none e = ap placed (sym (h .same ∙ ap (λ (xs : List A). head? (eachFrom k f xs)) e ∙ ap head? (eachFrom-nil k f)))
@@ -42,11 +47,7 @@ module _ {A : Type 0} {f : ℕ → A → List Place} {p : A → Bool} {at end i 
     walking-pass = all-head p one others (ap (allOf p) (sym (w .all-are)) ∙ h .pass)
 
     pub walking-here : (m x a : ℕ) → At m x a ≡ placed (head? (f k one)) → At m x a ≡ placed (head? (eachFrom 0 f all))
-    walking-here m x a e = go (head? (f k one)) refl
-      where
-        go : (o : Option Place) → head? (f k one) ≡ o → At m x a ≡ placed (head? (eachFrom 0 f all))
-        go none q = let z : At m x a ≡ Kept = e ∙ ap placed q in cc
-        go (some v) q = e ∙ ap placed q ∙ ap placed (sym (next ∙ head-left (f k one) (eachFrom (suc k) f others) v q))
+    walking-here m x a e = placed-left (f k one) (eachFrom (suc k) f others) m x a e ∙ ap placed (sym next)
 
     pub walking-on : Kept ≡ placed (head? (f k one)) → Walking f p at end stop (k + 1) all others
     walking-on e =

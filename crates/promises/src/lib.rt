@@ -27,7 +27,7 @@ ghost use Rattle.index.specs.Book.{part, countIn};
 ghost use Rattle.members.specs.Members.{membersIn, argumentsIn, implementedIn, memberFrom, argumentFrom, Typed};
 ghost use Rattle.types.specs.Booked.{Booked, startIn, endIn, definitionOn};
 ghost use Rattle.listings.specs.Listed.{Listed};
-ghost use Rattle.promises.specs.Asked.{slimArgument, slimMember, Slim, ArgumentsFrom, failing, argumentsAsked, ownAsked, askedOf};
+ghost use Rattle.promises.specs.Asked.{slimArgument, slimMember, Slim, ArgumentsFrom, failing, argumentsAsked, ruleAsked, rulesAsked, ownRules, AllKept, askedOf};
 
 // The type of the member with this tag and content.
 fn member_type(t: &[u8], tag: u8, start: usize, end: usize) -> TypeRead
@@ -123,7 +123,7 @@ fn first_wrong(t: &[u8], rule: u32, at: usize, end: usize, from: usize, stop: us
 // Rule 12 of the interface's field with this tag and content, and the definition's own.
 fn type_place(t: &[u8], book: &[u32], member: u32, part: u32, tag: u8, start: usize, end: usize, own_tag: u8, from: usize, stop: usize) -> PlaceRead
     requires { ⌜ Booked (now t) (now book) × Bounds (now t) start end × Bounds (now t) from stop × (slimMember (memberFrom (now t) tag start end) ≡ true) × (slimMember (memberFrom (now t) «own_tag» from stop) ≡ true) ⌝ }
-    ensures { λ r. ⌜ r ≡ placed (head? (ownAsked ruleFieldType (tableOf (now (t .entry))) member part (memberFrom (now (t .entry)) tag start end) (some (memberFrom (now (t .entry)) «own_tag» from stop)))) ⌝ }
+    ensures { λ r. ⌜ r ≡ placed (head? (ruleAsked ruleFieldType (tableOf (now (t .entry))) member part (memberFrom (now (t .entry)) tag start end) (memberFrom (now (t .entry)) «own_tag» from stop))) ⌝ }
 {
     let q = member_type(t, tag, start, end);
     let r = member_type(t, own_tag, from, stop);
@@ -136,7 +136,7 @@ fn type_place(t: &[u8], book: &[u32], member: u32, part: u32, tag: u8, start: us
 // What the rule shows first of the interface's field with this tag and content, and the definition's own.
 fn own_place(t: &[u8], book: &[u32], rule: u32, member: u32, part: u32, tag: u8, start: usize, end: usize, own_tag: u8, from: usize, stop: usize) -> PlaceRead
     requires { ⌜ Booked (now t) (now book) × Bounds (now t) start end × Bounds (now t) from stop × (slimMember (memberFrom (now t) tag start end) ≡ true) × (slimMember (memberFrom (now t) «own_tag» from stop) ≡ true) ⌝ }
-    ensures { λ r. ⌜ r ≡ placed (head? (ownAsked rule (tableOf (now (t .entry))) member part (memberFrom (now (t .entry)) tag start end) (some (memberFrom (now (t .entry)) «own_tag» from stop)))) ⌝ }
+    ensures { λ r. ⌜ r ≡ placed (head? (ruleAsked rule (tableOf (now (t .entry))) member part (memberFrom (now (t .entry)) tag start end) (memberFrom (now (t .entry)) «own_tag» from stop))) ⌝ }
 {
     if rule == RULE_FIELD_MISSING {
         return PlaceRead::Kept;
@@ -152,6 +152,27 @@ fn own_place(t: &[u8], book: &[u32], rule: u32, member: u32, part: u32, tag: u8,
     first_wrong(t, rule, a, end, b, stop, member, part)
 }
 
+// What the rules 12 to 15 show first of them.
+fn any_place(t: &[u8], book: &[u32], member: u32, part: u32, tag: u8, start: usize, end: usize, own_tag: u8, from: usize, stop: usize) -> PlaceRead
+    requires { ⌜ Booked (now t) (now book) × Bounds (now t) start end × Bounds (now t) from stop × (slimMember (memberFrom (now t) tag start end) ≡ true) × (slimMember (memberFrom (now t) «own_tag» from stop) ≡ true) ⌝ }
+    ensures { λ r. ⌜ r ≡ placed (head? (rulesAsked ownRules ruleFieldType (tableOf (now (t .entry))) member part (memberFrom (now (t .entry)) tag start end) (memberFrom (now (t .entry)) «own_tag» from stop))) ⌝ }
+{
+    let mut rule = RULE_FIELD_TYPE;
+    while rule <= RULE_ARGUMENT_EXTRA {
+        let r = own_place(t, book, rule, member, part, tag, start, end, own_tag, from, stop);
+        match r {
+            PlaceRead::At { member: x, part: y, argument: z } => return PlaceRead::At { member: x, part: y, argument: z },
+            PlaceRead::Kept => {
+                rule += 1;
+            }
+        }
+    }
+    PlaceRead::Kept
+}
+
+// The rule's number, or this one: the first of all five rules in each field.
+const ANY_RULE: u32 = 0;
+
 // The same, where the definition's members stand from `from` up to `stop`, and in the book `listed`.
 fn field_place(t: &[u8], book: &[u32], listed: &[u32], rule: u32, member: u32, part: u32, tag: u8, start: usize, end: usize, from: usize, stop: usize) -> PlaceRead
     requires { ⌜ Booked (now t) (now book) × Bounds (now t) start end × Bounds (now t) from stop × (slimMember (memberFrom (now t) tag start end) ≡ true) × (allOf slimMember (membersIn (now t) from stop) ≡ true) × Listed (now t) (now listed) from stop ⌝ }
@@ -159,11 +180,17 @@ fn field_place(t: &[u8], book: &[u32], listed: &[u32], rule: u32, member: u32, p
 {
     let n = members::member_name(t, tag, start, end);
     let FieldFound::Found { tag: own_tag, start: own, end: own_end } = listings::find_listed(t, listed, from, stop, t, n.at, n.size) else {
+        if rule == ANY_RULE {
+            return PlaceRead::At { member: member, part: part, argument: NO_PLACE };
+        }
         if rule == RULE_FIELD_MISSING {
             return PlaceRead::At { member: member, part: part, argument: NO_PLACE };
         }
         return PlaceRead::Kept;
     };
+    if rule == ANY_RULE {
+        return any_place(t, book, member, part, tag, start, end, own_tag, own, own_end);
+    }
     own_place(t, book, rule, member, part, tag, start, end, own_tag, own, own_end)
 }
 
@@ -231,6 +258,17 @@ fn broken(t: &[u8], book: &[u32], listed: &[u32], rule: u32, i: usize) -> PlaceR
     ensures { λ r. ⌜ r ≡ placed (head? (promised (askedOf rule (tableOf (now (t .entry))) (definitionOn (now (t .entry)) i .members)) (tableOf (now (t .entry))) (definitionOn (now (t .entry)) i))) ⌝ }
 {
     first_place(t, book, listed, rule, index::start_of(book, i), index::end_of(book, i))
+}
+
+// Does definition i keep the five rules? One walk, where each rule by itself would take five.
+pub fn all_kept(t: &[u8], book: &[u32], listed: &[u32], i: usize) -> bool
+    requires { ⌜ Booked (now t) (now book) × Slim (tableOf (now t)) × (i < countIn (now book)) × Listed (now t) (now listed) (startIn (now book) i) (endIn (now book) i) ⌝ }
+    ensures { λ r. ⌜ (r ≡ true → AllKept (tableOf (now (t .entry))) i (definitionOn (now (t .entry)) i)) ⌝ }
+{
+    let PlaceRead::Kept = broken(t, book, listed, ANY_RULE, i) else {
+        return false;
+    };
+    true
 }
 
 // 11. Interface field missing.
