@@ -3,13 +3,13 @@ use mathlib.Core.Path.{_≡_, refl, sym, ap, _∙_}
 use mathlib.Core.Bool.{Bool, true, false, cond}
 use mathlib.Core.Option.{Option, none, some}
 use mathlib.Core.List.{List, [], _∷_, _++_, head?}
-use Prim.Native.Nat.{ℕ, zero, suc, _+_, _-_, _≤_, _<_}
+use Prim.Native.Nat.{ℕ, suc, _+_, _-_, _≤_, _<_}
 use native.Mathlib.Omega.{arith}
 use Rattle.paper_types.specs.TableNumbers.{ruleFieldMissing, ruleFieldType, ruleArgumentMissing, ruleArgumentType, ruleArgumentExtra}
 use Rattle.paper_types.specs.Lists.{eachFrom, find}
 use Rattle.paper_types.specs.Types.{Member, Definition, Table, isInterface, meant}
-use Rattle.paper_types.specs.Rules.{Place, memberNamed, Ask, promisedBy, promised}
-use Rattle.paper_types.proofs.ListsLaws.{head-left, head-right, head-nil}
+use Rattle.paper_types.specs.Rules.{memberNamed, Ask, promisedBy, promised}
+use Rattle.paper_types.proofs.ListsLaws.{head-right, head-nil}
 use Rattle.places.specs.Placed.{placed}
 use Rattle.places.specs.declared.PlaceRead.the-variants.{At, Kept}
 use Rattle.promises.specs.Asked.{ruleAsked, rulesAsked, anyRule, ownRules, ownAsked, askedOf, AllKept}

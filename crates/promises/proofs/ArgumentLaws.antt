@@ -1,9 +1,9 @@
 -- One argument and the other field's of its name: what rules 13 to 15 say of it; a member's type and arguments.
 use mathlib.Core.Path.{_≡_, refl, sym, ap, _∙_}
-use mathlib.Core.Bool.{Bool, true, false, not, _&&_, _||_, cond}
-use mathlib.Core.Option.{Option, none, some}
-use mathlib.Core.List.{List, [], _∷_}
-use Prim.Native.Nat.{ℕ, _+_, _-_, _≤_, _<_}
+use mathlib.Core.Bool.{Bool, true, false, not, _&&_, cond}
+use mathlib.Core.Option.{none, some}
+use mathlib.Core.List.{List, []}
+use Prim.Native.Nat.{ℕ, _≤_}
 use native.Mathlib.Nat.{le-refl}
 use native.Mathlib.Omega.{arith}
 use lib.ListN.{length}
@@ -13,14 +13,13 @@ use borrow.Author.Tests.{eq-eqb, ne-eqb}
 use Rattle.paper.specs.Tokens.{same}
 use Rattle.paper_types.specs.TableNumbers.{tagField, tagArgument, ruleArgumentMissing, ruleArgumentType, ruleArgumentExtra}
 use Rattle.paper_types.specs.Lists.{allOf}
-use Rattle.paper_types.specs.References.{named, isNonNull, sameRef}
-use Rattle.paper_types.specs.Types.{Argument, Member, argumentOf, nameOnly}
+use Rattle.paper_types.specs.Types.{Argument, argumentOf, nameOnly}
 use Rattle.fields.specs.Fields.{Bounds}
 use Rattle.fields.specs.Wrappers.{isMarked, packOf}
 use Rattle.index.specs.Book.{part}
-use Rattle.members.specs.Members.{argumentFrom, memberFrom, inputFrom, argumentsIn, Typed}
+use Rattle.members.specs.Members.{memberFrom, inputFrom, argumentsIn, Typed}
 use Rattle.members.proofs.GatherLaws.{gather-none}
-use Rattle.members.proofs.MemberLaws.{field-is, input-is, name-is}
+use Rattle.members.proofs.MemberLaws.{field-is, name-is}
 use Rattle.members.proofs.TypeLaws.{typed-non-null, typed-same}
 use Rattle.promises.specs.Asked.{slimArgument, slimMember, ArgumentsFrom, failing}
 use Rattle.promises.proofs.SlimLaws.{slim-argument, slim-arguments}

@@ -1,10 +1,9 @@
 -- What the rules 11 to 15 ask, said once by the rule's number.
 use mathlib.Core.Path.{_≡_, refl, sym, ap, _∙_}
-use mathlib.Core.Bool.{Bool, true, false, not, _&&_, _||_, cond}
+use mathlib.Core.Bool.{Bool, true, false, _&&_, _||_, cond}
 use mathlib.Core.Option.{Option, none, some}
 use mathlib.Core.List.{List, [], _∷_, _++_, head?}
 use Prim.Native.Nat.{ℕ, suc}
-use lib.Dec.{eqb}
 use borrow.Author.Tests.{eq-eqb, ne-eqb}
 use Rattle.paper_types.specs.TableNumbers.{noPlace, ruleFieldMissing, ruleFieldType, ruleArgumentMissing, ruleArgumentType, ruleArgumentExtra}
 use Rattle.paper_types.specs.Lists.{anyOf, find, each, eachFrom, onlyIf}

@@ -1,18 +1,18 @@
 -- The interface that an implemented name means, by its number in the book.
 use mathlib.Core.Path.{_≡_, refl, sym, ap, _∙_}
-use mathlib.Core.Bool.{Bool, true, false, cond}
-use mathlib.Core.List.{List, [], head?}
-use Prim.Native.Nat.{ℕ, _+_, _≤_, _<_}
+use mathlib.Core.Bool.{Bool, true, false}
+use mathlib.Core.List.{List, head?}
+use Prim.Native.Nat.{ℕ, _<_}
 use native.Mathlib.Omega.{arith}
-use lib.ListN.{length, getD}
-use lib.Dec.{ltb, eqb}
+use lib.ListN.{getD}
+use lib.Dec.{ltb}
 use borrow.Author.Tests.{eq-eqb, ne-eqb, ltb-true, ltb-false, lt-ltb}
 use Rattle.paper_types.specs.TableNumbers.{tagInterface}
 use Rattle.paper_types.specs.Lists.{allOf, each}
-use Rattle.paper_types.specs.Types.{Definition, Member, Table, tableOf, meant, isInterface}
-use Rattle.paper_types.specs.Rules.{Place, Ask, promisedBy, promised}
+use Rattle.paper_types.specs.Types.{Definition, tableOf, meant}
+use Rattle.paper_types.specs.Rules.{Ask, promisedBy, promised}
 use Rattle.places.specs.Placed.{placed}
-use Rattle.places.specs.declared.PlaceRead.the-variants.{At, Kept}
+use Rattle.places.specs.declared.PlaceRead.the-variants.{Kept}
 use Rattle.fields.specs.Fields.{Bounds}
 use Rattle.index.specs.Book.{countIn}
 use Rattle.members.specs.Members.{membersIn, implementedIn}

@@ -1,15 +1,14 @@
 -- A numbered walk over a content, which ends at the first element that shows something.
 use mathlib.Core.Path.{_≡_, refl, sym, ap, _∙_}
-use mathlib.Core.Bool.{Bool, true, false, _&&_}
+use mathlib.Core.Bool.{Bool, true}
 use mathlib.Core.Option.{Option, none, some}
 use mathlib.Core.List.{List, [], _∷_, _++_, head?}
-use Prim.Native.Nat.{ℕ, suc, _+_, _≤_, _<_}
+use Prim.Native.Nat.{ℕ, suc, _+_, _≤_}
 use native.Mathlib.Omega.{arith}
 use Rattle.paper_types.specs.Lists.{allOf, eachFrom}
 use Rattle.paper_types.specs.Rules.{Place}
 use Rattle.paper_types.proofs.ListsLaws.{head-right, eachFrom-nil, eachFrom-cons}
 use Rattle.places.specs.Placed.{placed}
-use Rattle.places.specs.declared.PlaceRead.{PlaceRead}
 use Rattle.places.specs.declared.PlaceRead.the-variants.{At, Kept}
 use Rattle.members.specs.Members.{First}
 use Rattle.promises.proofs.SlimLaws.{all-head, all-tail}

@@ -2,7 +2,7 @@ use mathlib.Core.Bool.{true}
 use borrow.Author.Needs.{needs}
 use mathlib.Core.Path.{_≡_, sym, ap, subst, _∙_}
 use native.Mathlib.Omega.{arith}
-use mathlib.Core.Option.{none, some}
+use mathlib.Core.Option.{none}
 use mathlib.Core.List.{List, head?}
 use Rattle.paper_types.specs.Lists.{find}
 use Rattle.paper_types.specs.Rules.{Place, memberNamed}

@@ -1,12 +1,12 @@
 use borrow.Author.Needs.{needs}
-use mathlib.Core.Path.{_≡_, sym, ap, subst, _∙_}
+use mathlib.Core.Path.{sym, subst, _∙_}
 use native.Mathlib.Omega.{arith}
 use mathlib.Core.Bool.{true}
 use Prim.Native.Nat.{_-_}
 use Rattle.paper_types.specs.Types.{tableOf}
 use Rattle.paper_types.specs.Rules.{promisedBy}
 use Rattle.members.specs.Members.{membersIn, implementedIn, NextImplemented}
-use Rattle.members.specs.declared.FieldFound.the-variants.{Found, Nothing}
+use Rattle.members.specs.declared.FieldFound.the-variants.{Found}
 use Rattle.promises.specs.Asked.{askedOf}
 use Rattle.promises.proofs.SlimLaws.{all-any}
 use Rattle.promises.proofs.Walking.{Walking, walking-start, walking-none, walking-here, walking-on}

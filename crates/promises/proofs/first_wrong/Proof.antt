@@ -1,22 +1,16 @@
 use Rattle.promises.proofs.AskedLaws.{only-here, only-kept}
 use Rattle.promises.proofs.Walking.{Walking, walking-start, walking-none, walking-pass, walking-here, walking-on}
-use Rattle.places.specs.declared.PlaceRead.the-variants.{At, Kept}
-use Rattle.places.specs.Placed.{placed}
 use Rattle.promises.specs.Asked.{slimArgument, failing}
-use Rattle.members.specs.declared.FieldFound.the-variants.{Found, Nothing}
-use Rattle.members.specs.Members.{argumentsIn, argumentFrom, First, NextArgument}
+use Rattle.members.specs.declared.FieldFound.the-variants.{Found}
+use Rattle.members.specs.Members.{argumentsIn, NextArgument}
 use Rattle.paper_types.specs.Rules.{argumentNamed, partArgumentAt}
 use Rattle.paper_types.specs.Lists.{find, onlyIf}
 use Prim.Native.Nat.{_-_}
 use borrow.Author.Needs.{needs}
 use native.Mathlib.Omega.{arith}
-use mathlib.Core.Path.{_≡_, sym, ap, subst, _∙_}
+use mathlib.Core.Path.{subst}
 use Rattle.promises.proofs.first_wrong.Statement.{statement}
 use Rattle.promises.proofs.first_wrong.Tie as tie
-use Rattle.promises.proofs.first_wrong.Reads as reads
-use Rattle.promises.proofs.first_wrong.Lts as lts
-use Rattle.members.proofs.next_argument.Reads as next-argument-reads
-use Rattle.promises.proofs.is_wrong.Reads as is-wrong-reads
 
 abbrev Inv-loop : tie.InvT-loop
 Inv-loop t rule at end from stop member part i₀ a₀ i a = Walking (λ x y. onlyIf (failing rule y (find (argumentNamed (y .name)) (argumentsIn t from stop))) (partArgumentAt member part x)) slimArgument at end i a (argumentsIn t at end) (argumentsIn t i end)
@@ -41,33 +35,33 @@ enum-told : tie.Need-enum-told Inv-loop μ-loop
 enum-told c = search needs
 
 returns : tie.Need-returns Inv-loop μ-loop
-returns c = 
+returns c =
     walking-none (c .before .before .before .loop .inv) (subst (NextArgument (c .before .before .before .before .before .args .t .now) (c .before .before .before .loop .i) (c .before .before .before .before .before .args .end)) (c .enum-told .given .1) (c .before .before .next-argument .ensures))
 
 is-wrong-requires : tie.Need-is-wrong-requires Inv-loop μ-loop
-is-wrong-requires c κs = 
+is-wrong-requires c κs =
     let p = c .before .before .before .before .before .before .pre in
     let f = found (c .before) in
     (record { order = f .lies .order; within = omega (arith, f .lies .within, p .0 .within); most = p .0 .most }, p .1, walking-pass (c .before .before .before .before .loop .inv) f, p .3)
 
 returns-2 : tie.Need-returns-2 Inv-loop μ-loop
-returns-2 c = 
+returns-2 c =
     let a = c .before .before .before .before .before .before .before .before .args in
     walking-here (c .before .before .before .before .before .before .loop .inv) (found (c .before .before .before)) (a .member) (a .part) (c .before .before .before .before .before .before .loop .a)
     (only-here (a .member) (a .part) (c .before .before .before .before .before .before .loop .a) (c .before .is-wrong .ensures) (c .if1 .taken))
 
 add-a : tie.Need-add-a Inv-loop μ-loop
-add-a c = 
+add-a c =
     let f = found (c .before .before .before) in
     omega (arith, c .before .before .before .before .before .before .loop .inv .few, f .lies .begins, f .lies .order, f .lies .within, c .before .before .before .before .before .before .before .before .pre .0 .within, c .before .before .before .before .before .before .before .before .pre .0 .most)
 
 loop-less : tie.Need-loop-less Inv-loop μ-loop
-loop-less c = 
+loop-less c =
     let f = found (c .before .before .before) in
     omega (arith, f .lies .begins, f .lies .order, f .lies .within)
 
 loop-again : tie.Need-loop-again Inv-loop μ-loop
-loop-again c = 
+loop-again c =
     let a = c .before .before .before .before .before .before .before .before .args in
     walking-on (c .before .before .before .before .before .before .loop .inv) (found (c .before .before .before))
     (only-kept (partArgumentAt (a .member) (a .part) (c .before .before .before .before .before .before .loop .a)) (c .before .is-wrong .ensures) (c .if1 .left))

@@ -1,18 +1,14 @@
 use Rattle.promises.proofs.Walking.{Walking, walking-start, walking-none, walking-pass, walking-here, walking-on}
 use Rattle.promises.specs.Asked.{slimMember, askedOf}
-use Rattle.members.specs.declared.FieldFound.the-variants.{Found, Nothing}
+use Rattle.members.specs.declared.FieldFound.the-variants.{Found}
 use Rattle.members.specs.Members.{membersIn, NextMember}
 use Rattle.paper_types.specs.Types.{tableOf}
 use Prim.Native.Nat.{_-_}
 use native.Mathlib.Omega.{arith}
-use mathlib.Core.Path.{_≡_, sym, ap, subst, _∙_}
+use mathlib.Core.Path.{sym, subst, _∙_}
 use borrow.Author.Needs.{needs}
 use Rattle.promises.proofs.interface_place.Statement.{statement}
 use Rattle.promises.proofs.interface_place.Tie as tie
-use Rattle.promises.proofs.interface_place.Reads as reads
-use Rattle.promises.proofs.interface_place.Lts as lts
-use Rattle.members.proofs.next_member.Reads as next-member-reads
-use Rattle.promises.proofs.field_place.Reads as field-place-reads
 
 abbrev Inv-loop : tie.InvT-loop
 Inv-loop t book listed rule member at end from stop i₀ p₀ i p = Walking (askedOf rule (tableOf t) (membersIn t from stop) member) slimMember at end i p (membersIn t at end) (membersIn t i end)
@@ -40,7 +36,7 @@ returns : tie.Need-returns Inv-loop μ-loop
 returns c = walking-none (c .before .before .before .loop .inv) (subst (NextMember (c .before .before .before .before .before .before .before .args .t .now) (c .before .before .before .loop .i) (c .before .before .before .before .before .before .before .args .end)) (c .enum-told .given .1) (c .before .before .next-member .ensures))
 
 field-place-requires : tie.Need-field-place-requires Inv-loop μ-loop
-field-place-requires c κs = 
+field-place-requires c κs =
     let p = c .before .before .before .before .before .before .before .before .pre in
     let f = found (c .before) in
     (p .0, record { order = f .lies .order; within = omega (arith, f .lies .within, p .1 .within); most = p .1 .most }, p .2, walking-pass (c .before .before .before .before .loop .inv) f, p .4, p .5)
@@ -49,7 +45,7 @@ enum-known-r : tie.Need-enum-known-r Inv-loop μ-loop
 enum-known-r c = search needs
 
 returns-2 : tie.Need-returns-2 Inv-loop μ-loop
-returns-2 c = 
+returns-2 c =
     walking-here (c .before .before .before .before .before .before .before .before .loop .inv) (found (c .before .before .before .before .before)) (c .before .r .given .0 .0) (c .before .r .given .0 .1 .0) (c .before .r .given .0 .1 .1 .0)
     (sym (c .before .r .given .1) ∙ c .before .before .before .field-place .ensures)
 
@@ -57,12 +53,12 @@ enum-told-2 : tie.Need-enum-told-2 Inv-loop μ-loop
 enum-told-2 c = search needs
 
 add-p : tie.Need-add-p Inv-loop μ-loop
-add-p c = 
+add-p c =
     let f = found (c .before .before .before .before) in
     omega (arith, c .before .before .before .before .before .before .before .loop .inv .few, f .lies .begins, f .lies .order, f .lies .within, c .before .before .before .before .before .before .before .before .before .before .before .pre .1 .within, c .before .before .before .before .before .before .before .before .before .before .before .pre .1 .most)
 
 loop-less : tie.Need-loop-less Inv-loop μ-loop
-loop-less c = 
+loop-less c =
     let f = found (c .before .before .before .before) in
     omega (arith, f .lies .begins, f .lies .order, f .lies .within)
 

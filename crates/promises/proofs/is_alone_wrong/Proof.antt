@@ -3,9 +3,6 @@ use Rattle.members.specs.Members.{argumentFrom}
 use borrow.Author.Needs.{needs}
 use Rattle.promises.proofs.is_alone_wrong.Statement.{statement}
 use Rattle.promises.proofs.is_alone_wrong.Tie as tie
-use Rattle.promises.proofs.is_alone_wrong.Reads as reads
-use Rattle.promises.proofs.is_alone_wrong.Lts as lts
-use Rattle.members.proofs.type_in.Reads as type-in-reads
 
 returns : tie.Need-returns
 returns c = let a = c .before .before .args in alone-missing (a .rule) (argumentFrom (a .t .now) (a .start) (a .end)) (c .if1 .taken)

@@ -3,10 +3,6 @@ use Rattle.members.specs.Members.{argumentFrom}
 use borrow.Author.Needs.{needs}
 use Rattle.promises.proofs.is_beside_wrong.Statement.{statement}
 use Rattle.promises.proofs.is_beside_wrong.Tie as tie
-use Rattle.promises.proofs.is_beside_wrong.Reads as reads
-use Rattle.promises.proofs.is_beside_wrong.Lts as lts
-use Rattle.index.proofs.is_text.Reads as is-text-reads
-use Rattle.members.proofs.type_in.Reads as type-in-reads
 
 returns : tie.Need-returns
 returns c = let a = c .before .before .args in beside-other (a .rule) (argumentFrom (a .t .now) (a .start) (a .end)) (argumentFrom (a .t .now) (a .from) (a .stop)) (c .if1 .taken)

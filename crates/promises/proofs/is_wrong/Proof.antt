@@ -5,16 +5,10 @@ use Rattle.members.specs.Members.{argumentsIn, argumentFrom, Finds, FindArgumen
 use Rattle.paper_types.specs.Rules.{argumentNamed}
 use Rattle.paper_types.specs.Lists.{find}
 use native.Mathlib.Omega.{arith}
-use mathlib.Core.Path.{_≡_, sym, ap, subst, _∙_}
+use mathlib.Core.Path.{sym, ap, subst, _∙_}
 use borrow.Author.Needs.{needs}
 use Rattle.promises.proofs.is_wrong.Statement.{statement}
 use Rattle.promises.proofs.is_wrong.Tie as tie
-use Rattle.promises.proofs.is_wrong.Reads as reads
-use Rattle.promises.proofs.is_wrong.Lts as lts
-use Rattle.members.proofs.find_argument.Reads as find-argument-reads
-use Rattle.members.proofs.name_in.Reads as name-in-reads
-use Rattle.promises.proofs.is_alone_wrong.Reads as is-alone-wrong-reads
-use Rattle.promises.proofs.is_beside_wrong.Reads as is-beside-wrong-reads
 
 -- the name sought is the argument's
 found : (c : tie.After-own)
@@ -41,7 +35,7 @@ is-alone-wrong-requires : tie.Need-is-alone-wrong-requires
 is-alone-wrong-requires c κs = search needs
 
 returns : tie.Need-returns
-returns c = 
+returns c =
     let a = c .before .before .before .before .before .before .args in
     let x = argumentFrom (a .t .now) (a .start) (a .end) in
     let f : FindArgument (a .t .now) (a .from) (a .stop) (x .name) Nothing =
@@ -49,13 +43,13 @@ returns c =
     c .is-alone-wrong .ensures ∙ ap (failing (a .rule) x) (sym f)
 
 is-beside-wrong-requires : tie.Need-is-beside-wrong-requires
-is-beside-wrong-requires c κs = 
+is-beside-wrong-requires c κs =
     let p = c .before .before .before .before .before .before .pre in
     let f = found (c .before) in
     (p .0, record { order = f .lies .order; within = omega (arith, f .lies .within, p .1 .within); most = p .1 .most }, p .2, all-found slimArgument _ _ _ (f .is) (p .3))
 
 returns-2 : tie.Need-returns-2
-returns-2 c = 
+returns-2 c =
     let a = c .before .before .before .before .before .before .before .args in
     c .is-beside-wrong .ensures ∙ ap (failing (a .rule) (argumentFrom (a .t .now) (a .start) (a .end))) (sym (found (c .before .before) .is))
 

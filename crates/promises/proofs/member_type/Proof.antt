@@ -3,9 +3,6 @@ use Rattle.members.proofs.MemberLaws.{field-is, input-is}
 use borrow.Author.Needs.{needs}
 use Rattle.promises.proofs.member_type.Statement.{statement}
 use Rattle.promises.proofs.member_type.Tie as tie
-use Rattle.promises.proofs.member_type.Reads as reads
-use Rattle.promises.proofs.member_type.Lts as lts
-use Rattle.members.proofs.type_in.Reads as type-in-reads
 
 type-in-requires : tie.Need-type-in-requires
 type-in-requires c κs = search needs

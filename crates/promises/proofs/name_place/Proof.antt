@@ -1,13 +1,12 @@
-use borrow.Author.Needs.{needs}
 use native.Mathlib.Omega.{arith}
-use mathlib.Core.Path.{_≡_, sym, ap, subst, _∙_}
+use mathlib.Core.Path.{_≡_, sym, ap, _∙_}
 use mathlib.Core.List.{List, head?}
 use Rattle.paper_types.specs.Types.{tableOf}
 use Rattle.paper_types.specs.Rules.{Place, promisedBy}
 use Rattle.places.specs.Placed.{placed}
 use Prim.Native.Nat.{_-_, _<_}
 use Rattle.paper_types.specs.Lists.{each}
-use Rattle.index.specs.Book.{part, countIn, room}
+use Rattle.index.specs.Book.{part, countIn}
 use Rattle.members.specs.Members.{membersIn}
 use Rattle.promises.specs.Asked.{askedOf}
 use Rattle.promises.proofs.MeantLaws.{entry-bounds, entry-slim, kind-below, meant-other, meant-interface}

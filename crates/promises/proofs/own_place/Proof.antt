@@ -1,5 +1,4 @@
 use borrow.Author.Needs.{needs}
-use mathlib.Core.Path.{_≡_, sym, ap, subst, _∙_}
 use Rattle.paper_types.specs.Types.{tableOf}
 use Rattle.members.specs.Members.{memberFrom, argumentsIn}
 use Rattle.promises.proofs.ArgumentLaws.{from-bounds, from-slim}

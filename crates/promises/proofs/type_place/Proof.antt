@@ -4,14 +4,10 @@ use Rattle.members.specs.Members.{memberFrom}
 use Rattle.paper_types.specs.Types.{tableOf, canBe}
 use Rattle.paper_types.specs.SubTypes.{subTest}
 use mathlib.Core.Bool.{not}
-use mathlib.Core.Path.{_≡_, sym, ap, subst, _∙_}
+use mathlib.Core.Path.{_≡_, sym, ap, _∙_}
 use borrow.Author.Needs.{needs}
 use Rattle.promises.proofs.type_place.Statement.{statement}
 use Rattle.promises.proofs.type_place.Tie as tie
-use Rattle.promises.proofs.type_place.Reads as reads
-use Rattle.promises.proofs.type_place.Lts as lts
-use Rattle.promises.proofs.member_type.Reads as member-type-reads
-use Rattle.types.proofs.is_sub_type.Reads as is-sub-type-reads
 
 member-type-requires : tie.Need-member-type-requires
 member-type-requires c κs = search needs
@@ -23,14 +19,14 @@ is-sub-type-requires : tie.Need-is-sub-type-requires
 is-sub-type-requires c κs = search needs
 
 returns : tie.Need-returns
-returns c = 
+returns c =
     let a = c .before .before .before .before .before .before .args in
     let q : c .before .is-sub-type .result ≡ subTest (canBe (tableOf (a .t .now))) ((memberFrom (a .t .now) (a .own-tag) (a .from) (a .stop)) .type) ((memberFrom (a .t .now) (a .tag) (a .start) (a .end)) .type) =
         c .before .is-sub-type .ensures ((memberFrom (a .t .now) (a .own-tag) (a .from) (a .stop)) .type) ((memberFrom (a .t .now) (a .tag) (a .start) (a .end)) .type) (c .before .before .member-type2 .ensures) (c .before .before .before .member-type .ensures) (slim-type (memberFrom (a .t .now) (a .own-tag) (a .from) (a .stop)) (c .before .before .before .before .before .before .pre .4)) (slim-type (memberFrom (a .t .now) (a .tag) (a .start) (a .end)) (c .before .before .before .before .before .before .pre .3)) in
     type-kept (tableOf (a .t .now)) (a .member) (a .part) (memberFrom (a .t .now) (a .tag) (a .start) (a .end)) (memberFrom (a .t .now) (a .own-tag) (a .from) (a .stop)) (ap not (sym q ∙ c .if1 .taken))
 
 returns-2 : tie.Need-returns-2
-returns-2 c = 
+returns-2 c =
     let a = c .before .before .before .before .before .before .args in
     let q : c .before .is-sub-type .result ≡ subTest (canBe (tableOf (a .t .now))) ((memberFrom (a .t .now) (a .own-tag) (a .from) (a .stop)) .type) ((memberFrom (a .t .now) (a .tag) (a .start) (a .end)) .type) =
         c .before .is-sub-type .ensures ((memberFrom (a .t .now) (a .own-tag) (a .from) (a .stop)) .type) ((memberFrom (a .t .now) (a .tag) (a .start) (a .end)) .type) (c .before .before .member-type2 .ensures) (c .before .before .before .member-type .ensures) (slim-type (memberFrom (a .t .now) (a .own-tag) (a .from) (a .stop)) (c .before .before .before .before .before .before .pre .4)) (slim-type (memberFrom (a .t .now) (a .tag) (a .start) (a .end)) (c .before .before .before .before .before .before .pre .3)) in
