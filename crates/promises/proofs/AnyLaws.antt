@@ -46,12 +46,13 @@ module _ (t : Table) (m p : ℕ) (f e : Member) where
         ∙ ap placed (sym (r .same ∙ ap head? (rules-cons k h)))
 
     pub ruling-on : k ≤ ruleArgumentExtra → Kept ≡ placed (head? (ruleAsked k t m p f e)) → Ruling t m p f e (k + 1)
-    ruling-on h q = record
-      { least = omega (arith, r .least)
-      ; most = omega arith
-      ; same =
+    ruling-on h q = record {
+      least = omega (arith, r .least);
+      most = omega arith;
+      same =
           r .same ∙ ap head? (rules-cons k h)
-          ∙ head-right (ruleAsked k t m p f e) (rulesAsked (ruleArgumentExtra + 1 - (k + 1)) (k + 1) t m p f e) (placed-none (head? (ruleAsked k t m p f e)) q) }
+          ∙ head-right (ruleAsked k t m p f e) (rulesAsked (ruleArgumentExtra + 1 - (k + 1)) (k + 1) t m p f e) (placed-none (head? (ruleAsked k t m p f e)) q);
+    }
 
 -- nothing in two lists joined: nothing in either
 nil-left : {A : Type 0} (xs ys : List A) → xs ++ ys ≡ [] → xs ≡ []
@@ -95,24 +96,28 @@ field-kept t m p f (some x) e =
     let a = nil-right (ruleAsked ruleFieldType t m p f x) _ e in
     let b = nil-right (ruleAsked ruleArgumentMissing t m p f x) _ a in
     let c = nil-right (ruleAsked ruleArgumentType t m p f x) _ b in
-    record
-    { r11 = refl
-    ; r12 = nil-left (ruleAsked ruleFieldType t m p f x) _ e
-    ; r13 = nil-left (ruleAsked ruleArgumentMissing t m p f x) _ a
-    ; r14 = nil-left (ruleAsked ruleArgumentType t m p f x) _ b
-    ; r15 = nil-left (ruleAsked ruleArgumentExtra t m p f x) _ c }
+    record {
+      r11 = refl;
+      r12 = nil-left (ruleAsked ruleFieldType t m p f x) _ e;
+      r13 = nil-left (ruleAsked ruleArgumentMissing t m p f x) _ a;
+      r14 = nil-left (ruleAsked ruleArgumentType t m p f x) _ b;
+      r15 = nil-left (ruleAsked ruleArgumentExtra t m p f x) _ c;
+    }
 
 pub all-kept : (t : Table) (i : ℕ) (d : Definition) → Kept ≡ placed (head? (promised (askedOf anyRule t (d .members)) t d)) → AllKept t i d
-all-kept t i d q = record
-  { field-missing = asks-field t i d ∙ by ruleFieldMissing (λ m p f e. at m p f e .r11)
-  ; field-type = asks-type t i d ∙ by ruleFieldType (λ m p f e. at m p f e .r12)
-  ; argument-missing = asks-argument t i d ∙ by ruleArgumentMissing (λ m p f e. at m p f e .r13)
-  ; argument-type = asks-argument-type t i d ∙ by ruleArgumentType (λ m p f e. at m p f e .r14)
-  ; argument-extra = asks-extra t i d ∙ by ruleArgumentExtra (λ m p f e. at m p f e .r15) }
+all-kept t i d q = record {
+  field-missing = asks-field t i d ∙ by ruleFieldMissing (λ m p f e. at m p f e .r11);
+  field-type = asks-type t i d ∙ by ruleFieldType (λ m p f e. at m p f e .r12);
+  argument-missing = asks-argument t i d ∙ by ruleArgumentMissing (λ m p f e. at m p f e .r13);
+  argument-type = asks-argument-type t i d ∙ by ruleArgumentType (λ m p f e. at m p f e .r14);
+  argument-extra = asks-extra t i d ∙ by ruleArgumentExtra (λ m p f e. at m p f e .r15);
+}
   where
     at : (m p : ℕ) (f : Member) → askedOf anyRule t (d .members) m p f ≡ [] → FieldKept t m p f (find (memberNamed (f .name)) (d .members))
     at m p f e = field-kept t m p f (find (memberNamed (f .name)) (d .members)) e
+
     none-shown : promised (askedOf anyRule t (d .members)) t d ≡ []
     none-shown = head-nil (promised (askedOf anyRule t (d .members)) t d) (placed-none (head? (promised (askedOf anyRule t (d .members)) t d)) q)
+
     by : (rule : ℕ) → ((m p : ℕ) (f : Member) → askedOf anyRule t (d .members) m p f ≡ [] → askedOf rule t (d .members) m p f ≡ []) → promised (askedOf rule t (d .members)) t d ≡ []
     by rule h = promised-none (askedOf anyRule t (d .members)) (askedOf rule t (d .members)) h t d none-shown

@@ -132,6 +132,7 @@ module _ (t : Table) (i : ℕ) (d : Definition) where
           go : (o : Option Argument) → find (argumentNamed (x .name)) (e .arguments) ≡ o → onlyIf (lacksArgument e x) (partArgumentAt m p a) ≡ onlyIf (failing ruleArgumentMissing x o) (partArgumentAt m p a)
           go none q = rw (any-find (argumentNamed (x .name)) (e .arguments) none q)
           go (some y) q = rw (any-find (argumentNamed (x .name)) (e .arguments) (some y) q)
+
       at : (m p : ℕ) (f : Member) → askArgument d m p f ≡ askedOf ruleArgumentMissing t (d .members) m p f
       at m p f = go (own d f)
         where
@@ -150,6 +151,7 @@ module _ (t : Table) (i : ℕ) (d : Definition) where
           go : (o : Option Argument) → ifAny o (λ y. onlyIf (differs x y) (partArgumentAt m p a)) ≡ onlyIf (failing ruleArgumentType x o) (partArgumentAt m p a)
           go none = refl
           go (some y) = refl
+
       at : (m p : ℕ) (f : Member) → askArgumentType d m p f ≡ askedOf ruleArgumentType t (d .members) m p f
       at m p f = go (own d f)
         where
@@ -167,12 +169,15 @@ module _ (t : Table) (i : ℕ) (d : Definition) where
           flat : (b : Bool) → b && true ≡ b
           flat true = refl
           flat false = refl
+
           off : (b : Bool) → b && false ≡ false
           off true = refl
           off false = refl
+
           go : (o : Option Argument) → find (argumentNamed (y .name)) (f .arguments) ≡ o → onlyIf (isExtra f y) (partArgumentAt m p a) ≡ onlyIf (failing ruleArgumentExtra y o) (partArgumentAt m p a)
           go none q = rw (any-find (argumentNamed (y .name)) (f .arguments) none q) (ap (λ (b : Bool). onlyIf b (partArgumentAt m p a)) (flat (isNonNull (y .type))))
           go (some x) q = rw (any-find (argumentNamed (y .name)) (f .arguments) (some x) q) (ap (λ (b : Bool). onlyIf b (partArgumentAt m p a)) (off (isNonNull (y .type))))
+
       at : (m p : ℕ) (f : Member) → askExtra d m p f ≡ askedOf ruleArgumentExtra t (d .members) m p f
       at m p f = go (own d f)
         where

@@ -50,6 +50,7 @@ module _ (t book : List ℕ) (b : Booked t book) where
       where
         no : (meant (tableOf t) n .tag ≡ tagInterface → ⊥) → Kept ≡ placed (head? (promisedBy ask (tableOf t) m n))
         no f = rw (ne-eqb (meant (tableOf t) n .tag) tagInterface f)
+
         go : (c : Bool) → ltb k (countIn book) ≡ c → Kept ≡ placed (head? (promisedBy ask (tableOf t) m n))
         go true q =
             let h = ltb-true k (countIn book) q in

@@ -43,6 +43,7 @@ module _ {A : Type 0} (p : A → Bool) where
     where
       here : _≡_ {A = Option A} (some y) (some x) → p x ≡ true
       here g = let z : y ≡ x = cc in rw (← z) (all-head y xs e)
+
       go : (b : Bool) → cond b (some y) (find q xs) ≡ some x → (find q xs ≡ some x → p x ≡ true) → p x ≡ true
       go true g ih = here g
       go false g ih = ih g

@@ -51,9 +51,10 @@ module _ {A : Type 0} {f : ℕ → A → List Place} {p : A → Bool} {at end i 
     pub walking-on : Kept ≡ placed (head? (f k one)) → Walking f p at end stop (k + 1) all others
     walking-on e =
         let n : k + 1 ≡ suc k = omega arith in
-        record
-        { begun = omega (arith, h .begun, w .lies .begins, w .lies .order)
-        ; within = w .lies .within
-        ; few = omega (arith, h .few, w .lies .begins, w .lies .order)
-        ; same = rw n (next ∙ head-right (f k one) (eachFrom (suc k) f others) (placed-none (head? (f k one)) e))
-        ; pass = all-tail p one others (ap (allOf p) (sym (w .all-are)) ∙ h .pass) }
+        record {
+          begun = omega (arith, h .begun, w .lies .begins, w .lies .order);
+          within = w .lies .within;
+          few = omega (arith, h .few, w .lies .begins, w .lies .order);
+          same = rw n (next ∙ head-right (f k one) (eachFrom (suc k) f others) (placed-none (head? (f k one)) e));
+          pass = all-tail p one others (ap (allOf p) (sym (w .all-are)) ∙ h .pass);
+        }

@@ -39,7 +39,11 @@ fn member_type(t: &[u8], tag: u8, start: usize, end: usize) -> TypeRead
     if tag == TAG_ARGUMENT {
         return members::type_in(t, start, end);
     }
-    TypeRead { at: start, size: 0, wrappers: 0 }
+    TypeRead {
+        at: start,
+        size: 0,
+        wrappers: 0,
+    }
 }
 
 // From where on, up to `end`, a member's arguments stand: a field alone has some.
@@ -94,25 +98,48 @@ fn is_wrong(t: &[u8], rule: u32, start: usize, end: usize, from: usize, stop: us
     ensures { λ r. ⌜ r ≡ failing rule (argumentFrom (now (t .entry)) start end) (find (argumentNamed (argumentFrom (now (t .entry)) start end .name)) (argumentsIn (now (t .entry)) from stop)) ⌝ }
 {
     let n = members::name_in(t, start, end);
-    let FieldFound::Found { tag: _, start: own, end: own_end } = members::find_argument(t, from, stop, t, n.at, n.size) else {
+    let FieldFound::Found {
+        tag: _,
+        start: own,
+        end: own_end,
+    } = members::find_argument(t, from, stop, t, n.at, n.size)
+    else {
         return is_alone_wrong(t, rule, start, end);
     };
     is_beside_wrong(t, rule, start, end, own, own_end)
 }
 
 // The first of the arguments from `at` up to `end` that breaks the rule.
-fn first_wrong(t: &[u8], rule: u32, at: usize, end: usize, from: usize, stop: usize, member: u32, part: u32) -> PlaceRead
+fn first_wrong(
+    t: &[u8],
+    rule: u32,
+    at: usize,
+    end: usize,
+    from: usize,
+    stop: usize,
+    member: u32,
+    part: u32,
+) -> PlaceRead
     requires { ⌜ Bounds (now t) at end × Bounds (now t) from stop × (allOf slimArgument (argumentsIn (now t) at end) ≡ true) × (allOf slimArgument (argumentsIn (now t) from stop) ≡ true) ⌝ }
     ensures { λ r. ⌜ r ≡ placed (head? (argumentsAsked rule member part (argumentsIn (now (t .entry)) at end) (argumentsIn (now (t .entry)) from stop))) ⌝ }
 {
     let mut i = at;
     let mut a = 0;
     loop {
-        let FieldFound::Found { tag: _, start, end: to } = members::next_argument(t, i, end) else {
+        let FieldFound::Found {
+            tag: _,
+            start,
+            end: to,
+        } = members::next_argument(t, i, end)
+        else {
             return PlaceRead::Kept;
         };
         if is_wrong(t, rule, start, to, from, stop) {
-            return PlaceRead::At { member: member, part: part, argument: a };
+            return PlaceRead::At {
+                member: member,
+                part: part,
+                argument: a,
+            };
         }
         i = to;
         a += 1;
@@ -120,7 +147,18 @@ fn first_wrong(t: &[u8], rule: u32, at: usize, end: usize, from: usize, stop: us
 }
 
 // Rule 12 of the interface's field with this tag and content, and the definition's own.
-fn type_place(t: &[u8], book: &[u32], member: u32, part: u32, tag: u8, start: usize, end: usize, own_tag: u8, from: usize, stop: usize) -> PlaceRead
+fn type_place(
+    t: &[u8],
+    book: &[u32],
+    member: u32,
+    part: u32,
+    tag: u8,
+    start: usize,
+    end: usize,
+    own_tag: u8,
+    from: usize,
+    stop: usize,
+) -> PlaceRead
     requires { ⌜ Booked (now t) (now book) × Bounds (now t) start end × Bounds (now t) from stop × (slimMember (memberFrom (now t) tag start end) ≡ true) × (slimMember (memberFrom (now t) «own_tag» from stop) ≡ true) ⌝ }
     ensures { λ r. ⌜ r ≡ placed (head? (ruleAsked ruleFieldType (tableOf (now (t .entry))) member part (memberFrom (now (t .entry)) tag start end) (memberFrom (now (t .entry)) «own_tag» from stop))) ⌝ }
 {
@@ -129,11 +167,27 @@ fn type_place(t: &[u8], book: &[u32], member: u32, part: u32, tag: u8, start: us
     if types::is_sub_type(t, book, r, q) {
         return PlaceRead::Kept;
     }
-    PlaceRead::At { member: member, part: part, argument: NO_PLACE }
+    PlaceRead::At {
+        member: member,
+        part: part,
+        argument: NO_PLACE,
+    }
 }
 
 // What the rule shows first of the interface's field with this tag and content, and the definition's own.
-fn own_place(t: &[u8], book: &[u32], rule: u32, member: u32, part: u32, tag: u8, start: usize, end: usize, own_tag: u8, from: usize, stop: usize) -> PlaceRead
+fn own_place(
+    t: &[u8],
+    book: &[u32],
+    rule: u32,
+    member: u32,
+    part: u32,
+    tag: u8,
+    start: usize,
+    end: usize,
+    own_tag: u8,
+    from: usize,
+    stop: usize,
+) -> PlaceRead
     requires { ⌜ Booked (now t) (now book) × Bounds (now t) start end × Bounds (now t) from stop × (slimMember (memberFrom (now t) tag start end) ≡ true) × (slimMember (memberFrom (now t) «own_tag» from stop) ≡ true) ⌝ }
     ensures { λ r. ⌜ r ≡ placed (head? (ruleAsked rule (tableOf (now (t .entry))) member part (memberFrom (now (t .entry)) tag start end) (memberFrom (now (t .entry)) «own_tag» from stop))) ⌝ }
 {
@@ -152,15 +206,46 @@ fn own_place(t: &[u8], book: &[u32], rule: u32, member: u32, part: u32, tag: u8,
 }
 
 // What the rules 12 to 15 show first of them.
-fn any_place(t: &[u8], book: &[u32], member: u32, part: u32, tag: u8, start: usize, end: usize, own_tag: u8, from: usize, stop: usize) -> PlaceRead
+fn any_place(
+    t: &[u8],
+    book: &[u32],
+    member: u32,
+    part: u32,
+    tag: u8,
+    start: usize,
+    end: usize,
+    own_tag: u8,
+    from: usize,
+    stop: usize,
+) -> PlaceRead
     requires { ⌜ Booked (now t) (now book) × Bounds (now t) start end × Bounds (now t) from stop × (slimMember (memberFrom (now t) tag start end) ≡ true) × (slimMember (memberFrom (now t) «own_tag» from stop) ≡ true) ⌝ }
     ensures { λ r. ⌜ r ≡ placed (head? (rulesAsked ownRules ruleFieldType (tableOf (now (t .entry))) member part (memberFrom (now (t .entry)) tag start end) (memberFrom (now (t .entry)) «own_tag» from stop))) ⌝ }
 {
     let mut rule = RULE_FIELD_TYPE;
     while rule <= RULE_ARGUMENT_EXTRA {
-        let r = own_place(t, book, rule, member, part, tag, start, end, own_tag, from, stop);
+        let r = own_place(
+            t,
+            book,
+            rule,
+            member,
+            part,
+            tag,
+            start,
+            end,
+            own_tag,
+            from,
+            stop,
+        );
         match r {
-            PlaceRead::At { member: x, part: y, argument: z } => return PlaceRead::At { member: x, part: y, argument: z },
+            PlaceRead::At {
+                member: x,
+                part: y,
+                argument: z,
+            } => return PlaceRead::At {
+                member: x,
+                part: y,
+                argument: z,
+            },
             PlaceRead::Kept => {
                 rule += 1;
             }
@@ -173,40 +258,111 @@ fn any_place(t: &[u8], book: &[u32], member: u32, part: u32, tag: u8, start: usi
 const ANY_RULE: u32 = 0;
 
 // The same, where the definition's members stand from `from` up to `stop`, and in the book `listed`.
-fn field_place(t: &[u8], book: &[u32], listed: &[u32], rule: u32, member: u32, part: u32, tag: u8, start: usize, end: usize, from: usize, stop: usize) -> PlaceRead
+fn field_place(
+    t: &[u8],
+    book: &[u32],
+    listed: &[u32],
+    rule: u32,
+    member: u32,
+    part: u32,
+    tag: u8,
+    start: usize,
+    end: usize,
+    from: usize,
+    stop: usize,
+) -> PlaceRead
     requires { ⌜ Booked (now t) (now book) × Bounds (now t) start end × Bounds (now t) from stop × (slimMember (memberFrom (now t) tag start end) ≡ true) × (allOf slimMember (membersIn (now t) from stop) ≡ true) × Listed (now t) (now listed) from stop ⌝ }
     ensures { λ r. ⌜ r ≡ placed (head? (askedOf rule (tableOf (now (t .entry))) (membersIn (now (t .entry)) from stop) member part (memberFrom (now (t .entry)) tag start end))) ⌝ }
 {
     let n = members::member_name(t, tag, start, end);
-    let FieldFound::Found { tag: own_tag, start: own, end: own_end } = listings::find_listed(t, listed, from, stop, t, n.at, n.size) else {
+    let FieldFound::Found {
+        tag: own_tag,
+        start: own,
+        end: own_end,
+    } = listings::find_listed(t, listed, from, stop, t, n.at, n.size)
+    else {
         if rule == ANY_RULE {
-            return PlaceRead::At { member: member, part: part, argument: NO_PLACE };
+            return PlaceRead::At {
+                member: member,
+                part: part,
+                argument: NO_PLACE,
+            };
         }
         if rule == RULE_FIELD_MISSING {
-            return PlaceRead::At { member: member, part: part, argument: NO_PLACE };
+            return PlaceRead::At {
+                member: member,
+                part: part,
+                argument: NO_PLACE,
+            };
         }
         return PlaceRead::Kept;
     };
     if rule == ANY_RULE {
-        return any_place(t, book, member, part, tag, start, end, own_tag, own, own_end);
+        return any_place(
+            t,
+            book,
+            member,
+            part,
+            tag,
+            start,
+            end,
+            own_tag,
+            own,
+            own_end,
+        );
     }
-    own_place(t, book, rule, member, part, tag, start, end, own_tag, own, own_end)
+    own_place(
+        t,
+        book,
+        rule,
+        member,
+        part,
+        tag,
+        start,
+        end,
+        own_tag,
+        own,
+        own_end,
+    )
 }
 
 // The same, of the fields of the interface whose content stands from `at` up to `end`.
-fn interface_place(t: &[u8], book: &[u32], listed: &[u32], rule: u32, member: u32, at: usize, end: usize, from: usize, stop: usize) -> PlaceRead
+fn interface_place(
+    t: &[u8],
+    book: &[u32],
+    listed: &[u32],
+    rule: u32,
+    member: u32,
+    at: usize,
+    end: usize,
+    from: usize,
+    stop: usize,
+) -> PlaceRead
     requires { ⌜ Booked (now t) (now book) × Bounds (now t) at end × Bounds (now t) from stop × (allOf slimMember (membersIn (now t) at end) ≡ true) × (allOf slimMember (membersIn (now t) from stop) ≡ true) × Listed (now t) (now listed) from stop ⌝ }
     ensures { λ r. ⌜ r ≡ placed (head? (each (askedOf rule (tableOf (now (t .entry))) (membersIn (now (t .entry)) from stop) member) (membersIn (now (t .entry)) at end))) ⌝ }
 {
     let mut i = at;
     let mut p = 0;
     loop {
-        let FieldFound::Found { tag, start, end: to } = members::next_member(t, i, end) else {
+        let FieldFound::Found {
+            tag,
+            start,
+            end: to,
+        } = members::next_member(t, i, end)
+        else {
             return PlaceRead::Kept;
         };
         let r = field_place(t, book, listed, rule, member, p, tag, start, to, from, stop);
         match r {
-            PlaceRead::At { member: x, part: y, argument: z } => return PlaceRead::At { member: x, part: y, argument: z },
+            PlaceRead::At {
+                member: x,
+                part: y,
+                argument: z,
+            } => return PlaceRead::At {
+                member: x,
+                part: y,
+                argument: z,
+            },
             PlaceRead::Kept => {
                 i = to;
                 p += 1;
@@ -218,7 +374,17 @@ fn interface_place(t: &[u8], book: &[u32], listed: &[u32], rule: u32, member: u3
 const INTERFACE: u32 = 3;
 
 // The same, of the implemented name that stands from `at` up to `end`.
-fn name_place(t: &[u8], book: &[u32], listed: &[u32], rule: u32, member: u32, at: usize, end: usize, from: usize, stop: usize) -> PlaceRead
+fn name_place(
+    t: &[u8],
+    book: &[u32],
+    listed: &[u32],
+    rule: u32,
+    member: u32,
+    at: usize,
+    end: usize,
+    from: usize,
+    stop: usize,
+) -> PlaceRead
     requires { ⌜ Booked (now t) (now book) × Slim (tableOf (now t)) × Bounds (now t) at end × Bounds (now t) from stop × (allOf slimMember (membersIn (now t) from stop) ≡ true) × Listed (now t) (now listed) from stop ⌝ }
     ensures { λ r. ⌜ r ≡ placed (head? (promisedBy (askedOf rule (tableOf (now (t .entry))) (membersIn (now (t .entry)) from stop)) (tableOf (now (t .entry))) member (part (now (t .entry)) at (end - at)))) ⌝ }
 {
@@ -226,23 +392,53 @@ fn name_place(t: &[u8], book: &[u32], listed: &[u32], rule: u32, member: u32, at
     if types::kind_in(book, k) != INTERFACE {
         return PlaceRead::Kept;
     }
-    interface_place(t, book, listed, rule, member, index::start_of(book, k), index::end_of(book, k), from, stop)
+    interface_place(
+        t,
+        book,
+        listed,
+        rule,
+        member,
+        index::start_of(book, k),
+        index::end_of(book, k),
+        from,
+        stop,
+    )
 }
 
 // The same, of all the names that the definition with the content from `from` up to `stop` implements.
-fn first_place(t: &[u8], book: &[u32], listed: &[u32], rule: u32, from: usize, stop: usize) -> PlaceRead
+fn first_place(
+    t: &[u8],
+    book: &[u32],
+    listed: &[u32],
+    rule: u32,
+    from: usize,
+    stop: usize,
+) -> PlaceRead
     requires { ⌜ Booked (now t) (now book) × Slim (tableOf (now t)) × Bounds (now t) from stop × (allOf slimMember (membersIn (now t) from stop) ≡ true) × Listed (now t) (now listed) from stop ⌝ }
     ensures { λ r. ⌜ r ≡ placed (head? (each (promisedBy (askedOf rule (tableOf (now (t .entry))) (membersIn (now (t .entry)) from stop)) (tableOf (now (t .entry)))) (implementedIn (now (t .entry)) from stop))) ⌝ }
 {
     let mut i = from;
     let mut m = 0;
     loop {
-        let FieldFound::Found { tag: _, start, end: to } = members::next_implemented(t, i, stop) else {
+        let FieldFound::Found {
+            tag: _,
+            start,
+            end: to,
+        } = members::next_implemented(t, i, stop)
+        else {
             return PlaceRead::Kept;
         };
         let r = name_place(t, book, listed, rule, m, start, to, from, stop);
         match r {
-            PlaceRead::At { member: x, part: y, argument: z } => return PlaceRead::At { member: x, part: y, argument: z },
+            PlaceRead::At {
+                member: x,
+                part: y,
+                argument: z,
+            } => return PlaceRead::At {
+                member: x,
+                part: y,
+                argument: z,
+            },
             PlaceRead::Kept => {
                 i = to;
                 m += 1;
@@ -256,7 +452,14 @@ fn broken(t: &[u8], book: &[u32], listed: &[u32], rule: u32, i: usize) -> PlaceR
     requires { ⌜ Booked (now t) (now book) × Slim (tableOf (now t)) × (i < countIn (now book)) × Listed (now t) (now listed) (startIn (now book) i) (endIn (now book) i) ⌝ }
     ensures { λ r. ⌜ r ≡ placed (head? (promised (askedOf rule (tableOf (now (t .entry))) (definitionOn (now (t .entry)) i .members)) (tableOf (now (t .entry))) (definitionOn (now (t .entry)) i))) ⌝ }
 {
-    first_place(t, book, listed, rule, index::start_of(book, i), index::end_of(book, i))
+    first_place(
+        t,
+        book,
+        listed,
+        rule,
+        index::start_of(book, i),
+        index::end_of(book, i),
+    )
 }
 
 // Does definition i keep the five rules? One walk, where each rule by itself would take five.

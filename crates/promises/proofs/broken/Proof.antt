@@ -22,17 +22,21 @@ end-of-requires c κs = let h = c .before .before .before .before .pre .0 .index
 first-place-requires : tie.Need-first-place-requires
 first-place-requires c κs =
     let a = c .before .before .before .before .before .args in
-    let p = c .before .before .before .before .before .pre in
-    (p .0, p .1, rw (c .before .start-of .ensures, c .end-of .ensures) (entry-bounds (a .t .now) (a .book .now) (p .0) (a .i) (p .2)),
-    rw (c .before .start-of .ensures, c .end-of .ensures) (entry-slim (a .t .now) (a .book .now) (p .0) (p .1) (a .i) (p .2)), rw (c .before .start-of .ensures, c .end-of .ensures) (p .3))
+    let p = c .before .before .before .before .before .pre in (
+      p .0,
+      p .1,
+      rw (c .before .start-of .ensures, c .end-of .ensures) (entry-bounds (a .t .now) (a .book .now) (p .0) (a .i) (p .2)),
+      rw (c .before .start-of .ensures, c .end-of .ensures) (entry-slim (a .t .now) (a .book .now) (p .0) (p .1) (a .i) (p .2)),
+      rw (c .before .start-of .ensures, c .end-of .ensures) (p .3),
+    )
 
 returns : tie.Need-returns
 returns c =
     let a = c .before .before .before .before .before .before .args in
     let t = a .t .now in
     let z : each (promisedBy (askedOf (a .rule) (tableOf t) (membersIn t (c .before .before .start-of .result) (c .before .end-of .result))) (tableOf t)) (implementedIn t (c .before .before .start-of .result) (c .before .end-of .result))
-        ≡ promised (askedOf (a .rule) (tableOf t) (definitionOn t (a .i) .members)) (tableOf t) (definitionOn t (a .i)) =
-        rw (c .before .before .start-of .ensures, c .before .end-of .ensures) (sym (entry-asked t (a .book .now) (c .before .before .before .before .before .before .pre .0) (a .rule) (a .i) (c .before .before .before .before .before .before .pre .2))) in
+    ≡ promised (askedOf (a .rule) (tableOf t) (definitionOn t (a .i) .members)) (tableOf t) (definitionOn t (a .i)) =
+    rw (c .before .before .start-of .ensures, c .before .end-of .ensures) (sym (entry-asked t (a .book .now) (c .before .before .before .before .before .before .pre .0) (a .rule) (a .i) (c .before .before .before .before .before .before .pre .2))) in
     c .first-place .ensures ∙ ap (λ (qs : List Place). placed (head? qs)) z
 
 pub broken-spec : {M : Type 1} → statement M

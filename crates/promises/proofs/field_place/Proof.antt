@@ -24,7 +24,7 @@ found : (c : tie.After-own-tag)
 found c =
     let a = c .before .before .before .before .before .before .before .args in
     let f : FindMember (a .t .now) (a .from) (a .stop) ((memberFrom (a .t .now) (a .tag) (a .start) (a .end)) .name) (Found (c .own-tag .given .0 .0) (c .own-tag .given .0 .1 .0) (c .own-tag .given .0 .1 .1 .0)) =
-        subst (FindMember (a .t .now) (a .from) (a .stop) ((memberFrom (a .t .now) (a .tag) (a .start) (a .end)) .name)) (c .own-tag .given .1) (rw (← c .before .before .before .member-name .ensures .is) (c .before .before .find-listed .ensures)) in
+    subst (FindMember (a .t .now) (a .from) (a .stop) ((memberFrom (a .t .now) (a .tag) (a .start) (a .end)) .name)) (c .own-tag .given .1) (rw (← c .before .before .before .member-name .ensures .is) (c .before .before .find-listed .ensures)) in
     f
 
 lacking : (c : tie.After-enum-told)
@@ -32,7 +32,7 @@ lacking : (c : tie.After-enum-told)
 lacking c =
     let a = c .before .before .before .before .before .before .before .args in
     let f : FindMember (a .t .now) (a .from) (a .stop) ((memberFrom (a .t .now) (a .tag) (a .start) (a .end)) .name) Nothing =
-        subst (FindMember (a .t .now) (a .from) (a .stop) ((memberFrom (a .t .now) (a .tag) (a .start) (a .end)) .name)) (c .enum-told .given .1) (rw (← c .before .before .before .member-name .ensures .is) (c .before .before .find-listed .ensures)) in
+    subst (FindMember (a .t .now) (a .from) (a .stop) ((memberFrom (a .t .now) (a .tag) (a .start) (a .end)) .name)) (c .enum-told .given .1) (rw (← c .before .before .before .member-name .ensures .is) (c .before .before .find-listed .ensures)) in
     f
 
 member-name-requires : tie.Need-member-name-requires

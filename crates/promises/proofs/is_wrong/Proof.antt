@@ -16,7 +16,7 @@ found : (c : tie.After-own)
 found c =
     let a = c .before .before .before .before .before .args in
     let f : FindArgument (a .t .now) (a .from) (a .stop) (argumentFrom (a .t .now) (a .start) (a .end) .name) (Found (c .own .given .0 .0) (c .own .given .0 .1 .0) (c .own .given .0 .1 .1 .0)) =
-        subst (FindArgument (a .t .now) (a .from) (a .stop) (argumentFrom (a .t .now) (a .start) (a .end) .name)) (c .own .given .1) (rw (← c .before .before .before .name-in .ensures .is) (c .before .before .find-argument .ensures)) in
+    subst (FindArgument (a .t .now) (a .from) (a .stop) (argumentFrom (a .t .now) (a .start) (a .end) .name)) (c .own .given .1) (rw (← c .before .before .before .name-in .ensures .is) (c .before .before .find-argument .ensures)) in
     f
 
 name-in-requires : tie.Need-name-in-requires
@@ -39,7 +39,7 @@ returns c =
     let a = c .before .before .before .before .before .before .args in
     let x = argumentFrom (a .t .now) (a .start) (a .end) in
     let f : FindArgument (a .t .now) (a .from) (a .stop) (x .name) Nothing =
-        subst (FindArgument (a .t .now) (a .from) (a .stop) (x .name)) (c .before .enum-told .given .1) (rw (← c .before .before .before .before .name-in .ensures .is) (c .before .before .before .find-argument .ensures)) in
+    subst (FindArgument (a .t .now) (a .from) (a .stop) (x .name)) (c .before .enum-told .given .1) (rw (← c .before .before .before .before .name-in .ensures .is) (c .before .before .before .find-argument .ensures)) in
     c .is-alone-wrong .ensures ∙ ap (failing (a .rule) x) (sym f)
 
 is-beside-wrong-requires : tie.Need-is-beside-wrong-requires

@@ -45,9 +45,14 @@ interface-place-requires c κs =
     let a = c .before .before .before .before .before .before .before .before .args in
     let p = c .before .before .before .before .before .before .before .before .pre in
     let k = c .before .before .before .before .number-meant .result in
-    let h = below (c .before .before) in
-    (p .0, rw (c .before .start-of .ensures, c .end-of .ensures) (entry-bounds (a .t .now) (a .book .now) (p .0) k h), p .3,
-    rw (c .before .start-of .ensures, c .end-of .ensures) (entry-slim (a .t .now) (a .book .now) (p .0) (p .1) k h), p .4, p .5)
+    let h = below (c .before .before) in (
+      p .0,
+      rw (c .before .start-of .ensures, c .end-of .ensures) (entry-bounds (a .t .now) (a .book .now) (p .0) k h),
+      p .3,
+      rw (c .before .start-of .ensures, c .end-of .ensures) (entry-slim (a .t .now) (a .book .now) (p .0) (p .1) k h),
+      p .4,
+      p .5,
+    )
 
 returns-2 : tie.Need-returns-2
 returns-2 c =
@@ -55,7 +60,7 @@ returns-2 c =
     let ask = askedOf (a .rule) (tableOf (a .t .now)) (membersIn (a .t .now) (a .from) (a .stop)) in
     let n = part (a .t .now) (a .at) (a .end - a .at) in
     let z : each (ask (a .member)) (membersIn (a .t .now) (c .before .before .start-of .result) (c .before .end-of .result)) ≡ promisedBy ask (tableOf (a .t .now)) (a .member) n =
-        rw (c .before .before .start-of .ensures, c .before .end-of .ensures) (sym (meant-interface (a .t .now) (a .book .now) (c .before .before .before .before .before .before .before .before .before .pre .0) ask n (a .member) (c .before .before .before .before .before .number-meant .result) (c .before .before .before .before .before .number-meant .ensures) (sym (c .before .before .before .before .kind-in .ensures) ∙ c .before .before .before .if1 .left))) in
+    rw (c .before .before .start-of .ensures, c .before .end-of .ensures) (sym (meant-interface (a .t .now) (a .book .now) (c .before .before .before .before .before .before .before .before .before .pre .0) ask n (a .member) (c .before .before .before .before .before .number-meant .result) (c .before .before .before .before .before .number-meant .ensures) (sym (c .before .before .before .before .kind-in .ensures) ∙ c .before .before .before .if1 .left))) in
     c .interface-place .ensures ∙ ap (λ (qs : List Place). placed (head? qs)) z
 
 pub name-place-spec : {M : Type 1} → statement M
