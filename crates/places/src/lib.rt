@@ -2,7 +2,11 @@
 
 pub enum PlaceRead {
     // the place in the definition; 65,535 is none
-    At { member: u32, part: u32, argument: u32 },
+    At {
+        member: u32,
+        part: u32,
+        argument: u32,
+    },
     // the rule is kept
     Kept,
 }
