@@ -24,7 +24,7 @@ use Rattle.paper_types.proofs.Walk.{breaksFrom, definitionAt, breaks-start, bre
 use Rattle.places.specs.Placed.{placed}
 use Rattle.places.specs.declared.PlaceRead.{PlaceRead}
 use Rattle.places.specs.declared.PlaceRead.the-variants.{At, Kept}
-use Rattle.schema.specs.Schema.{earlyRule, lateRule, ruleOf, shownAt, queryAnswer}
+use Rattle.schema.specs.Schema.{earlyRule, promiseRule, lateRule, ruleOf, shownAt, queryAnswer}
 
 -- what is said where a first break is all there may be
 abbrev pub said : Option Break → TableAnswer
@@ -36,7 +36,7 @@ breaksBy t i d k zero = []
 breaksBy t i d k (suc n) = map (break i k) (ruleOf k t i d) ++ breaksBy t i d (suc k) n
 
 pub all-rules : (t : Table) (i : ℕ) (d : Definition) → breaksOf t i d ≡ breaksBy t i d 1 16
-unfolding breaksOf rules gather breaksBy ruleOf earlyRule lateRule
+unfolding breaksOf rules gather breaksBy ruleOf earlyRule lateRule promiseRule
 all-rules t i d = refl
 
 no-rule : (t : Table) (i : ℕ) (d : Definition) (k : ℕ) → breaksBy t i d k 0 ≡ []

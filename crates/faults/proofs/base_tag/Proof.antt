@@ -1,3 +1,4 @@
+-- The reference's name, and what it means.
 use borrow.Author.Needs.{needs}
 use mathlib.Core.Path.{_≡_, ap, _∙_}
 use mathlib.Core.List.{List}

@@ -1,3 +1,4 @@
+-- The test that the rule asks of an argument.
 use borrow.Author.Needs.{needs}
 use mathlib.Core.Path.{_≡_, sym, ap, _∙_}
 use mathlib.Core.Bool.{Bool, not}

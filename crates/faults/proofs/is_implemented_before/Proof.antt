@@ -1,3 +1,4 @@
+-- A walk that counts down over the names before.
 use borrow.Author.Needs.{needs}
 use mathlib.Core.Path.{_≡_, subst, sym, ap, _∙_}
 use mathlib.Core.List.{List}

@@ -1,3 +1,4 @@
+-- The test that the rule asks of an implemented name.
 use borrow.Author.Needs.{needs}
 use mathlib.Core.Path.{_≡_, ap, _∙_}
 use mathlib.Core.Bool.{not}

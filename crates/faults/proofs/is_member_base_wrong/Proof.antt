@@ -1,3 +1,4 @@
+-- By the member's tag.
 use borrow.Author.Needs.{needs}
 use mathlib.Core.Path.{_≡_, ap, _∙_}
 use Rattle.faults.specs.Faults.{isOutputTag}

@@ -1,3 +1,4 @@
+-- The three words, one after the other.
 use borrow.Author.Needs.{needs}
 use mathlib.Core.Path.{_≡_, sym, _∙_}
 use Rattle.paper.specs.Tokens.{same}

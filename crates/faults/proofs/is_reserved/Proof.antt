@@ -1,3 +1,4 @@
+-- Short names, then the two bytes.
 use borrow.Author.Needs.{needs}
 use Rattle.faults.proofs.TestLaws.{short-reserved, reserved-other, reserved-second}
 use Rattle.faults.proofs.is_reserved.Statement.{statement}

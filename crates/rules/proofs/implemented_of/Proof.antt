@@ -1,3 +1,4 @@
+-- The walk over the entry's content.
 use borrow.Author.Needs.{needs}
 use mathlib.Core.Path.{_≡_, ap, _∙_}
 use mathlib.Core.List.{List, head?}

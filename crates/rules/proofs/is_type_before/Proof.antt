@@ -1,3 +1,4 @@
+-- A built-in scalar, or the first type of the name.
 use borrow.Author.Needs.{needs}
 use mathlib.Core.Path.{_≡_, sym, _∙_}
 use Rattle.index.specs.Book.{part}

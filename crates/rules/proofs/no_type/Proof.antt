@@ -1,3 +1,4 @@
+-- Rule 7.
 use borrow.Author.Needs.{needs}
 use mathlib.Core.Path.{_≡_, sym, ap, _∙_}
 use mathlib.Core.List.{List, head?}

@@ -1,3 +1,4 @@
+-- Rules 1 to 8, by number.
 use borrow.Author.Needs.{needs}
 use mathlib.Core.Path.{_≡_, sym, ap, _∙_}
 use mathlib.Core.List.{head?}

@@ -1,3 +1,4 @@
+-- By record 8 and by what `Query` means.
 use borrow.Author.Needs.{needs}
 use mathlib.Core.Path.{_≡_, sym, ap, _∙_}
 use Prim.Native.Nat.{ℕ}

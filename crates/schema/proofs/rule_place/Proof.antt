@@ -1,3 +1,4 @@
+-- The lower or the higher numbers.
 use borrow.Author.Needs.{needs}
 use mathlib.Core.Path.{_≡_, sym, ap, _∙_}
 use mathlib.Core.List.{head?}
@@ -10,16 +11,16 @@ use Rattle.schema.proofs.rule_place.Statement.{statement}
 use Rattle.schema.proofs.rule_place.Tie as tie
 
 early-place-requires : tie.Need-early-place-requires
-early-place-requires c κs = search needs
+early-place-requires c κs = (c .before .before .before .before .pre .0, c .before .before .before .before .pre .2)
 
 returns : tie.Need-returns
-returns c = c .early-place .ensures ∙ sym (ap (λ (q : Rule). placed (head? (q (tableOf (c .before .before .before .before .args .t .now)) (c .before .before .before .before .args .i) (definitionOn (c .before .before .before .before .args .t .now) (c .before .before .before .before .args .i))))) (rule-early (c .before .before .before .before .args .rule) (c .before .if1 .taken)))
+returns c = c .early-place .ensures ∙ sym (ap (λ (q : Rule). placed (head? (q (tableOf (c .before .before .before .before .before .args .t .now)) (c .before .before .before .before .before .args .i) (definitionOn (c .before .before .before .before .before .args .t .now) (c .before .before .before .before .before .args .i))))) (rule-early (c .before .before .before .before .before .args .rule) (c .before .if1 .taken)))
 
 late-place-requires : tie.Need-late-place-requires
-late-place-requires c κs = search needs
+late-place-requires c κs = c .before .before .before .before .pre
 
 returns-2 : tie.Need-returns-2
-returns-2 c = c .late-place .ensures ∙ sym (ap (λ (q : Rule). placed (head? (q (tableOf (c .before .before .before .before .args .t .now)) (c .before .before .before .before .args .i) (definitionOn (c .before .before .before .before .args .t .now) (c .before .before .before .before .args .i))))) (rule-late (c .before .before .before .before .args .rule) (c .before .if1 .left)))
+returns-2 c = c .late-place .ensures ∙ sym (ap (λ (q : Rule). placed (head? (q (tableOf (c .before .before .before .before .before .args .t .now)) (c .before .before .before .before .before .args .i) (definitionOn (c .before .before .before .before .before .args .t .now) (c .before .before .before .before .before .args .i))))) (rule-late (c .before .before .before .before .before .args .rule) (c .before .if1 .left)))
 
 pub rule-place-spec : {M : Type 1} → statement M
 rule-place-spec =

@@ -1,3 +1,4 @@
+-- By the place.
 use borrow.Author.Needs.{needs}
 use mathlib.Core.Path.{_≡_, sym, ap, _∙_}
 use Rattle.schema.specs.Schema.{shownAt}

@@ -1,3 +1,4 @@
+-- A walk over the implemented names.
 use borrow.Author.Needs.{needs}
 use mathlib.Core.Path.{_≡_, subst, sym, ap, _∙_}
 use mathlib.Core.List.{List, head?}

@@ -1,3 +1,4 @@
+-- The arguments' place, or else the member's.
 use borrow.Author.Needs.{needs}
 use mathlib.Core.Path.{_≡_, sym, _∙_}
 use Rattle.paper_types.specs.Lists.{onlyIf}
