@@ -2,11 +2,11 @@
 use mathlib.Core.Path.{_≡_, refl, sym, ap, _∙_}
 use mathlib.Core.Bool.{Bool, true, false, _||_}
 use mathlib.Core.List.{List, [], _∷_}
-use Prim.Native.Nat.{ℕ, zero, suc, _+_, _-_, _≤_, _<_}
+use Prim.Native.Nat.{ℕ, zero, suc, _-_, _≤_, _<_}
 use native.Mathlib.Omega.{arith}
 use lib.ListN.{take}
 use Rattle.paper_types.specs.Lists.{anyOf}
-use Rattle.members.specs.Members.{Lies, First}
+use Rattle.members.specs.Members.{First}
 
 module _ {A : Type 0} (p : A → Bool) where
   any-zero : (xs : List A) → anyOf p (take 0 xs) ≡ false

@@ -1,9 +1,8 @@
 -- Which test each rule asks of a member and of an argument.
 use mathlib.Core.Path.{_≡_, refl, sym}
-use mathlib.Core.Bool.{Bool, true, false, not}
+use mathlib.Core.Bool.{false}
 use mathlib.Core.List.{List}
 use Prim.Native.Nat.{ℕ}
-use lib.Dec.{eqb}
 use borrow.Author.Tests.{eq-eqb, ne-eqb}
 use Rattle.paper.specs.Tokens.{same}
 use Rattle.paper_types.specs.TableNumbers.{ruleNameRepeated, ruleReservedMember, ruleEnumValue, ruleNoType, ruleBase, ruleImplementedTwice}

@@ -1,12 +1,12 @@
 -- What the tests of names, members and arguments say, case by case.
 use mathlib.Core.Path.{_≡_, refl, sym, ap, _∙_}
-use mathlib.Core.Bool.{Bool, true, false, not, _||_, _&&_, cond}
+use mathlib.Core.Bool.{Bool, true, false, _||_, _&&_}
 use mathlib.Core.List.{List, [], _∷_}
 use Prim.Native.Nat.{ℕ, zero, suc, _+_, _≤_, _<_}
 use native.Mathlib.Omega.{arith}
 use lib.ListN.{length, take, drop, getD}
 use lib.Seq.{slice, drop-cons}
-use lib.Dec.{leb, ltb, eqb}
+use lib.Dec.{leb, eqb}
 use borrow.Author.Tests.{eq-eqb, ne-eqb, le-leb, lt-leb}
 use Rattle.paper_types.specs.Lists.{anyOf}
 use Rattle.paper_types.specs.TableNumbers.{tagField, tagArgument}
@@ -20,9 +20,12 @@ use Rattle.faults.specs.Faults.{isOutputTag}
 part-two : (t : List ℕ) (at n : ℕ) → at + n ≤ length t → 2 ≤ n → (k : ℕ) × (n ≡ suc (suc k)) × (part t at n ≡ getD t at 0 ∷ getD t (at + 1) 0 ∷ take k (drop (suc (suc at)) t))
 part-two t at zero h l = absurd (omega arith)
 part-two t at (suc zero) h l = absurd (omega arith)
-part-two t at (suc (suc k)) h l =
-    (k, refl, ap (take (suc (suc k))) (drop-cons t at 0 (omega arith)) ∙ ap (λ (xs : List ℕ). getD t at 0 ∷ take (suc k) xs) (drop-cons t (suc at) 0 (omega arith))
-    ∙ ap (λ (x : ℕ). getD t at 0 ∷ getD t x 0 ∷ take k (drop (suc (suc at)) t)) (let e : suc at ≡ at + 1 = omega arith in e))
+part-two t at (suc (suc k)) h l = (
+  k,
+  refl,
+  ap (take (suc (suc k))) (drop-cons t at 0 (omega arith)) ∙ ap (λ (xs : List ℕ). getD t at 0 ∷ take (suc k) xs) (drop-cons t (suc at) 0 (omega arith))
+      ∙ ap (λ (x : ℕ). getD t at 0 ∷ getD t x 0 ∷ take k (drop (suc (suc at)) t)) (let e : suc at ≡ at + 1 = omega arith in e),
+)
 
 one-reserved : (xs : List ℕ) → false ≡ isReserved (take 1 xs)
 one-reserved [] = refl

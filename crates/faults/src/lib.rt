@@ -69,7 +69,12 @@ pub fn is_member_before(t: &[u8], from: usize, end: usize, count: u32, at: usize
     let mut i = from;
     let mut left = count;
     while 0 < left {
-        let FieldFound::Found { tag, start, end: stop } = members::next_member(t, i, end) else {
+        let FieldFound::Found {
+            tag,
+            start,
+            end: stop,
+        } = members::next_member(t, i, end)
+        else {
             return false;
         };
         let m = members::member_name(t, tag, start, stop);
@@ -83,14 +88,26 @@ pub fn is_member_before(t: &[u8], from: usize, end: usize, count: u32, at: usize
 }
 
 // The same of a field's arguments.
-pub fn is_argument_before(t: &[u8], from: usize, end: usize, count: u32, at: usize, n: usize) -> bool
+pub fn is_argument_before(
+    t: &[u8],
+    from: usize,
+    end: usize,
+    count: u32,
+    at: usize,
+    n: usize,
+) -> bool
     requires { ⌜ Bounds (now t) from end × (at + n ≤ length (now t)) ⌝ }
     ensures { λ r. ⌜ r ≡ anyOf (argumentNamed (part (now (t .entry)) at n)) (take count (argumentsIn (now (t .entry)) from end)) ⌝ }
 {
     let mut i = from;
     let mut left = count;
     while 0 < left {
-        let FieldFound::Found { tag: _, start, end: stop } = members::next_argument(t, i, end) else {
+        let FieldFound::Found {
+            tag: _,
+            start,
+            end: stop,
+        } = members::next_argument(t, i, end)
+        else {
             return false;
         };
         let m = members::name_in(t, start, stop);
@@ -104,14 +121,26 @@ pub fn is_argument_before(t: &[u8], from: usize, end: usize, count: u32, at: usi
 }
 
 // Rule 10: is one of the first `count` implemented names the n bytes from `at` on?
-pub fn is_implemented_before(t: &[u8], from: usize, end: usize, count: u32, at: usize, n: usize) -> bool
+pub fn is_implemented_before(
+    t: &[u8],
+    from: usize,
+    end: usize,
+    count: u32,
+    at: usize,
+    n: usize,
+) -> bool
     requires { ⌜ Bounds (now t) from end × (at + n ≤ length (now t)) ⌝ }
     ensures { λ r. ⌜ r ≡ anyOf (same (part (now (t .entry)) at n)) (take count (implementedIn (now (t .entry)) from end)) ⌝ }
 {
     let mut i = from;
     let mut left = count;
     while 0 < left {
-        let FieldFound::Found { tag: _, start, end: stop } = members::next_implemented(t, i, end) else {
+        let FieldFound::Found {
+            tag: _,
+            start,
+            end: stop,
+        } = members::next_implemented(t, i, end)
+        else {
             return false;
         };
         if index::is_text(t, at, n, t, start, stop - start) {
@@ -185,7 +214,17 @@ fn is_member_base_wrong(t: &[u8], book: &[u32], tag: u8, start: usize, end: usiz
 }
 
 // Does a member of the record from `from` up to `end`, its number m, break a rule? (4 to 8; else that its name is an object's: 9 and 16.)
-pub fn is_member_broken(t: &[u8], book: &[u32], rule: u32, from: usize, end: usize, m: u32, tag: u8, start: usize, stop: usize) -> bool
+pub fn is_member_broken(
+    t: &[u8],
+    book: &[u32],
+    rule: u32,
+    from: usize,
+    end: usize,
+    m: u32,
+    tag: u8,
+    start: usize,
+    stop: usize,
+) -> bool
     requires { ⌜ Booked (now t) (now book) × Bounds (now t) from end × Bounds (now t) start stop ⌝ }
     ensures { λ r. ⌜ r ≡ memberFails rule (tableOf (now (t .entry))) (membersIn (now (t .entry)) from end) m (memberFrom (now (t .entry)) tag start stop) ⌝ }
 {
@@ -209,7 +248,16 @@ pub fn is_member_broken(t: &[u8], book: &[u32], rule: u32, from: usize, end: usi
 }
 
 // Does an argument of the field from `from` up to `end`, its number a, break a rule? (4, 5, 7 or 8; no other asks this.)
-pub fn is_argument_broken(t: &[u8], book: &[u32], rule: u32, from: usize, end: usize, a: u32, start: usize, stop: usize) -> bool
+pub fn is_argument_broken(
+    t: &[u8],
+    book: &[u32],
+    rule: u32,
+    from: usize,
+    end: usize,
+    a: u32,
+    start: usize,
+    stop: usize,
+) -> bool
     requires { ⌜ Booked (now t) (now book) × Bounds (now t) from end × Bounds (now t) start stop ⌝ }
     ensures { λ r. ⌜ r ≡ argumentFails rule (tableOf (now (t .entry))) (argumentsIn (now (t .entry)) from end) a (argumentFrom (now (t .entry)) start stop) ⌝ }
 {
@@ -230,7 +278,16 @@ pub fn is_argument_broken(t: &[u8], book: &[u32], rule: u32, from: usize, end: u
 }
 
 // Does an implemented name of the record from `from` up to `end`, its number m, break a rule? (10; else that it is no interface's: 9.)
-pub fn is_implemented_broken(t: &[u8], book: &[u32], rule: u32, from: usize, end: usize, m: u32, start: usize, stop: usize) -> bool
+pub fn is_implemented_broken(
+    t: &[u8],
+    book: &[u32],
+    rule: u32,
+    from: usize,
+    end: usize,
+    m: u32,
+    start: usize,
+    stop: usize,
+) -> bool
     requires { ⌜ Booked (now t) (now book) × Bounds (now t) from end × Bounds (now t) start stop ⌝ }
     ensures { λ r. ⌜ r ≡ implementedFails rule (tableOf (now (t .entry))) (implementedIn (now (t .entry)) from end) m (part (now (t .entry)) start (stop - start)) ⌝ }
 {

@@ -1,10 +1,10 @@
 -- What each rule asks of a definition: nothing, the definition itself, its members, or the names it implements.
-use mathlib.Core.Path.{_≡_, refl, sym, ap, _∙_}
-use mathlib.Core.Bool.{Bool, true, false, _&&_, _||_, cond}
-use mathlib.Core.List.{List, [], _∷_, _++_, head?}
+use mathlib.Core.Path.{_≡_, refl, sym, ap}
+use mathlib.Core.Bool.{Bool, true, false, _&&_, _||_}
+use mathlib.Core.List.{List, [], _∷_, _++_}
 use Prim.Native.Nat.{ℕ, suc, _≤_, _<_}
 use lib.ListN.{length}
-use lib.Dec.{leb, eqb}
+use lib.Dec.{eqb}
 use native.Mathlib.Omega.{arith}
 use borrow.Author.Tests.{eq-eqb, ne-eqb, eqb-true, le-leb, lt-leb}
 use Rattle.paper_types.specs.Lists.{eachFrom, each, onlyIf}
@@ -31,6 +31,7 @@ members-only t fails argumentFails h ms = each-same (λ m e. onlyIf (fails m e) 
   where
     none-of : (m : ℕ) (e : Member) → argumentPlaces argumentFails m e ≡ []
     none-of m e = each-nothing (λ a x. onlyIf (argumentFails e a x) (argumentAt m a)) (λ a x. rw (h e a x) refl) 0 (e .arguments)
+
     at : (m : ℕ) (e : Member) → onlyIf (fails m e) (memberAt m) ≡ memberPlaces fails argumentFails m e
     at m e = sym (ap (λ (ps : List Place). ps ++ onlyIf (fails m e) (memberAt m)) (none-of m e))
 

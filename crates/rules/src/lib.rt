@@ -55,7 +55,10 @@ fn name_of(t: &[u8], book: &[u32], i: usize) -> Name
     requires { ⌜ Booked (now t) (now book) × (i < countIn (now book)) ⌝ }
     ensures { λ r. ⌜ Named (now (t .entry)) (r .at) (r .size) (definitionOn (now (t .entry)) i .name) ⌝ }
 {
-    Name { at: index::name_of(book, i), size: index::size_of(book, i) }
+    Name {
+        at: index::name_of(book, i),
+        size: index::size_of(book, i),
+    }
 }
 
 // The definition itself, if it is broken.
@@ -63,7 +66,11 @@ fn whole(broken: bool) -> PlaceRead
     ensures { λ r. ⌜ r ≡ placed (head? (onlyIf broken wholeOf)) ⌝ }
 {
     if broken {
-        return PlaceRead::At { member: NO_PLACE, part: NO_PLACE, argument: NO_PLACE };
+        return PlaceRead::At {
+            member: NO_PLACE,
+            part: NO_PLACE,
+            argument: NO_PLACE,
+        };
     }
     PlaceRead::Kept
 }
@@ -73,7 +80,13 @@ fn members_of(t: &[u8], book: &[u32], rule: u32, i: usize) -> PlaceRead
     requires { ⌜ Booked (now t) (now book) × (i < countIn (now book)) ⌝ }
     ensures { λ r. ⌜ r ≡ placed (head? (membersAt rule (tableOf (now (t .entry))) (definitionOn (now (t .entry)) i .members))) ⌝ }
 {
-    walks::members_place(t, book, rule, index::start_of(book, i), index::end_of(book, i))
+    walks::members_place(
+        t,
+        book,
+        rule,
+        index::start_of(book, i),
+        index::end_of(book, i),
+    )
 }
 
 // The first name that definition i implements and that breaks the rule.
@@ -81,7 +94,13 @@ fn implemented_of(t: &[u8], book: &[u32], rule: u32, i: usize) -> PlaceRead
     requires { ⌜ Booked (now t) (now book) × (i < countIn (now book)) ⌝ }
     ensures { λ r. ⌜ r ≡ placed (head? (implementedAt rule (tableOf (now (t .entry))) (definitionOn (now (t .entry)) i .implements))) ⌝ }
 {
-    walks::implemented_place(t, book, rule, index::start_of(book, i), index::end_of(book, i))
+    walks::implemented_place(
+        t,
+        book,
+        rule,
+        index::start_of(book, i),
+        index::end_of(book, i),
+    )
 }
 
 // 1. Type or directive name begins `__`.
@@ -137,7 +156,12 @@ fn is_empty(t: &[u8], book: &[u32], i: usize) -> bool
     requires { ⌜ Booked (now t) (now book) × (i < countIn (now book)) ⌝ }
     ensures { λ r. ⌜ r ≡ eqb (length (definitionOn (now (t .entry)) i .members)) 0 ⌝ }
 {
-    let FieldFound::Found { tag: _, start: _, end: _ } = members::next_member(t, index::start_of(book, i), index::end_of(book, i)) else {
+    let FieldFound::Found {
+        tag: _,
+        start: _,
+        end: _,
+    } = members::next_member(t, index::start_of(book, i), index::end_of(book, i))
+    else {
         return true;
     };
     false

@@ -1,13 +1,12 @@
 -- The rules in turn, from one number on; the definitions in turn.
 use mathlib.Core.Path.{_≡_, refl, sym, ap, subst, _∙_}
-use mathlib.Core.Bool.{Bool, true, false, not, _&&_, _||_, cond}
+use mathlib.Core.Bool.{Bool, true, false, _||_, cond}
 use mathlib.Core.Option.{Option, none, some}
 use mathlib.Core.List.{List, [], _∷_, _++_, map, head?}
 use Prim.Native.Nat.{ℕ, zero, suc, _+_, _-_, _≤_, _<_}
 use native.Mathlib.Omega.{arith}
 use lib.ListN.{length, drop, drop-of-length-le}
 use lib.Seq.{drop-cons}
-use lib.Dec.{eqb}
 use borrow.Author.Tests.{eq-eqb, ne-eqb}
 use mathlib.Core.Logic.{_⊎_, inl, inr}
 use denote.Enum.Declared.{tagOf}
@@ -82,13 +81,14 @@ module _ (t : Table) (i : ℕ) (d : Definition) where
       turn-here m p a f = told i k (ruleOf k t i d) _ r m p a e f ∙ sym opened
 
       pub turn-on : r ≡ Kept → InTurn t i d (k + 1)
-      turn-on f = record
-        { begun = omega arith
-        ; within = omega arith
-        ; same =
+      turn-on f = record {
+        begun = omega arith;
+        within = omega arith;
+        same =
             opened ∙ kept i k (ruleOf k t i d) _ r e f
             ∙ ap (λ (n : ℕ). said (head? (breaksBy t i d n (16 - k)))) (let q : suc k ≡ k + 1 = omega arith in q)
-            ∙ ap (λ (n : ℕ). said (head? (breaksBy t i d (k + 1) n))) (let q : 16 - k ≡ 17 - (k + 1) = omega arith in q) }
+            ∙ ap (λ (n : ℕ). said (head? (breaksBy t i d (k + 1) n))) (let q : 16 - k ≡ 17 - (k + 1) = omega arith in q);
+      }
 
 -- what the walk over the definitions knows at number i
 pub record InOrder (t : Table) (i : ℕ) : Type 0 where
@@ -124,11 +124,12 @@ module _ (t : Table) where
           go (some b) q = e ∙ ap said (q ∙ sym (breaks-here t i b h q)) ∙ sym (w .same)
 
       pub order-on : r ≡ Accepted → InOrder t (i + 1)
-      order-on f = record
-        { within = omega arith
-        ; same =
+      order-on f = record {
+        within = omega arith;
+        same =
             w .same ∙ ap said (breaks-on t i h (said-none (head? (breaksOf t i (definitionAt t i))) (sym f ∙ e)))
-            ∙ ap (λ (n : ℕ). said (head? (breaksFrom t n))) (let q : suc i ≡ i + 1 = omega arith in q) }
+            ∙ ap (λ (n : ℕ). said (head? (breaksFrom t n))) (let q : suc i ≡ i + 1 = omega arith in q);
+      }
 
 -- is there a record 8, from number i on
 pub record Rootless (t : Table) (i : ℕ) : Type 0 where
@@ -159,9 +160,10 @@ module _ (t : Table) where
       roots-here e = sym (opened-roots ∙ rw (eq-eqb (definitionAt t i .tag) 8 e) refl)
 
       pub roots-on : (definitionAt t i .tag ≡ 8 → ⊥) → Rootless t (i + 1)
-      roots-on f = record
-        { within = omega arith
-        ; same = opened-roots ∙ rw (ne-eqb (definitionAt t i .tag) 8 f) (ap (λ (n : ℕ). anyOf isRoots (drop n t)) (let q : suc i ≡ i + 1 = omega arith in q)) }
+      roots-on f = record {
+        within = omega arith;
+        same = opened-roots ∙ rw (ne-eqb (definitionAt t i .tag) 8 f) (ap (λ (n : ℕ). anyOf isRoots (drop n t)) (let q : suc i ≡ i + 1 = omega arith in q));
+      }
 
   -- 16, without record 8
   pub query-roots : anyOf isRoots t ≡ true → Accepted ≡ queryAnswer t

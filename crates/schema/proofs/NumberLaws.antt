@@ -105,9 +105,10 @@ promise-kept k t i d h = go (eqb k 11) (eqb k 12) (eqb k 13) (eqb k 14)
 
 pub nothing-promised : (t : Table) (i : ℕ) (d : Definition) → d .implements ≡ [] → AllKept t i d
 unfolding fieldMissing fieldType argumentMissing argumentType argumentExtra promised
-nothing-promised t i d e = record
-  { field-missing = rw e (eachFrom-nil 0 (promisedBy (askField d) t))
-  ; field-type = rw e (eachFrom-nil 0 (promisedBy (askType t d) t))
-  ; argument-missing = rw e (eachFrom-nil 0 (promisedBy (askArgument d) t))
-  ; argument-type = rw e (eachFrom-nil 0 (promisedBy (askArgumentType d) t))
-  ; argument-extra = rw e (eachFrom-nil 0 (promisedBy (askExtra d) t)) }
+nothing-promised t i d e = record {
+  field-missing = rw e (eachFrom-nil 0 (promisedBy (askField d) t));
+  field-type = rw e (eachFrom-nil 0 (promisedBy (askType t d) t));
+  argument-missing = rw e (eachFrom-nil 0 (promisedBy (askArgument d) t));
+  argument-type = rw e (eachFrom-nil 0 (promisedBy (askArgumentType d) t));
+  argument-extra = rw e (eachFrom-nil 0 (promisedBy (askExtra d) t));
+}

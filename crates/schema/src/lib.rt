@@ -11,9 +11,9 @@ use paper_types::RULE_FIELD_TYPE;
 use paper_types::RULE_IMPLEMENTED_TWICE;
 use paper_types::RULE_NAME_KNOWN;
 use paper_types::RULE_NAME_REPEATED;
-use paper_types::RULE_NOT_OBJECT_OR_INTERFACE;
 use paper_types::RULE_NO_MEMBERS;
 use paper_types::RULE_NO_TYPE;
+use paper_types::RULE_NOT_OBJECT_OR_INTERFACE;
 use paper_types::RULE_RESERVED_MEMBER;
 use paper_types::RULE_RESERVED_NAME;
 use paper_types::RULE_ROOT;
@@ -84,7 +84,14 @@ fn promise_place(t: &[u8], book: &[u32], listed: &[u32], rule: u32, i: usize) ->
 }
 
 // The same of a rule from 9 to 16.
-fn late_place(t: &[u8], book: &[u32], listed: &[u32], promising: bool, rule: u32, i: usize) -> PlaceRead
+fn late_place(
+    t: &[u8],
+    book: &[u32],
+    listed: &[u32],
+    promising: bool,
+    rule: u32,
+    i: usize,
+) -> PlaceRead
     requires { ⌜ Booked (now t) (now book) × Slim (tableOf (now t)) × (i < countIn (now book)) × Promising (now t) (now book) (now listed) i promising ⌝ }
     ensures { λ r. ⌜ r ≡ placed (head? (lateRule rule (tableOf (now (t .entry))) i (definitionOn (now (t .entry)) i))) ⌝ }
 {
@@ -104,7 +111,14 @@ fn late_place(t: &[u8], book: &[u32], listed: &[u32], promising: bool, rule: u32
 }
 
 // The same of any rule.
-fn rule_place(t: &[u8], book: &[u32], listed: &[u32], promising: bool, rule: u32, i: usize) -> PlaceRead
+fn rule_place(
+    t: &[u8],
+    book: &[u32],
+    listed: &[u32],
+    promising: bool,
+    rule: u32,
+    i: usize,
+) -> PlaceRead
     requires { ⌜ Booked (now t) (now book) × Slim (tableOf (now t)) × (i < countIn (now book)) × Promising (now t) (now book) (now listed) i promising ⌝ }
     ensures { λ r. ⌜ r ≡ placed (head? (ruleOf rule (tableOf (now (t .entry))) i (definitionOn (now (t .entry)) i))) ⌝ }
 {
@@ -119,10 +133,21 @@ fn shown(i: usize, rule: u32, p: PlaceRead) -> TableAnswer
     requires { ⌜ i < room ⌝ }
     ensures { λ r. ⌜ r ≡ shownAt i rule p ⌝ }
 {
-    let PlaceRead::At { member, part, argument } = p else {
+    let PlaceRead::At {
+        member,
+        part,
+        argument,
+    } = p
+    else {
         return TableAnswer::Accepted;
     };
-    TableAnswer::Breaks { definition: i as u32, rule: rule, member: member, part: part, argument: argument }
+    TableAnswer::Breaks {
+        definition: i as u32,
+        rule: rule,
+        member: member,
+        part: part,
+        argument: argument,
+    }
 }
 
 // The first break of definition i, the rules in turn.
@@ -148,7 +173,12 @@ fn list_promises(t: &[u8], book: &[u32], listed: &mut [u32], i: usize) -> bool
 {
     let start = index::start_of(book, i);
     let end = index::end_of(book, i);
-    let FieldFound::Found { tag: _, start: _, end: _ } = members::next_implemented(t, start, end) else {
+    let FieldFound::Found {
+        tag: _,
+        start: _,
+        end: _,
+    } = members::next_implemented(t, start, end)
+    else {
         return false;
     };
     listings::list_members(t, listed, start, end);
@@ -195,7 +225,13 @@ fn query_break(t: &[u8], book: &[u32]) -> TableAnswer
     if types::tag_meant(t, book, b"Query", 0, 5) == OBJECT {
         return TableAnswer::Accepted;
     }
-    TableAnswer::Breaks { definition: index::count_of(book) as u32, rule: RULE_ROOT, member: NO_PLACE, part: NO_PLACE, argument: NO_PLACE }
+    TableAnswer::Breaks {
+        definition: index::count_of(book) as u32,
+        rule: RULE_ROOT,
+        member: NO_PLACE,
+        part: NO_PLACE,
+        argument: NO_PLACE,
+    }
 }
 
 // The first break of a table; `listed` is room for the list of one definition's members.

@@ -3,12 +3,12 @@ use mathlib.Core.Path.{_≡_, refl, sym, ap, _∙_}
 use mathlib.Core.Bool.{Bool, true, false}
 use mathlib.Core.Option.{Option, none, some}
 use mathlib.Core.List.{List, [], _∷_, _++_, head?}
-use Prim.Native.Nat.{ℕ, suc, _+_, _≤_, _<_}
+use Prim.Native.Nat.{ℕ, suc, _+_, _≤_}
 use native.Mathlib.Omega.{arith}
 use Rattle.paper_types.specs.Lists.{eachFrom, each, onlyIf}
 use Rattle.paper_types.specs.Rules.{Place}
 use Rattle.paper_types.proofs.ListsLaws.{head-right, eachFrom-nil, eachFrom-cons}
-use Rattle.members.specs.Members.{Lies, First}
+use Rattle.members.specs.Members.{First}
 use Rattle.places.specs.Placed.{placed}
 use Rattle.places.specs.declared.PlaceRead.{PlaceRead}
 use Rattle.places.specs.declared.PlaceRead.the-variants.{At, Kept}
@@ -61,9 +61,10 @@ module _ {A : Type 0} (f : ℕ → A → List Place) where
       walking-told r k p a e g = g ∙ walking-here k p a (sym g ∙ e)
 
       pub walking-on : Kept ≡ placed (head? (f m one)) → Walking f at end stop (m + 1) all others
-      walking-on e = record
-        { begun = omega (arith, w .begun, n .lies .begins, n .lies .order)
-        ; within = n .lies .within
-        ; same =
+      walking-on e = record {
+        begun = omega (arith, w .begun, n .lies .begins, n .lies .order);
+        within = n .lies .within;
+        same =
             opened ∙ placed-right (f m one) (eachFrom (suc m) f others) e
-            ∙ ap (λ (k : ℕ). placed (head? (eachFrom k f others))) (let q : suc m ≡ m + 1 = omega arith in q) }
+            ∙ ap (λ (k : ℕ). placed (head? (eachFrom k f others))) (let q : suc m ≡ m + 1 = omega arith in q);
+      }

@@ -3,7 +3,7 @@
 use mathlib.Core.List.{List}
 use Prim.Native.Nat.{ℕ}
 use Rattle.paper_types.specs.Lists.{each, onlyIf}
-use Rattle.paper_types.specs.Types.{Argument, Member, Table}
+use Rattle.paper_types.specs.Types.{Member, Table}
 use Rattle.paper_types.specs.Rules.{Place, memberAt, argumentPlaces, memberPlaces}
 use Rattle.faults.specs.Faults.{memberFails, argumentFails, implementedFails}
 

@@ -17,7 +17,15 @@ ghost use Rattle.types.specs.Booked.{Booked};
 ghost use Rattle.walks.specs.Walks.{argumentsAt, memberAndArgumentsAt, membersAt, implementedAt};
 
 // The first argument that breaks the rule, of the member with this tag and content, its number m.
-fn arguments_place(t: &[u8], book: &[u32], rule: u32, m: u32, tag: u8, start: usize, end: usize) -> PlaceRead
+fn arguments_place(
+    t: &[u8],
+    book: &[u32],
+    rule: u32,
+    m: u32,
+    tag: u8,
+    start: usize,
+    end: usize,
+) -> PlaceRead
     requires { ⌜ Booked (now t) (now book) × Bounds (now t) start end ⌝ }
     ensures { λ r. ⌜ r ≡ placed (head? (argumentsAt rule (tableOf (now (t .entry))) m (memberFrom (now (t .entry)) tag start end))) ⌝ }
 {
@@ -27,11 +35,20 @@ fn arguments_place(t: &[u8], book: &[u32], rule: u32, m: u32, tag: u8, start: us
     let mut i = start;
     let mut a = 0;
     loop {
-        let FieldFound::Found { tag: _, start: from, end: stop } = members::next_argument(t, i, end) else {
+        let FieldFound::Found {
+            tag: _,
+            start: from,
+            end: stop,
+        } = members::next_argument(t, i, end)
+        else {
             return PlaceRead::Kept;
         };
         if faults::is_argument_broken(t, book, rule, start, end, a, from, stop) {
-            return PlaceRead::At { member: m, part: NO_PLACE, argument: a };
+            return PlaceRead::At {
+                member: m,
+                part: NO_PLACE,
+                argument: a,
+            };
         }
         i = stop;
         a += 1;
@@ -39,7 +56,17 @@ fn arguments_place(t: &[u8], book: &[u32], rule: u32, m: u32, tag: u8, start: us
 }
 
 // The first place that breaks the rule, in the member with this tag and content, its number m, of the record from `from` up to `end`.
-fn member_place(t: &[u8], book: &[u32], rule: u32, from: usize, end: usize, m: u32, tag: u8, start: usize, stop: usize) -> PlaceRead
+fn member_place(
+    t: &[u8],
+    book: &[u32],
+    rule: u32,
+    from: usize,
+    end: usize,
+    m: u32,
+    tag: u8,
+    start: usize,
+    stop: usize,
+) -> PlaceRead
     requires { ⌜ Booked (now t) (now book) × Bounds (now t) from end × Bounds (now t) start stop ⌝ }
     ensures { λ r. ⌜ r ≡ placed (head? (memberAndArgumentsAt rule (tableOf (now (t .entry))) (membersIn (now (t .entry)) from end) m (memberFrom (now (t .entry)) tag start stop))) ⌝ }
 {
@@ -48,7 +75,11 @@ fn member_place(t: &[u8], book: &[u32], rule: u32, from: usize, end: usize, m: u
         return p;
     };
     if faults::is_member_broken(t, book, rule, from, end, m, tag, start, stop) {
-        return PlaceRead::At { member: m, part: NO_PLACE, argument: NO_PLACE };
+        return PlaceRead::At {
+            member: m,
+            part: NO_PLACE,
+            argument: NO_PLACE,
+        };
     }
     PlaceRead::Kept
 }
@@ -61,7 +92,12 @@ pub fn members_place(t: &[u8], book: &[u32], rule: u32, from: usize, end: usize)
     let mut i = from;
     let mut m = 0;
     loop {
-        let FieldFound::Found { tag, start, end: stop } = members::next_member(t, i, end) else {
+        let FieldFound::Found {
+            tag,
+            start,
+            end: stop,
+        } = members::next_member(t, i, end)
+        else {
             return PlaceRead::Kept;
         };
         let p = member_place(t, book, rule, from, end, m, tag, start, stop);
@@ -81,11 +117,20 @@ pub fn implemented_place(t: &[u8], book: &[u32], rule: u32, from: usize, end: us
     let mut i = from;
     let mut m = 0;
     loop {
-        let FieldFound::Found { tag: _, start, end: stop } = members::next_implemented(t, i, end) else {
+        let FieldFound::Found {
+            tag: _,
+            start,
+            end: stop,
+        } = members::next_implemented(t, i, end)
+        else {
             return PlaceRead::Kept;
         };
         if faults::is_implemented_broken(t, book, rule, from, end, m, start, stop) {
-            return PlaceRead::At { member: m, part: NO_PLACE, argument: NO_PLACE };
+            return PlaceRead::At {
+                member: m,
+                part: NO_PLACE,
+                argument: NO_PLACE,
+            };
         }
         i = stop;
         m += 1;

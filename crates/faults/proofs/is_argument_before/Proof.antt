@@ -1,6 +1,6 @@
 -- A walk that counts down over the arguments before.
 use borrow.Author.Needs.{needs}
-use mathlib.Core.Path.{_≡_, subst, sym, ap, _∙_}
+use mathlib.Core.Path.{subst, sym, ap, _∙_}
 use mathlib.Core.List.{List}
 use Prim.Native.Nat.{ℕ}
 use native.Mathlib.Omega.{arith}

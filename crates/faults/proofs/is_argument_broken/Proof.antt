@@ -1,16 +1,14 @@
 -- The test that the rule asks of an argument.
 use borrow.Author.Needs.{needs}
-use mathlib.Core.Path.{_≡_, sym, ap, _∙_}
-use mathlib.Core.Bool.{Bool, not}
+use mathlib.Core.Path.{ap, _∙_}
 use mathlib.Core.List.{List}
 use Prim.Native.Nat.{ℕ}
 use lib.Dec.{eqb}
 use lib.ListN.{take}
-use Rattle.paper.specs.Tokens.{same}
 use Rattle.paper_types.specs.Lists.{anyOf}
-use Rattle.paper_types.specs.Types.{tableOf, meant}
-use Rattle.paper_types.specs.Rules.{isReserved, memberNamed, argumentNamed, noEnumValues}
-use Rattle.members.specs.Members.{membersIn, argumentsIn, memberFrom, argumentFrom}
+use Rattle.paper_types.specs.Types.{tableOf}
+use Rattle.paper_types.specs.Rules.{isReserved, argumentNamed}
+use Rattle.members.specs.Members.{argumentsIn, argumentFrom}
 use Rattle.faults.specs.Faults.{isOutputTag}
 use Rattle.faults.proofs.FailLaws.{argument-seven, argument-eight, argument-four, argument-five, argument-other}
 use Rattle.faults.proofs.is_argument_broken.Statement.{statement}

@@ -1,8 +1,6 @@
 -- A walk that counts down over the names before.
 use borrow.Author.Needs.{needs}
-use mathlib.Core.Path.{_≡_, subst, sym, ap, _∙_}
-use mathlib.Core.List.{List}
-use Prim.Native.Nat.{ℕ}
+use mathlib.Core.Path.{subst, sym, _∙_}
 use native.Mathlib.Omega.{arith}
 use Rattle.paper.specs.Tokens.{same}
 use Rattle.index.specs.Book.{part}

@@ -1,9 +1,8 @@
 -- The test that the rule asks of an implemented name.
 use borrow.Author.Needs.{needs}
-use mathlib.Core.Path.{_≡_, ap, _∙_}
+use mathlib.Core.Path.{ap, _∙_}
 use mathlib.Core.Bool.{not}
 use Prim.Native.Nat.{ℕ, _-_}
-use native.Mathlib.Omega.{arith}
 use lib.Dec.{eqb}
 use Rattle.paper_types.specs.Types.{tableOf}
 use Rattle.index.specs.Book.{part}

@@ -1,6 +1,6 @@
 -- The two words, one after the other.
 use borrow.Author.Needs.{needs}
-use mathlib.Core.Path.{_≡_, sym, _∙_}
+use mathlib.Core.Path.{sym, _∙_}
 use Rattle.paper.specs.Tokens.{same}
 use Rattle.paper_types.specs.Lists.{bytes}
 use Rattle.paper_types.specs.Types.{builtInDirectives}

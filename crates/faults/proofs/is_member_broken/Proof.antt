@@ -1,7 +1,7 @@
 -- The test that the rule asks of a member.
 use borrow.Author.Needs.{needs}
-use mathlib.Core.Path.{_≡_, sym, ap, _∙_}
-use mathlib.Core.Bool.{Bool, not}
+use mathlib.Core.Path.{ap, _∙_}
+use mathlib.Core.Bool.{not}
 use mathlib.Core.List.{List}
 use Prim.Native.Nat.{ℕ}
 use lib.Dec.{eqb}
@@ -9,8 +9,8 @@ use lib.ListN.{take}
 use Rattle.paper.specs.Tokens.{same}
 use Rattle.paper_types.specs.Lists.{anyOf}
 use Rattle.paper_types.specs.Types.{tableOf, meant}
-use Rattle.paper_types.specs.Rules.{isReserved, memberNamed, argumentNamed, noEnumValues}
-use Rattle.members.specs.Members.{membersIn, argumentsIn, memberFrom, argumentFrom}
+use Rattle.paper_types.specs.Rules.{isReserved, memberNamed, noEnumValues}
+use Rattle.members.specs.Members.{membersIn, memberFrom}
 use Rattle.faults.proofs.FailLaws.{member-seven, member-eight, member-four, member-five, member-six, member-other}
 use Rattle.faults.proofs.is_member_broken.Statement.{statement}
 use Rattle.faults.proofs.is_member_broken.Tie as tie

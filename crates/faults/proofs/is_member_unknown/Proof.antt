@@ -1,7 +1,5 @@
 -- By the member's tag.
 use borrow.Author.Needs.{needs}
-use mathlib.Core.Path.{_≡_, ap, _∙_}
-use Rattle.faults.specs.Faults.{isOutputTag}
 use Rattle.faults.proofs.TestLaws.{unknown-field, unknown-input, unknown-other}
 use Rattle.faults.proofs.is_member_unknown.Statement.{statement}
 use Rattle.faults.proofs.is_member_unknown.Tie as tie

@@ -1,5 +1,4 @@
 -- Two bounds of a tag.
-use borrow.Author.Needs.{needs}
 use Rattle.faults.proofs.TestLaws.{output-low, output-high}
 use Rattle.faults.proofs.is_output.Statement.{statement}
 use Rattle.faults.proofs.is_output.Tie as tie

@@ -1,6 +1,6 @@
 -- A built-in scalar, or the first type of the name.
 use borrow.Author.Needs.{needs}
-use mathlib.Core.Path.{_≡_, sym, _∙_}
+use mathlib.Core.Path.{sym, _∙_}
 use Rattle.index.specs.Book.{part}
 use Rattle.types.specs.Booked.{definitionOn}
 use Rattle.rules.proofs.EntryLaws.{type-built-in, type-first}

@@ -1,8 +1,6 @@
 -- The walk over the entry's content.
-use borrow.Author.Needs.{needs}
-use mathlib.Core.Path.{_≡_, ap, _∙_}
+use mathlib.Core.Path.{ap, _∙_}
 use mathlib.Core.List.{List, head?}
-use Prim.Native.Nat.{ℕ}
 use native.Mathlib.Omega.{arith}
 use Rattle.paper_types.specs.Types.{Member, tableOf}
 use Rattle.places.specs.Placed.{placed}

@@ -1,5 +1,4 @@
 -- The entry's name.
-use borrow.Author.Needs.{needs}
 use native.Mathlib.Omega.{arith}
 use Rattle.rules.proofs.EntryLaws.{name-entered}
 use Rattle.rules.proofs.name_of.Statement.{statement}

@@ -1,6 +1,6 @@
 -- Rule 7.
 use borrow.Author.Needs.{needs}
-use mathlib.Core.Path.{_≡_, sym, ap, _∙_}
+use mathlib.Core.Path.{sym, ap, _∙_}
 use mathlib.Core.List.{List, head?}
 use Rattle.paper_types.specs.Types.{tableOf}
 use Rattle.paper_types.specs.Rules.{Place}
@@ -14,7 +14,7 @@ members-of-requires : tie.Need-members-of-requires
 members-of-requires c κs = search needs
 
 returns : tie.Need-returns
-returns c = c .members-of .ensures ∙ sym (ap (λ (ps : List Place). placed (head? ps)) (rule-7 (tableOf (c .before .before .before .args .t .now)) (c .before .before .before .args .i) (definitionOn (c .before .before .before .args .t .now) (c .before .before .before .args .i)) ))
+returns c = c .members-of .ensures ∙ sym (ap (λ (ps : List Place). placed (head? ps)) (rule-7 (tableOf (c .before .before .before .args .t .now)) (c .before .before .before .args .i) (definitionOn (c .before .before .before .args .t .now) (c .before .before .before .args .i))))
 
 pub no-type-spec : {M : Type 1} → statement M
 no-type-spec =

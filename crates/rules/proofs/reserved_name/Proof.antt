@@ -1,13 +1,12 @@
 -- Rule 1.
 use borrow.Author.Needs.{needs}
-use mathlib.Core.Path.{_≡_, sym, ap, _∙_}
+use mathlib.Core.Path.{sym, ap, _∙_}
 use mathlib.Core.List.{List, head?}
 use Rattle.paper_types.specs.Types.{tableOf}
 use Rattle.paper_types.specs.Rules.{Place}
 use Rattle.places.specs.Placed.{placed}
 use Rattle.types.specs.Booked.{definitionOn}
 use mathlib.Core.Bool.{Bool}
-use Prim.Native.Nat.{ℕ}
 use Rattle.paper_types.specs.Lists.{onlyIf}
 use Rattle.paper_types.specs.Rules.{wholeOf, isReserved}
 use Rattle.rules.proofs.RuleLaws.{rule-1}

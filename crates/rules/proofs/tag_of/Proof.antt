@@ -1,5 +1,4 @@
 -- The entry's kind.
-use borrow.Author.Needs.{needs}
 use native.Mathlib.Omega.{arith}
 use Rattle.rules.proofs.EntryLaws.{tag-entered}
 use Rattle.rules.proofs.tag_of.Statement.{statement}

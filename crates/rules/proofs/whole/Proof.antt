@@ -1,5 +1,4 @@
 -- By the test.
-use borrow.Author.Needs.{needs}
 use Rattle.paper_types.specs.Rules.{wholeOf}
 use Rattle.walks.proofs.Walked.{only-true, only-false}
 use Rattle.rules.proofs.whole.Statement.{statement}

@@ -1,6 +1,6 @@
 -- Nothing is implemented, or the members are listed.
 use borrow.Author.Needs.{needs}
-use mathlib.Core.Path.{_≡_, subst}
+use mathlib.Core.Path.{subst}
 use native.Mathlib.Omega.{arith}
 use Rattle.members.specs.Members.{NextImplemented}
 use Rattle.rules.proofs.EntryLaws.{bounds-entered}

@@ -1,9 +1,8 @@
 -- Rules 11 to 15, by number.
-use borrow.Author.Needs.{needs}
-use mathlib.Core.Path.{_≡_, sym, ap, _∙_}
-use mathlib.Core.List.{List, head?}
+use mathlib.Core.Path.{sym, ap, _∙_}
+use mathlib.Core.List.{head?}
 use Rattle.paper_types.specs.Types.{tableOf}
-use Rattle.paper_types.specs.Rules.{Place, Rule}
+use Rattle.paper_types.specs.Rules.{Rule}
 use Rattle.places.specs.Placed.{placed}
 use Rattle.types.specs.Booked.{definitionOn}
 use Rattle.schema.proofs.NumberLaws.{promise-11, promise-12, promise-13, promise-14, promise-other}

@@ -1,6 +1,6 @@
 -- By record 8 and by what `Query` means.
 use borrow.Author.Needs.{needs}
-use mathlib.Core.Path.{_≡_, sym, ap, _∙_}
+use mathlib.Core.Path.{sym, ap, _∙_}
 use Prim.Native.Nat.{ℕ}
 use native.Mathlib.Omega.{arith}
 use Rattle.paper_types.specs.TableNumbers.{noPlace, ruleRoot}

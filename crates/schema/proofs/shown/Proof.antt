@@ -1,6 +1,6 @@
 -- By the place.
 use borrow.Author.Needs.{needs}
-use mathlib.Core.Path.{_≡_, sym, ap, _∙_}
+use mathlib.Core.Path.{sym, ap}
 use Rattle.schema.specs.Schema.{shownAt}
 use Rattle.schema.proofs.shown.Statement.{statement}
 use Rattle.schema.proofs.shown.Tie as tie

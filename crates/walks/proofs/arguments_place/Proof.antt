@@ -1,13 +1,13 @@
 -- A walk over a field's arguments.
 use borrow.Author.Needs.{needs}
-use mathlib.Core.Path.{_≡_, subst, sym, ap, _∙_}
+use mathlib.Core.Path.{subst, sym, ap, _∙_}
 use mathlib.Core.List.{List, head?}
-use Prim.Native.Nat.{ℕ, _-_, _+_}
+use Prim.Native.Nat.{_-_}
 use native.Mathlib.Omega.{arith}
 use Rattle.paper_types.specs.Types.{tableOf}
 use Rattle.members.specs.Members.{NextArgument, argumentsIn}
 use Rattle.members.specs.declared.FieldFound.the-variants.{Found}
-use Rattle.walks.proofs.Walked.{Walking, walking-start, walking-end, walking-here, walking-told, walking-on, only-true, only-false}
+use Rattle.walks.proofs.Walked.{Walking, walking-start, walking-end, walking-here, walking-on, only-true, only-false}
 use Rattle.paper_types.specs.Rules.{Place, argumentAt}
 use Rattle.places.specs.Placed.{placed}
 use Rattle.walks.proofs.ArgumentLaws.{argumentFaults, field-arguments, other-arguments}

@@ -1,6 +1,6 @@
 -- The arguments' place, or else the member's.
 use borrow.Author.Needs.{needs}
-use mathlib.Core.Path.{_≡_, sym, _∙_}
+use mathlib.Core.Path.{sym, _∙_}
 use Rattle.paper_types.specs.Lists.{onlyIf}
 use Rattle.paper_types.specs.Types.{tableOf}
 use Rattle.paper_types.specs.Rules.{memberAt}

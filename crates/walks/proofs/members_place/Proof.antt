@@ -1,13 +1,12 @@
 -- A walk over the members.
 use borrow.Author.Needs.{needs}
-use mathlib.Core.Path.{_≡_, subst, sym, ap, _∙_}
-use mathlib.Core.List.{List, head?}
-use Prim.Native.Nat.{ℕ, _-_, _+_}
+use mathlib.Core.Path.{subst, sym, _∙_}
+use Prim.Native.Nat.{_-_}
 use native.Mathlib.Omega.{arith}
 use Rattle.paper_types.specs.Types.{tableOf}
-use Rattle.members.specs.Members.{NextMember, membersIn, memberFrom}
+use Rattle.members.specs.Members.{NextMember, membersIn}
 use Rattle.members.specs.declared.FieldFound.the-variants.{Found}
-use Rattle.walks.proofs.Walked.{Walking, walking-start, walking-end, walking-here, walking-told, walking-on, only-true, only-false}
+use Rattle.walks.proofs.Walked.{Walking, walking-start, walking-end, walking-told, walking-on}
 use Rattle.walks.specs.Walks.{memberAndArgumentsAt}
 use Rattle.walks.proofs.members_place.Statement.{statement}
 use Rattle.walks.proofs.members_place.Tie as tie
