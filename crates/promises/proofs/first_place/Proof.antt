@@ -1,0 +1,88 @@
+use borrow.Author.Needs.{needs}
+use mathlib.Core.Path.{sym, subst, _∙_}
+use native.Mathlib.Omega.{arith}
+use mathlib.Core.Bool.{true}
+use Prim.Native.Nat.{_-_}
+use Rattle.paper_types.specs.Types.{tableOf}
+use Rattle.paper_types.specs.Rules.{promisedBy}
+use Rattle.members.specs.Members.{membersIn, implementedIn, NextImplemented}
+use Rattle.members.specs.declared.FieldFound.the-variants.{Found}
+use Rattle.promises.specs.Asked.{askedOf}
+use Rattle.promises.proofs.SlimLaws.{all-any}
+use Rattle.promises.proofs.Walking.{Walking, walking-start, walking-none, walking-here, walking-on}
+use Rattle.promises.proofs.first_place.Statement.{statement}
+use Rattle.promises.proofs.first_place.Tie as tie
+
+abbrev Inv-loop : tie.InvT-loop
+Inv-loop t book listed rule from stop i₀ m₀ i m = Walking (promisedBy (askedOf rule (tableOf t) (membersIn t from stop)) (tableOf t)) (λ x. true) from stop i m (implementedIn t from stop) (implementedIn t i stop)
+
+abbrev μ-loop : tie.MeasureT-loop
+μ-loop t book listed rule from stop i₀ m₀ i m = stop - i
+
+found : (c : tie.After-start Inv-loop μ-loop)
+    → NextImplemented (c .before .before .before .before .before .before .before .args .t .now) (c .before .before .before .loop .i) (c .before .before .before .before .before .before .before .args .stop) (Found (c .start .given .0 .0) (c .start .given .0 .1 .0) (c .start .given .0 .1 .1 .0))
+found c = subst (NextImplemented (c .before .before .before .before .before .before .before .args .t .now) (c .before .before .before .loop .i) (c .before .before .before .before .before .before .before .args .stop)) (c .start .given .1) (c .before .before .next-implemented .ensures)
+
+loop-holds : tie.Need-loop-holds Inv-loop μ-loop
+loop-holds c = walking-start _ _ _ _ _ (c .before .before .before .pre .2 .order) (all-any (implementedIn (c .before .before .before .args .t .now) (c .before .before .before .args .from) (c .before .before .before .args .stop)))
+
+next-implemented-requires : tie.Need-next-implemented-requires Inv-loop μ-loop
+next-implemented-requires c κs = record { order = c .loop .inv .within; within = c .before .before .before .before .pre .2 .within; most = c .before .before .before .before .pre .2 .most }
+
+enum-known-start : tie.Need-enum-known-start Inv-loop μ-loop
+enum-known-start c = search needs
+
+enum-told : tie.Need-enum-told Inv-loop μ-loop
+enum-told c = search needs
+
+returns : tie.Need-returns Inv-loop μ-loop
+returns c = walking-none (c .before .before .before .loop .inv) (subst (NextImplemented (c .before .before .before .before .before .before .before .args .t .now) (c .before .before .before .loop .i) (c .before .before .before .before .before .before .before .args .stop)) (c .enum-told .given .1) (c .before .before .next-implemented .ensures))
+
+name-place-requires : tie.Need-name-place-requires Inv-loop μ-loop
+name-place-requires c κs =
+    let p = c .before .before .before .before .before .before .before .before .pre in
+    let f = found (c .before) in
+    (p .0, p .1, record { order = f .lies .order; within = omega (arith, f .lies .within, p .2 .within); most = p .2 .most }, p .2, p .3, p .4)
+
+enum-known-r : tie.Need-enum-known-r Inv-loop μ-loop
+enum-known-r c = search needs
+
+returns-2 : tie.Need-returns-2 Inv-loop μ-loop
+returns-2 c =
+    walking-here (c .before .before .before .before .before .before .before .before .loop .inv) (found (c .before .before .before .before .before)) (c .before .r .given .0 .0) (c .before .r .given .0 .1 .0) (c .before .r .given .0 .1 .1 .0)
+    (sym (c .before .r .given .1) ∙ c .before .before .before .name-place .ensures)
+
+enum-told-2 : tie.Need-enum-told-2 Inv-loop μ-loop
+enum-told-2 c = search needs
+
+add-m : tie.Need-add-m Inv-loop μ-loop
+add-m c =
+    let f = found (c .before .before .before .before) in
+    omega (arith, c .before .before .before .before .before .before .before .loop .inv .few, f .lies .begins, f .lies .order, f .lies .within, c .before .before .before .before .before .before .before .before .before .before .before .pre .2 .within, c .before .before .before .before .before .before .before .before .before .before .before .pre .2 .most)
+
+loop-less : tie.Need-loop-less Inv-loop μ-loop
+loop-less c =
+    let f = found (c .before .before .before .before) in
+    omega (arith, f .lies .begins, f .lies .order, f .lies .within)
+
+loop-again : tie.Need-loop-again Inv-loop μ-loop
+loop-again c = walking-on (c .before .before .before .before .before .before .before .loop .inv) (found (c .before .before .before .before)) (sym (c .enum-told2 .given .1) ∙ c .before .before .name-place .ensures)
+
+pub first-place-spec : {M : Type 1} → statement M
+first-place-spec =
+    tie.close
+    (tie.spec
+    Inv-loop
+    μ-loop
+    loop-holds
+    next-implemented-requires
+    enum-known-start
+    enum-told
+    returns
+    name-place-requires
+    enum-known-r
+    returns-2
+    enum-told-2
+    add-m
+    loop-less
+    loop-again)

@@ -1,0 +1,85 @@
+use Rattle.promises.proofs.Walking.{Walking, walking-start, walking-none, walking-pass, walking-here, walking-on}
+use Rattle.promises.specs.Asked.{slimMember, askedOf}
+use Rattle.members.specs.declared.FieldFound.the-variants.{Found}
+use Rattle.members.specs.Members.{membersIn, NextMember}
+use Rattle.paper_types.specs.Types.{tableOf}
+use Prim.Native.Nat.{_-_}
+use native.Mathlib.Omega.{arith}
+use mathlib.Core.Path.{sym, subst, _∙_}
+use borrow.Author.Needs.{needs}
+use Rattle.promises.proofs.interface_place.Statement.{statement}
+use Rattle.promises.proofs.interface_place.Tie as tie
+
+abbrev Inv-loop : tie.InvT-loop
+Inv-loop t book listed rule member at end from stop i₀ p₀ i p = Walking (askedOf rule (tableOf t) (membersIn t from stop) member) slimMember at end i p (membersIn t at end) (membersIn t i end)
+
+abbrev μ-loop : tie.MeasureT-loop
+μ-loop t book listed rule member at end from stop i₀ p₀ i p = end - i
+
+found : (c : tie.After-tag Inv-loop μ-loop)
+    → NextMember (c .before .before .before .before .before .before .before .args .t .now) (c .before .before .before .loop .i) (c .before .before .before .before .before .before .before .args .end) (Found (c .tag .given .0 .0) (c .tag .given .0 .1 .0) (c .tag .given .0 .1 .1 .0))
+found c = subst (NextMember (c .before .before .before .before .before .before .before .args .t .now) (c .before .before .before .loop .i) (c .before .before .before .before .before .before .before .args .end)) (c .tag .given .1) (c .before .before .next-member .ensures)
+
+loop-holds : tie.Need-loop-holds Inv-loop μ-loop
+loop-holds c = walking-start _ _ _ _ _ (c .before .before .before .pre .1 .order) (c .before .before .before .pre .3)
+
+next-member-requires : tie.Need-next-member-requires Inv-loop μ-loop
+next-member-requires c κs = record { order = c .loop .inv .within; within = c .before .before .before .before .pre .1 .within; most = c .before .before .before .before .pre .1 .most }
+
+enum-known-tag : tie.Need-enum-known-tag Inv-loop μ-loop
+enum-known-tag c = search needs
+
+enum-told : tie.Need-enum-told Inv-loop μ-loop
+enum-told c = search needs
+
+returns : tie.Need-returns Inv-loop μ-loop
+returns c = walking-none (c .before .before .before .loop .inv) (subst (NextMember (c .before .before .before .before .before .before .before .args .t .now) (c .before .before .before .loop .i) (c .before .before .before .before .before .before .before .args .end)) (c .enum-told .given .1) (c .before .before .next-member .ensures))
+
+field-place-requires : tie.Need-field-place-requires Inv-loop μ-loop
+field-place-requires c κs =
+    let p = c .before .before .before .before .before .before .before .before .pre in
+    let f = found (c .before) in
+    (p .0, record { order = f .lies .order; within = omega (arith, f .lies .within, p .1 .within); most = p .1 .most }, p .2, walking-pass (c .before .before .before .before .loop .inv) f, p .4, p .5)
+
+enum-known-r : tie.Need-enum-known-r Inv-loop μ-loop
+enum-known-r c = search needs
+
+returns-2 : tie.Need-returns-2 Inv-loop μ-loop
+returns-2 c =
+    walking-here (c .before .before .before .before .before .before .before .before .loop .inv) (found (c .before .before .before .before .before)) (c .before .r .given .0 .0) (c .before .r .given .0 .1 .0) (c .before .r .given .0 .1 .1 .0)
+    (sym (c .before .r .given .1) ∙ c .before .before .before .field-place .ensures)
+
+enum-told-2 : tie.Need-enum-told-2 Inv-loop μ-loop
+enum-told-2 c = search needs
+
+add-p : tie.Need-add-p Inv-loop μ-loop
+add-p c =
+    let f = found (c .before .before .before .before) in
+    omega (arith, c .before .before .before .before .before .before .before .loop .inv .few, f .lies .begins, f .lies .order, f .lies .within, c .before .before .before .before .before .before .before .before .before .before .before .pre .1 .within, c .before .before .before .before .before .before .before .before .before .before .before .pre .1 .most)
+
+loop-less : tie.Need-loop-less Inv-loop μ-loop
+loop-less c =
+    let f = found (c .before .before .before .before) in
+    omega (arith, f .lies .begins, f .lies .order, f .lies .within)
+
+loop-again : tie.Need-loop-again Inv-loop μ-loop
+loop-again c = walking-on (c .before .before .before .before .before .before .before .loop .inv) (found (c .before .before .before .before)) (sym (c .enum-told2 .given .1) ∙ c .before .before .field-place .ensures)
+
+pub interface-place-spec : {M : Type 1} → statement M
+interface-place-spec =
+    tie.close
+    (tie.spec
+    Inv-loop
+    μ-loop
+    loop-holds
+    next-member-requires
+    enum-known-tag
+    enum-told
+    returns
+    field-place-requires
+    enum-known-r
+    returns-2
+    enum-told-2
+    add-p
+    loop-less
+    loop-again)

@@ -1,0 +1,1 @@
+-- Contracts are written with the definitions of the crates below.

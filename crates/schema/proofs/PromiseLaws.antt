@@ -1,0 +1,48 @@
+-- The list of a definition's members, where one of the rules 11 to 15 may be broken.
+use mathlib.Core.Path.{_≡_, sym, subst, _∙_}
+use mathlib.Core.Bool.{Bool, true, false, not, false≢true}
+use mathlib.Core.List.{List, []}
+use Prim.Native.Nat.{ℕ, _≤_, _<_}
+use native.Mathlib.Omega.{arith}
+use lib.ListN.{length}
+use borrow.Author.Tests.{leb-true, not-false}
+use Rattle.paper_types.specs.TableNumbers.{mostMembers}
+use Rattle.paper_types.specs.Types.{Member, tableOf, blank, tagNothing}
+use Rattle.index.specs.Book.{room, bookSize, countIn}
+use Rattle.members.specs.Members.{implementedIn}
+use Rattle.types.specs.Booked.{definitionOn, startIn, endIn}
+use Rattle.types.proofs.Fitting.{all-at}
+use Rattle.listings.specs.Listed.{Listed, Listable}
+use Rattle.promises.specs.Asked.{AllKept}
+use Rattle.rules.proofs.EntryLaws.{bounds-entered, members-entered, implemented-entered}
+use Rattle.schema.specs.Schema.{fewMembers, Checkable, Promising}
+use Rattle.schema.proofs.NumberLaws.{nothing-promised}
+
+module _ (t book : List ℕ) (k : Checkable t book) (i : ℕ) (h : i < countIn book) where
+  few-members : length (definitionOn t i .members) ≤ mostMembers
+  few-members = leb-true (length (definitionOn t i .members)) mostMembers (all-at fewMembers (blank tagNothing) (tableOf t) (k .few) i (omega (arith, k .booked .count)))
+
+  module _ (s e : ℕ) (p : s ≡ startIn book i) (q : e ≡ endIn book i) where
+    pub listable : (l : List ℕ) → length l ≡ bookSize → Listable t l s e
+    listable l c = record {
+      bounds = bounds-entered t book (k .booked) i h s e p q;
+      cells = c;
+      few = subst (λ (ms : List Member). length ms ≤ room) (sym (members-entered t book (k .booked) i h s e p q)) (omega (arith, few-members));
+    }
+
+    pub listed-at : (l : List ℕ) → Listed t l s e → Listed t l (startIn book i) (endIn book i)
+    listed-at l d = subst (λ (x : ℕ). Listed t l x (endIn book i)) p (subst (λ (x : ℕ). Listed t l s x) q d)
+
+    pub promising-none : (l : List ℕ) → length l ≡ bookSize → implementedIn t s e ≡ [] → Promising t book l i false
+    promising-none l c d = record {
+      cells = c;
+      lists = λ z. absurd (false≢true z);
+      keeps = λ z. nothing-promised (tableOf t) i (definitionOn t i) (sym (implemented-entered t book (k .booked) i h s e p q) ∙ d);
+    }
+
+    pub promising-some : (l : List ℕ) (r : Bool) → Listed t l s e → (r ≡ true → AllKept (tableOf t) i (definitionOn t i)) → Promising t book l i (not r)
+    promising-some l r d f = record {
+      cells = d .indexed .held .cells;
+      lists = λ z. listed-at l d;
+      keeps = λ z. f (not-false r z);
+    }

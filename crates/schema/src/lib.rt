@@ -1,0 +1,252 @@
+// The first break of a table's schema: definition by definition, of each the sixteen rules in turn, then `Query`.
+// Nothing is asked of the table but its sizes.
+use members::FieldFound;
+use paper_types::NO_PLACE;
+use paper_types::RULE_ARGUMENT_MISSING;
+use paper_types::RULE_ARGUMENT_TYPE;
+use paper_types::RULE_BASE;
+use paper_types::RULE_ENUM_VALUE;
+use paper_types::RULE_FIELD_MISSING;
+use paper_types::RULE_FIELD_TYPE;
+use paper_types::RULE_IMPLEMENTED_TWICE;
+use paper_types::RULE_NAME_KNOWN;
+use paper_types::RULE_NAME_REPEATED;
+use paper_types::RULE_NO_MEMBERS;
+use paper_types::RULE_NO_TYPE;
+use paper_types::RULE_NOT_OBJECT_OR_INTERFACE;
+use paper_types::RULE_RESERVED_MEMBER;
+use paper_types::RULE_RESERVED_NAME;
+use paper_types::RULE_ROOT;
+use paper_types::TableAnswer;
+use places::PlaceRead;
+ghost use mathlib.Core.Path.{_≡_};
+ghost use mathlib.Core.Option.{none};
+ghost use mathlib.Core.List.{head?};
+ghost use Prim.Native.Nat.{_+_, _≤_, _<_};
+ghost use lib.ListN.{length};
+ghost use Rattle.paper_types.specs.Lists.{anyOf};
+ghost use Rattle.paper_types.specs.Types.{tableOf, isRoots};
+ghost use Rattle.paper_types.specs.Judging.{breaksOf, breaks, answer};
+ghost use Rattle.places.specs.Placed.{placed};
+ghost use Rattle.index.specs.Book.{room, bookSize, countIn};
+ghost use Rattle.types.specs.Booked.{Booked, definitionOn, startIn, endIn};
+ghost use Rattle.listings.specs.Listed.{Listed};
+ghost use Rattle.promises.specs.Asked.{Slim};
+ghost use Rattle.schema.specs.Schema.{earlyRule, promiseRule, lateRule, ruleOf, shownAt, queryAnswer, Checkable, Promising, Answered};
+
+// What a rule from 1 to 8 shows first of definition i.
+fn early_place(t: &[u8], book: &[u32], rule: u32, i: usize) -> PlaceRead
+    requires { ⌜ Booked (now t) (now book) × (i < countIn (now book)) ⌝ }
+    ensures { λ r. ⌜ r ≡ placed (head? (earlyRule rule (tableOf (now (t .entry))) i (definitionOn (now (t .entry)) i))) ⌝ }
+{
+    if rule == RULE_RESERVED_NAME {
+        return rules::reserved_name(t, book, i);
+    }
+    if rule == RULE_NAME_KNOWN {
+        return rules::name_known(t, book, i);
+    }
+    if rule == RULE_NO_MEMBERS {
+        return rules::no_members(t, book, i);
+    }
+    if rule == RULE_NAME_REPEATED {
+        return rules::name_repeated(t, book, i);
+    }
+    if rule == RULE_RESERVED_MEMBER {
+        return rules::reserved_member(t, book, i);
+    }
+    if rule == RULE_ENUM_VALUE {
+        return rules::enum_value(t, book, i);
+    }
+    if rule == RULE_NO_TYPE {
+        return rules::no_type(t, book, i);
+    }
+    rules::wrong_base(t, book, i)
+}
+
+// The same of a rule from 11 to 15, by the list of the definition's members.
+fn promise_place(t: &[u8], book: &[u32], listed: &[u32], rule: u32, i: usize) -> PlaceRead
+    requires { ⌜ Booked (now t) (now book) × Slim (tableOf (now t)) × (i < countIn (now book)) × Listed (now t) (now listed) (startIn (now book) i) (endIn (now book) i) ⌝ }
+    ensures { λ r. ⌜ r ≡ placed (head? (promiseRule rule (tableOf (now (t .entry))) i (definitionOn (now (t .entry)) i))) ⌝ }
+{
+    if rule == RULE_FIELD_MISSING {
+        return promises::field_missing(t, book, listed, i);
+    }
+    if rule == RULE_FIELD_TYPE {
+        return promises::field_type(t, book, listed, i);
+    }
+    if rule == RULE_ARGUMENT_MISSING {
+        return promises::argument_missing(t, book, listed, i);
+    }
+    if rule == RULE_ARGUMENT_TYPE {
+        return promises::argument_type(t, book, listed, i);
+    }
+    promises::argument_extra(t, book, listed, i)
+}
+
+// The same of a rule from 9 to 16.
+fn late_place(
+    t: &[u8],
+    book: &[u32],
+    listed: &[u32],
+    promising: bool,
+    rule: u32,
+    i: usize,
+) -> PlaceRead
+    requires { ⌜ Booked (now t) (now book) × Slim (tableOf (now t)) × (i < countIn (now book)) × Promising (now t) (now book) (now listed) i promising ⌝ }
+    ensures { λ r. ⌜ r ≡ placed (head? (lateRule rule (tableOf (now (t .entry))) i (definitionOn (now (t .entry)) i))) ⌝ }
+{
+    if rule == RULE_NOT_OBJECT_OR_INTERFACE {
+        return rules::not_object_or_interface(t, book, i);
+    }
+    if rule == RULE_IMPLEMENTED_TWICE {
+        return rules::implemented_twice(t, book, i);
+    }
+    if rule == RULE_ROOT {
+        return rules::root_not_object(t, book, i);
+    }
+    if promising {
+        return promise_place(t, book, listed, rule, i);
+    }
+    PlaceRead::Kept
+}
+
+// The same of any rule.
+fn rule_place(
+    t: &[u8],
+    book: &[u32],
+    listed: &[u32],
+    promising: bool,
+    rule: u32,
+    i: usize,
+) -> PlaceRead
+    requires { ⌜ Booked (now t) (now book) × Slim (tableOf (now t)) × (i < countIn (now book)) × Promising (now t) (now book) (now listed) i promising ⌝ }
+    ensures { λ r. ⌜ r ≡ placed (head? (ruleOf rule (tableOf (now (t .entry))) i (definitionOn (now (t .entry)) i))) ⌝ }
+{
+    if rule <= RULE_BASE {
+        return early_place(t, book, rule, i);
+    }
+    late_place(t, book, listed, promising, rule, i)
+}
+
+// What is said of a rule's first place in definition i.
+fn shown(i: usize, rule: u32, p: PlaceRead) -> TableAnswer
+    requires { ⌜ i < room ⌝ }
+    ensures { λ r. ⌜ r ≡ shownAt i rule p ⌝ }
+{
+    let PlaceRead::At {
+        member,
+        part,
+        argument,
+    } = p
+    else {
+        return TableAnswer::Accepted;
+    };
+    TableAnswer::Breaks {
+        definition: i as u32,
+        rule: rule,
+        member: member,
+        part: part,
+        argument: argument,
+    }
+}
+
+// The first break of definition i, the rules in turn.
+fn rules_in_turn(t: &[u8], book: &[u32], listed: &[u32], promising: bool, i: usize) -> TableAnswer
+    requires { ⌜ Booked (now t) (now book) × Slim (tableOf (now t)) × (i < countIn (now book)) × Promising (now t) (now book) (now listed) i promising ⌝ }
+    ensures { λ r. ⌜ r ≡ answer none none (head? (breaksOf (tableOf (now (t .entry))) i (definitionOn (now (t .entry)) i))) ⌝ }
+{
+    let mut rule = RULE_RESERVED_NAME;
+    while rule <= RULE_ROOT {
+        let p = rule_place(t, book, listed, promising, rule, i);
+        let PlaceRead::Kept = p else {
+            return shown(i, rule, p);
+        };
+        rule += 1;
+    }
+    TableAnswer::Accepted
+}
+
+// Lists the members of definition i, if it implements anything, and says whether one of the rules 11 to 15 may be broken.
+fn list_promises(t: &[u8], book: &[u32], listed: &mut [u32], i: usize) -> bool
+    requires { ⌜ Checkable (now t) (now book) × (i < countIn (now book)) × (length (now listed) ≡ bookSize) ⌝ }
+    ensures { λ r. ⌜ Promising (now (t .entry)) (now (book .entry)) (now (listed .exit)) i r ⌝ }
+{
+    let start = index::start_of(book, i);
+    let end = index::end_of(book, i);
+    let FieldFound::Found {
+        tag: _,
+        start: _,
+        end: _,
+    } = members::next_implemented(t, start, end)
+    else {
+        return false;
+    };
+    listings::list_members(t, listed, start, end);
+    !promises::all_kept(t, book, listed, i)
+}
+
+// The first break of definition i.
+fn definition_breaks(t: &[u8], book: &[u32], listed: &mut [u32], i: usize) -> TableAnswer
+    requires { ⌜ Checkable (now t) (now book) × (i < countIn (now book)) × (length (now listed) ≡ bookSize) ⌝ }
+    ensures { λ r. ⌜ Answered (now (listed .exit)) r (answer none none (head? (breaksOf (tableOf (now (t .entry))) i (definitionOn (now (t .entry)) i)))) ⌝ }
+{
+    let promising = list_promises(t, book, listed, i);
+    rules_in_turn(t, book, listed, promising, i)
+}
+
+// Is there a record 8?
+fn has_roots(t: &[u8], book: &[u32]) -> bool
+    requires { ⌜ Booked (now t) (now book) ⌝ }
+    ensures { λ r. ⌜ r ≡ anyOf isRoots (tableOf (now (t .entry))) ⌝ }
+{
+    let count = index::count_of(book);
+    let mut i = 0;
+    while i < count {
+        if index::kind_of(book, i) == ROOTS {
+            return true;
+        }
+        i += 1;
+    }
+    false
+}
+
+const OBJECT: u32 = 2;
+
+const ROOTS: u32 = 8;
+
+// 16, without record 8: `Query` isn't an object type.
+fn query_break(t: &[u8], book: &[u32]) -> TableAnswer
+    requires { ⌜ Booked (now t) (now book) ⌝ }
+    ensures { λ r. ⌜ r ≡ queryAnswer (tableOf (now (t .entry))) ⌝ }
+{
+    if has_roots(t, book) {
+        return TableAnswer::Accepted;
+    }
+    if types::tag_meant(t, book, b"Query", 0, 5) == OBJECT {
+        return TableAnswer::Accepted;
+    }
+    TableAnswer::Breaks {
+        definition: index::count_of(book) as u32,
+        rule: RULE_ROOT,
+        member: NO_PLACE,
+        part: NO_PLACE,
+        argument: NO_PLACE,
+    }
+}
+
+// The first break of a table; `listed` is room for the list of one definition's members.
+pub fn first_break(t: &[u8], book: &[u32], listed: &mut [u32]) -> TableAnswer
+    requires { ⌜ Checkable (now t) (now book) × (length (now listed) ≡ bookSize) ⌝ }
+    ensures { λ r. ⌜ r ≡ answer none none (head? (breaks (tableOf (now (t .entry))))) ⌝ }
+{
+    let count = index::count_of(book);
+    let mut i = 0;
+    while i < count {
+        let r = definition_breaks(t, book, listed, i);
+        let TableAnswer::Accepted = r else {
+            return r;
+        };
+        i += 1;
+    }
+    query_break(t, book)
+}
