@@ -11,7 +11,7 @@ use borrow.Author.Tests.{leb-true}
 use Rattle.paper.specs.Numbers.{mostWrappers}
 use Rattle.paper_types.specs.Lists.{allOf, find}
 use Rattle.paper_types.specs.Types.{Argument, Member}
-use Rattle.fields.specs.Wrappers.{wrapperCount}
+use Rattle.paper_types.proofs.ReferenceSizes.{wrappers as wrapperCount}
 use Rattle.promises.specs.Asked.{slimArgument, slimMember}
 
 pub and-left : (a b : Bool) → a && b ≡ true → a ≡ true

@@ -12,7 +12,7 @@ use Rattle.paper_types.specs.Lists.{allOf, find, each, onlyIf}
 use Rattle.paper_types.specs.References.{isNonNull}
 use Rattle.paper_types.specs.Types.{Argument, Member, Definition, Table}
 use Rattle.paper_types.specs.Rules.{Place, partAt, partArgumentAt, memberNamed, argumentNamed, Ask, noSubType, differs, fieldMissing, fieldType, argumentMissing, argumentType, argumentExtra}
-use Rattle.fields.specs.Wrappers.{wrapperCount}
+use Rattle.paper_types.proofs.ReferenceSizes.{wrappers as wrapperCount}
 use Rattle.members.specs.Members.{argumentsIn, memberFrom}
 
 -- at most seven wrappers
