@@ -1,0 +1,67 @@
+-- What a table's judging comes to, step by step.
+use mathlib.Core.Path.{_≡_, refl, sym, ap, _∙_}
+use mathlib.Core.Option.{Option, none, some}
+use mathlib.Core.List.{List, head?}
+use Prim.Native.Nat.{ℕ, _≤_}
+use lib.ListN.{length}
+use Rattle.paper_types.specs.TableNumbers.{mostTable}
+use Rattle.paper_types.specs.House.{framing}
+use Rattle.paper_types.specs.TableSizes.{counts}
+use Rattle.paper_types.specs.Types.{tableOf}
+use Rattle.paper_types.specs.Judging.{judge, answer, breaks, leastBreak}
+use Rattle.paper_types.specs.declared.TableAnswer.{TableAnswer}
+use Rattle.paper_types.specs.declared.TableAnswer.the-variants.{Framing, TooMany}
+use Rattle.paper_types.proofs.TableFits.{judged-first}
+use Rattle.index.specs.Book.{bookSize}
+use Rattle.types.specs.Booked.{Bookable, Booked}
+use Rattle.types.proofs.Fitting.{records-few, references-slim, members-fit}
+use Rattle.schema.specs.Schema.{Checkable}
+use Rattle.frames.specs.declared.Framed.{Framed}
+use Rattle.frames.specs.declared.Framed.the-variants.{Right, Wrong}
+use Rattle.frames.specs.Framing.{told}
+use Rattle.counts.specs.declared.Counted.{Counted}
+use Rattle.counts.specs.declared.Counted.the-variants.{Within, Over}
+use Rattle.counts.specs.Counts.{toldOver}
+
+wrong-some : (o : Option ℕ) (at : ℕ) → Wrong at ≡ told o → o ≡ some at
+wrong-some none at e = let z : _≡_ {A = ℕ} 0 1 = cc in absurd (omega native.Mathlib.Omega.arith)
+wrong-some (some x) at e = cc
+
+right-none : (o : Option ℕ) → Right ≡ told o → o ≡ none
+right-none none e = refl
+right-none (some x) e = let z : _≡_ {A = ℕ} 0 1 = cc in absurd (omega native.Mathlib.Omega.arith)
+
+over-some : (o : Option ℕ) (at : ℕ) → Over at ≡ toldOver o → o ≡ some at
+over-some none at e = let z : _≡_ {A = ℕ} 0 1 = cc in absurd (omega native.Mathlib.Omega.arith)
+over-some (some x) at e = cc
+
+within-none : (o : Option ℕ) → Within ≡ toldOver o → o ≡ none
+within-none none e = refl
+within-none (some x) e = let z : _≡_ {A = ℕ} 0 1 = cc in absurd (omega native.Mathlib.Omega.arith)
+
+module _ (s : List ℕ) where
+  pub framing-wrong : (r : Framed) (at : ℕ) → r ≡ told (framing s) → r ≡ Wrong at → Framing at ≡ judge s
+  unfolding judge answer
+  framing-wrong r at p q = rw (wrong-some (framing s) at (sym q ∙ p)) refl
+
+  pub framing-right : (r : Framed) → r ≡ told (framing s) → r ≡ Right → framing s ≡ none
+  framing-right r p q = right-none (framing s) (sym q ∙ p)
+
+  pub counts-over : (r : Counted) (at : ℕ) → framing s ≡ none → r ≡ toldOver (counts s) → r ≡ Over at → TooMany at ≡ judge s
+  unfolding judge answer
+  counts-over r at f p q = rw (f, over-some (counts s) at (sym q ∙ p)) refl
+
+  pub counts-within : (r : Counted) → r ≡ toldOver (counts s) → r ≡ Within → counts s ≡ none
+  counts-within r p q = within-none (counts s) (sym q ∙ p)
+
+  pub rules-judge : length s ≤ mostTable → framing s ≡ none → counts s ≡ none → answer none none (head? (breaks (tableOf s))) ≡ judge s
+  unfolding judge
+  rules-judge h f c = rw (f, c, judged-first s h) refl
+
+-- a table within its sizes has room in a book, and its rules can be judged
+module _ (t book : List ℕ) where
+  pub bookable : length t ≤ mostTable → framing t ≡ none → counts t ≡ none → length book ≡ bookSize → Bookable t book
+  bookable h f c l = record { short = h; cells = l; few = records-few t f c }
+
+  pub checkable : framing t ≡ none → counts t ≡ none → Booked t book → Checkable t book
+  checkable f c b = record { booked = b; slim = references-slim t f c; few = members-fit t f c }

@@ -1,0 +1,47 @@
+use mathlib.Core.Path.{refl}
+use Rattle.tables.proofs.TablesLaws.{counts-within, counts-over}
+use borrow.Author.Needs.{needs}
+use Rattle.tables.proofs.judge_framed.Statement.{statement}
+use Rattle.tables.proofs.judge_framed.Tie as tie
+use Rattle.tables.proofs.judge_framed.Reads as reads
+use Rattle.tables.proofs.judge_framed.Lts as lts
+use Rattle.counts.proofs.over.Reads as over-reads
+use Rattle.tables.proofs.judge_rules.Reads as judge-rules-reads
+
+over-requires : tie.Need-over-requires
+over-requires c κs = search needs
+
+enum-known-c : tie.Need-enum-known-c
+enum-known-c c = search needs
+
+enum-told : tie.Need-enum-told
+enum-told c = search needs
+
+slice-aggregate-judge-rules : tie.Need-slice-aggregate-judge-rules
+slice-aggregate-judge-rules c = search needs
+
+slice-aggregate-judge-rules-2 : tie.Need-slice-aggregate-judge-rules-2
+slice-aggregate-judge-rules-2 c = search needs
+
+judge-rules-requires : tie.Need-judge-rules-requires
+judge-rules-requires c κs =
+    (c .before .before .before .before .before .before .pre .0, c .before .before .before .before .before .before .pre .1, counts-within _ _ (c .before .before .before .before .over .ensures) (c .before .before .enum-told .given .1), refl, refl)
+
+returns : tie.Need-returns
+returns c = counts-over _ _ _ (c .before .before .before .before .before .pre .1) (c .before .before .before .over .ensures) (c .before .c .given .1)
+
+returns-2 : tie.Need-returns-2
+returns-2 c = search needs
+
+pub judge-framed-spec : {M : Type 1} → statement M
+judge-framed-spec =
+    tie.close
+    (tie.spec
+    over-requires
+    enum-known-c
+    enum-told
+    slice-aggregate-judge-rules
+    slice-aggregate-judge-rules-2
+    judge-rules-requires
+    returns
+    returns-2)

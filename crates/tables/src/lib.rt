@@ -1,0 +1,53 @@
+// Judges a type table: its framing, its sizes, its schema rules, in this order.
+use counts::Counted;
+use frames::Framed;
+use paper_types::TableAnswer;
+ghost use mathlib.Core.Path.{_≡_};
+ghost use mathlib.Core.Option.{none};
+ghost use Prim.Native.Nat.{_≤_};
+ghost use lib.ListN.{length};
+ghost use Rattle.paper_types.specs.TableNumbers.{mostTable};
+ghost use Rattle.paper_types.specs.House.{framing};
+ghost use Rattle.paper_types.specs.TableSizes.{counts};
+ghost use Rattle.paper_types.specs.Judging.{judge};
+ghost use Rattle.index.specs.Book.{bookSize};
+
+// The numbers of a book, as crate index lays it out.
+const BOOK_SIZE: usize = 1793;
+
+// The schema rules of a table whose framing and sizes are right. Both books are scratch: of the definitions, and of one definition's members.
+fn judge_rules(t: &[u8], book: &mut [u32], listed: &mut [u32]) -> TableAnswer
+    requires { ⌜ (length (now t) ≤ mostTable) × (framing (now t) ≡ none) × (counts (now t) ≡ none) × (length (now book) ≡ bookSize) × (length (now listed) ≡ bookSize) ⌝ }
+    ensures { λ r. ⌜ r ≡ judge (now (t .entry)) ⌝ }
+{
+    types::fill(t, book);
+    schema::first_break(t, book, listed)
+}
+
+// The sizes and the schema rules of a table whose framing is right.
+fn judge_framed(t: &[u8]) -> TableAnswer
+    requires { ⌜ (length (now t) ≤ mostTable) × (framing (now t) ≡ none) ⌝ }
+    ensures { λ r. ⌜ r ≡ judge (now (t .entry)) ⌝ }
+{
+    let c = counts::over(t);
+    match c {
+        Counted::Over(at) => TableAnswer::TooMany(at),
+        Counted::Within => {
+            let mut book = [0u32; BOOK_SIZE];
+            let mut listed = [0u32; BOOK_SIZE];
+            judge_rules(t, &mut book, &mut listed)
+        }
+    }
+}
+
+// What is said of a table.
+pub fn judge_table(t: &[u8]) -> TableAnswer
+    requires { ⌜ length (now t) ≤ mostTable ⌝ }
+    ensures { λ r. ⌜ r ≡ judge (now (t .entry)) ⌝ }
+{
+    let f = frames::framing(t);
+    match f {
+        Framed::Wrong(at) => TableAnswer::Framing(at),
+        Framed::Right => judge_framed(t),
+    }
+}
