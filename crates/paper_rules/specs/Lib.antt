@@ -1,0 +1,22 @@
+-- All that a reader must believe of the query rules, in the order of document 01.
+pub mod QueryNumbers
+pub mod Constructs
+pub mod Enclosing
+pub mod PlaceTypes
+pub mod Reaching
+pub mod Rule1OperationRepeated
+pub mod Rule2OperationUnnamed
+pub mod Rule3FragmentRepeated
+pub mod Rule4Condition
+pub mod Rule5Field
+pub mod Rule6Leaf
+pub mod Rule7Spread
+pub mod Rule8Circle
+pub mod Rule9Directive
+pub mod Rule10Undefined
+pub mod Rule11VariableType
+pub mod Rule12NameTwice
+pub mod Rule13NoRoot
+pub mod Rule14Argument
+pub mod QueryRules
+pub mod DocumentCalls
