@@ -116,7 +116,13 @@ pub fn tell_table(report: &mut [u32], a: TableAnswer) -> u32
             tell(report, number, at);
             number
         }
-        TableAnswer::Breaks { definition, rule, member, part, argument } => {
+        TableAnswer::Breaks {
+            definition,
+            rule,
+            member,
+            part,
+            argument,
+        } => {
             tell_five(report, number, definition, rule, member, part, argument);
             number
         }
