@@ -5,3 +5,5 @@ pub mod LevelsLaws
 pub mod BuffersLaws
 pub mod SomeLaws
 pub mod VariablesLaws
+pub mod JudgedLaws
+pub mod CheckedLaws
