@@ -7,3 +7,4 @@ pub mod SomeLaws
 pub mod VariablesLaws
 pub mod JudgedLaws
 pub mod CheckedLaws
+pub mod LookedLaws

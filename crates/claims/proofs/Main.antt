@@ -22,7 +22,7 @@ use Rattle.paper.specs.Refusals.{numberOf, shownInText}
 use Rattle.paper.specs.Calls.{Parsed, filled, tells}
 use Rattle.paper.specs.declared.Refusal.{Refusal}
 use Rattle.paper.specs.declared.Refusal.the-variants.{NoToken, NoGoing, TooDeep, TooManyRows, TooMany}
-use Rattle.paper_types.specs.TableNumbers.{mostTable}
+use Rattle.paper_types.specs.TableNumbers.{mostTable, tagField}
 use Rattle.paper_types.specs.House.{pieces, mostDeep, tableWrongs, framing}
 use Rattle.paper_types.specs.TableSizes.{roomInTable, oversIn, overs, counts}
 use Rattle.paper_types.specs.References.{Ref, named, nonNull}
@@ -46,6 +46,9 @@ use Rattle.gateway.proofs.parse.gw_parse.Statement as gw-parse
 use Rattle.gateway.proofs.parse.gw_parse.Met as gw-parse-met
 use Rattle.gateway.proofs.check_table.gw_check_table.Statement as gw-check-table
 use Rattle.gateway.proofs.check_table.gw_check_table.Met as gw-check-table-met
+use Rattle.index.specs.Book.{countIn}
+use Rattle.members.specs.Members.{membersIn, argumentsIn, memberFrom}
+use Rattle.types.specs.Booked.{Booked, startIn, endIn, definitionOn}
 use Rattle.types.proofs.fill.Statement as fill
 use Rattle.types.proofs.fill.Met as fill-met
 use Rattle.types.proofs.meaning_of.Statement as meaning-of
@@ -69,6 +72,7 @@ use Rattle.claims.proofs.SomeLaws as some
 use Rattle.claims.proofs.VariablesLaws as variables
 use Rattle.claims.proofs.CheckedLaws as checked
 use Rattle.claims.proofs.JudgedLaws as judged
+use Rattle.claims.proofs.LookedLaws as looked
 
 -- ---- THE CODE
 
@@ -281,7 +285,8 @@ sub-type-exactly = judged.sub-type-exactly
 pub sub-type-non-null : (can : List ℕ → List ℕ → Bool) (a b : List ℕ) → SubType can (nonNull (named b)) (nonNull (named a)) → b ≡ a
 sub-type-non-null = sub-types.subType-non-null
 
--- ---- LOOKING UP IN A TABLE: what the calls that take a table stand on
+-- ---- LOOKING UP IN A TABLE: what the calls that take a table stand on. Their contracts also speak of places in the bytes (`crates/members/specs`) and of
+-- a book of the definitions (`crates/types/specs`).
 
 -- `types::fill` makes the book of a table of at most 256 records, by which the others look up: `Booked`.
 pub table-book-meets : {M : Type 1} → fill.statement M
@@ -302,9 +307,16 @@ can-be-meets = can-be-met.met
 pub is-sub-type-meets : {M : Type 1} → is-sub-type.statement M
 is-sub-type-meets = is-sub-type-met.met
 
--- `members::find_member` and `members::find_argument`: the first member of a definition, the first argument of a field, of a name.
+-- `members::find_member` and `members::find_argument`: the first member of a definition, the first argument of a field, that has a name. Both go by
+-- the place of a content in the table; the content of definition i, which the book has, holds that definition's members, and a field's its arguments.
 pub member-by-name-meets : {M : Type 1} → find-member.statement M
 member-by-name-meets = find-member-met.met
 
 pub argument-by-name-meets : {M : Type 1} → find-argument.statement M
 argument-by-name-meets = find-argument-met.met
+
+pub definition-members : (t book : List ℕ) → Booked t book → (i : ℕ) → i < countIn book → membersIn t (startIn book i) (endIn book i) ≡ definitionOn t i .members
+definition-members = looked.definition-members
+
+pub field-arguments : (t : List ℕ) (start stop : ℕ) → argumentsIn t start stop ≡ memberFrom t tagField start stop .arguments
+field-arguments = looked.field-arguments
