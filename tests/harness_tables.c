@@ -248,8 +248,13 @@ static void free_tables(struct tables *given) {
 }
 
 static void print_case(const struct table *t) {
-    for (size_t i = 0; i < t->length; i++)
-        printf("%02x", t->bytes[i]);
+    static const char digits[] = "0123456789abcdef";
+    static char text[2 * TABLE_ROOM];
+    for (size_t i = 0; i < t->length; i++) {
+        text[2 * i] = digits[t->bytes[i] >> 4];
+        text[2 * i + 1] = digits[t->bytes[i] & 15];
+    }
+    fwrite(text, 1, 2 * t->length, stdout);
     printf("%s", t->length ? "" : "-");
     for (int i = 0; i < GW_REPORT_SIZE; i++)
         printf(" %" PRIu32, now.report[i]);
