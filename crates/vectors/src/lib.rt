@@ -78,7 +78,7 @@ pub fn tell(n: u64, answer: u32, shown: u32, same: bool) {
 }
 
 // Reads a head, or answers that there is none
-pub fn read_head(head: &mut [u8; HEAD_SIZE]) -> bool {
+pub fn read_head(head: &mut [u8]) -> bool {
     io::read_full(STDIN_FILENO, head) == HEAD_SIZE
 }
 

@@ -13,7 +13,8 @@ fn compare(n: u64, head: &[u8], table: &[u8], report: &mut [u32]) {
     if report.len() < 2 {
         return;
     }
-    vectors::tell(n, answer, report[1], vectors::report_same(report, head, answer));
+    let same = vectors::report_same(report, head, answer);
+    vectors::tell(n, answer, report[1], same);
 }
 
 // Case n, in a report of its own
