@@ -191,14 +191,12 @@ def some_unions():
 
 
 def largest(make, most=MOST_MEMBERS):
-    """The largest number for which the table made is within its length."""
-    best = None
-    for n in range(1, most + 1):
-        made = make(n)
-        if len(table(made)) > MOST_TABLE:
-            break
-        best = made
-    return best
+    """The table made for the largest number for which it is within its length."""
+    low, high = 1, most
+    while low < high:
+        n = (low + high + 1) // 2
+        low, high = (n, high) if len(table(make(n))) <= MOST_TABLE else (low, n - 1)
+    return make(low)
 
 
 def union_of_64():
