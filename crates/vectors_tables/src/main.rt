@@ -9,7 +9,7 @@ use vectors::STALE;
 
 // Case n, in a lent report
 fn compare(n: u64, head: &[u8], table: &[u8], report: &mut [u32]) {
-    let answer = gateway::gw_check_table(table, report);
+    let answer = gateway::check_table::gw_check_table(table, report);
     if report.len() < 2 {
         return;
     }
