@@ -231,7 +231,7 @@ def worst():
         lambda n: promises(56, 64, n, own='SELF', promised='LAST'))
     extra, last = union_of_64()
     yield 'w_sub_union', '64 union members looked through for each sub-type', largest(
-        lambda n: promises(56, 60, n, own=last, promised='u_', extra=extra))
+        lambda n: promises(30, 60, n, own=last, promised='u_', extra=extra))
     yield 'w_deep', 'seven wrappers on each promised field', largest(
         lambda n: promises(40, 56, n, own='SELF', promised='LAST', wrap=('[[[[[[[', ']]]]]]]')))
     yield 'w_deep_marks', 'seven wrappers on each field of 64', largest(
@@ -241,10 +241,10 @@ def worst():
 
 
     yield 'w_bucket_unions', 'names of one bucket, 64 members each', crowded_unions()
-    yield 'w_bucket_unions_long', 'the same with one prefix of 12 bytes', crowded_unions('N' * 12)
+    yield 'w_bucket_unions_long', 'as w_bucket_unions, with one prefix of 12 bytes', crowded_unions('N' * 12)
     yield 'w_bucket_interfaces', 'names of one bucket, 64 implemented names each', crowded_interfaces()
-    yield 'w_bucket_sub_interface', 'the same, the type names of one bucket', largest(
-        lambda n: promises(48, 56, n, crowded=True, own='SELF', promised='LAST'))
+    yield 'w_bucket_sub_interface', 'as w_sub_interface, type and field names of one bucket each', largest(
+        lambda n: promises(30, 64, n, crowded=True, own='SELF', promised='LAST'))
     yield 'w_bucket_references', 'names of one bucket, 64 input fields each', crowded_references()
 
 
