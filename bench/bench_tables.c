@@ -2,8 +2,8 @@
 
      bench_tables FILE..      (bench/run builds it; the files are those of bench/inputs and of bench/tables.py)
 
-   Of the realistic tables r_2k to r_32k, which come in order of their length, the last column is the growth from the one before.
-   What is beyond its aim is marked. */
+   Of the realistic tables r_2k to r_32k, which come in order of their length, the last column is the growth from the one before, in
+   bytes of the loop, so that a machine which changes its pace between the two does not show. What is beyond its aim is marked. */
 #define _GNU_SOURCE
 #include "gateway.h"
 
@@ -115,10 +115,10 @@ int main(int argc, char **argv) {
         printf("%-28s %6zu %5" PRIu32 " %10.0f %8.2f %9.0f %7.2f", name, length, report[0], ns, ns / (double)length, loop, times);
         int real = strncmp(name, "r_", 2) == 0;
         if (real && before > 0) {
-            growth = ns / before;
+            growth = times * (double)length / before;
             printf(" %7.2f", growth);
         }
-        before = real ? ns : 0;
+        before = real ? times * (double)length : 0;
         print_marks(name, ns, times, growth);
     }
     return 0;
