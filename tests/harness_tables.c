@@ -197,10 +197,28 @@ static int run_vectors(const char *path) {
 
 /* ---- reports and tables of other lengths */
 
+/* Where the length alone decides the answer, not a byte is read: the table is a page that traps. */
+static int run_unread(void) {
+    static const size_t lengths[] = {GW_MOST_TABLE + 1, 2 * GW_MOST_TABLE, UINT32_MAX, (size_t)1 << 32, PTRDIFF_MAX};
+    int calls = 0;
+    for (size_t l = 0; l < sizeof lengths / sizeof *lengths; l++)
+        for (size_t report = 0; report <= GW_REPORT_SIZE; report++, calls++) {
+            lend(NULL, 0, report, 1);
+            now.table_len = lengths[l];
+            checked_call();
+        }
+    for (size_t report = 0; report < GW_REPORT_SIZE; report++, calls++) {
+        lend(NULL, 0, report, 1);
+        now.table_len = GW_MOST_TABLE;
+        checked_call();
+    }
+    return calls;
+}
+
 static int run_buffers(void) {
     static struct table t;
     static const size_t lengths[] = {0, 1, 2, 3, 10, GW_MOST_TABLE - 1, GW_MOST_TABLE, GW_MOST_TABLE + 1, TABLE_ROOM};
-    int calls = 0;
+    int calls = run_unread();
     for (int fill = 0; fill < 256; fill += 51)
         for (size_t l = 0; l < sizeof lengths / sizeof *lengths; l++)
             for (size_t report = 0; report <= GW_REPORT_SIZE + 4; report++, calls++) {
@@ -248,8 +266,13 @@ static void free_tables(struct tables *given) {
 }
 
 static void print_case(const struct table *t) {
-    for (size_t i = 0; i < t->length; i++)
-        printf("%02x", t->bytes[i]);
+    static const char digits[] = "0123456789abcdef";
+    static char text[2 * TABLE_ROOM];
+    for (size_t i = 0; i < t->length; i++) {
+        text[2 * i] = digits[t->bytes[i] >> 4];
+        text[2 * i + 1] = digits[t->bytes[i] & 15];
+    }
+    fwrite(text, 1, 2 * t->length, stdout);
     printf("%s", t->length ? "" : "-");
     for (int i = 0; i < GW_REPORT_SIZE; i++)
         printf(" %" PRIu32, now.report[i]);

@@ -101,15 +101,20 @@ static const char *framing_words(const struct text *t, const struct path *path) 
     return p.tag == GW_TAG_REFERENCE ? "its text is no type reference" : "its text is no name";
 }
 
+static int is_named(const struct text *t, struct piece p) {
+    struct piece name = name_of(t, p);
+    return p.tag == GW_TAG_ROOTS || (name.tag && name.start < name.end);
+}
+
 /* "in object Query, field a: ", for what is around an offset. */
 static void print_holders(const struct text *t, const struct path *path) {
     for (int i = 1; i < path->count; i++) {
         struct piece p = path->holders[i];
-        printf("%s%s", i > 1 ? ", " : "in ", p.tag == GW_TAG_ROOTS || name_of(t, p).tag ? "" : "an unnamed ");
-        if (p.tag == GW_TAG_ROOTS || name_of(t, p).tag)
+        printf("%s", i > 1 ? ", " : "in ");
+        if (is_named(t, p))
             print_called(t, p, path->holders[i - 1].tag);
         else
-            printf("%s", tag_words(p.tag));
+            printf("an unnamed %s", tag_words(p.tag));
     }
     printf("%s", path->count > 1 ? ": " : "");
 }

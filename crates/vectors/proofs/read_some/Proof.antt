@@ -1,11 +1,11 @@
--- `vectors_parse::read_some` meets its contract: what is read into the part stands at the start of the buffer.
+-- `vectors::read_some` meets its contract: what is read into the part stands at the start of the buffer.
 use mathlib.Core.Path.{sym}
 use Prim.Native.Nat.{ℕ}
 use borrow.Author.Needs.{needs}
 use lib.Seq.{length-take-le}
-use Rattle.vectors_parse.proofs.PartLaws.{counts-whole}
-use Rattle.vectors_parse.proofs.read_some.Statement.{statement}
-use Rattle.vectors_parse.proofs.read_some.Tie as tie
+use Rattle.vectors.proofs.PartLaws.{counts-whole}
+use Rattle.vectors.proofs.read_some.Statement.{statement}
+use Rattle.vectors.proofs.read_some.Tie as tie
 
 returns : tie.Need-returns
 returns c = search needs
