@@ -131,40 +131,7 @@ module _ (t : Table) where
             ∙ ap (λ (n : ℕ). said (head? (breaksFrom t n))) (let q : suc i ≡ i + 1 = omega arith in q);
       }
 
--- is there a record 8, from number i on
-pub record Rootless (t : Table) (i : ℕ) : Type 0 where
-  pub within : i ≤ length t
-  pub same : anyOf isRoots t ≡ anyOf isRoots (drop i t)
-
 module _ (t : Table) where
-  pub roots-start : Rootless t 0
-  roots-start = record { within = omega arith; same = refl }
-
-  any-none : anyOf isRoots [] ≡ false
-  unfolding anyOf
-  any-none = refl
-
-  any-cons : (d : Definition) (ds : List Definition) → anyOf isRoots (d ∷ ds) ≡ (isRoots d || anyOf isRoots ds)
-  unfolding anyOf
-  any-cons d ds = refl
-
-  module _ (i : ℕ) (w : Rootless t i) where
-    pub roots-end : length t ≤ i → false ≡ anyOf isRoots t
-    roots-end h = sym (w .same ∙ ap (anyOf isRoots) (drop-of-length-le t h) ∙ any-none)
-
-    module _ (h : i < length t) where
-      opened-roots : anyOf isRoots t ≡ (isRoots (definitionAt t i) || anyOf isRoots (drop (suc i) t))
-      opened-roots = w .same ∙ ap (anyOf isRoots) (drop-cons t i (blank tagNothing) h) ∙ any-cons (definitionAt t i) (drop (suc i) t)
-
-      pub roots-here : definitionAt t i .tag ≡ 8 → true ≡ anyOf isRoots t
-      roots-here e = sym (opened-roots ∙ rw (eq-eqb (definitionAt t i .tag) 8 e) refl)
-
-      pub roots-on : (definitionAt t i .tag ≡ 8 → ⊥) → Rootless t (i + 1)
-      roots-on f = record {
-        within = omega arith;
-        same = opened-roots ∙ rw (ne-eqb (definitionAt t i .tag) 8 f) (ap (λ (n : ℕ). anyOf isRoots (drop n t)) (let q : suc i ≡ i + 1 = omega arith in q));
-      }
-
   -- 16, without record 8
   pub query-roots : anyOf isRoots t ≡ true → Accepted ≡ queryAnswer t
   unfolding queryNotObject
