@@ -1,12 +1,11 @@
 -- The rules in turn, from one number on; the definitions in turn.
 use mathlib.Core.Path.{_≡_, refl, sym, ap, subst, _∙_}
-use mathlib.Core.Bool.{Bool, true, false, _||_, cond}
+use mathlib.Core.Bool.{Bool, true, false, cond}
 use mathlib.Core.Option.{Option, none, some}
 use mathlib.Core.List.{List, [], _∷_, _++_, map, head?}
 use Prim.Native.Nat.{ℕ, zero, suc, _+_, _-_, _≤_, _<_}
 use native.Mathlib.Omega.{arith}
-use lib.ListN.{length, drop, drop-of-length-le}
-use lib.Seq.{drop-cons}
+use lib.ListN.{length}
 use borrow.Author.Tests.{eq-eqb, ne-eqb}
 use mathlib.Core.Logic.{_⊎_, inl, inr}
 use denote.Enum.Declared.{tagOf}
@@ -14,7 +13,7 @@ use types.Run.{OneOf}
 use Rattle.paper_types.proofs.TableAnswer.{the-type}
 use Rattle.paper_types.specs.TableNumbers.{noPlace, ruleRoot}
 use Rattle.paper_types.specs.Lists.{bytes, anyOf, gather}
-use Rattle.paper_types.specs.Types.{Definition, Table, isRoots, blank, tagNothing, meant}
+use Rattle.paper_types.specs.Types.{Definition, Table, isRoots, meant}
 use Rattle.paper_types.specs.Rules.{Place, queryNotObject}
 use Rattle.paper_types.specs.Judging.{Break, break, rules, breaksOf, breaks, answer}
 use Rattle.paper_types.specs.declared.TableAnswer.{TableAnswer}
