@@ -1,6 +1,6 @@
-use Rattle.promises.proofs.ArgumentLaws.{arguments-field, arguments-none}
-use Rattle.promises.proofs.arguments_from.Statement.{statement}
-use Rattle.promises.proofs.arguments_from.Tie as tie
+use Rattle.members.proofs.PartLaws.{arguments-field, arguments-none}
+use Rattle.members.proofs.arguments_from.Statement.{statement}
+use Rattle.members.proofs.arguments_from.Tie as tie
 
 returns : tie.Need-returns
 returns c = let a = c .before .args in arguments-field (a .t .now) (a .tag) (a .start) (a .end) (c .before .pre .order) (c .before .pre .within) (c .if1 .taken)

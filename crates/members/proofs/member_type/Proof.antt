@@ -1,8 +1,8 @@
-use Rattle.promises.proofs.ArgumentLaws.{type-of-name}
+use Rattle.members.proofs.PartLaws.{type-of-name}
 use Rattle.members.proofs.MemberLaws.{field-is, input-is}
 use borrow.Author.Needs.{needs}
-use Rattle.promises.proofs.member_type.Statement.{statement}
-use Rattle.promises.proofs.member_type.Tie as tie
+use Rattle.members.proofs.member_type.Statement.{statement}
+use Rattle.members.proofs.member_type.Tie as tie
 
 type-in-requires : tie.Need-type-in-requires
 type-in-requires c κs = search needs
