@@ -14,7 +14,7 @@ use Rattle.paper_types.specs.Rules.{earlier}
 use Rattle.links.specs.Links.{nextWith}
 use Rattle.links.proofs.Nexts.{next-here, next-step, next-end, next-least, next-most, next-passes, next-skips, next-all, next-jump, any-yes, any-no, find-yes, find-no, earlier-yes, earlier-no}
 
--- for the field `within` of a walk
+-- for the field `within` of a walk, and for a test that leaves out what each on the way passes
 pub and-left : (a b : Bool) → a && b ≡ true → a ≡ true
 and-left true b e = refl
 and-left false b e = absurd (true≢false (sym e))
@@ -22,6 +22,10 @@ and-left false b e = absurd (true≢false (sym e))
 pub and-right : (a b : Bool) → a && b ≡ true → b ≡ true
 and-right true b e = e
 and-right false b e = absurd (true≢false (sym e))
+
+pub and-known : (a b : Bool) → a ≡ true → a && b ≡ b
+and-known true b e = refl
+and-known false b e = absurd (true≢false (sym e))
 
 -- what a walk over the n elements xs knows that began at i and is at j: the first from j on is the first from i on
 pub record Walk {A : Type 0} (d : A) (p q : A → Bool) (xs : List A) (n i j : ℕ) : Type 0 where
