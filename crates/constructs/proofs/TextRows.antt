@@ -95,7 +95,7 @@ name-lies l (k ∷ ts) h = let a = h .0 in let b = h .1 in omega arith
 
 note-keeps : (l : ℕ) (m : Mark) (ts : List Tok) (b : Book) → Lie l ts → Kept l b → Kept l (note m ts b)
 note-keeps l row ts b t h = record {
-  fine = append-fine l 0 (b .rows) (begun (startOf ts) (top (b .open′))) (h .fine) (rw zero-add (under-top (length (b .rows)) (b .open′) (h .under), omega arith));
+  fine = append-fine l 0 (b .rows) (begun (startOf ts) (top (b .open′))) (h .fine) (rw (zero-add (length (b .rows))) (under-top (length (b .rows)) (b .open′) (h .under), omega arith));
   under =
       subst (λ (n : ℕ). Under n (length (b .rows) ∷ b .open′)) (let e : suc (length (b .rows)) ≡ length (b .rows ++ (begun (startOf ts) (top (b .open′)) ∷ [])) = omega (arith, length-append (b .rows) (begun (startOf ts) (top (b .open′)) ∷ [])) in e)
       (omega arith, under-more (length (b .rows)) (b .open′) (h .under));
