@@ -116,6 +116,49 @@ def anagrams(count):
     return ['N' + ''.join(p) + 'n' for p in itertools.islice(itertools.permutations('abcdef'), count)]
 
 
+def bucket(name):
+    """Where crates/index looks a name up, of 256 places."""
+    h = 0
+    for byte in name.encode():
+        h = (h * 31 + byte) % 256
+    return h
+
+
+def one_bucket(count, prefix=''):
+    """Names of one length that are all looked up in the same place, as short as can be behind a prefix."""
+    found = (prefix + ''.join(p) for p in itertools.product(LETTERS, repeat=3))
+    return list(itertools.islice((n for n in found if not n.startswith('__') and bucket(n) == 0), count))
+
+
+def crowded_unions(prefix=''):
+    """Unions of 64 objects that stand last among 256 names of one bucket."""
+    names = one_bucket(MOST_RECORDS - 1, prefix)
+    objects = [object_type(n, [Member('a', 'Int')]) for n in names[-MOST_MEMBERS:]]
+
+    def make(n):
+        unions = [union(u, [o.name for o in objects]) for u in names[:n]]
+        return [scalar(s) for s in names[n:-MOST_MEMBERS]] + unions + objects + [roots(names[-1])]
+    return largest(make, MOST_RECORDS - 1 - MOST_MEMBERS)
+
+
+def crowded_interfaces():
+    """Objects that implement 64 interfaces which stand last among 256 names of one bucket."""
+    names = one_bucket(MOST_RECORDS - 1)
+    last = [interface(n, [Member('a', 'Int')]) for n in names[-MOST_IMPLEMENTED:]]
+
+    def make(n):
+        objects = [object_type(o, [Member('a', 'Int')], [i.name for i in last]) for o in names[:n]]
+        return [scalar(s) for s in names[n:-MOST_IMPLEMENTED]] + objects + last + [roots(names[0])]
+    return largest(make, MOST_RECORDS - 1 - MOST_IMPLEMENTED)
+
+
+def crowded_references():
+    """Input fields whose types stand last among 256 names of one bucket."""
+    names = one_bucket(MOST_RECORDS - 2)
+    fields = [Member(f, names[-1 - i % 8]) for i, f in enumerate(short_names(MOST_MEMBERS))]
+    return largest(lambda n: [QUERY] + [input_object(t, fields) for t in names[:n]] + [scalar(s) for s in names[n:]], 200)
+
+
 def records(names, fields):
     """As many records as may be, each of whose fields names another one, far from it."""
     n = len(names)
@@ -124,11 +167,11 @@ def records(names, fields):
     return made + [roots(names[-1])]
 
 
-def promises(objects, interfaces, fields, arguments=0, length=0, own=None, promised=None, extra=(), wrap=('', '')):
+def promises(objects, interfaces, fields, arguments=0, length=0, crowded=False, own=None, promised=None, extra=(), wrap=('', '')):
     """Objects that implement each interface; the members stand in the opposite order in the two, so that one is found late."""
-    names = short_names(interfaces + objects)
+    names = (one_bucket if crowded else short_names)(interfaces + objects)
     many, some = names[:interfaces], names[interfaces:]
-    field_names = alike(fields, length) if length else short_names(fields)
+    field_names = alike(fields, length) if length else one_bucket(fields) if crowded else short_names(fields)
     argument_names = alike(arguments, length) if length else short_names(arguments)
 
     def held(type, back):
@@ -148,14 +191,12 @@ def some_unions():
 
 
 def largest(make, most=MOST_MEMBERS):
-    """The largest number for which the table made is within its length."""
-    best = None
-    for n in range(1, most + 1):
-        made = make(n)
-        if len(table(made)) > MOST_TABLE:
-            break
-        best = made
-    return best
+    """The table made for the largest number for which it is within its length."""
+    low, high = 1, most
+    while low < high:
+        n = (low + high + 1) // 2
+        low, high = (n, high) if len(table(make(n))) <= MOST_TABLE else (low, n - 1)
+    return make(low)
 
 
 def union_of_64():
@@ -182,6 +223,7 @@ def worst():
     yield 'w_implemented', 'objects with 64 implemented names each, of one field', largest(lambda n: promises(n, 64, 1), 190)
     yield 'w_fields', '18 objects and 18 interfaces of 64 fields', largest(lambda n: promises(18, 18, n))
     yield 'w_fields_long', 'the same with one prefix in all field names', largest(lambda n: promises(13, 13, n, length=16))
+    yield 'w_fields_bucket', 'the same with field names of one bucket', largest(lambda n: promises(17, 17, n, crowded=True))
     yield 'w_promises', '64 objects and 64 interfaces of some fields', largest(lambda n: promises(64, 64, n))
     yield 'w_arguments', 'objects and interfaces of one field with 16 arguments', largest(lambda n: promises(n, n, 1, 16))
     yield 'w_arguments_long', 'the same with one prefix in all their names', largest(lambda n: promises(n, n, 1, 16, length=16))
@@ -189,13 +231,21 @@ def worst():
         lambda n: promises(56, 64, n, own='SELF', promised='LAST'))
     extra, last = union_of_64()
     yield 'w_sub_union', '64 union members looked through for each sub-type', largest(
-        lambda n: promises(56, 60, n, own=last, promised='u_', extra=extra))
+        lambda n: promises(30, 60, n, own=last, promised='u_', extra=extra))
     yield 'w_deep', 'seven wrappers on each promised field', largest(
         lambda n: promises(40, 56, n, own='SELF', promised='LAST', wrap=('[[[[[[[', ']]]]]]]')))
     yield 'w_deep_marks', 'seven wrappers on each field of 64', largest(
         lambda n: [QUERY] + [object_type(t, [Member(f, f'[[[[{t}!]!]!]]') for f in short_names(64)]) for t in short_names(n)])
     yield 'w_directives', 'directives of 64 arguments', largest(
         lambda n: [QUERY, scalar('S')] + [directive(d, [Member(a, '[S!]') for a in short_names(64)]) for d in short_names(n)], 200)
+
+
+    yield 'w_bucket_unions', 'names of one bucket, 64 members each', crowded_unions()
+    yield 'w_bucket_unions_long', 'as w_bucket_unions, with one prefix of 12 bytes', crowded_unions('N' * 12)
+    yield 'w_bucket_interfaces', 'names of one bucket, 64 implemented names each', crowded_interfaces()
+    yield 'w_bucket_sub_interface', 'as w_sub_interface, type and field names of one bucket each', largest(
+        lambda n: promises(30, 64, n, crowded=True, own='SELF', promised='LAST'))
+    yield 'w_bucket_references', 'names of one bucket, 64 input fields each', crowded_references()
 
 
 def all_tables():

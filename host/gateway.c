@@ -1,18 +1,20 @@
 /* The host: a program that calls the gateway core.
 
-     gateway parse FILE     prints the rows of a document, or why it is refused and where
+     gateway parse FILE         prints the rows of a document, or why it is refused and where
+     gateway check-table FILE   judges a type table: says that it is accepted, or which rule is broken and where
 
    FILE may be - for standard input. Ends with status 0 (accepted), 1 (refused) or 2 (bad usage, or no such file). */
 #include "gateway.h"
 #include "show.h"
+#include "show_table.h"
 
 #include <stdio.h>
 #include <string.h>
 
 enum { ACCEPTED = 0, REFUSED = 1, TROUBLE = 2 };
 
-/* One byte more than a document may have: the library refuses what is longer. */
-static uint8_t document_bytes[GW_MOST_TEXT + 1];
+/* One byte more than a document or table may have: the library refuses what is longer. */
+static uint8_t document_bytes[GW_MOST_TEXT + 1], table_bytes[GW_MOST_TABLE + 1];
 static uint32_t rows[GW_ROWS_SIZE];
 
 /* Reads the beginning of a file, as far as there is room. */
@@ -46,6 +48,19 @@ static int run_parse(char **words) {
     return ACCEPTED;
 }
 
+static int run_check_table(char **words) {
+    struct text table;
+    uint32_t report[GW_REPORT_SIZE];
+    if (!read_text(words[0], table_bytes, sizeof table_bytes, &table))
+        return TROUBLE;
+    if (gw_check_table(table.bytes, table.length, report, GW_REPORT_SIZE) != GW_ACCEPTED) {
+        show_table_refusal(&table, report);
+        return REFUSED;
+    }
+    show_table(&table);
+    return ACCEPTED;
+}
+
 static const struct command {
     const char *name;
     int words;
@@ -53,6 +68,7 @@ static const struct command {
     int (*run)(char **words);
 } commands[] = {
     {"parse", 1, "parse FILE", run_parse},
+    {"check-table", 1, "check-table FILE", run_check_table},
 };
 
 enum { COMMANDS = sizeof commands / sizeof *commands };

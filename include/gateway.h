@@ -1,5 +1,5 @@
-/* The gateway core's C interface: the calls, the sizes of their buffers, the refusals and the numbers in their rows.
-   The names are those of crates/paper/src/lib.rt with GW_ before them.
+/* The gateway core's C interface: the calls, the sizes of their buffers, the refusals, the numbers in rows and tables.
+   The names are those of crates/paper/src/lib.rt and crates/paper_types/src/lib.rt with GW_ before them.
 
    Every call is a pure function of its inputs: no heap, no global state, no system call; it may run in any number of
    threads at once. Buffers must be aligned for their type and must not overlap. A buffer of length 0 may be NULL.
@@ -20,27 +20,39 @@ extern "C" {
 #define GW_MOST_ROWS 2048
 #define GW_MOST_FRAGMENTS 64
 #define GW_MOST_VARIABLES 64  /* per operation */
-#define GW_MOST_WRAPPERS 7    /* marks [ and ! per type reference */
+#define GW_MOST_WRAPPERS 7    /* marks [ and ! per type reference, a table's too */
+
+/* Sizes of a type table. */
+#define GW_MOST_TABLE 32768    /* bytes */
+#define GW_MOST_RECORDS 256
+#define GW_MOST_MEMBERS 64     /* per record; a directive's arguments are its members */
+#define GW_MOST_IMPLEMENTED 64 /* implemented names per object */
+#define GW_MOST_ARGUMENTS 16   /* per field */
 
 /* Fixed sizes of the outputs, in 32-bit numbers. A longer buffer may be lent; what lies beyond is left alone. */
 #define GW_ROW_SIZE 7
 #define GW_ROWS_SIZE 14336    /* GW_MOST_ROWS * GW_ROW_SIZE */
 #define GW_REPORT_SIZE 8
 
-#define GW_PARSE_STACK 20480  /* bytes of stack, more than gw_parse takes */
+/* Bytes of stack, more than a call takes (measured, not proved: tests/stack.c). */
+#define GW_PARSE_STACK 20480
+#define GW_CHECK_TABLE_STACK 24576
 
-/* What a call answers, which is also report[0]. Shown: report[1]. */
-#define GW_ACCEPTED 0             /* shown: the count of rows */
+/* What a call answers, which is also report[0]. Shown: report[1], of refusal 9 report[1] to report[5]. */
+#define GW_ACCEPTED 0             /* shown: gw_parse's count of rows */
 #define GW_REFUSE_BUFFER 1        /* a buffer is shorter than its fixed size; nothing shown */
 #define GW_REFUSE_OVER_LENGTH 2   /* an input is over its length; shown: which (GW_INPUT_..) */
 #define GW_REFUSE_NO_TOKEN 3      /* bytes that start no token, or bad text in a string or comment; shown: offset of it */
 #define GW_REFUSE_NO_GOING 4      /* a token (or the end) with which no document can go on; shown: its offset */
 #define GW_REFUSE_TOO_DEEP 5      /* level 33; shown: offset of the opening mark */
 #define GW_REFUSE_TOO_MANY_ROWS 6 /* row 2,049; shown: offset of the construct */
-#define GW_REFUSE_TOO_MANY 8      /* the 65th fragment or variable, the eighth wrapper; shown: its offset */
+#define GW_REFUSE_FRAMING 7       /* a table's house fields are not framed as they must be; shown: the smallest wrong offset */
+#define GW_REFUSE_TOO_MANY 8      /* another count over its size; shown: offset of the first over it */
+#define GW_REFUSE_SCHEMA 9        /* a table breaks a schema rule; shown: definition, rule, member, part, argument */
 
 #define GW_INPUT_DOCUMENT 0
 #define GW_INPUT_VARIABLES 1
+#define GW_INPUT_TABLE 2
 
 /* The columns of a row: rows[GW_ROW_SIZE * i + GW_ROW_..]. */
 #define GW_ROW_KIND 0
@@ -98,8 +110,7 @@ extern "C" {
      GW_REFUSE_OVER_LENGTH   2, GW_INPUT_DOCUMENT, zeros     untouched
      any other               its number, offset, zeros       zeros up to GW_ROWS_SIZE
 
-   Beyond the fixed sizes nothing is written. The call takes less than GW_PARSE_STACK bytes of stack (measured, not
-   proved: tests/stack.c).
+   Beyond the fixed sizes nothing is written.
 
      static uint32_t rows[GW_ROWS_SIZE];
      uint32_t report[GW_REPORT_SIZE];
@@ -111,6 +122,71 @@ extern "C" {
 uint32_t gw_parse(const uint8_t *document, size_t document_len,
                   uint32_t *rows, size_t rows_len,
                   uint32_t *report, size_t report_len);
+
+/* The tags of house fields: a tag byte, two length bytes (high first), content. */
+#define GW_TAG_SCALAR 1
+#define GW_TAG_OBJECT 2
+#define GW_TAG_INTERFACE 3
+#define GW_TAG_UNION 4
+#define GW_TAG_ENUM 5
+#define GW_TAG_INPUT_OBJECT 6
+#define GW_TAG_DIRECTIVE 7
+#define GW_TAG_ROOTS 8
+#define GW_TAG_NAME 16
+#define GW_TAG_IMPLEMENTS 17
+#define GW_TAG_FIELD 18
+#define GW_TAG_ARGUMENT 19       /* an argument, or an input field */
+#define GW_TAG_REFERENCE 20
+#define GW_TAG_UNION_MEMBER 21
+#define GW_TAG_ENUM_VALUE 22
+#define GW_TAG_QUERY_ROOT 23
+#define GW_TAG_MUTATION_ROOT 24
+#define GW_TAG_SUBSCRIPTION_ROOT 25
+
+/* The schema rules. */
+#define GW_RULE_RESERVED_NAME 1            /* type or directive name begins __ */
+#define GW_RULE_NAME_KNOWN 2               /* name already known or defined before */
+#define GW_RULE_NO_MEMBERS 3               /* a type other than a scalar without members */
+#define GW_RULE_NAME_REPEATED 4            /* member or argument repeats an earlier name beside it */
+#define GW_RULE_RESERVED_MEMBER 5          /* object or interface field, or its argument, begins __ */
+#define GW_RULE_ENUM_VALUE 6               /* enum value true, false or null */
+#define GW_RULE_NO_TYPE 7                  /* reference to no type */
+#define GW_RULE_BASE 8                     /* output where an input type is due, or the other way */
+#define GW_RULE_NOT_OBJECT_OR_INTERFACE 9  /* union member not an object, implemented name not an interface */
+#define GW_RULE_IMPLEMENTED_TWICE 10
+#define GW_RULE_FIELD_MISSING 11           /* of an interface */
+#define GW_RULE_FIELD_TYPE 12              /* not a sub-type of the interface's */
+#define GW_RULE_ARGUMENT_MISSING 13
+#define GW_RULE_ARGUMENT_TYPE 14           /* differs from the interface's */
+#define GW_RULE_ARGUMENT_EXTRA 15          /* Non-Null, and not the interface's */
+#define GW_RULE_ROOT 16                    /* a root is no object type */
+
+#define GW_NO_PLACE 65535                  /* a member, part or argument that is none */
+
+/* Judges a type table.
+
+   table     read: any bytes, of any length
+   report    lent: at least GW_REPORT_SIZE numbers; beyond these nothing is written
+
+   Answers GW_ACCEPTED or the first refusal of 1, 2, 7, 8, 9 that there is. What the call leaves:
+
+     answer                  report
+     GW_ACCEPTED             zeros
+     GW_REFUSE_BUFFER        untouched
+     GW_REFUSE_OVER_LENGTH   2, GW_INPUT_TABLE, zeros
+     GW_REFUSE_FRAMING       7, offset, zeros
+     GW_REFUSE_TOO_MANY      8, offset, zeros
+     GW_REFUSE_SCHEMA        9, definition, rule, member, part, argument, zeros
+
+   Definitions are the records, counted from 0, as are members, parts and arguments. Of several breaks the least is told, by
+   these five numbers in order. A directive's members are its arguments, those of the roots' record its roots. An
+   implemented name's member is its place among these, also in rules 11 to 15, where part is the interface's field and
+   argument is counted in it (15: in the object's). Rule 16 without a record of roots has the number of records.
+
+     uint32_t report[GW_REPORT_SIZE];
+     if (gw_check_table(table, table_len, report, GW_REPORT_SIZE) == GW_REFUSE_SCHEMA)
+         printf("definition %u breaks rule %u\n", report[1], report[2]); */
+uint32_t gw_check_table(const uint8_t *table, size_t table_len, uint32_t *report, size_t report_len);
 
 #ifdef __cplusplus
 }

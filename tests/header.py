@@ -1,5 +1,6 @@
 #!/usr/bin/env python3
-"""Holds include/gateway.h to crates/paper/src/lib.rt: each number of the one is in the other, with GW_ before its name.
+"""Holds include/gateway.h to the lib.rt of crates/paper and crates/paper_types: each number of the one is in the other,
+with GW_ before its name.
 
 The header alone names the columns of a row and the stack of a call.
 """
@@ -16,14 +17,17 @@ def numbers(path, pattern):
 
 
 def main():
-    code = numbers('crates/paper/src/lib.rt', r'^pub const (\w+): \w+ = (\d+);')
+    code = {}
+    for crate in ('paper', 'paper_types'):
+        code.update(numbers(f'crates/{crate}/src/lib.rt', r'^pub const (\w+): \w+ = (\d+);'))
     header = numbers('include/gateway.h', r'^#define GW_(\w+) (\d+)\b')
-    header.pop('PARSE_STACK')
+    for call in ('PARSE', 'CHECK_TABLE'):
+        header.pop(f'{call}_STACK')
     columns = {name: header.pop(name, None) for name in COLUMNS if name not in code}
     wrong = sorted(name for name in code.keys() | header.keys() if code.get(name) != header.get(name))
     wrong += [name for i, name in enumerate(COLUMNS) if columns.get(name, i) != i]
     for name in wrong:
-        print(f'header: {name} is {code.get(name)} in lib.rt and {header.get(name)} in gateway.h', file=sys.stderr)
+        print(f'header: {name} is {code.get(name)} in a lib.rt and {header.get(name)} in gateway.h', file=sys.stderr)
     print(f'header: {len(code)} numbers compared, {len(wrong)} differ')
     return 1 if wrong or not code else 0
 

@@ -1,28 +1,33 @@
-/* How much stack a call of gw_parse takes: it runs on a stack of its own that was painted, and the paint that is gone is
-   counted, on deep documents and on those of the files. It must not be more than the header says.
+/* How much stack a call takes: it runs on a stack of its own that was painted, and the paint that is gone is counted, on
+   deep documents and on the documents and tables of the files. It must not be more than the header says.
 
-     stack FILE.. */
+     stack FILE..      FILE.table is given to gw_check_table, any other to gw_parse */
 #define _GNU_SOURCE
 #include "gateway.h"
 
 #include <stdint.h>
 #include <stdio.h>
+#include <stdlib.h>
 #include <string.h>
 #include <ucontext.h>
 
 enum { STACK = 256 * 1024, PAINT = 0x5A };
 
 static uint8_t stack[STACK] __attribute__((aligned(64)));
-static uint8_t document[GW_MOST_TEXT];
-static size_t length;
+static uint8_t document[GW_MOST_TEXT], table[GW_MOST_TABLE];
+static size_t length, table_length;
 static uint32_t rows[GW_ROWS_SIZE], report[GW_REPORT_SIZE];
 static ucontext_t here, there;
 
-static void with_call(void) {
+static void parse(void) {
     gw_parse(document, length, rows, GW_ROWS_SIZE, report, GW_REPORT_SIZE);
 }
 
-static void without_call(void) {
+static void check_table(void) {
+    gw_check_table(table, table_length, report, GW_REPORT_SIZE);
+}
+
+static void nothing(void) {
 }
 
 /* The bytes of the painted stack that a function's run has changed. */
@@ -40,8 +45,8 @@ static size_t used_by(void (*f)(void)) {
     return sizeof stack - clean;
 }
 
-static size_t stack_of_call(void) {
-    size_t with = used_by(with_call), without = used_by(without_call);
+static size_t stack_of(void (*call)(void)) {
+    size_t with = used_by(call), without = used_by(nothing);
     return with > without ? with - without : 0;
 }
 
@@ -58,7 +63,7 @@ static size_t deep(const char *set, int sets, const char *value, int values) {
     put("a@d(x:", 1);
     put(value, values);
     put("1", 1);
-    return stack_of_call();
+    return stack_of(parse);
 }
 
 /* A default value of 31 levels, in the parentheses of the variables. */
@@ -66,7 +71,7 @@ static size_t deep_default(const char *value) {
     length = 0;
     put("query Q($v:T=", 1);
     put(value, 31);
-    return stack_of_call();
+    return stack_of(parse);
 }
 
 static size_t larger(size_t a, size_t b) {
@@ -85,18 +90,38 @@ static size_t most_on_deep_ones(void) {
     return most;
 }
 
-static size_t on_file(const char *path) {
+static size_t read_file(const char *path, uint8_t *room, size_t size) {
     FILE *file = fopen(path, "rb");
-    length = file ? fread(document, 1, sizeof document, file) : 0;
-    if (file)
-        fclose(file);
-    return stack_of_call();
+    if (!file) {
+        perror(path);
+        exit(2);
+    }
+    size_t n = fread(room, 1, size, file);
+    fclose(file);
+    return n;
+}
+
+static int is_table(const char *path) {
+    const char *end = strrchr(path, '.');
+    return end && strcmp(end, ".table") == 0;
+}
+
+static int told(const char *call, size_t most, size_t said) {
+    printf("stack: %s takes at most %zu bytes; the header says %zu\n", call, most, said);
+    return most <= said;
 }
 
 int main(int argc, char **argv) {
-    size_t most = most_on_deep_ones();
+    size_t most = most_on_deep_ones(), most_table = stack_of(check_table);
     for (int i = 1; i < argc; i++)
-        most = larger(most, on_file(argv[i]));
-    printf("stack: a call takes at most %zu bytes; the header says %d\n", most, GW_PARSE_STACK);
-    return most <= GW_PARSE_STACK ? 0 : 1;
+        if (is_table(argv[i])) {
+            table_length = read_file(argv[i], table, sizeof table);
+            most_table = larger(most_table, stack_of(check_table));
+        } else {
+            length = read_file(argv[i], document, sizeof document);
+            most = larger(most, stack_of(parse));
+        }
+    int right = told("gw_parse", most, GW_PARSE_STACK);
+    right &= told("gw_check_table", most_table, GW_CHECK_TABLE_STACK);
+    return right ? 0 : 1;
 }

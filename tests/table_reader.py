@@ -3,13 +3,17 @@
 
   table_reader.py vectors FILE   judges the tables of a vectors file and compares with the answers that stand there
   table_reader.py cases FILE     prints the cases of a vectors file, a line each, as tests/harness reads them
+  table_reader.py files FILE DIRECTORY   writes the tables of a vectors file there, NUMBER.table
   table_reader.py compare        reads such lines and compares their answers with its own
   table_reader.py report FILE..  prints the report of each table
 
 A line: the table in hex (- for none), the report's eight numbers.
 """
+import functools
+import gc
 import json
 import multiprocessing
+import pathlib
 import re
 import sys
 from collections import namedtuple
@@ -40,8 +44,11 @@ HELD = {
 
 A_NAME = re.compile(rb'[_A-Za-z][_0-9A-Za-z]*')
 
-# A house field as it stands: its offset, tag, content and, of a holder, what is in it.
-Piece = namedtuple('Piece', 'at tag content held')
+# A house field as it stands: its offset in what holds it, its tag and its content.
+Piece = namedtuple('Piece', 'at tag content')
+
+HEAD = 3                    # the tag byte and two length bytes
+KEPT = 1 << 16              # holders whose reading is kept: mutated tables have most of theirs in common
 
 
 # ---- framing
@@ -63,53 +70,56 @@ def is_type_reference(text):
         start, end = start + 1, end - 1
 
 
-def pieces(table, start, end, due, wrong):
-    """The fields between two offsets, with all that they hold; what is wrong with any of them goes into `wrong`.
-    What is not due there is wrong at its tag whatever is in it, and not looked into."""
-    found, at = [], start
+def fields_in(content, due):
+    """The fields of a content and every wrong offset in it. What is not due there is wrong at its tag whatever is in it,
+    and not looked into."""
+    found, wrong, at, end = [], [], 0, len(content)
     while at < end:
-        past = at + 3 + (table[at + 1] * 256 + table[at + 2] if at + 3 <= end else end)
+        past = at + HEAD + (content[at + 1] * 256 + content[at + 2] if at + HEAD <= end else end)
         if past > end:
             wrong.append(at)
             break
-        tag, content, held = table[at], table[at + 3:past], []
-        if tag not in due:
+        piece = Piece(at, content[at], content[at + HEAD:past])
+        found.append(piece)
+        if piece.tag not in due:
             wrong.append(at)
-        elif tag in HELD:
-            inside = []
-            held = pieces(table, at + 3, past, [t for t, _ in HELD[tag]], inside)
-            judge_holder(at, HELD[tag], held, inside)
-            wrong += inside
-        elif tag == TYPE:
-            if not is_type_reference(content):
-                wrong.append(at)
-        elif not is_name(content):
+        elif piece.tag in HELD:
+            wrong += [at + inside for inside in held_in(piece.tag, piece.content)[1]]
+        elif not (is_type_reference if piece.tag == TYPE else is_name)(piece.content):
             wrong.append(at)
-        found.append(Piece(at, tag, content, held))
         at = past
-    return found
+    return found, wrong
 
 
-def judge_holder(at, due, held, wrong):
-    """Which of the fields held are out of place; and what is missing where nothing is wrong."""
+@functools.lru_cache(KEPT)
+def held_in(tag, content):
+    """The fields that a holder with this tag and content holds, and every wrong offset in it, from its tag byte on."""
+    due = HELD[tag]
+    held, wrong = fields_in(content, [t for t, _ in due])
+    wrong += out_of_place(due, held)
+    if wrong:
+        return held, [HEAD + at for at in wrong]
+    tags = [piece.tag for piece in held]
+    return held, [0] if any(often == '1' and t not in tags for t, often in due) else []
+
+
+def out_of_place(due, held):
+    """The offsets of those that stand after one due later, or a second time where once is due."""
     order = [tag for tag, _ in due]
     once = [tag for tag, often in due if often != '*']
-    for i, piece in enumerate(held):
-        before = [p.tag for p in held[:i]]
+    before = set()
+    for piece in held:
         if piece.tag in order:
             later = order[order.index(piece.tag) + 1:]
-            if any(tag in later for tag in before) or (piece.tag in once and piece.tag in before):
-                wrong.append(piece.at)
-    if not wrong and any(often == '1' and tag not in [p.tag for p in held] for tag, often in due):
-        wrong.append(at)
+            if not before.isdisjoint(later) or (piece.tag in once and piece.tag in before):
+                yield piece.at
+        before.add(piece.tag)
 
 
 def records_of(table):
     """The records, and every wrong offset."""
-    wrong = []
-    records = pieces(table, 0, len(table), range(SCALAR, ROOTS + 1), wrong)
-    wrong += [r.at for r in records if r.tag == ROOTS][1:]
-    return records, wrong
+    records, wrong = fields_in(table, range(SCALAR, ROOTS + 1))
+    return records, wrong + [r.at for r in records if r.tag == ROOTS][1:]
 
 
 # ---- counts
@@ -118,29 +128,29 @@ MEMBERS = (FIELD, ARGUMENT, UNION_MEMBER, ENUM_VALUE)
 
 
 def held_of(piece, *tags):
-    return [p for p in piece.held if p.tag in tags]
+    return [p for p in held_in(piece.tag, piece.content)[0] if p.tag in tags]
 
 
 def over(records):
-    """The offset of each first one over its size."""
+    """The offset of each one over its size."""
     found = [r.at for r in records[MOST_RECORDS:]]
     for record in records:
-        found += [p.at for p in held_of(record, *MEMBERS)[MOST_MEMBERS:]]
-        found += [p.at for p in held_of(record, IMPLEMENTED)[MOST_IMPLEMENTED:]]
-        for member in held_of(record, FIELD, ARGUMENT):
-            found += marks_over(member)
-            if member.tag == FIELD:
-                arguments = held_of(member, ARGUMENT)
-                found += [p.at for p in arguments[MOST_ARGUMENTS:]]
-                for argument in arguments:
-                    found += marks_over(argument)
+        found += [record.at + HEAD + at for at in over_in(record.tag, record.content)]
     return found
 
 
-def marks_over(holder):
-    reference, = held_of(holder, TYPE)
-    marks = [i for i, byte in enumerate(reference.content) if byte in b'[!']
-    return [reference.at + 3 + i for i in marks[MOST_WRAPPERS:]]
+@functools.lru_cache(KEPT)
+def over_in(tag, content):
+    """The offset, in a record's or a member's content, of each one over its size."""
+    piece = Piece(0, tag, content)
+    found = [p.at for p in held_of(piece, IMPLEMENTED)[MOST_IMPLEMENTED:]]
+    found += [p.at for p in held_of(piece, *MEMBERS)[MOST_ARGUMENTS if tag == FIELD else MOST_MEMBERS:]]
+    for member in held_of(piece, FIELD, ARGUMENT):
+        found += [member.at + HEAD + at for at in over_in(member.tag, member.content)]
+    for reference in held_of(piece, TYPE):
+        marks = [i for i, byte in enumerate(reference.content) if byte in b'[!']
+        found += [reference.at + HEAD + i for i in marks[MOST_WRAPPERS:]]
+    return found
 
 
 # ---- the table as types
@@ -150,7 +160,7 @@ Member = namedtuple('Member', 'name type arguments')      # the type and the arg
 
 
 def text_of(piece, tag):
-    return [p.content for p in piece.held if p.tag == tag][0]
+    return held_of(piece, tag)[0].content
 
 
 def member_of(piece):
@@ -159,10 +169,12 @@ def member_of(piece):
     return Member(piece.content, None, [])
 
 
-def definition_of(record):
-    if record.tag == ROOTS:
-        return Definition(ROOTS, None, [], [member_of(p) for p in record.held])
-    return Definition(record.tag, text_of(record, NAME), [p.content for p in held_of(record, IMPLEMENTED)],
+@functools.lru_cache(KEPT)
+def definition_of(tag, content):
+    record = Piece(0, tag, content)
+    if tag == ROOTS:
+        return Definition(ROOTS, None, [], [member_of(p) for p in held_of(record, QUERY, MUTATION, SUBSCRIPTION)])
+    return Definition(tag, text_of(record, NAME), [p.content for p in held_of(record, IMPLEMENTED)],
                       [member_of(p) for p in held_of(record, *MEMBERS)])
 
 
@@ -212,13 +224,15 @@ class Schema:
             return True
         return one.endswith(b'!') and self.is_sub_type(one[:-1], other)
 
-    def breaks(self):
-        """Every break: definition, rule, member, part, argument."""
+    def least_break(self):
+        """Definition, rule, member, part, argument; or None. The first definition with a break has it."""
         for number, definition in enumerate(self.definitions):
-            for rule, *place in self.breaks_of(number, definition):
-                yield (number, rule, *(place + [NONE] * 3)[:3])
+            found = [(number, rule, *(place + [NONE] * 3)[:3]) for rule, *place in self.breaks_of(number, definition)]
+            if found:
+                return min(found)
         if not any(d.kind == ROOTS for d in self.definitions) and self.kind(b'Query') != OBJECT:
-            yield len(self.definitions), 16, NONE, NONE, NONE
+            return len(self.definitions), 16, NONE, NONE, NONE
+        return None
 
     def breaks_of(self, number, definition):
         if definition.kind == ROOTS:
@@ -309,7 +323,7 @@ def judge(table):
     first_over = over(records)
     if first_over:
         return report(8, min(first_over))
-    least = min(Schema([definition_of(r) for r in records]).breaks(), default=None)
+    least = Schema([definition_of(r.tag, r.content) for r in records]).least_break()
     return report(9, *least) if least else report(0)
 
 
@@ -325,22 +339,35 @@ def line_of(table, said):
 
 def differs(line):
     """What is wrong with a line's answer, or None."""
-    table = bytes.fromhex(line.split(' ', 1)[0].replace('-', ''))
-    mine = line_of(table, judge(table))
-    return None if mine == line else f'gave     {line}\nexpected {mine}'
+    table, given = line.split(' ', 1)
+    mine = ' '.join(map(str, judge(bytes.fromhex(table.replace('-', '')))))
+    return None if mine == given else f'table    {table}\ngave     {given}\nexpected {mine}'
 
 
-def cases_of(path):
+def vectors_of(path):
+    """The tables of a vectors file, each with its report."""
     with open(path) as file:
         for line in file:
             case = json.loads(line)
-            yield line_of(bytes.fromhex(case['table']), case['report'])
+            yield bytes.fromhex(case['table']), case['report']
+
+
+def cases_of(path):
+    return (line_of(table, said) for table, said in vectors_of(path))
+
+
+def write_files(path, directory):
+    directory = pathlib.Path(directory)
+    directory.mkdir(parents=True, exist_ok=True)
+    for n, (table, _) in enumerate(vectors_of(path), 1):
+        (directory / f'{n}.table').write_bytes(table)
 
 
 def compare(lines, what):
     count = wrong = 0
-    with multiprocessing.Pool() as pool:
-        for said in pool.imap(differs, lines, chunksize=64):
+    # nothing here has cycles, and collecting them takes a third of the time
+    with multiprocessing.Pool(initializer=gc.disable) as pool:
+        for said in pool.imap(differs, lines, chunksize=256):
             count += 1
             if said:
                 wrong += 1
@@ -356,6 +383,9 @@ def main(words):
     if words[:1] == ['cases'] and len(words) == 2:
         for line in cases_of(words[1]):
             print(line)
+        return 0
+    if words[:1] == ['files'] and len(words) == 3:
+        write_files(words[1], words[2])
         return 0
     if words == ['compare']:
         return compare((line.rstrip('\n') for line in sys.stdin), 'tables')

@@ -4,3 +4,4 @@ pub mod MemberLaws
 pub mod TagLaws
 pub mod FindLaws
 pub mod TypeLaws
+pub mod PartLaws

@@ -98,6 +98,11 @@ pub record Typed (t : List ℕ) (at n wrappers : ℕ) (ref : Ref) : Type 0 where
   pub packs : wrappers ≡ packOf ref % packLimit
   pub within : at + n ≤ length t
 
+-- a member's arguments stand from r up to its end
+pub record ArgumentsFrom (t : List ℕ) (tag start end r : ℕ) : Type 0 where
+  pub are : argumentsIn t r end ≡ memberFrom t tag start end .arguments
+  pub order : r ≤ end
+
 -- the first so named was found there
 pub record Finds {A : Type 0} (at end start stop : ℕ) (sought : Option A) (one : A) : Type 0 where
   pub lies : Lies at end start stop

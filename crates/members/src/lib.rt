@@ -19,7 +19,7 @@ ghost use Rattle.paper_types.specs.Types.{nameIn, typeIn};
 ghost use Rattle.paper_types.specs.Rules.{memberNamed};
 ghost use Rattle.fields.specs.Fields.{Bounds};
 ghost use Rattle.index.specs.Book.{part};
-ghost use Rattle.members.specs.Members.{fieldsIn, membersIn, implementedIn, memberFrom, isMember, NextTag, NextMember, NextArgument, NextImplemented, Named, Typed, FindMember, FindArgument};
+ghost use Rattle.members.specs.Members.{fieldsIn, membersIn, implementedIn, memberFrom, isMember, NextTag, NextMember, NextArgument, NextImplemented, Named, Typed, ArgumentsFrom, FindMember, FindArgument};
 
 // A field's tag and the bounds of its content; or there is none.
 pub enum FieldFound {
@@ -184,6 +184,35 @@ pub fn type_in(t: &[u8], start: usize, end: usize) -> TypeRead
         size: to - from,
         wrappers: wrappers,
     }
+}
+
+// The type of the member with this tag and content; one of no name if it has none.
+pub fn member_type(t: &[u8], tag: u8, start: usize, end: usize) -> TypeRead
+    requires { ⌜ Bounds (now t) start end ⌝ }
+    ensures { λ r. ⌜ Typed (now (t .entry)) (r .at) (r .size) (r .wrappers) (memberFrom (now (t .entry)) tag start end .type) ⌝ }
+{
+    if tag == TAG_FIELD {
+        return type_in(t, start, end);
+    }
+    if tag == TAG_ARGUMENT {
+        return type_in(t, start, end);
+    }
+    TypeRead {
+        at: start,
+        size: 0,
+        wrappers: 0,
+    }
+}
+
+// From where on, up to `end`, a member's arguments stand: a field alone has some.
+pub fn arguments_from(t: &[u8], tag: u8, start: usize, end: usize) -> usize
+    requires { ⌜ Bounds (now t) start end ⌝ }
+    ensures { λ r. ⌜ ArgumentsFrom (now (t .entry)) tag start end r ⌝ }
+{
+    if tag == TAG_FIELD {
+        return start;
+    }
+    end
 }
 
 // Is a member's name the n bytes of s from `at` on?

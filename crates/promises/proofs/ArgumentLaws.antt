@@ -1,27 +1,20 @@
--- One argument and the other field's of its name: what rules 13 to 15 say of it; a member's type and arguments.
+-- One argument and the other field's of its name: what rules 13 to 15 say of it.
 use mathlib.Core.Path.{_≡_, refl, sym, ap, _∙_}
-use mathlib.Core.Bool.{Bool, true, false, not, _&&_, cond}
+use mathlib.Core.Bool.{Bool, true, false, not, _&&_}
 use mathlib.Core.Option.{none, some}
-use mathlib.Core.List.{List, []}
-use Prim.Native.Nat.{ℕ, _≤_}
-use native.Mathlib.Nat.{le-refl}
-use native.Mathlib.Omega.{arith}
-use lib.ListN.{length}
-use lib.Seq.{slice}
+use mathlib.Core.List.{List}
+use Prim.Native.Nat.{ℕ}
 use lib.Dec.{eqb}
 use borrow.Author.Tests.{eq-eqb, ne-eqb}
 use Rattle.paper.specs.Tokens.{same}
-use Rattle.paper_types.specs.TableNumbers.{tagField, tagArgument, ruleArgumentMissing, ruleArgumentType, ruleArgumentExtra}
+use Rattle.paper_types.specs.TableNumbers.{ruleArgumentMissing, ruleArgumentType, ruleArgumentExtra}
 use Rattle.paper_types.specs.Lists.{allOf}
-use Rattle.paper_types.specs.Types.{Argument, argumentOf, nameOnly}
-use Rattle.fields.specs.Fields.{Bounds}
-use Rattle.fields.specs.Wrappers.{isMarked, packOf}
+use Rattle.paper_types.specs.Types.{Argument}
+use Rattle.fields.specs.Wrappers.{isMarked}
 use Rattle.index.specs.Book.{part}
-use Rattle.members.specs.Members.{memberFrom, inputFrom, argumentsIn, Typed}
-use Rattle.members.proofs.GatherLaws.{gather-none}
-use Rattle.members.proofs.MemberLaws.{field-is, name-is}
+use Rattle.members.specs.Members.{memberFrom, argumentsIn, Typed, ArgumentsFrom}
 use Rattle.members.proofs.TypeLaws.{typed-non-null, typed-same}
-use Rattle.promises.specs.Asked.{slimArgument, slimMember, ArgumentsFrom, failing}
+use Rattle.promises.specs.Asked.{slimArgument, slimMember, failing}
 use Rattle.promises.proofs.SlimLaws.{slim-argument, slim-arguments}
 
 module _ (rule : ℕ) (x : Argument) where
@@ -56,25 +49,5 @@ module _ (rule : ℕ) (x : Argument) where
           go true = refl
           go false = refl
 
-module _ (t : List ℕ) (tag start end : ℕ) (w : start ≤ end) (l : end ≤ length t) where
-  pub arguments-field : tag ≡ tagField → ArgumentsFrom t tag start end start
-  arguments-field e = record { are = rw (field-is t tag start end e); order = w }
-
-  pub arguments-none : (tag ≡ tagField → ⊥) → ArgumentsFrom t tag start end end
-  unfolding memberFrom
-  arguments-none e = record { are = gather-none argumentOf (λ at. refl) t end end l (le-refl end) ∙ rw (ne-eqb tag tagField e) (go (eqb tag tagArgument)); order = le-refl end }
-    where
-      go : (b : Bool) → [] ≡ cond b (inputFrom t start end) (nameOnly tag (slice start end t)) .arguments
-      go true = refl
-      go false = refl
-
-  pub type-of-name : (tag ≡ tagField → ⊥) → (tag ≡ tagArgument → ⊥) → Typed t start 0 0 (memberFrom t tag start end .type)
-  unfolding packOf
-  type-of-name e f = rw (name-is t tag start end e f) (record { base = refl; packs = refl; within = omega arith })
-
-module _ {t : List ℕ} {tag start end r : ℕ} (f : ArgumentsFrom t tag start end r) where
-  pub from-bounds : Bounds t start end → Bounds t r end
-  from-bounds b = record { order = f .order; within = b .within; most = b .most }
-
-  pub from-slim : slimMember (memberFrom t tag start end) ≡ true → allOf slimArgument (argumentsIn t r end) ≡ true
-  from-slim h = ap (allOf slimArgument) (f .are) ∙ slim-arguments (memberFrom t tag start end) h
+pub from-slim : {t : List ℕ} {tag start end r : ℕ} → ArgumentsFrom t tag start end r → slimMember (memberFrom t tag start end) ≡ true → allOf slimArgument (argumentsIn t r end) ≡ true
+from-slim {t = t} {tag = tag} {start = start} {end = end} f h = ap (allOf slimArgument) (f .are) ∙ slim-arguments (memberFrom t tag start end) h

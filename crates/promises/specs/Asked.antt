@@ -4,7 +4,7 @@ use mathlib.Core.Path.{_≡_}
 use mathlib.Core.Bool.{Bool, true, _&&_, _||_, cond}
 use mathlib.Core.Option.{Option, none, some}
 use mathlib.Core.List.{List, [], _++_}
-use Prim.Native.Nat.{ℕ, zero, suc, _≤_}
+use Prim.Native.Nat.{ℕ, zero, suc}
 use lib.Dec.{leb, eqb}
 use Rattle.paper.specs.Numbers.{mostWrappers}
 use Rattle.paper_types.specs.TableNumbers.{ruleFieldMissing, ruleFieldType, ruleArgumentMissing, ruleArgumentType, ruleArgumentExtra}
@@ -13,7 +13,6 @@ use Rattle.paper_types.specs.References.{isNonNull}
 use Rattle.paper_types.specs.Types.{Argument, Member, Definition, Table}
 use Rattle.paper_types.specs.Rules.{Place, partAt, partArgumentAt, memberNamed, argumentNamed, Ask, noSubType, differs, fieldMissing, fieldType, argumentMissing, argumentType, argumentExtra}
 use Rattle.paper_types.proofs.ReferenceSizes.{wrappers as wrapperCount}
-use Rattle.members.specs.Members.{argumentsIn, memberFrom}
 
 -- at most seven wrappers
 abbrev pub slimArgument : Argument → Bool
@@ -27,11 +26,6 @@ slimDefinition d = allOf slimMember (d .members)
 
 abbrev pub Slim : Table → Type 0
 Slim t = allOf slimDefinition t ≡ true
-
--- a member's arguments stand from r up to its end
-pub record ArgumentsFrom (t : List ℕ) (tag start end r : ℕ) : Type 0 where
-  pub are : argumentsIn t r end ≡ memberFrom t tag start end .arguments
-  pub order : r ≤ end
 
 -- an argument breaks the rule, given the other field's argument of its name
 abbrev pub failing : ℕ → Argument → Option Argument → Bool

@@ -1,15 +1,12 @@
 // The schema rules 11 to 15: what the interfaces that a definition implements ask of its fields. Each rule's first place, or none.
 // Of the table nothing is asked but its sizes.
 use members::FieldFound;
-use members::TypeRead;
 use paper_types::NO_PLACE;
 use paper_types::RULE_ARGUMENT_EXTRA;
 use paper_types::RULE_ARGUMENT_MISSING;
 use paper_types::RULE_ARGUMENT_TYPE;
 use paper_types::RULE_FIELD_MISSING;
 use paper_types::RULE_FIELD_TYPE;
-use paper_types::TAG_ARGUMENT;
-use paper_types::TAG_FIELD;
 use places::PlaceRead;
 ghost use mathlib.Core.Path.{_≡_};
 ghost use mathlib.Core.Bool.{true, false};
@@ -23,39 +20,10 @@ ghost use Rattle.paper_types.specs.TableNumbers.{ruleFieldType};
 ghost use Rattle.places.specs.Placed.{placed};
 ghost use Rattle.fields.specs.Fields.{Bounds};
 ghost use Rattle.index.specs.Book.{part, countIn};
-ghost use Rattle.members.specs.Members.{membersIn, argumentsIn, implementedIn, memberFrom, argumentFrom, Typed};
+ghost use Rattle.members.specs.Members.{membersIn, argumentsIn, implementedIn, memberFrom, argumentFrom};
 ghost use Rattle.types.specs.Booked.{Booked, startIn, endIn, definitionOn};
 ghost use Rattle.listings.specs.Listed.{Listed};
-ghost use Rattle.promises.specs.Asked.{slimArgument, slimMember, Slim, ArgumentsFrom, failing, argumentsAsked, ruleAsked, rulesAsked, ownRules, AllKept, askedOf};
-
-// The type of the member with this tag and content.
-fn member_type(t: &[u8], tag: u8, start: usize, end: usize) -> TypeRead
-    requires { ⌜ Bounds (now t) start end ⌝ }
-    ensures { λ r. ⌜ Typed (now (t .entry)) (r .at) (r .size) (r .wrappers) (memberFrom (now (t .entry)) tag start end .type) ⌝ }
-{
-    if tag == TAG_FIELD {
-        return members::type_in(t, start, end);
-    }
-    if tag == TAG_ARGUMENT {
-        return members::type_in(t, start, end);
-    }
-    TypeRead {
-        at: start,
-        size: 0,
-        wrappers: 0,
-    }
-}
-
-// From where on, up to `end`, a member's arguments stand: a field alone has some.
-fn arguments_from(t: &[u8], tag: u8, start: usize, end: usize) -> usize
-    requires { ⌜ Bounds (now t) start end ⌝ }
-    ensures { λ r. ⌜ ArgumentsFrom (now (t .entry)) tag start end r ⌝ }
-{
-    if tag == TAG_FIELD {
-        return start;
-    }
-    end
-}
+ghost use Rattle.promises.specs.Asked.{slimArgument, slimMember, Slim, failing, argumentsAsked, ruleAsked, rulesAsked, ownRules, AllKept, askedOf};
 
 const WRAPPERS: u32 = 4;
 
@@ -162,8 +130,8 @@ fn type_place(
     requires { ⌜ Booked (now t) (now book) × Bounds (now t) start end × Bounds (now t) from stop × (slimMember (memberFrom (now t) tag start end) ≡ true) × (slimMember (memberFrom (now t) «own_tag» from stop) ≡ true) ⌝ }
     ensures { λ r. ⌜ r ≡ placed (head? (ruleAsked ruleFieldType (tableOf (now (t .entry))) member part (memberFrom (now (t .entry)) tag start end) (memberFrom (now (t .entry)) «own_tag» from stop))) ⌝ }
 {
-    let q = member_type(t, tag, start, end);
-    let r = member_type(t, own_tag, from, stop);
+    let q = members::member_type(t, tag, start, end);
+    let r = members::member_type(t, own_tag, from, stop);
     if types::is_sub_type(t, book, r, q) {
         return PlaceRead::Kept;
     }
@@ -197,8 +165,8 @@ fn own_place(
     if rule == RULE_FIELD_TYPE {
         return type_place(t, book, member, part, tag, start, end, own_tag, from, stop);
     }
-    let a = arguments_from(t, tag, start, end);
-    let b = arguments_from(t, own_tag, from, stop);
+    let a = members::arguments_from(t, tag, start, end);
+    let b = members::arguments_from(t, own_tag, from, stop);
     if rule == RULE_ARGUMENT_EXTRA {
         return first_wrong(t, rule, b, stop, a, end, member, part);
     }

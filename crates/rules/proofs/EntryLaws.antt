@@ -1,10 +1,10 @@
--- What a book's numbers say of the table's definition number i.
+-- What rules 2 and 3 ask of the table's definition number i, by its book.
 use mathlib.Core.Path.{_≡_, refl, sym, ap, _∙_}
 use mathlib.Core.Bool.{true, false, _||_}
 use mathlib.Core.List.{List, [], _∷_}
-use Prim.Native.Nat.{ℕ, suc, _+_, _≤_, _<_}
+use Prim.Native.Nat.{ℕ, suc, _≤_, _<_}
 use native.Mathlib.Omega.{arith}
-use lib.ListN.{length, getD}
+use lib.ListN.{length}
 use lib.Dec.{ltb, eqb}
 use borrow.Author.Tests.{ne-eqb}
 use Rattle.paper.specs.Tokens.{same}
@@ -12,35 +12,10 @@ use Rattle.paper_types.specs.Lists.{anyOf, firstAt}
 use Rattle.paper_types.specs.Types.{Member, Definition, tableOf, typeNamed, directiveNamed, isBuiltIn, builtInDirectives}
 use Rattle.paper_types.specs.Rules.{earlier, typeKnown, directiveKnown}
 use Rattle.paper_types.proofs.ListsLaws.{any-take}
-use Rattle.fields.specs.Fields.{Bounds}
-use Rattle.index.specs.Book.{cellName, cellSize, countIn}
-use Rattle.members.specs.Members.{membersIn, implementedIn, Named}
-use Rattle.types.specs.Booked.{Booked, definitionOn, startIn, endIn}
+use Rattle.index.specs.Book.{countIn}
+use Rattle.types.specs.Booked.{Booked}
 
 module _ (t book : List ℕ) (b : Booked t book) (i : ℕ) (h : i < countIn book) where
-  pub tag-entered : {k : ℕ} → k ≡ getD book i 0 → k ≡ definitionOn t i .tag
-  tag-entered e = e ∙ sym (ap (λ (d : Definition). d .tag) (b .entered i h .is))
-
-  pub name-entered : (at n : ℕ) → at ≡ getD book (cellName + i) 0 → n ≡ getD book (cellSize + i) 0 → Named t at n (definitionOn t i .name)
-  name-entered at n e f = record {
-    is = rw (e, f) (b .entered i h .name);
-    within = rw (e, f) (b .entered i h .name-within);
-  }
-
-  module _ (s e : ℕ) (p : s ≡ startIn book i) (q : e ≡ endIn book i) where
-    pub bounds-entered : Bounds t s e
-    bounds-entered = record {
-      order = omega (arith, p, q, b .entered i h .order);
-      within = omega (arith, q, b .entered i h .within);
-      most = b .short;
-    }
-
-    pub members-entered : membersIn t s e ≡ definitionOn t i .members
-    members-entered = rw (p, q) (sym (ap (λ (d : Definition). d .members) (b .entered i h .is)))
-
-    pub implemented-entered : implementedIn t s e ≡ definitionOn t i .implements
-    implemented-entered = rw (p, q) (sym (ap (λ (d : Definition). d .implements) (b .entered i h .is)))
-
   up-to : i ≤ length (tableOf t)
   up-to = omega (arith, b .count)
 

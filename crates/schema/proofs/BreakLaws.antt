@@ -1,12 +1,11 @@
 -- The rules in turn, from one number on; the definitions in turn.
 use mathlib.Core.Path.{_≡_, refl, sym, ap, subst, _∙_}
-use mathlib.Core.Bool.{Bool, true, false, _||_, cond}
+use mathlib.Core.Bool.{Bool, true, false, cond}
 use mathlib.Core.Option.{Option, none, some}
 use mathlib.Core.List.{List, [], _∷_, _++_, map, head?}
 use Prim.Native.Nat.{ℕ, zero, suc, _+_, _-_, _≤_, _<_}
 use native.Mathlib.Omega.{arith}
-use lib.ListN.{length, drop, drop-of-length-le}
-use lib.Seq.{drop-cons}
+use lib.ListN.{length}
 use borrow.Author.Tests.{eq-eqb, ne-eqb}
 use mathlib.Core.Logic.{_⊎_, inl, inr}
 use denote.Enum.Declared.{tagOf}
@@ -14,7 +13,7 @@ use types.Run.{OneOf}
 use Rattle.paper_types.proofs.TableAnswer.{the-type}
 use Rattle.paper_types.specs.TableNumbers.{noPlace, ruleRoot}
 use Rattle.paper_types.specs.Lists.{bytes, anyOf, gather}
-use Rattle.paper_types.specs.Types.{Definition, Table, isRoots, blank, tagNothing, meant}
+use Rattle.paper_types.specs.Types.{Definition, Table, isRoots, meant}
 use Rattle.paper_types.specs.Rules.{Place, queryNotObject}
 use Rattle.paper_types.specs.Judging.{Break, break, rules, breaksOf, breaks, answer}
 use Rattle.paper_types.specs.declared.TableAnswer.{TableAnswer}
@@ -131,40 +130,7 @@ module _ (t : Table) where
             ∙ ap (λ (n : ℕ). said (head? (breaksFrom t n))) (let q : suc i ≡ i + 1 = omega arith in q);
       }
 
--- is there a record 8, from number i on
-pub record Rootless (t : Table) (i : ℕ) : Type 0 where
-  pub within : i ≤ length t
-  pub same : anyOf isRoots t ≡ anyOf isRoots (drop i t)
-
 module _ (t : Table) where
-  pub roots-start : Rootless t 0
-  roots-start = record { within = omega arith; same = refl }
-
-  any-none : anyOf isRoots [] ≡ false
-  unfolding anyOf
-  any-none = refl
-
-  any-cons : (d : Definition) (ds : List Definition) → anyOf isRoots (d ∷ ds) ≡ (isRoots d || anyOf isRoots ds)
-  unfolding anyOf
-  any-cons d ds = refl
-
-  module _ (i : ℕ) (w : Rootless t i) where
-    pub roots-end : length t ≤ i → false ≡ anyOf isRoots t
-    roots-end h = sym (w .same ∙ ap (anyOf isRoots) (drop-of-length-le t h) ∙ any-none)
-
-    module _ (h : i < length t) where
-      opened-roots : anyOf isRoots t ≡ (isRoots (definitionAt t i) || anyOf isRoots (drop (suc i) t))
-      opened-roots = w .same ∙ ap (anyOf isRoots) (drop-cons t i (blank tagNothing) h) ∙ any-cons (definitionAt t i) (drop (suc i) t)
-
-      pub roots-here : definitionAt t i .tag ≡ 8 → true ≡ anyOf isRoots t
-      roots-here e = sym (opened-roots ∙ rw (eq-eqb (definitionAt t i .tag) 8 e) refl)
-
-      pub roots-on : (definitionAt t i .tag ≡ 8 → ⊥) → Rootless t (i + 1)
-      roots-on f = record {
-        within = omega arith;
-        same = opened-roots ∙ rw (ne-eqb (definitionAt t i .tag) 8 f) (ap (λ (n : ℕ). anyOf isRoots (drop n t)) (let q : suc i ≡ i + 1 = omega arith in q));
-      }
-
   -- 16, without record 8
   pub query-roots : anyOf isRoots t ≡ true → Accepted ≡ queryAnswer t
   unfolding queryNotObject

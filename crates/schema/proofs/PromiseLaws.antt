@@ -14,7 +14,7 @@ use Rattle.types.specs.Booked.{definitionOn, startIn, endIn}
 use Rattle.types.proofs.Fitting.{all-at}
 use Rattle.listings.specs.Listed.{Listed, Listable}
 use Rattle.promises.specs.Asked.{AllKept}
-use Rattle.rules.proofs.EntryLaws.{bounds-entered, members-entered, implemented-entered}
+use Rattle.types.proofs.Entries.{bounds-entered, members-entered, implemented-entered}
 use Rattle.schema.specs.Schema.{fewMembers, Checkable, Promising}
 use Rattle.schema.proofs.NumberLaws.{nothing-promised}
 

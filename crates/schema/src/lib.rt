@@ -199,20 +199,10 @@ fn has_roots(t: &[u8], book: &[u32]) -> bool
     requires { ⌜ Booked (now t) (now book) ⌝ }
     ensures { λ r. ⌜ r ≡ anyOf isRoots (tableOf (now (t .entry))) ⌝ }
 {
-    let count = index::count_of(book);
-    let mut i = 0;
-    while i < count {
-        if index::kind_of(book, i) == ROOTS {
-            return true;
-        }
-        i += 1;
-    }
-    false
+    types::first_roots(t, book) < index::count_of(book)
 }
 
 const OBJECT: u32 = 2;
-
-const ROOTS: u32 = 8;
 
 // 16, without record 8: `Query` isn't an object type.
 fn query_break(t: &[u8], book: &[u32]) -> TableAnswer

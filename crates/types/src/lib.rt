@@ -14,7 +14,7 @@ ghost use Prim.Native.Nat.{_+_, _-_, _≤_, _<_};
 ghost use lib.ListN.{length, getD, set};
 ghost use Rattle.paper_types.specs.TableNumbers.{mostTable};
 ghost use Rattle.paper_types.specs.Lists.{anyOf, firstAt};
-ghost use Rattle.paper_types.specs.Types.{tableOf, typeNamed, directiveNamed, isBuiltIn, meaning, meant, canBe};
+ghost use Rattle.paper_types.specs.Types.{tableOf, typeNamed, directiveNamed, isRoots, isBuiltIn, meaning, meant, canBe};
 ghost use Rattle.paper_types.specs.Rules.{memberNamed};
 ghost use Rattle.fields.specs.Fields.{Bounds};
 ghost use Rattle.index.specs.Book.{part, room, bookSize, countIn};
@@ -126,6 +126,8 @@ const HIGHEST_TYPE: u32 = 6;
 
 const DIRECTIVE: u32 = 7;
 
+const ROOTS: u32 = 8;
+
 // The number of the first type whose name is the n bytes of s from `at` on; the count of definitions if there is none.
 pub fn first_type(t: &[u8], book: &[u32], s: &[u8], at: usize, n: usize) -> usize
     requires { ⌜ Booked (now t) (now book) × (at + n ≤ length (now s)) ⌝ }
@@ -140,6 +142,22 @@ pub fn first_directive(t: &[u8], book: &[u32], s: &[u8], at: usize, n: usize) ->
     ensures { λ r. ⌜ r ≡ firstAt (directiveNamed (part (now (s .entry)) at n)) (tableOf (now (t .entry))) ⌝ }
 {
     index::find_key(t, book, DIRECTIVE, DIRECTIVE, s, at, n)
+}
+
+// The number of the record 8; the count of definitions if there is none.
+pub fn first_roots(t: &[u8], book: &[u32]) -> usize
+    requires { ⌜ Booked (now t) (now book) ⌝ }
+    ensures { λ r. ⌜ r ≡ firstAt isRoots (tableOf (now (t .entry))) ⌝ }
+{
+    let count = index::count_of(book);
+    let mut i = 0;
+    while i < count {
+        if index::kind_of(book, i) == ROOTS {
+            return i;
+        }
+        i += 1;
+    }
+    i
 }
 
 // What the name of n bytes of s from `at` on means.

@@ -6,7 +6,7 @@ use native.Mathlib.Omega.{arith}
 use Rattle.paper_types.specs.Types.{tableOf}
 use Rattle.places.specs.Placed.{placed}
 use Rattle.walks.specs.Walks.{implementedAt}
-use Rattle.rules.proofs.EntryLaws.{bounds-entered, implemented-entered}
+use Rattle.types.proofs.Entries.{bounds-entered, implemented-entered}
 use Rattle.rules.proofs.implemented_of.Statement.{statement}
 use Rattle.rules.proofs.implemented_of.Tie as tie
 

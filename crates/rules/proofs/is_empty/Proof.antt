@@ -7,7 +7,8 @@ use lib.ListN.{length}
 use lib.Dec.{eqb}
 use Rattle.paper_types.specs.Types.{Member}
 use Rattle.members.specs.Members.{membersIn, NextMember}
-use Rattle.rules.proofs.EntryLaws.{bounds-entered, members-entered, empty-true, empty-false}
+use Rattle.types.proofs.Entries.{bounds-entered, members-entered}
+use Rattle.rules.proofs.EntryLaws.{empty-true, empty-false}
 use Rattle.rules.proofs.is_empty.Statement.{statement}
 use Rattle.rules.proofs.is_empty.Tie as tie
 

@@ -5,7 +5,7 @@ use native.Mathlib.Omega.{arith}
 use Rattle.paper_types.specs.Types.{Member, tableOf}
 use Rattle.places.specs.Placed.{placed}
 use Rattle.walks.specs.Walks.{membersAt}
-use Rattle.rules.proofs.EntryLaws.{bounds-entered, members-entered}
+use Rattle.types.proofs.Entries.{bounds-entered, members-entered}
 use Rattle.rules.proofs.members_of.Statement.{statement}
 use Rattle.rules.proofs.members_of.Tie as tie
 

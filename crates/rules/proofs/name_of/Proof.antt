@@ -1,6 +1,6 @@
 -- The entry's name.
 use native.Mathlib.Omega.{arith}
-use Rattle.rules.proofs.EntryLaws.{name-entered}
+use Rattle.types.proofs.Entries.{name-entered}
 use Rattle.rules.proofs.name_of.Statement.{statement}
 use Rattle.rules.proofs.name_of.Tie as tie
 

@@ -1,6 +1,6 @@
 -- The entry's kind.
 use native.Mathlib.Omega.{arith}
-use Rattle.rules.proofs.EntryLaws.{tag-entered}
+use Rattle.types.proofs.Entries.{tag-entered}
 use Rattle.rules.proofs.tag_of.Statement.{statement}
 use Rattle.rules.proofs.tag_of.Tie as tie
 

@@ -3,7 +3,7 @@ use borrow.Author.Needs.{needs}
 use mathlib.Core.Path.{subst}
 use native.Mathlib.Omega.{arith}
 use Rattle.members.specs.Members.{NextImplemented}
-use Rattle.rules.proofs.EntryLaws.{bounds-entered}
+use Rattle.types.proofs.Entries.{bounds-entered}
 use Rattle.schema.proofs.PromiseLaws.{listable, listed-at, promising-none, promising-some}
 use Rattle.schema.proofs.list_promises.Statement.{statement}
 use Rattle.schema.proofs.list_promises.Tie as tie
