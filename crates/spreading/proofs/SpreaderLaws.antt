@@ -1,0 +1,29 @@
+-- The definition that a row spreads a fragment in: its owner, if it is a spread.
+use mathlib.Core.Path.{_≡_, refl, sym, ap, subst, _∙_}
+use mathlib.Core.List.{List}
+use Prim.Native.Nat.{ℕ, suc, _+_, _<_, _≤_}
+use native.Mathlib.Omega.{arith}
+use lib.ListN.{length, getD}
+use lib.Dec.{T, eqb→eq}
+use Rattle.paper.specs.Numbers.{mostRows, noParent, kindSpread}
+use Rattle.paper_rules.specs.Constructs.{Doc, count, kindOf}
+use Rattle.spreading.specs.Owners.{Defines, Owner}
+use Rattle.spreading.specs.Spreads.{IsSpread, SpreadIn, Spreader}
+use Rattle.spreading.proofs.OwnerLaws.{definition-within}
+
+pub spread-is : (d : Doc) (s : ℕ) → kindOf d s ≡ kindSpread → IsSpread d s
+spread-is d s e = rw e tt
+
+pub spreader-owner : (d : Doc) (s o : ℕ) → IsSpread d s → Owner d s o → Spreader d s o
+spreader-owner d s o i w = record {
+  most = w .most;
+  stands = λ h. record { spread = i; within = w .stands (definition-within d o h) };
+  sole = λ a h x. w .sole a h (x .within);
+}
+
+pub spreader-none : (d : Doc) (s : ℕ) → count d ≤ mostRows → (kindOf d s ≡ kindSpread → ⊥) → Spreader d s noParent
+spreader-none d s m n = record {
+  most = omega arith;
+  stands = λ h. absurd (omega (arith, definition-within d noParent h));
+  sole = λ a h x. absurd (n (eqb→eq (kindOf d s) kindSpread (x .spread)));
+}
