@@ -9,11 +9,14 @@ use lib.ListN.{length, getD}
 use lib.Dec.{T, eqb}
 use borrow.Author.Tests.{eqb-true, eqb-false}
 use Rattle.paper.specs.Numbers.{kindOperation, kindFragment}
-use Rattle.paper_types.specs.Lists.{firstAt}
-use Rattle.paper_rules.specs.Constructs.{Doc, count, noRow, is, rowOf, nameOf, fragmentCalled, fragmentNamed}
+use Rattle.paper.specs.Rows.{Row}
+use Rattle.paper_rules.specs.Constructs.{Doc, count, noRow, is, rowOf, nameOf, called, fragmentCalled, fragmentNamed}
 use Rattle.paper_rules.specs.Reaching.{Within, Spreads, Reaches, Circles}
 use Rattle.paper_rules.specs.Reaching.Reaches.{here, through}
 use Rattle.constructs.specs.Rowed.{Decides}
+use Rattle.links.specs.Links.{nextWith}
+use Rattle.links.proofs.Nexts.{next-all, next-passes}
+use Rattle.links.proofs.Walks.{and-left}
 use Rattle.spreading.specs.Owners.{Defines, Owner, Owned}
 use Rattle.spreading.specs.Spreads.{SpreadIn}
 use Rattle.spreading.specs.Marks.{Draws, stamp, Reached}
@@ -41,26 +44,13 @@ module _ (d : Doc) (a : ℕ) (M : ℕ → Type 0) (start : (s f : ℕ) → Withi
 pub reaches-either : (d : Doc) (a i : ℕ) → Reaches d a i → Within d a i ⊎ ((f : ℕ) × Draws d a f × Within d f i)
 reaches-either d a i r = reaches-closed d a (Draws d a) (draws-here d a) (draws-on d a) r
 
-first-passes : {A : Type 0} (p : A → Bool) (xs : List A) (z : A) → firstAt p xs < length xs → p (getD xs (firstAt p xs) z) ≡ true
-unfolding firstAt
-first-passes p [] z h = absurd (omega arith)
-first-passes p (x ∷ xs) z h = go (p x) refl h (first-passes p xs z)
-  where
-    go : (b : Bool) → p x ≡ b → cond b 0 (suc (firstAt p xs)) < suc (length xs) → (firstAt p xs < length xs → p (getD xs (firstAt p xs) z) ≡ true)
-        → p (getD (x ∷ xs) (cond b 0 (suc (firstAt p xs))) z) ≡ true
-    go true e h ih = e
-    go false e h ih = ih (omega arith)
-
 -- what is spread is a fragment, and so a definition
 pub spread-fragment : (d : Doc) (s f : ℕ) → Spreads d s f → is kindFragment (rowOf d f) ≡ true
 unfolding fragmentNamed
 spread-fragment d s f p =
-    let e = p .named in
-    and-left (is kindFragment (rowOf d f)) _ (subst (λ (k : ℕ). fragmentCalled d (nameOf d s) (rowOf d k) ≡ true) e (first-passes (fragmentCalled d (nameOf d s)) (d .rows) noRow (subst (λ (k : ℕ). k < count d) (sym e) (p .known))))
-  where
-    and-left : (b c : Bool) → b && c ≡ true → b ≡ true
-    and-left true c e = refl
-    and-left false c e = e
+    let q : Row → Bool = fragmentCalled d (nameOf d s) in
+    let e : nextWith q (d .rows) 0 ≡ f = next-all q (d .rows) ∙ p .named in
+    and-left (is kindFragment (rowOf d f)) (called d (nameOf d s) (rowOf d f)) (rw e at (next-passes q (d .rows) noRow 0 (omega (arith, e, p .known))))
 
 pub spread-defines : (d : Doc) (s f : ℕ) → Spreads d s f → Defines d f
 spread-defines d s f p = go (is kindOperation (rowOf d f)) (is kindFragment (rowOf d f)) (spread-fragment d s f p)

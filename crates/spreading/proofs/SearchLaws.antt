@@ -10,14 +10,14 @@ use lib.ListN.{length, getD, set, length-set}
 use lib.Seq.{getD-set-same, getD-set-other}
 use lib.Dec.{eqb}
 use borrow.Author.Tests.{eq-eqb, ne-eqb}
-use Rattle.paper.specs.Numbers.{mostRows, kindSpread}
-use Rattle.paper_rules.specs.Constructs.{Doc, count, is, nameOf, fragmentNamed}
+use Rattle.paper.specs.Numbers.{mostRows}
+use Rattle.paper_rules.specs.Constructs.{Doc, count, nameOf, fragmentNamed}
 use Rattle.paper_rules.specs.Reaching.{Within, Spreads}
 use Rattle.spreading.specs.Owners.{Defines}
-use Rattle.spreading.specs.Spreads.{IsSpread, SpreadIn, FirstOf}
+use Rattle.spreading.specs.Spreads.{SpreadIn, FirstOf}
 use Rattle.spreading.specs.Marks.{Draws, Stamped, stamp, Reached, others, Noted, Waits, PassedTo, Met, Search}
 use Rattle.spreading.specs.Marks.Noted.{none, old, new}
-use Rattle.spreading.proofs.OwnerLaws.{row-within}
+use Rattle.spreading.proofs.SpreaderLaws.{spread-within}
 use Rattle.spreading.proofs.DrawLaws.{draws-here, draws-on, draws-closed, draws-defines}
 
 -- how many have not the mark
@@ -51,9 +51,6 @@ marked-still m mark f i h e = go (ℕ-discrete i f)
     go : Dec (i ≡ f) → getD (set mark f m) i 0 ≡ m
     go (yes q) = subst (λ (k : ℕ). getD (set mark f m) k 0 ≡ m) (sym q) (marked-here m mark f h)
     go (no q) = getD-set-other mark f i m 0 q ∙ e
-
-spread-within : (d : Doc) (s : ℕ) → IsSpread d s → s < count d
-spread-within d s h = row-within d (is kindSpread) s refl h
 
 -- how a search begins
 pub search-start : (d : Doc) (a : ℕ) (mark stack : List ℕ) → Defines d a → Stamped a mark → length stack ≡ mostRows → Search d a mark stack 0 a 0

@@ -6,13 +6,16 @@ use native.Mathlib.Omega.{arith}
 use lib.ListN.{length, getD}
 use lib.Dec.{T, eqb→eq}
 use Rattle.paper.specs.Numbers.{mostRows, noParent, kindSpread}
-use Rattle.paper_rules.specs.Constructs.{Doc, count, kindOf}
+use Rattle.paper_rules.specs.Constructs.{Doc, count, is, kindOf}
 use Rattle.spreading.specs.Owners.{Defines, Owner}
 use Rattle.spreading.specs.Spreads.{IsSpread, SpreadIn, Spreader}
-use Rattle.spreading.proofs.OwnerLaws.{definition-within}
+use Rattle.spreading.proofs.OwnerLaws.{row-within, definition-within}
 
 pub spread-is : (d : Doc) (s : ℕ) → kindOf d s ≡ kindSpread → IsSpread d s
 spread-is d s e = rw e tt
+
+pub spread-within : (d : Doc) (s : ℕ) → IsSpread d s → s < count d
+spread-within d s h = row-within d (is kindSpread) s refl h
 
 pub spreader-owner : (d : Doc) (s o : ℕ) → IsSpread d s → Owner d s o → Spreader d s o
 spreader-owner d s o i w = record {

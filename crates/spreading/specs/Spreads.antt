@@ -8,11 +8,8 @@ use lib.Dec.{T}
 use Rattle.paper.specs.Numbers.{mostRows, kindSpread}
 use Rattle.paper_rules.specs.Constructs.{Doc, count, is, rowOf, nameOf, fragmentNamed}
 use Rattle.paper_rules.specs.Reaching.{Within}
+use Rattle.links.specs.Links.{firstsSize}
 use Rattle.spreading.specs.Owners.{Defines}
-
--- a number for each row, and one for no row
-abbrev pub firstsSize : ℕ
-firstsSize = 2049
 
 -- row s is a spread
 abbrev pub IsSpread : Doc → ℕ → Type 0

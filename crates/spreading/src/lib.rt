@@ -12,8 +12,9 @@ ghost use Rattle.paper.specs.Numbers.{mostRows};
 ghost use Rattle.paper_rules.specs.Reaching.{Reaches};
 ghost use Rattle.paper_rules.specs.Rule8Circle.{ReachesItself};
 ghost use Rattle.constructs.specs.Rowed.{docOf, Rowed, Sized, Decides};
+ghost use Rattle.links.specs.Links.{firstsSize};
 ghost use Rattle.spreading.specs.Owners.{Defines, Owner, Owned, OwnedTo};
-ghost use Rattle.spreading.specs.Spreads.{firstsSize, Linked, Spreader, Graph};
+ghost use Rattle.spreading.specs.Spreads.{Linked, Spreader, Graph};
 ghost use Rattle.spreading.specs.Marks.{Stamped, Reached, Noted, Room, Search, Passed};
 
 // The definition that row i stands in, given those of the rows before it; 2,048 if there is none.
@@ -57,6 +58,27 @@ fn spreader(s: &[u8], rows: &[u32], n: usize, owner: &[u32], j: usize) -> usize
         return owner[j] as usize;
     }
     NO_PARENT as usize
+}
+
+// Links the spreads of each definition.
+pub fn spreads(
+    s: &[u8],
+    rows: &[u32],
+    n: usize,
+    owner: &[u32],
+    first: &mut [u32],
+    next: &mut [u32],
+)
+    requires { ⌜ Rowed (now s) (now rows) n × Owned (docOf (now s) (now rows) n) (now owner) × (length (now first) ≡ firstsSize) × (length (now next) ≡ mostRows) ⌝ }
+    ensures { λ _. ⌜ Linked (docOf (now (s .entry)) (now (rows .entry)) n) (now (first .exit)) (now (next .exit)) ⌝ }
+{
+    links::clear(first, n);
+    let mut j = n;
+    while 0 < j {
+        j -= 1;
+        let a = spreader(s, rows, n, owner, j);
+        links::put_first(first, next, a, j);
+    }
 }
 
 // Marks the fragment of row f and puts it on the stack, if there is one and it is not marked yet; the stack's new height.
