@@ -1,11 +1,11 @@
 -- What a definition reaches, as a graph of definitions: a set that holds what it spreads, and what each member spreads, holds all that it reaches.
-use mathlib.Core.Path.{_≡_, refl, sym, ap, subst, _∙_}
+use mathlib.Core.Path.{_≡_, refl, sym, subst, _∙_}
 use mathlib.Core.Logic.{_⊎_, inl, inr, ⊎-elim}
-use mathlib.Core.Bool.{Bool, true, false, _&&_, _||_, cond, true≢false}
-use mathlib.Core.List.{List, [], _∷_}
-use Prim.Native.Nat.{ℕ, suc, _+_, _<_, _≤_}
+use mathlib.Core.Bool.{Bool, true, false, _||_, true≢false}
+use mathlib.Core.List.{List}
+use Prim.Native.Nat.{ℕ, _<_, _≤_}
 use native.Mathlib.Omega.{arith}
-use lib.ListN.{length, getD}
+use lib.ListN.{getD}
 use lib.Dec.{T, eqb}
 use borrow.Author.Tests.{eqb-true, eqb-false}
 use Rattle.paper.specs.Numbers.{kindOperation, kindFragment}
@@ -17,8 +17,7 @@ use Rattle.constructs.specs.Rowed.{Decides}
 use Rattle.links.specs.Links.{nextWith}
 use Rattle.links.proofs.Nexts.{next-all, next-passes}
 use Rattle.links.proofs.Walks.{and-left}
-use Rattle.spreading.specs.Owners.{Defines, Owner, Owned}
-use Rattle.spreading.specs.Spreads.{SpreadIn}
+use Rattle.spreading.specs.Owners.{Defines, Owned}
 use Rattle.spreading.specs.Marks.{Draws, stamp, Reached}
 use Rattle.spreading.proofs.OwnerLaws.{definition-within}
 

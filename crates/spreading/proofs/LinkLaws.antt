@@ -1,8 +1,8 @@
 -- How the spreads of each definition are linked, from the last row to the first.
-use mathlib.Core.Path.{_≡_, refl, sym, ap, subst, _∙_}
+use mathlib.Core.Path.{_≡_, sym, ap, subst, _∙_}
 use mathlib.Core.List.{List}
-use Prim.Native.Nat.{ℕ, suc, _+_, _-_, _<_, _≤_}
-use native.Mathlib.Decide.{decLt, ℕ-discrete}
+use Prim.Native.Nat.{ℕ, suc, _-_, _<_, _≤_}
+use native.Mathlib.Decide.{ℕ-discrete}
 use native.Mathlib.Omega.{arith}
 use lib.ListN.{length, getD, set, replicate, length-set, length-replicate, getD-replicate}
 use lib.Seq.{getD-set-same, getD-set-other}
@@ -65,12 +65,14 @@ linking-more d first next j o x z m s p q = rw (p, q) (record {
     first-from a h =
         let e : j ≡ suc (j - 1) = omega arith in
         subst (λ (k : ℕ). FirstOf (SpreadIn d a) (count d) k (getD first a 0)) e (x .eldest a h)
+
     eldest : (a : ℕ) → Defines d a → Dec (a ≡ o) → FirstOf (SpreadIn d a) (count d) (j - 1) (getD (set first o (j - 1)) a 0)
     eldest a h (yes e) =
         rw (e, getD-set-same first o (j - 1) 0 (omega (arith, x .firsts, s .most)))
         (first-here (SpreadIn d o) (count d) (j - 1) (omega (arith, x .most)) (λ _. s .stands (subst (Defines d) e h)))
     eldest a h (no e) =
         rw (getD-set-other first o a (j - 1) 0 e) (first-later (SpreadIn d a) (count d) (j - 1) (getD first a 0) (λ w. e (sym (s .sole a h w))) (first-from a h))
+
     younger : (a i : ℕ) → j - 1 ≤ i → Defines d a → SpreadIn d a i → Dec (i ≡ j - 1) → FirstOf (SpreadIn d a) (count d) (suc i) (getD (set next (j - 1) (getD first o 0)) i 0)
     younger a i l h w (yes e) =
         let u : o ≡ a = s .sole a h (subst (SpreadIn d a) e w) in

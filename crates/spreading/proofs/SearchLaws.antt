@@ -126,6 +126,7 @@ module _ (d : Doc) (a : ℕ) (mark stack : List ℕ) (top g j : ℕ) (x : Search
       waits f w (no h) =
           let q : w .at ≡ top - 1 = omega (arith, w .below) in
           inr (inl (sym (subst (λ (k : ℕ). getD stack k 0 ≡ f) q (w .is))))
+
       passed : (f : ℕ) → f ≡ g → PassedTo d mark (stamp a) f (count d)
       passed f q s h l i p = x .passed s h (omega (arith, e)) (subst (λ (k : ℕ). SpreadIn d k s) q i) p
 
@@ -173,18 +174,22 @@ module _ (d : Doc) (a : ℕ) (mark stack : List ℕ) (top g j : ℕ) (x : Search
         most : (i : ℕ) → Dec (i ≡ f) → getD (set mark f (stamp a)) i 0 ≤ stamp a
         most i (yes q) = subst (λ (k : ℕ). getD (set mark f (stamp a)) k 0 ≤ stamp a) (sym q) (omega (arith, here))
         most i (no q) = rw (getD-set-other mark f i (stamp a) 0 q) (x .stamped .most i)
+
         sound : (i : ℕ) → getD (set mark f (stamp a)) i 0 ≡ stamp a → Dec (i ≡ f) → Draws d a i
         sound i e (yes q) = subst (Draws d a) (sym q) r
         sound i e (no q) = x .sound i (sym (getD-set-other mark f i (stamp a) 0 q) ∙ e)
+
         waiting : (k : ℕ) → k < top + 1 → Dec (k < top) → getD (set mark f (stamp a)) (getD (set stack top f) k 0) 0 ≡ stamp a
         waiting k w (yes h) = rw (getD-set-other stack top k f 0 (omega arith)) (still (getD stack k 0) (x .waiting k h))
         waiting k w (no h) =
             let q : k ≡ top = omega arith in
             rw (q, getD-set-same stack top f 0 top-within) here
+
         closed : (i : ℕ) → Met a mark i → Waits (set stack top f) (top + 1) i ⊎ ((i ≡ g) ⊎ PassedTo d (set mark f (stamp a)) (stamp a) i (count d))
         closed i m =
             ⊎-elim (λ w. inl (record { at = w .at; below = omega (arith, w .below); is = getD-set-other stack top (w .at) f 0 (omega (arith, w .below)) ∙ w .is }))
             (⊎-elim (λ q. inr (inl q)) (λ y. inr (inr (λ s h w k p. still h (y s h w k p))))) (x .closed i m)
+
         newly : (i : ℕ) → getD (set mark f (stamp a)) i 0 ≡ stamp a → Dec (i ≡ f) → Waits (set stack top f) (top + 1) i ⊎ ((i ≡ g) ⊎ PassedTo d (set mark f (stamp a)) (stamp a) i (count d))
         newly i e (yes q) = inl (record { at = top; below = omega arith; is = getD-set-same stack top f 0 top-within ∙ sym q })
         newly i e (no q) = closed i (inr (sym (getD-set-other mark f i (stamp a) 0 q) ∙ e))

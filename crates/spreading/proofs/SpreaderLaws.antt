@@ -1,18 +1,21 @@
 -- The definition that a row spreads a fragment in: its owner, if it is a spread.
-use mathlib.Core.Path.{_≡_, refl, sym, ap, subst, _∙_}
-use mathlib.Core.List.{List}
-use Prim.Native.Nat.{ℕ, suc, _+_, _<_, _≤_}
+use mathlib.Core.Path.{_≡_, refl}
+use mathlib.Core.Bool.{true}
+use Prim.Native.Nat.{ℕ, _<_, _≤_}
 use native.Mathlib.Omega.{arith}
-use lib.ListN.{length, getD}
-use lib.Dec.{T, eqb→eq}
+use lib.Dec.{eqb→eq}
+use borrow.Author.Tests.{eq-eqb}
 use Rattle.paper.specs.Numbers.{mostRows, noParent, kindSpread}
-use Rattle.paper_rules.specs.Constructs.{Doc, count, is, kindOf}
-use Rattle.spreading.specs.Owners.{Defines, Owner}
-use Rattle.spreading.specs.Spreads.{IsSpread, SpreadIn, Spreader}
+use Rattle.paper_rules.specs.Constructs.{Doc, count, is, rowOf, kindOf}
+use Rattle.spreading.specs.Owners.{Owner}
+use Rattle.spreading.specs.Spreads.{IsSpread, Spreader}
 use Rattle.spreading.proofs.OwnerLaws.{row-within, definition-within}
 
 pub spread-is : (d : Doc) (s : ℕ) → kindOf d s ≡ kindSpread → IsSpread d s
 spread-is d s e = rw e tt
+
+pub spread-true : (d : Doc) (s : ℕ) → IsSpread d s → is kindSpread (rowOf d s) ≡ true
+spread-true d s h = eq-eqb (kindOf d s) kindSpread (eqb→eq (kindOf d s) kindSpread h)
 
 pub spread-within : (d : Doc) (s : ℕ) → IsSpread d s → s < count d
 spread-within d s h = row-within d (is kindSpread) s refl h

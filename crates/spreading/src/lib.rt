@@ -10,11 +10,12 @@ ghost use Prim.Native.Nat.{_+_, _≤_, _<_};
 ghost use lib.ListN.{length};
 ghost use Rattle.paper.specs.Numbers.{mostRows};
 ghost use Rattle.paper_rules.specs.Reaching.{Reaches};
+ghost use Rattle.paper_rules.specs.Rule7Spread.{spreadOfNone};
 ghost use Rattle.paper_rules.specs.Rule8Circle.{ReachesItself};
-ghost use Rattle.constructs.specs.Rowed.{docOf, Rowed, Sized, Decides};
-ghost use Rattle.links.specs.Links.{firstsSize};
+ghost use Rattle.constructs.specs.Rowed.{docOf, rowsIn, Rowed, Sized, Decides};
+ghost use Rattle.links.specs.Links.{firstsSize, Kinds};
 ghost use Rattle.spreading.specs.Owners.{Defines, Owner, Owned, OwnedTo};
-ghost use Rattle.spreading.specs.Spreads.{Linked, Spreader, Graph};
+ghost use Rattle.spreading.specs.Spreads.{Targeted, Linked, Spreader, Graph};
 ghost use Rattle.spreading.specs.Marks.{Stamped, Reached, Noted, Room, Search, Passed};
 
 // The definition that row i stands in, given those of the rows before it; 2,048 if there is none.
@@ -49,6 +50,30 @@ pub fn owners(s: &[u8], rows: &[u32], n: usize, owner: &mut [u32])
     }
 }
 
+// Finds the fragment that each spread leads to.
+pub fn targets(s: &[u8], rows: &[u32], n: usize, firstk: &[u32], nextk: &[u32], target: &mut [u32])
+    requires { ⌜ Rowed (now s) (now rows) n × Kinds (rowsIn (now rows) n) (now firstk) (now nextk) × (length (now target) ≡ mostRows) ⌝ }
+    ensures { λ _. ⌜ Targeted (docOf (now (s .entry)) (now (rows .entry)) n) (now (target .exit)) ⌝ }
+{
+    let mut i = links::link_of(firstk, KIND_SPREAD as usize);
+    while i < n {
+        let f = naming::fragment_named(s, rows, n, firstk, nextk, i);
+        target[i] = f as u32;
+        i = links::link_of(nextk, i);
+    }
+}
+
+// Rule 7: is row i a spread of no fragment?
+pub fn spread_of_none(s: &[u8], rows: &[u32], n: usize, target: &[u32], i: usize) -> bool
+    requires { ⌜ Sized (now rows) n × Targeted (docOf (now s) (now rows) n) (now target) ⌝ }
+    ensures { λ r. ⌜ r ≡ spreadOfNone (docOf (now (s .entry)) (now (rows .entry)) n) i ⌝ }
+{
+    if kind_of(rows, n, i) != KIND_SPREAD {
+        return false;
+    }
+    n <= target[i] as usize
+}
+
 // The definition that row j spreads a fragment in; 2,048 if it is no spread.
 fn spreader(s: &[u8], rows: &[u32], n: usize, owner: &[u32], j: usize) -> usize
     requires { ⌜ Rowed (now s) (now rows) n × Owned (docOf (now s) (now rows) n) (now owner) × (j < n) ⌝ }
@@ -61,14 +86,7 @@ fn spreader(s: &[u8], rows: &[u32], n: usize, owner: &[u32], j: usize) -> usize
 }
 
 // Links the spreads of each definition.
-pub fn spreads(
-    s: &[u8],
-    rows: &[u32],
-    n: usize,
-    owner: &[u32],
-    first: &mut [u32],
-    next: &mut [u32],
-)
+pub fn spreads(s: &[u8], rows: &[u32], n: usize, owner: &[u32], first: &mut [u32], next: &mut [u32])
     requires { ⌜ Rowed (now s) (now rows) n × Owned (docOf (now s) (now rows) n) (now owner) × (length (now first) ≡ firstsSize) × (length (now next) ≡ mostRows) ⌝ }
     ensures { λ _. ⌜ Linked (docOf (now (s .entry)) (now (rows .entry)) n) (now (first .exit)) (now (next .exit)) ⌝ }
 {

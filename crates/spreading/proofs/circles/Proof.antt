@@ -7,7 +7,7 @@ use Rattle.paper.specs.Numbers.{mostRows, kindFragment}
 use Rattle.paper_rules.specs.Constructs.{kindOf}
 use Rattle.constructs.specs.Rowed.{docOf}
 use Rattle.spreading.proofs.OwnerLaws.{definition-within, fragment-defines}
-use Rattle.spreading.proofs.CircleLaws.{circle-not, circle-decides, stamped-more}
+use Rattle.spreading.proofs.MarkLaws.{circle-not, circle-decides, stamped-up}
 use Rattle.spreading.proofs.circles.Statement.{statement}
 use Rattle.spreading.proofs.circles.Tie as tie
 
@@ -24,7 +24,7 @@ kind-of-requires : tie.Need-kind-of-requires
 kind-of-requires c κs = search needs
 
 returns : tie.Need-returns
-returns c = (circle-not _ _ (λ e. c .if1 .taken (c .before .kind-of .ensures ∙ e)), stamped-more (c .before .before .before .before .before .before .before .before .before .pre .2))
+returns c = (circle-not _ _ (λ e. c .if1 .taken (c .before .kind-of .ensures ∙ e)), stamped-up (c .before .before .before .before .before .before .before .before .before .pre .2) (omega arith))
 
 reach-requires : tie.Need-reach-requires
 reach-requires c κs = (c .before .before .before .before .before .before .before .before .before .before .before .pre .1, fragment-defines (docOf (c .before .before .before .before .before .before .before .before .before .before .before .args .s .now) (c .before .before .before .before .before .before .before .before .before .before .before .args .rows .now) (c .before .before .before .before .before .before .before .before .before .before .before .args .n)) (c .before .before .before .before .before .before .before .before .before .before .before .args .i) (kind (c .before .before)), c .before .before .before .before .before .before .before .before .before .before .before .pre .2, c .before .before .before .before .before .before .before .before .before .before .before .pre .3)

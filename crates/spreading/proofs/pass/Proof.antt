@@ -1,5 +1,4 @@
 -- Along the links of the definition's spreads: what those before row j lead to is marked.
-use borrow.Author.Needs.{needs}
 use mathlib.Core.Path.{refl, sym, _∙_}
 use Prim.Native.Nat.{_-_}
 use native.Mathlib.Omega.{arith}

@@ -1,9 +1,8 @@
 -- From the last row to the first: each spread goes in front of those of its definition.
 use borrow.Author.Needs.{needs}
 use mathlib.Core.Path.{ap, sym, _∙_}
-use Prim.Native.Nat.{_-_}
 use native.Mathlib.Omega.{arith}
-use lib.ListN.{replicate, length}
+use lib.ListN.{replicate}
 use Rattle.constructs.specs.Rowed.{docOf}
 use Rattle.constructs.proofs.RowsIn.{rows-count}
 use Rattle.spreading.proofs.LinkLaws.{Linking, linking-start, linking-more, linking-end}
