@@ -17,8 +17,9 @@ use Rattle.fields.specs.Fields.{Bounds}
 use Rattle.index.specs.Book.{countIn}
 use Rattle.members.specs.Members.{membersIn, implementedIn}
 use Rattle.types.specs.Booked.{Booked, NumberMeant, kindIn, startIn, endIn, definitionOn}
-use Rattle.promises.specs.Asked.{slimMember, slimDefinition, Slim, askedOf}
-use Rattle.promises.proofs.SlimLaws.{all-at}
+use Rattle.types.specs.Sizes.{slimMember, slimDefinition, Slim}
+use Rattle.promises.specs.Asked.{askedOf}
+use Rattle.types.proofs.SlimLaws.{all-at}
 
 module _ (t book : List ℕ) (b : Booked t book) where
   -- an entry's content, and what stands there

@@ -31,7 +31,7 @@ ghost use Rattle.places.specs.Placed.{placed};
 ghost use Rattle.index.specs.Book.{room, bookSize, countIn};
 ghost use Rattle.types.specs.Booked.{Booked, definitionOn, startIn, endIn};
 ghost use Rattle.listings.specs.Listed.{Listed};
-ghost use Rattle.promises.specs.Asked.{Slim};
+ghost use Rattle.types.specs.Sizes.{Slim};
 ghost use Rattle.schema.specs.Schema.{earlyRule, promiseRule, lateRule, ruleOf, shownAt, queryAnswer, Checkable, Promising, Answered};
 
 // What a rule from 1 to 8 shows first of definition i.

@@ -12,7 +12,7 @@ use Rattle.paper.specs.Numbers.{mostWrappers}
 use Rattle.paper_types.specs.Lists.{allOf, find}
 use Rattle.paper_types.specs.Types.{Argument, Member}
 use Rattle.paper_types.proofs.ReferenceSizes.{wrappers as wrapperCount}
-use Rattle.promises.specs.Asked.{slimArgument, slimMember}
+use Rattle.types.specs.Sizes.{slimArgument, slimMember}
 
 pub and-left : (a b : Bool) → a && b ≡ true → a ≡ true
 and-left true b e = refl
