@@ -19,7 +19,7 @@ down : (n m : ℕ) → n / 2 ^ suc m ≡ n / 2 / 2 ^ m
 down n m = ap (λ (x : ℕ). n / 2 ^ x) (let e : suc m ≡ 1 + m = omega arith in e) ∙ sym (shr-shr n 1 m)
 
 -- of the number 2 ^ k no bit is set but number k
-lone : (k m : ℕ) → 2 ^ k / 2 ^ m % 2 ≡ 1 → m ≡ k
+pub lone : (k m : ℕ) → 2 ^ k / 2 ^ m % 2 ≡ 1 → m ≡ k
 lone zero zero e = refl
 lone (suc k) zero e = absurd (omega (arith, e, pow-suc 2 k))
 lone zero (suc m) e = let z : 1 / 2 ^ suc m ≡ 0 / 2 ^ m = down 1 m in absurd (omega (arith, e, z, shr-le 0 m))
@@ -29,7 +29,7 @@ lone (suc k) (suc m) e = ap suc (lone k m (ap (λ (x : ℕ). x / 2 ^ m % 2) half
     half = omega (arith, pow-suc 2 k)
 
 -- a bit of two numbers joined is one of the first or of the second
-bit-or : (a b m : ℕ) → bitOr a b / 2 ^ m % 2 ≡ 1 → (a / 2 ^ m % 2 ≡ 1) ⊎ (b / 2 ^ m % 2 ≡ 1)
+pub bit-or : (a b m : ℕ) → bitOr a b / 2 ^ m % 2 ≡ 1 → (a / 2 ^ m % 2 ≡ 1) ⊎ (b / 2 ^ m % 2 ≡ 1)
 bit-or a b m e = go (a / 2 ^ m) (b / 2 ^ m) (ap (λ (x : ℕ). x % 2) (sym (or-shr a b m)) ∙ e)
   where
     go : (x y : ℕ) → bitOr x y % 2 ≡ 1 → (x % 2 ≡ 1) ⊎ (y % 2 ≡ 1)

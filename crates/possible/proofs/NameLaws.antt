@@ -22,7 +22,7 @@ use Rattle.types.proofs.Objects.{kind-below, number-room, number-tag, an-interf
 use Rattle.possible.specs.Possible.{bitAt, CanBe, Possible, Blank, Marked}
 use Rattle.possible.proofs.BitLaws.{blank-bit}
 
-passes : {A : Type 0} (p : A → Bool) (xs : List A) (d : A) → firstAt p xs < length xs → p (getD xs (firstAt p xs) d) ≡ true
+pub passes : {A : Type 0} (p : A → Bool) (xs : List A) (d : A) → firstAt p xs < length xs → p (getD xs (firstAt p xs) d) ≡ true
 unfolding firstAt
 passes p [] d h = absurd (omega arith)
 passes p (x ∷ xs) d h = go (p x) refl h (λ k. passes p xs d k)

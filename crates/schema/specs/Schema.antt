@@ -15,8 +15,8 @@ use Rattle.paper_types.specs.declared.TableAnswer.the-variants.{Accepted, Break
 use Rattle.index.specs.Book.{bookSize}
 use Rattle.types.specs.Booked.{Booked, definitionOn, startIn, endIn}
 use Rattle.listings.specs.Listed.{Listed}
-use Rattle.types.specs.Sizes.{Slim}
-use Rattle.promises.specs.Asked.{AllKept}
+use Rattle.types.specs.Sizes.{Slim, fewMembers}
+use Rattle.keeping.specs.Keeping.{AllKept}
 use Rattle.places.specs.declared.PlaceRead.{PlaceRead}
 use Rattle.places.specs.declared.PlaceRead.the-variants.{At, Kept}
 
