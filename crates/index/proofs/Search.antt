@@ -6,37 +6,40 @@ use Prim.Native.Nat.{ℕ, suc, _+_, _<_, _≤_}
 use native.Mathlib.Omega.{arith}
 use lib.ListN.{length, getD}
 use Rattle.paper_types.specs.Lists.{firstAt}
-use Rattle.index.specs.Book.{Key, noKey, room, cellNext, cellHead, countIn, keyAt, keysOf, keyed, hashOf, inBucket, Indexed}
+use Rattle.index.specs.Book.{Key, noKey, room, cellNext, cellHead, countIn, keyAt, keysOf, keyed, seedIn, hashOf, inBucket, Indexed}
 use Rattle.index.proofs.Firsts.{first-most, first-least}
 use Rattle.index.proofs.Keys.{keys-count, keys-at}
 use Rattle.index.proofs.Chained.{Sought, sought-from, sought-next, sought-here, sought-end}
 
-module _ (t book : List ℕ) (x : Indexed t book) (low high : ℕ) (n : List ℕ) (h : ℕ) (e : h ≡ hashOf n) (w : h < room) where
+module _ (t book : List ℕ) (x : Indexed t book) (low high : ℕ) (n : List ℕ) (h : ℕ) (e : h ≡ hashOf (seedIn book) n) (w : h < room) where
   abbrev keys : List Key
   keys = keysOf t book
 
+  abbrev hash : List ℕ → ℕ
+  hash = hashOf (seedIn book)
+
   abbrev pub At : ℕ → Type 0
-  At k = Sought keys low high n h k × (k ≤ countIn book)
+  At k = Sought hash keys low high n h k × (k ≤ countIn book)
 
   pub search-start : {k : ℕ} → k ≡ getD book (cellHead + h) 0 → At k
   search-start {k = k} q =
       let f = q ∙ x .chains .first h w in
-      (sought-from keys low high n h e 0 k f refl, omega (arith, f, first-most (inBucket h) keys 0 (omega arith), keys-count t book))
+      (sought-from hash keys low high n h e 0 k f refl, omega (arith, f, first-most (inBucket hash h) keys 0 (omega arith), keys-count t book))
 
   pub search-less : {k m : ℕ} → k < countIn book → m ≡ getD book (cellNext + k) 0 → suc k ≤ m
   search-less {k = k} l q =
-      omega (arith, q, x .chains .next k (omega arith) (omega (arith, keys-count t book)), first-least (inBucket (hashOf (getD keys k noKey .name))) keys (suc k))
+      omega (arith, q, x .chains .next k (omega arith) (omega (arith, keys-count t book)), first-least (inBucket hash (hash (getD keys k noKey .name))) keys (suc k))
 
   pub search-more : {k m : ℕ} → At k → k < countIn book → keyed low high n (keyAt t book k) ≡ false → m ≡ getD book (cellNext + k) 0 → At m
   search-more {k = k} {m = m} a l f q =
       let v : k < length keys = omega (arith, keys-count t book) in
       let g = q ∙ x .chains .next k (omega arith) v in (
-        sought-next keys low high n h e k m v (a .0) (ap (keyed low high n) (keys-at t book k l) ∙ f) g,
-        omega (arith, g, first-most (inBucket (hashOf (getD keys k noKey .name))) keys (suc k) (omega arith), keys-count t book),
+        sought-next hash keys low high n h e k m v (a .0) (ap (keyed low high n) (keys-at t book k l) ∙ f) g,
+        omega (arith, g, first-most (inBucket hash (hash (getD keys k noKey .name))) keys (suc k) (omega arith), keys-count t book),
       )
 
   pub search-here : {k : ℕ} → At k → k < countIn book → keyed low high n (keyAt t book k) ≡ true → k ≡ firstAt (keyed low high n) keys
-  search-here {k = k} a l f = sought-here keys low high n h e k (omega (arith, keys-count t book)) (a .0) (ap (keyed low high n) (keys-at t book k l) ∙ f)
+  search-here {k = k} a l f = sought-here hash keys low high n h e k (omega (arith, keys-count t book)) (a .0) (ap (keyed low high n) (keys-at t book k l) ∙ f)
 
   pub search-end : {k : ℕ} → At k → countIn book ≤ k → k ≡ firstAt (keyed low high n) keys
-  search-end {k = k} a l = sought-end keys low high n h e k (omega (arith, keys-count t book)) (a .0)
+  search-end {k = k} a l = sought-end hash keys low high n h e k (omega (arith, keys-count t book)) (a .0)

@@ -3,13 +3,14 @@ use mathlib.Core.Path.{_≡_, refl, sym, ap}
 use mathlib.Core.Bool.{Bool, true, false}
 use mathlib.Core.List.{List, [], _∷_}
 use Prim.Native.Nat.{ℕ, suc, _+_, _-_, _*_, _%_, _<_, _≤_}
+use native.Mathlib.Nat.{mul-le-mul-right}
 use native.Mathlib.Omega.{arith}
 use lib.ListN.{length, drop, getD, length-drop}
 use lib.Seq.{drop-cons, length-take-le}
 use borrow.Author.Tests.{eq-eqb, ne-eqb}
 use Rattle.paper.specs.Tokens.{same}
 use Rattle.paper_types.proofs.TextLaws.{same-sound}
-use Rattle.index.specs.Book.{part, hashFrom}
+use Rattle.index.specs.Book.{part, hashLimit, hashFrom}
 
 pub part-cons : (s : List ℕ) (x m : ℕ) → x < length s → part s x (suc m) ≡ getD s x 0 ∷ part s (suc x) m
 part-cons s x m h = rw (drop-cons s x 0 h)
@@ -35,14 +36,18 @@ part-none s x n i h = let e : n - i ≡ 0 = omega arith in rw e
 pub same-end : (s t : List ℕ) (a b n i : ℕ) → n ≤ i → true ≡ same (part s (a + i) (n - i)) (part t (b + i) (n - i))
 same-end s t a b n i h = rw (part-none s (a + i) n i h, part-none t (b + i) n i h)
 
-pub hash-more : (s : List ℕ) (a n i h : ℕ) → i < n → a + n ≤ length s
-    → hashFrom ((h * 31 + getD s (a + i) 0) % 256) (part s (a + (i + 1)) (n - (i + 1))) ≡ hashFrom h (part s (a + i) (n - i))
-unfolding hashFrom
-hash-more s a n i h l w = rw (part-step s a n i l w)
+-- a step of the hash fits 64 bits
+pub hash-fits : (a m : ℕ) → a < 4294967296 → m < hashLimit → a * m < 18446744073709551616
+hash-fits a m h l = let e : a * m ≤ 4294967296 * m = mul-le-mul-right m (let k : a ≤ 4294967296 = omega arith in k) in omega (arith, e)
 
-pub hash-end : (s : List ℕ) (a n i h : ℕ) → n ≤ i → h ≡ hashFrom h (part s (a + i) (n - i))
+pub hash-more : (s : List ℕ) (a n i m h : ℕ) → i < n → a + n ≤ length s
+    → hashFrom m ((h + getD s (a + i) 0) * m % hashLimit) (part s (a + (i + 1)) (n - (i + 1))) ≡ hashFrom m h (part s (a + i) (n - i))
 unfolding hashFrom
-hash-end s a n i h l = rw (part-none s (a + i) n i l)
+hash-more s a n i m h l w = rw (part-step s a n i l w)
+
+pub hash-end : (s : List ℕ) (a n i m h : ℕ) → n ≤ i → h ≡ hashFrom m h (part s (a + i) (n - i))
+unfolding hashFrom
+hash-end s a n i m h l = rw (part-none s (a + i) n i l)
 
 -- texts of two lengths are not the same
 pub same-lengths : (xs ys : List ℕ) → (length xs ≡ length ys → ⊥) → false ≡ same xs ys

@@ -4,7 +4,7 @@
 use mathlib.Core.Path.{_≡_}
 use mathlib.Core.Bool.{Bool, _&&_}
 use mathlib.Core.List.{List, [], _∷_}
-use Prim.Native.Nat.{ℕ, zero, suc, _+_, _*_, _%_, _<_, _≤_}
+use Prim.Native.Nat.{ℕ, zero, suc, _+_, _*_, _/_, _%_, _<_, _≤_}
 use lib.ListN.{length, take, drop, getD}
 use lib.Dec.{eqb, leb}
 use Rattle.paper.specs.Tokens.{same}
@@ -21,7 +21,7 @@ part s at n = take n (drop at s)
 abbrev pub room : ℕ
 room = 256
 
--- where the columns begin: kinds at 0, then names, their sizes, contents' starts and ends, the count; next of each entry, first of each bucket
+-- where the columns begin: kinds at 0, then names, their sizes, contents' starts and ends, the count; next of each entry, first of each bucket, the seed
 abbrev pub cellName : ℕ
 cellName = 256
 
@@ -43,8 +43,11 @@ cellNext = 1281
 abbrev pub cellHead : ℕ
 cellHead = 1537
 
+abbrev pub cellSeed : ℕ
+cellSeed = 1793
+
 abbrev pub bookSize : ℕ
-bookSize = 1793
+bookSize = 1794
 
 -- what an entry is looked for by
 pub record Key : Type 0 where
@@ -79,16 +82,25 @@ pub record Held (t book : List ℕ) : Type 0 where
   pub most : countIn book ≤ room
   pub within : (j : ℕ) → j < countIn book → getD book (cellName + j) 0 + getD book (cellSize + j) 0 ≤ length t
 
--- a name's bucket
-unfoldable pub hashFrom : ℕ → List ℕ → ℕ
-hashFrom h [] = h
-hashFrom h (b ∷ bs) = hashFrom ((h * 31 + b) % 256) bs
+-- a name's bucket, by the multiplier of a seed
+abbrev pub seedIn : List ℕ → ℕ
+seedIn book = getD book cellSeed 0
 
-abbrev pub hashOf : List ℕ → ℕ
-hashOf n = hashFrom 0 n
+abbrev pub hashLimit : ℕ
+hashLimit = 2147483648
 
-abbrev pub inBucket : ℕ → Key → Bool
-inBucket h k = eqb (hashOf (k .name)) h
+abbrev pub multiplierOf : ℕ → ℕ
+multiplierOf seed = (1640531527 + 1013904226 * seed) % hashLimit
+
+unfoldable pub hashFrom : ℕ → ℕ → List ℕ → ℕ
+hashFrom m h [] = h
+hashFrom m h (b ∷ bs) = hashFrom m ((h + b) * m % hashLimit) bs
+
+abbrev pub hashOf : ℕ → List ℕ → ℕ
+hashOf seed n = hashFrom (multiplierOf seed) 0 n / 8388608
+
+abbrev pub inBucket : (List ℕ → ℕ) → ℕ → Key → Bool
+inBucket hash h k = eqb (hash (k .name)) h
 
 -- the first entry, from number i on, that passes; their count if none does
 unfoldable pub firstFrom : (Key → Bool) → List Key → ℕ → ℕ
@@ -97,25 +109,26 @@ firstFrom p keys i = i + firstAt p (drop i keys)
 abbrev pub noKey : Key
 noKey = key 0 []
 
--- each bucket's first entry, and after each entry the next of its bucket, from number i on
-pub record Chains (book : List ℕ) (keys : List Key) (i : ℕ) : Type 0 where
+-- by the buckets that a hash gives: each bucket's first entry, and after each entry the next of its bucket, from number i on
+pub record Chains (hash : List ℕ → ℕ) (book : List ℕ) (keys : List Key) (i : ℕ) : Type 0 where
   pub cells : length book ≡ bookSize
-  pub first : (h : ℕ) → h < room → getD book (cellHead + h) 0 ≡ firstFrom (inBucket h) keys i
-  pub next : (j : ℕ) → i ≤ j → j < length keys → getD book (cellNext + j) 0 ≡ firstFrom (inBucket (hashOf (getD keys j noKey .name))) keys (suc j)
+  pub first : (h : ℕ) → h < room → getD book (cellHead + h) 0 ≡ firstFrom (inBucket hash h) keys i
+  pub next : (j : ℕ) → i ≤ j → j < length keys → getD book (cellNext + j) 0 ≡ firstFrom (inBucket hash (hash (getD keys j noKey .name))) keys (suc j)
 
 -- what a book must be to be searched
 pub record Indexed (t book : List ℕ) : Type 0 where
   pub held : Held t book
-  pub chains : Chains book (keysOf t book) 0
+  pub chains : Chains (hashOf (seedIn book)) book (keysOf t book) 0
 
 -- the entries are as they were; the links may not be
 pub record Kept (old book : List ℕ) : Type 0 where
   pub cells : length book ≡ length old
   pub entries : (k : ℕ) → k < cellNext → getD book k 0 ≡ getD old k 0
 
--- the same, and every bucket is at its end
+-- the same, every bucket is at its end, and the seed is the same
 pub record Cleared (old book : List ℕ) : Type 0 where
   pub kept : Kept old book
+  pub seed-is : seedIn book ≡ seedIn old
   pub empty : (h : ℕ) → h < room → getD book (cellHead + h) 0 ≡ countIn old
 
 -- the same, and linked

@@ -6,9 +6,9 @@ ghost use lib.ListN.{length, take, drop, getD, set};
 ghost use lib.Dec.{eqb};
 ghost use Rattle.paper.specs.Tokens.{same};
 ghost use Rattle.paper_types.specs.Lists.{firstAt};
-ghost use Rattle.index.specs.Book.{part, room, cellName, cellSize, cellStart, cellEnd, cellCount, cellNext, cellHead, bookSize, countIn, keyAt, keysOf, keyed, Held, hashOf, Indexed, Cleared, Linked, SubAnswer};
+ghost use Rattle.index.specs.Book.{part, room, cellName, cellSize, cellStart, cellEnd, cellCount, cellNext, cellHead, bookSize, countIn, keyAt, keysOf, keyed, Held, hashLimit, multiplierOf, hashOf, Indexed, Cleared, Linked, SubAnswer};
 
-// where the columns of a book begin: kinds at 0, then names, their sizes, contents' starts and ends, the count; next of each entry, first of each bucket
+// where the columns of a book begin: kinds at 0, then names, their sizes, contents' starts and ends, the count; next of each entry, first of each bucket, the seed
 pub const ROOM: usize = 256;
 
 pub const CELL_NAME: usize = 256;
@@ -25,7 +25,9 @@ pub const CELL_NEXT: usize = 1281;
 
 pub const CELL_HEAD: usize = 1537;
 
-pub const BOOK_SIZE: usize = 1793;
+pub const CELL_SEED: usize = 1793;
+
+pub const BOOK_SIZE: usize = 1794;
 
 fn wide(x: u32) -> usize
     ensures { λ r. ⌜ r ≡ x ⌝ }
@@ -118,18 +120,34 @@ pub fn is_text(t: &[u8], a: usize, l: usize, s: &[u8], at: usize, n: usize) -> b
     same_text(t, a, s, at, n)
 }
 
-// The bucket of the name of n bytes from `at` on.
-fn hash(s: &[u8], at: usize, n: usize) -> usize
-    requires { ⌜ at + n ≤ length (now s) ⌝ }
-    ensures { λ r. ⌜ (r ≡ hashOf (part (now (s .entry)) at n)) × (r < room) ⌝ }
+const HASH_LIMIT: usize = 2147483648;
+
+const FIRST_MULTIPLIER: usize = 1640531527;
+
+const MULTIPLIER_STEP: usize = 1013904226;
+
+const BUCKET_SIZE: usize = 8388608;
+
+// The multiplier of a seed: odd, and another one for each.
+fn multiplier(seed: u32) -> usize
+    ensures { λ r. ⌜ (r ≡ multiplierOf seed) × (r < hashLimit) ⌝ }
 {
+    (FIRST_MULTIPLIER + MULTIPLIER_STEP * wide(seed)) % HASH_LIMIT
+}
+
+// The bucket of the name of n bytes from `at` on.
+fn hash(s: &[u8], at: usize, n: usize, seed: u32) -> usize
+    requires { ⌜ at + n ≤ length (now s) ⌝ }
+    ensures { λ r. ⌜ (r ≡ hashOf seed (part (now (s .entry)) at n)) × (r < room) ⌝ }
+{
+    let m = multiplier(seed);
     let mut h = 0;
     let mut i = 0;
     while i < n {
-        h = (h * 31 + s[at + i] as usize) % 256;
+        h = (h + s[at + i] as usize) * m % HASH_LIMIT;
         i += 1;
     }
-    h
+    h / BUCKET_SIZE
 }
 
 // Is entry j of a kind from low to high, and its name the n bytes of s from `at` on?
@@ -162,7 +180,7 @@ pub fn find_key(t: &[u8], book: &[u32], low: u32, high: u32, s: &[u8], at: usize
     ensures { λ r. ⌜ r ≡ firstAt (keyed low high (part (now (s .entry)) at n)) (keysOf (now (t .entry)) (now (book .entry))) ⌝ }
 {
     let count = count_of(book);
-    let h = hash(s, at, n);
+    let h = hash(s, at, n, book[CELL_SEED]);
     let mut k = head_of(book, h);
     while k < count {
         if is_keyed(t, book, k, low, high, s, at, n) {
@@ -195,17 +213,68 @@ fn put_first(book: &mut [u32], h: usize, j: usize)
     book[CELL_HEAD + h] = j as u32;
 }
 
-// Links a book's entries, from the last to the first, so that each bucket's stand in order.
+// Links a book's entries by the seed, from the last to the first, so that each bucket's stand in order. Says whether a bucket is crowded.
+fn link_by(t: &[u8], book: &mut [u32], seed: u32) -> bool
+    requires { ⌜ Held (now t) (now book) ⌝ }
+    ensures { λ _. ⌜ Linked (now (t .entry)) (now (book .entry)) (now (book .exit)) ⌝ }
+{
+    book[CELL_SEED] = seed;
+    clear_heads(book);
+    let mut crowded = false;
+    let mut j = count_of(book);
+    while 0 < j {
+        j -= 1;
+        let h = hash(t, name_of(book, j), size_of(book, j), seed);
+        crowded = either(crowded, is_full(book, h));
+        put_first(book, h, j);
+    }
+    crowded
+}
+
+// How many entries a bucket may have, and how many seeds there are.
+const MOST_IN_BUCKET: u32 = 5;
+
+const SEEDS: u32 = 256;
+
+fn either(a: bool, b: bool) -> bool {
+    if a {
+        return true;
+    }
+    b
+}
+
+// Has the bucket h as many entries as it may?
+fn is_full(book: &[u32], h: usize) -> bool
+    requires { ⌜ (length (now book) ≡ bookSize) × (countIn (now book) ≤ room) × (h < room) ⌝ }
+{
+    let count = count_of(book);
+    let mut k = head_of(book, h);
+    let mut left = MOST_IN_BUCKET;
+    while k < count {
+        k = next_of(book, k);
+        left -= 1;
+        if left == 0 {
+            return true;
+        }
+    }
+    false
+}
+
+// Links a book's entries. Names that one seed puts into one bucket another seed parts; the one tried first is the book's own.
 pub fn link(t: &[u8], book: &mut [u32])
     requires { ⌜ Held (now t) (now book) ⌝ }
     ensures { λ _. ⌜ Linked (now (t .entry)) (now (book .entry)) (now (book .exit)) ⌝ }
 {
-    clear_heads(book);
-    let mut j = count_of(book);
-    while 0 < j {
-        j -= 1;
-        let h = hash(t, name_of(book, j), size_of(book, j));
-        put_first(book, h, j);
+    let mut seed = book[CELL_SEED] % SEEDS;
+    let mut crowded = link_by(t, book, seed);
+    let mut left = SEEDS;
+    while crowded {
+        if left == 0 {
+            return;
+        }
+        left -= 1;
+        seed = (seed + 1) % SEEDS;
+        crowded = link_by(t, book, seed);
     }
 }
 

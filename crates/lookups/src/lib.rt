@@ -100,7 +100,14 @@ pub fn find_member(t: &[u8], book: &[u32], i: usize, s: &[u8], at: usize, n: usi
 }
 
 // The first argument so named, from `from` on in a member's content.
-fn argument_in(t: &[u8], from: usize, end: usize, s: &[u8], at: usize, n: usize) -> ArgumentFound
+pub fn argument_in(
+    t: &[u8],
+    from: usize,
+    end: usize,
+    s: &[u8],
+    at: usize,
+    n: usize,
+) -> ArgumentFound
     requires { ⌜ Bounds (now t) from end × (at + n ≤ length (now s)) ⌝ }
     ensures { λ r. ⌜ ArgumentSought (now (t .entry)) (argumentsIn (now (t .entry)) from end) (part (now (s .entry)) at n) r ⌝ }
 {

@@ -14,8 +14,9 @@ use Rattle.fields.specs.Wrappers.{isMarked}
 use Rattle.index.specs.Book.{part}
 use Rattle.members.specs.Members.{memberFrom, argumentsIn, Typed, ArgumentsFrom}
 use Rattle.members.proofs.TypeLaws.{typed-non-null, typed-same}
-use Rattle.promises.specs.Asked.{slimArgument, slimMember, failing}
-use Rattle.promises.proofs.SlimLaws.{slim-argument, slim-arguments}
+use Rattle.types.specs.Sizes.{slimArgument, slimMember}
+use Rattle.promises.specs.Asked.{failing}
+use Rattle.types.proofs.SlimLaws.{slim-argument, slim-arguments}
 
 module _ (rule : ℕ) (x : Argument) where
   pub alone-missing : rule ≡ ruleArgumentMissing → true ≡ failing rule x none

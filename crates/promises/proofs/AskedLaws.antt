@@ -4,6 +4,7 @@ use mathlib.Core.Bool.{Bool, true, false, _&&_, _||_, cond}
 use mathlib.Core.Option.{Option, none, some}
 use mathlib.Core.List.{List, [], _∷_, _++_, head?}
 use Prim.Native.Nat.{ℕ, suc}
+use lib.Dec.{eqb}
 use borrow.Author.Tests.{eq-eqb, ne-eqb}
 use Rattle.paper_types.specs.TableNumbers.{noPlace, ruleFieldMissing, ruleFieldType, ruleArgumentMissing, ruleArgumentType, ruleArgumentExtra}
 use Rattle.paper_types.specs.Lists.{anyOf, find, each, eachFrom, onlyIf}
@@ -13,7 +14,7 @@ use Rattle.paper_types.specs.Rules.{Place, partAt, partArgumentAt, memberNamed,
 use Rattle.places.specs.Placed.{placed}
 use Rattle.places.specs.declared.PlaceRead.{PlaceRead}
 use Rattle.places.specs.declared.PlaceRead.the-variants.{At, Kept}
-use Rattle.promises.specs.Asked.{failing, argumentsAsked, ruleAsked, rulesAsked, anyRule, ownRules, ownAsked, askedOf}
+use Rattle.promises.specs.Asked.{failing, argumentsAsked, ruleAsked, ownAsked, askedOf}
 
 -- a test's place
 pub only-here : (m p a : ℕ) {r b : Bool} → r ≡ b → r ≡ true → At m p a ≡ placed (head? (onlyIf b (partArgumentAt m p a)))
@@ -31,26 +32,14 @@ asked-by rule m p xs ys {qs = qs} e f g h =
 
 -- the definition's own field, or none, by the rule's number
 module _ (rule : ℕ) (t : Table) (m p : ℕ) (f : Member) where
-  pub none-any : rule ≡ anyRule → At m p noPlace ≡ placed (head? (ownAsked rule t m p f none))
+  pub none-own : ownAsked rule t m p f none ≡ onlyIf (eqb rule ruleFieldMissing) (partAt m p)
   unfolding ownAsked
-  none-any h = rw (eq-eqb rule anyRule h)
-
-  pub none-missing : (rule ≡ anyRule → ⊥) → rule ≡ ruleFieldMissing → At m p noPlace ≡ placed (head? (ownAsked rule t m p f none))
-  unfolding ownAsked
-  none-missing g h = rw (ne-eqb rule anyRule g, eq-eqb rule ruleFieldMissing h)
-
-  pub none-other : (rule ≡ anyRule → ⊥) → (rule ≡ ruleFieldMissing → ⊥) → Kept ≡ placed (head? (ownAsked rule t m p f none))
-  unfolding ownAsked
-  none-other g h = rw (ne-eqb rule anyRule g, ne-eqb rule ruleFieldMissing h)
+  none-own = refl
 
   module _ (e : Member) where
-    pub own-any : rule ≡ anyRule → ownAsked rule t m p f (some e) ≡ rulesAsked ownRules ruleFieldType t m p f e
+    pub some-own : ownAsked rule t m p f (some e) ≡ ruleAsked rule t m p f e
     unfolding ownAsked
-    own-any h = rw (eq-eqb rule anyRule h)
-
-    pub own-one : (rule ≡ anyRule → ⊥) → ownAsked rule t m p f (some e) ≡ ruleAsked rule t m p f e
-    unfolding ownAsked
-    own-one h = rw (ne-eqb rule anyRule h)
+    some-own = refl
 
     pub own-missing : rule ≡ ruleFieldMissing → Kept ≡ placed (head? (ruleAsked rule t m p f e))
     unfolding ruleAsked

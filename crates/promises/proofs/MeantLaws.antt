@@ -8,7 +8,7 @@ use lib.ListN.{getD}
 use lib.Dec.{ltb}
 use borrow.Author.Tests.{eq-eqb, ne-eqb, ltb-true, ltb-false, lt-ltb}
 use Rattle.paper_types.specs.TableNumbers.{tagInterface}
-use Rattle.paper_types.specs.Lists.{allOf, each}
+use Rattle.paper_types.specs.Lists.{each}
 use Rattle.paper_types.specs.Types.{Definition, tableOf, meant}
 use Rattle.paper_types.specs.Rules.{Ask, promisedBy, promised}
 use Rattle.places.specs.Placed.{placed}
@@ -17,8 +17,7 @@ use Rattle.fields.specs.Fields.{Bounds}
 use Rattle.index.specs.Book.{countIn}
 use Rattle.members.specs.Members.{membersIn, implementedIn}
 use Rattle.types.specs.Booked.{Booked, NumberMeant, kindIn, startIn, endIn, definitionOn}
-use Rattle.promises.specs.Asked.{slimMember, slimDefinition, Slim, askedOf}
-use Rattle.promises.proofs.SlimLaws.{all-at}
+use Rattle.promises.specs.Asked.{askedOf}
 
 module _ (t book : List ℕ) (b : Booked t book) where
   -- an entry's content, and what stands there
@@ -30,9 +29,6 @@ module _ (t book : List ℕ) (b : Booked t book) where
 
   pub entry-implements : (i : ℕ) → i < countIn book → definitionOn t i .implements ≡ implementedIn t (startIn book i) (endIn book i)
   entry-implements i h = ap (λ (d : Definition). d .implements) (b .entered i h .is)
-
-  pub entry-slim : Slim (tableOf t) → (i : ℕ) → i < countIn book → allOf slimMember (membersIn t (startIn book i) (endIn book i)) ≡ true
-  entry-slim s i h = ap (allOf slimMember) (sym (entry-members i h)) ∙ all-at slimDefinition (tableOf t) i _ (let c = b .count in omega (arith, h, c)) s
 
   pub kind-below : (i : ℕ) → kindIn book i ≡ tagInterface → i < countIn book
   kind-below i e = go (ltb i (countIn book)) refl

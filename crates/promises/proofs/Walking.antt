@@ -11,7 +11,7 @@ use Rattle.paper_types.proofs.ListsLaws.{head-right, eachFrom-nil, eachFrom-con
 use Rattle.places.specs.Placed.{placed}
 use Rattle.places.specs.declared.PlaceRead.the-variants.{At, Kept}
 use Rattle.members.specs.Members.{First}
-use Rattle.promises.proofs.SlimLaws.{all-head, all-tail}
+use Rattle.types.proofs.SlimLaws.{all-head, all-tail}
 
 -- at i, before element number k: what is shown from there on is what is shown from `at` on, and all that is left passes the test p
 pub record Walking {A : Type 0} (f : ℕ → A → List Place) (p : A → Bool) (at end i k : ℕ) (all left : List A) : Type 0 where

@@ -13,17 +13,19 @@ ghost use mathlib.Core.Bool.{true, false};
 ghost use mathlib.Core.Option.{none, some};
 ghost use mathlib.Core.List.{head?};
 ghost use Prim.Native.Nat.{_-_, _<_};
-ghost use Rattle.paper_types.specs.Lists.{allOf, find, each};
-ghost use Rattle.paper_types.specs.Rules.{argumentNamed, promisedBy, promised, fieldMissing, fieldType, argumentMissing, argumentType, argumentExtra};
+ghost use lib.Dec.{eqb};
+ghost use Rattle.paper_types.specs.Lists.{allOf, find, each, onlyIf};
+ghost use Rattle.paper_types.specs.Rules.{partAt, argumentNamed, promisedBy, promised, fieldMissing, fieldType, argumentMissing, argumentType, argumentExtra};
 ghost use Rattle.paper_types.specs.Types.{tableOf};
-ghost use Rattle.paper_types.specs.TableNumbers.{ruleFieldType};
+ghost use Rattle.paper_types.specs.TableNumbers.{ruleFieldMissing, ruleFieldType};
 ghost use Rattle.places.specs.Placed.{placed};
 ghost use Rattle.fields.specs.Fields.{Bounds};
 ghost use Rattle.index.specs.Book.{part, countIn};
 ghost use Rattle.members.specs.Members.{membersIn, argumentsIn, implementedIn, memberFrom, argumentFrom};
 ghost use Rattle.types.specs.Booked.{Booked, startIn, endIn, definitionOn};
 ghost use Rattle.listings.specs.Listed.{Listed};
-ghost use Rattle.promises.specs.Asked.{slimArgument, slimMember, Slim, failing, argumentsAsked, ruleAsked, rulesAsked, ownRules, AllKept, askedOf};
+ghost use Rattle.types.specs.Sizes.{slimArgument, slimMember, Slim};
+ghost use Rattle.promises.specs.Asked.{failing, argumentsAsked, ruleAsked, askedOf};
 
 const WRAPPERS: u32 = 4;
 
@@ -173,59 +175,21 @@ fn own_place(
     first_wrong(t, rule, a, end, b, stop, member, part)
 }
 
-// What the rules 12 to 15 show first of them.
-fn any_place(
-    t: &[u8],
-    book: &[u32],
-    member: u32,
-    part: u32,
-    tag: u8,
-    start: usize,
-    end: usize,
-    own_tag: u8,
-    from: usize,
-    stop: usize,
-) -> PlaceRead
-    requires { ⌜ Booked (now t) (now book) × Bounds (now t) start end × Bounds (now t) from stop × (slimMember (memberFrom (now t) tag start end) ≡ true) × (slimMember (memberFrom (now t) «own_tag» from stop) ≡ true) ⌝ }
-    ensures { λ r. ⌜ r ≡ placed (head? (rulesAsked ownRules ruleFieldType (tableOf (now (t .entry))) member part (memberFrom (now (t .entry)) tag start end) (memberFrom (now (t .entry)) «own_tag» from stop))) ⌝ }
+// What the rule shows of an interface's field that the definition lacks.
+fn lacking(rule: u32, member: u32, part: u32) -> PlaceRead
+    ensures { λ r. ⌜ r ≡ placed (head? (onlyIf (eqb rule ruleFieldMissing) (partAt member part))) ⌝ }
 {
-    let mut rule = RULE_FIELD_TYPE;
-    while rule <= RULE_ARGUMENT_EXTRA {
-        let r = own_place(
-            t,
-            book,
-            rule,
-            member,
-            part,
-            tag,
-            start,
-            end,
-            own_tag,
-            from,
-            stop,
-        );
-        match r {
-            PlaceRead::At {
-                member: x,
-                part: y,
-                argument: z,
-            } => return PlaceRead::At {
-                member: x,
-                part: y,
-                argument: z,
-            },
-            PlaceRead::Kept => {
-                rule += 1;
-            }
-        }
+    if rule == RULE_FIELD_MISSING {
+        return PlaceRead::At {
+            member: member,
+            part: part,
+            argument: NO_PLACE,
+        };
     }
     PlaceRead::Kept
 }
 
-// The rule's number, or this one: the first of all five rules in each field.
-const ANY_RULE: u32 = 0;
-
-// The same, where the definition's members stand from `from` up to `stop`, and in the book `listed`.
+// What the rule shows first of an interface's field, where the definition's members stand from `from` up to `stop`, and in the book `listed`.
 fn field_place(
     t: &[u8],
     book: &[u32],
@@ -249,36 +213,8 @@ fn field_place(
         end: own_end,
     } = listings::find_listed(t, listed, from, stop, t, n.at, n.size)
     else {
-        if rule == ANY_RULE {
-            return PlaceRead::At {
-                member: member,
-                part: part,
-                argument: NO_PLACE,
-            };
-        }
-        if rule == RULE_FIELD_MISSING {
-            return PlaceRead::At {
-                member: member,
-                part: part,
-                argument: NO_PLACE,
-            };
-        }
-        return PlaceRead::Kept;
+        return lacking(rule, member, part);
     };
-    if rule == ANY_RULE {
-        return any_place(
-            t,
-            book,
-            member,
-            part,
-            tag,
-            start,
-            end,
-            own_tag,
-            own,
-            own_end,
-        );
-    }
     own_place(
         t,
         book,
@@ -428,17 +364,6 @@ fn broken(t: &[u8], book: &[u32], listed: &[u32], rule: u32, i: usize) -> PlaceR
         index::start_of(book, i),
         index::end_of(book, i),
     )
-}
-
-// Does definition i keep the five rules? One walk, where each rule by itself would take five.
-pub fn all_kept(t: &[u8], book: &[u32], listed: &[u32], i: usize) -> bool
-    requires { ⌜ Booked (now t) (now book) × Slim (tableOf (now t)) × (i < countIn (now book)) × Listed (now t) (now listed) (startIn (now book) i) (endIn (now book) i) ⌝ }
-    ensures { λ r. ⌜ (r ≡ true → AllKept (tableOf (now (t .entry))) i (definitionOn (now (t .entry)) i)) ⌝ }
-{
-    let PlaceRead::Kept = broken(t, book, listed, ANY_RULE, i) else {
-        return false;
-    };
-    true
 }
 
 // 11. Interface field missing.

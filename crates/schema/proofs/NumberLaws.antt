@@ -8,7 +8,7 @@ use borrow.Author.Tests.{eq-eqb, ne-eqb, le-leb, lt-leb}
 use Rattle.paper_types.specs.Rules.{reservedName, nameKnown, noMembers, nameRepeated, reservedMember, enumValue, noType, wrongBase, notObjectOrInterface, implementedTwice, fieldMissing, fieldType, argumentMissing, argumentType, argumentExtra, rootNotObject, promised, promisedBy, askField, askType, askArgument, askArgumentType, askExtra}
 use Rattle.paper_types.specs.Types.{Definition, Table}
 use Rattle.paper_types.proofs.ListsLaws.{eachFrom-nil}
-use Rattle.promises.specs.Asked.{AllKept}
+use Rattle.keeping.specs.Keeping.{AllKept}
 use Rattle.schema.specs.Schema.{earlyRule, promiseRule, lateRule, ruleOf}
 
 module _ (k : ℕ) where

@@ -13,9 +13,10 @@ use Rattle.members.specs.Members.{implementedIn}
 use Rattle.types.specs.Booked.{definitionOn, startIn, endIn}
 use Rattle.types.proofs.Fitting.{all-at}
 use Rattle.listings.specs.Listed.{Listed, Listable}
-use Rattle.promises.specs.Asked.{AllKept}
+use Rattle.keeping.specs.Keeping.{AllKept}
 use Rattle.types.proofs.Entries.{bounds-entered, members-entered, implemented-entered}
-use Rattle.schema.specs.Schema.{fewMembers, Checkable, Promising}
+use Rattle.types.specs.Sizes.{fewMembers}
+use Rattle.schema.specs.Schema.{Checkable, Promising}
 use Rattle.schema.proofs.NumberLaws.{nothing-promised}
 
 module _ (t book : List ℕ) (k : Checkable t book) (i : ℕ) (h : i < countIn book) where

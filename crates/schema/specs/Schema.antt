@@ -6,16 +6,17 @@ use mathlib.Core.List.{List}
 use Prim.Native.Nat.{ℕ}
 use lib.ListN.{length}
 use lib.Dec.{leb, eqb}
-use Rattle.paper_types.specs.TableNumbers.{noPlace, ruleReservedName, ruleNameKnown, ruleNoMembers, ruleNameRepeated, ruleReservedMember, ruleEnumValue, ruleNoType, ruleBase, ruleNotObjectOrInterface, ruleImplementedTwice, ruleFieldMissing, ruleFieldType, ruleArgumentMissing, ruleArgumentType, ruleRoot, mostMembers}
+use Rattle.paper_types.specs.TableNumbers.{noPlace, ruleReservedName, ruleNameKnown, ruleNoMembers, ruleNameRepeated, ruleReservedMember, ruleEnumValue, ruleNoType, ruleBase, ruleNotObjectOrInterface, ruleImplementedTwice, ruleFieldMissing, ruleFieldType, ruleArgumentMissing, ruleArgumentType, ruleRoot}
 use Rattle.paper_types.specs.Lists.{allOf}
-use Rattle.paper_types.specs.Types.{Definition, Table, tableOf}
+use Rattle.paper_types.specs.Types.{Table, tableOf}
 use Rattle.paper_types.specs.Rules.{Rule, reservedName, nameKnown, noMembers, nameRepeated, reservedMember, enumValue, noType, wrongBase, notObjectOrInterface, implementedTwice, fieldMissing, fieldType, argumentMissing, argumentType, argumentExtra, rootNotObject, queryNotObject}
 use Rattle.paper_types.specs.declared.TableAnswer.{TableAnswer}
 use Rattle.paper_types.specs.declared.TableAnswer.the-variants.{Accepted, Breaks}
 use Rattle.index.specs.Book.{bookSize}
 use Rattle.types.specs.Booked.{Booked, definitionOn, startIn, endIn}
 use Rattle.listings.specs.Listed.{Listed}
-use Rattle.promises.specs.Asked.{Slim, AllKept}
+use Rattle.types.specs.Sizes.{Slim, fewMembers}
+use Rattle.keeping.specs.Keeping.{AllKept}
 use Rattle.places.specs.declared.PlaceRead.{PlaceRead}
 use Rattle.places.specs.declared.PlaceRead.the-variants.{At, Kept}
 
@@ -58,10 +59,6 @@ shownAt i k (At m p a) = Breaks i k m p a
 -- without record 8, where `Query` is the only root
 abbrev pub queryAnswer : Table → TableAnswer
 queryAnswer t = cond (queryNotObject t) (Breaks (length t) ruleRoot noPlace noPlace noPlace) Accepted
-
--- no definition has more members than its size allows
-abbrev pub fewMembers : Definition → Bool
-fewMembers d = leb (length (d .members)) mostMembers
 
 -- what is asked of a table: its book, and its sizes
 pub record Checkable (t book : List ℕ) : Type 0 where

@@ -31,7 +31,8 @@ ghost use Rattle.places.specs.Placed.{placed};
 ghost use Rattle.index.specs.Book.{room, bookSize, countIn};
 ghost use Rattle.types.specs.Booked.{Booked, definitionOn, startIn, endIn};
 ghost use Rattle.listings.specs.Listed.{Listed};
-ghost use Rattle.promises.specs.Asked.{Slim};
+ghost use Rattle.possible.specs.Possible.{Possible};
+ghost use Rattle.types.specs.Sizes.{Slim};
 ghost use Rattle.schema.specs.Schema.{earlyRule, promiseRule, lateRule, ruleOf, shownAt, queryAnswer, Checkable, Promising, Answered};
 
 // What a rule from 1 to 8 shows first of definition i.
@@ -167,8 +168,8 @@ fn rules_in_turn(t: &[u8], book: &[u32], listed: &[u32], promising: bool, i: usi
 }
 
 // Lists the members of definition i, if it implements anything, and says whether one of the rules 11 to 15 may be broken.
-fn list_promises(t: &[u8], book: &[u32], listed: &mut [u32], i: usize) -> bool
-    requires { ⌜ Checkable (now t) (now book) × (i < countIn (now book)) × (length (now listed) ≡ bookSize) ⌝ }
+fn list_promises(t: &[u8], book: &[u32], bits: &[u32], listed: &mut [u32], i: usize) -> bool
+    requires { ⌜ Checkable (now t) (now book) × Possible (now t) (now book) (now bits) × (i < countIn (now book)) × (length (now listed) ≡ bookSize) ⌝ }
     ensures { λ r. ⌜ Promising (now (t .entry)) (now (book .entry)) (now (listed .exit)) i r ⌝ }
 {
     let start = index::start_of(book, i);
@@ -182,15 +183,21 @@ fn list_promises(t: &[u8], book: &[u32], listed: &mut [u32], i: usize) -> bool
         return false;
     };
     listings::list_members(t, listed, start, end);
-    !promises::all_kept(t, book, listed, i)
+    !keeping::is_all_kept(t, book, bits, listed, i)
 }
 
 // The first break of definition i.
-fn definition_breaks(t: &[u8], book: &[u32], listed: &mut [u32], i: usize) -> TableAnswer
-    requires { ⌜ Checkable (now t) (now book) × (i < countIn (now book)) × (length (now listed) ≡ bookSize) ⌝ }
+fn definition_breaks(
+    t: &[u8],
+    book: &[u32],
+    bits: &[u32],
+    listed: &mut [u32],
+    i: usize,
+) -> TableAnswer
+    requires { ⌜ Checkable (now t) (now book) × Possible (now t) (now book) (now bits) × (i < countIn (now book)) × (length (now listed) ≡ bookSize) ⌝ }
     ensures { λ r. ⌜ Answered (now (listed .exit)) r (answer none none (head? (breaksOf (tableOf (now (t .entry))) i (definitionOn (now (t .entry)) i)))) ⌝ }
 {
-    let promising = list_promises(t, book, listed, i);
+    let promising = list_promises(t, book, bits, listed, i);
     rules_in_turn(t, book, listed, promising, i)
 }
 
@@ -225,14 +232,14 @@ fn query_break(t: &[u8], book: &[u32]) -> TableAnswer
 }
 
 // The first break of a table; `listed` is room for the list of one definition's members.
-pub fn first_break(t: &[u8], book: &[u32], listed: &mut [u32]) -> TableAnswer
-    requires { ⌜ Checkable (now t) (now book) × (length (now listed) ≡ bookSize) ⌝ }
+pub fn first_break(t: &[u8], book: &[u32], bits: &[u32], listed: &mut [u32]) -> TableAnswer
+    requires { ⌜ Checkable (now t) (now book) × Possible (now t) (now book) (now bits) × (length (now listed) ≡ bookSize) ⌝ }
     ensures { λ r. ⌜ r ≡ answer none none (head? (breaks (tableOf (now (t .entry))))) ⌝ }
 {
     let count = index::count_of(book);
     let mut i = 0;
     while i < count {
-        let r = definition_breaks(t, book, listed, i);
+        let r = definition_breaks(t, book, bits, listed, i);
         let TableAnswer::Accepted = r else {
             return r;
         };

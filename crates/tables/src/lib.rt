@@ -11,17 +11,23 @@ ghost use Rattle.paper_types.specs.House.{framing};
 ghost use Rattle.paper_types.specs.TableSizes.{counts};
 ghost use Rattle.paper_types.specs.Judging.{judge};
 ghost use Rattle.index.specs.Book.{bookSize};
+ghost use Rattle.possible.specs.Possible.{Blank};
 
 // The numbers of a book, as crate index lays it out.
-const BOOK_SIZE: usize = 1793;
+const BOOK_SIZE: usize = 1794;
 
-// The schema rules of a table whose framing and sizes are right. Both books are scratch: of the definitions, and of one definition's members.
-fn judge_rules(t: &[u8], book: &mut [u32], listed: &mut [u32]) -> TableAnswer
-    requires { ⌜ (length (now t) ≤ mostTable) × (framing (now t) ≡ none) × (counts (now t) ≡ none) × (length (now book) ≡ bookSize) × (length (now listed) ≡ bookSize) ⌝ }
+// A bit for each pair of definitions, as crate possible lays them out.
+const BITS_SIZE: usize = 2048;
+
+// The schema rules of a table whose framing and sizes are right. The three are scratch: the book of the definitions, which object can be which
+// type, the book of one definition's members.
+fn judge_rules(t: &[u8], book: &mut [u32], bits: &mut [u32], listed: &mut [u32]) -> TableAnswer
+    requires { ⌜ (length (now t) ≤ mostTable) × (framing (now t) ≡ none) × (counts (now t) ≡ none) × (length (now book) ≡ bookSize) × Blank (now bits) × (length (now listed) ≡ bookSize) ⌝ }
     ensures { λ r. ⌜ r ≡ judge (now (t .entry)) ⌝ }
 {
     types::fill(t, book);
-    schema::first_break(t, book, listed)
+    possible::fill(t, book, bits);
+    schema::first_break(t, book, bits, listed)
 }
 
 // The sizes and the schema rules of a table whose framing is right.
@@ -34,8 +40,9 @@ fn judge_framed(t: &[u8]) -> TableAnswer
         Counted::Over(at) => TableAnswer::TooMany(at),
         Counted::Within => {
             let mut book = [0u32; BOOK_SIZE];
+            let mut bits = [0u32; BITS_SIZE];
             let mut listed = [0u32; BOOK_SIZE];
-            judge_rules(t, &mut book, &mut listed)
+            judge_rules(t, &mut book, &mut bits, &mut listed)
         }
     }
 }

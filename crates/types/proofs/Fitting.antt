@@ -14,9 +14,10 @@ use Rattle.paper_types.specs.Lists.{anyOf, allOf, gather, onlyIf}
 use Rattle.paper_types.specs.References.{Ref, refOf}
 use Rattle.paper_types.specs.House.{Piece, piece, cut, pieces, inside, Slot, Content, aName, aReference, noTag, holds, contents, lookUp, contentOf, Offsets, mostDeep, inPlace, openBehind, inOrder, orLacking, byContent, wrongs, recordInPlace, tableWrongs, framing}
 use Rattle.paper_types.specs.TableSizes.{Room, room, counted, isOver, lessRoom, roomInTable, roomIn, oversIn, wrappersOver, oversBy, overs, counts}
-use Rattle.paper_types.specs.Types.{Argument, Member, Definition, orNone, typeIn, textOf, argumentIn, argumentOf, fieldIn, inputIn, nameOnly, memberOf, definitionOf, tableOf}
+use Rattle.paper_types.specs.Types.{orNone, typeIn, textOf, argumentIn, argumentOf, fieldIn, inputIn, nameOnly, memberOf, definitionOf, tableOf}
 use Rattle.paper_types.proofs.ListsLaws.{head-nil}
 use Rattle.paper_types.proofs.Rising.{framing-first, counts-first}
+use Rattle.types.specs.Sizes.{slimArgument, slimMember, slimDefinition, fewMembers}
 use Rattle.paper_types.proofs.ReferenceSizes.{wrappers as wrapperCount, marksIn, refOf-marks, over-none}
 
 -- nothing in two lists
@@ -108,16 +109,6 @@ text-marks d rooms (piece at tag s ∷ ps) e = go (eqb tag tagReference) refl (t
 
 type-slim : (d : ℕ) (rooms : List Room) (ps : List Piece) → oversIn (overs (suc d)) rooms ps ≡ [] → leb (wrapperCount (typeIn ps)) mostWrappers ≡ true
 type-slim d rooms ps e = le-leb (wrapperCount (typeIn ps)) mostWrappers (ref-slim (textOf tagReference ps) (text-marks d rooms ps e))
-
--- an argument, a member, a definition whose references have at most seven
-abbrev pub slimArgument : Argument → Bool
-slimArgument x = leb (wrapperCount (x .type)) mostWrappers
-
-abbrev pub slimMember : Member → Bool
-slimMember e = leb (wrapperCount (e .type)) mostWrappers && allOf slimArgument (e .arguments)
-
-abbrev pub slimDefinition : Definition → Bool
-slimDefinition d = allOf slimMember (d .members)
 
 arguments-slim : (d : ℕ) (rooms : List Room) (ps : List Piece) → oversIn (overs (suc (suc d))) rooms ps ≡ [] → allOf slimArgument (gather argumentOf ps) ≡ true
 unfolding gather allOf
@@ -361,10 +352,6 @@ record-order d at (suc (suc (suc (suc (suc (suc (suc (suc (suc n))))))))) s h k 
 record-room : (tag : ℕ) → tag ≤ tagRoots → roomIn tag ≡ twoRooms mostImplemented mostMembers
 unfolding roomIn
 record-room tag h = rw (le-leb tag tagRoots h)
-
--- at most 64 members
-abbrev pub fewMembers : Definition → Bool
-fewMembers d = leb (length (d .members)) mostMembers
 
 definitions-members : (roots : Bool) (rooms : List Room) (ps : List Piece) → tableWrongs roots ps ≡ [] → oversIn (overs mostDeep) rooms ps ≡ [] → allOf fewMembers (gather definitionOf ps) ≡ true
 unfolding gather allOf definitionOf

@@ -6,3 +6,4 @@ pub mod Objects
 pub mod SubTyping
 pub mod Recording
 pub mod Fitting
+pub mod SlimLaws

@@ -1,52 +1,54 @@
--- From the last entry to the first: those from j on are linked.
+-- However often it is linked, it is linked.
 use borrow.Author.Needs.{needs}
+use mathlib.Core.Path.{refl, _∙_}
+use Prim.Native.Nat.{_<_}
 use native.Mathlib.Omega.{arith}
-use mathlib.Core.Path.{_∙_}
-use Rattle.index.proofs.Linking.{Linking, linking-start, linking-room, linking-cells, linking-within, linking-more, linking-end}
+use Rattle.index.specs.Book.{Linked}
+use Rattle.index.proofs.Linking.{linked-on}
 use Rattle.index.proofs.link.Statement.{statement}
 use Rattle.index.proofs.link.Tie as tie
 
 abbrev Inv-loop : tie.InvT-loop
-Inv-loop t book₀ j₀ book j = Linking t book₀ book j
+Inv-loop t book₀ seed₀ crowded₀ left₀ book seed crowded left = Linked t book₀ book × (seed < 256)
 
 abbrev μ-loop : tie.MeasureT-loop
-μ-loop t book₀ j₀ book j = j
+μ-loop t book₀ seed₀ crowded₀ left₀ book seed crowded left = left
 
-clear-heads-requires : tie.Need-clear-heads-requires Inv-loop μ-loop
-clear-heads-requires c κs = c .before .before .before .pre .cells
+slice-read-seed : tie.Need-slice-read-seed Inv-loop μ-loop
+slice-read-seed c = omega (arith, c .before .before .before .pre .cells)
 
-count-of-requires : tie.Need-count-of-requires Inv-loop μ-loop
-count-of-requires c κs = c .before .before .before .clear-heads .ensures .kept .cells ∙ c .before .before .before .before .before .before .before .pre .cells
+link-by-requires : tie.Need-link-by-requires Inv-loop μ-loop
+link-by-requires c κs = search needs
 
 loop-holds : tie.Need-loop-holds Inv-loop μ-loop
-loop-holds c = linking-start _ _ _ (c .before .before .before .before .before .before .before .before .pre) (c .before .before .before .before .clear-heads .ensures) (c .count-of .ensures)
-
-sub-j : tie.Need-sub-j Inv-loop μ-loop
-sub-j c = search needs
-
-name-of-requires : tie.Need-name-of-requires Inv-loop μ-loop
-name-of-requires c κs = (linking-cells _ _ _ (c .before .before .loop .inv) (c .before .loop-test .taken) ∙ c .before .before .loop .inv .held .cells, linking-room _ _ _ (c .before .before .loop .inv) (c .before .loop-test .taken))
-
-size-of-requires : tie.Need-size-of-requires Inv-loop μ-loop
-size-of-requires c κs = (linking-cells _ _ _ (c .before .before .before .before .loop .inv) (c .before .before .before .loop-test .taken) ∙ c .before .before .before .before .loop .inv .held .cells, linking-room _ _ _ (c .before .before .before .before .loop .inv) (c .before .before .before .loop-test .taken))
-
-hash-requires : tie.Need-hash-requires Inv-loop μ-loop
-hash-requires c κs = linking-within _ _ _ (c .before .before .before .before .before .loop .inv) (c .before .before .before .before .loop-test .taken) (c .before .before .name-of .ensures) (c .size-of .ensures)
-
-put-first-requires : tie.Need-put-first-requires Inv-loop μ-loop
-put-first-requires c κs = (linking-cells _ _ _ (c .before .before .before .before .before .before .before .loop .inv) (c .before .before .before .before .before .before .loop-test .taken) ∙ c .before .before .before .before .before .before .before .loop .inv .held .cells, c .before .hash .ensures .1, linking-room _ _ _ (c .before .before .before .before .before .before .before .loop .inv) (c .before .before .before .before .before .before .loop-test .taken))
-
-loop-less : tie.Need-loop-less Inv-loop μ-loop
-loop-less c = omega (arith, c .before .before .before .before .before .before .before .before .before .loop-test .taken)
-
-loop-again : tie.Need-loop-again Inv-loop μ-loop
-loop-again c = linking-more _ _ _ (c .before .before .before .before .before .before .before .before .before .before .loop .inv) (c .before .before .before .before .before .before .before .before .before .loop-test .taken) (c .before .before .before .before .before .before .before .name-of .ensures) (c .before .before .before .before .before .size-of .ensures) (c .before .before .before .before .hash .ensures .0) (c .before .before .before .before .hash .ensures .1) (c .before .before .put-first .ensures)
+loop-holds c = (record { kept = record { cells = refl; entries = λ k l. refl }; indexed = c .before .before .link-by .ensures .indexed }, omega arith)
 
 same-length : tie.Need-same-length Inv-loop μ-loop
-same-length c = c .before .loop .inv .kept .cells ∙ c .before .before .before .before .before .before .clear-heads .ensures .kept .cells
+same-length c = c .before .before .loop .inv .0 .kept .cells ∙ c .before .before .before .before .before .link-by .ensures .kept .cells
 
 returns : tie.Need-returns Inv-loop μ-loop
-returns c = linking-end _ _ _ _ (c .before .before .before .before .before .before .clear-heads .ensures) (c .before .loop .inv) (omega (arith, c .loop-test .left))
+returns c = linked-on (c .before .before .before .before .before .link-by .ensures .kept) (c .before .before .loop .inv .0)
+
+sub-left : tie.Need-sub-left Inv-loop μ-loop
+sub-left c = omega (arith, c .if1 .left)
+
+add-seed : tie.Need-add-seed Inv-loop μ-loop
+add-seed c = search needs
+
+link-by-requires-2 : tie.Need-link-by-requires-2 Inv-loop μ-loop
+link-by-requires-2 c κs = c .before .before .before .loop .inv .0 .indexed .held
+
+loop-less : tie.Need-loop-less Inv-loop μ-loop
+loop-less c = omega (arith, c .before .before .before .before .if1 .left)
+
+loop-again : tie.Need-loop-again Inv-loop μ-loop
+loop-again c = (linked-on (c .before .before .before .before .before .before .loop .inv .0 .kept) (c .before .before .link-by2 .ensures), omega arith)
+
+same-length-2 : tie.Need-same-length-2 Inv-loop μ-loop
+same-length-2 c = c .before .loop .inv .0 .kept .cells ∙ c .before .before .before .before .link-by .ensures .kept .cells
+
+returns-2 : tie.Need-returns-2 Inv-loop μ-loop
+returns-2 c = linked-on (c .before .before .before .before .link-by .ensures .kept) (c .before .loop .inv .0)
 
 pub link-spec : {M : Type 1} → statement M
 link-spec =
@@ -54,15 +56,15 @@ link-spec =
     (tie.spec
     Inv-loop
     μ-loop
-    clear-heads-requires
-    count-of-requires
+    slice-read-seed
+    link-by-requires
     loop-holds
-    sub-j
-    name-of-requires
-    size-of-requires
-    hash-requires
-    put-first-requires
+    same-length
+    returns
+    sub-left
+    add-seed
+    link-by-requires-2
     loop-less
     loop-again
-    same-length
-    returns)
+    same-length-2
+    returns-2)

@@ -5,7 +5,7 @@ use mathlib.Core.List.{List}
 use Prim.Native.Nat.{_<_}
 use native.Mathlib.Omega.{arith}
 use Rattle.paper_types.specs.Lists.{find}
-use Rattle.paper_types.specs.Types.{Member, Meaning, tableOf}
+use Rattle.paper_types.specs.Types.{Member, tableOf}
 use Rattle.index.specs.Book.{countIn}
 use Rattle.types.specs.Booked.{spoken}
 use Rattle.types.proofs.Entries.{bounds-entered, members-entered}

@@ -9,7 +9,8 @@ use Rattle.paper_types.specs.Rules.{promised}
 use Rattle.members.specs.Members.{membersIn, implementedIn}
 use Rattle.types.specs.Booked.{definitionOn}
 use Rattle.promises.specs.Asked.{askedOf}
-use Rattle.promises.proofs.MeantLaws.{entry-bounds, entry-slim, entry-asked}
+use Rattle.types.proofs.SlimLaws.{entry-slim}
+use Rattle.promises.proofs.MeantLaws.{entry-bounds, entry-asked}
 use Rattle.promises.proofs.broken.Statement.{statement}
 use Rattle.promises.proofs.broken.Tie as tie
 

@@ -12,9 +12,10 @@ use Rattle.fields.specs.Fields.{Bounds}
 use Rattle.places.specs.Placed.{placed}
 use Rattle.members.specs.Members.{memberFrom, membersIn, Finds, FindMember}
 use Rattle.members.specs.declared.FieldFound.the-variants.{Found, Nothing}
-use Rattle.promises.specs.Asked.{slimMember, ownAsked}
-use Rattle.promises.proofs.SlimLaws.{all-found}
-use Rattle.promises.proofs.AskedLaws.{none-any, none-missing, none-other, own-any, own-one}
+use Rattle.types.specs.Sizes.{slimMember}
+use Rattle.promises.specs.Asked.{ownAsked}
+use Rattle.types.proofs.SlimLaws.{all-found}
+use Rattle.promises.proofs.AskedLaws.{none-own, some-own}
 use Rattle.promises.proofs.field_place.Statement.{statement}
 use Rattle.promises.proofs.field_place.Tie as tie
 
@@ -27,9 +28,9 @@ found c =
     subst (FindMember (a .t .now) (a .from) (a .stop) ((memberFrom (a .t .now) (a .tag) (a .start) (a .end)) .name)) (c .own-tag .given .1) (rw (← c .before .before .before .member-name .ensures .is) (c .before .before .find-listed .ensures)) in
     f
 
-lacking : (c : tie.After-enum-told)
+not-found : (c : tie.After-enum-told)
     → let a = c .before .before .before .before .before .before .before .args in find (memberNamed ((memberFrom (a .t .now) (a .tag) (a .start) (a .end)) .name)) (membersIn (a .t .now) (a .from) (a .stop)) ≡ none
-lacking c =
+not-found c =
     let a = c .before .before .before .before .before .before .before .args in
     let f : FindMember (a .t .now) (a .from) (a .stop) ((memberFrom (a .t .now) (a .tag) (a .start) (a .end)) .name) Nothing =
     subst (FindMember (a .t .now) (a .from) (a .stop) ((memberFrom (a .t .now) (a .tag) (a .start) (a .end)) .name)) (c .enum-told .given .1) (rw (← c .before .before .before .member-name .ensures .is) (c .before .before .find-listed .ensures)) in
@@ -47,23 +48,15 @@ enum-known-own-tag c = search needs
 enum-told : tie.Need-enum-told
 enum-told c = search needs
 
+lacking-requires : tie.Need-lacking-requires
+lacking-requires c κs = search needs
+
 returns : tie.Need-returns
 returns c =
     let a = c .before .before .before .before .before .before .before .before .args in
-    none-any (a .rule) (tableOf (a .t .now)) (a .member) (a .part) (memberFrom (a .t .now) (a .tag) (a .start) (a .end)) (c .if1 .taken)
-    ∙ ap (λ (o : Option Member). placed (head? (ownAsked (a .rule) (tableOf (a .t .now)) (a .member) (a .part) (memberFrom (a .t .now) (a .tag) (a .start) (a .end)) o))) (sym (lacking (c .before)))
-
-returns-2 : tie.Need-returns-2
-returns-2 c =
-    let a = c .before .before .before .before .before .before .before .before .before .args in
-    none-missing (a .rule) (tableOf (a .t .now)) (a .member) (a .part) (memberFrom (a .t .now) (a .tag) (a .start) (a .end)) (c .before .if1 .left) (c .if2 .taken)
-    ∙ ap (λ (o : Option Member). placed (head? (ownAsked (a .rule) (tableOf (a .t .now)) (a .member) (a .part) (memberFrom (a .t .now) (a .tag) (a .start) (a .end)) o))) (sym (lacking (c .before .before)))
-
-returns-3 : tie.Need-returns-3
-returns-3 c =
-    let a = c .before .before .before .before .before .before .before .before .before .args in
-    none-other (a .rule) (tableOf (a .t .now)) (a .member) (a .part) (memberFrom (a .t .now) (a .tag) (a .start) (a .end)) (c .before .if1 .left) (c .if2 .left)
-    ∙ ap (λ (o : Option Member). placed (head? (ownAsked (a .rule) (tableOf (a .t .now)) (a .member) (a .part) (memberFrom (a .t .now) (a .tag) (a .start) (a .end)) o))) (sym (lacking (c .before .before)))
+    c .lacking .ensures
+    ∙ ap (λ (qs : List Place). placed (head? qs)) (sym (none-own (a .rule) (tableOf (a .t .now)) (a .member) (a .part) (memberFrom (a .t .now) (a .tag) (a .start) (a .end))))
+    ∙ ap (λ (o : Option Member). placed (head? (ownAsked (a .rule) (tableOf (a .t .now)) (a .member) (a .part) (memberFrom (a .t .now) (a .tag) (a .start) (a .end)) o))) (sym (not-found (c .before)))
 
 -- the definition's own field is within its sizes
 own-pre : (c : tie.After-own-tag)
@@ -73,31 +66,18 @@ own-pre c =
     let f = found c in
     (record { order = f .lies .order; within = omega (arith, f .lies .within, p .2 .within); most = p .2 .most }, all-found slimMember _ _ _ (f .is) (p .4))
 
-any-place-requires : tie.Need-any-place-requires
-any-place-requires c κs =
-    let p = c .before .before .before .before .before .before .before .before .before .pre in
-    let q = own-pre (c .before .before) in
-    (p .0, p .1, q .0, p .3, q .1)
-
-returns-4 : tie.Need-returns-4
-returns-4 c =
-    let a = c .before .before .before .before .before .before .before .before .before .before .args in
-    c .any-place .ensures
-    ∙ ap (λ (qs : List Place). placed (head? qs)) (sym (own-any (a .rule) (tableOf (a .t .now)) (a .member) (a .part) (memberFrom (a .t .now) (a .tag) (a .start) (a .end)) _ (c .before .if3 .taken)))
-    ∙ ap (λ (o : Option Member). placed (head? (ownAsked (a .rule) (tableOf (a .t .now)) (a .member) (a .part) (memberFrom (a .t .now) (a .tag) (a .start) (a .end)) o))) (sym (found (c .before .before .before) .is))
-
 own-place-requires : tie.Need-own-place-requires
 own-place-requires c κs =
-    let p = c .before .before .before .before .before .before .before .before .before .pre in
-    let q = own-pre (c .before .before) in
+    let p = c .before .before .before .before .before .before .before .before .pre in
+    let q = own-pre (c .before) in
     (p .0, p .1, q .0, p .3, q .1)
 
-returns-5 : tie.Need-returns-5
-returns-5 c =
-    let a = c .before .before .before .before .before .before .before .before .before .before .args in
+returns-2 : tie.Need-returns-2
+returns-2 c =
+    let a = c .before .before .before .before .before .before .before .before .before .args in
     c .own-place .ensures
-    ∙ ap (λ (qs : List Place). placed (head? qs)) (sym (own-one (a .rule) (tableOf (a .t .now)) (a .member) (a .part) (memberFrom (a .t .now) (a .tag) (a .start) (a .end)) _ (c .before .if3 .left)))
-    ∙ ap (λ (o : Option Member). placed (head? (ownAsked (a .rule) (tableOf (a .t .now)) (a .member) (a .part) (memberFrom (a .t .now) (a .tag) (a .start) (a .end)) o))) (sym (found (c .before .before .before) .is))
+    ∙ ap (λ (qs : List Place). placed (head? qs)) (sym (some-own (a .rule) (tableOf (a .t .now)) (a .member) (a .part) (memberFrom (a .t .now) (a .tag) (a .start) (a .end)) _))
+    ∙ ap (λ (o : Option Member). placed (head? (ownAsked (a .rule) (tableOf (a .t .now)) (a .member) (a .part) (memberFrom (a .t .now) (a .tag) (a .start) (a .end)) o))) (sym (found (c .before .before) .is))
 
 pub field-place-spec : {M : Type 1} → statement M
 field-place-spec =
@@ -107,10 +87,7 @@ field-place-spec =
     find-listed-requires
     enum-known-own-tag
     enum-told
+    lacking-requires
     returns
-    returns-2
-    returns-3
-    any-place-requires
-    returns-4
     own-place-requires
-    returns-5)
+    returns-2)

@@ -8,7 +8,7 @@ use Rattle.paper_types.specs.Rules.{promisedBy}
 use Rattle.members.specs.Members.{membersIn, implementedIn, NextImplemented}
 use Rattle.members.specs.declared.FieldFound.the-variants.{Found}
 use Rattle.promises.specs.Asked.{askedOf}
-use Rattle.promises.proofs.SlimLaws.{all-any}
+use Rattle.types.proofs.SlimLaws.{all-any}
 use Rattle.promises.proofs.Walking.{Walking, walking-start, walking-none, walking-here, walking-on}
 use Rattle.promises.proofs.first_place.Statement.{statement}
 use Rattle.promises.proofs.first_place.Tie as tie

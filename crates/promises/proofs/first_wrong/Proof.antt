@@ -1,6 +1,7 @@
 use Rattle.promises.proofs.AskedLaws.{only-here, only-kept}
 use Rattle.promises.proofs.Walking.{Walking, walking-start, walking-none, walking-pass, walking-here, walking-on}
-use Rattle.promises.specs.Asked.{slimArgument, failing}
+use Rattle.types.specs.Sizes.{slimArgument}
+use Rattle.promises.specs.Asked.{failing}
 use Rattle.members.specs.declared.FieldFound.the-variants.{Found}
 use Rattle.members.specs.Members.{argumentsIn, NextArgument}
 use Rattle.paper_types.specs.Rules.{argumentNamed, partArgumentAt}

@@ -1,5 +1,6 @@
 use Rattle.promises.proofs.Walking.{Walking, walking-start, walking-none, walking-pass, walking-here, walking-on}
-use Rattle.promises.specs.Asked.{slimMember, askedOf}
+use Rattle.types.specs.Sizes.{slimMember}
+use Rattle.promises.specs.Asked.{askedOf}
 use Rattle.members.specs.declared.FieldFound.the-variants.{Found}
 use Rattle.members.specs.Members.{membersIn, NextMember}
 use Rattle.paper_types.specs.Types.{tableOf}

@@ -1,5 +1,6 @@
-use Rattle.promises.proofs.SlimLaws.{all-found}
-use Rattle.promises.specs.Asked.{slimArgument, failing}
+use Rattle.types.proofs.SlimLaws.{all-found}
+use Rattle.types.specs.Sizes.{slimArgument}
+use Rattle.promises.specs.Asked.{failing}
 use Rattle.members.specs.declared.FieldFound.the-variants.{Found, Nothing}
 use Rattle.members.specs.Members.{argumentsIn, argumentFrom, Finds, FindArgument}
 use Rattle.paper_types.specs.Rules.{argumentNamed}

@@ -9,7 +9,8 @@ use Rattle.paper_types.specs.Lists.{each}
 use Rattle.index.specs.Book.{part, countIn}
 use Rattle.members.specs.Members.{membersIn}
 use Rattle.promises.specs.Asked.{askedOf}
-use Rattle.promises.proofs.MeantLaws.{entry-bounds, entry-slim, kind-below, meant-other, meant-interface}
+use Rattle.types.proofs.SlimLaws.{entry-slim}
+use Rattle.promises.proofs.MeantLaws.{entry-bounds, kind-below, meant-other, meant-interface}
 use Rattle.promises.proofs.name_place.Statement.{statement}
 use Rattle.promises.proofs.name_place.Tie as tie
 

@@ -1,5 +1,5 @@
 use Rattle.promises.proofs.AskedLaws.{type-kept, type-broken}
-use Rattle.promises.proofs.SlimLaws.{slim-type}
+use Rattle.types.proofs.SlimLaws.{slim-type}
 use Rattle.members.specs.Members.{memberFrom}
 use Rattle.paper_types.specs.Types.{tableOf, canBe}
 use Rattle.paper_types.specs.SubTypes.{subTest}

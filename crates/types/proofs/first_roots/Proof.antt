@@ -1,9 +1,8 @@
 -- A walk over the tags.
 use borrow.Author.Needs.{needs}
-use mathlib.Core.Path.{sym, ap, _∙_}
-use Prim.Native.Nat.{ℕ, _-_}
+use mathlib.Core.Path.{sym, _∙_}
+use Prim.Native.Nat.{_-_}
 use native.Mathlib.Omega.{arith}
-use lib.Dec.{eqb}
 use borrow.Author.Tests.{eq-eqb, ne-eqb}
 use Rattle.paper_types.specs.TableNumbers.{tagRoots}
 use Rattle.paper_types.specs.Types.{tableOf, isRoots, blank, tagNothing}

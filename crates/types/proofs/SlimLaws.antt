@@ -1,5 +1,5 @@
 -- What holds of each element of a list holds of those found in it.
-use mathlib.Core.Path.{_≡_, refl}
+use mathlib.Core.Path.{_≡_, refl, sym, ap, _∙_}
 use mathlib.Core.Bool.{Bool, true, false, _&&_, cond, false≢true}
 use mathlib.Core.Option.{Option, none, some}
 use mathlib.Core.List.{List, [], _∷_}
@@ -10,9 +10,12 @@ use lib.Dec.{leb}
 use borrow.Author.Tests.{leb-true}
 use Rattle.paper.specs.Numbers.{mostWrappers}
 use Rattle.paper_types.specs.Lists.{allOf, find}
-use Rattle.paper_types.specs.Types.{Argument, Member}
+use Rattle.paper_types.specs.Types.{Argument, Member, Definition, tableOf}
 use Rattle.paper_types.proofs.ReferenceSizes.{wrappers as wrapperCount}
-use Rattle.promises.specs.Asked.{slimArgument, slimMember}
+use Rattle.index.specs.Book.{countIn}
+use Rattle.members.specs.Members.{membersIn}
+use Rattle.types.specs.Booked.{Booked, startIn, endIn}
+use Rattle.types.specs.Sizes.{slimArgument, slimMember, slimDefinition, Slim}
 
 pub and-left : (a b : Bool) → a && b ≡ true → a ≡ true
 and-left true b e = refl
@@ -61,3 +64,8 @@ slim-type e h = leb-true (wrapperCount (e .type)) mostWrappers (and-left (leb (w
 
 pub slim-arguments : (e : Member) → slimMember e ≡ true → allOf slimArgument (e .arguments) ≡ true
 slim-arguments e h = and-right (leb (wrapperCount (e .type)) mostWrappers) (allOf slimArgument (e .arguments)) h
+
+-- the members of a table's definition, by its entry in the book
+pub entry-slim : (t book : List ℕ) (b : Booked t book) → Slim (tableOf t) → (i : ℕ) → i < countIn book → allOf slimMember (membersIn t (startIn book i) (endIn book i)) ≡ true
+entry-slim t book b s i h =
+    ap (λ (d : Definition). allOf slimMember (d .members)) (sym (b .entered i h .is)) ∙ all-at slimDefinition (tableOf t) i _ (let c = b .count in omega (arith, h, c)) s
