@@ -1,45 +1,21 @@
 -- The roots of a table: where record 8 stands, and what its members are.
-use mathlib.Core.Path.{_≡_, refl, sym, ap, _∙_}
+use mathlib.Core.Path.{_≡_, refl, ap, _∙_}
 use mathlib.Core.Bool.{Bool, true, false, cond}
 use mathlib.Core.Option.{Option, none, some}
 use mathlib.Core.List.{List, [], _∷_}
 use Prim.Native.Nat.{ℕ, suc, _+_, _≤_, _<_}
-use native.Mathlib.Nat.{zero-add}
-use native.Mathlib.Numerals.{add-one}
 use native.Mathlib.Omega.{arith}
-use lib.ListN.{length, drop, getD, drop-of-length-le}
-use lib.Seq.{drop-cons}
+use lib.ListN.{length, getD}
 use borrow.Author.Tests.{ne-eqb, le-ltb}
 use Rattle.paper_types.specs.TableNumbers.{tagQueryRoot}
 use Rattle.paper_types.specs.Lists.{bytes, firstAt, find}
 use Rattle.paper_types.specs.Types.{Member, Definition, tableOf, isRoots, blank, tagNothing, nameOnly, rootsIn, rootsOf}
-use Rattle.paper_types.proofs.ListsLaws.{firstAt-here, firstAt-later, any-first, find-any}
+use Rattle.paper_types.proofs.ListsLaws.{firstAt-later, any-first, find-any}
 use Rattle.paper_rules.specs.Enclosing.{then, compositeOf, rootOf}
 use Rattle.index.specs.Book.{countIn}
 use Rattle.members.specs.Members.{membersIn, memberFrom, Finds}
 use Rattle.types.specs.Booked.{startIn, endIn, Booked}
 use Rattle.composites.specs.Coded.{tagged, RootWritten}
-
--- a search by numbers, at number i: the first of all is the first from here on
-module _ {A : Type 0} (p : A → Bool) (xs : List A) where
-  pub first-begin : firstAt p xs ≡ 0 + firstAt p (drop 0 xs)
-  first-begin = sym (zero-add (firstAt p xs))
-
-  pub first-next : (d : A) (i : ℕ) → i < length xs → p (getD xs i d) ≡ false → firstAt p xs ≡ i + firstAt p (drop i xs) → firstAt p xs ≡ i + 1 + firstAt p (drop (i + 1) xs)
-  first-next d i h e q =
-      let s : firstAt p (drop i xs) ≡ suc (firstAt p (drop (i + 1) xs)) = rw (add-one i) (ap (firstAt p) (drop-cons xs i d h) ∙ firstAt-later p (getD xs i d) (drop (suc i) xs) e) in
-      omega (arith, q, s)
-
-  pub first-found : (d : A) (i : ℕ) → i < length xs → p (getD xs i d) ≡ true → firstAt p xs ≡ i + firstAt p (drop i xs) → i ≡ firstAt p xs
-  first-found d i h e q =
-      let s : firstAt p (drop i xs) ≡ 0 = ap (firstAt p) (drop-cons xs i d h) ∙ firstAt-here p (getD xs i d) (drop (suc i) xs) e in
-      omega (arith, q, s)
-
-  pub first-none : (i : ℕ) → length xs ≤ i → firstAt p xs ≡ i + firstAt p (drop i xs) → i ≡ firstAt p xs
-  unfolding firstAt
-  first-none i h q =
-      let s : firstAt p (drop i xs) ≡ 0 = ap (firstAt p) (drop-of-length-le xs h) in
-      omega (arith, q, s)
 
 find-at : {A : Type 0} (p : A → Bool) (d : A) (xs : List A) → firstAt p xs < length xs → find p xs ≡ some (getD xs (firstAt p xs) d)
 unfolding find firstAt

@@ -4,7 +4,6 @@
 use members::FieldFound;
 use paper_types::TAG_OBJECT;
 use paper_types::TAG_QUERY_ROOT;
-use paper_types::TAG_ROOTS;
 use paper_types::TAG_UNION;
 use types::Meant;
 ghost use mathlib.Core.Path.{_≡_};
@@ -13,9 +12,8 @@ ghost use Prim.Native.Nat.{_+_, _≤_, _<_};
 ghost use lib.ListN.{length};
 ghost use lib.Dec.{leb};
 ghost use Rattle.paper_types.specs.TableNumbers.{tagObject, tagUnion};
-ghost use Rattle.paper_types.specs.Lists.{firstAt};
 ghost use Rattle.paper_types.specs.References.{found};
-ghost use Rattle.paper_types.specs.Types.{definition, tableOf, isRoots};
+ghost use Rattle.paper_types.specs.Types.{definition, tableOf};
 ghost use Rattle.paper_rules.specs.Enclosing.{then, ifComposite, compositeOf, rootOf, fieldOf, isTypename, orMissing, fieldIn, typeIn};
 ghost use Rattle.paper_rules.proofs.EnclosingLaws.{Composite};
 ghost use Rattle.fields.specs.Fields.{Bounds};
@@ -80,22 +78,6 @@ pub fn composite(t: &[u8], book: &[u32], s: &[u8], at: usize, n: usize) -> u32
     }
 }
 
-// The number of record 8; the count of definitions if there is none.
-fn roots_number(t: &[u8], book: &[u32]) -> usize
-    requires { ⌜ Booked (now t) (now book) ⌝ }
-    ensures { λ r. ⌜ r ≡ firstAt isRoots (tableOf (now (t .entry))) ⌝ }
-{
-    let count = index::count_of(book);
-    let mut i = 0;
-    while i < count {
-        if index::kind_of(book, i) == TAG_ROOTS as u32 {
-            return i;
-        }
-        i += 1;
-    }
-    i
-}
-
 // A record's first member of this tag, from `from` on.
 fn find_tagged(t: &[u8], from: usize, end: usize, tag: usize) -> FieldFound
     requires { ⌜ Bounds (now t) from end ⌝ }
@@ -127,7 +109,7 @@ fn find_root(t: &[u8], book: &[u32], x: u32) -> RootFound
     requires { ⌜ Booked (now t) (now book) ⌝ }
     ensures { λ r. ⌜ RootFinds (now (t .entry)) x r ⌝ }
 {
-    let k = roots_number(t, book);
+    let k = types::first_roots(t, book);
     if index::count_of(book) <= k {
         if x == 0 {
             return RootFound::Query;

@@ -12,12 +12,12 @@ use Rattle.composites.proofs.find_root.Statement.{statement}
 use Rattle.composites.proofs.find_root.Tie as tie
 
 written : (c : tie.Else1)
-    → c .before .before .roots-number .result < countIn (c .before .before .before .before .before .args .book .now)
+    → c .before .before .first-roots .result < countIn (c .before .before .before .before .before .args .book .now)
 written c =
     omega (arith, c .if1 .left, c .before .count-of .ensures)
 
-roots-number-requires : tie.Need-roots-number-requires
-roots-number-requires c κs = search needs
+first-roots-requires : tie.Need-first-roots-requires
+first-roots-requires c κs = search needs
 
 count-of-requires : tie.Need-count-of-requires
 count-of-requires c κs = search needs
@@ -25,12 +25,12 @@ count-of-requires c κs = search needs
 returns : tie.Need-returns
 returns c =
     let a = c .before .before .before .before .before .before .args in
-    query-root (a .t .now) (a .book .now) (c .before .before .before .before .before .before .pre) (c .before .before .before .roots-number .result) (c .before .before .before .roots-number .ensures) (omega (arith, c .before .if1 .taken, c .before .before .count-of .ensures)) (a .x) (c .if2 .taken)
+    query-root (a .t .now) (a .book .now) (c .before .before .before .before .before .before .pre) (c .before .before .before .first-roots .result) (c .before .before .before .first-roots .ensures) (omega (arith, c .before .if1 .taken, c .before .before .count-of .ensures)) (a .x) (c .if2 .taken)
 
 returns-2 : tie.Need-returns-2
 returns-2 c =
     let a = c .before .before .before .before .before .before .args in
-    no-root (a .t .now) (a .book .now) (c .before .before .before .before .before .before .pre) (c .before .before .before .roots-number .result) (c .before .before .before .roots-number .ensures) (omega (arith, c .before .if1 .taken, c .before .before .count-of .ensures)) (a .x) (c .if2 .left)
+    no-root (a .t .now) (a .book .now) (c .before .before .before .before .before .before .pre) (c .before .before .before .first-roots .result) (c .before .before .before .first-roots .ensures) (omega (arith, c .before .if1 .taken, c .before .before .count-of .ensures)) (a .x) (c .if2 .left)
 
 start-of-requires : tie.Need-start-of-requires
 start-of-requires c κs = search needs
@@ -47,7 +47,7 @@ add-find-tagged c = search needs
 find-tagged-requires : tie.Need-find-tagged-requires
 find-tagged-requires c κs =
     let a = c .before .before .before .before .before .before .before .args in
-    entry-bounds (a .t .now) (a .book .now) (c .before .before .before .before .before .before .before .pre) (c .before .before .before .before .roots-number .result) (written (c .before .before)) (c .before .start-of .ensures) (c .end-of .ensures)
+    entry-bounds (a .t .now) (a .book .now) (c .before .before .before .before .before .before .before .pre) (c .before .before .before .before .first-roots .result) (written (c .before .before)) (c .before .start-of .ensures) (c .end-of .ensures)
 
 enum-known-tag : tie.Need-enum-known-tag
 enum-known-tag c = search needs
@@ -58,18 +58,18 @@ enum-told c = search needs
 returns-3 : tie.Need-returns-3
 returns-3 c =
     let a = c .before .before .before .before .before .before .before .before .before .before .args in
-    unwritten-root (a .t .now) (a .book .now) (c .before .before .before .before .before .before .before .before .before .before .pre) (c .before .before .before .before .before .before .before .roots-number .result) (c .before .before .before .before .before .before .before .roots-number .ensures) (written (c .before .before .before .before .before)) (c .before .before .before .before .start-of .result) (c .before .before .before .end-of .result) (c .before .before .before .before .start-of .ensures) (c .before .before .before .end-of .ensures) (a .x) (subst (FindTagged (a .t .now) (c .before .before .before .before .start-of .result) (c .before .before .before .end-of .result) (tagQueryRoot + (a .x))) (c .enum-told .given .1) (c .before .before .find-tagged .ensures))
+    unwritten-root (a .t .now) (a .book .now) (c .before .before .before .before .before .before .before .before .before .before .pre) (c .before .before .before .before .before .before .before .first-roots .result) (c .before .before .before .before .before .before .before .first-roots .ensures) (written (c .before .before .before .before .before)) (c .before .before .before .before .start-of .result) (c .before .before .before .end-of .result) (c .before .before .before .before .start-of .ensures) (c .before .before .before .end-of .ensures) (a .x) (subst (FindTagged (a .t .now) (c .before .before .before .before .start-of .result) (c .before .before .before .end-of .result) (tagQueryRoot + (a .x))) (c .enum-told .given .1) (c .before .before .find-tagged .ensures))
 
 returns-4 : tie.Need-returns-4
 returns-4 c =
     let a = c .before .before .before .before .before .before .before .before .before .before .before .args in
-    written-root (a .t .now) (a .book .now) (c .before .before .before .before .before .before .before .before .before .before .before .pre) (c .before .before .before .before .before .before .before .before .roots-number .result) (c .before .before .before .before .before .before .before .before .roots-number .ensures) (written (c .before .before .before .before .before .before)) (c .before .before .before .before .before .start-of .result) (c .before .before .before .before .end-of .result) (c .before .before .before .before .before .start-of .ensures) (c .before .before .before .before .end-of .ensures) (a .x) _ _ _ (subst (FindTagged (a .t .now) (c .before .before .before .before .before .start-of .result) (c .before .before .before .before .end-of .result) (tagQueryRoot + (a .x))) (c .before .tag .given .1) (c .before .before .before .find-tagged .ensures))
+    written-root (a .t .now) (a .book .now) (c .before .before .before .before .before .before .before .before .before .before .before .pre) (c .before .before .before .before .before .before .before .before .first-roots .result) (c .before .before .before .before .before .before .before .before .first-roots .ensures) (written (c .before .before .before .before .before .before)) (c .before .before .before .before .before .start-of .result) (c .before .before .before .before .end-of .result) (c .before .before .before .before .before .start-of .ensures) (c .before .before .before .before .end-of .ensures) (a .x) _ _ _ (subst (FindTagged (a .t .now) (c .before .before .before .before .before .start-of .result) (c .before .before .before .before .end-of .result) (tagQueryRoot + (a .x))) (c .before .tag .given .1) (c .before .before .before .find-tagged .ensures))
 
 pub find-root-spec : {M : Type 1} → statement M
 find-root-spec =
     tie.close
     (tie.spec
-    roots-number-requires
+    first-roots-requires
     count-of-requires
     returns
     returns-2
