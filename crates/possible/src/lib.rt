@@ -14,7 +14,9 @@ ghost use Rattle.index.specs.Book.{part, room, countIn};
 ghost use Rattle.types.specs.Booked.{Booked, kindIn, definitionOn};
 ghost use Rattle.possible.specs.Possible.{bitsSize, bitAt, Possible, Blank, Marked};
 
-// An object's bits, and a number's.
+// The numbers that hold the bits; an object's, and the bits of one.
+pub const BITS_SIZE: usize = 2048;
+
 const CELLS: usize = 8;
 
 const WIDTH: usize = 32;

@@ -2,8 +2,8 @@
 use mathlib.Core.Path.{_≡_, refl, sym, ap, _∙_}
 use mathlib.Core.Option.{Option, none, some}
 use mathlib.Core.List.{List, head?}
-use Prim.Native.Nat.{ℕ, _≤_}
-use lib.ListN.{length}
+use Prim.Native.Nat.{ℕ, zero, suc, _≤_}
+use lib.ListN.{length, getD, replicate, length-replicate}
 use Rattle.paper_types.specs.TableNumbers.{mostTable}
 use Rattle.paper_types.specs.House.{framing}
 use Rattle.paper_types.specs.TableSizes.{counts}
@@ -15,6 +15,7 @@ use Rattle.paper_types.proofs.TableFits.{judged-first}
 use Rattle.index.specs.Book.{bookSize}
 use Rattle.types.specs.Booked.{Bookable, Booked}
 use Rattle.types.proofs.Fitting.{records-few, references-slim, members-fit}
+use Rattle.possible.specs.Possible.{bitsSize, Blank}
 use Rattle.schema.specs.Schema.{Checkable}
 use Rattle.frames.specs.declared.Framed.{Framed}
 use Rattle.frames.specs.declared.Framed.the-variants.{Right, Wrong}
@@ -65,3 +66,12 @@ module _ (t book : List ℕ) where
 
   pub checkable : framing t ≡ none → counts t ≡ none → Booked t book → Checkable t book
   checkable f c b = record { booked = b; slim = references-slim t f c; few = members-fit t f c }
+
+-- no bit of zeros is set
+zeros : (n k : ℕ) → getD {A = ℕ} (replicate n 0) k 0 ≡ 0
+zeros zero k = refl
+zeros (suc n) zero = refl
+zeros (suc n) (suc k) = zeros n k
+
+pub blank : Blank (replicate bitsSize 0)
+blank = record { size = length-replicate {A = ℕ} bitsSize 0; none-set = zeros bitsSize }

@@ -1,7 +1,9 @@
 // Judges a type table: its framing, its sizes, its schema rules, in this order.
 use counts::Counted;
 use frames::Framed;
+use index::BOOK_SIZE;
 use paper_types::TableAnswer;
+use possible::BITS_SIZE;
 ghost use mathlib.Core.Path.{_≡_};
 ghost use mathlib.Core.Option.{none};
 ghost use Prim.Native.Nat.{_≤_};
@@ -12,12 +14,6 @@ ghost use Rattle.paper_types.specs.TableSizes.{counts};
 ghost use Rattle.paper_types.specs.Judging.{judge};
 ghost use Rattle.index.specs.Book.{bookSize};
 ghost use Rattle.possible.specs.Possible.{Blank};
-
-// The numbers of a book, as crate index lays it out.
-const BOOK_SIZE: usize = 1794;
-
-// A bit for each pair of definitions, as crate possible lays them out.
-const BITS_SIZE: usize = 2048;
 
 // The schema rules of a table whose framing and sizes are right. The three are scratch: the book of the definitions, which object can be which
 // type, the book of one definition's members.

@@ -1,12 +1,9 @@
-use mathlib.Core.Path.{refl}
-use Rattle.tables.proofs.TablesLaws.{counts-within, counts-over}
+-- A count over its size, or the rules.
 use borrow.Author.Needs.{needs}
+use mathlib.Core.Path.{refl}
+use Rattle.tables.proofs.TablesLaws.{counts-within, counts-over, blank}
 use Rattle.tables.proofs.judge_framed.Statement.{statement}
 use Rattle.tables.proofs.judge_framed.Tie as tie
-use Rattle.tables.proofs.judge_framed.Reads as reads
-use Rattle.tables.proofs.judge_framed.Lts as lts
-use Rattle.counts.proofs.over.Reads as over-reads
-use Rattle.tables.proofs.judge_rules.Reads as judge-rules-reads
 
 over-requires : tie.Need-over-requires
 over-requires c κs = search needs
@@ -23,9 +20,11 @@ slice-aggregate-judge-rules c = search needs
 slice-aggregate-judge-rules-2 : tie.Need-slice-aggregate-judge-rules-2
 slice-aggregate-judge-rules-2 c = search needs
 
+slice-aggregate-judge-rules-3 : tie.Need-slice-aggregate-judge-rules-3
+slice-aggregate-judge-rules-3 c = search needs
+
 judge-rules-requires : tie.Need-judge-rules-requires
-judge-rules-requires c κs =
-    (c .before .before .before .before .before .before .pre .0, c .before .before .before .before .before .before .pre .1, counts-within _ _ (c .before .before .before .before .over .ensures) (c .before .before .enum-told .given .1), refl, refl)
+judge-rules-requires c κs = (c .before .before .before .before .before .before .before .pre .0, c .before .before .before .before .before .before .before .pre .1, counts-within _ _ (c .before .before .before .before .before .over .ensures) (c .before .before .before .enum-told .given .1), refl, blank, refl)
 
 returns : tie.Need-returns
 returns c = counts-over _ _ _ (c .before .before .before .before .before .pre .1) (c .before .before .before .over .ensures) (c .before .c .given .1)
@@ -42,6 +41,7 @@ judge-framed-spec =
     enum-told
     slice-aggregate-judge-rules
     slice-aggregate-judge-rules-2
+    slice-aggregate-judge-rules-3
     judge-rules-requires
     returns
     returns-2)

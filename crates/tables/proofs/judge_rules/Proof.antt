@@ -1,18 +1,18 @@
+-- The book and the bits, then the rules.
+use borrow.Author.Needs.{needs}
 use mathlib.Core.Path.{_∙_}
 use Rattle.tables.proofs.TablesLaws.{bookable, checkable, rules-judge}
-use borrow.Author.Needs.{needs}
 use Rattle.tables.proofs.judge_rules.Statement.{statement}
 use Rattle.tables.proofs.judge_rules.Tie as tie
-use Rattle.tables.proofs.judge_rules.Reads as reads
-use Rattle.tables.proofs.judge_rules.Lts as lts
-use Rattle.schema.proofs.first_break.Reads as first-break-reads
-use Rattle.types.proofs.fill.Reads as fill-reads
 
 fill-requires : tie.Need-fill-requires
-fill-requires c κs = bookable _ _ (c .before .before .before .before .pre .0) (c .before .before .before .before .pre .1) (c .before .before .before .before .pre .2) (c .before .before .before .before .pre .3)
+fill-requires c κs = bookable _ _ (c .before .before .before .before .before .pre .0) (c .before .before .before .before .before .pre .1) (c .before .before .before .before .before .pre .2) (c .before .before .before .before .before .pre .3)
+
+fill-requires-2 : tie.Need-fill-requires-2
+fill-requires-2 c κs = (c .before .before .before .before .fill .ensures, c .before .before .before .before .before .before .before .before .before .before .pre .4)
 
 first-break-requires : tie.Need-first-break-requires
-first-break-requires c κs = (checkable _ _ (c .before .before .before .before .before .before .before .before .before .pre .1) (c .before .before .before .before .before .before .before .before .before .pre .2) (c .before .before .before .before .fill .ensures), c .before .before .before .before .before .before .before .before .before .pre .4)
+first-break-requires c κs = (checkable _ _ (c .before .before .before .before .before .before .before .before .before .before .before .before .before .before .before .before .pre .1) (c .before .before .before .before .before .before .before .before .before .before .before .before .before .before .before .before .pre .2) (c .before .before .before .before .before .before .before .before .before .before .fill .ensures), c .before .before .before .before .before .fill2 .ensures, c .before .before .before .before .before .before .before .before .before .before .before .before .before .before .before .before .pre .5)
 
 same-length : tie.Need-same-length
 same-length c = search needs
@@ -20,9 +20,20 @@ same-length c = search needs
 same-length-2 : tie.Need-same-length-2
 same-length-2 c = search needs
 
+same-length-3 : tie.Need-same-length-3
+same-length-3 c = search needs
+
 returns : tie.Need-returns
-returns c = c .before .before .first-break .ensures ∙ rules-judge _ (c .before .before .before .before .before .before .before .before .before .before .before .before .pre .0) (c .before .before .before .before .before .before .before .before .before .before .before .before .pre .1) (c .before .before .before .before .before .before .before .before .before .before .before .before .pre .2)
+returns c = c .before .before .first-break .ensures ∙ rules-judge _ (c .before .before .before .before .before .before .before .before .before .before .before .before .before .before .before .before .before .before .before .pre .0) (c .before .before .before .before .before .before .before .before .before .before .before .before .before .before .before .before .before .before .before .pre .1) (c .before .before .before .before .before .before .before .before .before .before .before .before .before .before .before .before .before .before .before .pre .2)
 
 pub judge-rules-spec : {M : Type 1} → statement M
 judge-rules-spec =
-    tie.close (tie.spec fill-requires first-break-requires same-length same-length-2 returns)
+    tie.close
+    (tie.spec
+    fill-requires
+    fill-requires-2
+    first-break-requires
+    same-length
+    same-length-2
+    same-length-3
+    returns)
