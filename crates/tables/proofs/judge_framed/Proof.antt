@@ -1,7 +1,6 @@
--- A count over its size, or the rules.
-use borrow.Author.Needs.{needs}
 use mathlib.Core.Path.{refl}
 use Rattle.tables.proofs.TablesLaws.{counts-within, counts-over, blank}
+use borrow.Author.Needs.{needs}
 use Rattle.tables.proofs.judge_framed.Statement.{statement}
 use Rattle.tables.proofs.judge_framed.Tie as tie
 
@@ -20,14 +19,14 @@ slice-aggregate-judge-rules c = search needs
 slice-aggregate-judge-rules-2 : tie.Need-slice-aggregate-judge-rules-2
 slice-aggregate-judge-rules-2 c = search needs
 
-slice-aggregate-judge-rules-3 : tie.Need-slice-aggregate-judge-rules-3
-slice-aggregate-judge-rules-3 c = search needs
-
 judge-rules-requires : tie.Need-judge-rules-requires
-judge-rules-requires c κs = (c .before .before .before .before .before .before .before .pre .0, c .before .before .before .before .before .before .before .pre .1, counts-within _ _ (c .before .before .before .before .before .over .ensures) (c .before .before .before .enum-told .given .1), refl, blank, refl)
+judge-rules-requires c κs = (c .before .before .before .before .before .before .before .before .pre .0, c .before .before .before .before .before .before .before .before .pre .1, counts-within _ _ (c .before .before .before .before .before .over .ensures) (c .before .before .before .enum-told .given .1), c .before .before .before .before .before .before .before .before .pre .2, blank, refl)
 
 returns : tie.Need-returns
-returns c = counts-over _ _ _ (c .before .before .before .before .before .pre .1) (c .before .before .before .over .ensures) (c .before .c .given .1)
+returns c = counts-over _ _ _ _ (c .before .before .before .before .before .before .pre .1) (c .before .before .before .over .ensures) (c .before .c .given .1)
+
+same-length : tie.Need-same-length
+same-length c = search needs
 
 returns-2 : tie.Need-returns-2
 returns-2 c = search needs
@@ -41,7 +40,7 @@ judge-framed-spec =
     enum-told
     slice-aggregate-judge-rules
     slice-aggregate-judge-rules-2
-    slice-aggregate-judge-rules-3
     judge-rules-requires
     returns
+    same-length
     returns-2)
