@@ -1,7 +1,7 @@
 -- Walks along the links of rows: over the rows right below one, and over the rows of one kind.
 -- The loop `let mut j = FIRST; while j < n { if TEST(j) { return YES; } j = NEXT(j); } NO` has the invariant `Walk .. n i j` and the measure n - j.
 -- It begins by -start (or, behind row i, by -beside), goes on by -next, and ends by walk-any, end-any and their like (Walks); -less says that it moves on.
-use mathlib.Core.Path.{_≡_, refl, ap, _∙_}
+use mathlib.Core.Path.{_≡_, ap, _∙_}
 use mathlib.Core.Bool.{Bool, true, false}
 use mathlib.Core.List.{List}
 use Prim.Native.Nat.{ℕ, suc, _<_, _≤_}
