@@ -67,12 +67,12 @@ module _ (t : List ℕ) (p : Place) where
         within = λ h. rw (begins, f) (y .within);
       }
 
--- the items of a list
-module _ (p : Place) where
-  module _ (h : nullable (p .wrappers) % 4 ≡ wrapList → ⊥) where
+-- the items of a list, by the wrappers w under the outermost Non-Null
+module _ (p : Place) (w : ℕ) (e : w ≡ nullable (p .wrappers)) where
+  module _ (h : w % 4 ≡ wrapList → ⊥) where
     no-item : (base : List ℕ) → itemOf (shape base (p .wrappers)) ≡ none
     unfolding itemOf
-    no-item base = rw (ne-eqb (nullable (p .wrappers) % 4) wrapList h)
+    no-item base = rw (← e, ne-eqb (w % 4) wrapList h)
 
     none-is : (t : List ℕ) → then (coded t p) itemOf ≡ none
     unfolding coded
@@ -84,22 +84,22 @@ module _ (p : Place) where
         go false false = no-item (part t (p .at - placeFirst) (p .size))
 
     pub items-none : (r : Place) → r .at ≡ placeUnknown → Items p r
-    items-none r e t w = rw (none-is t) (keeps-unknown t r e)
+    items-none r z t v = rw (none-is t) (keeps-unknown t r z)
 
-  module _ (h : nullable (p .wrappers) % 4 ≡ wrapList) where
-    an-item : (base : List ℕ) → itemOf (shape base (p .wrappers)) ≡ some (shape base (nullable (p .wrappers) / 4))
+  module _ (h : w % 4 ≡ wrapList) where
+    an-item : (base : List ℕ) → itemOf (shape base (p .wrappers)) ≡ some (shape base (w / 4))
     unfolding itemOf
-    an-item base = rw (eq-eqb (nullable (p .wrappers) % 4) wrapList h)
+    an-item base = rw (← e, eq-eqb (w % 4) wrapList h)
 
-    item-is : (t : List ℕ) → then (coded t p) itemOf ≡ coded t (record { at = p .at; size = p .size; wrappers = nullable (p .wrappers) / 4 })
+    item-is : (t : List ℕ) → then (coded t p) itemOf ≡ coded t (record { at = p .at; size = p .size; wrappers = w / 4 })
     unfolding coded
     item-is t = go (eqb (p .at) placeUnknown) (eqb (p .at) placeBoolean)
       where
         go : (a b : Bool) → then (cond a none (cond b (some (shape (bytes "Boolean") (p .wrappers))) (some (shape (part t (p .at - placeFirst) (p .size)) (p .wrappers))))) itemOf
-            ≡ cond a none (cond b (some (shape (bytes "Boolean") (nullable (p .wrappers) / 4))) (some (shape (part t (p .at - placeFirst) (p .size)) (nullable (p .wrappers) / 4))))
+            ≡ cond a none (cond b (some (shape (bytes "Boolean") (w / 4))) (some (shape (part t (p .at - placeFirst) (p .size)) (w / 4))))
         go true b = refl
         go false true = an-item (bytes "Boolean")
         go false false = an-item (part t (p .at - placeFirst) (p .size))
 
-    pub items-some : Items p (record { at = p .at; size = p .size; wrappers = nullable (p .wrappers) / 4 })
-    items-some t w = record { is = item-is t; within = w }
+    pub items-some : Items p (record { at = p .at; size = p .size; wrappers = w / 4 })
+    items-some t v = record { is = item-is t; within = v }

@@ -68,10 +68,11 @@ fn definition_of(
 {
     let mut j = link_of(first, o);
     while j < n {
+        let after = link_of(next, j);
         if defines_it(s, rows, n, j, i) {
             return j;
         }
-        j = link_of(next, j);
+        j = after;
     }
     j
 }
@@ -84,7 +85,10 @@ fn differs(t: &[u8], s: &[u8], rows: &[u32], n: usize, r: usize, p: Place) -> bo
     if p.at == PLACE_UNKNOWN {
         return false;
     }
-    if nullable_of(extra_of(rows, n, r)) != nullable_of(p.wrappers) {
+    let declared = extra_of(rows, n, r);
+    let bare = nullable_of(declared);
+    let due = nullable_of(p.wrappers);
+    if bare != due {
         return true;
     }
     if p.at == PLACE_BOOLEAN {

@@ -14,13 +14,16 @@ use Rattle.placings.proofs.input_place.Tie as tie
 below : (c : tie.Else2)
     → c .before .before .number-meant .result < countIn (c .before .before .before .before .before .before .before .before .before .before .before .args .book .now)
 below c =
-    input-below (c .before .before .before .before .before .before .before .before .before .before .before .args .t .now) (c .before .before .before .before .before .before .before .before .before .before .before .args .book .now) (c .before .before .before .before .before .before .before .before .before .before .before .pre .1) (nameOf (docOf (c .before .before .before .before .before .before .before .before .before .before .before .args .s .now) (c .before .before .before .before .before .before .before .before .before .before .before .args .rows .now) (c .before .before .before .before .before .before .before .before .before .before .before .args .n)) (c .before .before .before .before .before .before .before .before .before .before .before .args .i)) (c .before .before .before .before .before .before .before .before .before .before .before .args .p) (c .before .before .before .before .before .before .before .before .before .before .before .args .p) (omega arith) (c .before .before .number-meant .result) (c .before .before .number-meant .ensures) (sym (c .before .kind-in .ensures) ∙ c .if2 .left) _ _ refl refl
+    let s = c .before .before .before .before .before .before .before .before .before .before .before in
+    input-below (s .args .t .now) (s .args .book .now) (s .pre .1) (nameOf (docOf (s .args .s .now) (s .args .rows .now) (s .args .n)) (s .args .i)) (s .args .p) (s .args .p) (omega arith) (c .before .before .number-meant .result) (c .before .before .number-meant .ensures) (sym (c .before .kind-in .ensures) ∙ c .if2 .left) _ _ refl refl
 
 unknown-requires : tie.Need-unknown-requires
 unknown-requires c κs = search needs
 
 returns : tie.Need-returns
-returns c = input-of-none (c .before .before .before .before .before .before .before .args .t .now) (c .before .before .before .before .before .before .before .args .book .now) (c .before .before .before .before .before .before .before .pre .1) (nameOf (docOf (c .before .before .before .before .before .before .before .args .s .now) (c .before .before .before .before .before .before .before .args .rows .now) (c .before .before .before .before .before .before .before .args .n)) (c .before .before .before .before .before .before .before .args .i)) (c .before .before .before .before .before .before .before .args .p) (c .unknown .result) (c .before .if1 .taken) (c .unknown .ensures)
+returns c =
+    let s = c .before .before .before .before .before .before .before in
+    input-of-none (s .args .t .now) (s .args .book .now) (s .pre .1) (nameOf (docOf (s .args .s .now) (s .args .rows .now) (s .args .n)) (s .args .i)) (s .args .p) (c .unknown .result) (c .before .if1 .taken) (c .unknown .ensures)
 
 cast-number-meant : tie.Need-cast-number-meant
 cast-number-meant c = search needs
@@ -29,7 +32,9 @@ cast-number-meant-2 : tie.Need-cast-number-meant-2
 cast-number-meant-2 c = search needs
 
 number-meant-requires : tie.Need-number-meant-requires
-number-meant-requires c κs = (c .before .before .before .before .before .before .before .before .pre .1, c .before .before .before .before .before .before .before .before .pre .3 (omega arith))
+number-meant-requires c κs =
+    let s = c .before .before .before .before .before .before .before .before in
+    (s .pre .1, s .pre .3 (omega arith))
 
 kind-in-requires : tie.Need-kind-in-requires
 kind-in-requires c κs = search needs
@@ -41,19 +46,29 @@ unknown-requires-2 : tie.Need-unknown-requires-2
 unknown-requires-2 c κs = search needs
 
 returns-2 : tie.Need-returns-2
-returns-2 c = input-of-other (c .before .before .before .before .before .before .before .before .before .before .before .before .args .t .now) (c .before .before .before .before .before .before .before .before .before .before .before .before .args .book .now) (c .before .before .before .before .before .before .before .before .before .before .before .before .pre .1) (nameOf (docOf (c .before .before .before .before .before .before .before .before .before .before .before .before .args .s .now) (c .before .before .before .before .before .before .before .before .before .before .before .before .args .rows .now) (c .before .before .before .before .before .before .before .before .before .before .before .before .args .n)) (c .before .before .before .before .before .before .before .before .before .before .before .before .args .i)) (c .before .before .before .before .before .before .before .before .before .before .before .before .args .p) (c .unknown2 .result) (omega arith) (c .before .before .before .number-meant .result) (c .before .before .before .number-meant .ensures) (λ z. c .before .if2 .taken (c .before .before .kind-in .ensures ∙ z)) (c .unknown2 .ensures)
+returns-2 c =
+    let s = c .before .before .before .before .before .before .before .before .before .before .before .before in
+    input-of-other (s .args .t .now) (s .args .book .now) (s .pre .1) (nameOf (docOf (s .args .s .now) (s .args .rows .now) (s .args .n)) (s .args .i)) (s .args .p) (c .unknown2 .result) (omega arith) (c .before .before .before .number-meant .result) (c .before .before .before .number-meant .ensures) (λ z. c .before .if2 .taken (c .before .before .kind-in .ensures ∙ z)) (c .unknown2 .ensures)
 
 start-of-requires : tie.Need-start-of-requires
-start-of-requires c κs = (c .before .before .before .before .before .before .before .before .before .before .before .pre .1 .indexed .held .cells, omega (arith, below c, c .before .before .before .before .before .before .before .before .before .before .before .pre .1 .indexed .held .most))
+start-of-requires c κs =
+    let s = c .before .before .before .before .before .before .before .before .before .before .before in
+    (s .pre .1 .indexed .held .cells, omega (arith, below c, s .pre .1 .indexed .held .most))
 
 end-of-requires : tie.Need-end-of-requires
-end-of-requires c κs = (c .before .before .before .before .before .before .before .before .before .before .before .before .pre .1 .indexed .held .cells, omega (arith, below (c .before), c .before .before .before .before .before .before .before .before .before .before .before .before .pre .1 .indexed .held .most))
+end-of-requires c κs =
+    let s = c .before .before .before .before .before .before .before .before .before .before .before .before in
+    (s .pre .1 .indexed .held .cells, omega (arith, below (c .before), s .pre .1 .indexed .held .most))
 
 input-typed-requires : tie.Need-input-typed-requires
-input-typed-requires c κs = (entry-bounds (c .before .before .before .before .before .before .before .before .before .before .before .before .before .args .t .now) (c .before .before .before .before .before .before .before .before .before .before .before .before .before .args .book .now) (c .before .before .before .before .before .before .before .before .before .before .before .before .before .pre .1) (c .before .before .before .before .number-meant .result) (below (c .before .before)) (c .before .start-of .ensures) (c .end-of .ensures), c .before .before .before .before .before .before .before .before .before .before .before .before .before .pre .2, input-slims (c .before .before .before .before .before .before .before .before .before .before .before .before .before .args .t .now) (c .before .before .before .before .before .before .before .before .before .before .before .before .before .args .book .now) (c .before .before .before .before .before .before .before .before .before .before .before .before .before .pre .1) (nameOf (docOf (c .before .before .before .before .before .before .before .before .before .before .before .before .before .args .s .now) (c .before .before .before .before .before .before .before .before .before .before .before .before .before .args .rows .now) (c .before .before .before .before .before .before .before .before .before .before .before .before .before .args .n)) (c .before .before .before .before .before .before .before .before .before .before .before .before .before .args .i)) (c .before .before .before .before .before .before .before .before .before .before .before .before .before .args .p) (c .before .before .before .before .before .before .before .before .before .before .before .before .before .args .p) (omega arith) (c .before .before .before .before .number-meant .result) (c .before .before .before .before .number-meant .ensures) (sym (c .before .before .before .kind-in .ensures) ∙ c .before .before .if2 .left) _ _ (c .before .start-of .ensures) (c .end-of .ensures) (c .before .before .before .before .before .before .before .before .before .before .before .before .before .pre .0))
+input-typed-requires c κs =
+    let s = c .before .before .before .before .before .before .before .before .before .before .before .before .before in
+    (entry-bounds (s .args .t .now) (s .args .book .now) (s .pre .1) (c .before .before .before .before .number-meant .result) (below (c .before .before)) (c .before .start-of .ensures) (c .end-of .ensures), s .pre .2, input-slims (s .args .t .now) (s .args .book .now) (s .pre .1) (nameOf (docOf (s .args .s .now) (s .args .rows .now) (s .args .n)) (s .args .i)) (s .args .p) (s .args .p) (omega arith) (c .before .before .before .before .number-meant .result) (c .before .before .before .before .number-meant .ensures) (sym (c .before .before .before .kind-in .ensures) ∙ c .before .before .if2 .left) _ _ (c .before .start-of .ensures) (c .end-of .ensures) (s .pre .0))
 
 returns-3 : tie.Need-returns-3
-returns-3 c = input-of-object (c .before .before .before .before .before .before .before .before .before .before .before .before .before .before .args .t .now) (c .before .before .before .before .before .before .before .before .before .before .before .before .before .before .args .book .now) (c .before .before .before .before .before .before .before .before .before .before .before .before .before .before .pre .1) (nameOf (docOf (c .before .before .before .before .before .before .before .before .before .before .before .before .before .before .args .s .now) (c .before .before .before .before .before .before .before .before .before .before .before .before .before .before .args .rows .now) (c .before .before .before .before .before .before .before .before .before .before .before .before .before .before .args .n)) (c .before .before .before .before .before .before .before .before .before .before .before .before .before .before .args .i)) (c .before .before .before .before .before .before .before .before .before .before .before .before .before .before .args .p) (c .input-typed .result) (omega arith) (c .before .before .before .before .before .number-meant .result) (c .before .before .before .before .before .number-meant .ensures) (sym (c .before .before .before .before .kind-in .ensures) ∙ c .before .before .before .if2 .left) _ _ (c .before .before .start-of .ensures) (c .before .end-of .ensures) (c .input-typed .ensures)
+returns-3 c =
+    let s = c .before .before .before .before .before .before .before .before .before .before .before .before .before .before in
+    input-of-object (s .args .t .now) (s .args .book .now) (s .pre .1) (nameOf (docOf (s .args .s .now) (s .args .rows .now) (s .args .n)) (s .args .i)) (s .args .p) (c .input-typed .result) (omega arith) (c .before .before .before .before .before .number-meant .result) (c .before .before .before .before .before .number-meant .ensures) (sym (c .before .before .before .before .kind-in .ensures) ∙ c .before .before .before .if2 .left) _ _ (c .before .before .start-of .ensures) (c .before .end-of .ensures) (c .input-typed .ensures)
 
 pub input-place-spec : {M : Type 1} → statement M
 input-place-spec =

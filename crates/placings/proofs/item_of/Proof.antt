@@ -11,10 +11,10 @@ unknown-requires : tie.Need-unknown-requires
 unknown-requires c κs = search needs
 
 returns : tie.Need-returns
-returns c = items-none (c .before .before .before .args .p) (λ z. c .before .if1 .taken (rw (c .before .before .nullable-of .ensures) z)) (c .unknown .result) (c .unknown .ensures)
+returns c = items-none (c .before .before .before .args .p) (c .before .before .nullable-of .result) (c .before .before .nullable-of .ensures) (c .before .if1 .taken) (c .unknown .result) (c .unknown .ensures)
 
 returns-2 : tie.Need-returns-2
-returns-2 c = rw (c .before .nullable-of .ensures) (items-some (c .before .before .args .p) (rw (← c .before .nullable-of .ensures) (c .if1 .left)))
+returns-2 c = items-some (c .before .before .args .p) (c .before .nullable-of .result) (c .before .nullable-of .ensures) (c .if1 .left)
 
 pub item-of-spec : {M : Type 1} → statement M
 item-of-spec = tie.close (tie.spec nullable-of-requires unknown-requires returns returns-2)

@@ -8,7 +8,9 @@ use Rattle.placings.proofs.place_of.Statement.{statement}
 use Rattle.placings.proofs.place_of.Tie as tie
 
 returns : tie.Need-returns
-returns c = sym (in-none (c .before .before .before .before .before .args .rows .now) (c .before .before .before .before .before .args .n) (c .before .before .before .before .before .args .at .now) (c .before .before .before .before .before .args .size .now) (c .before .before .before .before .before .args .wrappers .now) (c .before .before .before .before .before .args .i) (c .if1 .taken))
+returns c =
+    let s = c .before .before .before .before .before in
+    sym (in-none (s .args .rows .now) (s .args .n) (s .args .at .now) (s .args .size .now) (s .args .wrappers .now) (s .args .i) (c .if1 .taken))
 
 kind-of-requires : tie.Need-kind-of-requires
 kind-of-requires c κs = c .before .before .before .before .before .pre .0
@@ -17,7 +19,9 @@ encloses-requires : tie.Need-encloses-requires
 encloses-requires c κs = search needs
 
 returns-2 : tie.Need-returns-2
-returns-2 c = sym (in-enclosing (c .before .before .before .before .before .before .before .before .args .rows .now) (c .before .before .before .before .before .before .before .before .args .n) (c .before .before .before .before .before .before .before .before .args .at .now) (c .before .before .before .before .before .before .before .before .args .size .now) (c .before .before .before .before .before .before .before .before .args .wrappers .now) (c .before .before .before .before .before .before .before .before .args .i) (omega arith) (ap encloses (sym (c .before .before .kind-of .ensures)) ∙ sym (c .before .encloses .ensures) ∙ c .if2 .taken))
+returns-2 c =
+    let s = c .before .before .before .before .before .before .before .before in
+    sym (in-enclosing (s .args .rows .now) (s .args .n) (s .args .at .now) (s .args .size .now) (s .args .wrappers .now) (s .args .i) (omega arith) (ap encloses (sym (c .before .before .kind-of .ensures)) ∙ sym (c .before .encloses .ensures) ∙ c .if2 .taken))
 
 mul-t10 : tie.Need-mul-t10
 mul-t10 c = search needs
@@ -38,7 +42,9 @@ shared-slice-read-t17 : tie.Need-shared-slice-read-t17
 shared-slice-read-t17 c = search needs
 
 returns-3 : tie.Need-returns-3
-returns-3 c = sym (in-row (c .before .before .before .before .before .before .before .before .before .before .before .args .rows .now) (c .before .before .before .before .before .before .before .before .before .before .before .args .n) (c .before .before .before .before .before .before .before .before .before .before .before .args .at .now) (c .before .before .before .before .before .before .before .before .before .before .before .args .size .now) (c .before .before .before .before .before .before .before .before .before .before .before .args .wrappers .now) (c .before .before .before .before .before .before .before .before .before .before .before .args .i) (omega arith) (ap encloses (sym (c .before .before .before .before .before .kind-of .ensures)) ∙ sym (c .before .before .before .before .encloses .ensures) ∙ c .before .before .before .if2 .left))
+returns-3 c =
+    let s = c .before .before .before .before .before .before .before .before .before .before .before in
+    sym (in-row (s .args .rows .now) (s .args .n) (s .args .at .now) (s .args .size .now) (s .args .wrappers .now) (s .args .i) (omega arith) (ap encloses (sym (c .before .before .before .before .before .kind-of .ensures)) ∙ sym (c .before .before .before .before .encloses .ensures) ∙ c .before .before .before .if2 .left))
 
 pub place-of-spec : {M : Type 1} → statement M
 place-of-spec =

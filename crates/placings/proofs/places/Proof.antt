@@ -14,10 +14,14 @@ abbrev μ-loop : tie.MeasureT-loop
 μ-loop t book s rows n at₀ size₀ wrappers₀ i₀ at size wrappers i = n - i
 
 loop-holds : tie.Need-loop-holds Inv-loop μ-loop
-loop-holds c = (placed-start (c .before .before .before .before .before .before .before .args .t .now) (c .before .before .before .before .before .before .before .args .s .now) (c .before .before .before .before .before .before .before .args .rows .now) (c .before .before .before .before .before .before .before .args .n) (c .before .before .before .before .before .before .before .pre .2) (c .before .before .before .before .before .before .before .args .at .now) (c .before .before .before .before .before .before .before .args .size .now) (c .before .before .before .before .before .before .before .args .wrappers .now) (c .before .before .before .before .before .before .before .pre .3), omega arith)
+loop-holds c =
+    let s = c .before .before .before .before .before .before .before in
+    (placed-start (s .args .t .now) (s .args .s .now) (s .args .rows .now) (s .args .n) (s .pre .2) (s .args .at .now) (s .args .size .now) (s .args .wrappers .now) (s .pre .3), omega arith)
 
 keep-place-requires : tie.Need-keep-place-requires Inv-loop μ-loop
-keep-place-requires c κs = (c .before .before .before .before .before .before .before .before .before .before .before .before .pre .0, c .before .before .before .before .before .before .before .before .before .before .before .before .pre .1, c .before .before .before .before .before .before .before .before .before .before .before .before .pre .2, c .before .before .before .before .loop .inv .0, c .before .before .before .loop-test .taken)
+keep-place-requires c κs =
+    let s = c .before .before .before .before .before .before .before .before .before .before .before .before in
+    (s .pre .0, s .pre .1, s .pre .2, c .before .before .before .before .loop .inv .0, c .before .before .before .loop-test .taken)
 
 add-i : tie.Need-add-i Inv-loop μ-loop
 add-i c = omega (arith, c .before .before .before .before .before .before .before .before .before .before .loop-test .taken, c .before .before .before .before .before .before .before .before .before .before .before .before .before .before .before .before .before .before .before .pre .2 .few)
@@ -39,8 +43,10 @@ same-length-3 c = c .before .loop .inv .0 .enclosed .inners ∙ sym (c .before .
 
 returns : tie.Need-returns Inv-loop μ-loop
 returns c =
-    let e : c .before .loop .i ≡ c .before .before .before .before .before .before .before .before .before .args .n = omega (arith, c .loop-test .left, c .before .loop .inv .1) in
-    subst (λ k. Placed (c .before .before .before .before .before .before .before .before .before .args .t .now) (c .before .before .before .before .before .before .before .before .before .args .s .now) (c .before .before .before .before .before .before .before .before .before .args .rows .now) (c .before .before .before .before .before .before .before .before .before .args .n) (c .before .loop .at) (c .before .loop .size) (c .before .loop .wrappers) k) e (c .before .loop .inv .0)
+    let s = c .before .before .before .before .before .before .before .before .before in
+    let l = c .before .loop in
+    let e : l .i ≡ s .args .n = omega (arith, c .loop-test .left, l .inv .1) in
+    subst (λ k. Placed (s .args .t .now) (s .args .s .now) (s .args .rows .now) (s .args .n) (l .at) (l .size) (l .wrappers) k) e (l .inv .0)
 
 pub places-spec : {M : Type 1} → statement M
 places-spec =

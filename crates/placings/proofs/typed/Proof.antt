@@ -18,7 +18,9 @@ cast-t7 : tie.Need-cast-t7
 cast-t7 c = let w = c .before .before .type-in .ensures .within in omega (arith, c .before .before .before .before .pre .0 .most)
 
 returns : tie.Need-returns
-returns c = keeps-typed (c .before .before .before .before .args .t .now) _ _ _ _ _ (c .before .before .type-in .ensures) (c .before .before .before .before .pre .1) refl refl refl
+returns c =
+    let s = c .before .before .before .before in
+    keeps-typed (s .args .t .now) _ _ _ _ _ (c .before .before .type-in .ensures) (s .pre .1) refl refl refl
 
 pub typed-spec : {M : Type 1} → statement M
 typed-spec = tie.close (tie.spec type-in-requires cast-t5 add-t6 cast-t7 returns)

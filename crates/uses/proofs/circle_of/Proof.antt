@@ -17,7 +17,9 @@ same-length-2 : tie.Need-same-length-2
 same-length-2 c = search needs
 
 returns : tie.Need-returns
-returns c = (circled-by (docOf (c .before .before .before .before .before .before .before .before .before .before .before .before .before .before .before .args .s .now) (c .before .before .before .before .before .before .before .before .before .before .before .before .before .before .before .args .rows .now) (c .before .before .before .before .before .before .before .before .before .before .before .before .before .before .before .args .n)) (c .before .before .before .before .before .before .before .before .before .before .before .before .before .before .before .args .i) (c .before .before .before .before .before .circles .result) 8 (c .before .before .before .before .before .circles .ensures .0) (λ e. refl) (λ e. absurd (true≢false (sym (c .if1 .taken) ∙ e))), c .before .before .before .before .before .circles .ensures .1)
+returns c =
+    let s = c .before .before .before .before .before .before .before .before .before .before .before .before .before .before .before in
+    (circled-by (docOf (s .args .s .now) (s .args .rows .now) (s .args .n)) (s .args .i) (c .before .before .before .before .before .circles .result) 8 (c .before .before .before .before .before .circles .ensures .0) (λ e. refl) (λ e. absurd (true≢false (sym (c .if1 .taken) ∙ e))), c .before .before .before .before .before .circles .ensures .1)
 
 same-length-3 : tie.Need-same-length-3
 same-length-3 c = search needs
@@ -26,7 +28,9 @@ same-length-4 : tie.Need-same-length-4
 same-length-4 c = search needs
 
 returns-2 : tie.Need-returns-2
-returns-2 c = (circled-by (docOf (c .before .before .before .before .before .before .before .before .before .before .before .before .before .before .before .args .s .now) (c .before .before .before .before .before .before .before .before .before .before .before .before .before .before .before .args .rows .now) (c .before .before .before .before .before .before .before .before .before .before .before .before .before .before .before .args .n)) (c .before .before .before .before .before .before .before .before .before .before .before .before .before .before .before .args .i) (c .before .before .before .before .before .circles .result) 0 (c .before .before .before .before .before .circles .ensures .0) (λ e. absurd (true≢false (sym e ∙ c .if1 .left))) (λ e. refl), c .before .before .before .before .before .circles .ensures .1)
+returns-2 c =
+    let s = c .before .before .before .before .before .before .before .before .before .before .before .before .before .before .before in
+    (circled-by (docOf (s .args .s .now) (s .args .rows .now) (s .args .n)) (s .args .i) (c .before .before .before .before .before .circles .result) 0 (c .before .before .before .before .before .circles .ensures .0) (λ e. absurd (true≢false (sym e ∙ c .if1 .left))) (λ e. refl), c .before .before .before .before .before .circles .ensures .1)
 
 pub circle-of-spec : {M : Type 1} → statement M
 circle-of-spec =

@@ -18,35 +18,58 @@ abbrev μ-loop : tie.MeasureT-loop
 μ-loop s rows n first next o i j₀ j = n - j
 
 here : (c : tie.After-defines-it Inv-loop μ-loop)
-    → c .defines-it .result ≡ definesIt (docOf (c .before .before .before .before .before .before .before .before .args .s .now) (c .before .before .before .before .before .before .before .before .args .rows .now) (c .before .before .before .before .before .before .before .before .args .n)) (c .before .before .before .before .before .before .before .before .args .o) (nameOf (docOf (c .before .before .before .before .before .before .before .before .args .s .now) (c .before .before .before .before .before .before .before .before .args .rows .now) (c .before .before .before .before .before .before .before .before .args .n)) (c .before .before .before .before .before .before .before .before .args .i)) (rowIn (c .before .before .before .before .before .before .before .before .args .rows .now) (c .before .before .before .before .before .before .before .before .args .n) (c .before .before .loop .j))
+    → c .defines-it .result ≡ definesIt (docOf (c .before .before .before .before .before .before .before .before .before .args .s .now) (c .before .before .before .before .before .before .before .before .before .args .rows .now) (c .before .before .before .before .before .before .before .before .before .args .n)) (c .before .before .before .before .before .before .before .before .before .args .o) (nameOf (docOf (c .before .before .before .before .before .before .before .before .before .args .s .now) (c .before .before .before .before .before .before .before .before .before .args .rows .now) (c .before .before .before .before .before .before .before .before .before .args .n)) (c .before .before .before .before .before .before .before .before .before .args .i)) (rowIn (c .before .before .before .before .before .before .before .before .before .args .rows .now) (c .before .before .before .before .before .before .before .before .before .args .n) (c .before .before .before .loop .j))
 here c =
-    c .defines-it .ensures ∙ sym (defines-known (docOf (c .before .before .before .before .before .before .before .before .args .s .now) (c .before .before .before .before .before .before .before .before .args .rows .now) (c .before .before .before .before .before .before .before .before .args .n)) (c .before .before .before .before .before .before .before .before .args .o) (nameOf (docOf (c .before .before .before .before .before .before .before .before .args .s .now) (c .before .before .before .before .before .before .before .before .args .rows .now) (c .before .before .before .before .before .before .before .before .args .n)) (c .before .before .before .before .before .before .before .before .args .i)) (rowIn (c .before .before .before .before .before .before .before .before .args .rows .now) (c .before .before .before .before .before .before .before .before .args .n) (c .before .before .loop .j)) (c .before .before .loop .inv .on (c .before .loop-test .taken)))
+    let s = c .before .before .before .before .before .before .before .before .before in
+    let l = c .before .before .before .loop in
+    let d = docOf (s .args .s .now) (s .args .rows .now) (s .args .n) in
+    c .defines-it .ensures ∙ sym (defines-known d (s .args .o) (nameOf d (s .args .i)) (rowIn (s .args .rows .now) (s .args .n) (l .j)) (l .inv .on (c .before .before .loop-test .taken)))
 
 link-of-requires : tie.Need-link-of-requires Inv-loop μ-loop
-link-of-requires c κs = omega (arith, c .before .before .before .before .pre .1 .firsts, c .before .before .before .before .pre .2, c .before .before .before .before .pre .0 .few)
+link-of-requires c κs =
+    let s = c .before .before .before .before in
+    omega (arith, s .pre .1 .firsts, s .pre .2, s .pre .0 .few)
 
 loop-holds : tie.Need-loop-holds Inv-loop μ-loop
-loop-holds c = family-start (c .before .before .before .before .before .args .rows .now) (c .before .before .before .before .before .args .n) (c .before .before .before .before .before .args .first .now) (c .before .before .before .before .before .args .next .now) (c .before .before .before .before .before .pre .1) (c .before .before .before .before .before .args .o) (definesIt (docOf (c .before .before .before .before .before .args .s .now) (c .before .before .before .before .before .args .rows .now) (c .before .before .before .before .before .args .n)) (c .before .before .before .before .before .args .o) (nameOf (docOf (c .before .before .before .before .before .args .s .now) (c .before .before .before .before .before .args .rows .now) (c .before .before .before .before .before .args .n)) (c .before .before .before .before .before .args .i))) (omega (arith, c .before .before .before .before .before .pre .2, c .before .before .before .before .before .pre .0 .few)) (λ r e. defines-below (docOf (c .before .before .before .before .before .args .s .now) (c .before .before .before .before .before .args .rows .now) (c .before .before .before .before .before .args .n)) (c .before .before .before .before .before .args .o) (nameOf (docOf (c .before .before .before .before .before .args .s .now) (c .before .before .before .before .before .args .rows .now) (c .before .before .before .before .before .args .n)) (c .before .before .before .before .before .args .i)) r e) (c .link-of .ensures)
-
-defines-it-requires : tie.Need-defines-it-requires Inv-loop μ-loop
-defines-it-requires c κs = c .before .before .before .before .before .before .before .pre .0
-
-returns : tie.Need-returns Inv-loop μ-loop
-returns c = walk-first noRow (below (c .before .before .before .before .before .before .before .before .before .args .o)) (definesIt (docOf (c .before .before .before .before .before .before .before .before .before .args .s .now) (c .before .before .before .before .before .before .before .before .before .args .rows .now) (c .before .before .before .before .before .before .before .before .before .args .n)) (c .before .before .before .before .before .before .before .before .before .args .o) (nameOf (docOf (c .before .before .before .before .before .before .before .before .before .args .s .now) (c .before .before .before .before .before .before .before .before .before .args .rows .now) (c .before .before .before .before .before .before .before .before .before .args .n)) (c .before .before .before .before .before .before .before .before .before .args .i))) (rowsIn (c .before .before .before .before .before .before .before .before .before .args .rows .now) (c .before .before .before .before .before .before .before .before .before .args .n)) (c .before .before .before .before .before .before .before .before .before .args .n) (c .before .before .before .loop .j) (c .before .before .before .loop .inv) (c .before .before .loop-test .taken) (sym (here (c .before)) ∙ c .if1 .taken)
+loop-holds c =
+    let s = c .before .before .before .before .before in
+    let d = docOf (s .args .s .now) (s .args .rows .now) (s .args .n) in
+    family-start (s .args .rows .now) (s .args .n) (s .args .first .now) (s .args .next .now) (s .pre .1) (s .args .o) (definesIt d (s .args .o) (nameOf d (s .args .i))) (omega (arith, s .pre .2, s .pre .0 .few)) (λ r e. defines-below d (s .args .o) (nameOf d (s .args .i)) r e) (c .link-of .ensures)
 
 link-of-requires-2 : tie.Need-link-of-requires-2 Inv-loop μ-loop
-link-of-requires-2 c κs = family-room (c .before .before .before .before .before .before .before .before .before .args .rows .now) (c .before .before .before .before .before .before .before .before .before .args .n) (c .before .before .before .before .before .before .before .before .before .args .first .now) (c .before .before .before .before .before .before .before .before .before .args .next .now) (c .before .before .before .before .before .before .before .before .before .pre .1) (c .before .before .before .loop .j) (c .before .before .loop-test .taken) (c .before .before .before .before .before .before .before .before .before .pre .0 .few)
+link-of-requires-2 c κs =
+    let s = c .before .before .before .before .before .before .before in
+    family-room (s .args .rows .now) (s .args .n) (s .args .first .now) (s .args .next .now) (s .pre .1) (c .before .loop .j) (c .loop-test .taken) (s .pre .0 .few)
+
+defines-it-requires : tie.Need-defines-it-requires Inv-loop μ-loop
+defines-it-requires c κs = c .before .before .before .before .before .before .before .before .pre .0
+
+returns : tie.Need-returns Inv-loop μ-loop
+returns c =
+    let s = c .before .before .before .before .before .before .before .before .before .before in
+    let l = c .before .before .before .before .loop in
+    let d = docOf (s .args .s .now) (s .args .rows .now) (s .args .n) in
+    walk-first noRow (below (s .args .o)) (definesIt d (s .args .o) (nameOf d (s .args .i))) (rowsIn (s .args .rows .now) (s .args .n)) (s .args .n) (l .j) (l .inv) (c .before .before .before .loop-test .taken) (sym (here (c .before)) ∙ c .if1 .taken)
 
 loop-less : tie.Need-loop-less Inv-loop μ-loop
 loop-less c =
-    let l = family-less (c .before .before .before .before .before .before .before .before .before .before .args .rows .now) (c .before .before .before .before .before .before .before .before .before .before .args .n) (c .before .before .before .before .before .before .before .before .before .before .args .first .now) (c .before .before .before .before .before .before .before .before .before .before .args .next .now) (c .before .before .before .before .before .before .before .before .before .before .pre .1) (c .before .before .before .before .loop .j) (c .before .before .before .loop-test .taken) (c .link-of2 .ensures) in
+    let s = c .before .before .before .before .before .before .before .before .before .before in
+    let m = family-less (s .args .rows .now) (s .args .n) (s .args .first .now) (s .args .next .now) (s .pre .1) (c .before .before .before .before .loop .j) (c .before .before .before .loop-test .taken) (c .before .before .link-of2 .ensures) in
     omega (arith, c .before .before .before .loop-test .taken)
 
 loop-again : tie.Need-loop-again Inv-loop μ-loop
-loop-again c = family-next (c .before .before .before .before .before .before .before .before .before .before .args .rows .now) (c .before .before .before .before .before .before .before .before .before .before .args .n) (c .before .before .before .before .before .before .before .before .before .before .args .first .now) (c .before .before .before .before .before .before .before .before .before .before .args .next .now) (c .before .before .before .before .before .before .before .before .before .before .pre .1) (c .before .before .before .before .before .before .before .before .before .before .args .o) (definesIt (docOf (c .before .before .before .before .before .before .before .before .before .before .args .s .now) (c .before .before .before .before .before .before .before .before .before .before .args .rows .now) (c .before .before .before .before .before .before .before .before .before .before .args .n)) (c .before .before .before .before .before .before .before .before .before .before .args .o) (nameOf (docOf (c .before .before .before .before .before .before .before .before .before .before .args .s .now) (c .before .before .before .before .before .before .before .before .before .before .args .rows .now) (c .before .before .before .before .before .before .before .before .before .before .args .n)) (c .before .before .before .before .before .before .before .before .before .before .args .i))) 0 (c .before .before .before .before .loop .j) (c .before .before .before .before .loop .inv) (c .before .before .before .loop-test .taken) (sym (here (c .before .before)) ∙ c .before .if1 .left) (c .link-of2 .ensures)
+loop-again c =
+    let s = c .before .before .before .before .before .before .before .before .before .before in
+    let l = c .before .before .before .before .loop in
+    let d = docOf (s .args .s .now) (s .args .rows .now) (s .args .n) in
+    family-next (s .args .rows .now) (s .args .n) (s .args .first .now) (s .args .next .now) (s .pre .1) (s .args .o) (definesIt d (s .args .o) (nameOf d (s .args .i))) 0 (l .j) (l .inv) (c .before .before .before .loop-test .taken) (sym (here (c .before)) ∙ c .if1 .left) (c .before .before .link-of2 .ensures)
 
 returns-2 : tie.Need-returns-2 Inv-loop μ-loop
-returns-2 c = end-first noRow (below (c .before .before .before .before .before .before .before .args .o)) (definesIt (docOf (c .before .before .before .before .before .before .before .args .s .now) (c .before .before .before .before .before .before .before .args .rows .now) (c .before .before .before .before .before .before .before .args .n)) (c .before .before .before .before .before .before .before .args .o) (nameOf (docOf (c .before .before .before .before .before .before .before .args .s .now) (c .before .before .before .before .before .before .before .args .rows .now) (c .before .before .before .before .before .before .before .args .n)) (c .before .before .before .before .before .before .before .args .i))) (rowsIn (c .before .before .before .before .before .before .before .args .rows .now) (c .before .before .before .before .before .before .before .args .n)) (c .before .before .before .before .before .before .before .args .n) (c .before .loop .j) (c .before .loop .inv) (c .loop-test .left)
+returns-2 c =
+    let s = c .before .before .before .before .before .before .before in
+    let l = c .before .loop in
+    let d = docOf (s .args .s .now) (s .args .rows .now) (s .args .n) in
+    end-first noRow (below (s .args .o)) (definesIt d (s .args .o) (nameOf d (s .args .i))) (rowsIn (s .args .rows .now) (s .args .n)) (s .args .n) (l .j) (l .inv) (c .loop-test .left)
 
 pub definition-of-spec : {M : Type 1} → statement M
 definition-of-spec =
@@ -56,9 +79,9 @@ definition-of-spec =
     μ-loop
     link-of-requires
     loop-holds
+    link-of-requires-2
     defines-it-requires
     returns
-    link-of-requires-2
     loop-less
     loop-again
     returns-2)

@@ -10,7 +10,9 @@ use Rattle.uses.proofs.differs.Statement.{statement}
 use Rattle.uses.proofs.differs.Tie as tie
 
 returns : tie.Need-returns
-returns c = differ-unknown (c .before .before .before .before .before .args .t .now) (shapeIn (docOf (c .before .before .before .before .before .args .s .now) (c .before .before .before .before .before .args .rows .now) (c .before .before .before .before .before .args .n)) (rowIn (c .before .before .before .before .before .args .rows .now) (c .before .before .before .before .before .args .n) (c .before .before .before .before .before .args .r))) (c .before .before .before .before .before .args .p) (c .if1 .taken)
+returns c =
+    let s = c .before .before .before .before .before in
+    differ-unknown (s .args .t .now) (shapeIn (docOf (s .args .s .now) (s .args .rows .now) (s .args .n)) (rowIn (s .args .rows .now) (s .args .n) (s .args .r))) (s .args .p) (c .if1 .taken)
 
 extra-of-requires : tie.Need-extra-of-requires
 extra-of-requires c κs = rowed-sized (c .before .before .before .before .before .pre .0)
@@ -22,7 +24,9 @@ nullable-of-requires-2 : tie.Need-nullable-of-requires-2
 nullable-of-requires-2 c κs = search needs
 
 returns-2 : tie.Need-returns-2
-returns-2 c = differ-wrappers (c .before .before .before .before .before .before .before .before .before .args .t .now) (shapeIn (docOf (c .before .before .before .before .before .before .before .before .before .args .s .now) (c .before .before .before .before .before .before .before .before .before .args .rows .now) (c .before .before .before .before .before .before .before .before .before .args .n)) (rowIn (c .before .before .before .before .before .before .before .before .before .args .rows .now) (c .before .before .before .before .before .before .before .before .before .args .n) (c .before .before .before .before .before .before .before .before .before .args .r))) (c .before .before .before .before .before .before .before .before .before .args .p) (c .before .before .before .before .if1 .left) (λ z. c .if2 .taken (c .before .before .nullable-of .ensures ∙ ap nullable (c .before .before .before .extra-of .ensures) ∙ z ∙ sym (c .before .nullable-of2 .ensures)))
+returns-2 c =
+    let s = c .before .before .before .before .before .before .before .before .before in
+    differ-wrappers (s .args .t .now) (shapeIn (docOf (s .args .s .now) (s .args .rows .now) (s .args .n)) (rowIn (s .args .rows .now) (s .args .n) (s .args .r))) (s .args .p) (c .before .before .before .before .if1 .left) (λ z. c .if2 .taken (c .before .before .nullable-of .ensures ∙ ap nullable (c .before .before .before .extra-of .ensures) ∙ z ∙ sym (c .before .nullable-of2 .ensures)))
 
 slice-aggregate-is-called : tie.Need-slice-aggregate-is-called
 slice-aggregate-is-called c = search needs
@@ -31,7 +35,9 @@ is-called-requires : tie.Need-is-called-requires
 is-called-requires c κs = (c .before .before .before .before .before .before .before .before .before .before .before .before .pre .0, omega arith)
 
 returns-3 : tie.Need-returns-3
-returns-3 c = differ-boolean (c .before .before .before .before .before .before .before .before .before .before .before .before .before .args .t .now) (shapeIn (docOf (c .before .before .before .before .before .before .before .before .before .before .before .before .before .args .s .now) (c .before .before .before .before .before .before .before .before .before .before .before .before .before .args .rows .now) (c .before .before .before .before .before .before .before .before .before .before .before .before .before .args .n)) (rowIn (c .before .before .before .before .before .before .before .before .before .before .before .before .before .args .rows .now) (c .before .before .before .before .before .before .before .before .before .before .before .before .before .args .n) (c .before .before .before .before .before .before .before .before .before .before .before .before .before .args .r))) (c .before .before .before .before .before .before .before .before .before .before .before .before .before .args .p) (c .before .before .before .before .before .before .before .before .if1 .left) (sym (c .before .before .before .before .before .before .nullable-of .ensures ∙ ap nullable (c .before .before .before .before .before .before .before .extra-of .ensures)) ∙ c .before .before .before .before .if2 .left ∙ c .before .before .before .before .before .nullable-of2 .ensures) (c .before .before .if3 .taken) (c .is-called .ensures)
+returns-3 c =
+    let s = c .before .before .before .before .before .before .before .before .before .before .before .before .before in
+    differ-boolean (s .args .t .now) (shapeIn (docOf (s .args .s .now) (s .args .rows .now) (s .args .n)) (rowIn (s .args .rows .now) (s .args .n) (s .args .r))) (s .args .p) (c .before .before .before .before .before .before .before .before .if1 .left) (sym (c .before .before .before .before .before .before .nullable-of .ensures ∙ ap nullable (c .before .before .before .before .before .before .before .extra-of .ensures)) ∙ c .before .before .before .before .if2 .left ∙ c .before .before .before .before .before .nullable-of2 .ensures) (c .before .before .if3 .taken) (c .is-called .ensures)
 
 sub-is-called : tie.Need-sub-is-called
 sub-is-called c = search needs
@@ -43,10 +49,14 @@ cast-is-called-2 : tie.Need-cast-is-called-2
 cast-is-called-2 c = search needs
 
 is-called-requires-2 : tie.Need-is-called-requires-2
-is-called-requires-2 c κs = (c .before .before .before .before .before .before .before .before .before .before .before .before .before .pre .0, c .before .before .before .before .before .before .before .before .before .before .before .before .before .pre .1 (omega (arith, c .before .before .before .before .before .before .before .before .if1 .left, c .before .before .if3 .left)))
+is-called-requires-2 c κs =
+    let s = c .before .before .before .before .before .before .before .before .before .before .before .before .before in
+    (s .pre .0, s .pre .1 (omega (arith, c .before .before .before .before .before .before .before .before .if1 .left, c .before .before .if3 .left)))
 
 returns-4 : tie.Need-returns-4
-returns-4 c = differ-base (c .before .before .before .before .before .before .before .before .before .before .before .before .before .before .args .t .now) (shapeIn (docOf (c .before .before .before .before .before .before .before .before .before .before .before .before .before .before .args .s .now) (c .before .before .before .before .before .before .before .before .before .before .before .before .before .before .args .rows .now) (c .before .before .before .before .before .before .before .before .before .before .before .before .before .before .args .n)) (rowIn (c .before .before .before .before .before .before .before .before .before .before .before .before .before .before .args .rows .now) (c .before .before .before .before .before .before .before .before .before .before .before .before .before .before .args .n) (c .before .before .before .before .before .before .before .before .before .before .before .before .before .before .args .r))) (c .before .before .before .before .before .before .before .before .before .before .before .before .before .before .args .p) (c .before .before .before .before .before .before .before .before .before .if1 .left) (sym (c .before .before .before .before .before .before .before .nullable-of .ensures ∙ ap nullable (c .before .before .before .before .before .before .before .before .extra-of .ensures)) ∙ c .before .before .before .before .before .if2 .left ∙ c .before .before .before .before .before .before .nullable-of2 .ensures) (c .before .before .before .if3 .left) (c .is-called2 .ensures)
+returns-4 c =
+    let s = c .before .before .before .before .before .before .before .before .before .before .before .before .before .before in
+    differ-base (s .args .t .now) (shapeIn (docOf (s .args .s .now) (s .args .rows .now) (s .args .n)) (rowIn (s .args .rows .now) (s .args .n) (s .args .r))) (s .args .p) (c .before .before .before .before .before .before .before .before .before .if1 .left) (sym (c .before .before .before .before .before .before .before .nullable-of .ensures ∙ ap nullable (c .before .before .before .before .before .before .before .before .extra-of .ensures)) ∙ c .before .before .before .before .before .if2 .left ∙ c .before .before .before .before .before .before .nullable-of2 .ensures) (c .before .before .before .if3 .left) (c .is-called2 .ensures)
 
 pub differs-spec : {M : Type 1} → statement M
 differs-spec =

@@ -23,12 +23,15 @@ abbrev μ-loop : tie.MeasureT-loop
 below : (c : tie.In-loop Inv-loop μ-loop)
     → c .before .loop .f < count (docOf (c .before .before .before .before .before .before .before .before .before .before .before .before .before .args .s .now) (c .before .before .before .before .before .before .before .before .before .before .before .before .before .args .rows .now) (c .before .before .before .before .before .before .before .before .before .before .before .before .before .args .n))
 below c =
-    omega (arith, rows-count (c .before .before .before .before .before .before .before .before .before .before .before .before .before .args .rows .now) (c .before .before .before .before .before .before .before .before .before .before .before .before .before .args .n), c .loop-test .taken)
+    let s = c .before .before .before .before .before .before .before .before .before .before .before .before .before in
+    omega (arith, rows-count (s .args .rows .now) (s .args .n), c .loop-test .taken)
 
 fragment : (c : tie.In-loop Inv-loop μ-loop)
     → is kindFragment (rowIn (c .before .before .before .before .before .before .before .before .before .before .before .before .before .args .rows .now) (c .before .before .before .before .before .before .before .before .before .before .before .before .before .args .n) (c .before .loop .f)) ≡ true
 fragment c =
-    eq-eqb (rowIn (c .before .before .before .before .before .before .before .before .before .before .before .before .before .args .rows .now) (c .before .before .before .before .before .before .before .before .before .before .before .before .before .args .n) (c .before .loop .f) .kind) kindFragment (c .before .loop .inv .at (below c))
+    let s = c .before .before .before .before .before .before .before .before .before .before .before .before .before in
+    let l = c .before .loop in
+    eq-eqb (rowIn (s .args .rows .now) (s .args .n) (l .f) .kind) kindFragment (l .inv .at (below c))
 
 cast-link-of : tie.Need-cast-link-of Inv-loop μ-loop
 cast-link-of c = search needs
@@ -37,10 +40,16 @@ link-of-requires : tie.Need-link-of-requires Inv-loop μ-loop
 link-of-requires c κs = omega (arith, c .before .before .before .before .before .before .before .before .before .before .pre .1 .firsts)
 
 loop-holds : tie.Need-loop-holds Inv-loop μ-loop
-loop-holds c = fragments-start (docOf (c .before .before .before .before .before .before .before .before .before .before .before .args .s .now) (c .before .before .before .before .before .before .before .before .before .before .before .args .rows .now) (c .before .before .before .before .before .before .before .before .before .before .before .args .n)) (c .before .before .before .before .before .before .before .before .before .before .before .args .flag .now) (c .before .before .before .before .before .before .before .before .before .before .before .args .mark .now) (c .before .before .before .before .before .before .before .before .before .before .before .args .stack .now) (c .link-of .result) (kind-next (docOf (c .before .before .before .before .before .before .before .before .before .before .before .args .s .now) (c .before .before .before .before .before .before .before .before .before .before .before .args .rows .now) (c .before .before .before .before .before .before .before .before .before .before .before .args .n)) kindFragment 0 (omega arith) (kinds-first (c .before .before .before .before .before .before .before .before .before .before .before .args .rows .now) (c .before .before .before .before .before .before .before .before .before .before .before .args .n) (c .before .before .before .before .before .before .before .before .before .before .before .args .firstk .now) (c .before .before .before .before .before .before .before .before .before .before .before .args .nextk .now) (c .before .before .before .before .before .before .before .before .before .before .before .pre .1) kindFragment (omega arith) (c .link-of .ensures))) (c .before .before .before .before .before .before .before .before .before .before .before .pre .5) (c .before .before .before .before .before .before .before .before .before .before .before .pre .3) (c .before .before .before .before .before .before .before .before .before .before .before .pre .4)
+loop-holds c =
+    let s = c .before .before .before .before .before .before .before .before .before .before .before in
+    let d = docOf (s .args .s .now) (s .args .rows .now) (s .args .n) in
+    fragments-start d (s .args .flag .now) (s .args .mark .now) (s .args .stack .now) (c .link-of .result) (kind-next d kindFragment 0 (omega arith) (kinds-first (s .args .rows .now) (s .args .n) (s .args .firstk .now) (s .args .nextk .now) (s .pre .1) kindFragment (omega arith) (c .link-of .ensures))) (s .pre .5) (s .pre .3) (s .pre .4)
 
 circle-of-requires : tie.Need-circle-of-requires Inv-loop μ-loop
-circle-of-requires c κs = (c .before .before .before .before .before .before .before .before .before .before .before .before .before .before .before .pre .0, c .before .before .before .before .before .before .before .before .before .before .before .before .before .before .before .pre .2, c .before .before .before .loop .inv .stamped, c .before .before .before .loop .inv .stacked)
+circle-of-requires c κs =
+    let s = c .before .before .before .before .before .before .before .before .before .before .before .before .before .before .before in
+    let l = c .before .before .before .loop in
+    (s .pre .0, s .pre .2, l .inv .stamped, l .inv .stacked)
 
 mul-flag : tie.Need-mul-flag Inv-loop μ-loop
 mul-flag c = omega (arith, c .before .before .before .before .before .before .before .loop-test .taken, c .before .before .before .before .before .before .before .before .before .before .before .before .before .before .before .before .before .before .before .before .pre .0 .few)
@@ -49,13 +58,21 @@ slice-write-flag : tie.Need-slice-write-flag Inv-loop μ-loop
 slice-write-flag c = omega (arith, c .before .before .before .before .before .before .before .loop-test .taken, c .before .before .before .before .before .before .before .before .before .before .before .before .before .before .before .before .before .before .before .before .pre .0 .few, c .before .before .before .before .before .before .before .before .loop .inv .size)
 
 link-of-requires-2 : tie.Need-link-of-requires-2 Inv-loop μ-loop
-link-of-requires-2 c κs = kinds-room (c .before .before .before .before .before .before .before .before .before .before .before .before .before .before .before .before .before .before .before .before .args .rows .now) (c .before .before .before .before .before .before .before .before .before .before .before .before .before .before .before .before .before .before .before .before .args .n) (c .before .before .before .before .before .before .before .before .before .before .before .before .before .before .before .before .before .before .before .before .args .firstk .now) (c .before .before .before .before .before .before .before .before .before .before .before .before .before .before .before .before .before .before .before .before .args .nextk .now) (c .before .before .before .before .before .before .before .before .before .before .before .before .before .before .before .before .before .before .before .before .pre .1) (c .before .before .before .before .before .before .before .before .loop .f) (c .before .before .before .before .before .before .before .loop-test .taken) (c .before .before .before .before .before .before .before .before .before .before .before .before .before .before .before .before .before .before .before .before .pre .0 .few)
+link-of-requires-2 c κs =
+    let s = c .before .before .before .before .before .before .before .before .before .before .before .before .before .before .before .before .before .before .before .before in
+    kinds-room (s .args .rows .now) (s .args .n) (s .args .firstk .now) (s .args .nextk .now) (s .pre .1) (c .before .before .before .before .before .before .before .before .loop .f) (c .before .before .before .before .before .before .before .loop-test .taken) (s .pre .0 .few)
 
 loop-less : tie.Need-loop-less Inv-loop μ-loop
-loop-less c = omega (arith, c .before .before .before .before .before .before .before .before .loop-test .taken, kinds-less (c .before .before .before .before .before .before .before .before .before .before .before .before .before .before .before .before .before .before .before .before .before .args .rows .now) (c .before .before .before .before .before .before .before .before .before .before .before .before .before .before .before .before .before .before .before .before .before .args .n) (c .before .before .before .before .before .before .before .before .before .before .before .before .before .before .before .before .before .before .before .before .before .args .firstk .now) (c .before .before .before .before .before .before .before .before .before .before .before .before .before .before .before .before .before .before .before .before .before .args .nextk .now) (c .before .before .before .before .before .before .before .before .before .before .before .before .before .before .before .before .before .before .before .before .before .pre .1) kindFragment (c .before .before .before .before .before .before .before .before .before .loop .f) (omega arith) (c .before .before .before .before .before .before .before .before .loop-test .taken) (fragment (c .before .before .before .before .before .before .before .before)) (c .link-of2 .ensures))
+loop-less c =
+    let s = c .before .before .before .before .before .before .before .before .before .before .before .before .before .before .before .before .before .before .before .before .before in
+    omega (arith, c .before .before .before .before .before .before .before .before .loop-test .taken, kinds-less (s .args .rows .now) (s .args .n) (s .args .firstk .now) (s .args .nextk .now) (s .pre .1) kindFragment (c .before .before .before .before .before .before .before .before .before .loop .f) (omega arith) (c .before .before .before .before .before .before .before .before .loop-test .taken) (fragment (c .before .before .before .before .before .before .before .before)) (c .link-of2 .ensures))
 
 loop-again : tie.Need-loop-again Inv-loop μ-loop
-loop-again c = fragments-more (docOf (c .before .before .before .before .before .before .before .before .before .before .before .before .before .before .before .before .before .before .before .before .before .args .s .now) (c .before .before .before .before .before .before .before .before .before .before .before .before .before .before .before .before .before .before .before .before .before .args .rows .now) (c .before .before .before .before .before .before .before .before .before .before .before .before .before .before .before .before .before .before .before .before .before .args .n)) _ _ _ _ _ _ (c .before .before .before .before .before .before .before .before .before .loop .f) (c .before .before .before .before .before .circle-of .result) (c .link-of2 .result) (c .before .before .before .before .before .before .before .before .before .loop .inv) (below (c .before .before .before .before .before .before .before .before)) (omega (arith, rows-count (c .before .before .before .before .before .before .before .before .before .before .before .before .before .before .before .before .before .before .before .before .before .args .rows .now) (c .before .before .before .before .before .before .before .before .before .before .before .before .before .before .before .before .before .before .before .before .before .args .n), c .before .before .before .before .before .before .before .before .before .before .before .before .before .before .before .before .before .before .before .before .before .pre .0 .few)) (kind-next (docOf (c .before .before .before .before .before .before .before .before .before .before .before .before .before .before .before .before .before .before .before .before .before .args .s .now) (c .before .before .before .before .before .before .before .before .before .before .before .before .before .before .before .before .before .before .before .before .before .args .rows .now) (c .before .before .before .before .before .before .before .before .before .before .before .before .before .before .before .before .before .before .before .before .before .args .n)) kindFragment (suc (c .before .before .before .before .before .before .before .before .before .loop .f)) (below (c .before .before .before .before .before .before .before .before)) (kinds-after (c .before .before .before .before .before .before .before .before .before .before .before .before .before .before .before .before .before .before .before .before .before .args .rows .now) (c .before .before .before .before .before .before .before .before .before .before .before .before .before .before .before .before .before .before .before .before .before .args .n) (c .before .before .before .before .before .before .before .before .before .before .before .before .before .before .before .before .before .before .before .before .before .args .firstk .now) (c .before .before .before .before .before .before .before .before .before .before .before .before .before .before .before .before .before .before .before .before .before .args .nextk .now) (c .before .before .before .before .before .before .before .before .before .before .before .before .before .before .before .before .before .before .before .before .before .pre .1) kindFragment (c .before .before .before .before .before .before .before .before .before .loop .f) (omega arith) (c .before .before .before .before .before .before .before .before .loop-test .taken) (fragment (c .before .before .before .before .before .before .before .before)) (c .link-of2 .ensures))) (c .before .before .before .before .before .circle-of .ensures .0) (c .before .before .before .before .before .circle-of .ensures .1) (c .before .before .before .before .before .circle-of .kept .1 .1 .1 .1 .1 .1 .1 .0 ∙ c .before .before .before .before .before .before .before .before .before .loop .inv .stacked)
+loop-again c =
+    let s = c .before .before .before .before .before .before .before .before .before .before .before .before .before .before .before .before .before .before .before .before .before in
+    let l = c .before .before .before .before .before .before .before .before .before .loop in
+    let d = docOf (s .args .s .now) (s .args .rows .now) (s .args .n) in
+    fragments-more d _ _ _ _ _ _ (l .f) (c .before .before .before .before .before .circle-of .result) (c .link-of2 .result) (l .inv) (below (c .before .before .before .before .before .before .before .before)) (omega (arith, rows-count (s .args .rows .now) (s .args .n), s .pre .0 .few)) (kind-next d kindFragment (suc (l .f)) (below (c .before .before .before .before .before .before .before .before)) (kinds-after (s .args .rows .now) (s .args .n) (s .args .firstk .now) (s .args .nextk .now) (s .pre .1) kindFragment (l .f) (omega arith) (c .before .before .before .before .before .before .before .before .loop-test .taken) (fragment (c .before .before .before .before .before .before .before .before)) (c .link-of2 .ensures))) (c .before .before .before .before .before .circle-of .ensures .0) (c .before .before .before .before .before .circle-of .ensures .1) (c .before .before .before .before .before .circle-of .kept .1 .1 .1 .1 .1 .1 .1 .0 ∙ l .inv .stacked)
 
 same-length : tie.Need-same-length Inv-loop μ-loop
 same-length c = c .before .loop .inv .stamped .size ∙ sym (c .before .before .before .before .before .before .before .before .before .before .before .before .before .pre .3 .size)
@@ -67,7 +84,10 @@ same-length-3 : tie.Need-same-length-3 Inv-loop μ-loop
 same-length-3 c = c .before .loop .inv .size ∙ sym (c .before .before .before .before .before .before .before .before .before .before .before .before .before .pre .5)
 
 returns : tie.Need-returns Inv-loop μ-loop
-returns c = fragments-end (docOf (c .before .before .before .before .before .before .before .before .before .before .before .before .before .args .s .now) (c .before .before .before .before .before .before .before .before .before .before .before .before .before .args .rows .now) (c .before .before .before .before .before .before .before .before .before .before .before .before .before .args .n)) _ _ _ _ (c .before .loop .f) (c .before .before .before .before .before .before .before .before .before .before .before .before .before .args .n) (c .before .loop .inv) (omega (arith, rows-count (c .before .before .before .before .before .before .before .before .before .before .before .before .before .args .rows .now) (c .before .before .before .before .before .before .before .before .before .before .before .before .before .args .n), c .loop-test .left)) (sym (rows-count (c .before .before .before .before .before .before .before .before .before .before .before .before .before .args .rows .now) (c .before .before .before .before .before .before .before .before .before .before .before .before .before .args .n)))
+returns c =
+    let s = c .before .before .before .before .before .before .before .before .before .before .before .before .before in
+    let l = c .before .loop in
+    fragments-end (docOf (s .args .s .now) (s .args .rows .now) (s .args .n)) _ _ _ _ (l .f) (s .args .n) (l .inv) (omega (arith, rows-count (s .args .rows .now) (s .args .n), c .loop-test .left)) (sym (rows-count (s .args .rows .now) (s .args .n)))
 
 pub judge-fragments-spec : {M : Type 1} → statement M
 judge-fragments-spec =

@@ -25,7 +25,8 @@ abbrev μ-loop : tie.MeasureT-loop
 below : (c : tie.In-loop Inv-loop μ-loop)
     → (c .before .loop .o) < count (docOf (c .before .before .before .before .before .before .before .before .before .before .before .before .before .before .before .before .before .before .before .before .args .s .now) (c .before .before .before .before .before .before .before .before .before .before .before .before .before .before .before .before .before .before .before .before .args .rows .now) (c .before .before .before .before .before .before .before .before .before .before .before .before .before .before .before .before .before .before .before .before .args .n))
 below c =
-    omega (arith, rows-count (c .before .before .before .before .before .before .before .before .before .before .before .before .before .before .before .before .before .before .before .before .args .rows .now) (c .before .before .before .before .before .before .before .before .before .before .before .before .before .before .before .before .before .before .before .before .args .n), c .loop-test .taken)
+    let s = c .before .before .before .before .before .before .before .before .before .before .before .before .before .before .before .before .before .before .before .before in
+    omega (arith, rows-count (s .args .rows .now) (s .args .n), c .loop-test .taken)
 
 kind : (c : tie.In-loop Inv-loop μ-loop)
     → kindOf (docOf (c .before .before .before .before .before .before .before .before .before .before .before .before .before .before .before .before .before .before .before .before .args .s .now) (c .before .before .before .before .before .before .before .before .before .before .before .before .before .before .before .before .before .before .before .before .args .rows .now) (c .before .before .before .before .before .before .before .before .before .before .before .before .before .before .before .before .before .before .before .before .args .n)) (c .before .loop .o) ≡ kindOperation
@@ -39,22 +40,39 @@ link-of-requires : tie.Need-link-of-requires Inv-loop μ-loop
 link-of-requires c κs = omega (arith, c .before .before .before .before .before .before .before .before .before .before .before .before .before .before .before .before .before .pre .1 .firsts)
 
 loop-holds : tie.Need-loop-holds Inv-loop μ-loop
-loop-holds c = operations-next (tableOf (c .before .before .before .before .before .before .before .before .before .before .before .before .before .before .before .before .before .before .args .t .now)) (docOf (c .before .before .before .before .before .before .before .before .before .before .before .before .before .before .before .before .before .before .args .s .now) (c .before .before .before .before .before .before .before .before .before .before .before .before .before .before .before .before .before .before .args .rows .now) (c .before .before .before .before .before .before .before .before .before .before .before .before .before .before .before .before .before .before .args .n)) (c .before .before .before .before .before .before .before .before .before .before .before .before .before .before .before .before .before .before .args .n) (c .before .before .before .before .before .before .before .before .before .before .before .before .before .before .before .before .before .before .args .flag .now) (c .before .before .before .before .before .before .before .before .before .before .before .before .before .before .before .before .before .before .args .mark .now) (c .before .before .before .before .before .before .before .before .before .before .before .before .before .before .before .before .before .before .args .stack .now) 0 (c .link-of .result) (kind-next (docOf (c .before .before .before .before .before .before .before .before .before .before .before .before .before .before .before .before .before .before .args .s .now) (c .before .before .before .before .before .before .before .before .before .before .before .before .before .before .before .before .before .before .args .rows .now) (c .before .before .before .before .before .before .before .before .before .before .before .before .before .before .before .before .before .before .args .n)) kindOperation 0 (omega arith) (kinds-first (c .before .before .before .before .before .before .before .before .before .before .before .before .before .before .before .before .before .before .args .rows .now) (c .before .before .before .before .before .before .before .before .before .before .before .before .before .before .before .before .before .before .args .n) (c .before .before .before .before .before .before .before .before .before .before .before .before .before .before .before .before .before .before .args .firstk .now) (c .before .before .before .before .before .before .before .before .before .before .before .before .before .before .before .before .before .before .args .nextk .now) (c .before .before .before .before .before .before .before .before .before .before .before .before .before .before .before .before .before .before .pre .1) kindOperation (omega arith) (c .link-of .ensures))) (c .before .before .before .before .before .before .before .before .before .before .before .before .before .before .before .before .before .before .pre .5) (c .before .before .before .before .before .before .before .before .before .before .before .before .before .before .before .before .before .before .pre .3) (c .before .before .before .before .before .before .before .before .before .before .before .before .before .before .before .before .before .before .pre .4)
+loop-holds c =
+    let s = c .before .before .before .before .before .before .before .before .before .before .before .before .before .before .before .before .before .before in
+    let d = docOf (s .args .s .now) (s .args .rows .now) (s .args .n) in
+    operations-next (tableOf (s .args .t .now)) d (s .args .n) (s .args .flag .now) (s .args .mark .now) (s .args .stack .now) 0 (c .link-of .result) (kind-next d kindOperation 0 (omega arith) (kinds-first (s .args .rows .now) (s .args .n) (s .args .firstk .now) (s .args .nextk .now) (s .pre .1) kindOperation (omega arith) (c .link-of .ensures))) (s .pre .5) (s .pre .3) (s .pre .4)
 
 reach-requires : tie.Need-reach-requires Inv-loop μ-loop
-reach-requires c κs = (c .before .before .before .before .before .before .before .before .before .before .before .before .before .before .before .before .before .before .before .before .before .before .pre .2, operation-defines (docOf (c .before .before .before .before .before .before .before .before .before .before .before .before .before .before .before .before .before .before .before .before .before .before .args .s .now) (c .before .before .before .before .before .before .before .before .before .before .before .before .before .before .before .before .before .before .before .before .before .before .args .rows .now) (c .before .before .before .before .before .before .before .before .before .before .before .before .before .before .before .before .before .before .before .before .before .before .args .n)) (c .before .before .before .loop .o) (kind (c .before .before)), c .before .before .before .loop .inv .stamped, c .before .before .before .loop .inv .stacked)
+reach-requires c κs =
+    let s = c .before .before .before .before .before .before .before .before .before .before .before .before .before .before .before .before .before .before .before .before .before .before in
+    let l = c .before .before .before .loop in
+    (s .pre .2, operation-defines (docOf (s .args .s .now) (s .args .rows .now) (s .args .n)) (l .o) (kind (c .before .before)), l .inv .stamped, l .inv .stacked)
 
 judge-variables-requires : tie.Need-judge-variables-requires Inv-loop μ-loop
-judge-variables-requires c κs = (c .before .before .before .before .before .before .before .before .before .before .before .before .before .before .before .before .before .before .before .before .before .before .before .before .before .before .before .before .before .pre .0, c .before .before .before .before .before .before .before .before .before .before .before .before .before .before .before .before .before .before .before .before .before .before .before .before .before .before .before .before .before .pre .1, c .before .before .before .before .before .before .reach .ensures, kind (c .before .before .before .before .before .before .before .before .before), c .before .before .before .before .before .before .before .before .before .before .loop .inv .flags)
+judge-variables-requires c κs =
+    let s = c .before .before .before .before .before .before .before .before .before .before .before .before .before .before .before .before .before .before .before .before .before .before .before .before .before .before .before .before .before in
+    (s .pre .0, s .pre .1, c .before .before .before .before .before .before .reach .ensures, kind (c .before .before .before .before .before .before .before .before .before), c .before .before .before .before .before .before .before .before .before .before .loop .inv .flags)
 
 link-of-requires-2 : tie.Need-link-of-requires-2 Inv-loop μ-loop
-link-of-requires-2 c κs = kinds-room (c .before .before .before .before .before .before .before .before .before .before .before .before .before .before .before .before .before .before .before .before .before .before .before .before .before .before .before .before .before .before .before .before .args .rows .now) (c .before .before .before .before .before .before .before .before .before .before .before .before .before .before .before .before .before .before .before .before .before .before .before .before .before .before .before .before .before .before .before .before .args .n) (c .before .before .before .before .before .before .before .before .before .before .before .before .before .before .before .before .before .before .before .before .before .before .before .before .before .before .before .before .before .before .before .before .args .firstk .now) (c .before .before .before .before .before .before .before .before .before .before .before .before .before .before .before .before .before .before .before .before .before .before .before .before .before .before .before .before .before .before .before .before .args .nextk .now) (c .before .before .before .before .before .before .before .before .before .before .before .before .before .before .before .before .before .before .before .before .before .before .before .before .before .before .before .before .before .before .before .before .pre .1) (c .before .before .before .before .before .before .before .before .before .before .before .before .before .loop .o) (c .before .before .before .before .before .before .before .before .before .before .before .before .loop-test .taken) (c .before .before .before .before .before .before .before .before .before .before .before .before .before .before .before .before .before .before .before .before .before .before .before .before .before .before .before .before .before .before .before .before .pre .0 .rowed .few)
+link-of-requires-2 c κs =
+    let s = c .before .before .before .before .before .before .before .before .before .before .before .before .before .before .before .before .before .before .before .before .before .before .before .before .before .before .before .before .before .before .before .before in
+    kinds-room (s .args .rows .now) (s .args .n) (s .args .firstk .now) (s .args .nextk .now) (s .pre .1) (c .before .before .before .before .before .before .before .before .before .before .before .before .before .loop .o) (c .before .before .before .before .before .before .before .before .before .before .before .before .loop-test .taken) (s .pre .0 .rowed .few)
 
 loop-less : tie.Need-loop-less Inv-loop μ-loop
-loop-less c = omega (arith, c .before .before .before .before .before .before .before .before .before .before .before .before .before .loop-test .taken, kinds-less (c .before .before .before .before .before .before .before .before .before .before .before .before .before .before .before .before .before .before .before .before .before .before .before .before .before .before .before .before .before .before .before .before .before .args .rows .now) (c .before .before .before .before .before .before .before .before .before .before .before .before .before .before .before .before .before .before .before .before .before .before .before .before .before .before .before .before .before .before .before .before .before .args .n) (c .before .before .before .before .before .before .before .before .before .before .before .before .before .before .before .before .before .before .before .before .before .before .before .before .before .before .before .before .before .before .before .before .before .args .firstk .now) (c .before .before .before .before .before .before .before .before .before .before .before .before .before .before .before .before .before .before .before .before .before .before .before .before .before .before .before .before .before .before .before .before .before .args .nextk .now) (c .before .before .before .before .before .before .before .before .before .before .before .before .before .before .before .before .before .before .before .before .before .before .before .before .before .before .before .before .before .before .before .before .before .pre .1) kindOperation (c .before .before .before .before .before .before .before .before .before .before .before .before .before .before .loop .o) (omega arith) (c .before .before .before .before .before .before .before .before .before .before .before .before .before .loop-test .taken) (eq-eqb (rowIn (c .before .before .before .before .before .before .before .before .before .before .before .before .before .before .before .before .before .before .before .before .before .before .before .before .before .before .before .before .before .before .before .before .before .args .rows .now) (c .before .before .before .before .before .before .before .before .before .before .before .before .before .before .before .before .before .before .before .before .before .before .before .before .before .before .before .before .before .before .before .before .before .args .n) (c .before .before .before .before .before .before .before .before .before .before .before .before .before .before .loop .o) .kind) kindOperation (kind (c .before .before .before .before .before .before .before .before .before .before .before .before .before))) (c .link-of2 .ensures))
+loop-less c =
+    let s = c .before .before .before .before .before .before .before .before .before .before .before .before .before .before .before .before .before .before .before .before .before .before .before .before .before .before .before .before .before .before .before .before .before in
+    let l = c .before .before .before .before .before .before .before .before .before .before .before .before .before .before .loop in
+    omega (arith, c .before .before .before .before .before .before .before .before .before .before .before .before .before .loop-test .taken, kinds-less (s .args .rows .now) (s .args .n) (s .args .firstk .now) (s .args .nextk .now) (s .pre .1) kindOperation (l .o) (omega arith) (c .before .before .before .before .before .before .before .before .before .before .before .before .before .loop-test .taken) (eq-eqb (rowIn (s .args .rows .now) (s .args .n) (l .o) .kind) kindOperation (kind (c .before .before .before .before .before .before .before .before .before .before .before .before .before))) (c .link-of2 .ensures))
 
 loop-again : tie.Need-loop-again Inv-loop μ-loop
-loop-again c = operations-next (tableOf (c .before .before .before .before .before .before .before .before .before .before .before .before .before .before .before .before .before .before .before .before .before .before .before .before .before .before .before .before .before .before .before .before .before .args .t .now)) (docOf (c .before .before .before .before .before .before .before .before .before .before .before .before .before .before .before .before .before .before .before .before .before .before .before .before .before .before .before .before .before .before .before .before .before .args .s .now) (c .before .before .before .before .before .before .before .before .before .before .before .before .before .before .before .before .before .before .before .before .before .before .before .before .before .before .before .before .before .before .before .before .before .args .rows .now) (c .before .before .before .before .before .before .before .before .before .before .before .before .before .before .before .before .before .before .before .before .before .before .before .before .before .before .before .before .before .before .before .before .before .args .n)) (c .before .before .before .before .before .before .before .before .before .before .before .before .before .before .before .before .before .before .before .before .before .before .before .before .before .before .before .before .before .before .before .before .before .args .n) _ _ _ ((c .before .before .before .before .before .before .before .before .before .before .before .before .before .before .loop .o) + 1) (c .link-of2 .result) (rw (add-one (c .before .before .before .before .before .before .before .before .before .before .before .before .before .before .loop .o)) (kind-next (docOf (c .before .before .before .before .before .before .before .before .before .before .before .before .before .before .before .before .before .before .before .before .before .before .before .before .before .before .before .before .before .before .before .before .before .args .s .now) (c .before .before .before .before .before .before .before .before .before .before .before .before .before .before .before .before .before .before .before .before .before .before .before .before .before .before .before .before .before .before .before .before .before .args .rows .now) (c .before .before .before .before .before .before .before .before .before .before .before .before .before .before .before .before .before .before .before .before .before .before .before .before .before .before .before .before .before .before .before .before .before .args .n)) kindOperation (suc (c .before .before .before .before .before .before .before .before .before .before .before .before .before .before .loop .o)) (below (c .before .before .before .before .before .before .before .before .before .before .before .before .before)) (kinds-after (c .before .before .before .before .before .before .before .before .before .before .before .before .before .before .before .before .before .before .before .before .before .before .before .before .before .before .before .before .before .before .before .before .before .args .rows .now) (c .before .before .before .before .before .before .before .before .before .before .before .before .before .before .before .before .before .before .before .before .before .before .before .before .before .before .before .before .before .before .before .before .before .args .n) (c .before .before .before .before .before .before .before .before .before .before .before .before .before .before .before .before .before .before .before .before .before .before .before .before .before .before .before .before .before .before .before .before .before .args .firstk .now) (c .before .before .before .before .before .before .before .before .before .before .before .before .before .before .before .before .before .before .before .before .before .before .before .before .before .before .before .before .before .before .before .before .before .args .nextk .now) (c .before .before .before .before .before .before .before .before .before .before .before .before .before .before .before .before .before .before .before .before .before .before .before .before .before .before .before .before .before .before .before .before .before .pre .1) kindOperation (c .before .before .before .before .before .before .before .before .before .before .before .before .before .before .loop .o) (omega arith) (c .before .before .before .before .before .before .before .before .before .before .before .before .before .loop-test .taken) (eq-eqb (rowIn (c .before .before .before .before .before .before .before .before .before .before .before .before .before .before .before .before .before .before .before .before .before .before .before .before .before .before .before .before .before .before .before .before .before .args .rows .now) (c .before .before .before .before .before .before .before .before .before .before .before .before .before .before .before .before .before .before .before .before .before .before .before .before .before .before .before .before .before .before .before .before .before .args .n) (c .before .before .before .before .before .before .before .before .before .before .before .before .before .before .loop .o) .kind) kindOperation (kind (c .before .before .before .before .before .before .before .before .before .before .before .before .before))) (c .link-of2 .ensures)))) (c .before .before .before .judge-variables .ensures) (c .before .before .before .before .before .before .before .before .before .before .reach .ensures .stamped) (c .before .before .before .before .before .before .before .before .before .before .reach .kept .1 .1 .1 .1 .1 .1 .1 .0 ∙ c .before .before .before .before .before .before .before .before .before .before .before .before .before .before .loop .inv .stacked)
+loop-again c =
+    let s = c .before .before .before .before .before .before .before .before .before .before .before .before .before .before .before .before .before .before .before .before .before .before .before .before .before .before .before .before .before .before .before .before .before in
+    let l = c .before .before .before .before .before .before .before .before .before .before .before .before .before .before .loop in
+    let d = docOf (s .args .s .now) (s .args .rows .now) (s .args .n) in
+    operations-next (tableOf (s .args .t .now)) d (s .args .n) _ _ _ ((l .o) + 1) (c .link-of2 .result) (rw (add-one (l .o)) (kind-next d kindOperation (suc (l .o)) (below (c .before .before .before .before .before .before .before .before .before .before .before .before .before)) (kinds-after (s .args .rows .now) (s .args .n) (s .args .firstk .now) (s .args .nextk .now) (s .pre .1) kindOperation (l .o) (omega arith) (c .before .before .before .before .before .before .before .before .before .before .before .before .before .loop-test .taken) (eq-eqb (rowIn (s .args .rows .now) (s .args .n) (l .o) .kind) kindOperation (kind (c .before .before .before .before .before .before .before .before .before .before .before .before .before))) (c .link-of2 .ensures)))) (c .before .before .before .judge-variables .ensures) (c .before .before .before .before .before .before .before .before .before .before .reach .ensures .stamped) (c .before .before .before .before .before .before .before .before .before .before .reach .kept .1 .1 .1 .1 .1 .1 .1 .0 ∙ l .inv .stacked)
 
 same-length : tie.Need-same-length Inv-loop μ-loop
 same-length c = c .before .loop .inv .stamped .size ∙ sym (c .before .before .before .before .before .before .before .before .before .before .before .before .before .before .before .before .before .before .before .before .pre .3 .size)
@@ -66,7 +84,10 @@ same-length-3 : tie.Need-same-length-3 Inv-loop μ-loop
 same-length-3 c = c .before .loop .inv .flags .size ∙ sym (c .before .before .before .before .before .before .before .before .before .before .before .before .before .before .before .before .before .before .before .before .pre .5 .size)
 
 returns : tie.Need-returns Inv-loop μ-loop
-returns c = operations-end (tableOf (c .before .before .before .before .before .before .before .before .before .before .before .before .before .before .before .before .before .before .before .before .args .t .now)) (docOf (c .before .before .before .before .before .before .before .before .before .before .before .before .before .before .before .before .before .before .before .before .args .s .now) (c .before .before .before .before .before .before .before .before .before .before .before .before .before .before .before .before .before .before .before .before .args .rows .now) (c .before .before .before .before .before .before .before .before .before .before .before .before .before .before .before .before .before .before .before .before .args .n)) (c .before .before .before .before .before .before .before .before .before .before .before .before .before .before .before .before .before .before .before .before .args .n) _ _ _ (c .before .loop .o) (c .before .before .before .before .before .before .before .before .before .before .before .before .before .before .before .before .before .before .before .before .args .n) (c .before .loop .inv) (omega (arith, rows-count (c .before .before .before .before .before .before .before .before .before .before .before .before .before .before .before .before .before .before .before .before .args .rows .now) (c .before .before .before .before .before .before .before .before .before .before .before .before .before .before .before .before .before .before .before .before .args .n), c .loop-test .left)) (sym (rows-count (c .before .before .before .before .before .before .before .before .before .before .before .before .before .before .before .before .before .before .before .before .args .rows .now) (c .before .before .before .before .before .before .before .before .before .before .before .before .before .before .before .before .before .before .before .before .args .n)))
+returns c =
+    let s = c .before .before .before .before .before .before .before .before .before .before .before .before .before .before .before .before .before .before .before .before in
+    let l = c .before .loop in
+    operations-end (tableOf (s .args .t .now)) (docOf (s .args .s .now) (s .args .rows .now) (s .args .n)) (s .args .n) _ _ _ (l .o) (s .args .n) (l .inv) (omega (arith, rows-count (s .args .rows .now) (s .args .n), c .loop-test .left)) (sym (rows-count (s .args .rows .now) (s .args .n)))
 
 pub judge-operations-spec : {M : Type 1} → statement M
 judge-operations-spec =

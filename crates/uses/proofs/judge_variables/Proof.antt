@@ -25,12 +25,15 @@ abbrev μ-loop : tie.MeasureT-loop
 below : (c : tie.In-loop Inv-loop μ-loop)
     → (c .before .loop .i) < count (docOf (c .before .before .before .before .before .before .before .before .before .before .before .before .before .before .before .before .args .s .now) (c .before .before .before .before .before .before .before .before .before .before .before .before .before .before .before .before .args .rows .now) (c .before .before .before .before .before .before .before .before .before .before .before .before .before .before .before .before .args .n))
 below c =
-    omega (arith, rows-count (c .before .before .before .before .before .before .before .before .before .before .before .before .before .before .before .before .args .rows .now) (c .before .before .before .before .before .before .before .before .before .before .before .before .before .before .before .before .args .n), c .loop-test .taken)
+    let s = c .before .before .before .before .before .before .before .before .before .before .before .before .before .before .before .before in
+    omega (arith, rows-count (s .args .rows .now) (s .args .n), c .loop-test .taken)
 
 variable : (c : tie.In-loop Inv-loop μ-loop)
     → is kindVariable (rowIn (c .before .before .before .before .before .before .before .before .before .before .before .before .before .before .before .before .args .rows .now) (c .before .before .before .before .before .before .before .before .before .before .before .before .before .before .before .before .args .n) (c .before .loop .i)) ≡ true
 variable c =
-    eq-eqb (rowIn (c .before .before .before .before .before .before .before .before .before .before .before .before .before .before .before .before .args .rows .now) (c .before .before .before .before .before .before .before .before .before .before .before .before .before .before .before .before .args .n) (c .before .loop .i) .kind) kindVariable (c .before .loop .inv .at (below c))
+    let s = c .before .before .before .before .before .before .before .before .before .before .before .before .before .before .before .before in
+    let l = c .before .loop in
+    eq-eqb (rowIn (s .args .rows .now) (s .args .n) (l .i) .kind) kindVariable (l .inv .at (below c))
 
 cast-link-of : tie.Need-cast-link-of Inv-loop μ-loop
 cast-link-of c = search needs
@@ -39,7 +42,10 @@ link-of-requires : tie.Need-link-of-requires Inv-loop μ-loop
 link-of-requires c κs = omega (arith, c .before .before .before .before .before .before .before .before .before .before .before .before .before .pre .1 .firsts)
 
 loop-holds : tie.Need-loop-holds Inv-loop μ-loop
-loop-holds c = variables-start (tableOf (c .before .before .before .before .before .before .before .before .before .before .before .before .before .before .args .t .now)) (docOf (c .before .before .before .before .before .before .before .before .before .before .before .before .before .before .args .s .now) (c .before .before .before .before .before .before .before .before .before .before .before .before .before .before .args .rows .now) (c .before .before .before .before .before .before .before .before .before .before .before .before .before .before .args .n)) (c .before .before .before .before .before .before .before .before .before .before .before .before .before .before .args .n) (c .before .before .before .before .before .before .before .before .before .before .before .before .before .before .args .o) (c .before .before .before .before .before .before .before .before .before .before .before .before .before .before .args .flag .now) (c .link-of .result) (kind-next (docOf (c .before .before .before .before .before .before .before .before .before .before .before .before .before .before .args .s .now) (c .before .before .before .before .before .before .before .before .before .before .before .before .before .before .args .rows .now) (c .before .before .before .before .before .before .before .before .before .before .before .before .before .before .args .n)) kindVariable 0 (omega arith) (kinds-first (c .before .before .before .before .before .before .before .before .before .before .before .before .before .before .args .rows .now) (c .before .before .before .before .before .before .before .before .before .before .before .before .before .before .args .n) (c .before .before .before .before .before .before .before .before .before .before .before .before .before .before .args .firstk .now) (c .before .before .before .before .before .before .before .before .before .before .before .before .before .before .args .nextk .now) (c .before .before .before .before .before .before .before .before .before .before .before .before .before .before .pre .1) kindVariable (omega arith) (c .link-of .ensures))) (c .before .before .before .before .before .before .before .before .before .before .before .before .before .before .pre .4)
+loop-holds c =
+    let s = c .before .before .before .before .before .before .before .before .before .before .before .before .before .before in
+    let d = docOf (s .args .s .now) (s .args .rows .now) (s .args .n) in
+    variables-start (tableOf (s .args .t .now)) d (s .args .n) (s .args .o) (s .args .flag .now) (c .link-of .result) (kind-next d kindVariable 0 (omega arith) (kinds-first (s .args .rows .now) (s .args .n) (s .args .firstk .now) (s .args .nextk .now) (s .pre .1) kindVariable (omega arith) (c .link-of .ensures))) (s .pre .4)
 
 mul-f : tie.Need-mul-f Inv-loop μ-loop
 mul-f c = omega (arith, c .loop-test .taken, c .before .before .before .before .before .before .before .before .before .before .before .before .before .before .before .before .pre .0 .rowed .few)
@@ -48,7 +54,10 @@ slice-read-f : tie.Need-slice-read-f Inv-loop μ-loop
 slice-read-f c = omega (arith, c .before .loop-test .taken, c .before .before .before .before .before .before .before .before .before .before .before .before .before .before .before .before .before .pre .0 .rowed .few, c .before .before .loop .inv .size)
 
 lesser-requires : tie.Need-lesser-requires Inv-loop μ-loop
-lesser-requires c κs = (c .before .before .before .before .before .before .before .before .before .before .before .before .before .before .before .before .before .pre .0, c .before .before .before .before .before .before .before .before .before .before .before .before .before .before .before .before .before .pre .2, c .before .before .before .before .before .before .before .before .before .before .before .before .before .before .before .before .before .pre .3, c .before .loop-test .taken, c .before .before .loop .inv .left (c .before .before .loop .i) (le-refl (c .before .before .loop .i)) (c .before .before .loop .inv .at (below (c .before))))
+lesser-requires c κs =
+    let s = c .before .before .before .before .before .before .before .before .before .before .before .before .before .before .before .before .before in
+    let l = c .before .before .loop in
+    (s .pre .0, s .pre .2, s .pre .3, c .before .loop-test .taken, l .inv .left (l .i) (le-refl (l .i)) (l .inv .at (below (c .before))))
 
 mul-flag : tie.Need-mul-flag Inv-loop μ-loop
 mul-flag c = omega (arith, c .before .before .loop-test .taken, c .before .before .before .before .before .before .before .before .before .before .before .before .before .before .before .before .before .before .pre .0 .rowed .few)
@@ -57,19 +66,30 @@ slice-write-flag : tie.Need-slice-write-flag Inv-loop μ-loop
 slice-write-flag c = omega (arith, c .before .before .loop-test .taken, c .before .before .before .before .before .before .before .before .before .before .before .before .before .before .before .before .before .before .pre .0 .rowed .few, c .before .before .before .loop .inv .size)
 
 link-of-requires-2 : tie.Need-link-of-requires-2 Inv-loop μ-loop
-link-of-requires-2 c κs = kinds-room (c .before .before .before .before .before .before .before .before .before .before .before .before .before .before .before .before .before .before .args .rows .now) (c .before .before .before .before .before .before .before .before .before .before .before .before .before .before .before .before .before .before .args .n) (c .before .before .before .before .before .before .before .before .before .before .before .before .before .before .before .before .before .before .args .firstk .now) (c .before .before .before .before .before .before .before .before .before .before .before .before .before .before .before .before .before .before .args .nextk .now) (c .before .before .before .before .before .before .before .before .before .before .before .before .before .before .before .before .before .before .pre .1) (c .before .before .before .loop .i) (c .before .before .loop-test .taken) (c .before .before .before .before .before .before .before .before .before .before .before .before .before .before .before .before .before .before .pre .0 .rowed .few)
+link-of-requires-2 c κs =
+    let s = c .before .before .before .before .before .before .before .before .before .before .before .before .before .before .before .before .before .before in
+    kinds-room (s .args .rows .now) (s .args .n) (s .args .firstk .now) (s .args .nextk .now) (s .pre .1) (c .before .before .before .loop .i) (c .before .before .loop-test .taken) (s .pre .0 .rowed .few)
 
 loop-less : tie.Need-loop-less Inv-loop μ-loop
-loop-less c = omega (arith, c .before .before .before .loop-test .taken, kinds-less (c .before .before .before .before .before .before .before .before .before .before .before .before .before .before .before .before .before .before .before .args .rows .now) (c .before .before .before .before .before .before .before .before .before .before .before .before .before .before .before .before .before .before .before .args .n) (c .before .before .before .before .before .before .before .before .before .before .before .before .before .before .before .before .before .before .before .args .firstk .now) (c .before .before .before .before .before .before .before .before .before .before .before .before .before .before .before .before .before .before .before .args .nextk .now) (c .before .before .before .before .before .before .before .before .before .before .before .before .before .before .before .before .before .before .before .pre .1) kindVariable (c .before .before .before .before .loop .i) (omega arith) (c .before .before .before .loop-test .taken) (variable (c .before .before .before)) (c .link-of2 .ensures))
+loop-less c =
+    let s = c .before .before .before .before .before .before .before .before .before .before .before .before .before .before .before .before .before .before .before in
+    omega (arith, c .before .before .before .loop-test .taken, kinds-less (s .args .rows .now) (s .args .n) (s .args .firstk .now) (s .args .nextk .now) (s .pre .1) kindVariable (c .before .before .before .before .loop .i) (omega arith) (c .before .before .before .loop-test .taken) (variable (c .before .before .before)) (c .link-of2 .ensures))
 
 loop-again : tie.Need-loop-again Inv-loop μ-loop
-loop-again c = variables-more (tableOf (c .before .before .before .before .before .before .before .before .before .before .before .before .before .before .before .before .before .before .before .args .t .now)) (docOf (c .before .before .before .before .before .before .before .before .before .before .before .before .before .before .before .before .before .before .before .args .s .now) (c .before .before .before .before .before .before .before .before .before .before .before .before .before .before .before .before .before .before .before .args .rows .now) (c .before .before .before .before .before .before .before .before .before .before .before .before .before .before .before .before .before .before .before .args .n)) (c .before .before .before .before .before .before .before .before .before .before .before .before .before .before .before .before .before .before .before .args .n) (c .before .before .before .before .before .before .before .before .before .before .before .before .before .before .before .before .before .before .before .args .o) (c .before .before .before .before .loop .flag) (c .before .before .before .before .loop .i) (c .before .before .before .before .loop .inv) (c .before .lesser .result) (c .link-of2 .result) (below (c .before .before .before)) (omega (arith, rows-count (c .before .before .before .before .before .before .before .before .before .before .before .before .before .before .before .before .before .before .before .args .rows .now) (c .before .before .before .before .before .before .before .before .before .before .before .before .before .before .before .before .before .before .before .args .n), c .before .before .before .before .before .before .before .before .before .before .before .before .before .before .before .before .before .before .before .pre .0 .rowed .few)) (kind-next (docOf (c .before .before .before .before .before .before .before .before .before .before .before .before .before .before .before .before .before .before .before .args .s .now) (c .before .before .before .before .before .before .before .before .before .before .before .before .before .before .before .before .before .before .before .args .rows .now) (c .before .before .before .before .before .before .before .before .before .before .before .before .before .before .before .before .before .before .before .args .n)) kindVariable (suc (c .before .before .before .before .loop .i)) (below (c .before .before .before)) (kinds-after (c .before .before .before .before .before .before .before .before .before .before .before .before .before .before .before .before .before .before .before .args .rows .now) (c .before .before .before .before .before .before .before .before .before .before .before .before .before .before .before .before .before .before .before .args .n) (c .before .before .before .before .before .before .before .before .before .before .before .before .before .before .before .before .before .before .before .args .firstk .now) (c .before .before .before .before .before .before .before .before .before .before .before .before .before .before .before .before .before .before .before .args .nextk .now) (c .before .before .before .before .before .before .before .before .before .before .before .before .before .before .before .before .before .before .before .pre .1) kindVariable (c .before .before .before .before .loop .i) (omega arith) (c .before .before .before .loop-test .taken) (variable (c .before .before .before)) (c .link-of2 .ensures))) (c .before .lesser .ensures)
+loop-again c =
+    let s = c .before .before .before .before .before .before .before .before .before .before .before .before .before .before .before .before .before .before .before in
+    let l = c .before .before .before .before .loop in
+    let d = docOf (s .args .s .now) (s .args .rows .now) (s .args .n) in
+    variables-more (tableOf (s .args .t .now)) d (s .args .n) (s .args .o) (l .flag) (l .i) (l .inv) (c .before .lesser .result) (c .link-of2 .result) (below (c .before .before .before)) (omega (arith, rows-count (s .args .rows .now) (s .args .n), s .pre .0 .rowed .few)) (kind-next d kindVariable (suc (l .i)) (below (c .before .before .before)) (kinds-after (s .args .rows .now) (s .args .n) (s .args .firstk .now) (s .args .nextk .now) (s .pre .1) kindVariable (l .i) (omega arith) (c .before .before .before .loop-test .taken) (variable (c .before .before .before)) (c .link-of2 .ensures))) (c .before .lesser .ensures)
 
 same-length : tie.Need-same-length Inv-loop μ-loop
 same-length c = c .before .loop .inv .size ∙ sym (c .before .before .before .before .before .before .before .before .before .before .before .before .before .before .before .before .pre .4 .size)
 
 returns : tie.Need-returns Inv-loop μ-loop
-returns c = variables-end (tableOf (c .before .before .before .before .before .before .before .before .before .before .before .before .before .before .before .before .args .t .now)) (docOf (c .before .before .before .before .before .before .before .before .before .before .before .before .before .before .before .before .args .s .now) (c .before .before .before .before .before .before .before .before .before .before .before .before .before .before .before .before .args .rows .now) (c .before .before .before .before .before .before .before .before .before .before .before .before .before .before .before .before .args .n)) (c .before .before .before .before .before .before .before .before .before .before .before .before .before .before .before .before .args .n) (c .before .before .before .before .before .before .before .before .before .before .before .before .before .before .before .before .args .o) (c .before .loop .flag) (c .before .loop .i) (c .before .loop .inv) (omega (arith, rows-count (c .before .before .before .before .before .before .before .before .before .before .before .before .before .before .before .before .args .rows .now) (c .before .before .before .before .before .before .before .before .before .before .before .before .before .before .before .before .args .n), c .loop-test .left))
+returns c =
+    let s = c .before .before .before .before .before .before .before .before .before .before .before .before .before .before .before .before in
+    let l = c .before .loop in
+    variables-end (tableOf (s .args .t .now)) (docOf (s .args .s .now) (s .args .rows .now) (s .args .n)) (s .args .n) (s .args .o) (l .flag) (l .i) (l .inv) (omega (arith, rows-count (s .args .rows .now) (s .args .n), c .loop-test .left))
 
 pub judge-variables-spec : {M : Type 1} → statement M
 judge-variables-spec =
