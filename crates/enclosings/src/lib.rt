@@ -27,7 +27,7 @@ ghost use Rattle.composites.specs.Coded.{typeCoded, Fielded};
 ghost use Rattle.enclosings.specs.Enclosed.{encloses, typeKept, conditions, Asked, EnclosedTo, Enclosed};
 
 // Has a row of this kind a type inside?
-fn encloses(kind: u32) -> bool
+pub fn encloses(kind: u32) -> bool
     ensures { λ r. ⌜ r ≡ encloses kind ⌝ }
 {
     if kind == KIND_OPERATION {
