@@ -2,3 +2,5 @@
 pub mod BrokenAt
 pub mod JudgedOne
 pub mod DocumentCallsOne
+pub mod WorkedRules
+pub mod ExamplesRules
