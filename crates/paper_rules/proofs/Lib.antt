@@ -4,3 +4,4 @@ pub mod JudgedOne
 pub mod DocumentCallsOne
 pub mod WorkedRules
 pub mod ExamplesRules
+pub mod ExamplesReaching

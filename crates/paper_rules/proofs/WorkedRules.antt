@@ -39,11 +39,11 @@ tableT =
 abbrev pub tableS : List ℕ
 tableS =
     object "Query" (
-      field "a" "Int" [] ++ field "q" "Query" [] ++ field "u" "U" [] ++
-      field "f" "Int" (
-        argument "x" "Int" ++ argument "y" "[Int]" ++ argument "m" "[Int!]" ++ argument "k" "[[Int]]" ++ argument "i" "In" ++ argument "l" "[In]" ++
-        argument "s" "Own" ++ argument "e" "E" ++ argument "d" "ID" ++ argument "fl" "Float" ++ argument "st" "String" ++ argument "b" "Boolean") ++
-      field "g" "Int" (argument "n" "Int!")) ++
+    field "a" "Int" [] ++ field "q" "Query" [] ++ field "u" "U" [] ++
+    field "f" "Int" (
+    argument "x" "Int" ++ argument "y" "[Int]" ++ argument "m" "[Int!]" ++ argument "k" "[[Int]]" ++ argument "i" "In" ++ argument "l" "[In]" ++
+    argument "s" "Own" ++ argument "e" "E" ++ argument "d" "ID" ++ argument "fl" "Float" ++ argument "st" "String" ++ argument "b" "Boolean") ++
+    field "g" "Int" (argument "n" "Int!")) ++
     object "O" (field "a" "Int" [] ++ field "o" "O" []) ++
     union "U" (member "Query" ++ member "O") ++
     input "In" (argument "n" "Int!" ++ argument "x" "Int") ++
