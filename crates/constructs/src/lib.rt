@@ -1,5 +1,4 @@
 // A document's rows, read from the lent numbers. A row that is not there has no kind and no parent.
-use paper::MOST_ROWS;
 use paper::NO_PARENT;
 use paper::ROW_SIZE;
 ghost use mathlib.Core.Path.{_≡_};
