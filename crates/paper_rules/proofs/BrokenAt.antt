@@ -1,19 +1,16 @@
--- At a row of each kind few rules can be broken: the least of them that is broken is found by trying these in order.
+-- At a row of each kind few rules can be broken; and what is so where one is.
 use mathlib.Core.Path.{_≡_, refl, sym, ap, _∙_, subst}
 use mathlib.Core.Logic.{_⊎_, inl, inr}
 use mathlib.Core.Bool.{Bool, true, false, _&&_, _||_, cond, true≢false}
 use mathlib.Core.List.{List, [], _∷_}
-use Prim.Native.Nat.{ℕ, zero, suc, _≤_, _<_}
-use native.Mathlib.Omega.{arith}
-use lib.ListN.{length, getD, List·getD-eq-default}
-use lib.Dec.{T, eqb, ltb, eqb→eq, ltb→lt}
-use borrow.Author.Tests.{ne-eqb}
+use Prim.Native.Nat.{ℕ, _≤_}
+use lib.ListN.{List·getD-eq-default}
+use lib.Dec.{T, eqb, ltb, eqb→eq}
 use Rattle.paper.specs.Numbers.{kindOperation, kindFragment, kindField, kindSpread, kindArgument, kindDirective, kindVariableDefinition, kindTypeReference, kindVariable}
 use Rattle.paper.specs.Rows.{Row}
-use Rattle.paper.proofs.Theory.{and-l}
 use Rattle.paper_types.specs.Types.{Table}
 use Rattle.paper_rules.specs.QueryNumbers.{ruleOperationRepeated, ruleOperationUnnamed, ruleFragmentRepeated, ruleCondition, ruleField, ruleLeaf, ruleSpread, ruleCircle, ruleDirective, ruleUndefined, ruleVariableType, ruleNameTwice, ruleNoRoot, ruleArgument}
-use Rattle.paper_rules.specs.Constructs.{Doc, count, noRow, is, rowOf, kindOf}
+use Rattle.paper_rules.specs.Constructs.{Doc, count, noRow, kindOf}
 use Rattle.paper_rules.specs.Rule1OperationRepeated.{operationRepeated}
 use Rattle.paper_rules.specs.Rule2OperationUnnamed.{operationUnnamed}
 use Rattle.paper_rules.specs.Rule3FragmentRepeated.{fragmentRepeated}
@@ -21,8 +18,10 @@ use Rattle.paper_rules.specs.Rule4Condition.{conditionWrong}
 use Rattle.paper_rules.specs.Rule5Field.{fieldMissing}
 use Rattle.paper_rules.specs.Rule6Leaf.{leafWrong}
 use Rattle.paper_rules.specs.Rule7Spread.{spreadOfNone}
+use Rattle.paper_rules.specs.Rule8Circle.{ReachesItself}
 use Rattle.paper_rules.specs.Rule9Directive.{directiveWrong}
-use Rattle.paper_rules.specs.Rule11VariableType.{noInputType}
+use Rattle.paper_rules.specs.Rule10Undefined.{Undefined}
+use Rattle.paper_rules.specs.Rule11VariableType.{noInputType, Differs}
 use Rattle.paper_rules.specs.Rule12NameTwice.{nameTwice}
 use Rattle.paper_rules.specs.Rule13NoRoot.{noRoot}
 use Rattle.paper_rules.specs.Rule14Argument.{argumentUnknown}
@@ -87,3 +86,48 @@ none-broken {k} e b = subst (λ (ks : List ℕ). T (among k ks)) e (broken-among
 pub past-broken : {t : Table} {d : Doc} {i k : ℕ} → count d ≤ i → Broken t d i k → ⊥
 unfolding rulesAt
 past-broken {d} {i} h b = none-broken (ap rulesAt (ap (λ (r : Row). r .kind) (List·getD-eq-default (d .rows) noRow h))) b
+
+-- What is so where a rule is broken: its own words; of rule 11 one half at a definition, the other at a variable.
+module _ {t : Table} {d : Doc} {i : ℕ} where
+  pub operation-repeated-so : Broken t d i ruleOperationRepeated → T (operationRepeated d i)
+  operation-repeated-so (operation-repeated h) = h
+
+  pub operation-unnamed-so : Broken t d i ruleOperationUnnamed → T (operationUnnamed d i)
+  operation-unnamed-so (operation-unnamed h) = h
+
+  pub fragment-repeated-so : Broken t d i ruleFragmentRepeated → T (fragmentRepeated d i)
+  fragment-repeated-so (fragment-repeated h) = h
+
+  pub condition-so : Broken t d i ruleCondition → T (conditionWrong t d i)
+  condition-so (condition h) = h
+
+  pub field-so : Broken t d i ruleField → T (fieldMissing t d i)
+  field-so (field h) = h
+
+  pub leaf-so : Broken t d i ruleLeaf → T (leafWrong t d i)
+  leaf-so (leaf h) = h
+
+  pub spread-so : Broken t d i ruleSpread → T (spreadOfNone d i)
+  spread-so (spread h) = h
+
+  pub circle-so : Broken t d i ruleCircle → ReachesItself d i
+  circle-so (circle h) = h
+
+  pub directive-so : Broken t d i ruleDirective → T (directiveWrong d i)
+  directive-so (directive h) = h
+
+  pub undefined-so : Broken t d i ruleUndefined → Undefined d i
+  undefined-so (undefined h) = h
+
+  pub name-twice-so : Broken t d i ruleNameTwice → T (nameTwice d i)
+  name-twice-so (name-twice h) = h
+
+  pub no-root-so : Broken t d i ruleNoRoot → T (noRoot t d i)
+  no-root-so (no-root h) = h
+
+  pub argument-so : Broken t d i ruleArgument → T (argumentUnknown t d i)
+  argument-so (argument h) = h
+
+  pub variable-type-so : Broken t d i ruleVariableType → T (noInputType t d i) ⊎ Differs t d i
+  variable-type-so (no-input-type h) = inl h
+  variable-type-so (other-type h) = inr h
