@@ -1,5 +1,5 @@
 -- One thing only may gw_check answer and leave in its buffers: its checks come one after another, and each that fails fixes all.
-use mathlib.Core.Path.{_≡_, refl, sym, ap, _∙_, subst}
+use mathlib.Core.Path.{_≡_, sym, ap, _∙_, subst}
 use mathlib.Core.List.{List, [], _∷_}
 use Prim.Native.Nat.{ℕ, _≤_, _<_}
 use native.Mathlib.Omega.{arith}
@@ -19,7 +19,6 @@ use Rattle.paper_types.specs.TableNumbers.{mostTable, inputTable}
 use Rattle.paper_types.specs.Types.{tableOf}
 use Rattle.paper_types.specs.Judging.{judge, tableNumber}
 use Rattle.paper_types.specs.TableCalls.{tellsTable}
-use Rattle.paper_types.specs.declared.TableAnswer.{TableAnswer}
 use Rattle.paper_types.specs.declared.TableAnswer.the-variants.{Accepted}
 use Rattle.paper_rules.specs.QueryNumbers.{refuseQuery}
 use Rattle.paper_rules.specs.QueryRules.{Judged}

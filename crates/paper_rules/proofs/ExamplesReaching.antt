@@ -4,11 +4,10 @@ use mathlib.Core.Path.{_≡_, refl}
 use mathlib.Core.Bool.{Bool, true, false, not, _&&_}
 use mathlib.Core.List.{List, [], _∷_}
 use Prim.Native.Nat.{ℕ}
-use Prim.Native.String.{String}
 use lib.Dec.{T, lit<}
 use Rattle.paper.specs.Language.{Document, language}
 use Rattle.paper.specs.Lexical.{lexical}
-use Rattle.paper.specs.Rows.{Row, rowsOf, book}
+use Rattle.paper.specs.Rows.{rowsOf, book}
 use Rattle.paper.specs.Reading.{tokensOf}
 use Rattle.paper.proofs.Machine.{run, step, enter, choose}
 use Rattle.paper.proofs.Longest.{scan}

@@ -1,13 +1,13 @@
 -- One thing only is said of a document: of two least breaks neither comes after the other.
-use mathlib.Core.Path.{_≡_, refl, sym, ap₂}
-use mathlib.Core.Logic.{_⊎_, inl, inr}
-use Prim.Native.Nat.{ℕ, _<_, _≤_}
+use mathlib.Core.Path.{_≡_, refl, ap₂}
+use mathlib.Core.Logic.{inl, inr}
+use Prim.Native.Nat.{ℕ}
 use native.Mathlib.Omega.{arith}
 use Rattle.paper_types.specs.Types.{Table}
 use Rattle.paper_rules.specs.Constructs.{Doc}
 use Rattle.paper_rules.specs.QueryRules.{NotAfter, Judged, no-break, least-break}
 use Rattle.paper_rules.specs.declared.QueryAnswer.{QueryAnswer}
-use Rattle.paper_rules.specs.declared.QueryAnswer.the-variants.{Fits, Breaks}
+use Rattle.paper_rules.specs.declared.QueryAnswer.the-variants.{Breaks}
 
 not-after-one : (i k j l : ℕ) → NotAfter i k j l → NotAfter j l i k → (i ≡ j) × (k ≡ l)
 not-after-one i k j l (inl h) (inl g) = let z : ⊥ = omega arith in absurd z

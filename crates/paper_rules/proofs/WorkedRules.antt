@@ -2,12 +2,11 @@
 -- (Rules 8, 10 and 11's second half speak of paths: `ExamplesReaching` derives theirs.)
 use mathlib.Core.Bool.{Bool, true, _&&_}
 use mathlib.Core.List.{List, [], _∷_, _++_}
-use Prim.Native.Nat.{ℕ, suc}
+use Prim.Native.Nat.{ℕ}
 use Prim.Native.String.{String}
-use lib.ListN.{length, take}
+use lib.ListN.{take}
 use Rattle.paper.specs.Language.{Document}
 use Rattle.paper.specs.Tokens.{same}
-use Rattle.paper.specs.Rows.{Row}
 use Rattle.paper.proofs.Worked.{rowsBy}
 use Rattle.paper_types.specs.Lists.{bytes, each, onlyIf}
 use Rattle.paper_types.specs.Types.{Table}

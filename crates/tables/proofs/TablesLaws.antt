@@ -1,5 +1,5 @@
 -- What a table's judging comes to, step by step.
-use mathlib.Core.Path.{_≡_, refl, sym, ap, _∙_}
+use mathlib.Core.Path.{_≡_, refl, sym, _∙_}
 use mathlib.Core.Option.{Option, none, some}
 use mathlib.Core.List.{List, head?}
 use Prim.Native.Nat.{ℕ, _≤_}
@@ -8,8 +8,7 @@ use Rattle.paper_types.specs.TableNumbers.{mostTable}
 use Rattle.paper_types.specs.House.{framing}
 use Rattle.paper_types.specs.TableSizes.{counts}
 use Rattle.paper_types.specs.Types.{tableOf}
-use Rattle.paper_types.specs.Judging.{judge, answer, breaks, leastBreak}
-use Rattle.paper_types.specs.declared.TableAnswer.{TableAnswer}
+use Rattle.paper_types.specs.Judging.{judge, answer, breaks}
 use Rattle.paper_types.specs.declared.TableAnswer.the-variants.{Framing, TooMany}
 use Rattle.paper_types.proofs.TableFits.{judged-first}
 use Rattle.index.specs.Book.{bookSize}
@@ -22,6 +21,7 @@ use Rattle.frames.specs.Framing.{told}
 use Rattle.counts.specs.declared.Counted.{Counted}
 use Rattle.counts.specs.declared.Counted.the-variants.{Within, Over}
 use Rattle.counts.specs.Counts.{toldOver}
+use Rattle.tables.specs.Judges.{Judges}
 
 wrong-some : (o : Option ℕ) (at : ℕ) → Wrong at ≡ told o → o ≡ some at
 wrong-some none at e = let z : _≡_ {A = ℕ} 0 1 = cc in absurd (omega native.Mathlib.Omega.arith)
@@ -40,16 +40,22 @@ within-none none e = refl
 within-none (some x) e = let z : _≡_ {A = ℕ} 0 1 = cc in absurd (omega native.Mathlib.Omega.arith)
 
 module _ (s : List ℕ) where
-  pub framing-wrong : (r : Framed) (at : ℕ) → r ≡ told (framing s) → r ≡ Wrong at → Framing at ≡ judge s
+  framing-is : (r : Framed) (at : ℕ) → r ≡ told (framing s) → r ≡ Wrong at → Framing at ≡ judge s
   unfolding judge answer
-  framing-wrong r at p q = rw (wrong-some (framing s) at (sym q ∙ p)) refl
+  framing-is r at p q = rw (wrong-some (framing s) at (sym q ∙ p)) refl
+
+  pub framing-wrong : (book : List ℕ) (r : Framed) (at : ℕ) → r ≡ told (framing s) → r ≡ Wrong at → Judges s book (Framing at)
+  framing-wrong book r at p q = record { is = framing-is r at p q; booked = λ e. let z : _≡_ {A = ℕ} 0 1 = cc in absurd (omega native.Mathlib.Omega.arith) }
 
   pub framing-right : (r : Framed) → r ≡ told (framing s) → r ≡ Right → framing s ≡ none
   framing-right r p q = right-none (framing s) (sym q ∙ p)
 
-  pub counts-over : (r : Counted) (at : ℕ) → framing s ≡ none → r ≡ toldOver (counts s) → r ≡ Over at → TooMany at ≡ judge s
+  counts-is : (r : Counted) (at : ℕ) → framing s ≡ none → r ≡ toldOver (counts s) → r ≡ Over at → TooMany at ≡ judge s
   unfolding judge answer
-  counts-over r at f p q = rw (f, over-some (counts s) at (sym q ∙ p)) refl
+  counts-is r at f p q = rw (f, over-some (counts s) at (sym q ∙ p)) refl
+
+  pub counts-over : (book : List ℕ) (r : Counted) (at : ℕ) → framing s ≡ none → r ≡ toldOver (counts s) → r ≡ Over at → Judges s book (TooMany at)
+  counts-over book r at f p q = record { is = counts-is r at f p q; booked = λ e. let z : _≡_ {A = ℕ} 0 1 = cc in absurd (omega native.Mathlib.Omega.arith) }
 
   pub counts-within : (r : Counted) → r ≡ toldOver (counts s) → r ≡ Within → counts s ≡ none
   counts-within r p q = within-none (counts s) (sym q ∙ p)

@@ -11,43 +11,52 @@ ghost use Rattle.paper_types.specs.House.{framing};
 ghost use Rattle.paper_types.specs.TableSizes.{counts};
 ghost use Rattle.paper_types.specs.Judging.{judge};
 ghost use Rattle.index.specs.Book.{bookSize};
+ghost use Rattle.tables.specs.Judges.{Judges};
 
 // The numbers of a book, as crate index lays it out.
 const BOOK_SIZE: usize = 1793;
 
-// The schema rules of a table whose framing and sizes are right. Both books are scratch: of the definitions, and of one definition's members.
+// The schema rules of a table whose framing and sizes are right. The other book is scratch, of one definition's members.
 fn judge_rules(t: &[u8], book: &mut [u32], listed: &mut [u32]) -> TableAnswer
     requires { ⌜ (length (now t) ≤ mostTable) × (framing (now t) ≡ none) × (counts (now t) ≡ none) × (length (now book) ≡ bookSize) × (length (now listed) ≡ bookSize) ⌝ }
-    ensures { λ r. ⌜ r ≡ judge (now (t .entry)) ⌝ }
+    ensures { λ r. ⌜ Judges (now (t .entry)) (now (book .exit)) r ⌝ }
 {
     types::fill(t, book);
     schema::first_break(t, book, listed)
 }
 
 // The sizes and the schema rules of a table whose framing is right.
-fn judge_framed(t: &[u8]) -> TableAnswer
-    requires { ⌜ (length (now t) ≤ mostTable) × (framing (now t) ≡ none) ⌝ }
-    ensures { λ r. ⌜ r ≡ judge (now (t .entry)) ⌝ }
+fn judge_framed(t: &[u8], book: &mut [u32]) -> TableAnswer
+    requires { ⌜ (length (now t) ≤ mostTable) × (framing (now t) ≡ none) × (length (now book) ≡ bookSize) ⌝ }
+    ensures { λ r. ⌜ Judges (now (t .entry)) (now (book .exit)) r ⌝ }
 {
     let c = counts::over(t);
     match c {
         Counted::Over(at) => TableAnswer::TooMany(at),
         Counted::Within => {
-            let mut book = [0u32; BOOK_SIZE];
             let mut listed = [0u32; BOOK_SIZE];
-            judge_rules(t, &mut book, &mut listed)
+            judge_rules(t, book, &mut listed)
         }
     }
 }
 
-// What is said of a table.
-pub fn judge_table(t: &[u8]) -> TableAnswer
-    requires { ⌜ length (now t) ≤ mostTable ⌝ }
-    ensures { λ r. ⌜ r ≡ judge (now (t .entry)) ⌝ }
+// What is said of a table. The book is lent for its definitions, and is the table's where it is accepted.
+pub fn judge_with(t: &[u8], book: &mut [u32]) -> TableAnswer
+    requires { ⌜ (length (now t) ≤ mostTable) × (length (now book) ≡ bookSize) ⌝ }
+    ensures { λ r. ⌜ Judges (now (t .entry)) (now (book .exit)) r ⌝ }
 {
     let f = frames::framing(t);
     match f {
         Framed::Wrong(at) => TableAnswer::Framing(at),
-        Framed::Right => judge_framed(t),
+        Framed::Right => judge_framed(t, book),
     }
+}
+
+// What is said of a table, with a book of its own.
+pub fn judge_table(t: &[u8]) -> TableAnswer
+    requires { ⌜ length (now t) ≤ mostTable ⌝ }
+    ensures { λ r. ⌜ r ≡ judge (now (t .entry)) ⌝ }
+{
+    let mut book = [0u32; BOOK_SIZE];
+    judge_with(t, &mut book)
 }

@@ -3,10 +3,6 @@ use Rattle.tables.proofs.TablesLaws.{counts-within, counts-over}
 use borrow.Author.Needs.{needs}
 use Rattle.tables.proofs.judge_framed.Statement.{statement}
 use Rattle.tables.proofs.judge_framed.Tie as tie
-use Rattle.tables.proofs.judge_framed.Reads as reads
-use Rattle.tables.proofs.judge_framed.Lts as lts
-use Rattle.counts.proofs.over.Reads as over-reads
-use Rattle.tables.proofs.judge_rules.Reads as judge-rules-reads
 
 over-requires : tie.Need-over-requires
 over-requires c κs = search needs
@@ -20,15 +16,14 @@ enum-told c = search needs
 slice-aggregate-judge-rules : tie.Need-slice-aggregate-judge-rules
 slice-aggregate-judge-rules c = search needs
 
-slice-aggregate-judge-rules-2 : tie.Need-slice-aggregate-judge-rules-2
-slice-aggregate-judge-rules-2 c = search needs
-
 judge-rules-requires : tie.Need-judge-rules-requires
-judge-rules-requires c κs =
-    (c .before .before .before .before .before .before .pre .0, c .before .before .before .before .before .before .pre .1, counts-within _ _ (c .before .before .before .before .over .ensures) (c .before .before .enum-told .given .1), refl, refl)
+judge-rules-requires c κs = (c .before .before .before .before .before .before .before .pre .0, c .before .before .before .before .before .before .before .pre .1, counts-within _ _ (c .before .before .before .before .over .ensures) (c .before .before .enum-told .given .1), c .before .before .before .before .before .before .before .pre .2, refl)
 
 returns : tie.Need-returns
-returns c = counts-over _ _ _ (c .before .before .before .before .before .pre .1) (c .before .before .before .over .ensures) (c .before .c .given .1)
+returns c = counts-over _ _ _ _ (c .before .before .before .before .before .before .pre .1) (c .before .before .before .over .ensures) (c .before .c .given .1)
+
+same-length : tie.Need-same-length
+same-length c = search needs
 
 returns-2 : tie.Need-returns-2
 returns-2 c = search needs
@@ -41,7 +36,7 @@ judge-framed-spec =
     enum-known-c
     enum-told
     slice-aggregate-judge-rules
-    slice-aggregate-judge-rules-2
     judge-rules-requires
     returns
+    same-length
     returns-2)

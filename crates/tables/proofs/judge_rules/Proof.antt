@@ -3,10 +3,6 @@ use Rattle.tables.proofs.TablesLaws.{bookable, checkable, rules-judge}
 use borrow.Author.Needs.{needs}
 use Rattle.tables.proofs.judge_rules.Statement.{statement}
 use Rattle.tables.proofs.judge_rules.Tie as tie
-use Rattle.tables.proofs.judge_rules.Reads as reads
-use Rattle.tables.proofs.judge_rules.Lts as lts
-use Rattle.schema.proofs.first_break.Reads as first-break-reads
-use Rattle.types.proofs.fill.Reads as fill-reads
 
 fill-requires : tie.Need-fill-requires
 fill-requires c κs = bookable _ _ (c .before .before .before .before .pre .0) (c .before .before .before .before .pre .1) (c .before .before .before .before .pre .2) (c .before .before .before .before .pre .3)
@@ -21,7 +17,7 @@ same-length-2 : tie.Need-same-length-2
 same-length-2 c = search needs
 
 returns : tie.Need-returns
-returns c = c .before .before .first-break .ensures ∙ rules-judge _ (c .before .before .before .before .before .before .before .before .before .before .before .before .pre .0) (c .before .before .before .before .before .before .before .before .before .before .before .before .pre .1) (c .before .before .before .before .before .before .before .before .before .before .before .before .pre .2)
+returns c = record { is = c .before .before .first-break .ensures ∙ rules-judge _ (c .before .before .before .before .before .before .before .before .before .before .before .before .pre .0) (c .before .before .before .before .before .before .before .before .before .before .before .before .pre .1) (c .before .before .before .before .before .before .before .before .before .before .before .before .pre .2); booked = λ e. c .before .before .before .before .before .before .before .fill .ensures }
 
 pub judge-rules-spec : {M : Type 1} → statement M
 judge-rules-spec =
