@@ -1,2 +1,5 @@
--- Laws of this crate.
+-- Laws of this crate, in the order in which they use each other.
 pub mod RowsIn
+pub mod TextRows
+pub mod FlatRows
+pub mod ReadRows

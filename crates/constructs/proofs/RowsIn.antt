@@ -8,7 +8,6 @@ use native.Mathlib.Decide.{decLt}
 use native.Mathlib.Omega.{arith}
 use lib.ListN.{length, getD, List·getD-eq-default}
 use Rattle.paper.specs.Numbers.{rowSize, noParent}
-use Rattle.paper.specs.Rows.{Row}
 use Rattle.paper_rules.specs.Constructs.{noRow}
 use Rattle.constructs.specs.Rowed.{rowAt, rowsFrom, rowsIn, rowIn, Rowed, Sized}
 

@@ -1,4 +1,4 @@
--- Rows linked by what they have in common: the rows right below one row, the rows of one kind; and the definition that each stands in.
+-- Rows linked by what they have in common: the rows right below one row, the rows of one kind.
 -- Assumes nothing.
 use mathlib.Core.Path.{_≡_}
 use mathlib.Core.Bool.{Bool}
@@ -8,11 +8,11 @@ use lib.ListN.{length, drop, getD}
 use Rattle.paper.specs.Numbers.{mostRows}
 use Rattle.paper.specs.Rows.{Row}
 use Rattle.paper_types.specs.Lists.{firstAt}
-use Rattle.paper_rules.specs.Constructs.{Doc, noRow, is, below}
+use Rattle.paper_rules.specs.Constructs.{noRow, is, below}
 
--- the first row from number i on that passes; the count of rows if none does
-unfoldable pub nextWith : (Row → Bool) → List Row → ℕ → ℕ
-nextWith p rs i = i + firstAt p (drop i rs)
+-- the number of the first from number i on that passes; the count of all if none does
+unfoldable pub nextWith : {A : Type 0} → (A → Bool) → List A → ℕ → ℕ
+nextWith p xs i = i + firstAt p (drop i xs)
 
 -- how many numbers a list of firsts has (one for each row, and one for no row), and how many kinds are linked
 abbrev pub firstsSize : ℕ

@@ -3,10 +3,46 @@ use constructs::kind_of;
 use constructs::parent_of;
 ghost use mathlib.Core.Path.{_≡_};
 ghost use Prim.Native.Nat.{_≤_, _<_};
-ghost use lib.ListN.{length};
+ghost use lib.ListN.{length, getD, set, replicate};
 ghost use Rattle.paper.specs.Numbers.{mostRows};
 ghost use Rattle.constructs.specs.Rowed.{rowsIn, Rowed, Sized};
 ghost use Rattle.links.specs.Links.{firstsSize, kindsSize, Family, Kinds};
+
+fn wide(x: u32) -> usize
+    ensures { λ r. ⌜ r ≡ x ⌝ }
+{
+    x as usize
+}
+
+// The first of a chain, or the next after a row.
+pub fn link_of(links: &[u32], i: usize) -> usize
+    requires { ⌜ i < length (now links) ⌝ }
+    ensures { λ r. ⌜ r ≡ getD (now (links .entry)) i 0 ⌝ }
+{
+    wide(links[i])
+}
+
+// Ends every chain: n stands for no row.
+pub fn clear(first: &mut [u32], n: usize)
+    requires { ⌜ n ≤ mostRows ⌝ }
+    ensures { λ _. ⌜ now (first .exit) ≡ replicate (length (now (first .entry))) n ⌝ }
+{
+    let end = n as u32;
+    let mut p = 0;
+    while p < first.len() {
+        first[p] = end;
+        p += 1;
+    }
+}
+
+// Puts row j in front of the chain p.
+pub fn put_first(first: &mut [u32], next: &mut [u32], p: usize, j: usize)
+    requires { ⌜ (p < length (now first)) × (j < length (now next)) × (length (now next) ≡ mostRows) ⌝ }
+    ensures { λ _. ⌜ (now (first .exit) ≡ set (now (first .entry)) p j) × (now (next .exit) ≡ set (now (next .entry)) j (getD (now (first .entry)) p 0)) ⌝ }
+{
+    next[j] = first[p];
+    first[p] = j as u32;
+}
 
 // Links the rows right below each row.
 pub fn families(s: &[u8], rows: &[u32], n: usize, first: &mut [u32], next: &mut [u32])
@@ -18,8 +54,7 @@ pub fn families(s: &[u8], rows: &[u32], n: usize, first: &mut [u32], next: &mut 
     while 0 < j {
         j -= 1;
         let p = parent_of(rows, n, j) as usize;
-        next[j] = first[p];
-        first[p] = j as u32;
+        put_first(first, next, p, j);
     }
 }
 
@@ -34,8 +69,7 @@ pub fn kinds(rows: &[u32], n: usize, first: &mut [u32], next: &mut [u32])
         j -= 1;
         let k = kind_of(rows, n, j) as usize;
         if k < first.len() {
-            next[j] = first[k];
-            first[k] = j as u32;
+            put_first(first, next, k, j);
         }
     }
 }
