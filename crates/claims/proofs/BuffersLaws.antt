@@ -63,7 +63,7 @@ filled-length size ns old h l =
     let c = length-drop size old in
     omega arith
 
-filled-kept : (size : ℕ) (ns old new : List ℕ) → length ns ≤ size → size ≤ length old → new ≡ filled size ns old → (length new ≡ length old) × (drop size new ≡ drop size old)
+pub filled-kept : (size : ℕ) (ns old new : List ℕ) → length ns ≤ size → size ≤ length old → new ≡ filled size ns old → (length new ≡ length old) × (drop size new ≡ drop size old)
 filled-kept size ns old new h l e = (ap length e ∙ filled-length size ns old h l, ap (drop size) e ∙ filled-tail size ns old h)
 
 -- the numbers that a call may write

@@ -5,3 +5,6 @@ pub mod LevelsLaws
 pub mod BuffersLaws
 pub mod SomeLaws
 pub mod VariablesLaws
+pub mod JudgedLaws
+pub mod CheckedLaws
+pub mod LookedLaws

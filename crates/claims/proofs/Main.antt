@@ -1,10 +1,11 @@
 -- What the gateway core promises: start here. Each theorem is stated in full, and its proof is one name.
--- What the words mean, and is to be believed, stands in `crates/paper/specs`; nothing else is.
--- A document is a text of the part `Document`; the variables are a text of the part `VariablesText`.
+-- What the words mean, and is to be believed, stands in `crates/paper/specs` and `crates/paper_types/specs`; nothing else is.
+-- A document is a text of the part `Document`; the variables are a text of the part `VariablesText`; a table's bytes write `tableOf` them.
 -- Assumes nothing.
 use mathlib.Core.Path.{_≡_}
-use mathlib.Core.Bool.{false, not}
-use mathlib.Core.List.{List, _∷_, [], _++_}
+use mathlib.Core.Bool.{Bool, true, false, not}
+use mathlib.Core.Option.{none}
+use mathlib.Core.List.{List, _∷_, [], _++_, head?, List·Memᴰ}
 use mathlib.Core.Logic.{_⊎_, _↔_}
 use Prim.Native.Nat.{ℕ, suc, _-_, _*_, _≤_, _<_}
 use lib.Dec.{T}
@@ -21,6 +22,19 @@ use Rattle.paper.specs.Refusals.{numberOf, shownInText}
 use Rattle.paper.specs.Calls.{Parsed, filled, tells}
 use Rattle.paper.specs.declared.Refusal.{Refusal}
 use Rattle.paper.specs.declared.Refusal.the-variants.{NoToken, NoGoing, TooDeep, TooManyRows, TooMany}
+use Rattle.paper_types.specs.TableNumbers.{mostTable, tagField}
+use Rattle.paper_types.specs.House.{pieces, mostDeep, tableWrongs, framing}
+use Rattle.paper_types.specs.TableSizes.{roomInTable, oversIn, overs, counts}
+use Rattle.paper_types.specs.References.{Ref, named, nonNull}
+use Rattle.paper_types.specs.Types.{tableOf}
+use Rattle.paper_types.specs.SubTypes.{SubType, subTest}
+use Rattle.paper_types.specs.Judging.{Break, breaks, numbersOf, before, answer, judge}
+use Rattle.paper_types.specs.TableCalls.{Checked}
+use Rattle.paper_types.specs.declared.TableAnswer.the-variants.{Accepted, Framing, Breaks}
+use Rattle.paper_types.specs.declared.TableAnswer.the-variants as answers
+use Rattle.paper_types.proofs.TableCallsOne as table-calls
+use Rattle.paper_types.proofs.JudgingLaws as judging
+use Rattle.paper_types.proofs.SubTypesLaws as sub-types
 use Rattle.paper.proofs.TokensLaws as tokens
 use Rattle.paper.proofs.ReadingLaws as reading
 use Rattle.paper.proofs.SaidOne as said
@@ -28,8 +42,27 @@ use Rattle.paper.proofs.CallsOne as calls
 use Rattle.documents.specs.Documents.{Ended}
 use Rattle.reader.specs.declared.Cursor.{Cursor}
 use Rattle.reader.specs.declared.Read.the-variants.{Done, Refused}
-use Rattle.gateway.proofs.gw_parse.Statement as gw-parse
-use Rattle.gateway.proofs.gw_parse.Met as gw-parse-met
+use Rattle.gateway.proofs.parse.gw_parse.Statement as gw-parse
+use Rattle.gateway.proofs.parse.gw_parse.Met as gw-parse-met
+use Rattle.gateway.proofs.check_table.gw_check_table.Statement as gw-check-table
+use Rattle.gateway.proofs.check_table.gw_check_table.Met as gw-check-table-met
+use Rattle.index.specs.Book.{countIn}
+use Rattle.members.specs.Members.{membersIn, argumentsIn, memberFrom}
+use Rattle.types.specs.Booked.{Booked, startIn, endIn, definitionOn}
+use Rattle.types.proofs.fill.Statement as fill
+use Rattle.types.proofs.fill.Met as fill-met
+use Rattle.types.proofs.meaning_of.Statement as meaning-of
+use Rattle.types.proofs.meaning_of.Met as meaning-of-met
+use Rattle.types.proofs.tag_meant.Statement as tag-meant
+use Rattle.types.proofs.tag_meant.Met as tag-meant-met
+use Rattle.types.proofs.can_be.Statement as can-be
+use Rattle.types.proofs.can_be.Met as can-be-met
+use Rattle.types.proofs.is_sub_type.Statement as is-sub-type
+use Rattle.types.proofs.is_sub_type.Met as is-sub-type-met
+use Rattle.members.proofs.find_member.Statement as find-member
+use Rattle.members.proofs.find_member.Met as find-member-met
+use Rattle.members.proofs.find_argument.Statement as find-argument
+use Rattle.members.proofs.find_argument.Met as find-argument-met
 use Rattle.documents.proofs.variables_text.Statement as variables-text
 use Rattle.documents.proofs.variables_text.Met as variables-text-met
 use Rattle.claims.proofs.FitsLaws as fits
@@ -37,10 +70,13 @@ use Rattle.claims.proofs.StandsLaws as stands
 use Rattle.claims.proofs.BuffersLaws as buffers
 use Rattle.claims.proofs.SomeLaws as some
 use Rattle.claims.proofs.VariablesLaws as variables
+use Rattle.claims.proofs.CheckedLaws as checked
+use Rattle.claims.proofs.JudgedLaws as judged
+use Rattle.claims.proofs.LookedLaws as looked
 
 -- ---- THE CODE
 
--- `gw_parse` meets the contract in `crates/gateway/src/lib.rt`, which is `Parsed`: for every document, rows buffer and report of any length
+-- `gw_parse` meets the contract in `crates/gateway/src/parse.rt`, which is `Parsed`: for every document, rows buffer and report of any length
 -- and content it says the answer and every number of both buffers.
 pub gw-parse-meets : {M : Type 1} → gw-parse.statement M
 gw-parse-meets = gw-parse-met.met
@@ -180,3 +216,107 @@ variables-text-refuses = variables.variables-refused
 -- 3 to 6 alone: 8 is never said of a variables text.
 pub variables-text-never-8 : (t : Text) (at : ℕ) → Said VariablesText t (refuses (TooMany at)) → ⊥
 variables-text-never-8 = variables.variables-never-8
+
+-- ---- A TYPE TABLE: THE CODE
+
+-- `gw_check_table` meets the contract in `crates/gateway/src/check_table.rt`, which is `Checked`: for every table and report of any length and
+-- content it says the answer and every number of the report.
+pub gw-check-table-meets : {M : Type 1} → gw-check-table.statement M
+gw-check-table-meets = gw-check-table-met.met
+
+-- Two results that satisfy it are equal.
+pub gw-check-table-one : {table report report′ report″ : List ℕ} {a a′ : ℕ} → Checked table report report′ a → Checked table report report″ a′ → (a ≡ a′) × (report′ ≡ report″)
+gw-check-table-one = table-calls.checked-one
+
+-- Some result satisfies it, whatever the report and the table.
+pub gw-check-table-some : (table report : List ℕ) → (report′ : List ℕ) × (a : ℕ) × Checked table report report′ a
+gw-check-table-some = checked.checked-some
+
+-- Success: the table is accepted.
+pub table-success : {table report report′ : List ℕ} {a : ℕ} → Checked table report report′ a → a ≡ 0 → (length table ≤ mostTable) × (judge table ≡ Accepted)
+table-success = checked.accepts
+
+-- A shorter report is untouched; else it begins with the answer, and beyond its fixed size nothing is written.
+pub table-short-report-is-kept : {table report report′ : List ℕ} {a : ℕ} → Checked table report report′ a → length report < reportSize → (a ≡ 1) × (report′ ≡ report)
+table-short-report-is-kept = checked.short-kept
+
+pub table-report-tells : {table report report′ : List ℕ} {a : ℕ} → Checked table report report′ a → reportSize ≤ length report → (ns : List ℕ) × (report′ ≡ a ∷ ns)
+table-report-tells = checked.report-tells
+
+pub table-report-tail : {table report report′ : List ℕ} {a : ℕ} → Checked table report report′ a → (length report′ ≡ length report) × (drop reportSize report′ ≡ drop reportSize report)
+table-report-tail = checked.report-tail
+
+-- ---- A TYPE TABLE: ACCEPTED EXACTLY WHEN, AND WHICH REFUSAL
+
+-- A table is accepted exactly when its framing is right, no count is over and no rule is broken.
+pub table-accepted-exactly : (s : List ℕ) → (judge s ≡ Accepted) ↔ ((framing s ≡ none) × (counts s ≡ none) × (breaks (tableOf s) ≡ []))
+table-accepted-exactly = judged.accepted-exactly
+
+-- 7 stands at the smallest wrong offset, whatever else is wrong.
+pub table-framing-stands : (s : List ℕ) (at : ℕ) →
+    (judge s ≡ Framing at) ↔ (List·Memᴰ at (tableWrongs true (pieces 0 s)) × ((w : ℕ) → List·Memᴰ w (tableWrongs true (pieces 0 s)) → at ≤ w))
+table-framing-stands = judged.framing-stands
+
+-- 8 stands, where the framing is right, at the smallest offset of what is over a count, whatever rule is broken.
+pub table-too-many-stands : (s : List ℕ) (at : ℕ) →
+    (judge s ≡ answers.TooMany at)
+    ↔ ((framing s ≡ none) × List·Memᴰ at (oversIn (overs mostDeep) roomInTable (pieces 0 s)) × ((w : ℕ) → List·Memᴰ w (oversIn (overs mostDeep) roomInTable (pieces 0 s)) → at ≤ w))
+table-too-many-stands = judged.too-many-stands
+
+-- 9 shows, where the framing is right and no count is over, the break that no other is before, by definition, rule, member, part, argument.
+pub table-break-least : (s : List ℕ) (i k m p a : ℕ) →
+    (judge s ≡ Breaks i k m p a)
+    ↔ ((framing s ≡ none) × (counts s ≡ none)
+    × ((b : Break) × (numbersOf b ≡ i ∷ k ∷ m ∷ p ∷ a ∷ []) × List·Memᴰ b (breaks (tableOf s)) × ((c : Break) → List·Memᴰ c (breaks (tableOf s)) → before (numbersOf b) (numbersOf c) ≡ true)))
+table-break-least = judged.breaks-shown
+
+-- 7, 8, 9 in this order, and of each the first that is met from the front of the table on.
+pub table-first-told : (s : List ℕ) → length s ≤ mostTable →
+    judge s ≡ answer (head? (tableWrongs true (pieces 0 s))) (head? (oversIn (overs mostDeep) roomInTable (pieces 0 s))) (head? (breaks (tableOf s)))
+table-first-told = judging.judge-first
+
+-- ---- SUB-TYPES
+
+-- The test is the four clauses.
+pub sub-type-exactly : (can : List ℕ → List ℕ → Bool) (r q : Ref) → (subTest can r q ≡ true) ↔ SubType can r q
+sub-type-exactly = judged.sub-type-exactly
+
+-- `B!` is no sub-type of `A!` unless equal.
+pub sub-type-non-null : (can : List ℕ → List ℕ → Bool) (a b : List ℕ) → SubType can (nonNull (named b)) (nonNull (named a)) → b ≡ a
+sub-type-non-null = sub-types.subType-non-null
+
+-- ---- LOOKING UP IN A TABLE: what the calls that take a table stand on. Their contracts also speak of places in the bytes (`crates/members/specs`) and of
+-- a book of the definitions (`crates/types/specs`).
+
+-- `types::fill` makes the book of a table of at most 256 records, by which the others look up: `Booked`.
+pub table-book-meets : {M : Type 1} → fill.statement M
+table-book-meets = fill-met.met
+
+-- `types::meaning_of` and `types::tag_meant`: what a name means (`meaning`), and the tag of that type (`meant`).
+pub type-by-name-meets : {M : Type 1} → meaning-of.statement M
+type-by-name-meets = meaning-of-met.met
+
+pub type-tag-by-name-meets : {M : Type 1} → tag-meant.statement M
+type-tag-by-name-meets = tag-meant-met.met
+
+-- `types::can_be`: whether an interface or union can be an object (`canBe`).
+pub can-be-meets : {M : Type 1} → can-be.statement M
+can-be-meets = can-be-met.met
+
+-- `types::is_sub_type`: the test `subTest` of two references in the table.
+pub is-sub-type-meets : {M : Type 1} → is-sub-type.statement M
+is-sub-type-meets = is-sub-type-met.met
+
+-- `members::find_member` and `members::find_argument`: the first member of a definition, the first argument of a field, that has a name. Both go by
+-- the place of a content in the table; the content of definition i, which the book has, holds that definition's members, and a field's its arguments.
+pub member-by-name-meets : {M : Type 1} → find-member.statement M
+member-by-name-meets = find-member-met.met
+
+pub argument-by-name-meets : {M : Type 1} → find-argument.statement M
+argument-by-name-meets = find-argument-met.met
+
+pub definition-members : (t book : List ℕ) → Booked t book → (i : ℕ) → i < countIn book → membersIn t (startIn book i) (endIn book i) ≡ definitionOn t i .members
+definition-members = looked.definition-members
+
+pub field-arguments : (t : List ℕ) (start stop : ℕ) → argumentsIn t start stop ≡ memberFrom t tagField start stop .arguments
+field-arguments = looked.field-arguments

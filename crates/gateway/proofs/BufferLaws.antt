@@ -1,4 +1,4 @@
--- What stores leave in a lent buffer: a report told, numbers cleared from a place on.
+-- What stores leave in a lent buffer: numbers cleared from a place on.
 use mathlib.Core.Path.{_≡_, sym, ap, _∙_}
 use mathlib.Core.List.{List, [], _∷_, _++_, append-nil}
 use Prim.Native.Nat.{ℕ, suc, _+_, _-_, _≤_}
@@ -6,13 +6,7 @@ use native.Mathlib.Nat.{add-zero, add-suc, suc-add}
 use native.Mathlib.Omega.{arith}
 use lib.ListN.{length, set, replicate, length-replicate, replicate-append-replicate, drop-of-length-le}
 use lib.Seq.{sets, sets-eq}
-use Rattle.paper.specs.Numbers.{reportSize}
-use Rattle.paper.specs.Calls.{filled}
 use Rattle.gateway.specs.Gateway.{cleared}
-
--- eight stores are the whole report
-pub told : (old : List ℕ) (n x : ℕ) → reportSize ≤ length old → sets old 0 (n ∷ x ∷ 0 ∷ 0 ∷ 0 ∷ 0 ∷ 0 ∷ 0 ∷ []) ≡ filled reportSize (n ∷ x ∷ []) old
-told old n x h = sets-eq (n ∷ x ∷ 0 ∷ 0 ∷ 0 ∷ 0 ∷ 0 ∷ 0 ∷ []) old 0 h
 
 sets-append : (l : List ℕ) (i : ℕ) (xs ys : List ℕ) → sets l i (xs ++ ys) ≡ sets (sets l i xs) (i + length xs) ys
 sets-append l i [] ys = ap (λ (k : ℕ). sets l k ys) (sym (add-zero i))

@@ -1,17 +1,17 @@
 -- From what the readers answer to what `gw_parse` must do.
 use mathlib.Core.Path.{_≡_, refl, sym, ap, ap₂, _∙_, subst}
 use mathlib.Core.List.{List, [], _∷_, _++_}
-use Prim.Native.Nat.{ℕ, _-_, _*_, _≤_}
+use Prim.Native.Nat.{ℕ, _-_, _*_, _≤_, _<_}
 use native.Mathlib.Omega.{arith}
 use lib.ListN.{length, take, drop, replicate}
 use lib.Seq.{length-take-le}
-use Rattle.paper.specs.Numbers.{mostText, rowSize, rowsSize, reportSize, accepted}
+use Rattle.paper.specs.Numbers.{mostText, rowSize, rowsSize, reportSize, accepted, inputDocument}
 use Rattle.paper.specs.Grammar.{nt}
 use Rattle.paper.specs.Language.{Document}
-use Rattle.paper.specs.Refusals.{numberOf, shownOf}
-use Rattle.paper.specs.Calls.{filled, tells, Parsed}
+use Rattle.paper.specs.Refusals.{numberOf}
+use Rattle.paper.specs.Calls.{filled, tells, Parsed, short-rows, over-length}
 use Rattle.paper.specs.declared.Refusal.{Refusal}
-use Rattle.paper.specs.declared.Refusal.the-variants.{Buffer, OverLength, NoToken, NoGoing, TooDeep, TooManyRows, TooMany}
+use Rattle.paper.specs.declared.Refusal.the-variants.{Buffer, OverLength}
 use Rattle.paper.proofs.Lexing.{from}
 use Rattle.paper.proofs.Going.{State, start, whole, go}
 use Rattle.paper.proofs.GoingSaid.{going-whole}
@@ -20,17 +20,7 @@ use Rattle.documents.specs.Documents.{Ended}
 use Rattle.reader.specs.declared.Cursor.{Cursor}
 use Rattle.reader.specs.declared.Read.{Read}
 use Rattle.reader.specs.declared.Read.the-variants.{Done, Refused}
-use Rattle.gateway.specs.Gateway.{firstOf, cleared, Filled}
-
--- the number and what is shown are the whole report of a refusal
-pub tells-number : (r : Refusal) (old : List ℕ) → filled reportSize (numberOf r ∷ firstOf (shownOf r) ∷ []) old ≡ tells r old
-tells-number Buffer old = refl
-tells-number (OverLength input) old = refl
-tells-number (NoToken at) old = refl
-tells-number (NoGoing at) old = refl
-tells-number (TooDeep at) old = refl
-tells-number (TooManyRows at) old = refl
-tells-number (TooMany at) old = refl
+use Rattle.gateway.specs.Gateway.{cleared, Filled}
 
 -- a text read through has rows within the buffer
 module _ (s rows : List ℕ) (m : State) (e : length rows ≡ rowsSize) (q : go (start rows) (nt Document ∷ []) (from s 0) ≡ whole m) where
@@ -65,6 +55,15 @@ refused-filled s rows rows₁ rows′ r z e h q p =
     subst (λ (x : Read). Filled Document s rows rows′ x) (sym q)
     (subst (λ (x : Read). Ended Document s rows rows₁ x) q h, p ∙ ap (λ (n : ℕ). replicate (n - 0) 0) e)
 
+-- `gw_parse`, where a buffer or the text does not keep to its size
+module _ (document rows report report′ : List ℕ) (n : ℕ) (h : reportSize ≤ length report) where
+  pub parsed-short : length rows < rowsSize → n ≡ numberOf Buffer → report′ ≡ tells Buffer report → Parsed document rows report rows report′ n
+  parsed-short w p e = subst (λ (y : ℕ). Parsed document rows report rows report′ y) (sym p) (short-rows h w refl e)
+
+  pub parsed-over : rowsSize ≤ length rows → mostText < length document → n ≡ numberOf (OverLength inputDocument) → report′ ≡ tells (OverLength inputDocument) report →
+      Parsed document rows report rows report′ n
+  parsed-over w l p e = subst (λ (y : ℕ). Parsed document rows report rows report′ y) (sym p) (over-length h w l refl e)
+
 -- `gw_parse`, where the buffers and the text keep to their sizes
 module _ (document rows report rows₁ rows′ report′ : List ℕ) (r : Read) (h : reportSize ≤ length report) (w : rowsSize ≤ length rows) (l : length document ≤ mostText)
     (f : Filled Document document (take rowsSize rows) rows₁ r) (e : rows′ ≡ rows₁ ++ drop rowsSize rows) where
@@ -79,10 +78,8 @@ module _ (document rows report rows₁ rows′ report′ : List ℕ) (r : Read) 
       (e ∙ ap (λ (x : List ℕ). x ++ drop rowsSize rows) (g .2) ∙ rows-filled (m .cells) rows (rowSize * m .rows) (whole-size document (take rowsSize rows) m size (g .1)) (whole-room document (take rowsSize rows) m size (g .1)))
       (p ∙ ap (λ (n : ℕ). filled reportSize (accepted ∷ n ∷ []) report) (sym (g .3)))
 
-  pub parsed-refused : (z : Refusal) (n x : ℕ) → r ≡ Refused z → n ≡ numberOf z → x ≡ firstOf (shownOf z) → report′ ≡ filled reportSize (n ∷ x ∷ []) report → Parsed document rows report rows′ report′ n
-  parsed-refused z n x q a b p =
+  pub parsed-refused : (z : Refusal) (n : ℕ) → r ≡ Refused z → n ≡ numberOf z → report′ ≡ tells z report → Parsed document rows report rows′ report′ n
+  parsed-refused z n q a p =
       let g = subst (λ (y : Read). Filled Document document (take rowsSize rows) rows₁ y) q f in
       subst (λ (y : ℕ). Parsed document rows report rows′ report′ y) (sym a)
-      (parsed-halt document rows report rows′ report′ (take rowsSize rows) z h w l (g .0)
-      (e ∙ ap (λ (y : List ℕ). y ++ drop rowsSize rows) (g .1))
-      (p ∙ ap₂ (λ (i j : ℕ). filled reportSize (i ∷ j ∷ []) report) a b ∙ tells-number z report))
+      (parsed-halt document rows report rows′ report′ (take rowsSize rows) z h w l (g .0) (e ∙ ap (λ (y : List ℕ). y ++ drop rowsSize rows) (g .1)) p)

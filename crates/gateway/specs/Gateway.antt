@@ -11,11 +11,6 @@ use Rattle.paper.proofs.Going.{State, start, whole, halt, go}
 use Rattle.reader.specs.declared.Read.{Read}
 use Rattle.reader.specs.declared.Read.the-variants.{Done, Refused}
 
--- the first number that a refusal shows, or 0
-abbrev pub firstOf : List ℕ → ℕ
-firstOf [] = 0
-firstOf (n ∷ ns) = n
-
 -- zeros from a place on
 abbrev pub cleared : ℕ → List ℕ → List ℕ
 cleared at rows = take at rows ++ replicate (length rows - at) 0

@@ -107,7 +107,7 @@ fn compare(
     rows: &mut [u32],
     report: &mut [u32],
 ) {
-    let answer = gateway::gw_parse(document, rows, report);
+    let answer = gateway::parse::gw_parse(document, rows, report);
     if report.len() < 2 {
         return;
     }

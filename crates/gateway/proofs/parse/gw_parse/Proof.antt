@@ -1,19 +1,19 @@
--- `gateway::gw_parse` meets its contract: each way to its end is one case of `Parsed`.
+-- `gateway::parse::gw_parse` meets its contract: each way to its end is one case of `Parsed`.
 use mathlib.Core.Path.{refl, sym}
 use Prim.Native.Nat.{ℕ}
 use borrow.Author.Needs.{needs}
 use lib.Seq.{length-take-le}
 use Rattle.paper.specs.Numbers.{rowsSize}
-use Rattle.paper.specs.Calls.{short-report, short-rows, over-length}
-use Rattle.gateway.proofs.ParsedLaws.{parsed-done, parsed-refused}
-use Rattle.gateway.proofs.gw_parse.Statement.{statement}
-use Rattle.gateway.proofs.gw_parse.Tie as tie
+use Rattle.paper.specs.Calls.{short-report}
+use Rattle.gateway.proofs.ParsedLaws.{parsed-short, parsed-over, parsed-done, parsed-refused}
+use Rattle.gateway.proofs.parse.gw_parse.Statement.{statement}
+use Rattle.gateway.proofs.parse.gw_parse.Tie as tie
 
 returns : tie.Need-returns
 returns c = short-report (c .if1 .taken) refl refl
 
-tell-requires : tie.Need-tell-requires
-tell-requires c κs = search needs
+tell-refusal-requires : tie.Need-tell-refusal-requires
+tell-refusal-requires c κs = search needs
 
 same-length : tie.Need-same-length
 same-length c = search needs
@@ -21,10 +21,11 @@ same-length c = search needs
 returns-2 : tie.Need-returns-2
 returns-2 c =
     let i = c .before .before .before .before in
-    short-rows (i .before .if1 .left) (i .if2 .taken) refl (c .before .before .tell .ensures)
+    let t = c .before .before .tell-refusal .ensures in
+    parsed-short _ _ _ _ _ (i .before .if1 .left) (i .if2 .taken) (t .0) (t .1)
 
-tell-requires-2 : tie.Need-tell-requires-2
-tell-requires-2 c κs = search needs
+tell-refusal-requires-2 : tie.Need-tell-refusal-requires-2
+tell-refusal-requires-2 c κs = search needs
 
 same-length-2 : tie.Need-same-length-2
 same-length-2 c = search needs
@@ -32,7 +33,8 @@ same-length-2 c = search needs
 returns-3 : tie.Need-returns-3
 returns-3 c =
     let i = c .before .before .before .before in
-    over-length (i .before .before .if1 .left) (i .before .if2 .left) (i .if3 .taken) refl (c .before .before .tell2 .ensures)
+    let t = c .before .before .tell-refusal2 .ensures in
+    parsed-over _ _ _ _ _ (i .before .before .if1 .left) (i .before .if2 .left) (i .if3 .taken) (t .0) (t .1)
 
 slice-relend-prefix-parse : tie.Need-slice-relend-prefix-parse
 slice-relend-prefix-parse c = search needs
@@ -50,20 +52,14 @@ parse-requires c κs =
 enum-known-r : tie.Need-enum-known-r
 enum-known-r c = search needs
 
-tell-requires-3 : tie.Need-tell-requires-3
-tell-requires-3 c κs = search needs
+tell-requires : tie.Need-tell-requires
+tell-requires c κs = search needs
 
 enum-known-r-2 : tie.Need-enum-known-r-2
 enum-known-r-2 c = search needs
 
-number-of-requires : tie.Need-number-of-requires
-number-of-requires c κs = search needs
-
-shown-of-requires : tie.Need-shown-of-requires
-shown-of-requires c κs = search needs
-
-tell-requires-4 : tie.Need-tell-requires-4
-tell-requires-4 c κs = search needs
+tell-refusal-requires-3 : tie.Need-tell-refusal-requires-3
+tell-refusal-requires-3 c κs = search needs
 
 same-length-3 : tie.Need-same-length-3
 same-length-3 c = search needs
@@ -76,7 +72,7 @@ returns-4 c =
     let r = c .before .before .before .before .before in
     let p = r .before .before .before .before in
     let i = p .before .before in
-    parsed-done _ _ _ _ _ _ _ (i .before .before .if1 .left) (i .before .if2 .left) (i .if3 .left) (p .parse .ensures) refl _ (r .r .given .1) (c .before .before .tell3 .ensures)
+    parsed-done _ _ _ _ _ _ _ (i .before .before .if1 .left) (i .before .if2 .left) (i .if3 .left) (p .parse .ensures) refl _ (r .r .given .1) (c .before .before .tell .ensures)
 
 same-length-5 : tie.Need-same-length-5
 same-length-5 c = search needs
@@ -86,32 +82,30 @@ same-length-6 c = search needs
 
 returns-5 : tie.Need-returns-5
 returns-5 c =
-    let n = c .before .before .before .before .before in
-    let r = n .before .before in
+    let r = c .before .before .before .before .before in
     let p = r .before .before .before .before in
     let i = p .before .before in
-    parsed-refused _ _ _ _ _ _ _ (i .before .before .if1 .left) (i .before .if2 .left) (i .if3 .left) (p .parse .ensures) refl _ _ _ (r .r2 .given .1) (n .number-of .ensures) (c .before .before .before .shown-of .ensures) (c .before .before .tell4 .ensures)
+    let t = c .before .before .tell-refusal3 .ensures in
+    parsed-refused _ _ _ _ _ _ _ (i .before .before .if1 .left) (i .before .if2 .left) (i .if3 .left) (p .parse .ensures) refl _ _ (r .r2 .given .1) (t .0) (t .1)
 
 pub gw-parse-spec : {M : Type 1} → statement M
 gw-parse-spec =
     tie.close
     (tie.spec
     returns
-    tell-requires
+    tell-refusal-requires
     same-length
     returns-2
-    tell-requires-2
+    tell-refusal-requires-2
     same-length-2
     returns-3
     slice-relend-prefix-parse
     slice-aggregate-parse
     parse-requires
     enum-known-r
-    tell-requires-3
+    tell-requires
     enum-known-r-2
-    number-of-requires
-    shown-of-requires
-    tell-requires-4
+    tell-refusal-requires-3
     same-length-3
     same-length-4
     returns-4

@@ -1,10 +1,10 @@
--- `gateway::tell` meets its contract: eight stores are the whole report.
+-- `telling::tell_five` meets its contract: eight stores are the whole report.
 use native.Mathlib.Omega.{arith}
 use borrow.Author.Needs.{needs}
 use lib.ListN.{length-set}
-use Rattle.gateway.proofs.BufferLaws.{told}
-use Rattle.gateway.proofs.tell.Statement.{statement}
-use Rattle.gateway.proofs.tell.Tie as tie
+use Rattle.telling.proofs.ReportLaws.{told}
+use Rattle.telling.proofs.tell_five.Statement.{statement}
+use Rattle.telling.proofs.tell_five.Tie as tie
 
 slice-write-report : tie.Need-slice-write-report
 slice-write-report c = search needs
@@ -34,10 +34,10 @@ same-length : tie.Need-same-length
 same-length c = search needs
 
 returns : tie.Need-returns
-returns c = told (c .args .report .now) (c .args .number) (c .args .shown) (c .pre)
+returns c = let a = c .args in told (a .report .now) (a .number) (a .a) (a .b) (a .c) (a .d) (a .e) (c .pre)
 
-pub tell-spec : {M : Type 1} → statement M
-tell-spec =
+pub tell-five-spec : {M : Type 1} → statement M
+tell-five-spec =
     tie.close
     (tie.spec
     slice-write-report

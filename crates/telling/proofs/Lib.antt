@@ -1,0 +1,2 @@
+-- Laws that the proofs of what is told cite.
+pub mod ReportLaws
