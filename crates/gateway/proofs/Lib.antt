@@ -2,3 +2,4 @@
 pub mod BufferLaws
 pub mod ParsedLaws
 pub mod CheckedLaws
+pub mod DocumentLaws

@@ -31,7 +31,7 @@ module _ (s rows : List ℕ) (m : State) (e : length rows ≡ rowsSize) (q : go 
   whole-size = going-whole Document (from s 0) rows m e q .5
 
 -- the rows, and zeros up to the fixed size
-rows-filled : (cells rows : List ℕ) (n : ℕ) → length cells ≡ rowsSize → n ≤ rowsSize → cleared n cells ++ drop rowsSize rows ≡ filled rowsSize (take n cells) rows
+pub rows-filled : (cells rows : List ℕ) (n : ℕ) → length cells ≡ rowsSize → n ≤ rowsSize → cleared n cells ++ drop rowsSize rows ≡ filled rowsSize (take n cells) rows
 rows-filled cells rows n e h =
     ap (λ (k : ℕ). (take n cells ++ replicate k 0) ++ drop rowsSize rows) (ap₂ (λ (a b : ℕ). a - b) e (sym (length-take-le {A = ℕ} n cells (omega arith))))
 

@@ -17,7 +17,7 @@ ghost use Rattle.paper.specs.Calls.{Parsed};
 ghost use Rattle.gateway.specs.Gateway.{cleared, Filled};
 
 // Sets the rows from place `from` on to 0.
-fn clear(rows: &mut [u32], from: usize)
+pub fn clear(rows: &mut [u32], from: usize)
     requires { ⌜ from ≤ length (now rows) ⌝ }
     ensures { λ _. ⌜ now (rows .exit) ≡ cleared from (now (rows .entry)) ⌝ }
 {
@@ -29,7 +29,7 @@ fn clear(rows: &mut [u32], from: usize)
 }
 
 // Reads a document into rows of the fixed size, and clears what it does not use.
-fn parse(s: &[u8], rows: &mut [u32]) -> Read
+pub fn parse(s: &[u8], rows: &mut [u32]) -> Read
     requires { ⌜ (length (now s) ≤ mostText) × (length (now rows) ≡ rowsSize) ⌝ }
     ensures { λ r. ⌜ Filled Document (now (s .entry)) (now (rows .entry)) (now (rows .exit)) r ⌝ }
 {

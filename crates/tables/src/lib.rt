@@ -1,6 +1,7 @@
 // Judges a type table: its framing, its sizes, its schema rules, in this order.
 use counts::Counted;
 use frames::Framed;
+use index::BOOK_SIZE;
 use paper_types::TableAnswer;
 ghost use mathlib.Core.Path.{_≡_};
 ghost use mathlib.Core.Option.{none};
@@ -12,9 +13,6 @@ ghost use Rattle.paper_types.specs.TableSizes.{counts};
 ghost use Rattle.paper_types.specs.Judging.{judge};
 ghost use Rattle.index.specs.Book.{bookSize};
 ghost use Rattle.tables.specs.Judges.{Judges};
-
-// The numbers of a book, as crate index lays it out.
-const BOOK_SIZE: usize = 1793;
 
 // The schema rules of a table whose framing and sizes are right. The other book is scratch, of one definition's members.
 fn judge_rules(t: &[u8], book: &mut [u32], listed: &mut [u32]) -> TableAnswer
