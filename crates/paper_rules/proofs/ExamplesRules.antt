@@ -31,7 +31,7 @@ use Rattle.paper_rules.specs.Rule11VariableType.{declared, noInputType}
 use Rattle.paper_rules.specs.Rule12NameTwice.{nameTwice}
 use Rattle.paper_rules.specs.Rule13NoRoot.{noRoot}
 use Rattle.paper_rules.specs.Rule14Argument.{argumentUnknown}
-use Rattle.paper_rules.proofs.WorkedRules.{tableT, tableS, Case, agreed}
+use Rattle.paper_rules.proofs.WorkedRules.{tableT, tableS, Case, agreed, agreedAll}
 
 -- 01: D on T; what T lacks
 abbrev ofT : List Case
@@ -50,11 +50,13 @@ ofT-told = tt
 abbrev repeated : List Case
 repeated =
     ("query A{a} query A{a}", 2 ∷ 1 ∷ []) ∷
+    ("query A{a} query B{a}", []) ∷
     ("{a} {a}", 0 ∷ 2 ∷ []) ∷
     ("query A{a} {a} query B{a}", 2 ∷ 2 ∷ []) ∷
     ("query F{...F} fragment F on Query{a}", []) ∷
     ("{a} fragment F on Query{a} fragment F on Query{...F}", 5 ∷ 3 ∷ []) ∷
     ("{f(x:1 x:1)}", 4 ∷ 12 ∷ []) ∷
+    ("{a: f(x:1) b: f(x:1)}", []) ∷
     ("query($v:Int $v:Int){a}", 3 ∷ 12 ∷ []) ∷
     ("{f(i:{n:1 n:2})}", []) ∷
     []
@@ -105,6 +107,7 @@ spread =
     ("{a} fragment F on Query @include(if:true){a}", 4 ∷ 9 ∷ []) ∷
     ("{a @skip(if:true) @skip(if:true)}", 5 ∷ 9 ∷ []) ∷
     ("{a @skip(if:true) @include(if:false)}", []) ∷
+    ("{a @skip(if:true) b: a @skip(if:true)}", []) ∷
     []
 
 spread-told : T (agreed (tableOf tableS) spread)
@@ -121,6 +124,20 @@ nothing =
 nothing-told : T (agreed (tableOf tableS) nothing)
 unfolding from text scan step enter choose lexical lexFactored language factored run rowsOf book tokensOf anyOf allOf firstAt find gather eachFrom isName marked closed readName refFrom wholeRef refOf piecesFrom textOf memberOf definitionOf tableOf builtIns builtInDirectives meaning rootsOf fragmentNamed hasFragment compositeOf rootOf fieldOf isTypename conditionOf insideFrom insideBy inside operationRepeated operationUnnamed fragmentRepeated conditionWrong fieldMissing hasSelections leafWrong spreadOfNone rowsBelow directiveWrong declared noInputType nameTwice noRoot argumentUnknown
 nothing-told = tt
+
+-- every break: nothing inside a type that is not known breaks a rule, and each of two unnamed operations breaks one
+abbrev whole : List Case
+whole =
+    ("{...on Nope{nope(x:1) a{b}}}", 2 ∷ 4 ∷ []) ∷
+    ("{nope{a b(x:1){c}}}", 1 ∷ 5 ∷ []) ∷
+    ("{a{b(x:1)}}", 1 ∷ 6 ∷ []) ∷
+    ("mutation{a{b(x:1)}}", 0 ∷ 13 ∷ []) ∷
+    ("{a} {a}", 0 ∷ 2 ∷ 2 ∷ 2 ∷ []) ∷
+    []
+
+whole-told : T (agreedAll (tableOf tableS) whole)
+unfolding from text scan step enter choose lexical lexFactored language factored run rowsOf book tokensOf anyOf allOf firstAt find gather eachFrom isName marked closed readName refFrom wholeRef refOf piecesFrom textOf memberOf definitionOf tableOf builtIns builtInDirectives meaning rootsOf fragmentNamed hasFragment compositeOf rootOf fieldOf isTypename conditionOf insideFrom insideBy inside operationRepeated operationUnnamed fragmentRepeated conditionWrong fieldMissing hasSelections leafWrong spreadOfNone rowsBelow directiveWrong declared noInputType nameTwice noRoot argumentUnknown
+whole-told = tt
 
 -- readings 58, 71, 72: roots of two kinds; a type named as a root; an interface's field
 abbrev twoRoots : List ℕ

@@ -65,11 +65,14 @@ abbrev placed : ℕ → List ℕ → List ℕ
 placed i [] = []
 placed i (k ∷ ks) = i ∷ k ∷ placed i ks
 
--- the least row and its least rule, or nothing
-abbrev pub shown : Table → Doc → List ℕ
-shown t d = take 2 (each (λ i r. placed i (brokenAt t d i)) (d .rows))
+-- each row with each rule that it breaks; the least row and its least rule, or nothing
+abbrev broken : Table → Doc → List ℕ
+broken t d = each (λ i r. placed i (brokenAt t d i)) (d .rows)
 
--- a document and what is to be shown of it
+abbrev shown : Table → Doc → List ℕ
+shown t d = take 2 (broken t d)
+
+-- a document and what is to be shown of it, or all of its breaks
 abbrev pub Case : Type 0
 Case = String × List ℕ
 
@@ -77,3 +80,7 @@ Case = String × List ℕ
 abbrev pub agreed : Table → List Case → Bool
 agreed t [] = true
 agreed t (c ∷ cs) = same (shown t (document (bytes (c .0)))) (c .1) && agreed t cs
+
+abbrev pub agreedAll : Table → List Case → Bool
+agreedAll t [] = true
+agreedAll t (c ∷ cs) = same (broken t (document (bytes (c .0)))) (c .1) && agreedAll t cs
