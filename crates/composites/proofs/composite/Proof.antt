@@ -1,0 +1,45 @@
+-- By what the name means.
+use mathlib.Core.Path.{_≡_, refl, sym, _∙_}
+use Rattle.paper_types.specs.Types.{builtIn, nothing, definition}
+use Rattle.index.specs.Book.{part}
+use Rattle.composites.proofs.CompositeLaws.{composite-by}
+use borrow.Author.Needs.{needs}
+use Rattle.composites.proofs.composite.Statement.{statement}
+use Rattle.composites.proofs.composite.Tie as tie
+
+meaning-of-requires : tie.Need-meaning-of-requires
+meaning-of-requires c κs = search needs
+
+enum-known-m : tie.Need-enum-known-m
+enum-known-m c = search needs
+
+if-composite-requires : tie.Need-if-composite-requires
+if-composite-requires c κs = search needs
+
+enum-told : tie.Need-enum-told
+enum-told c = search needs
+
+enum-told-2 : tie.Need-enum-told-2
+enum-told-2 c = search needs
+
+returns : tie.Need-returns
+returns c = composite-by (c .before .before .before .before .before .before .before .before .args .t .now) (part (c .before .before .before .before .before .before .before .before .args .s .now) (c .before .before .before .before .before .before .before .before .args .at) (c .before .before .before .before .before .before .before .before .args .n)) (definition _) (sym (c .before .before .m .given .1) ∙ c .before .before .before .before .meaning-of .ensures) (c .if-composite .ensures)
+
+returns-2 : tie.Need-returns-2
+returns-2 c = composite-by (c .before .before .before .before .before .before .args .t .now) (part (c .before .before .before .before .before .before .args .s .now) (c .before .before .before .before .before .before .args .at) (c .before .before .before .before .before .before .args .n)) builtIn (sym (c .enum-told .given .1) ∙ c .before .before .meaning-of .ensures) refl
+
+returns-3 : tie.Need-returns-3
+returns-3 c = composite-by (c .before .before .before .before .before .before .args .t .now) (part (c .before .before .before .before .before .before .args .s .now) (c .before .before .before .before .before .before .args .at) (c .before .before .before .before .before .before .args .n)) nothing (sym (c .enum-told2 .given .1) ∙ c .before .before .meaning-of .ensures) refl
+
+pub composite-spec : {M : Type 1} → statement M
+composite-spec =
+    tie.close
+    (tie.spec
+    meaning-of-requires
+    enum-known-m
+    if-composite-requires
+    enum-told
+    enum-told-2
+    returns
+    returns-2
+    returns-3)

@@ -1,0 +1,30 @@
+-- By the type above, then by the name.
+use mathlib.Core.Path.{sym, _∙_}
+use Rattle.index.specs.Book.{part}
+use Rattle.composites.proofs.FieldLaws.{type-some, in-none, in-typename, in-type}
+use borrow.Author.Needs.{needs}
+use Rattle.composites.proofs.field_in.Statement.{statement}
+use Rattle.composites.proofs.field_in.Tie as tie
+
+returns : tie.Need-returns
+returns c = in-none (c .before .before .before .before .args .t .now) (c .before .before .before .before .args .above) (part (c .before .before .before .before .args .s .now) (c .before .before .before .before .args .at) (c .before .before .before .before .args .n)) (c .if1 .taken)
+
+is-typename-requires : tie.Need-is-typename-requires
+is-typename-requires c κs = search needs
+
+returns-2 : tie.Need-returns-2
+returns-2 c = in-typename (c .before .before .before .before .before .before .args .t .now) (c .before .before .before .before .before .before .args .above) (part (c .before .before .before .before .before .before .args .s .now) (c .before .before .before .before .before .before .args .at) (c .before .before .before .before .before .before .args .n)) (c .before .before .if1 .left) (sym (c .before .is-typename .ensures) ∙ c .if2 .taken)
+
+sub-find-field : tie.Need-sub-find-field
+sub-find-field c = search needs
+
+find-field-requires : tie.Need-find-field-requires
+find-field-requires c κs = (c .before .before .before .before .before .before .pre .0, c .before .before .before .before .before .before .pre .1, c .before .before .before .before .before .before .pre .2 _ (type-some (c .before .before .before .before .before .before .args .above) (c .before .before .if1 .left)), c .before .before .before .before .before .before .pre .3)
+
+returns-3 : tie.Need-returns-3
+returns-3 c = in-type (c .before .before .before .before .before .before .before .args .t .now) (c .before .before .before .before .before .before .before .args .above) (part (c .before .before .before .before .before .before .before .args .s .now) (c .before .before .before .before .before .before .before .args .at) (c .before .before .before .before .before .before .before .args .n)) (c .before .before .before .if1 .left) (sym (c .before .before .is-typename .ensures) ∙ c .before .if2 .left) (c .find-field .ensures)
+
+pub field-in-spec : {M : Type 1} → statement M
+field-in-spec =
+    tie.close
+    (tie.spec returns is-typename-requires returns-2 sub-find-field find-field-requires returns-3)

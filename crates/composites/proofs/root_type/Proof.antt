@@ -1,0 +1,62 @@
+-- By what is found.
+use mathlib.Core.Path.{refl, subst}
+use Rattle.paper_types.specs.Lists.{bytes}
+use Rattle.composites.specs.Coded.{RootFinds, RootWritten}
+use Rattle.composites.proofs.RootLaws.{root-typed, root-untyped}
+use borrow.Author.Needs.{needs}
+use Rattle.composites.proofs.root_type.Statement.{statement}
+use Rattle.composites.proofs.root_type.Tie as tie
+
+written : (c : tie.After-r)
+    → RootWritten (c .before .before .before .before .before .args .t .now) (c .before .before .before .before .before .args .x) (c .r .given .0 .0) (c .r .given .0 .1 .0) (c .r .given .0 .1 .1 .0)
+written c =
+    subst (RootFinds (c .before .before .before .before .before .args .t .now) (c .before .before .before .before .before .args .x)) (c .r .given .1) (c .before .before .find-root .ensures)
+
+find-root-requires : tie.Need-find-root-requires
+find-root-requires c κs = search needs
+
+enum-known-r : tie.Need-enum-known-r
+enum-known-r c = search needs
+
+member-name-requires : tie.Need-member-name-requires
+member-name-requires c κs = written ((c .before)) .bounds
+
+composite-requires : tie.Need-composite-requires
+composite-requires c κs = search needs
+
+enum-told : tie.Need-enum-told
+enum-told c = search needs
+
+slice-aggregate-composite : tie.Need-slice-aggregate-composite
+slice-aggregate-composite c = search needs
+
+composite-requires-2 : tie.Need-composite-requires-2
+composite-requires-2 c κs = search needs
+
+enum-told-2 : tie.Need-enum-told-2
+enum-told-2 c = search needs
+
+returns : tie.Need-returns
+returns c = root-typed (c .before .before .before .before .before .before .before .before .args .t .now) (c .before .before .before .before .before .before .before .before .args .x) _ (written ((c .before .before .before)) .is) _ (c .before .member-name .ensures .is) (c .composite .ensures)
+
+returns-2 : tie.Need-returns-2
+returns-2 c = root-typed (c .before .before .before .before .before .before .before .args .t .now) (c .before .before .before .before .before .before .before .args .x) _ (subst (RootFinds (c .before .before .before .before .before .before .before .args .t .now) (c .before .before .before .before .before .before .before .args .x)) (c .before .before .enum-told .given .1) (c .before .before .before .before .find-root .ensures)) (bytes "Query") refl (c .composite2 .ensures)
+
+returns-3 : tie.Need-returns-3
+returns-3 c = root-untyped (c .before .before .before .before .before .args .t .now) (c .before .before .before .before .before .args .x) (subst (RootFinds (c .before .before .before .before .before .args .t .now) (c .before .before .before .before .before .args .x)) (c .enum-told2 .given .1) (c .before .before .find-root .ensures))
+
+pub root-type-spec : {M : Type 1} → statement M
+root-type-spec =
+    tie.close
+    (tie.spec
+    find-root-requires
+    enum-known-r
+    member-name-requires
+    composite-requires
+    enum-told
+    slice-aggregate-composite
+    composite-requires-2
+    enum-told-2
+    returns
+    returns-2
+    returns-3)

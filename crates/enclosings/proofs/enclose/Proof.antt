@@ -1,0 +1,61 @@
+-- Row by row.
+use mathlib.Core.Path.{_≡_, sym, subst, _∙_}
+use Prim.Native.Nat.{ℕ, _-_, _≤_}
+use native.Mathlib.Omega.{arith}
+use native.Mathlib.Numerals.{add-one}
+use Rattle.enclosings.specs.Enclosed.{EnclosedTo}
+use Rattle.enclosings.proofs.EnclosedLaws.{enclosed-begin}
+use borrow.Author.Needs.{needs}
+use Rattle.enclosings.proofs.enclose.Statement.{statement}
+use Rattle.enclosings.proofs.enclose.Tie as tie
+
+abbrev Inv-loop : tie.InvT-loop
+Inv-loop t book s rows n first next inside₀ at₀ to₀ i₀ inside at to i = (i ≤ n) × EnclosedTo t s rows n i inside at to
+
+abbrev μ-loop : tie.MeasureT-loop
+μ-loop t book s rows n first next inside₀ at₀ to₀ i₀ inside at to i = n - i
+
+loop-holds : tie.Need-loop-holds Inv-loop μ-loop
+loop-holds c = (omega arith, enclosed-begin (c .before .before .before .before .before .before .before .before .before .args .t .now) (c .before .before .before .before .before .before .before .before .before .args .s .now) (c .before .before .before .before .before .before .before .before .before .args .rows .now) (c .before .before .before .before .before .before .before .before .before .args .n) (c .before .before .before .before .before .before .before .before .before .pre .0 .rowed) (c .before .before .before .before .before .before .before .before .before .pre .1) (c .before .before .before .before .before .before .before .before .before .pre .2) (c .before .before .before .before .before .before .before .before .before .pre .3))
+
+enclose-row-requires : tie.Need-enclose-row-requires Inv-loop μ-loop
+enclose-row-requires c κs = (c .before .before .before .before .before .before .before .before .before .before .before .before .before .before .pre .0, c .before .before .before .before .loop .inv .1, c .before .before .before .loop-test .taken)
+
+add-i : tie.Need-add-i Inv-loop μ-loop
+add-i c = search needs
+
+loop-less : tie.Need-loop-less Inv-loop μ-loop
+loop-less c = search needs
+
+loop-again : tie.Need-loop-again Inv-loop μ-loop
+loop-again c = (omega (arith, c .before .before .before .before .before .before .before .before .before .before .loop-test .taken), rw (add-one) (c .before .before .before .before .before .before .enclose-row .ensures))
+
+same-length : tie.Need-same-length Inv-loop μ-loop
+same-length c = c .before .loop .inv .1 .inners ∙ sym (c .before .before .before .before .before .before .before .before .before .before .before .pre .1)
+
+same-length-2 : tie.Need-same-length-2 Inv-loop μ-loop
+same-length-2 c = c .before .loop .inv .1 .ats ∙ sym (c .before .before .before .before .before .before .before .before .before .before .before .pre .2)
+
+same-length-3 : tie.Need-same-length-3 Inv-loop μ-loop
+same-length-3 c = c .before .loop .inv .1 .tos ∙ sym (c .before .before .before .before .before .before .before .before .before .before .before .pre .3)
+
+returns : tie.Need-returns Inv-loop μ-loop
+returns c =
+    let e : c .before .loop .i ≡ (c .before .before .before .before .before .before .before .before .before .before .before .args .n) = omega (arith, c .before .loop .inv .0, c .loop-test .left) in
+    subst (λ (m : ℕ). EnclosedTo (c .before .before .before .before .before .before .before .before .before .before .before .args .t .now) (c .before .before .before .before .before .before .before .before .before .before .before .args .s .now) (c .before .before .before .before .before .before .before .before .before .before .before .args .rows .now) (c .before .before .before .before .before .before .before .before .before .before .before .args .n) m (c .before .loop .inside) (c .before .loop .at) (c .before .loop .to)) e (c .before .loop .inv .1)
+
+pub enclose-spec : {M : Type 1} → statement M
+enclose-spec =
+    tie.close
+    (tie.spec
+    Inv-loop
+    μ-loop
+    loop-holds
+    enclose-row-requires
+    add-i
+    loop-less
+    loop-again
+    same-length
+    same-length-2
+    same-length-3
+    returns)

@@ -1,0 +1,77 @@
+-- Three stores for one row.
+use mathlib.Core.Path.{_≡_, sym, ap, _∙_}
+use native.Mathlib.Omega.{arith}
+use Rattle.constructs.proofs.RowsIn.{rowed-sized, name-within}
+use Rattle.enclosings.proofs.EnclosedLaws.{above-known, enclosed-field}
+use borrow.Author.Needs.{needs}
+use Rattle.enclosings.proofs.enclose_field.Statement.{statement}
+use Rattle.enclosings.proofs.enclose_field.Tie as tie
+
+name-of-requires : tie.Need-name-of-requires
+name-of-requires c κs = rowed-sized (c .before .before .before .before .before .before .before .pre .2)
+
+cast-field-in : tie.Need-cast-field-in
+cast-field-in c = search needs
+
+size-of-requires : tie.Need-size-of-requires
+size-of-requires c κs = rowed-sized (c .before .before .before .before .before .before .before .before .pre .2)
+
+cast-field-in-2 : tie.Need-cast-field-in-2
+cast-field-in-2 c = search needs
+
+field-in-requires : tie.Need-field-in-requires
+field-in-requires c κs = (c .before .before .before .before .before .before .before .before .before .pre .0, c .before .before .before .before .before .before .before .before .before .pre .1, above-known (c .before .before .before .before .before .before .before .before .before .args .t .now) (c .before .before .before .before .before .before .before .before .before .args .s .now) (c .before .before .before .before .before .before .before .before .before .args .rows .now) (c .before .before .before .before .before .before .before .before .before .args .n) (c .before .before .before .before .before .before .before .before .before .pre .2) (c .before .before .before .before .before .before .before .before .before .args .i) (c .before .before .before .before .before .before .before .before .before .args .above) (c .before .before .before .before .before .before .before .before .before .pre .6), rw (c .before .name-of .ensures, c .size-of .ensures) (name-within (c .before .before .before .before .before .before .before .before .before .args .s .now) (c .before .before .before .before .before .before .before .before .before .args .rows .now) (c .before .before .before .before .before .before .before .before .before .args .n) (c .before .before .before .before .before .before .before .before .before .pre .2) (c .before .before .before .before .before .before .before .before .before .args .i)))
+
+field-type-requires : tie.Need-field-type-requires
+field-type-requires c κs = (c .before .before .before .before .before .before .before .before .before .before .pre .0, c .field-in .ensures .bounds)
+
+mul-inside : tie.Need-mul-inside
+mul-inside c = search needs
+
+slice-write-inside : tie.Need-slice-write-inside
+slice-write-inside c = search needs
+
+mul-at : tie.Need-mul-at
+mul-at c = search needs
+
+slice-write-at : tie.Need-slice-write-at
+slice-write-at c = search needs
+
+mul-to : tie.Need-mul-to
+mul-to c = search needs
+
+slice-write-to : tie.Need-slice-write-to
+slice-write-to c = search needs
+
+same-length : tie.Need-same-length
+same-length c = search needs
+
+same-length-2 : tie.Need-same-length-2
+same-length-2 c = search needs
+
+same-length-3 : tie.Need-same-length-3
+same-length-3 c = search needs
+
+returns : tie.Need-returns
+returns c = enclosed-field (c .before .before .before .before .before .before .before .before .before .before .before .args .t .now) (c .before .before .before .before .before .before .before .before .before .before .before .args .s .now) (c .before .before .before .before .before .before .before .before .before .before .before .args .rows .now) (c .before .before .before .before .before .before .before .before .before .before .before .args .n) (c .before .before .before .before .before .before .before .before .before .before .before .pre .2) (c .before .before .before .before .before .before .before .before .before .before .before .args .i) (c .before .before .before .before .before .before .before .before .before .before .before .pre .4) (c .before .before .before .before .before .before .before .before .before .before .before .args .inside .now) (c .before .before .before .before .before .before .before .before .before .before .before .args .at .now) (c .before .before .before .before .before .before .before .before .before .before .before .args .to .now) (c .before .before .before .before .before .before .before .before .before .before .before .pre .3) _ _ _ (c .before .before .before .before .before .before .before .before .before .before .before .args .above) (c .before .before .before .before .before .before .before .before .before .before .before .pre .5) (c .before .before .before .before .before .before .before .before .before .before .before .pre .6) (rw (← c .before .before .before .name-of .ensures, ← c .before .before .size-of .ensures) (c .before .field-in .ensures)) (c .field-type .ensures)
+
+pub enclose-field-spec : {M : Type 1} → statement M
+enclose-field-spec =
+    tie.close
+    (tie.spec
+    name-of-requires
+    cast-field-in
+    size-of-requires
+    cast-field-in-2
+    field-in-requires
+    field-type-requires
+    mul-inside
+    slice-write-inside
+    mul-at
+    slice-write-at
+    mul-to
+    slice-write-to
+    same-length
+    same-length-2
+    same-length-3
+    returns)

@@ -1,0 +1,93 @@
+-- By the row's kind.
+use mathlib.Core.Path.{_≡_, sym, ap, _∙_}
+use native.Mathlib.Omega.{arith}
+use borrow.Author.Tests.{not-true, not-false}
+use Rattle.paper_types.specs.Types.{tableOf}
+use Rattle.paper_rules.specs.Enclosing.{enclosing}
+use Rattle.constructs.specs.Rowed.{rowIn, docOf}
+use Rattle.constructs.proofs.RowsIn.{rowed-sized}
+use Rattle.composites.specs.Coded.{typeCoded}
+use Rattle.enclosings.specs.Enclosed.{encloses}
+use Rattle.enclosings.proofs.EnclosedLaws.{kept-above, enclosed-skip, enclosed-type}
+use borrow.Author.Needs.{needs}
+use Rattle.enclosings.proofs.enclose_row.Statement.{statement}
+use Rattle.enclosings.proofs.enclose_row.Tie as tie
+
+tested : (c : tie.After-encloses)
+    → c .encloses .result ≡ encloses (rowIn (c .before .before .before .before .before .before .before .before .before .before .before .args .rows .now) (c .before .before .before .before .before .before .before .before .before .before .before .args .n) (c .before .before .before .before .before .before .before .before .before .before .before .args .i) .kind)
+tested c =
+    c .encloses .ensures ∙ ap encloses (c .before .kind-of .ensures)
+
+above : (c : tie.After-type-inside)
+    → enclosing (tableOf (c .before .before .before .before .before .before .before .before .before .before .before .before .before .before .before .args .t .now)) (docOf (c .before .before .before .before .before .before .before .before .before .before .before .before .before .before .before .args .s .now) (c .before .before .before .before .before .before .before .before .before .before .before .before .before .before .before .args .rows .now) (c .before .before .before .before .before .before .before .before .before .before .before .before .before .before .before .args .n)) (c .before .before .before .before .before .before .before .before .before .before .before .before .before .before .before .args .i) ≡ typeCoded (c .type-inside .result)
+above c =
+    kept-above (c .before .before .before .before .before .before .before .before .before .before .before .before .before .before .before .args .t .now) (c .before .before .before .before .before .before .before .before .before .before .before .before .before .before .before .args .s .now) (c .before .before .before .before .before .before .before .before .before .before .before .before .before .before .before .args .rows .now) (c .before .before .before .before .before .before .before .before .before .before .before .before .before .before .before .args .n) (c .before .before .before .before .before .before .before .before .before .before .before .before .before .before .before .pre .0 .rowed) (c .before .before .before .before .before .before .before .before .before .before .before .before .before .before .before .pre .1) (c .before .before .before .before .before .before .before .before .before .before .before .before .before .before .before .args .i) _ (c .before .before .before .before .before .before .before .before .before .before .before .before .before .before .before .pre .2) (omega arith) (c .before .parent-of .ensures) ∙ ap typeCoded (sym (c .type-inside .ensures))
+
+kind-of-requires : tie.Need-kind-of-requires
+kind-of-requires c κs = rowed-sized (c .before .before .before .before .before .before .before .before .before .pre .0 .rowed)
+
+encloses-requires : tie.Need-encloses-requires
+encloses-requires c κs = search needs
+
+returns : tie.Need-returns
+returns c = enclosed-skip (c .before .before .before .before .before .before .before .before .before .before .before .before .args .t .now) (c .before .before .before .before .before .before .before .before .before .before .before .before .args .s .now) (c .before .before .before .before .before .before .before .before .before .before .before .before .args .rows .now) (c .before .before .before .before .before .before .before .before .before .before .before .before .args .n) (c .before .before .before .before .before .before .before .before .before .before .before .before .pre .0 .rowed) (c .before .before .before .before .before .before .before .before .before .before .before .before .args .i) (c .before .before .before .before .before .before .before .before .before .before .before .before .pre .2) (c .before .before .before .before .before .before .before .before .before .before .before .before .args .inside .now) (c .before .before .before .before .before .before .before .before .before .before .before .before .args .at .now) (c .before .before .before .before .before .before .before .before .before .before .before .before .args .to .now) (c .before .before .before .before .before .before .before .before .before .before .before .before .pre .1) (sym (tested (c .before)) ∙ not-true _ (c .if1 .taken))
+
+parent-of-requires : tie.Need-parent-of-requires
+parent-of-requires c κs = rowed-sized (c .before .before .before .before .before .before .before .before .before .before .before .before .before .pre .0 .rowed)
+
+cast-type-inside : tie.Need-cast-type-inside
+cast-type-inside c = search needs
+
+type-inside-requires : tie.Need-type-inside-requires
+type-inside-requires c κs = (rowed-sized (c .before .before .before .before .before .before .before .before .before .before .before .before .before .before .pre .0 .rowed), c .before .before .before .before .before .before .before .before .before .before .before .before .before .before .pre .1 .inners)
+
+enclose-field-requires : tie.Need-enclose-field-requires
+enclose-field-requires c κs = (c .before .before .before .before .before .before .before .before .before .before .before .before .before .before .before .before .before .before .before .pre .0 .booked, c .before .before .before .before .before .before .before .before .before .before .before .before .before .before .before .before .before .before .before .pre .0 .fielded, c .before .before .before .before .before .before .before .before .before .before .before .before .before .before .before .before .before .before .before .pre .0 .rowed, c .before .before .before .before .before .before .before .before .before .before .before .before .before .before .before .before .before .before .before .pre .1, c .before .before .before .before .before .before .before .before .before .before .before .before .before .before .before .before .before .before .before .pre .2, sym (c .before .before .before .before .before .before .before .before .before .kind-of .ensures) ∙ c .before .before .before .if2 .taken, above (c .before .before .before .before))
+
+same-length : tie.Need-same-length
+same-length c = search needs
+
+same-length-2 : tie.Need-same-length-2
+same-length-2 c = search needs
+
+same-length-3 : tie.Need-same-length-3
+same-length-3 c = search needs
+
+returns-2 : tie.Need-returns-2
+returns-2 c = search needs
+
+other-type-requires : tie.Need-other-type-requires
+other-type-requires c κs = (c .before .before .before .before .before .before .before .before .before .before .before .before .before .before .before .before .pre .0, c .before .before .before .before .before .before .before .before .before .before .before .before .before .before .before .before .pre .2, sym (tested (c .before .before .before .before .before)) ∙ not-false _ (c .before .before .before .before .if1 .left), λ z. c .if2 .left (c .before .before .before .before .before .before .kind-of .ensures ∙ z))
+
+mul-inside : tie.Need-mul-inside
+mul-inside c = search needs
+
+slice-write-inside : tie.Need-slice-write-inside
+slice-write-inside c = search needs
+
+same-length-4 : tie.Need-same-length-4
+same-length-4 c = search needs
+
+returns-3 : tie.Need-returns-3
+returns-3 c = enclosed-type (c .before .before .before .before .before .before .before .before .before .before .before .before .before .before .before .before .before .args .t .now) (c .before .before .before .before .before .before .before .before .before .before .before .before .before .before .before .before .before .args .s .now) (c .before .before .before .before .before .before .before .before .before .before .before .before .before .before .before .before .before .args .rows .now) (c .before .before .before .before .before .before .before .before .before .before .before .before .before .before .before .before .before .args .n) (c .before .before .before .before .before .before .before .before .before .before .before .before .before .before .before .before .before .pre .0 .rowed) (c .before .before .before .before .before .before .before .before .before .before .before .before .before .before .before .before .before .args .i) (c .before .before .before .before .before .before .before .before .before .before .before .before .before .before .before .before .before .pre .2) (c .before .before .before .before .before .before .before .before .before .before .before .before .before .before .before .before .before .args .inside .now) (c .before .before .before .before .before .before .before .before .before .before .before .before .before .before .before .before .before .args .at .now) (c .before .before .before .before .before .before .before .before .before .before .before .before .before .before .before .before .before .args .to .now) (c .before .before .before .before .before .before .before .before .before .before .before .before .before .before .before .before .before .pre .1) (c .other-type .result) (c .before .before .type-inside .result) (λ z. c .before .if2 .left (c .before .before .before .before .before .before .before .kind-of .ensures ∙ z)) (above (c .before .before)) (c .other-type .ensures)
+
+pub enclose-row-spec : {M : Type 1} → statement M
+enclose-row-spec =
+    tie.close
+    (tie.spec
+    kind-of-requires
+    encloses-requires
+    returns
+    parent-of-requires
+    cast-type-inside
+    type-inside-requires
+    enclose-field-requires
+    same-length
+    same-length-2
+    same-length-3
+    returns-2
+    other-type-requires
+    mul-inside
+    slice-write-inside
+    same-length-4
+    returns-3)

@@ -1,0 +1,203 @@
+// The type inside each row of a document, and what each field is in the type that encloses it; kept for the rules that need a type.
+// Operations, fragments, fields and inline fragments have them; what is kept of other rows is left alone.
+use composites::NO_TYPE;
+use constructs::extra_of;
+use constructs::kind_of;
+use constructs::name_of;
+use constructs::parent_of;
+use constructs::size_of;
+use links::link_of;
+use paper::KIND_FIELD;
+use paper::KIND_FRAGMENT;
+use paper::KIND_INLINE;
+use paper::KIND_OPERATION;
+use paper::KIND_TYPE_REFERENCE;
+ghost use mathlib.Core.Path.{_≡_};
+ghost use mathlib.Core.Bool.{true};
+ghost use Prim.Native.Nat.{suc, _+_, _≤_, _<_};
+ghost use lib.ListN.{length, getD};
+ghost use Rattle.paper.specs.Numbers.{kindField, mostRows};
+ghost use Rattle.paper_types.specs.Lists.{firstAt};
+ghost use Rattle.paper_types.specs.Types.{tableOf};
+ghost use Rattle.paper_rules.specs.Enclosing.{conditionOf, conditioned, insideFrom, enclosing};
+ghost use Rattle.types.specs.Booked.{Booked};
+ghost use Rattle.constructs.specs.Rowed.{rowIn, rowsIn, docOf, Rowed, Sized};
+ghost use Rattle.links.specs.Links.{Family};
+ghost use Rattle.composites.specs.Coded.{typeCoded, Fielded};
+ghost use Rattle.enclosings.specs.Enclosed.{encloses, typeKept, conditions, Asked, EnclosedTo, Enclosed};
+
+// Has a row of this kind a type inside?
+fn encloses(kind: u32) -> bool
+    ensures { λ r. ⌜ r ≡ encloses kind ⌝ }
+{
+    if kind == KIND_OPERATION {
+        return true;
+    }
+    if kind == KIND_FRAGMENT {
+        return true;
+    }
+    if kind == KIND_FIELD {
+        return true;
+    }
+    kind == KIND_INLINE
+}
+
+// The type kept for row i; none for a row without a type inside, or one that is not there.
+pub fn type_inside(rows: &[u32], n: usize, inside: &[u32], i: usize) -> u32
+    requires { ⌜ Sized (now rows) n × (length (now inside) ≡ mostRows) ⌝ }
+    ensures { λ r. ⌜ r ≡ typeKept (now (rows .entry)) n (now (inside .entry)) i ⌝ }
+{
+    if encloses(kind_of(rows, n, i)) {
+        return inside[i];
+    }
+    NO_TYPE
+}
+
+// The row of a fragment's type condition; n if it has none.
+fn condition_row(rows: &[u32], n: usize, first: &[u32], next: &[u32], i: usize) -> usize
+    requires { ⌜ Sized (now rows) n × Family (rowsIn (now rows) n) (now first) (now next) × (i < n) ⌝ }
+    ensures { λ r. ⌜ r ≡ firstAt (conditions i) (rowsIn (now (rows .entry)) n) ⌝ }
+{
+    let mut j = link_of(first, i);
+    while j < n {
+        if kind_of(rows, n, j) == KIND_TYPE_REFERENCE {
+            return j;
+        }
+        j = link_of(next, j);
+    }
+    j
+}
+
+// The type of a fragment's condition; `above` if it has none.
+fn condition_type(
+    t: &[u8],
+    book: &[u32],
+    s: &[u8],
+    rows: &[u32],
+    n: usize,
+    first: &[u32],
+    next: &[u32],
+    i: usize,
+    above: u32,
+) -> u32
+    requires { ⌜ Asked (now t) (now book) (now s) (now rows) n (now first) (now next) × (i < n) ⌝ }
+    ensures { λ r. ⌜ typeCoded r ≡ conditioned (tableOf (now (t .entry))) (docOf (now (s .entry)) (now (rows .entry)) n) (typeCoded above) (conditionOf (docOf (now (s .entry)) (now (rows .entry)) n) i) ⌝ }
+{
+    let j = condition_row(rows, n, first, next, i);
+    if n <= j {
+        return above;
+    }
+    composites::composite(
+        t,
+        book,
+        s,
+        name_of(rows, n, j) as usize,
+        size_of(rows, n, j) as usize,
+    )
+}
+
+// The type inside an operation or a fragment, where that inside its parent is `above`.
+fn other_type(
+    t: &[u8],
+    book: &[u32],
+    s: &[u8],
+    rows: &[u32],
+    n: usize,
+    first: &[u32],
+    next: &[u32],
+    i: usize,
+    above: u32,
+) -> u32
+    requires { ⌜ Asked (now t) (now book) (now s) (now rows) n (now first) (now next) × (i < n) × (encloses (rowIn (now rows) n i .kind) ≡ true) × (rowIn (now rows) n i .kind ≡ kindField → ⊥) ⌝ }
+    ensures { λ r. ⌜ typeCoded r ≡ insideFrom (tableOf (now (t .entry))) (docOf (now (s .entry)) (now (rows .entry)) n) i (typeCoded above) ⌝ }
+{
+    let kind = kind_of(rows, n, i);
+    if kind == KIND_OPERATION {
+        return composites::root_type(t, book, extra_of(rows, n, i));
+    }
+    if kind == KIND_FRAGMENT {
+        return condition_type(t, book, s, rows, n, first, next, i, NO_TYPE);
+    }
+    condition_type(t, book, s, rows, n, first, next, i, above)
+}
+
+// Keeps what the field of row i is, and the type inside it.
+fn enclose_field(
+    t: &[u8],
+    book: &[u32],
+    s: &[u8],
+    rows: &[u32],
+    n: usize,
+    inside: &mut [u32],
+    at: &mut [u32],
+    to: &mut [u32],
+    i: usize,
+    above: u32,
+)
+    requires { ⌜ Booked (now t) (now book) × Fielded (tableOf (now t)) × Rowed (now s) (now rows) n × EnclosedTo (now t) (now s) (now rows) n i (now inside) (now at) (now to) × (i < n) × (rowIn (now rows) n i .kind ≡ kindField) × (enclosing (tableOf (now t)) (docOf (now s) (now rows) n) i ≡ typeCoded above) ⌝ }
+    ensures { λ _. ⌜ EnclosedTo (now (t .entry)) (now (s .entry)) (now (rows .entry)) n (suc i) (now (inside .exit)) (now (at .exit)) (now (to .exit)) ⌝ }
+{
+    let f = composites::field_in(
+        t,
+        book,
+        above,
+        s,
+        name_of(rows, n, i) as usize,
+        size_of(rows, n, i) as usize,
+    );
+    inside[i] = composites::field_type(t, book, f.at, f.to);
+    at[i] = f.at;
+    to[i] = f.to;
+}
+
+// Keeps what there is of row i.
+fn enclose_row(
+    t: &[u8],
+    book: &[u32],
+    s: &[u8],
+    rows: &[u32],
+    n: usize,
+    first: &[u32],
+    next: &[u32],
+    inside: &mut [u32],
+    at: &mut [u32],
+    to: &mut [u32],
+    i: usize,
+)
+    requires { ⌜ Asked (now t) (now book) (now s) (now rows) n (now first) (now next) × EnclosedTo (now t) (now s) (now rows) n i (now inside) (now at) (now to) × (i < n) ⌝ }
+    ensures { λ _. ⌜ EnclosedTo (now (t .entry)) (now (s .entry)) (now (rows .entry)) n (suc i) (now (inside .exit)) (now (at .exit)) (now (to .exit)) ⌝ }
+{
+    let kind = kind_of(rows, n, i);
+    if !encloses(kind) {
+        return;
+    }
+    let above = type_inside(rows, n, inside, parent_of(rows, n, i) as usize);
+    if kind == KIND_FIELD {
+        enclose_field(t, book, s, rows, n, inside, at, to, i, above);
+        return;
+    }
+    inside[i] = other_type(t, book, s, rows, n, first, next, i, above);
+}
+
+// Keeps what there is of each row, parents first.
+pub fn enclose(
+    t: &[u8],
+    book: &[u32],
+    s: &[u8],
+    rows: &[u32],
+    n: usize,
+    first: &[u32],
+    next: &[u32],
+    inside: &mut [u32],
+    at: &mut [u32],
+    to: &mut [u32],
+)
+    requires { ⌜ Asked (now t) (now book) (now s) (now rows) n (now first) (now next) × (length (now inside) ≡ mostRows) × (length (now at) ≡ mostRows) × (length (now to) ≡ mostRows) ⌝ }
+    ensures { λ _. ⌜ Enclosed (now (t .entry)) (now (s .entry)) (now (rows .entry)) n (now (inside .exit)) (now (at .exit)) (now (to .exit)) ⌝ }
+{
+    let mut i = 0;
+    while i < n {
+        enclose_row(t, book, s, rows, n, first, next, inside, at, to, i);
+        i += 1;
+    }
+}
