@@ -46,7 +46,11 @@ module _ (t s rows : List ℕ) (n : ℕ) (r : Rowed s rows n) where
     kept-above i p h l q =
         rw q (kept-inside (rowIn rows n i .parent) (⊎-elim (λ b. inl (omega arith)) (λ z. inr (omega (arith, z, r .few))) (parent-before s rows n r i h)))
 
-  -- it is an object, interface or union
+  -- the type inside a field is that of its selections
+  pub field-inside : (i : ℕ) → rowIn rows n i .kind ≡ kindField → inside (tableOf t) (docOf s rows n) i ≡ typeIn (tableOf t) (fieldAt (tableOf t) (docOf s rows n) i)
+  field-inside i k = step i ∙ from-field (tableOf t) (docOf s rows n) i (enclosing (tableOf t) (docOf s rows n) i) k
+
+  -- the type above is an object, interface or union
   pub above-known : (i above : ℕ) → enclosing (tableOf t) (docOf s rows n) i ≡ typeCoded above → TypeKnown (tableOf t) above
   above-known i above e k q = inside-is (tableOf t) (docOf s rows n) (rowIn rows n i .parent) k (e ∙ q)
 
@@ -109,7 +113,7 @@ module _ (t s rows : List ℕ) (n : ℕ) (r : Rowed s rows n) where
       inners = length-set inner i c ∙ e .inners;
       ats = length-set at i a ∙ e .ats;
       tos = length-set to i b ∙ e .tos;
-      types = types-kept c (step i ∙ from-field (tableOf t) (docOf s rows n) i (enclosing (tableOf t) (docOf s rows n) i) k ∙ rw (u, f .is) (sym q));
+      types = types-kept c (field-inside i k ∙ rw (u, f .is) (sym q));
       fields =
           upTo {P = λ j. rowIn rows n j .kind ≡ kindField → FieldKept t (fieldAt (tableOf t) (docOf s rows n) j) (getD (set at i a) j 0) (getD (set to i b) j 0)}
           (λ j h z. rw (← kept-before at a j h, ← kept-before to b j h) (e .fields j h z))

@@ -1,0 +1,4 @@
+-- Laws of this crate.
+pub mod KindLaws
+pub mod CodedLaws
+pub mod RuleLaws

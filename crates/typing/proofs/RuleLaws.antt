@@ -1,0 +1,111 @@
+-- The rules 4, 5, 6, 13 and 14, by what a row is.
+use mathlib.Core.Path.{_≡_, refl, sym, ap, _∙_}
+use mathlib.Core.Bool.{Bool, true, false, not, _&&_, cond}
+use mathlib.Core.Option.{Option}
+use mathlib.Core.List.{List}
+use Prim.Native.Nat.{ℕ, _<_, _≤_}
+use native.Mathlib.Omega.{arith}
+use lib.ListN.{drop}
+use lib.Dec.{eqb}
+use borrow.Author.Tests.{eq-eqb, ne-eqb}
+use Rattle.paper.specs.Numbers.{kindOperation, kindField, kindArgument, kindTypeReference}
+use Rattle.paper.specs.Rows.{Row}
+use Rattle.paper_types.specs.Lists.{anyOf}
+use Rattle.paper_types.specs.References.{found}
+use Rattle.paper_types.specs.Types.{Table, meant, tableOf}
+use Rattle.paper_types.specs.Rules.{isOutput}
+use Rattle.paper_rules.specs.Constructs.{Doc, isSelection, below, rowOf, kindOf, parentOf, extraOf, nameOf}
+use Rattle.paper_rules.specs.Enclosing.{rootOf, typeIn, fieldAt}
+use Rattle.paper_rules.specs.Rule4Condition.{isFragment, conditionWrong}
+use Rattle.paper_rules.specs.Rule5Field.{isMissing, fieldMissing}
+use Rattle.paper_rules.specs.Rule6Leaf.{hasSelections, unlike, leafWrong}
+use Rattle.paper_rules.specs.Rule13NoRoot.{noRoot}
+use Rattle.paper_rules.specs.Rule14Argument.{lacks, argumentUnknown}
+use Rattle.composites.specs.Coded.{typeCoded, fieldMissing as numberMissing, fieldTypename, FieldKept}
+use Rattle.typing.proofs.CodedLaws.{coded-misses, leaf-unknown, leaf-known, type-found}
+
+module _ (x : Table) (d : Doc) (i : ℕ) where
+  -- 4
+  pub condition-other : (kindOf d i ≡ kindTypeReference → ⊥) → false ≡ conditionWrong x d i
+  unfolding conditionWrong
+  condition-other k = rw (ne-eqb (kindOf d i) kindTypeReference k)
+
+  module _ (k : kindOf d i ≡ kindTypeReference) where
+    pub condition-elsewhere : isFragment (rowOf d (parentOf d i)) ≡ false → false ≡ conditionWrong x d i
+    unfolding conditionWrong
+    condition-elsewhere f = rw (eq-eqb (kindOf d i) kindTypeReference k, f)
+
+    pub condition-judged : {r : Bool} → isFragment (rowOf d (parentOf d i)) ≡ true → r ≡ isOutput (meant x (nameOf d i)) → not r ≡ conditionWrong x d i
+    unfolding conditionWrong
+    condition-judged f e = rw (eq-eqb (kindOf d i) kindTypeReference k, f) (ap not e)
+
+  -- 13
+  pub root-other : (kindOf d i ≡ kindOperation → ⊥) → false ≡ noRoot x d i
+  unfolding noRoot
+  root-other k = rw (ne-eqb (kindOf d i) kindOperation k)
+
+  pub root-judged : {r : Bool} → kindOf d i ≡ kindOperation → r ≡ found (rootOf x (extraOf d i)) → not r ≡ noRoot x d i
+  unfolding noRoot
+  root-judged k e = rw (eq-eqb (kindOf d i) kindOperation k) (ap not e)
+
+  -- 14
+  pub argument-other : (kindOf d i ≡ kindArgument → ⊥) → false ≡ argumentUnknown x d i
+  unfolding argumentUnknown
+  argument-other k = rw (ne-eqb (kindOf d i) kindArgument k)
+
+  module _ (k : kindOf d i ≡ kindArgument) where
+    pub argument-elsewhere : (kindOf d (parentOf d i) ≡ kindField → ⊥) → false ≡ argumentUnknown x d i
+    unfolding argumentUnknown
+    argument-elsewhere f = rw (eq-eqb (kindOf d i) kindArgument k, ne-eqb (kindOf d (parentOf d i)) kindField f)
+
+    pub argument-judged : {r : Bool} → kindOf d (parentOf d i) ≡ kindField → r ≡ lacks (fieldAt x d (parentOf d i)) (nameOf d i) → r ≡ argumentUnknown x d i
+    unfolding argumentUnknown
+    argument-judged f e = rw (eq-eqb (kindOf d i) kindArgument k, eq-eqb (kindOf d (parentOf d i)) kindField f) e
+
+  -- 5 and 6: of a field by its numbers
+  pub field-other : (kindOf d i ≡ kindField → ⊥) → false ≡ fieldMissing x d i
+  unfolding fieldMissing
+  field-other k = rw (ne-eqb (kindOf d i) kindField k)
+
+  pub leaf-other : (kindOf d i ≡ kindField → ⊥) → false ≡ leafWrong x d i
+  unfolding leafWrong
+  leaf-other k = rw (ne-eqb (kindOf d i) kindField k)
+
+  module _ (k : kindOf d i ≡ kindField) (t : List ℕ) (at to : ℕ) (f : FieldKept t (fieldAt x d i) at to) where
+    pub field-judged : eqb at numberMissing ≡ fieldMissing x d i
+    unfolding fieldMissing
+    field-judged = rw (eq-eqb (kindOf d i) kindField k, f .is) (sym (coded-misses t at to))
+
+    pub leaf-nowhere : at < fieldTypename → false ≡ leafWrong x d i
+    unfolding leafWrong
+    leaf-nowhere h = rw (eq-eqb (kindOf d i) kindField k, f .is) (sym (leaf-unknown t at to x (hasSelections d i) h))
+
+    module _ (h : fieldTypename ≤ at) (c : ℕ) (e : typeIn x (fieldAt x d i) ≡ typeCoded c) where
+      by-type : (b : Bool) → hasSelections d i ≡ b → leafWrong x d i ≡ cond b (not (not (eqb c 0))) (not (eqb c 0))
+      unfolding leafWrong
+      by-type b q =
+          rw (eq-eqb (kindOf d i) kindField k, f .is, q)
+          (leaf-known t at to x b h ∙ ap (λ (o : Bool). cond b (not o) o) (ap found (ap (typeIn x) (sym (f .is)) ∙ e) ∙ type-found c))
+
+      pub leaf-selects : true ≡ hasSelections d i → eqb c 0 ≡ leafWrong x d i
+      leaf-selects q = twice (eqb c 0) ∙ sym (by-type true (sym q))
+        where
+          twice : (b : Bool) → b ≡ not (not b)
+          twice true = refl
+          twice false = refl
+
+      pub leaf-selects-not : false ≡ hasSelections d i → not (eqb c 0) ≡ leafWrong x d i
+      leaf-selects-not q = sym (by-type false (sym q))
+
+-- the test of a walk over the rows right below i
+abbrev pub selects : ℕ → Row → Bool
+selects i r = isSelection r && below i r
+
+pub selects-here : (i : ℕ) (r : Row) (b : Bool) → b ≡ isSelection r → below i r ≡ true → selects i r ≡ b
+selects-here i r true e l = rw (← e, l)
+selects-here i r false e l = rw (← e)
+
+-- a walk from the start is over all rows
+pub selections-are : (d : Doc) (i : ℕ) {b : Bool} → b ≡ anyOf (selects i) (drop 0 (d .rows)) → b ≡ hasSelections d i
+unfolding hasSelections
+selections-are d i e = e

@@ -1,0 +1,59 @@
+-- By the row's kind and its parent's.
+use mathlib.Core.Path.{_≡_, sym, ap, _∙_}
+use Prim.Native.Nat.{ℕ}
+use Rattle.paper.specs.Numbers.{kindArgument}
+use Rattle.paper_types.specs.Types.{tableOf}
+use Rattle.paper_rules.specs.Constructs.{nameOf}
+use Rattle.paper_rules.specs.Enclosing.{fieldAt}
+use Rattle.paper_rules.specs.Rule14Argument.{lacks}
+use Rattle.constructs.specs.Rowed.{rowIn, docOf}
+use Rattle.constructs.proofs.RowsIn.{rowed-sized}
+use Rattle.enclosings.proofs.KindLaws.{field-encloses, encloses-there}
+use Rattle.typing.proofs.RuleLaws.{argument-other, argument-elsewhere, argument-judged}
+use borrow.Author.Needs.{needs}
+use Rattle.typing.proofs.argument_unknown.Statement.{statement}
+use Rattle.typing.proofs.argument_unknown.Tie as tie
+
+kind : (c : tie.Else1)
+    → rowIn (c .before .before .before .before .before .before .before .before .args .rows .now) (c .before .before .before .before .before .before .before .before .args .n) (c .before .before .before .before .before .before .before .before .args .i) .kind ≡ kindArgument
+kind c =
+    sym (c .before .kind-of .ensures) ∙ c .if1 .left
+
+kind-of-requires : tie.Need-kind-of-requires
+kind-of-requires c κs = rowed-sized (c .before .before .before .before .before .before .pre .0)
+
+returns : tie.Need-returns
+returns c = argument-other (tableOf (c .before .before .before .before .before .before .before .before .args .t .now)) (docOf (c .before .before .before .before .before .before .before .before .args .s .now) (c .before .before .before .before .before .before .before .before .args .rows .now) (c .before .before .before .before .before .before .before .before .args .n)) (c .before .before .before .before .before .before .before .before .args .i) (λ z. c .if1 .taken (c .before .kind-of .ensures ∙ z))
+
+parent-of-requires : tie.Need-parent-of-requires
+parent-of-requires c κs = rowed-sized (c .before .before .before .before .before .before .before .before .pre .0)
+
+cast-p : tie.Need-cast-p
+cast-p c = search needs
+
+kind-of-requires-2 : tie.Need-kind-of-requires-2
+kind-of-requires-2 c κs = rowed-sized (c .before .before .before .before .before .before .before .before .before .pre .0)
+
+returns-2 : tie.Need-returns-2
+returns-2 c = argument-elsewhere (tableOf (c .before .before .before .before .before .before .before .before .before .before .before .args .t .now)) (docOf (c .before .before .before .before .before .before .before .before .before .before .before .args .s .now) (c .before .before .before .before .before .before .before .before .before .before .before .args .rows .now) (c .before .before .before .before .before .before .before .before .before .before .before .args .n)) (c .before .before .before .before .before .before .before .before .before .before .before .args .i) (kind (c .before .before .before)) (λ z. c .if2 .taken (c .before .kind-of2 .ensures ∙ ap (λ (p : ℕ). rowIn (c .before .before .before .before .before .before .before .before .before .before .before .args .rows .now) (c .before .before .before .before .before .before .before .before .before .before .before .args .n) p .kind) (c .before .before .parent-of .ensures) ∙ z))
+
+lacks-argument-requires : tie.Need-lacks-argument-requires
+lacks-argument-requires c κs =
+    let k = sym (c .before .kind-of2 .ensures) ∙ c .if2 .left in
+    (c .before .before .before .before .before .before .before .before .before .before .before .pre .0, c .before .before .before .before .before .before .before .before .before .before .before .pre .1, encloses-there (c .before .before .before .before .before .before .before .before .before .before .before .args .rows .now) (c .before .before .before .before .before .before .before .before .before .before .before .args .n) (c .before .before .parent-of .result) (sym (field-encloses _ k)), k)
+
+returns-3 : tie.Need-returns-3
+returns-3 c = argument-judged (tableOf (c .before .before .before .before .before .before .before .before .before .before .before .before .args .t .now)) (docOf (c .before .before .before .before .before .before .before .before .before .before .before .before .args .s .now) (c .before .before .before .before .before .before .before .before .before .before .before .before .args .rows .now) (c .before .before .before .before .before .before .before .before .before .before .before .before .args .n)) (c .before .before .before .before .before .before .before .before .before .before .before .before .args .i) (kind (c .before .before .before .before)) (ap (λ (p : ℕ). rowIn (c .before .before .before .before .before .before .before .before .before .before .before .before .args .rows .now) (c .before .before .before .before .before .before .before .before .before .before .before .before .args .n) p .kind) (sym (c .before .before .before .parent-of .ensures)) ∙ sym (c .before .before .kind-of2 .ensures) ∙ c .before .if2 .left) (c .lacks-argument .ensures ∙ ap (λ (p : ℕ). lacks (fieldAt (tableOf (c .before .before .before .before .before .before .before .before .before .before .before .before .args .t .now)) (docOf (c .before .before .before .before .before .before .before .before .before .before .before .before .args .s .now) (c .before .before .before .before .before .before .before .before .before .before .before .before .args .rows .now) (c .before .before .before .before .before .before .before .before .before .before .before .before .args .n)) p) (nameOf (docOf (c .before .before .before .before .before .before .before .before .before .before .before .before .args .s .now) (c .before .before .before .before .before .before .before .before .before .before .before .before .args .rows .now) (c .before .before .before .before .before .before .before .before .before .before .before .before .args .n)) (c .before .before .before .before .before .before .before .before .before .before .before .before .args .i))) (c .before .before .before .parent-of .ensures))
+
+pub argument-unknown-spec : {M : Type 1} → statement M
+argument-unknown-spec =
+    tie.close
+    (tie.spec
+    kind-of-requires
+    returns
+    parent-of-requires
+    cast-p
+    kind-of-requires-2
+    returns-2
+    lacks-argument-requires
+    returns-3)

@@ -1,0 +1,31 @@
+-- By the field's first number.
+use mathlib.Core.Path.{sym, _∙_}
+use lib.ListN.{getD}
+use Rattle.paper_types.specs.Types.{tableOf}
+use Rattle.constructs.specs.Rowed.{docOf}
+use Rattle.constructs.proofs.RowsIn.{rowed-sized}
+use Rattle.typing.proofs.RuleLaws.{field-other, field-judged}
+use borrow.Author.Needs.{needs}
+use Rattle.typing.proofs.field_missing.Statement.{statement}
+use Rattle.typing.proofs.field_missing.Tie as tie
+
+kind-of-requires : tie.Need-kind-of-requires
+kind-of-requires c κs = rowed-sized (c .before .before .before .before .before .before .pre .0)
+
+returns : tie.Need-returns
+returns c = field-other (tableOf (c .before .before .before .before .before .before .before .before .args .t .now)) (docOf (c .before .before .before .before .before .before .before .before .args .s .now) (c .before .before .before .before .before .before .before .before .args .rows .now) (c .before .before .before .before .before .before .before .before .args .n)) (c .before .before .before .before .before .before .before .before .args .i) (λ z. c .if1 .taken (c .before .kind-of .ensures ∙ z))
+
+mul-result : tie.Need-mul-result
+mul-result c = search needs
+
+shared-slice-read-result : tie.Need-shared-slice-read-result
+shared-slice-read-result c = search needs
+
+returns-2 : tie.Need-returns-2
+returns-2 c =
+    let k = sym (c .before .before .kind-of .ensures) ∙ c .before .if1 .left in
+    field-judged (tableOf (c .before .before .before .before .before .before .before .before .before .args .t .now)) (docOf (c .before .before .before .before .before .before .before .before .before .args .s .now) (c .before .before .before .before .before .before .before .before .before .args .rows .now) (c .before .before .before .before .before .before .before .before .before .args .n)) (c .before .before .before .before .before .before .before .before .before .args .i) k (c .before .before .before .before .before .before .before .before .before .args .t .now) (getD (c .before .before .before .before .before .before .before .before .before .args .at .now) (c .before .before .before .before .before .before .before .before .before .args .i) 0) (getD (c .before .before .before .before .before .before .before .before .before .args .to .now) (c .before .before .before .before .before .before .before .before .before .args .i) 0) (c .before .before .before .before .before .before .before .before .before .pre .1 .fields (c .before .before .before .before .before .before .before .before .before .args .i) (c .before .before .before .before .before .before .before .before .before .pre .2) k)
+
+pub field-missing-spec : {M : Type 1} → statement M
+field-missing-spec =
+    tie.close (tie.spec kind-of-requires returns mul-result shared-slice-read-result returns-2)

@@ -1,0 +1,72 @@
+-- A walk over the rows right below.
+use mathlib.Core.Path.{_≡_, sym, ap, _∙_}
+use mathlib.Core.Bool.{_&&_}
+use Prim.Native.Nat.{ℕ, _-_, _<_}
+use native.Mathlib.Omega.{arith}
+use lib.Dec.{leb}
+use Rattle.paper.specs.Numbers.{kindField, kindInline}
+use Rattle.paper_rules.specs.Constructs.{noRow, isSelection, below}
+use Rattle.constructs.specs.Rowed.{rowIn, rowsIn, docOf}
+use Rattle.constructs.proofs.RowsIn.{rowed-sized}
+use Rattle.links.proofs.Walks.{and-right, walk-any, end-any}
+use Rattle.links.proofs.ChainWalks.{RowWalk, family-start, family-next, family-less, family-room}
+use Rattle.typing.proofs.RuleLaws.{selects, selects-here, selections-are}
+use borrow.Author.Needs.{needs}
+use Rattle.typing.proofs.has_selections.Statement.{statement}
+use Rattle.typing.proofs.has_selections.Tie as tie
+
+abbrev Inv-loop : tie.InvT-loop
+Inv-loop s rows n first next i j₀ j = RowWalk rows n (below i) (selects i) 0 j
+
+abbrev μ-loop : tie.MeasureT-loop
+μ-loop s rows n first next i j₀ j = n - j
+
+here : (c : tie.After-is-selection Inv-loop μ-loop)
+    → selects (c .before .before .before .before .before .before .before .before .before .args .i) (rowIn (c .before .before .before .before .before .before .before .before .before .args .rows .now) (c .before .before .before .before .before .before .before .before .before .args .n) (c .before .before .before .loop .j)) ≡ c .is-selection .result
+here c =
+    selects-here (c .before .before .before .before .before .before .before .before .before .args .i) (rowIn (c .before .before .before .before .before .before .before .before .before .args .rows .now) (c .before .before .before .before .before .before .before .before .before .args .n) (c .before .before .before .loop .j)) (c .is-selection .result) (c .is-selection .ensures ∙ ap (λ (k : ℕ). leb kindField k && leb k kindInline) (c .before .kind-of .ensures)) (c .before .before .before .loop .inv .on (c .before .before .loop-test .taken))
+
+link-of-requires : tie.Need-link-of-requires Inv-loop μ-loop
+link-of-requires c κs = omega (arith, c .before .before .before .before .pre .1 .firsts, c .before .before .before .before .pre .2, c .before .before .before .before .pre .0 .few)
+
+loop-holds : tie.Need-loop-holds Inv-loop μ-loop
+loop-holds c = family-start (c .before .before .before .before .before .args .rows .now) (c .before .before .before .before .before .args .n) (c .before .before .before .before .before .args .first .now) (c .before .before .before .before .before .args .next .now) (c .before .before .before .before .before .pre .1) (c .before .before .before .before .before .args .i) (selects (c .before .before .before .before .before .args .i)) (omega (arith, c .before .before .before .before .before .pre .2, c .before .before .before .before .before .pre .0 .few)) (λ r e. and-right (isSelection r) (below (c .before .before .before .before .before .args .i) r) e) (c .link-of .ensures)
+
+kind-of-requires : tie.Need-kind-of-requires Inv-loop μ-loop
+kind-of-requires c κs = rowed-sized (c .before .before .before .before .before .before .before .pre .0)
+
+is-selection-requires : tie.Need-is-selection-requires Inv-loop μ-loop
+is-selection-requires c κs = search needs
+
+returns : tie.Need-returns Inv-loop μ-loop
+returns c = selections-are (docOf (c .before .before .before .before .before .before .before .before .before .before .args .s .now) (c .before .before .before .before .before .before .before .before .before .before .args .rows .now) (c .before .before .before .before .before .before .before .before .before .before .args .n)) (c .before .before .before .before .before .before .before .before .before .before .args .i) (walk-any noRow (below (c .before .before .before .before .before .before .before .before .before .before .args .i)) (selects (c .before .before .before .before .before .before .before .before .before .before .args .i)) (rowsIn (c .before .before .before .before .before .before .before .before .before .before .args .rows .now) (c .before .before .before .before .before .before .before .before .before .before .args .n)) (c .before .before .before .before .before .before .before .before .before .before .args .n) 0 (c .before .before .before .before .loop .j) (c .before .before .before .before .loop .inv) (c .before .before .before .loop-test .taken) (here (c .before) ∙ c .if1 .taken))
+
+link-of-requires-2 : tie.Need-link-of-requires-2 Inv-loop μ-loop
+link-of-requires-2 c κs = family-room (c .before .before .before .before .before .before .before .before .before .before .args .rows .now) (c .before .before .before .before .before .before .before .before .before .before .args .n) (c .before .before .before .before .before .before .before .before .before .before .args .first .now) (c .before .before .before .before .before .before .before .before .before .before .args .next .now) (c .before .before .before .before .before .before .before .before .before .before .pre .1) (c .before .before .before .before .loop .j) (c .before .before .before .loop-test .taken) (c .before .before .before .before .before .before .before .before .before .before .pre .0 .few)
+
+loop-less : tie.Need-loop-less Inv-loop μ-loop
+loop-less c =
+    let h : c .before .before .before .before .before .loop .j < c .link-of2 .result = family-less (c .before .before .before .before .before .before .before .before .before .before .before .args .rows .now) (c .before .before .before .before .before .before .before .before .before .before .before .args .n) (c .before .before .before .before .before .before .before .before .before .before .before .args .first .now) (c .before .before .before .before .before .before .before .before .before .before .before .args .next .now) (c .before .before .before .before .before .before .before .before .before .before .before .pre .1) (c .before .before .before .before .before .loop .j) (c .before .before .before .before .loop-test .taken) (c .link-of2 .ensures) in
+    omega (arith, c .before .before .before .before .loop-test .taken)
+
+loop-again : tie.Need-loop-again Inv-loop μ-loop
+loop-again c = family-next (c .before .before .before .before .before .before .before .before .before .before .before .args .rows .now) (c .before .before .before .before .before .before .before .before .before .before .before .args .n) (c .before .before .before .before .before .before .before .before .before .before .before .args .first .now) (c .before .before .before .before .before .before .before .before .before .before .before .args .next .now) (c .before .before .before .before .before .before .before .before .before .before .before .pre .1) (c .before .before .before .before .before .before .before .before .before .before .before .args .i) (selects (c .before .before .before .before .before .before .before .before .before .before .before .args .i)) 0 (c .before .before .before .before .before .loop .j) (c .before .before .before .before .before .loop .inv) (c .before .before .before .before .loop-test .taken) (here (c .before .before) ∙ c .before .if1 .left) (c .link-of2 .ensures)
+
+returns-2 : tie.Need-returns-2 Inv-loop μ-loop
+returns-2 c = selections-are (docOf (c .before .before .before .before .before .before .before .args .s .now) (c .before .before .before .before .before .before .before .args .rows .now) (c .before .before .before .before .before .before .before .args .n)) (c .before .before .before .before .before .before .before .args .i) (end-any noRow (below (c .before .before .before .before .before .before .before .args .i)) (selects (c .before .before .before .before .before .before .before .args .i)) (rowsIn (c .before .before .before .before .before .before .before .args .rows .now) (c .before .before .before .before .before .before .before .args .n)) (c .before .before .before .before .before .before .before .args .n) 0 (c .before .loop .j) (c .before .loop .inv) (c .loop-test .left))
+
+pub has-selections-spec : {M : Type 1} → statement M
+has-selections-spec =
+    tie.close
+    (tie.spec
+    Inv-loop
+    μ-loop
+    link-of-requires
+    loop-holds
+    kind-of-requires
+    is-selection-requires
+    returns
+    link-of-requires-2
+    loop-less
+    loop-again
+    returns-2)

@@ -1,0 +1,30 @@
+-- By the row's kind and extra.
+use mathlib.Core.Path.{sym, ap, _∙_}
+use Prim.Native.Nat.{ℕ}
+use Rattle.paper_types.specs.References.{found}
+use Rattle.paper_types.specs.Types.{tableOf}
+use Rattle.paper_rules.specs.Enclosing.{rootOf}
+use Rattle.constructs.specs.Rowed.{docOf}
+use Rattle.constructs.proofs.RowsIn.{rowed-sized}
+use Rattle.typing.proofs.RuleLaws.{root-other, root-judged}
+use Rattle.typing.proofs.no_root.Statement.{statement}
+use Rattle.typing.proofs.no_root.Tie as tie
+
+kind-of-requires : tie.Need-kind-of-requires
+kind-of-requires c κs = rowed-sized (c .before .before .before .before .pre .1)
+
+returns : tie.Need-returns
+returns c = root-other (tableOf (c .before .before .before .before .before .before .args .t .now)) (docOf (c .before .before .before .before .before .before .args .s .now) (c .before .before .before .before .before .before .args .rows .now) (c .before .before .before .before .before .before .args .n)) (c .before .before .before .before .before .before .args .i) (λ z. c .if1 .taken (c .before .kind-of .ensures ∙ z))
+
+extra-of-requires : tie.Need-extra-of-requires
+extra-of-requires c κs = rowed-sized (c .before .before .before .before .before .before .pre .1)
+
+has-root-requires : tie.Need-has-root-requires
+has-root-requires c κs = c .before .before .before .before .before .before .before .pre .0
+
+returns-2 : tie.Need-returns-2
+returns-2 c = root-judged (tableOf (c .before .before .before .before .before .before .before .before .args .t .now)) (docOf (c .before .before .before .before .before .before .before .before .args .s .now) (c .before .before .before .before .before .before .before .before .args .rows .now) (c .before .before .before .before .before .before .before .before .args .n)) (c .before .before .before .before .before .before .before .before .args .i) (sym (c .before .before .before .kind-of .ensures) ∙ c .before .before .if1 .left) (c .has-root .ensures ∙ ap (λ (x : ℕ). found (rootOf (tableOf (c .before .before .before .before .before .before .before .before .args .t .now)) x)) (c .before .extra-of .ensures))
+
+pub no-root-spec : {M : Type 1} → statement M
+no-root-spec =
+    tie.close (tie.spec kind-of-requires returns extra-of-requires has-root-requires returns-2)
