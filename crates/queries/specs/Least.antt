@@ -1,4 +1,4 @@
--- The least rule that one row breaks, and what is known beforehand of the rules that speak of paths.
+-- The least rule that one row breaks.
 -- Assumes nothing.
 use mathlib.Core.Path.{_≡_}
 use mathlib.Core.List.{List}
@@ -17,15 +17,3 @@ use Rattle.paper_rules.specs.QueryRules.{Broken}
 pub data LeastAt (t : Table) (d : Doc) (i : ℕ) : ℕ → Type 0 where
   none-at : ((k : ℕ) → Broken t d i k → ⊥) → LeastAt t d i 0
   least-at : {r : ℕ} → 0 < r → Broken t d i r → ((k : ℕ) → Broken t d i k → r ≤ k) → LeastAt t d i r
-
--- `Flag t d i f`: f is the least of rules 8, 10 and of 11's second half that row i breaks, 0 if it breaks none of these
-pub data Flag (t : Table) (d : Doc) (i : ℕ) : ℕ → Type 0 where
-  flag-none : (ReachesItself d i → ⊥) → (Undefined d i → ⊥) → (Differs t d i → ⊥) → Flag t d i 0
-  flag-circle : ReachesItself d i → Flag t d i ruleCircle
-  flag-undefined : Undefined d i → Flag t d i ruleUndefined
-  flag-differs : Differs t d i → (Undefined d i → ⊥) → Flag t d i ruleVariableType
-
--- each row has its flag
-pub record Flagged (t : Table) (d : Doc) (flags : List ℕ) : Type 0 where
-  pub size : length flags ≡ mostRows
-  pub each : (i : ℕ) → i < count d → Flag t d i (getD flags i 0)

@@ -8,7 +8,7 @@ use Rattle.paper_types.specs.Types.{tableOf}
 use Rattle.constructs.specs.Rowed.{rowsIn, docOf}
 use Rattle.links.specs.Links.{Kinds}
 use Rattle.enclosings.specs.Enclosed.{Asked, Enclosed}
-use Rattle.queries.specs.Least.{Flagged}
+use Rattle.uses.specs.Flags.{Flagged}
 
 -- the table's book; the rows' links by parent and by kind; the types inside rows, and what each field is; the rules that speak of paths
 pub record Ready (t book s rows : List ℕ) (n : ℕ) (first next firstk nextk inside at to flags : List ℕ) : Type 0 where

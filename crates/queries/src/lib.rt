@@ -26,16 +26,27 @@ ghost use mathlib.Core.Path.{_≡_};
 ghost use mathlib.Core.Bool.{cond};
 ghost use Prim.Native.Nat.{_≤_, _<_};
 ghost use lib.ListN.{length};
-ghost use Rattle.paper.specs.Numbers.{kindOperation, kindFragment, kindField, kindArgument, kindVariableDefinition};
+ghost use Rattle.paper.specs.Numbers.{mostRows, kindOperation, kindFragment, kindField, kindArgument, kindVariableDefinition};
 ghost use Rattle.paper_types.specs.TableNumbers.{mostTable};
 ghost use Rattle.paper_types.specs.Types.{Table, tableOf};
+ghost use Rattle.paper_types.specs.Judging.{judge};
+ghost use Rattle.paper_types.specs.declared.TableAnswer.the-variants.{Accepted};
 ghost use Rattle.types.specs.Booked.{Booked};
 ghost use Rattle.paper_rules.specs.QueryRules.{Judged};
 ghost use Rattle.constructs.specs.Rowed.{rowIn, rowsIn, docOf, Rowed};
-ghost use Rattle.links.specs.Links.{Family, Kinds};
-ghost use Rattle.enclosings.specs.Enclosed.{Enclosed};
-ghost use Rattle.queries.specs.Least.{LeastAt, Flagged};
+ghost use Rattle.links.specs.Links.{firstsSize, kindsSize, Family, Kinds};
+ghost use Rattle.composites.specs.Coded.{Fielded};
+ghost use Rattle.enclosings.specs.Enclosed.{Asked, Enclosed};
+ghost use Rattle.uses.specs.Flags.{Flagged};
+ghost use Rattle.queries.specs.Least.{LeastAt};
 ghost use Rattle.queries.specs.Ready.{Ready};
+
+// How many rows there may be; how many firsts are linked, of a row or of none; how many kinds.
+const ROWS: usize = 2048;
+
+const FIRSTS: usize = 2049;
+
+const KINDS: usize = 32;
 
 // The rule, if it is broken.
 fn rule_if(broken: bool, rule: u32) -> u32
@@ -248,4 +259,116 @@ fn judge_rows(
         i += 1;
     }
     QueryAnswer::Fits
+}
+
+// Finds the types inside rows and what breaks the rules that speak of paths, then judges the rows. All that is lent mutably is scratch.
+fn type_rows(
+    t: &[u8],
+    book: &[u32],
+    s: &[u8],
+    rows: &[u32],
+    n: usize,
+    first: &[u32],
+    next: &[u32],
+    firstk: &[u32],
+    nextk: &[u32],
+    inside: &mut [u32],
+    at: &mut [u32],
+    to: &mut [u32],
+    flags: &mut [u32],
+) -> QueryAnswer
+    requires { ⌜ (length (now t) ≤ mostTable) × Asked (now t) (now book) (now s) (now rows) n (now first) (now next) × Kinds (rowsIn (now rows) n) (now firstk) (now nextk) × (length (now inside) ≡ mostRows) × (length (now at) ≡ mostRows) × (length (now to) ≡ mostRows) × (length (now flags) ≡ mostRows) ⌝ }
+    ensures { λ r. ⌜ Judged (tableOf (now (t .entry))) (docOf (now (s .entry)) (now (rows .entry)) n) r ⌝ }
+{
+    enclosings::enclose(t, book, s, rows, n, first, next, inside, at, to);
+    uses::flags(
+        t,
+        book,
+        s,
+        rows,
+        n,
+        first,
+        next,
+        firstk,
+        nextk,
+        inside,
+        at,
+        to,
+        flags,
+    );
+    judge_rows(
+        t,
+        book,
+        s,
+        rows,
+        n,
+        first,
+        next,
+        firstk,
+        nextk,
+        inside,
+        at,
+        to,
+        flags,
+    )
+}
+
+// Links the rows, then judges them. All that is lent mutably is scratch.
+fn link_rows(
+    t: &[u8],
+    book: &[u32],
+    s: &[u8],
+    rows: &[u32],
+    n: usize,
+    first: &mut [u32],
+    next: &mut [u32],
+    firstk: &mut [u32],
+    nextk: &mut [u32],
+) -> QueryAnswer
+    requires { ⌜ (length (now t) ≤ mostTable) × Booked (now t) (now book) × Fielded (tableOf (now t)) × Rowed (now s) (now rows) n × (length (now first) ≡ firstsSize) × (length (now next) ≡ mostRows) × (length (now firstk) ≡ kindsSize) × (length (now nextk) ≡ mostRows) ⌝ }
+    ensures { λ r. ⌜ Judged (tableOf (now (t .entry))) (docOf (now (s .entry)) (now (rows .entry)) n) r ⌝ }
+{
+    links::families(s, rows, n, first, next);
+    links::kinds(rows, n, firstk, nextk);
+    let mut inside = [0u32; ROWS];
+    let mut at = [0u32; ROWS];
+    let mut to = [0u32; ROWS];
+    let mut flags = [0u32; ROWS];
+    type_rows(
+        t,
+        book,
+        s,
+        rows,
+        n,
+        first,
+        next,
+        firstk,
+        nextk,
+        &mut inside,
+        &mut at,
+        &mut to,
+        &mut flags,
+    )
+}
+
+// What is said of a document that was read, against an accepted table.
+pub fn first_break(t: &[u8], book: &[u32], s: &[u8], rows: &[u32], n: usize) -> QueryAnswer
+    requires { ⌜ (length (now t) ≤ mostTable) × (judge (now t) ≡ Accepted) × Booked (now t) (now book) × Rowed (now s) (now rows) n ⌝ }
+    ensures { λ r. ⌜ Judged (tableOf (now (t .entry))) (docOf (now (s .entry)) (now (rows .entry)) n) r ⌝ }
+{
+    let mut first = [0u32; FIRSTS];
+    let mut next = [0u32; ROWS];
+    let mut firstk = [0u32; KINDS];
+    let mut nextk = [0u32; ROWS];
+    link_rows(
+        t,
+        book,
+        s,
+        rows,
+        n,
+        &mut first,
+        &mut next,
+        &mut firstk,
+        &mut nextk,
+    )
 }

@@ -15,7 +15,7 @@ cast-first-break c = search needs
 first-break-requires : tie.Need-first-break-requires
 first-break-requires c κs =
     let p = c .before .before .before .before .before .before .before .before .before .before .before .before .before .pre in
-    (p .3, p .4, done-taken _ _ _ _ _ (p .1 .0) (p .2) (c .before .before .before .before .before .before .parse .ensures) (c .before .before .r .given .1) .rowed)
+    (p .1 .1, p .3, p .4, done-taken _ _ _ _ _ (p .1 .0) (p .2) (c .before .before .before .before .before .before .parse .ensures) (c .before .before .r .given .1) .rowed)
 
 enum-told : tie.Need-enum-told
 enum-told c = search needs
