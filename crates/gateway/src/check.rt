@@ -1,79 +1,13 @@
 // `gw_check`: judges a document by a type table.
-use crate::parse::clear;
-use crate::parse::parse;
-use index::BOOK_SIZE;
-use paper::ACCEPTED;
 use paper::INPUT_DOCUMENT;
 use paper::MOST_TEXT;
 use paper::REFUSE_BUFFER;
 use paper::REPORT_SIZE;
 use paper::ROWS_SIZE;
 use paper::Refusal;
-use paper_rules::QueryAnswer;
-use paper_rules::REFUSE_QUERY;
 use paper_types::INPUT_TABLE;
 use paper_types::MOST_TABLE;
-use paper_types::TableAnswer;
-use reader::Read;
-ghost use mathlib.Core.Path.{_≡_};
-ghost use lib.ListN.{length};
-ghost use Rattle.paper.specs.Numbers.{rowsSize};
-ghost use Rattle.paper_types.specs.Judging.{judge};
-ghost use Rattle.paper_types.specs.declared.TableAnswer.the-variants.{Accepted};
-ghost use Rattle.index.specs.Book.{bookSize};
-ghost use Rattle.types.specs.Booked.{Booked};
-ghost use Rattle.paper_rules.specs.DocumentCalls.{Lent, Short, CheckedDocument};
-
-// Judges a document by an accepted table. The rows are of their fixed size.
-fn check_document(
-    table: &[u8],
-    book: &[u32],
-    document: &[u8],
-    rows: &mut [u32],
-    report: &mut [u32],
-) -> u32
-    requires { ⌜ Lent (now rows) (now report) × Short (now table) (now document) × (length (now rows) ≡ rowsSize) × (judge (now table) ≡ Accepted) × Booked (now table) (now book) ⌝ }
-    ensures { λ r. ⌜ CheckedDocument (now (table .entry)) (now (document .entry)) (now (rows .entry)) (now (report .entry)) (now (rows .exit)) (now (report .exit)) r ⌝ }
-{
-    let r = parse(document, rows);
-    match r {
-        Read::Done(c) => {
-            let n = c.rows;
-            let q = queries::first_break(table, book, document, rows, n as usize);
-            match q {
-                QueryAnswer::Fits => {
-                    telling::tell(report, ACCEPTED, n);
-                    ACCEPTED
-                }
-                QueryAnswer::Breaks { row, rule } => {
-                    clear(rows, 0);
-                    telling::tell_five(report, REFUSE_QUERY, row, rule, 0, 0, 0);
-                    REFUSE_QUERY
-                }
-            }
-        }
-        Read::Refused(why) => telling::tell_refusal(report, why),
-    }
-}
-
-// Judges a table, and by it a document. The rows are of their fixed size; the book is scratch.
-fn check(
-    table: &[u8],
-    book: &mut [u32],
-    document: &[u8],
-    rows: &mut [u32],
-    report: &mut [u32],
-) -> u32
-    requires { ⌜ Lent (now rows) (now report) × Short (now table) (now document) × (length (now rows) ≡ rowsSize) × (length (now book) ≡ bookSize) ⌝ }
-    ensures { λ r. ⌜ CheckedDocument (now (table .entry)) (now (document .entry)) (now (rows .entry)) (now (report .entry)) (now (rows .exit)) (now (report .exit)) r ⌝ }
-{
-    let a = tables::judge_with(table, book);
-    let TableAnswer::Accepted = a else {
-        clear(rows, 0);
-        return telling::tell_table(report, a);
-    };
-    check_document(table, book, document, rows, report)
-}
+ghost use Rattle.paper_rules.specs.DocumentCalls.{CheckedDocument};
 
 // C: uint32_t gw_check(const uint8_t *table, size_t table_len, const uint8_t *document, size_t document_len,
 //                      uint32_t *rows, size_t rows_len, uint32_t *report, size_t report_len);
@@ -103,6 +37,5 @@ pub extern "C" fn gw_check(
     if MOST_TABLE < table.len() {
         return telling::tell_refusal(report, Refusal::OverLength(INPUT_TABLE));
     }
-    let mut book = [0u32; BOOK_SIZE];
-    check(table, &mut book, document, &mut rows[..ROWS_SIZE], report)
+    checks::check(table, document, &mut rows[..ROWS_SIZE], report)
 }

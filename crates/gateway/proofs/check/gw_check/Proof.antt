@@ -45,19 +45,16 @@ returns-4 c =
     let t = c .before .before .tell-refusal3 .ensures in
     table-long _ _ _ _ _ _ (c .before .before .before .before .before .before .before .if1 .left) (c .before .before .before .before .before .before .if2 .left) (c .before .before .before .before .before .if3 .left) (c .before .before .before .before .if4 .taken) (t .0) (t .1)
 
-slice-aggregate-check : tie.Need-slice-aggregate-check
-slice-aggregate-check c = search needs
-
 slice-relend-prefix-check : tie.Need-slice-relend-prefix-check
 slice-relend-prefix-check c = search needs
 
-slice-aggregate-check-2 : tie.Need-slice-aggregate-check-2
-slice-aggregate-check-2 c = sym (length-take-le {A = ℕ} rowsSize (c .before .before .before .before .before .before .before .before .before .before .args .rows .now) (c .before .before .before .before .if2 .left))
+slice-aggregate-check : tie.Need-slice-aggregate-check
+slice-aggregate-check c = sym (length-take-le {A = ℕ} rowsSize (c .before .before .before .before .before .before .before .before .before .args .rows .now) (c .before .before .before .if2 .left))
 
 check-requires : tie.Need-check-requires
 check-requires c κs =
-    let size = length-take-le {A = ℕ} rowsSize (c .before .before .before .before .before .before .before .before .before .before .before .args .rows .now) (c .before .before .before .before .before .if2 .left) in
-    ((c .before .before .before .before .before .before .if1 .left, le-of-eq (sym size)), (c .before .before .before .before .if3 .left, c .before .before .before .if4 .left), size, refl)
+    let size = length-take-le {A = ℕ} rowsSize (c .before .before .before .before .before .before .before .before .before .before .args .rows .now) (c .before .before .before .before .if2 .left) in
+    ((c .before .before .before .before .before .if1 .left, le-of-eq (sym size)), (c .before .before .before .if3 .left, c .before .before .if4 .left), size)
 
 same-length-4 : tie.Need-same-length-4
 same-length-4 c = search needs
@@ -66,7 +63,7 @@ same-length-5 : tie.Need-same-length-5
 same-length-5 c = search needs
 
 returns-5 : tie.Need-returns-5
-returns-5 c = checked-beyond _ _ _ _ _ _ _ (c .before .before .before .before .before .before .before .before .before .before .before .before .if1 .left, c .before .before .before .before .before .before .before .before .before .before .before .if2 .left) (c .before .before .before .before .before .before .before .before .before .before .if3 .left, c .before .before .before .before .before .before .before .before .before .if4 .left) refl (c .before .before .before .before .before .check .ensures)
+returns-5 c = checked-beyond _ _ _ _ _ _ _ (c .before .before .before .before .before .before .before .before .before .before .if1 .left, c .before .before .before .before .before .before .before .before .before .if2 .left) (c .before .before .before .before .before .before .before .before .if3 .left, c .before .before .before .before .before .before .before .if4 .left) refl (c .before .before .before .before .check .ensures)
 
 pub gw-check-spec : {M : Type 1} → statement M
 gw-check-spec =
@@ -82,9 +79,8 @@ gw-check-spec =
     tell-refusal-requires-3
     same-length-3
     returns-4
-    slice-aggregate-check
     slice-relend-prefix-check
-    slice-aggregate-check-2
+    slice-aggregate-check
     check-requires
     same-length-4
     same-length-5

@@ -1,7 +1,7 @@
-use Rattle.gateway.proofs.DocumentLaws.{done-taken, document-fits, rules-broken, text-refused}
+use Rattle.checks.proofs.DocumentLaws.{done-taken, document-fits, rules-broken, text-refused}
 use borrow.Author.Needs.{needs}
-use Rattle.gateway.proofs.check.check_document.Statement.{statement}
-use Rattle.gateway.proofs.check.check_document.Tie as tie
+use Rattle.checks.proofs.check_document.Statement.{statement}
+use Rattle.checks.proofs.check_document.Tie as tie
 
 parse-requires : tie.Need-parse-requires
 parse-requires c κs = search needs

@@ -1,9 +1,9 @@
 use Rattle.schema.proofs.BreakLaws.{not-accepted}
 use mathlib.Core.Path.{sym, _∙_}
-use Rattle.gateway.proofs.DocumentLaws.{table-refused}
+use Rattle.checks.proofs.DocumentLaws.{table-refused}
 use borrow.Author.Needs.{needs}
-use Rattle.gateway.proofs.check.check.Statement.{statement}
-use Rattle.gateway.proofs.check.check.Tie as tie
+use Rattle.checks.proofs.check_with.Statement.{statement}
+use Rattle.checks.proofs.check_with.Tie as tie
 
 judge-with-requires : tie.Need-judge-with-requires
 judge-with-requires c κs = search needs
@@ -51,8 +51,8 @@ same-length-6 c = search needs
 returns-2 : tie.Need-returns-2
 returns-2 c = search needs
 
-pub check-spec : {M : Type 1} → statement M
-check-spec =
+pub check-with-spec : {M : Type 1} → statement M
+check-with-spec =
     tie.close
     (tie.spec
     judge-with-requires
