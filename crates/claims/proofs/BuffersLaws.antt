@@ -50,7 +50,7 @@ rows-few n {s} {t} rs k d = few-rows n s rs (subst (λ (z : Text). Said n z (row
 head-length : (size : ℕ) (ns : List ℕ) → length ns ≤ size → length (ns ++ replicate (size - length ns) 0) ≡ size
 head-length size ns h = let a = length-append ns (replicate (size - length ns) 0) in let b = length-replicate {A = ℕ} (size - length ns) 0 in omega arith
 
-filled-head : (size : ℕ) (ns old : List ℕ) → length ns ≤ size → take size (filled size ns old) ≡ ns ++ replicate (size - length ns) 0
+pub filled-head : (size : ℕ) (ns old : List ℕ) → length ns ≤ size → take size (filled size ns old) ≡ ns ++ replicate (size - length ns) 0
 filled-head size ns old h = take-at (ns ++ replicate (size - length ns) 0) (drop size old) size (head-length size ns h)
 
 filled-tail : (size : ℕ) (ns old : List ℕ) → length ns ≤ size → drop size (filled size ns old) ≡ drop size old
@@ -67,10 +67,10 @@ pub filled-kept : (size : ℕ) (ns old new : List ℕ) → length ns ≤ size �
 filled-kept size ns old new h l e = (ap length e ∙ filled-length size ns old h l, ap (drop size) e ∙ filled-tail size ns old h)
 
 -- the numbers that a call may write
-flat-fits : {s : List ℕ} {t : Text} (rs : List Row) → Tokens 0 s t → Said Document t (rows-are rs) → length (flat rs) ≤ rowsSize
+pub flat-fits : {s : List ℕ} {t : Text} (rs : List Row) → Tokens 0 s t → Said Document t (rows-are rs) → length (flat rs) ≤ rowsSize
 flat-fits rs k d = let h = rows-few Document rs k d in let e = flat-length rs in omega arith
 
-tells-fits : (r : Refusal) → length (numberOf r ∷ shownOf r) ≤ reportSize
+pub tells-fits : (r : Refusal) → length (numberOf r ∷ shownOf r) ≤ reportSize
 tells-fits Buffer = omega arith
 tells-fits (OverLength input) = omega arith
 tells-fits (NoToken at) = omega arith
@@ -87,7 +87,7 @@ fault-number (too-deep k h o) = omega arith
 fault-number (too-many-rows k h o) = omega arith
 fault-number (too-many k h o) = omega arith
 
-said-number : {n : Part} {t : Text} {r : Refusal} → Said n t (refuses r) → 2 < numberOf r
+pub said-number : {n : Part} {t : Text} {r : Refusal} → Said n t (refuses r) → 2 < numberOf r
 said-number (refused f l) = fault-number f
 
 -- WHAT IS LEFT

@@ -31,7 +31,7 @@ module _ (table report : List ℕ) where
   checked-some = of-report (decLe reportSize (length report))
 
 -- an answer's numbers fit the report, and 0 is that of one alone
-told-fits : (a : TableAnswer) → length (tableNumber a ∷ tableShown a) ≤ reportSize
+pub told-fits : (a : TableAnswer) → length (tableNumber a ∷ tableShown a) ≤ reportSize
 told-fits Accepted = omega arith
 told-fits (Framing at) = omega arith
 told-fits (TooMany at) = omega arith

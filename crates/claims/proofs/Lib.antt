@@ -8,3 +8,4 @@ pub mod VariablesLaws
 pub mod JudgedLaws
 pub mod CheckedLaws
 pub mod LookedLaws
+pub mod DocumentsLaws

@@ -1,5 +1,5 @@
 -- What the gateway core promises: start here. Each theorem is stated in full, and its proof is one name.
--- What the words mean, and is to be believed, stands in `crates/paper/specs` and `crates/paper_types/specs`; nothing else is.
+-- What the words mean, and is to be believed, stands in `crates/paper/specs`, `crates/paper_types/specs` and `crates/paper_rules/specs`; nothing else is.
 -- A document is a text of the part `Document`; the variables are a text of the part `VariablesText`; a table's bytes write `tableOf` them.
 -- Assumes nothing.
 use mathlib.Core.Path.{_≡_}
@@ -10,7 +10,7 @@ use mathlib.Core.Logic.{_⊎_, _↔_}
 use Prim.Native.Nat.{ℕ, suc, _-_, _*_, _≤_, _<_}
 use lib.Dec.{T}
 use lib.ListN.{length, take, drop, replicate}
-use Rattle.paper.specs.Numbers.{reportSize, rowSize, rowsSize, mostLevels, mostRows, inputDocument}
+use Rattle.paper.specs.Numbers.{reportSize, rowSize, rowsSize, mostText, mostLevels, mostRows, inputDocument}
 use Rattle.paper.specs.Grammar.{Ev}
 use Rattle.paper.specs.Language.{Class, Mark, Part, Document, VariablesText}
 use Rattle.paper.specs.Lexical.{comment}
@@ -21,17 +21,23 @@ use Rattle.paper.specs.Reading.{tokensOf, classesOf, placeOf, Whole, Reads, Is,
 use Rattle.paper.specs.Refusals.{numberOf, shownInText}
 use Rattle.paper.specs.Calls.{Parsed, filled, tells}
 use Rattle.paper.specs.declared.Refusal.{Refusal}
-use Rattle.paper.specs.declared.Refusal.the-variants.{NoToken, NoGoing, TooDeep, TooManyRows, TooMany}
+use Rattle.paper.specs.declared.Refusal.the-variants.{OverLength, NoToken, NoGoing, TooDeep, TooManyRows, TooMany}
 use Rattle.paper_types.specs.TableNumbers.{mostTable, tagField}
 use Rattle.paper_types.specs.House.{pieces, mostDeep, tableWrongs, framing}
 use Rattle.paper_types.specs.TableSizes.{roomInTable, oversIn, overs, counts}
 use Rattle.paper_types.specs.References.{Ref, named, nonNull}
-use Rattle.paper_types.specs.Types.{tableOf}
+use Rattle.paper_types.specs.Types.{Table, tableOf}
 use Rattle.paper_types.specs.SubTypes.{SubType, subTest}
-use Rattle.paper_types.specs.Judging.{Break, breaks, numbersOf, before, answer, judge}
-use Rattle.paper_types.specs.TableCalls.{Checked}
+use Rattle.paper_types.specs.Judging.{Break, breaks, numbersOf, before, answer, judge, tableNumber}
+use Rattle.paper_types.specs.TableCalls.{tellsTable, Checked}
 use Rattle.paper_types.specs.declared.TableAnswer.the-variants.{Accepted, Framing, Breaks}
 use Rattle.paper_types.specs.declared.TableAnswer.the-variants as answers
+use Rattle.paper_rules.specs.Constructs.{Doc}
+use Rattle.paper_rules.specs.QueryRules.{Broken, NotAfter, Judged}
+use Rattle.paper_rules.specs.DocumentCalls.{read, Lent, Short, CheckedDocument}
+use Rattle.paper_rules.specs.declared.QueryAnswer.{QueryAnswer}
+use Rattle.paper_rules.proofs.JudgedOne as document-judged
+use Rattle.paper_rules.proofs.DocumentCallsOne as document-calls
 use Rattle.paper_types.proofs.TableCallsOne as table-calls
 use Rattle.paper_types.proofs.JudgingLaws as judging
 use Rattle.paper_types.proofs.SubTypesLaws as sub-types
@@ -46,6 +52,8 @@ use Rattle.gateway.proofs.parse.gw_parse.Statement as gw-parse
 use Rattle.gateway.proofs.parse.gw_parse.Met as gw-parse-met
 use Rattle.gateway.proofs.check_table.gw_check_table.Statement as gw-check-table
 use Rattle.gateway.proofs.check_table.gw_check_table.Met as gw-check-table-met
+use Rattle.gateway.proofs.check.gw_check.Statement as gw-check
+use Rattle.gateway.proofs.check.gw_check.Met as gw-check-met
 use Rattle.index.specs.Book.{countIn}
 use Rattle.members.specs.Members.{membersIn, argumentsIn, memberFrom}
 use Rattle.types.specs.Booked.{Booked, startIn, endIn, definitionOn}
@@ -73,6 +81,7 @@ use Rattle.claims.proofs.VariablesLaws as variables
 use Rattle.claims.proofs.CheckedLaws as checked
 use Rattle.claims.proofs.JudgedLaws as judged
 use Rattle.claims.proofs.LookedLaws as looked
+use Rattle.claims.proofs.DocumentsLaws as checked-documents
 
 -- ---- THE CODE
 
@@ -274,6 +283,85 @@ table-break-least = judged.breaks-shown
 pub table-first-told : (s : List ℕ) → length s ≤ mostTable →
     judge s ≡ answer (head? (tableWrongs true (pieces 0 s))) (head? (oversIn (overs mostDeep) roomInTable (pieces 0 s))) (head? (breaks (tableOf s)))
 table-first-told = judging.judge-first
+
+-- ---- A DOCUMENT BY A TABLE
+
+-- `gw_check` meets the contract in `crates/gateway/src/check.rt`, which is `CheckedDocument`: for every table, document, rows buffer and report of
+-- any length and content it says the answer and every number of both buffers.
+pub gw-check-meets : {M : Type 1} → gw-check.statement M
+gw-check-meets = gw-check-met.met
+
+-- Two results that satisfy it are equal.
+pub gw-check-one : {table document rows report rows′ report′ rows″ report″ : List ℕ} {a a′ : ℕ} →
+    CheckedDocument table document rows report rows′ report′ a → CheckedDocument table document rows report rows″ report″ a′ →
+    (a ≡ a′) × (rows′ ≡ rows″) × (report′ ≡ report″)
+gw-check-one = document-calls.checked-document-one
+
+-- Accepted exactly when: the buffers are lent and the inputs short enough, the table is accepted, the document fits the grammar and the sizes, and
+-- none of its rows breaks one of the fourteen rules.
+pub document-accepted-exactly : {table document rows report rows′ report′ : List ℕ} {a : ℕ} → CheckedDocument table document rows report rows′ report′ a →
+    (a ≡ 0)
+    ↔ (Lent rows report × Short table document × (judge table ≡ Accepted)
+    × ((rs : List Row) × ((t : Text) × Tokens 0 document t × Said Document t (rows-are rs)) × ((i k : ℕ) → Broken (tableOf table) (read document rs) i k → ⊥)))
+document-accepted-exactly = checked-documents.accepted-exactly
+
+-- 10 exactly when all this is so but for the rules; and then the report shows a break, before which there is none: by row, then by rule.
+pub document-break-least : {table document rows report rows′ report′ : List ℕ} {a : ℕ} → CheckedDocument table document rows report rows′ report′ a →
+    (a ≡ 10)
+    ↔ (Lent rows report × Short table document × (judge table ≡ Accepted)
+    × ((rs : List Row) × (i : ℕ) × (k : ℕ) × ((t : Text) × Tokens 0 document t × Said Document t (rows-are rs))
+    × (Broken (tableOf table) (read document rs) i k × ((j l : ℕ) → Broken (tableOf table) (read document rs) j l → NotAfter i k j l))
+    × (take 3 report′ ≡ 10 ∷ i ∷ k ∷ [])))
+document-break-least = checked-documents.broken-exactly
+
+-- One thing only is said of a document's rows against a table.
+pub judged-one : {t : Table} {d : Doc} {a b : QueryAnswer} → Judged t d a → Judged t d b → a ≡ b
+judged-one = document-judged.judged-one
+
+-- The order: a document over its length is told whatever the table's length; then the table's refusal, whatever is wrong with the document; then the text's.
+pub check-document-length-first : {table document rows report rows′ report′ : List ℕ} {a : ℕ} → CheckedDocument table document rows report rows′ report′ a →
+    Lent rows report → mostText < length document → (a ≡ 2) × (report′ ≡ tells (OverLength inputDocument) report)
+check-document-length-first = checked-documents.first-the-document
+
+pub check-table-first : {table document rows report rows′ report′ : List ℕ} {a : ℕ} → CheckedDocument table document rows report rows′ report′ a →
+    Lent rows report → Short table document → (judge table ≡ Accepted → ⊥) → (a ≡ tableNumber (judge table)) × (report′ ≡ tellsTable (judge table) report)
+check-table-first = checked-documents.then-the-table
+
+pub check-text-next : {table document rows report rows′ report′ : List ℕ} {a : ℕ} → CheckedDocument table document rows report rows′ report′ a →
+    Lent rows report → Short table document → judge table ≡ Accepted → (t : Text) (r : Refusal) → Tokens 0 document t → Said Document t (refuses r) →
+    (a ≡ numberOf r) × (report′ ≡ tells r report)
+check-text-next = checked-documents.then-the-text
+
+-- Success leaves in both buffers what `gw_parse` leaves.
+pub check-success-parses : {table document rows report rows′ report′ : List ℕ} {a : ℕ} → CheckedDocument table document rows report rows′ report′ a → a ≡ 0 →
+    Parsed document rows report rows′ report′ a
+check-success-parses = checked-documents.success-parses
+
+-- Refusals 1 and 2 touch no other buffer, and a shorter report is untouched itself; the other refusals zero the fixed size of the rows.
+pub check-refusals-1-and-2-keep-rows : {table document rows report rows′ report′ : List ℕ} {a : ℕ} → CheckedDocument table document rows report rows′ report′ a →
+    (a ≡ 1) ⊎ (a ≡ 2) → rows′ ≡ rows
+check-refusals-1-and-2-keep-rows = checked-documents.rows-kept
+
+pub check-short-report-is-kept : {table document rows report rows′ report′ : List ℕ} {a : ℕ} → CheckedDocument table document rows report rows′ report′ a →
+    length report < reportSize → (a ≡ 1) × (rows′ ≡ rows) × (report′ ≡ report)
+check-short-report-is-kept = checked-documents.short-kept
+
+pub check-refusals-zero-rows : {table document rows report rows′ report′ : List ℕ} {a : ℕ} → CheckedDocument table document rows report rows′ report′ a →
+    2 < a → take rowsSize rows′ ≡ replicate rowsSize 0
+check-refusals-zero-rows = checked-documents.rows-zeroed
+
+-- The report begins with the answer; beyond the fixed sizes nothing is written.
+pub check-report-tells : {table document rows report rows′ report′ : List ℕ} {a : ℕ} → CheckedDocument table document rows report rows′ report′ a →
+    reportSize ≤ length report → (ns : List ℕ) × (report′ ≡ a ∷ ns)
+check-report-tells = checked-documents.report-tells
+
+pub check-rows-tail : {table document rows report rows′ report′ : List ℕ} {a : ℕ} → CheckedDocument table document rows report rows′ report′ a →
+    (length rows′ ≡ length rows) × (drop rowsSize rows′ ≡ drop rowsSize rows)
+check-rows-tail = checked-documents.rows-tail
+
+pub check-report-tail : {table document rows report rows′ report′ : List ℕ} {a : ℕ} → CheckedDocument table document rows report rows′ report′ a →
+    (length report′ ≡ length report) × (drop reportSize report′ ≡ drop reportSize report)
+check-report-tail = checked-documents.report-tail
 
 -- ---- SUB-TYPES
 

@@ -1,4 +1,4 @@
 -- Laws that the proofs of the calls cite.
-pub mod BufferLaws
 pub mod ParsedLaws
 pub mod CheckedLaws
+pub mod DocumentLaws

@@ -4,48 +4,10 @@ use paper::INPUT_DOCUMENT;
 use paper::MOST_TEXT;
 use paper::REFUSE_BUFFER;
 use paper::REPORT_SIZE;
-use paper::ROW_SIZE;
 use paper::ROWS_SIZE;
 use paper::Refusal;
 use reader::Read;
-ghost use mathlib.Core.Path.{_≡_};
-ghost use Prim.Native.Nat.{_≤_};
-ghost use lib.ListN.{length};
-ghost use Rattle.paper.specs.Numbers.{mostText, rowsSize};
-ghost use Rattle.paper.specs.Language.{Document};
 ghost use Rattle.paper.specs.Calls.{Parsed};
-ghost use Rattle.gateway.specs.Gateway.{cleared, Filled};
-
-// Sets the rows from place `from` on to 0.
-fn clear(rows: &mut [u32], from: usize)
-    requires { ⌜ from ≤ length (now rows) ⌝ }
-    ensures { λ _. ⌜ now (rows .exit) ≡ cleared from (now (rows .entry)) ⌝ }
-{
-    let mut i = from;
-    while i < rows.len() {
-        rows[i] = 0;
-        i += 1;
-    }
-}
-
-// Reads a document into rows of the fixed size, and clears what it does not use.
-fn parse(s: &[u8], rows: &mut [u32]) -> Read
-    requires { ⌜ (length (now s) ≤ mostText) × (length (now rows) ≡ rowsSize) ⌝ }
-    ensures { λ r. ⌜ Filled Document (now (s .entry)) (now (rows .entry)) (now (rows .exit)) r ⌝ }
-{
-    let r = documents::document(s, rows);
-    match r {
-        Read::Done(c) => {
-            let n = c.rows;
-            clear(rows, ROW_SIZE * (n as usize));
-            r
-        }
-        Read::Refused(_) => {
-            clear(rows, 0);
-            r
-        }
-    }
-}
 
 // C: uint32_t gw_parse(const uint8_t *document, size_t document_len,
 //                      uint32_t *rows, size_t rows_len, uint32_t *report, size_t report_len);
@@ -66,7 +28,7 @@ pub extern "C" fn gw_parse(document: &[u8], rows: &mut [u32], report: &mut [u32]
     if MOST_TEXT < document.len() {
         return telling::tell_refusal(report, Refusal::OverLength(INPUT_DOCUMENT));
     }
-    let r = parse(document, &mut rows[..ROWS_SIZE]);
+    let r = parsing::parse(document, &mut rows[..ROWS_SIZE]);
     match r {
         Read::Done(c) => {
             telling::tell(report, ACCEPTED, c.rows);

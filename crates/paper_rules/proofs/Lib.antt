@@ -1,4 +1,10 @@
--- Laws of the definitions of the query rules. Nothing here need be believed.
+-- Laws of the definitions of the query rules, and worked examples. Nothing here need be believed.
 pub mod Climbing
 pub mod EnclosingLaws
 pub mod PlaceLaws
+pub mod BrokenAt
+pub mod JudgedOne
+pub mod DocumentCallsOne
+pub mod WorkedRules
+pub mod ExamplesRules
+pub mod ExamplesReaching

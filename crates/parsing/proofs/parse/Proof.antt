@@ -1,10 +1,10 @@
--- `gateway::parse::parse` meets its contract: what lies behind the rows, or all after a refusal, is cleared.
+-- `parsing::parse` meets its contract: what lies behind the rows, or all after a refusal, is cleared.
 use mathlib.Core.Path.{_∙_}
 use native.Mathlib.Omega.{arith}
 use borrow.Author.Needs.{needs}
-use Rattle.gateway.proofs.ParsedLaws.{done-room, done-filled, refused-filled}
-use Rattle.gateway.proofs.parse.parse.Statement.{statement}
-use Rattle.gateway.proofs.parse.parse.Tie as tie
+use Rattle.parsing.proofs.FilledLaws.{done-room, done-filled, refused-filled}
+use Rattle.parsing.proofs.parse.Statement.{statement}
+use Rattle.parsing.proofs.parse.Tie as tie
 
 document-requires : tie.Need-document-requires
 document-requires c κs = search needs

@@ -1,0 +1,75 @@
+// Judges a document by a type table, in buffers that have their sizes: the table, then the text, then the rules.
+use index::BOOK_SIZE;
+use paper::ACCEPTED;
+use paper_rules::QueryAnswer;
+use paper_rules::REFUSE_QUERY;
+use paper_types::TableAnswer;
+use reader::Read;
+ghost use mathlib.Core.Path.{_≡_};
+ghost use lib.ListN.{length};
+ghost use Rattle.paper.specs.Numbers.{rowsSize};
+ghost use Rattle.paper_types.specs.Judging.{judge};
+ghost use Rattle.paper_types.specs.declared.TableAnswer.the-variants.{Accepted};
+ghost use Rattle.index.specs.Book.{bookSize};
+ghost use Rattle.types.specs.Booked.{Booked};
+ghost use Rattle.paper_rules.specs.DocumentCalls.{Lent, Short, CheckedDocument};
+
+// Judges a document by an accepted table. The rows are of their fixed size.
+fn check_document(
+    table: &[u8],
+    book: &[u32],
+    document: &[u8],
+    rows: &mut [u32],
+    report: &mut [u32],
+) -> u32
+    requires { ⌜ Lent (now rows) (now report) × Short (now table) (now document) × (length (now rows) ≡ rowsSize) × (judge (now table) ≡ Accepted) × Booked (now table) (now book) ⌝ }
+    ensures { λ r. ⌜ CheckedDocument (now (table .entry)) (now (document .entry)) (now (rows .entry)) (now (report .entry)) (now (rows .exit)) (now (report .exit)) r ⌝ }
+{
+    let r = parsing::parse(document, rows);
+    match r {
+        Read::Done(c) => {
+            let n = c.rows;
+            let q = queries::first_break(table, book, document, rows, n as usize);
+            match q {
+                QueryAnswer::Fits => {
+                    telling::tell(report, ACCEPTED, n);
+                    ACCEPTED
+                }
+                QueryAnswer::Breaks { row, rule } => {
+                    parsing::clear(rows, 0);
+                    telling::tell_five(report, REFUSE_QUERY, row, rule, 0, 0, 0);
+                    REFUSE_QUERY
+                }
+            }
+        }
+        Read::Refused(why) => telling::tell_refusal(report, why),
+    }
+}
+
+// Judges a table, and by it a document. The rows are of their fixed size; the book is scratch.
+fn check_with(
+    table: &[u8],
+    book: &mut [u32],
+    document: &[u8],
+    rows: &mut [u32],
+    report: &mut [u32],
+) -> u32
+    requires { ⌜ Lent (now rows) (now report) × Short (now table) (now document) × (length (now rows) ≡ rowsSize) × (length (now book) ≡ bookSize) ⌝ }
+    ensures { λ r. ⌜ CheckedDocument (now (table .entry)) (now (document .entry)) (now (rows .entry)) (now (report .entry)) (now (rows .exit)) (now (report .exit)) r ⌝ }
+{
+    let a = tables::judge_with(table, book);
+    let TableAnswer::Accepted = a else {
+        parsing::clear(rows, 0);
+        return telling::tell_table(report, a);
+    };
+    check_document(table, book, document, rows, report)
+}
+
+// Judges a table, and by it a document, with a book of its own. The rows are of their fixed size.
+pub fn check(table: &[u8], document: &[u8], rows: &mut [u32], report: &mut [u32]) -> u32
+    requires { ⌜ Lent (now rows) (now report) × Short (now table) (now document) × (length (now rows) ≡ rowsSize) ⌝ }
+    ensures { λ r. ⌜ CheckedDocument (now (table .entry)) (now (document .entry)) (now (rows .entry)) (now (report .entry)) (now (rows .exit)) (now (report .exit)) r ⌝ }
+{
+    let mut book = [0u32; BOOK_SIZE];
+    check_with(table, &mut book, document, rows, report)
+}

@@ -1,0 +1,40 @@
+// Reads a document into rows of the fixed size, and leaves nothing else in them.
+use paper::ROW_SIZE;
+use reader::Read;
+ghost use mathlib.Core.Path.{_≡_};
+ghost use Prim.Native.Nat.{_≤_};
+ghost use lib.ListN.{length};
+ghost use Rattle.paper.specs.Numbers.{mostText, rowsSize};
+ghost use Rattle.paper.specs.Language.{Document};
+ghost use Rattle.parsing.specs.Parsing.{cleared, Filled};
+
+// Sets the rows from place `from` on to 0.
+pub fn clear(rows: &mut [u32], from: usize)
+    requires { ⌜ from ≤ length (now rows) ⌝ }
+    ensures { λ _. ⌜ now (rows .exit) ≡ cleared from (now (rows .entry)) ⌝ }
+{
+    let mut i = from;
+    while i < rows.len() {
+        rows[i] = 0;
+        i += 1;
+    }
+}
+
+// Reads a document into rows of the fixed size, and clears what it does not use.
+pub fn parse(s: &[u8], rows: &mut [u32]) -> Read
+    requires { ⌜ (length (now s) ≤ mostText) × (length (now rows) ≡ rowsSize) ⌝ }
+    ensures { λ r. ⌜ Filled Document (now (s .entry)) (now (rows .entry)) (now (rows .exit)) r ⌝ }
+{
+    let r = documents::document(s, rows);
+    match r {
+        Read::Done(c) => {
+            let n = c.rows;
+            clear(rows, ROW_SIZE * (n as usize));
+            r
+        }
+        Read::Refused(_) => {
+            clear(rows, 0);
+            r
+        }
+    }
+}

@@ -1,0 +1,4 @@
+-- Laws of this crate.
+pub mod LeastLaws
+pub mod RowLaws
+pub mod JudgedLaws

@@ -1,0 +1,19 @@
+-- What is made ready before the rows are judged.
+-- Assumes nothing.
+use mathlib.Core.List.{List}
+use Prim.Native.Nat.{ℕ, _≤_}
+use lib.ListN.{length}
+use Rattle.paper_types.specs.TableNumbers.{mostTable}
+use Rattle.paper_types.specs.Types.{tableOf}
+use Rattle.constructs.specs.Rowed.{rowsIn, docOf}
+use Rattle.links.specs.Links.{Kinds}
+use Rattle.enclosings.specs.Enclosed.{Asked, Enclosed}
+use Rattle.uses.specs.Flags.{Flagged}
+
+-- the table's book; the rows' links by parent and by kind; the types inside rows, and what each field is; the rules that speak of paths
+pub record Ready (t book s rows : List ℕ) (n : ℕ) (first next firstk nextk inside at to flags : List ℕ) : Type 0 where
+  pub short : length t ≤ mostTable
+  pub asked : Asked t book s rows n first next
+  pub kinds : Kinds (rowsIn rows n) firstk nextk
+  pub enclosed : Enclosed t s rows n inside at to
+  pub flagged : Flagged (tableOf t) (docOf s rows n) flags
