@@ -2,3 +2,4 @@
 pub mod CompositeLaws
 pub mod RootLaws
 pub mod FieldLaws
+pub mod Framed
