@@ -17,7 +17,8 @@ use Rattle.paper_types.proofs.ListsLaws.{find-some}
 use Rattle.paper_types.proofs.FramedLaws.{RightMember, RightDefinition, a-scalar, an-object, an-interface, a-union, an-enum, an-input-object, a-directive, the-roots}
 use Rattle.paper_types.proofs.FramedTable.{framing-right}
 use Rattle.paper_rules.specs.Enclosing.{FieldIs, typename, member, unknown, definitionAt, isTypename, fieldOf, orMissing, fieldIn}
-use Rattle.types.proofs.Fitting.{slimMember, slimDefinition, references-slim, all-at}
+use Rattle.types.specs.Sizes.{slimMember, slimDefinition}
+use Rattle.types.proofs.Fitting.{references-slim, all-at}
 use Rattle.links.proofs.Walks.{and-left, and-right}
 use Rattle.placings.specs.Placed.{slim, slimArgument, slimInput, Fitted}
 

@@ -1,5 +1,5 @@
-// The query rules 8 and 10, and 11 of variables' uses: each row's least break of them, as one number.
-// Fragments are searched from each once, operations once, and each variable is compared with the operations that reach it.
+// The query rules 8 and 10, and 11 where variables are used: the least of them that each row breaks, as one number.
+// One search from each fragment and each operation; then each variable is compared with the operations that reach it.
 use constructs::extra_of;
 use constructs::is_called;
 use constructs::kind_of;
