@@ -179,14 +179,14 @@ fn own_place(
 fn lacking(rule: u32, member: u32, part: u32) -> PlaceRead
     ensures { λ r. ⌜ r ≡ placed (head? (onlyIf (eqb rule ruleFieldMissing) (partAt member part))) ⌝ }
 {
-    if rule == RULE_FIELD_MISSING {
-        return PlaceRead::At {
-            member: member,
-            part: part,
-            argument: NO_PLACE,
-        };
+    if rule != RULE_FIELD_MISSING {
+        return PlaceRead::Kept;
     }
-    PlaceRead::Kept
+    PlaceRead::At {
+        member: member,
+        part: part,
+        argument: NO_PLACE,
+    }
 }
 
 // What the rule shows first of an interface's field, where the definition's members stand from `from` up to `stop`, and in the book `listed`.
