@@ -257,21 +257,11 @@ fn interface_place(
             return PlaceRead::Kept;
         };
         let r = field_place(t, book, listed, rule, member, p, tag, start, to, from, stop);
-        match r {
-            PlaceRead::At {
-                member: x,
-                part: y,
-                argument: z,
-            } => return PlaceRead::At {
-                member: x,
-                part: y,
-                argument: z,
-            },
-            PlaceRead::Kept => {
-                i = to;
-                p += 1;
-            }
-        }
+        let PlaceRead::Kept = r else {
+            return r;
+        };
+        i = to;
+        p += 1;
     }
 }
 
@@ -333,21 +323,11 @@ fn first_place(
             return PlaceRead::Kept;
         };
         let r = name_place(t, book, listed, rule, m, start, to, from, stop);
-        match r {
-            PlaceRead::At {
-                member: x,
-                part: y,
-                argument: z,
-            } => return PlaceRead::At {
-                member: x,
-                part: y,
-                argument: z,
-            },
-            PlaceRead::Kept => {
-                i = to;
-                m += 1;
-            }
-        }
+        let PlaceRead::Kept = r else {
+            return r;
+        };
+        i = to;
+        m += 1;
     }
 }
 

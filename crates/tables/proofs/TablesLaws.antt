@@ -1,5 +1,5 @@
 -- What a table's judging comes to, step by step.
-use mathlib.Core.Path.{_≡_, refl, sym, ap, _∙_}
+use mathlib.Core.Path.{_≡_, refl, sym, _∙_}
 use mathlib.Core.Option.{Option, none, some}
 use mathlib.Core.List.{List, head?}
 use Prim.Native.Nat.{ℕ, zero, suc, _≤_}
@@ -8,8 +8,7 @@ use Rattle.paper_types.specs.TableNumbers.{mostTable}
 use Rattle.paper_types.specs.House.{framing}
 use Rattle.paper_types.specs.TableSizes.{counts}
 use Rattle.paper_types.specs.Types.{tableOf}
-use Rattle.paper_types.specs.Judging.{judge, answer, breaks, leastBreak}
-use Rattle.paper_types.specs.declared.TableAnswer.{TableAnswer}
+use Rattle.paper_types.specs.Judging.{judge, answer, breaks}
 use Rattle.paper_types.specs.declared.TableAnswer.the-variants.{Framing, TooMany}
 use Rattle.paper_types.proofs.TableFits.{judged-first}
 use Rattle.index.specs.Book.{bookSize}
