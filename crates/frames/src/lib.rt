@@ -26,10 +26,11 @@ ghost use Prim.Native.Nat.{_+_, _≤_};
 ghost use mathlib.Core.List.{head?};
 ghost use lib.ListN.{length};
 ghost use lib.Seq.{slice};
-ghost use Rattle.paper_types.specs.TableNumbers.{mostTable};
+ghost use Rattle.paper_types.specs.TableNumbers.{mostTable, tagName, tagReference};
 ghost use Rattle.paper_types.specs.Lists.{anyOf};
 ghost use Rattle.paper_types.specs.House.{pieces, tagIs, wrongs, recordInPlace, framing};
 ghost use Rattle.fields.specs.Fields.{Bounds};
+ghost use Rattle.frames.specs.declared.Holding.the-variants.{Fields};
 ghost use Rattle.frames.specs.Holders.{HoldsAs, rank, leastAfter, placed};
 ghost use Rattle.frames.specs.Framing.{told, isLeaf, rootsAfter};
 
@@ -47,70 +48,54 @@ pub enum Holding {
     Nothing,
 }
 
+// Fields of which a name is due.
+fn named(from: u8, to: u8) -> Holding
+    ensures { λ r. ⌜ r ≡ Fields tagName tagName from to ⌝ }
+{
+    Holding::Fields {
+        first: TAG_NAME,
+        second: TAG_NAME,
+        from: from,
+        to: to,
+    }
+}
+
+// Fields of which a name and a type reference are due.
+fn typed(from: u8, to: u8) -> Holding
+    ensures { λ r. ⌜ r ≡ Fields tagName tagReference from to ⌝ }
+{
+    Holding::Fields {
+        first: TAG_NAME,
+        second: TAG_REFERENCE,
+        from: from,
+        to: to,
+    }
+}
+
+// From the first to the second is no tag.
+const AFTER_NONE: u8 = 1;
+
+const NONE: u8 = 0;
+
 pub fn content_of(tag: u8) -> Holding
     ensures { λ r. ⌜ HoldsAs tag r ⌝ }
 {
     match tag {
-        TAG_SCALAR => Holding::Fields {
-            first: TAG_NAME,
-            second: TAG_NAME,
-            from: 1,
-            to: 0,
-        },
-        TAG_OBJECT => Holding::Fields {
-            first: TAG_NAME,
-            second: TAG_NAME,
-            from: TAG_IMPLEMENTS,
-            to: TAG_FIELD,
-        },
-        TAG_INTERFACE => Holding::Fields {
-            first: TAG_NAME,
-            second: TAG_NAME,
-            from: TAG_FIELD,
-            to: TAG_FIELD,
-        },
-        TAG_UNION => Holding::Fields {
-            first: TAG_NAME,
-            second: TAG_NAME,
-            from: TAG_UNION_MEMBER,
-            to: TAG_UNION_MEMBER,
-        },
-        TAG_ENUM => Holding::Fields {
-            first: TAG_NAME,
-            second: TAG_NAME,
-            from: TAG_ENUM_VALUE,
-            to: TAG_ENUM_VALUE,
-        },
-        TAG_INPUT_OBJECT => Holding::Fields {
-            first: TAG_NAME,
-            second: TAG_NAME,
-            from: TAG_ARGUMENT,
-            to: TAG_ARGUMENT,
-        },
-        TAG_DIRECTIVE => Holding::Fields {
-            first: TAG_NAME,
-            second: TAG_NAME,
-            from: TAG_ARGUMENT,
-            to: TAG_ARGUMENT,
-        },
+        TAG_SCALAR => named(AFTER_NONE, NONE),
+        TAG_OBJECT => named(TAG_IMPLEMENTS, TAG_FIELD),
+        TAG_INTERFACE => named(TAG_FIELD, TAG_FIELD),
+        TAG_UNION => named(TAG_UNION_MEMBER, TAG_UNION_MEMBER),
+        TAG_ENUM => named(TAG_ENUM_VALUE, TAG_ENUM_VALUE),
+        TAG_INPUT_OBJECT => named(TAG_ARGUMENT, TAG_ARGUMENT),
+        TAG_DIRECTIVE => named(TAG_ARGUMENT, TAG_ARGUMENT),
         TAG_ROOTS => Holding::Fields {
             first: TAG_QUERY_ROOT,
             second: TAG_QUERY_ROOT,
             from: TAG_MUTATION_ROOT,
             to: TAG_SUBSCRIPTION_ROOT,
         },
-        TAG_FIELD => Holding::Fields {
-            first: TAG_NAME,
-            second: TAG_REFERENCE,
-            from: TAG_ARGUMENT,
-            to: TAG_REFERENCE,
-        },
-        TAG_ARGUMENT => Holding::Fields {
-            first: TAG_NAME,
-            second: TAG_REFERENCE,
-            from: TAG_REFERENCE,
-            to: TAG_REFERENCE,
-        },
+        TAG_FIELD => typed(TAG_ARGUMENT, TAG_REFERENCE),
+        TAG_ARGUMENT => typed(TAG_REFERENCE, TAG_REFERENCE),
         TAG_REFERENCE => Holding::Reference,
         TAG_NAME => Holding::Name,
         TAG_IMPLEMENTS => Holding::Name,

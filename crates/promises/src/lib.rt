@@ -179,14 +179,14 @@ fn own_place(
 fn lacking(rule: u32, member: u32, part: u32) -> PlaceRead
     ensures { λ r. ⌜ r ≡ placed (head? (onlyIf (eqb rule ruleFieldMissing) (partAt member part))) ⌝ }
 {
-    if rule == RULE_FIELD_MISSING {
-        return PlaceRead::At {
-            member: member,
-            part: part,
-            argument: NO_PLACE,
-        };
+    if rule != RULE_FIELD_MISSING {
+        return PlaceRead::Kept;
     }
-    PlaceRead::Kept
+    PlaceRead::At {
+        member: member,
+        part: part,
+        argument: NO_PLACE,
+    }
 }
 
 // What the rule shows first of an interface's field, where the definition's members stand from `from` up to `stop`, and in the book `listed`.
@@ -257,21 +257,11 @@ fn interface_place(
             return PlaceRead::Kept;
         };
         let r = field_place(t, book, listed, rule, member, p, tag, start, to, from, stop);
-        match r {
-            PlaceRead::At {
-                member: x,
-                part: y,
-                argument: z,
-            } => return PlaceRead::At {
-                member: x,
-                part: y,
-                argument: z,
-            },
-            PlaceRead::Kept => {
-                i = to;
-                p += 1;
-            }
-        }
+        let PlaceRead::Kept = r else {
+            return r;
+        };
+        i = to;
+        p += 1;
     }
 }
 
@@ -333,21 +323,11 @@ fn first_place(
             return PlaceRead::Kept;
         };
         let r = name_place(t, book, listed, rule, m, start, to, from, stop);
-        match r {
-            PlaceRead::At {
-                member: x,
-                part: y,
-                argument: z,
-            } => return PlaceRead::At {
-                member: x,
-                part: y,
-                argument: z,
-            },
-            PlaceRead::Kept => {
-                i = to;
-                m += 1;
-            }
-        }
+        let PlaceRead::Kept = r else {
+            return r;
+        };
+        i = to;
+        m += 1;
     }
 }
 

@@ -1,14 +1,15 @@
+-- Name by name, up to the first that shows something.
 use borrow.Author.Needs.{needs}
 use mathlib.Core.Path.{sym, subst, _∙_}
-use native.Mathlib.Omega.{arith}
 use mathlib.Core.Bool.{true}
 use Prim.Native.Nat.{_-_}
+use native.Mathlib.Omega.{arith}
 use Rattle.paper_types.specs.Types.{tableOf}
 use Rattle.paper_types.specs.Rules.{promisedBy}
 use Rattle.members.specs.Members.{membersIn, implementedIn, NextImplemented}
 use Rattle.members.specs.declared.FieldFound.the-variants.{Found}
-use Rattle.promises.specs.Asked.{askedOf}
 use Rattle.types.proofs.SlimLaws.{all-any}
+use Rattle.promises.specs.Asked.{askedOf}
 use Rattle.promises.proofs.Walking.{Walking, walking-start, walking-none, walking-here, walking-on}
 use Rattle.promises.proofs.first_place.Statement.{statement}
 use Rattle.promises.proofs.first_place.Tie as tie
@@ -21,7 +22,8 @@ abbrev μ-loop : tie.MeasureT-loop
 
 found : (c : tie.After-start Inv-loop μ-loop)
     → NextImplemented (c .before .before .before .before .before .before .before .args .t .now) (c .before .before .before .loop .i) (c .before .before .before .before .before .before .before .args .stop) (Found (c .start .given .0 .0) (c .start .given .0 .1 .0) (c .start .given .0 .1 .1 .0))
-found c = subst (NextImplemented (c .before .before .before .before .before .before .before .args .t .now) (c .before .before .before .loop .i) (c .before .before .before .before .before .before .before .args .stop)) (c .start .given .1) (c .before .before .next-implemented .ensures)
+found c =
+    subst (NextImplemented (c .before .before .before .before .before .before .before .args .t .now) (c .before .before .before .loop .i) (c .before .before .before .before .before .before .before .args .stop)) (c .start .given .1) (c .before .before .next-implemented .ensures)
 
 loop-holds : tie.Need-loop-holds Inv-loop μ-loop
 loop-holds c = walking-start _ _ _ _ _ (c .before .before .before .pre .2 .order) (all-any (implementedIn (c .before .before .before .args .t .now) (c .before .before .before .args .from) (c .before .before .before .args .stop)))
@@ -41,32 +43,32 @@ returns c = walking-none (c .before .before .before .loop .inv) (subst (NextImpl
 name-place-requires : tie.Need-name-place-requires Inv-loop μ-loop
 name-place-requires c κs =
     let p = c .before .before .before .before .before .before .before .before .pre in
-    let f = found (c .before) in
+    let f = found ((c .before)) in
     (p .0, p .1, record { order = f .lies .order; within = omega (arith, f .lies .within, p .2 .within); most = p .2 .most }, p .2, p .3, p .4)
-
-enum-known-r : tie.Need-enum-known-r Inv-loop μ-loop
-enum-known-r c = search needs
-
-returns-2 : tie.Need-returns-2 Inv-loop μ-loop
-returns-2 c =
-    walking-here (c .before .before .before .before .before .before .before .before .loop .inv) (found (c .before .before .before .before .before)) (c .before .r .given .0 .0) (c .before .r .given .0 .1 .0) (c .before .r .given .0 .1 .1 .0)
-    (sym (c .before .r .given .1) ∙ c .before .before .before .name-place .ensures)
 
 enum-told-2 : tie.Need-enum-told-2 Inv-loop μ-loop
 enum-told-2 c = search needs
 
+enum-told-3 : tie.Need-enum-told-3 Inv-loop μ-loop
+enum-told-3 c = search needs
+
+returns-2 : tie.Need-returns-2 Inv-loop μ-loop
+returns-2 c =
+    let e = c .enum-told3 .given .1 in
+    e ∙ walking-here (c .before .before .before .before .before .before .before .loop .inv) (found ((c .before .before .before .before))) _ _ _ (sym e ∙ c .before .before .name-place .ensures)
+
 add-m : tie.Need-add-m Inv-loop μ-loop
 add-m c =
-    let f = found (c .before .before .before .before) in
+    let f = found ((c .before .before .before .before)) in
     omega (arith, c .before .before .before .before .before .before .before .loop .inv .few, f .lies .begins, f .lies .order, f .lies .within, c .before .before .before .before .before .before .before .before .before .before .before .pre .2 .within, c .before .before .before .before .before .before .before .before .before .before .before .pre .2 .most)
 
 loop-less : tie.Need-loop-less Inv-loop μ-loop
 loop-less c =
-    let f = found (c .before .before .before .before) in
+    let f = found ((c .before .before .before .before)) in
     omega (arith, f .lies .begins, f .lies .order, f .lies .within)
 
 loop-again : tie.Need-loop-again Inv-loop μ-loop
-loop-again c = walking-on (c .before .before .before .before .before .before .before .loop .inv) (found (c .before .before .before .before)) (sym (c .enum-told2 .given .1) ∙ c .before .before .name-place .ensures)
+loop-again c = walking-on (c .before .before .before .before .before .before .before .loop .inv) (found ((c .before .before .before .before))) (sym (c .enum-told2 .given .1) ∙ c .before .before .name-place .ensures)
 
 pub first-place-spec : {M : Type 1} → statement M
 first-place-spec =
@@ -80,9 +82,9 @@ first-place-spec =
     enum-told
     returns
     name-place-requires
-    enum-known-r
-    returns-2
     enum-told-2
+    enum-told-3
+    returns-2
     add-m
     loop-less
     loop-again)

@@ -5,10 +5,10 @@ use Rattle.promises.proofs.lacking.Statement.{statement}
 use Rattle.promises.proofs.lacking.Tie as tie
 
 returns : tie.Need-returns
-returns c = rw (eq-eqb (c .before .args .rule) ruleFieldMissing (c .if1 .taken))
+returns c = rw (ne-eqb (c .before .args .rule) ruleFieldMissing (c .if1 .taken))
 
 returns-2 : tie.Need-returns-2
-returns-2 c = rw (ne-eqb (c .before .args .rule) ruleFieldMissing (c .if1 .left))
+returns-2 c = rw (eq-eqb (c .before .args .rule) ruleFieldMissing (c .if1 .left))
 
 pub lacking-spec : {M : Type 1} → statement M
 lacking-spec = tie.close (tie.spec returns returns-2)
