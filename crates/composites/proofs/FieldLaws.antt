@@ -3,25 +3,25 @@ use mathlib.Core.Path.{_≡_, refl, sym, ap, subst, _∙_}
 use mathlib.Core.Bool.{Bool, true, false, _&&_, _||_, cond, true≢false}
 use mathlib.Core.Option.{Option, none, some}
 use mathlib.Core.List.{List, []}
-use Prim.Native.Nat.{ℕ, zero, suc, _+_, _-_, _≤_, _<_}
+use Prim.Native.Nat.{ℕ, zero, suc, _-_, _≤_, _<_}
 use native.Mathlib.Omega.{arith}
-use lib.ListN.{length, getD}
+use lib.ListN.{getD}
 use lib.Dec.{eqb, leb}
 use borrow.Author.Tests.{eq-eqb, ne-eqb, eqb-true, eqb-false, leb-true}
 use Rattle.paper_types.specs.TableNumbers.{tagObject, tagInterface, tagUnion, tagField}
 use Rattle.paper_types.specs.Lists.{allOf, find}
-use Rattle.paper_types.specs.References.{baseOf}
 use Rattle.paper_types.specs.Types.{Member, Definition, tableOf, isObject, isInterface, blank, tagNothing, nameOnly, typeIn as typeOf}
-use Rattle.paper_types.specs.Rules.{memberNamed, isField, isOutput}
+use Rattle.paper_types.specs.Rules.{memberNamed, isField}
 use Rattle.paper_types.proofs.ListsLaws.{find-some}
-use Rattle.paper_rules.specs.Enclosing.{FieldIs, typename, member, missing, unknown, definitionAt, compositeOf, fieldOf, isTypename, orMissing, fieldIn, typeIn}
+use Rattle.paper_rules.proofs.EnclosingLaws.{Composite}
+use Rattle.paper_rules.specs.Enclosing.{typename, member, missing, unknown, definitionAt, compositeOf, fieldOf, isTypename, orMissing, fieldIn, typeIn}
 use Rattle.fields.specs.Fields.{Bounds}
 use Rattle.index.specs.Book.{part, room, countIn}
 use Rattle.members.specs.Members.{fieldsIn, membersIn, memberFrom, Typed, Finds}
 use Rattle.members.proofs.MemberLaws.{field-is, member-tag}
 use Rattle.types.specs.Booked.{startIn, endIn, Booked}
 use Rattle.types.proofs.Fitting.{all-at}
-use Rattle.composites.specs.Coded.{typeCoded, fieldUnknown, fieldMissing, fieldTypename, fieldCoded, FieldKept, fieldsOnly, Fielded, Composite}
+use Rattle.composites.specs.Coded.{typeCoded, fieldUnknown, fieldMissing, fieldTypename, fieldCoded, FieldKept, fieldsOnly, Fielded}
 use Rattle.composites.proofs.CompositeLaws.{output-below}
 
 -- by the first number
@@ -60,8 +60,8 @@ type-some (suc k) h = let e : k ≡ suc k - 1 = omega arith in ap some e
 pub type-none : (c : ℕ) → c ≡ 0 → typeCoded c ≡ none
 type-none c e = ap typeCoded e
 
--- the field of a name in definition k, an object, interface or union
-module _ (t book : List ℕ) (b : Booked t book) (k : ℕ) (o : Composite (tableOf t) k) (n : List ℕ) where
+-- definition k is an object, interface or union
+module _ (t book : List ℕ) (b : Booked t book) (k : ℕ) (o : Composite (tableOf t) k) where
   pub number-below : k < countIn book
   number-below = output-below t book b k o
 
@@ -71,54 +71,56 @@ module _ (t book : List ℕ) (b : Booked t book) (k : ℕ) (o : Composite (table
   tag-is : definitionAt (tableOf t) k .tag ≡ getD book k 0
   tag-is = ap (λ (d : Definition). d .tag) (b .entered k number-below .is)
 
-  pub union-lacks : getD book k 0 ≡ tagUnion → FieldKept t (orMissing (fieldOf (tableOf t) k n)) fieldMissing 0
-  unfolding fieldOf
-  union-lacks u = rw (eq-eqb (definitionAt (tableOf t) k .tag) tagUnion (tag-is ∙ u)) (kept-missing t 0)
-
-  module _ (u : getD book k 0 ≡ tagUnion → ⊥) (start end : ℕ) (p : start ≡ startIn book k) (q : end ≡ endIn book k) where
-    members-are : definitionAt (tableOf t) k .members ≡ membersIn t start end
-    members-are = rw (p, q) (ap (λ (d : Definition). d .members) (b .entered k number-below .is))
-
-    field-sought : fieldOf (tableOf t) k n ≡ find (memberNamed n) (membersIn t start end)
+  -- its field of a name
+  module _ (n : List ℕ) where
+    pub union-lacks : getD book k 0 ≡ tagUnion → FieldKept t (orMissing (fieldOf (tableOf t) k n)) fieldMissing 0
     unfolding fieldOf
-    field-sought = rw (ne-eqb (definitionAt (tableOf t) k .tag) tagUnion (λ z. u (sym tag-is ∙ z))) (ap (find (memberNamed n)) members-are)
+    union-lacks u = rw (eq-eqb (definitionAt (tableOf t) k .tag) tagUnion (tag-is ∙ u)) (kept-missing t 0)
 
-    pub field-lacks : find (memberNamed n) (membersIn t start end) ≡ none → FieldKept t (orMissing (fieldOf (tableOf t) k n)) fieldMissing 0
-    field-lacks e = rw (field-sought ∙ e) (kept-missing t 0)
+    module _ (u : getD book k 0 ≡ tagUnion → ⊥) (start end : ℕ) (p : start ≡ startIn book k) (q : end ≡ endIn book k) where
+      members-are : definitionAt (tableOf t) k .members ≡ membersIn t start end
+      members-are = rw (p, q) (ap (λ (d : Definition). d .members) (b .entered k number-below .is))
 
-    has-fields : isObject (definitionAt (tableOf t) k) || isInterface (definitionAt (tableOf t) k) ≡ true
-    has-fields = go (leb tagObject (definitionAt (tableOf t) k .tag)) refl (leb (definitionAt (tableOf t) k .tag) tagUnion) refl o
-      where
-        x : ℕ
-        x = definitionAt (tableOf t) k .tag
+      field-sought : fieldOf (tableOf t) k n ≡ find (memberNamed n) (membersIn t start end)
+      unfolding fieldOf
+      field-sought = rw (ne-eqb (definitionAt (tableOf t) k .tag) tagUnion (λ z. u (sym tag-is ∙ z))) (ap (find (memberNamed n)) members-are)
 
-        either : tagObject ≤ x → x ≤ tagUnion → (a : Bool) → eqb x tagObject ≡ a → (c : Bool) → eqb x tagInterface ≡ c → a || c ≡ true
-        either h l true e c f = refl
-        either h l false e true f = refl
-        either h l false e false f = absurd (u (sym tag-is ∙ omega (arith, eqb-false x tagObject e, eqb-false x tagInterface f)))
+      pub field-lacks : find (memberNamed n) (membersIn t start end) ≡ none → FieldKept t (orMissing (fieldOf (tableOf t) k n)) fieldMissing 0
+      field-lacks e = rw (field-sought ∙ e) (kept-missing t 0)
 
-        go : (a : Bool) → leb tagObject x ≡ a → (c : Bool) → leb x tagUnion ≡ c → a && c ≡ true → isObject (definitionAt (tableOf t) k) || isInterface (definitionAt (tableOf t) k) ≡ true
-        go true e true f z = either (leb-true tagObject x e) (leb-true x tagUnion f) (eqb x tagObject) refl (eqb x tagInterface) refl
-        go true e false f z = absurd (true≢false (sym z))
-        go false e c f z = absurd (true≢false (sym z))
+      has-fields : isObject (definitionAt (tableOf t) k) || isInterface (definitionAt (tableOf t) k) ≡ true
+      has-fields = go (leb tagObject (definitionAt (tableOf t) k .tag)) refl (leb (definitionAt (tableOf t) k .tag) tagUnion) refl o
+        where
+          x : ℕ
+          x = definitionAt (tableOf t) k .tag
 
-    module _ (f : Fielded (tableOf t)) (tag from to : ℕ) (s : Finds start end from to (find (memberNamed n) (membersIn t start end)) (memberFrom t tag from to)) where
-      is-field : tag ≡ tagField
-      is-field =
-          let a : fieldsOnly (definitionAt (tableOf t) k) ≡ true = all-at fieldsOnly (blank tagNothing) (tableOf t) f k (omega (arith, number-below, b .count)) in
-          let m : allOf isField (membersIn t start end) ≡ true = sym (ap (allOf isField) members-are) ∙ (rw has-fields at a) in
-          let z = find-some (memberNamed n) (membersIn t start end) (memberFrom t tag from to) (nameOnly tagNothing []) (s .is) in
-          let y : isField (memberFrom t tag from to) ≡ true = subst (λ (e : Member). isField e ≡ true) (z .2) (all-at isField (nameOnly tagNothing []) (membersIn t start end) m (z .0) (z .1)) in
-          sym (member-tag t tag from to) ∙ eqb-true (memberFrom t tag from to .tag) tagField y
+          either : tagObject ≤ x → x ≤ tagUnion → (a : Bool) → eqb x tagObject ≡ a → (c : Bool) → eqb x tagInterface ≡ c → a || c ≡ true
+          either h l true e c f = refl
+          either h l false e true f = refl
+          either h l false e false f = absurd (u (sym tag-is ∙ omega (arith, eqb-false x tagObject e, eqb-false x tagInterface f)))
 
-      pub found-bounds : Bounds t from to
-      found-bounds = record { order = s .lies .order; within = omega (arith, s .lies .within, q, b .entered k number-below .within); most = b .short }
+          go : (a : Bool) → leb tagObject x ≡ a → (c : Bool) → leb x tagUnion ≡ c → a && c ≡ true → isObject (definitionAt (tableOf t) k) || isInterface (definitionAt (tableOf t) k) ≡ true
+          go true e true f z = either (leb-true tagObject x e) (leb-true x tagUnion f) (eqb x tagObject) refl (eqb x tagInterface) refl
+          go true e false f z = absurd (true≢false (sym z))
+          go false e c f z = absurd (true≢false (sym z))
 
-      pub field-kept : FieldKept t (orMissing (fieldOf (tableOf t) k n)) from to
-      field-kept = record {
-        is = ap orMissing (field-sought ∙ s .is) ∙ ap (λ (x : ℕ). member (memberFrom t x from to)) is-field ∙ coded-member t to from (omega (arith, s .lies .begins));
-        bounds = λ h. found-bounds;
-      }
+      module _ (f : Fielded (tableOf t)) (tag from to : ℕ) (s : Finds start end from to (find (memberNamed n) (membersIn t start end)) (memberFrom t tag from to)) where
+        is-field : tag ≡ tagField
+        is-field =
+            let a : fieldsOnly (definitionAt (tableOf t) k) ≡ true = all-at fieldsOnly (blank tagNothing) (tableOf t) f k (omega (arith, number-below, b .count)) in
+            let m : allOf isField (membersIn t start end) ≡ true = sym (ap (allOf isField) members-are) ∙ (rw has-fields at a) in
+            let z = find-some (memberNamed n) (membersIn t start end) (memberFrom t tag from to) (nameOnly tagNothing []) (s .is) in
+            let y : isField (memberFrom t tag from to) ≡ true = subst (λ (e : Member). isField e ≡ true) (z .2) (all-at isField (nameOnly tagNothing []) (membersIn t start end) m (z .0) (z .1)) in
+            sym (member-tag t tag from to) ∙ eqb-true (memberFrom t tag from to .tag) tagField y
+
+        pub found-bounds : Bounds t from to
+        found-bounds = record { order = s .lies .order; within = omega (arith, s .lies .within, q, b .entered k number-below .within); most = b .short }
+
+        pub field-kept : FieldKept t (orMissing (fieldOf (tableOf t) k n)) from to
+        field-kept = record {
+          is = ap orMissing (field-sought ∙ s .is) ∙ ap (λ (x : ℕ). member (memberFrom t x from to)) is-field ∙ coded-member t to from (omega (arith, s .lies .begins));
+          bounds = λ h. found-bounds;
+        }
 
 -- what a field is in the type above
 module _ (t : List ℕ) (above : ℕ) (n : List ℕ) where

@@ -1,27 +1,24 @@
 -- The roots of a table: where record 8 stands, and what its members are.
-use mathlib.Core.Path.{_≡_, refl, sym, ap, subst, _∙_}
+use mathlib.Core.Path.{_≡_, refl, sym, ap, _∙_}
 use mathlib.Core.Bool.{Bool, true, false, cond}
 use mathlib.Core.Option.{Option, none, some}
 use mathlib.Core.List.{List, [], _∷_}
-use Prim.Native.Nat.{ℕ, zero, suc, _+_, _≤_, _<_}
+use Prim.Native.Nat.{ℕ, suc, _+_, _≤_, _<_}
 use native.Mathlib.Nat.{zero-add}
 use native.Mathlib.Numerals.{add-one}
 use native.Mathlib.Omega.{arith}
 use lib.ListN.{length, drop, getD, drop-of-length-le}
 use lib.Seq.{drop-cons}
-use lib.Dec.{eqb}
-use borrow.Author.Tests.{eq-eqb, ne-eqb, le-ltb}
-use Rattle.paper_types.specs.TableNumbers.{tagRoots, tagQueryRoot}
+use borrow.Author.Tests.{ne-eqb, le-ltb}
+use Rattle.paper_types.specs.TableNumbers.{tagQueryRoot}
 use Rattle.paper_types.specs.Lists.{bytes, firstAt, find}
-use Rattle.paper_types.specs.References.{found}
 use Rattle.paper_types.specs.Types.{Member, Definition, tableOf, isRoots, blank, tagNothing, nameOnly, rootsIn, rootsOf}
 use Rattle.paper_types.proofs.ListsLaws.{firstAt-here, firstAt-later, any-first, find-any}
-use Rattle.paper_rules.specs.Enclosing.{then, definitionAt, compositeOf, rootOf}
-use Rattle.fields.specs.Fields.{Bounds}
-use Rattle.index.specs.Book.{part, countIn}
-use Rattle.members.specs.Members.{membersIn, memberFrom, Named, Finds}
+use Rattle.paper_rules.specs.Enclosing.{then, compositeOf, rootOf}
+use Rattle.index.specs.Book.{countIn}
+use Rattle.members.specs.Members.{membersIn, memberFrom, Finds}
 use Rattle.types.specs.Booked.{startIn, endIn, Booked}
-use Rattle.composites.specs.Coded.{typeCoded, tagged, RootWritten}
+use Rattle.composites.specs.Coded.{tagged, RootWritten}
 
 -- a search by numbers, at number i: the first of all is the first from here on
 module _ {A : Type 0} (p : A → Bool) (xs : List A) where

@@ -9,8 +9,9 @@ use lib.Dec.{eqb}
 use Rattle.paper_types.specs.TableNumbers.{tagField, tagQueryRoot}
 use Rattle.paper_types.specs.Lists.{bytes, allOf, find}
 use Rattle.paper_types.specs.Types.{Member, Definition, Table, tableOf, isObject, isInterface, nameOnly}
-use Rattle.paper_types.specs.Rules.{isField, isOutput}
-use Rattle.paper_rules.specs.Enclosing.{FieldIs, typename, member, missing, unknown, definitionAt, rootOf}
+use Rattle.paper_types.specs.Rules.{isField}
+use Rattle.paper_rules.specs.Enclosing.{FieldIs, typename, member, missing, unknown, rootOf}
+use Rattle.paper_rules.proofs.EnclosingLaws.{Composite}
 use Rattle.fields.specs.Fields.{Bounds}
 use Rattle.members.specs.Members.{membersIn, memberFrom, Finds}
 use Rattle.members.specs.declared.FieldFound.{FieldFound}
@@ -50,11 +51,7 @@ fieldsOnly d = cond (isObject d || isInterface d) (allOf isField (d .members)) t
 abbrev pub Fielded : Table → Type 0
 Fielded t = allOf fieldsOnly t ≡ true
 
--- the table's definition of this number is an object, interface or union
-abbrev pub Composite : Table → ℕ → Type 0
-Composite t k = isOutput (definitionAt t k) ≡ true
-
--- the type, if it is one, is such
+-- the type, if it is one, is an object, interface or union of the table
 abbrev pub TypeKnown : Table → ℕ → Type 0
 TypeKnown t c = (k : ℕ) → typeCoded c ≡ some k → Composite t k
 

@@ -17,10 +17,11 @@ ghost use Rattle.paper_types.specs.Lists.{firstAt};
 ghost use Rattle.paper_types.specs.References.{found};
 ghost use Rattle.paper_types.specs.Types.{definition, tableOf, isRoots};
 ghost use Rattle.paper_rules.specs.Enclosing.{then, ifComposite, compositeOf, rootOf, fieldOf, isTypename, orMissing, fieldIn, typeIn};
+ghost use Rattle.paper_rules.proofs.EnclosingLaws.{Composite};
 ghost use Rattle.fields.specs.Fields.{Bounds};
-ghost use Rattle.index.specs.Book.{part, countIn};
+ghost use Rattle.index.specs.Book.{part};
 ghost use Rattle.types.specs.Booked.{Booked};
-ghost use Rattle.composites.specs.Coded.{fieldTypename, typeCoded, fieldCoded, FieldKept, Fielded, Composite, TypeKnown, FindTagged, RootFinds};
+ghost use Rattle.composites.specs.Coded.{fieldTypename, typeCoded, fieldCoded, FieldKept, Fielded, TypeKnown, FindTagged, RootFinds};
 
 // no type
 pub const NO_TYPE: u32 = 0;

@@ -5,13 +5,12 @@ use mathlib.Core.Option.{Option, none, some}
 use mathlib.Core.List.{List}
 use Prim.Native.Nat.{ℕ, _<_, _≤_}
 use native.Mathlib.Omega.{arith}
-use lib.ListN.{length, getD}
 use borrow.Author.Tests.{eq-eqb, ne-eqb}
-use Rattle.paper.specs.Numbers.{kindOperation, kindFragment, kindField, kindInline, kindTypeReference}
+use Rattle.paper.specs.Numbers.{kindOperation, kindFragment, kindInline, kindTypeReference}
 use Rattle.paper.specs.Rows.{Row}
 use Rattle.paper_types.specs.Lists.{firstAt, find}
 use Rattle.paper_types.specs.Types.{tableOf}
-use Rattle.paper_rules.specs.Constructs.{noRow, is, below, spelt}
+use Rattle.paper_rules.specs.Constructs.{noRow, is, below}
 use Rattle.paper_rules.specs.Enclosing.{then, compositeOf, rootOf, conditionOf, conditioned, insideFrom}
 use Rattle.paper_rules.proofs.EnclosingLaws.{from-operation, from-fragment, from-inline}
 use Rattle.index.specs.Book.{part}

@@ -2,20 +2,19 @@
 use mathlib.Core.Path.{_≡_, refl, sym, ap, subst, _∙_}
 use mathlib.Core.Logic.{_⊎_, ⊎-elim, inl, inr}
 use mathlib.Core.Bool.{Bool, true, false, cond, true≢false}
-use mathlib.Core.Option.{Option, none, some}
 use mathlib.Core.List.{List}
-use Prim.Native.Nat.{ℕ, zero, suc, _<_, _≤_}
+use Prim.Native.Nat.{ℕ, suc, _<_, _≤_}
 use native.Mathlib.Decide.{decLt}
 use native.Mathlib.Omega.{arith}
 use lib.ListN.{length, getD, set, length-set}
 use lib.Seq.{getD-set-same, getD-set-other}
-use Rattle.paper.specs.Numbers.{mostRows, noParent, kindField}
+use Rattle.paper.specs.Numbers.{mostRows, kindField}
 use Rattle.paper_types.specs.Types.{tableOf}
 use Rattle.paper_rules.specs.Constructs.{nameOf}
 use Rattle.paper_rules.specs.Enclosing.{inside, insideFrom, enclosing, fieldIn, typeIn, fieldAt}
 use Rattle.paper_rules.proofs.Climbing.{ParentsBefore}
 use Rattle.paper_rules.proofs.EnclosingLaws.{inside-step, inside-is, from-other, from-field}
-use Rattle.constructs.specs.Rowed.{rowIn, rowsIn, docOf, Rowed}
+use Rattle.constructs.specs.Rowed.{rowIn, docOf, Rowed}
 use Rattle.constructs.proofs.RowsIn.{rows-count, parent-before}
 use Rattle.composites.specs.Coded.{typeCoded, fieldCoded, FieldKept, TypeKnown}
 use Rattle.enclosings.specs.Enclosed.{encloses, typeKept, EnclosedTo, Enclosed}

@@ -14,8 +14,8 @@ use paper::KIND_OPERATION;
 use paper::KIND_TYPE_REFERENCE;
 ghost use mathlib.Core.Path.{_≡_};
 ghost use mathlib.Core.Bool.{true};
-ghost use Prim.Native.Nat.{suc, _+_, _≤_, _<_};
-ghost use lib.ListN.{length, getD};
+ghost use Prim.Native.Nat.{suc, _<_};
+ghost use lib.ListN.{length};
 ghost use Rattle.paper.specs.Numbers.{kindField, mostRows};
 ghost use Rattle.paper_types.specs.Lists.{firstAt};
 ghost use Rattle.paper_types.specs.Types.{tableOf};
@@ -27,7 +27,7 @@ ghost use Rattle.composites.specs.Coded.{typeCoded, Fielded};
 ghost use Rattle.enclosings.specs.Enclosed.{encloses, typeKept, conditions, Asked, EnclosedTo, Enclosed};
 
 // Has a row of this kind a type inside?
-fn encloses(kind: u32) -> bool
+pub fn encloses(kind: u32) -> bool
     ensures { λ r. ⌜ r ≡ encloses kind ⌝ }
 {
     if kind == KIND_OPERATION {

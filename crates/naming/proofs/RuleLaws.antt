@@ -9,7 +9,7 @@ use lib.ListN.{length, drop}
 use lib.Dec.{leb, ltb}
 use borrow.Author.Tests.{eq-eqb, ne-eqb, lt-ltb, le-ltb, le-leb, lt-leb}
 use Rattle.paper.specs.Numbers.{kindOperation, kindFragment, kindSpread, kindArgument, kindVariableDefinition}
-use Rattle.paper_types.specs.Lists.{anyOf, firstAt}
+use Rattle.paper_types.specs.Lists.{anyOf}
 use Rattle.paper_types.specs.Rules.{earlier}
 use Rattle.paper_types.proofs.ListsLaws.{any-take, any-first}
 use Rattle.paper_rules.specs.Constructs.{Doc, count, rowOf, kindOf, nameOf, is, fragmentCalled, fragmentNamed, hasFragment}

@@ -229,7 +229,7 @@ fn next_beside(rows: &[u32], n: usize, next: &[u32], k: u32, j: usize) -> usize
 }
 
 // The first of kind k right below row p; n if there is none.
-fn first_below(rows: &[u32], n: usize, first: &[u32], next: &[u32], k: u32, p: usize) -> usize
+pub fn first_below(rows: &[u32], n: usize, first: &[u32], next: &[u32], k: u32, p: usize) -> usize
     requires { ⌜ Sized (now rows) n × Family (rowsIn (now rows) n) (now first) (now next) × (p < n) ⌝ }
     ensures { λ r. ⌜ r ≡ firstBelow (rowsIn (now (rows .entry)) n) k p ⌝ }
 {

@@ -4,15 +4,14 @@ use mathlib.Core.Path.{_≡_, refl, sym, ap, _∙_}
 use mathlib.Core.Bool.{Bool, true, false, cond, true≢false}
 use mathlib.Core.Option.{Option, none, some}
 use mathlib.Core.List.{List}
-use Prim.Native.Nat.{ℕ, zero, suc, _<_, _≤_}
-use lib.Dec.{eqb}
+use Prim.Native.Nat.{ℕ, zero, suc, _≤_}
 use borrow.Author.Tests.{eq-eqb, ne-eqb}
 use Rattle.paper.specs.Numbers.{kindOperation, kindFragment, kindField, kindInline}
 use Rattle.paper.specs.Rows.{Row}
 use Rattle.paper_types.specs.Types.{Member, Table, Meaning, builtIn, nothing, definition, meaning, definitionBy, meant}
 use Rattle.paper_types.specs.References.{baseOf, found}
 use Rattle.paper_types.specs.Rules.{isOutput}
-use Rattle.paper_rules.specs.Constructs.{Doc, count, noRow, is, spelt, rowOf, kindOf, parentOf, extraOf, nameOf}
+use Rattle.paper_rules.specs.Constructs.{Doc, count, is, spelt, rowOf, kindOf, parentOf, extraOf, nameOf}
 use Rattle.paper_rules.specs.Enclosing.{then, definitionAt, ifComposite, compositeOf, rootOf, FieldIs, typename, member, missing, unknown, fieldIn, typeIn, conditionOf, conditioned, insideFrom, insideBy, inside}
 use Rattle.paper_rules.proofs.Climbing.{ParentsBefore, row-none, climb, climb-none, climb-step}
 

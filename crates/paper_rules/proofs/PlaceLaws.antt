@@ -1,8 +1,8 @@
 -- The type due at a row, by that due at its parent.
 -- Assumes nothing.
 use mathlib.Core.Path.{_≡_, refl, sym, ap, _∙_}
-use mathlib.Core.Option.{Option, none, some}
-use Prim.Native.Nat.{ℕ, zero, suc, _<_, _≤_}
+use mathlib.Core.Option.{Option, none}
+use Prim.Native.Nat.{ℕ, zero, suc, _≤_}
 use Rattle.paper_types.specs.Types.{Table}
 use Rattle.paper_rules.specs.Constructs.{Doc, count, parentOf}
 use Rattle.paper_rules.specs.PlaceTypes.{Shape, placeFrom, placeBy, place}

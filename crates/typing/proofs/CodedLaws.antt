@@ -1,19 +1,17 @@
 -- What the rules say of a field, by its two numbers.
-use mathlib.Core.Path.{_≡_, refl, sym, ap, subst, _∙_}
+use mathlib.Core.Path.{_≡_, refl, sym, ap, subst}
 use mathlib.Core.Bool.{Bool, true, false, not, cond}
-use mathlib.Core.Option.{Option, none, some}
 use mathlib.Core.List.{List}
 use Prim.Native.Nat.{ℕ, zero, suc, _<_, _≤_}
-use native.Mathlib.Decide.{decLt}
 use native.Mathlib.Omega.{arith}
 use lib.Dec.{eqb}
-use borrow.Author.Tests.{eq-eqb, ne-eqb, eqb-true, eqb-false}
+use borrow.Author.Tests.{ne-eqb}
 use Rattle.paper_types.specs.TableNumbers.{tagField}
 use Rattle.paper_types.specs.Lists.{anyOf}
 use Rattle.paper_types.specs.References.{baseOf, found}
-use Rattle.paper_types.specs.Types.{Argument, Member, Table}
+use Rattle.paper_types.specs.Types.{Member, Table}
 use Rattle.paper_types.specs.Rules.{argumentNamed}
-use Rattle.paper_rules.specs.Enclosing.{FieldIs, typename, member, missing, unknown, compositeOf, typeIn}
+use Rattle.paper_rules.specs.Enclosing.{FieldIs, typename, member, missing, unknown, typeIn}
 use Rattle.paper_rules.specs.Rule5Field.{isMissing}
 use Rattle.paper_rules.specs.Rule6Leaf.{unlike}
 use Rattle.paper_rules.specs.Rule14Argument.{lacks}

@@ -1,10 +1,8 @@
 -- The rules 4, 5, 6, 13 and 14, by what a row is.
 use mathlib.Core.Path.{_≡_, refl, sym, ap, _∙_}
 use mathlib.Core.Bool.{Bool, true, false, not, _&&_, cond}
-use mathlib.Core.Option.{Option}
 use mathlib.Core.List.{List}
 use Prim.Native.Nat.{ℕ, _<_, _≤_}
-use native.Mathlib.Omega.{arith}
 use lib.ListN.{drop}
 use lib.Dec.{eqb}
 use borrow.Author.Tests.{eq-eqb, ne-eqb}
@@ -12,13 +10,13 @@ use Rattle.paper.specs.Numbers.{kindOperation, kindField, kindArgument, kindTyp
 use Rattle.paper.specs.Rows.{Row}
 use Rattle.paper_types.specs.Lists.{anyOf}
 use Rattle.paper_types.specs.References.{found}
-use Rattle.paper_types.specs.Types.{Table, meant, tableOf}
+use Rattle.paper_types.specs.Types.{Table, meant}
 use Rattle.paper_types.specs.Rules.{isOutput}
 use Rattle.paper_rules.specs.Constructs.{Doc, isSelection, below, rowOf, kindOf, parentOf, extraOf, nameOf}
 use Rattle.paper_rules.specs.Enclosing.{rootOf, typeIn, fieldAt}
 use Rattle.paper_rules.specs.Rule4Condition.{isFragment, conditionWrong}
-use Rattle.paper_rules.specs.Rule5Field.{isMissing, fieldMissing}
-use Rattle.paper_rules.specs.Rule6Leaf.{hasSelections, unlike, leafWrong}
+use Rattle.paper_rules.specs.Rule5Field.{fieldMissing}
+use Rattle.paper_rules.specs.Rule6Leaf.{hasSelections, leafWrong}
 use Rattle.paper_rules.specs.Rule13NoRoot.{noRoot}
 use Rattle.paper_rules.specs.Rule14Argument.{lacks, argumentUnknown}
 use Rattle.composites.specs.Coded.{typeCoded, fieldMissing as numberMissing, fieldTypename, FieldKept}

@@ -1,5 +1,5 @@
 -- By what the name means.
-use mathlib.Core.Path.{_≡_, refl, sym, _∙_}
+use mathlib.Core.Path.{refl, sym, _∙_}
 use Rattle.paper_types.specs.Types.{builtIn, nothing, definition}
 use Rattle.index.specs.Book.{part}
 use Rattle.composites.proofs.CompositeLaws.{composite-by}
@@ -23,13 +23,19 @@ enum-told-2 : tie.Need-enum-told-2
 enum-told-2 c = search needs
 
 returns : tie.Need-returns
-returns c = composite-by (c .before .before .before .before .before .before .before .before .args .t .now) (part (c .before .before .before .before .before .before .before .before .args .s .now) (c .before .before .before .before .before .before .before .before .args .at) (c .before .before .before .before .before .before .before .before .args .n)) (definition _) (sym (c .before .before .m .given .1) ∙ c .before .before .before .before .meaning-of .ensures) (c .if-composite .ensures)
+returns c =
+    let a = c .before .before .before .before .before .before .before .before .args in
+    composite-by (a .t .now) (part (a .s .now) (a .at) (a .n)) (definition _) (sym (c .before .before .m .given .1) ∙ c .before .before .before .before .meaning-of .ensures) (c .if-composite .ensures)
 
 returns-2 : tie.Need-returns-2
-returns-2 c = composite-by (c .before .before .before .before .before .before .args .t .now) (part (c .before .before .before .before .before .before .args .s .now) (c .before .before .before .before .before .before .args .at) (c .before .before .before .before .before .before .args .n)) builtIn (sym (c .enum-told .given .1) ∙ c .before .before .meaning-of .ensures) refl
+returns-2 c =
+    let a = c .before .before .before .before .before .before .args in
+    composite-by (a .t .now) (part (a .s .now) (a .at) (a .n)) builtIn (sym (c .enum-told .given .1) ∙ c .before .before .meaning-of .ensures) refl
 
 returns-3 : tie.Need-returns-3
-returns-3 c = composite-by (c .before .before .before .before .before .before .args .t .now) (part (c .before .before .before .before .before .before .args .s .now) (c .before .before .before .before .before .before .args .at) (c .before .before .before .before .before .before .args .n)) nothing (sym (c .enum-told2 .given .1) ∙ c .before .before .meaning-of .ensures) refl
+returns-3 c =
+    let a = c .before .before .before .before .before .before .args in
+    composite-by (a .t .now) (part (a .s .now) (a .at) (a .n)) nothing (sym (c .enum-told2 .given .1) ∙ c .before .before .meaning-of .ensures) refl
 
 pub composite-spec : {M : Type 1} → statement M
 composite-spec =

@@ -7,22 +7,30 @@ use Rattle.composites.proofs.field_in.Statement.{statement}
 use Rattle.composites.proofs.field_in.Tie as tie
 
 returns : tie.Need-returns
-returns c = in-none (c .before .before .before .before .args .t .now) (c .before .before .before .before .args .above) (part (c .before .before .before .before .args .s .now) (c .before .before .before .before .args .at) (c .before .before .before .before .args .n)) (c .if1 .taken)
+returns c =
+    let a = c .before .before .before .before .args in
+    in-none (a .t .now) (a .above) (part (a .s .now) (a .at) (a .n)) (c .if1 .taken)
 
 is-typename-requires : tie.Need-is-typename-requires
 is-typename-requires c κs = search needs
 
 returns-2 : tie.Need-returns-2
-returns-2 c = in-typename (c .before .before .before .before .before .before .args .t .now) (c .before .before .before .before .before .before .args .above) (part (c .before .before .before .before .before .before .args .s .now) (c .before .before .before .before .before .before .args .at) (c .before .before .before .before .before .before .args .n)) (c .before .before .if1 .left) (sym (c .before .is-typename .ensures) ∙ c .if2 .taken)
+returns-2 c =
+    let a = c .before .before .before .before .before .before .args in
+    in-typename (a .t .now) (a .above) (part (a .s .now) (a .at) (a .n)) (c .before .before .if1 .left) (sym (c .before .is-typename .ensures) ∙ c .if2 .taken)
 
 sub-find-field : tie.Need-sub-find-field
 sub-find-field c = search needs
 
 find-field-requires : tie.Need-find-field-requires
-find-field-requires c κs = (c .before .before .before .before .before .before .pre .0, c .before .before .before .before .before .before .pre .1, c .before .before .before .before .before .before .pre .2 _ (type-some (c .before .before .before .before .before .before .args .above) (c .before .before .if1 .left)), c .before .before .before .before .before .before .pre .3)
+find-field-requires c κs =
+    let g = c .before .before .before .before .before .before .pre in
+    (g .0, g .1, g .2 _ (type-some (c .before .before .before .before .before .before .args .above) (c .before .before .if1 .left)), g .3)
 
 returns-3 : tie.Need-returns-3
-returns-3 c = in-type (c .before .before .before .before .before .before .before .args .t .now) (c .before .before .before .before .before .before .before .args .above) (part (c .before .before .before .before .before .before .before .args .s .now) (c .before .before .before .before .before .before .before .args .at) (c .before .before .before .before .before .before .before .args .n)) (c .before .before .before .if1 .left) (sym (c .before .before .is-typename .ensures) ∙ c .before .if2 .left) (c .find-field .ensures)
+returns-3 c =
+    let a = c .before .before .before .before .before .before .before .args in
+    in-type (a .t .now) (a .above) (part (a .s .now) (a .at) (a .n)) (c .before .before .before .if1 .left) (sym (c .before .before .is-typename .ensures) ∙ c .before .if2 .left) (c .find-field .ensures)
 
 pub field-in-spec : {M : Type 1} → statement M
 field-in-spec =

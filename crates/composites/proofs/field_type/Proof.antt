@@ -1,12 +1,13 @@
 -- By the first number.
-use native.Mathlib.Omega.{arith}
 use Rattle.composites.proofs.FieldLaws.{leaf-type, member-type}
 use borrow.Author.Needs.{needs}
 use Rattle.composites.proofs.field_type.Statement.{statement}
 use Rattle.composites.proofs.field_type.Tie as tie
 
 returns : tie.Need-returns
-returns c = leaf-type (c .before .before .before .args .t .now) (c .before .before .before .args .at) (c .before .before .before .args .to) (c .if1 .taken)
+returns c =
+    let a = c .before .before .before .args in
+    leaf-type (a .t .now) (a .at) (a .to) (c .if1 .taken)
 
 type-in-requires : tie.Need-type-in-requires
 type-in-requires c κs = c .before .before .before .pre .1 (c .if1 .left)
@@ -15,7 +16,9 @@ composite-requires : tie.Need-composite-requires
 composite-requires c κs = search needs
 
 returns-2 : tie.Need-returns-2
-returns-2 c = member-type (c .before .before .before .before .before .args .t .now) (c .before .before .before .before .before .args .at) (c .before .before .before .before .before .args .to) (c .before .before .if1 .left) _ _ _ (c .before .type-in .ensures) (c .composite .ensures)
+returns-2 c =
+    let a = c .before .before .before .before .before .args in
+    member-type (a .t .now) (a .at) (a .to) (c .before .before .if1 .left) _ _ _ (c .before .type-in .ensures) (c .composite .ensures)
 
 pub field-type-spec : {M : Type 1} → statement M
 field-type-spec = tie.close (tie.spec returns type-in-requires composite-requires returns-2)

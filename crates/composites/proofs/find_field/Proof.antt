@@ -1,5 +1,5 @@
 -- By the definition's content in the book.
-use mathlib.Core.Path.{_≡_, sym, ap, subst, _∙_}
+use mathlib.Core.Path.{sym, subst, _∙_}
 use native.Mathlib.Omega.{arith}
 use Rattle.fields.specs.Fields.{Bounds}
 use Rattle.index.specs.Book.{part}
@@ -15,30 +15,48 @@ use Rattle.composites.proofs.find_field.Tie as tie
 found : (c : tie.After-start)
     → Finds (c .before .before .before .before .start-of .result) (c .before .before .before .end-of .result) (c .start .given .0 .1 .0) (c .start .given .0 .1 .1 .0) (find (memberNamed (part (c .before .before .before .before .before .before .before .before .before .before .args .s .now) (c .before .before .before .before .before .before .before .before .before .before .args .at) (c .before .before .before .before .before .before .before .before .before .before .args .n))) (membersIn (c .before .before .before .before .before .before .before .before .before .before .args .t .now) (c .before .before .before .before .start-of .result) (c .before .before .before .end-of .result))) (memberFrom (c .before .before .before .before .before .before .before .before .before .before .args .t .now) (c .start .given .0 .0) (c .start .given .0 .1 .0) (c .start .given .0 .1 .1 .0))
 found c =
-    subst (FindMember (c .before .before .before .before .before .before .before .before .before .before .args .t .now) (c .before .before .before .before .start-of .result) (c .before .before .before .end-of .result) (part (c .before .before .before .before .before .before .before .before .before .before .args .s .now) (c .before .before .before .before .before .before .before .before .before .before .args .at) (c .before .before .before .before .before .before .before .before .before .before .args .n))) (c .start .given .1) (c .before .before .find-member .ensures)
+    let a = c .before .before .before .before .before .before .before .before .before .before .args in
+    subst (FindMember (a .t .now) (c .before .before .before .before .start-of .result) (c .before .before .before .end-of .result) (part (a .s .now) (a .at) (a .n))) (c .start .given .1) (c .before .before .find-member .ensures)
 
 within : (c : tie.After-start)
     → Bounds (c .before .before .before .before .before .before .before .before .before .before .args .t .now) (c .start .given .0 .1 .0) (c .start .given .0 .1 .1 .0)
 within c =
-    found-bounds (c .before .before .before .before .before .before .before .before .before .before .args .t .now) (c .before .before .before .before .before .before .before .before .before .before .args .book .now) (c .before .before .before .before .before .before .before .before .before .before .pre .0) (c .before .before .before .before .before .before .before .before .before .before .args .k) (c .before .before .before .before .before .before .before .before .before .before .pre .2) (part (c .before .before .before .before .before .before .before .before .before .before .args .s .now) (c .before .before .before .before .before .before .before .before .before .before .args .at) (c .before .before .before .before .before .before .before .before .before .before .args .n)) (λ z. c .before .before .before .before .before .if1 .left (c .before .before .before .before .before .before .kind-of .ensures ∙ z)) (c .before .before .before .before .start-of .result) (c .before .before .before .end-of .result) (c .before .before .before .before .start-of .ensures) (c .before .before .before .end-of .ensures) (c .before .before .before .before .before .before .before .before .before .before .pre .1) _ _ _ (found c)
+    let a = c .before .before .before .before .before .before .before .before .before .before .args in
+    let g = c .before .before .before .before .before .before .before .before .before .before .pre in
+    found-bounds (a .t .now) (a .book .now) (g .0) (a .k) (g .2) (part (a .s .now) (a .at) (a .n)) (λ z. c .before .before .before .before .before .if1 .left (c .before .before .before .before .before .before .kind-of .ensures ∙ z)) (c .before .before .before .before .start-of .result) (c .before .before .before .end-of .result) (c .before .before .before .before .start-of .ensures) (c .before .before .before .end-of .ensures) (g .1) _ _ _ (found c)
 
 kind-of-requires : tie.Need-kind-of-requires
-kind-of-requires c κs = (c .before .before .before .pre .0 .indexed .held .cells, number-room (c .before .before .before .args .t .now) (c .before .before .before .args .book .now) (c .before .before .before .pre .0) (c .before .before .before .args .k) (c .before .before .before .pre .2) (part (c .before .before .before .args .s .now) (c .before .before .before .args .at) (c .before .before .before .args .n)))
+kind-of-requires c κs =
+    let a = c .before .before .before .args in
+    let g = c .before .before .before .pre in
+    (g .0 .indexed .held .cells, number-room (a .t .now) (a .book .now) (g .0) (a .k) (g .2))
 
 cast-if1 : tie.Need-cast-if1
 cast-if1 c = search needs
 
 returns : tie.Need-returns
-returns c = union-lacks (c .before .before .before .before .before .args .t .now) (c .before .before .before .before .before .args .book .now) (c .before .before .before .before .before .pre .0) (c .before .before .before .before .before .args .k) (c .before .before .before .before .before .pre .2) (part (c .before .before .before .before .before .args .s .now) (c .before .before .before .before .before .args .at) (c .before .before .before .before .before .args .n)) (sym (c .before .kind-of .ensures) ∙ c .if1 .taken)
+returns c =
+    let a = c .before .before .before .before .before .args in
+    let g = c .before .before .before .before .before .pre in
+    union-lacks (a .t .now) (a .book .now) (g .0) (a .k) (g .2) (part (a .s .now) (a .at) (a .n)) (sym (c .before .kind-of .ensures) ∙ c .if1 .taken)
 
 start-of-requires : tie.Need-start-of-requires
-start-of-requires c κs = (c .before .before .before .before .before .pre .0 .indexed .held .cells, number-room (c .before .before .before .before .before .args .t .now) (c .before .before .before .before .before .args .book .now) (c .before .before .before .before .before .pre .0) (c .before .before .before .before .before .args .k) (c .before .before .before .before .before .pre .2) (part (c .before .before .before .before .before .args .s .now) (c .before .before .before .before .before .args .at) (c .before .before .before .before .before .args .n)))
+start-of-requires c κs =
+    let a = c .before .before .before .before .before .args in
+    let g = c .before .before .before .before .before .pre in
+    (g .0 .indexed .held .cells, number-room (a .t .now) (a .book .now) (g .0) (a .k) (g .2))
 
 end-of-requires : tie.Need-end-of-requires
-end-of-requires c κs = (c .before .before .before .before .before .before .pre .0 .indexed .held .cells, number-room (c .before .before .before .before .before .before .args .t .now) (c .before .before .before .before .before .before .args .book .now) (c .before .before .before .before .before .before .pre .0) (c .before .before .before .before .before .before .args .k) (c .before .before .before .before .before .before .pre .2) (part (c .before .before .before .before .before .before .args .s .now) (c .before .before .before .before .before .before .args .at) (c .before .before .before .before .before .before .args .n)))
+end-of-requires c κs =
+    let a = c .before .before .before .before .before .before .args in
+    let g = c .before .before .before .before .before .before .pre in
+    (g .0 .indexed .held .cells, number-room (a .t .now) (a .book .now) (g .0) (a .k) (g .2))
 
 find-member-requires : tie.Need-find-member-requires
-find-member-requires c κs = (entry-bounds (c .before .before .before .before .before .before .before .args .t .now) (c .before .before .before .before .before .before .before .args .book .now) (c .before .before .before .before .before .before .before .pre .0) (c .before .before .before .before .before .before .before .args .k) (number-below (c .before .before .before .before .before .before .before .args .t .now) (c .before .before .before .before .before .before .before .args .book .now) (c .before .before .before .before .before .before .before .pre .0) (c .before .before .before .before .before .before .before .args .k) (c .before .before .before .before .before .before .before .pre .2) (part (c .before .before .before .before .before .before .before .args .s .now) (c .before .before .before .before .before .before .before .args .at) (c .before .before .before .before .before .before .before .args .n))) (c .before .start-of .ensures) (c .end-of .ensures), c .before .before .before .before .before .before .before .pre .3)
+find-member-requires c κs =
+    let a = c .before .before .before .before .before .before .before .args in
+    let g = c .before .before .before .before .before .before .before .pre in
+    (entry-bounds (a .t .now) (a .book .now) (g .0) (a .k) (number-below (a .t .now) (a .book .now) (g .0) (a .k) (g .2)) (c .before .start-of .ensures) (c .end-of .ensures), g .3)
 
 enum-known-start : tie.Need-enum-known-start
 enum-known-start c = search needs
@@ -47,7 +65,10 @@ enum-told : tie.Need-enum-told
 enum-told c = search needs
 
 returns-2 : tie.Need-returns-2
-returns-2 c = field-lacks (c .before .before .before .before .before .before .before .before .before .before .args .t .now) (c .before .before .before .before .before .before .before .before .before .before .args .book .now) (c .before .before .before .before .before .before .before .before .before .before .pre .0) (c .before .before .before .before .before .before .before .before .before .before .args .k) (c .before .before .before .before .before .before .before .before .before .before .pre .2) (part (c .before .before .before .before .before .before .before .before .before .before .args .s .now) (c .before .before .before .before .before .before .before .before .before .before .args .at) (c .before .before .before .before .before .before .before .before .before .before .args .n)) (λ z. c .before .before .before .before .before .if1 .left (c .before .before .before .before .before .before .kind-of .ensures ∙ z)) (c .before .before .before .before .start-of .result) (c .before .before .before .end-of .result) (c .before .before .before .before .start-of .ensures) (c .before .before .before .end-of .ensures) (subst (FindMember (c .before .before .before .before .before .before .before .before .before .before .args .t .now) (c .before .before .before .before .start-of .result) (c .before .before .before .end-of .result) (part (c .before .before .before .before .before .before .before .before .before .before .args .s .now) (c .before .before .before .before .before .before .before .before .before .before .args .at) (c .before .before .before .before .before .before .before .before .before .before .args .n))) (c .enum-told .given .1) (c .before .before .find-member .ensures))
+returns-2 c =
+    let a = c .before .before .before .before .before .before .before .before .before .before .args in
+    let g = c .before .before .before .before .before .before .before .before .before .before .pre in
+    field-lacks (a .t .now) (a .book .now) (g .0) (a .k) (g .2) (part (a .s .now) (a .at) (a .n)) (λ z. c .before .before .before .before .before .if1 .left (c .before .before .before .before .before .before .kind-of .ensures ∙ z)) (c .before .before .before .before .start-of .result) (c .before .before .before .end-of .result) (c .before .before .before .before .start-of .ensures) (c .before .before .before .end-of .ensures) (subst (FindMember (a .t .now) (c .before .before .before .before .start-of .result) (c .before .before .before .end-of .result) (part (a .s .now) (a .at) (a .n))) (c .enum-told .given .1) (c .before .before .find-member .ensures))
 
 cast-t9 : tie.Need-cast-t9
 cast-t9 c =
@@ -60,7 +81,10 @@ cast-t10 c =
     omega (arith, b .within, b .most)
 
 returns-3 : tie.Need-returns-3
-returns-3 c = field-kept (c .before .before .before .before .before .before .before .before .before .before .before .args .t .now) (c .before .before .before .before .before .before .before .before .before .before .before .args .book .now) (c .before .before .before .before .before .before .before .before .before .before .before .pre .0) (c .before .before .before .before .before .before .before .before .before .before .before .args .k) (c .before .before .before .before .before .before .before .before .before .before .before .pre .2) (part (c .before .before .before .before .before .before .before .before .before .before .before .args .s .now) (c .before .before .before .before .before .before .before .before .before .before .before .args .at) (c .before .before .before .before .before .before .before .before .before .before .before .args .n)) (λ z. c .before .before .before .before .before .before .if1 .left (c .before .before .before .before .before .before .before .kind-of .ensures ∙ z)) (c .before .before .before .before .before .start-of .result) (c .before .before .before .before .end-of .result) (c .before .before .before .before .before .start-of .ensures) (c .before .before .before .before .end-of .ensures) (c .before .before .before .before .before .before .before .before .before .before .before .pre .1) _ _ _ (found (c .before))
+returns-3 c =
+    let a = c .before .before .before .before .before .before .before .before .before .before .before .args in
+    let g = c .before .before .before .before .before .before .before .before .before .before .before .pre in
+    field-kept (a .t .now) (a .book .now) (g .0) (a .k) (g .2) (part (a .s .now) (a .at) (a .n)) (λ z. c .before .before .before .before .before .before .if1 .left (c .before .before .before .before .before .before .before .kind-of .ensures ∙ z)) (c .before .before .before .before .before .start-of .result) (c .before .before .before .before .end-of .result) (c .before .before .before .before .before .start-of .ensures) (c .before .before .before .before .end-of .ensures) (g .1) _ _ _ (found (c .before))
 
 pub find-field-spec : {M : Type 1} → statement M
 find-field-spec =

@@ -23,10 +23,14 @@ count-of-requires : tie.Need-count-of-requires
 count-of-requires c κs = search needs
 
 returns : tie.Need-returns
-returns c = query-root (c .before .before .before .before .before .before .args .t .now) (c .before .before .before .before .before .before .args .book .now) (c .before .before .before .before .before .before .pre) (c .before .before .before .roots-number .result) (c .before .before .before .roots-number .ensures) (omega (arith, c .before .if1 .taken, c .before .before .count-of .ensures)) (c .before .before .before .before .before .before .args .x) (c .if2 .taken)
+returns c =
+    let a = c .before .before .before .before .before .before .args in
+    query-root (a .t .now) (a .book .now) (c .before .before .before .before .before .before .pre) (c .before .before .before .roots-number .result) (c .before .before .before .roots-number .ensures) (omega (arith, c .before .if1 .taken, c .before .before .count-of .ensures)) (a .x) (c .if2 .taken)
 
 returns-2 : tie.Need-returns-2
-returns-2 c = no-root (c .before .before .before .before .before .before .args .t .now) (c .before .before .before .before .before .before .args .book .now) (c .before .before .before .before .before .before .pre) (c .before .before .before .roots-number .result) (c .before .before .before .roots-number .ensures) (omega (arith, c .before .if1 .taken, c .before .before .count-of .ensures)) (c .before .before .before .before .before .before .args .x) (c .if2 .left)
+returns-2 c =
+    let a = c .before .before .before .before .before .before .args in
+    no-root (a .t .now) (a .book .now) (c .before .before .before .before .before .before .pre) (c .before .before .before .roots-number .result) (c .before .before .before .roots-number .ensures) (omega (arith, c .before .if1 .taken, c .before .before .count-of .ensures)) (a .x) (c .if2 .left)
 
 start-of-requires : tie.Need-start-of-requires
 start-of-requires c κs = search needs
@@ -41,7 +45,9 @@ add-find-tagged : tie.Need-add-find-tagged
 add-find-tagged c = search needs
 
 find-tagged-requires : tie.Need-find-tagged-requires
-find-tagged-requires c κs = entry-bounds (c .before .before .before .before .before .before .before .args .t .now) (c .before .before .before .before .before .before .before .args .book .now) (c .before .before .before .before .before .before .before .pre) (c .before .before .before .before .roots-number .result) (written (c .before .before)) (c .before .start-of .ensures) (c .end-of .ensures)
+find-tagged-requires c κs =
+    let a = c .before .before .before .before .before .before .before .args in
+    entry-bounds (a .t .now) (a .book .now) (c .before .before .before .before .before .before .before .pre) (c .before .before .before .before .roots-number .result) (written (c .before .before)) (c .before .start-of .ensures) (c .end-of .ensures)
 
 enum-known-tag : tie.Need-enum-known-tag
 enum-known-tag c = search needs
@@ -50,10 +56,14 @@ enum-told : tie.Need-enum-told
 enum-told c = search needs
 
 returns-3 : tie.Need-returns-3
-returns-3 c = unwritten-root (c .before .before .before .before .before .before .before .before .before .before .args .t .now) (c .before .before .before .before .before .before .before .before .before .before .args .book .now) (c .before .before .before .before .before .before .before .before .before .before .pre) (c .before .before .before .before .before .before .before .roots-number .result) (c .before .before .before .before .before .before .before .roots-number .ensures) (written (c .before .before .before .before .before)) (c .before .before .before .before .start-of .result) (c .before .before .before .end-of .result) (c .before .before .before .before .start-of .ensures) (c .before .before .before .end-of .ensures) (c .before .before .before .before .before .before .before .before .before .before .args .x) (subst (FindTagged (c .before .before .before .before .before .before .before .before .before .before .args .t .now) (c .before .before .before .before .start-of .result) (c .before .before .before .end-of .result) (tagQueryRoot + (c .before .before .before .before .before .before .before .before .before .before .args .x))) (c .enum-told .given .1) (c .before .before .find-tagged .ensures))
+returns-3 c =
+    let a = c .before .before .before .before .before .before .before .before .before .before .args in
+    unwritten-root (a .t .now) (a .book .now) (c .before .before .before .before .before .before .before .before .before .before .pre) (c .before .before .before .before .before .before .before .roots-number .result) (c .before .before .before .before .before .before .before .roots-number .ensures) (written (c .before .before .before .before .before)) (c .before .before .before .before .start-of .result) (c .before .before .before .end-of .result) (c .before .before .before .before .start-of .ensures) (c .before .before .before .end-of .ensures) (a .x) (subst (FindTagged (a .t .now) (c .before .before .before .before .start-of .result) (c .before .before .before .end-of .result) (tagQueryRoot + (a .x))) (c .enum-told .given .1) (c .before .before .find-tagged .ensures))
 
 returns-4 : tie.Need-returns-4
-returns-4 c = written-root (c .before .before .before .before .before .before .before .before .before .before .before .args .t .now) (c .before .before .before .before .before .before .before .before .before .before .before .args .book .now) (c .before .before .before .before .before .before .before .before .before .before .before .pre) (c .before .before .before .before .before .before .before .before .roots-number .result) (c .before .before .before .before .before .before .before .before .roots-number .ensures) (written (c .before .before .before .before .before .before)) (c .before .before .before .before .before .start-of .result) (c .before .before .before .before .end-of .result) (c .before .before .before .before .before .start-of .ensures) (c .before .before .before .before .end-of .ensures) (c .before .before .before .before .before .before .before .before .before .before .before .args .x) _ _ _ (subst (FindTagged (c .before .before .before .before .before .before .before .before .before .before .before .args .t .now) (c .before .before .before .before .before .start-of .result) (c .before .before .before .before .end-of .result) (tagQueryRoot + (c .before .before .before .before .before .before .before .before .before .before .before .args .x))) (c .before .tag .given .1) (c .before .before .before .find-tagged .ensures))
+returns-4 c =
+    let a = c .before .before .before .before .before .before .before .before .before .before .before .args in
+    written-root (a .t .now) (a .book .now) (c .before .before .before .before .before .before .before .before .before .before .before .pre) (c .before .before .before .before .before .before .before .before .roots-number .result) (c .before .before .before .before .before .before .before .before .roots-number .ensures) (written (c .before .before .before .before .before .before)) (c .before .before .before .before .before .start-of .result) (c .before .before .before .before .end-of .result) (c .before .before .before .before .before .start-of .ensures) (c .before .before .before .before .end-of .ensures) (a .x) _ _ _ (subst (FindTagged (a .t .now) (c .before .before .before .before .before .start-of .result) (c .before .before .before .before .end-of .result) (tagQueryRoot + (a .x))) (c .before .tag .given .1) (c .before .before .before .find-tagged .ensures))
 
 pub find-root-spec : {M : Type 1} → statement M
 find-root-spec =

@@ -19,13 +19,19 @@ enum-told-3 : tie.Need-enum-told-3
 enum-told-3 c = search needs
 
 returns : tie.Need-returns
-returns c = sym (ap found (subst (RootFinds (c .before .before .before .before .before .args .t .now) (c .before .before .before .before .before .args .x)) (c .enum-told .given .1) (c .before .before .find-root .ensures) .is))
+returns c =
+    let a = c .before .before .before .before .before .args in
+    sym (ap found (subst (RootFinds (a .t .now) (a .x)) (c .enum-told .given .1) (c .before .before .find-root .ensures) .is))
 
 returns-2 : tie.Need-returns-2
-returns-2 c = sym (ap found (subst (RootFinds (c .before .before .before .before .before .args .t .now) (c .before .before .before .before .before .args .x)) (c .enum-told2 .given .1) (c .before .before .find-root .ensures)))
+returns-2 c =
+    let a = c .before .before .before .before .before .args in
+    sym (ap found (subst (RootFinds (a .t .now) (a .x)) (c .enum-told2 .given .1) (c .before .before .find-root .ensures)))
 
 returns-3 : tie.Need-returns-3
-returns-3 c = sym (ap found (subst (RootFinds (c .before .before .before .before .before .args .t .now) (c .before .before .before .before .before .args .x)) (c .enum-told3 .given .1) (c .before .before .find-root .ensures)))
+returns-3 c =
+    let a = c .before .before .before .before .before .args in
+    sym (ap found (subst (RootFinds (a .t .now) (a .x)) (c .enum-told3 .given .1) (c .before .before .find-root .ensures)))
 
 pub has-root-spec : {M : Type 1} → statement M
 has-root-spec =

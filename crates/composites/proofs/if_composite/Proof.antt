@@ -23,16 +23,24 @@ is-output-requires : tie.Need-is-output-requires
 is-output-requires c κs = search needs
 
 cast-result : tie.Need-cast-result
-cast-result c = omega (arith, kind-few (c .before .before .before .before .before .args .t .now) (c .before .before .before .before .before .args .book .now) (c .before .before .before .before .before .pre) (c .before .before .before .before .before .args .k) (tested (c .before)) (c .if1 .taken))
+cast-result c =
+    let a = c .before .before .before .before .before .args in
+    omega (arith, kind-few (a .t .now) (a .book .now) (c .before .before .before .before .before .pre) (a .k) (tested (c .before)) (c .if1 .taken))
 
 add-result : tie.Need-add-result
-add-result c = omega (arith, kind-few (c .before .before .before .before .before .args .t .now) (c .before .before .before .before .before .args .book .now) (c .before .before .before .before .before .pre) (c .before .before .before .before .before .args .k) (tested (c .before)) (c .if1 .taken))
+add-result c =
+    let a = c .before .before .before .before .before .args in
+    omega (arith, kind-few (a .t .now) (a .book .now) (c .before .before .before .before .before .pre) (a .k) (tested (c .before)) (c .if1 .taken))
 
 returns : tie.Need-returns
-returns c = composite-yes (c .before .before .before .before .before .args .t .now) (c .before .before .before .before .before .args .book .now) (c .before .before .before .before .before .pre) (c .before .before .before .before .before .args .k) (tested (c .before)) (c .if1 .taken)
+returns c =
+    let a = c .before .before .before .before .before .args in
+    composite-yes (a .t .now) (a .book .now) (c .before .before .before .before .before .pre) (a .k) (tested (c .before)) (c .if1 .taken)
 
 returns-2 : tie.Need-returns-2
-returns-2 c = composite-no (c .before .before .before .before .before .args .t .now) (c .before .before .before .before .before .args .book .now) (c .before .before .before .before .before .pre) (c .before .before .before .before .before .args .k) (tested (c .before)) (c .if1 .left)
+returns-2 c =
+    let a = c .before .before .before .before .before .args in
+    composite-no (a .t .now) (a .book .now) (c .before .before .before .before .before .pre) (a .k) (tested (c .before)) (c .if1 .left)
 
 pub if-composite-spec : {M : Type 1} → statement M
 if-composite-spec =

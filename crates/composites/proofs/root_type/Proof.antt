@@ -10,7 +10,8 @@ use Rattle.composites.proofs.root_type.Tie as tie
 written : (c : tie.After-r)
     → RootWritten (c .before .before .before .before .before .args .t .now) (c .before .before .before .before .before .args .x) (c .r .given .0 .0) (c .r .given .0 .1 .0) (c .r .given .0 .1 .1 .0)
 written c =
-    subst (RootFinds (c .before .before .before .before .before .args .t .now) (c .before .before .before .before .before .args .x)) (c .r .given .1) (c .before .before .find-root .ensures)
+    let a = c .before .before .before .before .before .args in
+    subst (RootFinds (a .t .now) (a .x)) (c .r .given .1) (c .before .before .find-root .ensures)
 
 find-root-requires : tie.Need-find-root-requires
 find-root-requires c κs = search needs
@@ -37,13 +38,19 @@ enum-told-2 : tie.Need-enum-told-2
 enum-told-2 c = search needs
 
 returns : tie.Need-returns
-returns c = root-typed (c .before .before .before .before .before .before .before .before .args .t .now) (c .before .before .before .before .before .before .before .before .args .x) _ (written ((c .before .before .before)) .is) _ (c .before .member-name .ensures .is) (c .composite .ensures)
+returns c =
+    let a = c .before .before .before .before .before .before .before .before .args in
+    root-typed (a .t .now) (a .x) _ (written ((c .before .before .before)) .is) _ (c .before .member-name .ensures .is) (c .composite .ensures)
 
 returns-2 : tie.Need-returns-2
-returns-2 c = root-typed (c .before .before .before .before .before .before .before .args .t .now) (c .before .before .before .before .before .before .before .args .x) _ (subst (RootFinds (c .before .before .before .before .before .before .before .args .t .now) (c .before .before .before .before .before .before .before .args .x)) (c .before .before .enum-told .given .1) (c .before .before .before .before .find-root .ensures)) (bytes "Query") refl (c .composite2 .ensures)
+returns-2 c =
+    let a = c .before .before .before .before .before .before .before .args in
+    root-typed (a .t .now) (a .x) _ (subst (RootFinds (a .t .now) (a .x)) (c .before .before .enum-told .given .1) (c .before .before .before .before .find-root .ensures)) (bytes "Query") refl (c .composite2 .ensures)
 
 returns-3 : tie.Need-returns-3
-returns-3 c = root-untyped (c .before .before .before .before .before .args .t .now) (c .before .before .before .before .before .args .x) (subst (RootFinds (c .before .before .before .before .before .args .t .now) (c .before .before .before .before .before .args .x)) (c .enum-told2 .given .1) (c .before .before .find-root .ensures))
+returns-3 c =
+    let a = c .before .before .before .before .before .args in
+    root-untyped (a .t .now) (a .x) (subst (RootFinds (a .t .now) (a .x)) (c .enum-told2 .given .1) (c .before .before .find-root .ensures))
 
 pub root-type-spec : {M : Type 1} → statement M
 root-type-spec =

@@ -36,13 +36,18 @@ loop-holds : tie.Need-loop-holds Inv-loop μ-loop
 loop-holds c = (omega arith, first-begin isRoots (tableOf (c .before .before .before .args .t .now)))
 
 kind-of-requires : tie.Need-kind-of-requires Inv-loop μ-loop
-kind-of-requires c κs = (c .before .before .before .before .before .pre .indexed .held .cells, omega (arith, below c, c .before .before .before .before .before .pre .indexed .held .most))
+kind-of-requires c κs =
+    let g = c .before .before .before .before .before .pre in
+    (g .indexed .held .cells, omega (arith, below c, g .indexed .held .most))
 
 cast-if1 : tie.Need-cast-if1 Inv-loop μ-loop
 cast-if1 c = search needs
 
 returns : tie.Need-returns Inv-loop μ-loop
-returns c = first-found isRoots (tableOf (c .before .before .before .before .before .before .before .args .t .now)) (blank tagNothing) (c .before .before .before .loop .i) (omega (arith, below (c .before .before), c .before .before .before .before .before .before .before .pre .count)) (eq-eqb (getD (tableOf (c .before .before .before .before .before .before .before .args .t .now)) (c .before .before .before .loop .i) (blank tagNothing) .tag) tagRoots (kind (c .before) ∙ c .if1 .taken)) (c .before .before .before .loop .inv .1)
+returns c =
+    let a = c .before .before .before .before .before .before .before .args in
+    let l = c .before .before .before .loop in
+    first-found isRoots (tableOf (a .t .now)) (blank tagNothing) (l .i) (omega (arith, below (c .before .before), c .before .before .before .before .before .before .before .pre .count)) (eq-eqb (getD (tableOf (a .t .now)) (l .i) (blank tagNothing) .tag) tagRoots (kind (c .before) ∙ c .if1 .taken)) (l .inv .1)
 
 add-i : tie.Need-add-i Inv-loop μ-loop
 add-i c = omega (arith, below (c .before .before), c .before .before .before .before .before .before .before .pre .indexed .held .most)
@@ -51,10 +56,17 @@ loop-less : tie.Need-loop-less Inv-loop μ-loop
 loop-less c = omega (arith, below (c .before .before), c .before .before .before .before .before .before .before .pre .count)
 
 loop-again : tie.Need-loop-again Inv-loop μ-loop
-loop-again c = (omega (arith, below (c .before .before), c .before .before .before .before .before .before .before .pre .count), first-next isRoots (tableOf (c .before .before .before .before .before .before .before .args .t .now)) (blank tagNothing) (c .before .before .before .loop .i) (omega (arith, below (c .before .before), c .before .before .before .before .before .before .before .pre .count)) (ne-eqb (getD (tableOf (c .before .before .before .before .before .before .before .args .t .now)) (c .before .before .before .loop .i) (blank tagNothing) .tag) tagRoots (λ z. c .if1 .left (sym (kind (c .before)) ∙ z))) (c .before .before .before .loop .inv .1))
+loop-again c =
+    let a = c .before .before .before .before .before .before .before .args in
+    let g = c .before .before .before .before .before .before .before .pre in
+    let l = c .before .before .before .loop in
+    (omega (arith, below (c .before .before), g .count), first-next isRoots (tableOf (a .t .now)) (blank tagNothing) (l .i) (omega (arith, below (c .before .before), g .count)) (ne-eqb (getD (tableOf (a .t .now)) (l .i) (blank tagNothing) .tag) tagRoots (λ z. c .if1 .left (sym (kind (c .before)) ∙ z))) (l .inv .1))
 
 returns-2 : tie.Need-returns-2 Inv-loop μ-loop
-returns-2 c = first-none isRoots (tableOf (c .before .before .before .before .before .args .t .now)) (c .before .loop .i) (omega (arith, c .loop-test .left, c .before .before .count-of .ensures, c .before .before .before .before .before .pre .count)) (c .before .loop .inv .1)
+returns-2 c =
+    let a = c .before .before .before .before .before .args in
+    let l = c .before .loop in
+    first-none isRoots (tableOf (a .t .now)) (l .i) (omega (arith, c .loop-test .left, c .before .before .count-of .ensures, c .before .before .before .before .before .pre .count)) (l .inv .1)
 
 pub roots-number-spec : {M : Type 1} → statement M
 roots-number-spec =

@@ -1,5 +1,4 @@
 -- By the row where the condition stands.
-use native.Mathlib.Omega.{arith}
 use Rattle.constructs.proofs.RowsIn.{rowed-sized, name-within}
 use Rattle.composites.specs.Coded.{typeCoded}
 use Rattle.enclosings.proofs.ConditionLaws.{unconditioned, condition-typed}
@@ -8,10 +7,14 @@ use Rattle.enclosings.proofs.condition_type.Statement.{statement}
 use Rattle.enclosings.proofs.condition_type.Tie as tie
 
 condition-row-requires : tie.Need-condition-row-requires
-condition-row-requires c κs = (rowed-sized (c .before .before .before .before .before .before .pre .0 .rowed), c .before .before .before .before .before .before .pre .0 .family, c .before .before .before .before .before .before .pre .1)
+condition-row-requires c κs =
+    let g = c .before .before .before .before .before .before .pre in
+    (rowed-sized (g .0 .rowed), g .0 .family, g .1)
 
 returns : tie.Need-returns
-returns c = unconditioned (c .before .before .before .before .before .before .before .before .args .t .now) (c .before .before .before .before .before .before .before .before .args .s .now) (c .before .before .before .before .before .before .before .before .args .rows .now) (c .before .before .before .before .before .before .before .before .args .n) (c .before .before .before .before .before .before .before .before .args .i) (c .before .condition-row .result) (c .before .condition-row .ensures) (typeCoded (c .before .before .before .before .before .before .before .before .args .above)) (c .if1 .taken)
+returns c =
+    let a = c .before .before .before .before .before .before .before .before .args in
+    unconditioned (a .t .now) (a .s .now) (a .rows .now) (a .n) (a .i) (c .before .condition-row .result) (c .before .condition-row .ensures) (typeCoded (a .above)) (c .if1 .taken)
 
 name-of-requires : tie.Need-name-of-requires
 name-of-requires c κs = rowed-sized (c .before .before .before .before .before .before .before .before .pre .0 .rowed)
@@ -26,10 +29,15 @@ cast-composite-2 : tie.Need-cast-composite-2
 cast-composite-2 c = search needs
 
 composite-requires : tie.Need-composite-requires
-composite-requires c κs = (c .before .before .before .before .before .before .before .before .before .before .pre .0 .booked, rw (c .before .name-of .ensures, c .size-of .ensures) (name-within (c .before .before .before .before .before .before .before .before .before .before .args .s .now) (c .before .before .before .before .before .before .before .before .before .before .args .rows .now) (c .before .before .before .before .before .before .before .before .before .before .args .n) (c .before .before .before .before .before .before .before .before .before .before .pre .0 .rowed) (c .before .before .before .condition-row .result)))
+composite-requires c κs =
+    let a = c .before .before .before .before .before .before .before .before .before .before .args in
+    let g = c .before .before .before .before .before .before .before .before .before .before .pre in
+    (g .0 .booked, rw (c .before .name-of .ensures, c .size-of .ensures) (name-within (a .s .now) (a .rows .now) (a .n) (g .0 .rowed) (c .before .before .before .condition-row .result)))
 
 returns-2 : tie.Need-returns-2
-returns-2 c = condition-typed (c .before .before .before .before .before .before .before .before .before .before .before .args .t .now) (c .before .before .before .before .before .before .before .before .before .before .before .args .s .now) (c .before .before .before .before .before .before .before .before .before .before .before .args .rows .now) (c .before .before .before .before .before .before .before .before .before .before .before .args .n) (c .before .before .before .before .before .before .before .before .before .before .before .args .i) (c .before .before .before .before .condition-row .result) (c .before .before .before .before .condition-row .ensures) (typeCoded (c .before .before .before .before .before .before .before .before .before .before .before .args .above)) _ _ (c .before .before .before .if1 .left) (c .before .before .name-of .ensures) (c .before .size-of .ensures) (c .composite .ensures)
+returns-2 c =
+    let a = c .before .before .before .before .before .before .before .before .before .before .before .args in
+    condition-typed (a .t .now) (a .s .now) (a .rows .now) (a .n) (a .i) (c .before .before .before .before .condition-row .result) (c .before .before .before .before .condition-row .ensures) (typeCoded (a .above)) _ _ (c .before .before .before .if1 .left) (c .before .before .name-of .ensures) (c .before .size-of .ensures) (c .composite .ensures)
 
 pub condition-type-spec : {M : Type 1} → statement M
 condition-type-spec =

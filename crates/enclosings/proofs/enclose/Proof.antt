@@ -16,7 +16,10 @@ abbrev μ-loop : tie.MeasureT-loop
 μ-loop t book s rows n first next inside₀ at₀ to₀ i₀ inside at to i = n - i
 
 loop-holds : tie.Need-loop-holds Inv-loop μ-loop
-loop-holds c = (omega arith, enclosed-begin (c .before .before .before .before .before .before .before .before .before .args .t .now) (c .before .before .before .before .before .before .before .before .before .args .s .now) (c .before .before .before .before .before .before .before .before .before .args .rows .now) (c .before .before .before .before .before .before .before .before .before .args .n) (c .before .before .before .before .before .before .before .before .before .pre .0 .rowed) (c .before .before .before .before .before .before .before .before .before .pre .1) (c .before .before .before .before .before .before .before .before .before .pre .2) (c .before .before .before .before .before .before .before .before .before .pre .3))
+loop-holds c =
+    let a = c .before .before .before .before .before .before .before .before .before .args in
+    let g = c .before .before .before .before .before .before .before .before .before .pre in
+    (omega arith, enclosed-begin (a .t .now) (a .s .now) (a .rows .now) (a .n) (g .0 .rowed) (g .1) (g .2) (g .3))
 
 enclose-row-requires : tie.Need-enclose-row-requires Inv-loop μ-loop
 enclose-row-requires c κs = (c .before .before .before .before .before .before .before .before .before .before .before .before .before .before .pre .0, c .before .before .before .before .loop .inv .1, c .before .before .before .loop-test .taken)
@@ -41,8 +44,10 @@ same-length-3 c = c .before .loop .inv .1 .tos ∙ sym (c .before .before .befor
 
 returns : tie.Need-returns Inv-loop μ-loop
 returns c =
-    let e : c .before .loop .i ≡ (c .before .before .before .before .before .before .before .before .before .before .before .args .n) = omega (arith, c .before .loop .inv .0, c .loop-test .left) in
-    subst (λ (m : ℕ). EnclosedTo (c .before .before .before .before .before .before .before .before .before .before .before .args .t .now) (c .before .before .before .before .before .before .before .before .before .before .before .args .s .now) (c .before .before .before .before .before .before .before .before .before .before .before .args .rows .now) (c .before .before .before .before .before .before .before .before .before .before .before .args .n) m (c .before .loop .inside) (c .before .loop .at) (c .before .loop .to)) e (c .before .loop .inv .1)
+    let a = c .before .before .before .before .before .before .before .before .before .before .before .args in
+    let l = c .before .loop in
+    let e : l .i ≡ (a .n) = omega (arith, l .inv .0, c .loop-test .left) in
+    subst (λ (m : ℕ). EnclosedTo (a .t .now) (a .s .now) (a .rows .now) (a .n) m (l .inside) (l .at) (l .to)) e (l .inv .1)
 
 pub enclose-spec : {M : Type 1} → statement M
 enclose-spec =

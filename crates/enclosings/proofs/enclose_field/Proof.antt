@@ -1,6 +1,4 @@
 -- Three stores for one row.
-use mathlib.Core.Path.{_≡_, sym, ap, _∙_}
-use native.Mathlib.Omega.{arith}
 use Rattle.constructs.proofs.RowsIn.{rowed-sized, name-within}
 use Rattle.enclosings.proofs.EnclosedLaws.{above-known, enclosed-field}
 use borrow.Author.Needs.{needs}
@@ -20,7 +18,10 @@ cast-field-in-2 : tie.Need-cast-field-in-2
 cast-field-in-2 c = search needs
 
 field-in-requires : tie.Need-field-in-requires
-field-in-requires c κs = (c .before .before .before .before .before .before .before .before .before .pre .0, c .before .before .before .before .before .before .before .before .before .pre .1, above-known (c .before .before .before .before .before .before .before .before .before .args .t .now) (c .before .before .before .before .before .before .before .before .before .args .s .now) (c .before .before .before .before .before .before .before .before .before .args .rows .now) (c .before .before .before .before .before .before .before .before .before .args .n) (c .before .before .before .before .before .before .before .before .before .pre .2) (c .before .before .before .before .before .before .before .before .before .args .i) (c .before .before .before .before .before .before .before .before .before .args .above) (c .before .before .before .before .before .before .before .before .before .pre .6), rw (c .before .name-of .ensures, c .size-of .ensures) (name-within (c .before .before .before .before .before .before .before .before .before .args .s .now) (c .before .before .before .before .before .before .before .before .before .args .rows .now) (c .before .before .before .before .before .before .before .before .before .args .n) (c .before .before .before .before .before .before .before .before .before .pre .2) (c .before .before .before .before .before .before .before .before .before .args .i)))
+field-in-requires c κs =
+    let a = c .before .before .before .before .before .before .before .before .before .args in
+    let g = c .before .before .before .before .before .before .before .before .before .pre in
+    (g .0, g .1, above-known (a .t .now) (a .s .now) (a .rows .now) (a .n) (g .2) (a .i) (a .above) (g .6), rw (c .before .name-of .ensures, c .size-of .ensures) (name-within (a .s .now) (a .rows .now) (a .n) (g .2) (a .i)))
 
 field-type-requires : tie.Need-field-type-requires
 field-type-requires c κs = (c .before .before .before .before .before .before .before .before .before .before .pre .0, c .field-in .ensures .bounds)
@@ -53,7 +54,10 @@ same-length-3 : tie.Need-same-length-3
 same-length-3 c = search needs
 
 returns : tie.Need-returns
-returns c = enclosed-field (c .before .before .before .before .before .before .before .before .before .before .before .args .t .now) (c .before .before .before .before .before .before .before .before .before .before .before .args .s .now) (c .before .before .before .before .before .before .before .before .before .before .before .args .rows .now) (c .before .before .before .before .before .before .before .before .before .before .before .args .n) (c .before .before .before .before .before .before .before .before .before .before .before .pre .2) (c .before .before .before .before .before .before .before .before .before .before .before .args .i) (c .before .before .before .before .before .before .before .before .before .before .before .pre .4) (c .before .before .before .before .before .before .before .before .before .before .before .args .inside .now) (c .before .before .before .before .before .before .before .before .before .before .before .args .at .now) (c .before .before .before .before .before .before .before .before .before .before .before .args .to .now) (c .before .before .before .before .before .before .before .before .before .before .before .pre .3) _ _ _ (c .before .before .before .before .before .before .before .before .before .before .before .args .above) (c .before .before .before .before .before .before .before .before .before .before .before .pre .5) (c .before .before .before .before .before .before .before .before .before .before .before .pre .6) (rw (← c .before .before .before .name-of .ensures, ← c .before .before .size-of .ensures) (c .before .field-in .ensures)) (c .field-type .ensures)
+returns c =
+    let a = c .before .before .before .before .before .before .before .before .before .before .before .args in
+    let g = c .before .before .before .before .before .before .before .before .before .before .before .pre in
+    enclosed-field (a .t .now) (a .s .now) (a .rows .now) (a .n) (g .2) (a .i) (g .4) (a .inside .now) (a .at .now) (a .to .now) (g .3) _ _ _ (a .above) (g .5) (g .6) (rw (← c .before .before .before .name-of .ensures, ← c .before .before .size-of .ensures) (c .before .field-in .ensures)) (c .field-type .ensures)
 
 pub enclose-field-spec : {M : Type 1} → statement M
 enclose-field-spec =

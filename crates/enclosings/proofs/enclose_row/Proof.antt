@@ -21,7 +21,9 @@ tested c =
 above : (c : tie.After-type-inside)
     → enclosing (tableOf (c .before .before .before .before .before .before .before .before .before .before .before .before .before .before .before .args .t .now)) (docOf (c .before .before .before .before .before .before .before .before .before .before .before .before .before .before .before .args .s .now) (c .before .before .before .before .before .before .before .before .before .before .before .before .before .before .before .args .rows .now) (c .before .before .before .before .before .before .before .before .before .before .before .before .before .before .before .args .n)) (c .before .before .before .before .before .before .before .before .before .before .before .before .before .before .before .args .i) ≡ typeCoded (c .type-inside .result)
 above c =
-    kept-above (c .before .before .before .before .before .before .before .before .before .before .before .before .before .before .before .args .t .now) (c .before .before .before .before .before .before .before .before .before .before .before .before .before .before .before .args .s .now) (c .before .before .before .before .before .before .before .before .before .before .before .before .before .before .before .args .rows .now) (c .before .before .before .before .before .before .before .before .before .before .before .before .before .before .before .args .n) (c .before .before .before .before .before .before .before .before .before .before .before .before .before .before .before .pre .0 .rowed) (c .before .before .before .before .before .before .before .before .before .before .before .before .before .before .before .pre .1) (c .before .before .before .before .before .before .before .before .before .before .before .before .before .before .before .args .i) _ (c .before .before .before .before .before .before .before .before .before .before .before .before .before .before .before .pre .2) (omega arith) (c .before .parent-of .ensures) ∙ ap typeCoded (sym (c .type-inside .ensures))
+    let a = c .before .before .before .before .before .before .before .before .before .before .before .before .before .before .before .args in
+    let g = c .before .before .before .before .before .before .before .before .before .before .before .before .before .before .before .pre in
+    kept-above (a .t .now) (a .s .now) (a .rows .now) (a .n) (g .0 .rowed) (g .1) (a .i) _ (g .2) (omega arith) (c .before .parent-of .ensures) ∙ ap typeCoded (sym (c .type-inside .ensures))
 
 kind-of-requires : tie.Need-kind-of-requires
 kind-of-requires c κs = rowed-sized (c .before .before .before .before .before .before .before .before .before .pre .0 .rowed)
@@ -30,7 +32,10 @@ encloses-requires : tie.Need-encloses-requires
 encloses-requires c κs = search needs
 
 returns : tie.Need-returns
-returns c = enclosed-skip (c .before .before .before .before .before .before .before .before .before .before .before .before .args .t .now) (c .before .before .before .before .before .before .before .before .before .before .before .before .args .s .now) (c .before .before .before .before .before .before .before .before .before .before .before .before .args .rows .now) (c .before .before .before .before .before .before .before .before .before .before .before .before .args .n) (c .before .before .before .before .before .before .before .before .before .before .before .before .pre .0 .rowed) (c .before .before .before .before .before .before .before .before .before .before .before .before .args .i) (c .before .before .before .before .before .before .before .before .before .before .before .before .pre .2) (c .before .before .before .before .before .before .before .before .before .before .before .before .args .inside .now) (c .before .before .before .before .before .before .before .before .before .before .before .before .args .at .now) (c .before .before .before .before .before .before .before .before .before .before .before .before .args .to .now) (c .before .before .before .before .before .before .before .before .before .before .before .before .pre .1) (sym (tested (c .before)) ∙ not-true _ (c .if1 .taken))
+returns c =
+    let a = c .before .before .before .before .before .before .before .before .before .before .before .before .args in
+    let g = c .before .before .before .before .before .before .before .before .before .before .before .before .pre in
+    enclosed-skip (a .t .now) (a .s .now) (a .rows .now) (a .n) (g .0 .rowed) (a .i) (g .2) (a .inside .now) (a .at .now) (a .to .now) (g .1) (sym (tested (c .before)) ∙ not-true _ (c .if1 .taken))
 
 parent-of-requires : tie.Need-parent-of-requires
 parent-of-requires c κs = rowed-sized (c .before .before .before .before .before .before .before .before .before .before .before .before .before .pre .0 .rowed)
@@ -39,10 +44,14 @@ cast-type-inside : tie.Need-cast-type-inside
 cast-type-inside c = search needs
 
 type-inside-requires : tie.Need-type-inside-requires
-type-inside-requires c κs = (rowed-sized (c .before .before .before .before .before .before .before .before .before .before .before .before .before .before .pre .0 .rowed), c .before .before .before .before .before .before .before .before .before .before .before .before .before .before .pre .1 .inners)
+type-inside-requires c κs =
+    let g = c .before .before .before .before .before .before .before .before .before .before .before .before .before .before .pre in
+    (rowed-sized (g .0 .rowed), g .1 .inners)
 
 enclose-field-requires : tie.Need-enclose-field-requires
-enclose-field-requires c κs = (c .before .before .before .before .before .before .before .before .before .before .before .before .before .before .before .before .before .before .before .pre .0 .booked, c .before .before .before .before .before .before .before .before .before .before .before .before .before .before .before .before .before .before .before .pre .0 .fielded, c .before .before .before .before .before .before .before .before .before .before .before .before .before .before .before .before .before .before .before .pre .0 .rowed, c .before .before .before .before .before .before .before .before .before .before .before .before .before .before .before .before .before .before .before .pre .1, c .before .before .before .before .before .before .before .before .before .before .before .before .before .before .before .before .before .before .before .pre .2, sym (c .before .before .before .before .before .before .before .before .before .kind-of .ensures) ∙ c .before .before .before .if2 .taken, above (c .before .before .before .before))
+enclose-field-requires c κs =
+    let g = c .before .before .before .before .before .before .before .before .before .before .before .before .before .before .before .before .before .before .before .pre in
+    (g .0 .booked, g .0 .fielded, g .0 .rowed, g .1, g .2, sym (c .before .before .before .before .before .before .before .before .before .kind-of .ensures) ∙ c .before .before .before .if2 .taken, above (c .before .before .before .before))
 
 same-length : tie.Need-same-length
 same-length c = search needs
@@ -57,7 +66,9 @@ returns-2 : tie.Need-returns-2
 returns-2 c = search needs
 
 other-type-requires : tie.Need-other-type-requires
-other-type-requires c κs = (c .before .before .before .before .before .before .before .before .before .before .before .before .before .before .before .before .pre .0, c .before .before .before .before .before .before .before .before .before .before .before .before .before .before .before .before .pre .2, sym (tested (c .before .before .before .before .before)) ∙ not-false _ (c .before .before .before .before .if1 .left), λ z. c .if2 .left (c .before .before .before .before .before .before .kind-of .ensures ∙ z))
+other-type-requires c κs =
+    let g = c .before .before .before .before .before .before .before .before .before .before .before .before .before .before .before .before .pre in
+    (g .0, g .2, sym (tested (c .before .before .before .before .before)) ∙ not-false _ (c .before .before .before .before .if1 .left), λ z. c .if2 .left (c .before .before .before .before .before .before .kind-of .ensures ∙ z))
 
 mul-inside : tie.Need-mul-inside
 mul-inside c = search needs
@@ -69,7 +80,10 @@ same-length-4 : tie.Need-same-length-4
 same-length-4 c = search needs
 
 returns-3 : tie.Need-returns-3
-returns-3 c = enclosed-type (c .before .before .before .before .before .before .before .before .before .before .before .before .before .before .before .before .before .args .t .now) (c .before .before .before .before .before .before .before .before .before .before .before .before .before .before .before .before .before .args .s .now) (c .before .before .before .before .before .before .before .before .before .before .before .before .before .before .before .before .before .args .rows .now) (c .before .before .before .before .before .before .before .before .before .before .before .before .before .before .before .before .before .args .n) (c .before .before .before .before .before .before .before .before .before .before .before .before .before .before .before .before .before .pre .0 .rowed) (c .before .before .before .before .before .before .before .before .before .before .before .before .before .before .before .before .before .args .i) (c .before .before .before .before .before .before .before .before .before .before .before .before .before .before .before .before .before .pre .2) (c .before .before .before .before .before .before .before .before .before .before .before .before .before .before .before .before .before .args .inside .now) (c .before .before .before .before .before .before .before .before .before .before .before .before .before .before .before .before .before .args .at .now) (c .before .before .before .before .before .before .before .before .before .before .before .before .before .before .before .before .before .args .to .now) (c .before .before .before .before .before .before .before .before .before .before .before .before .before .before .before .before .before .pre .1) (c .other-type .result) (c .before .before .type-inside .result) (λ z. c .before .if2 .left (c .before .before .before .before .before .before .before .kind-of .ensures ∙ z)) (above (c .before .before)) (c .other-type .ensures)
+returns-3 c =
+    let a = c .before .before .before .before .before .before .before .before .before .before .before .before .before .before .before .before .before .args in
+    let g = c .before .before .before .before .before .before .before .before .before .before .before .before .before .before .before .before .before .pre in
+    enclosed-type (a .t .now) (a .s .now) (a .rows .now) (a .n) (g .0 .rowed) (a .i) (g .2) (a .inside .now) (a .at .now) (a .to .now) (g .1) (c .other-type .result) (c .before .before .type-inside .result) (λ z. c .before .if2 .left (c .before .before .before .before .before .before .before .kind-of .ensures ∙ z)) (above (c .before .before)) (c .other-type .ensures)
 
 pub enclose-row-spec : {M : Type 1} → statement M
 enclose-row-spec =

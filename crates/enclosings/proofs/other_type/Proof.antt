@@ -17,19 +17,30 @@ root-type-requires : tie.Need-root-type-requires
 root-type-requires c κs = c .before .before .before .before .before .before .before .before .before .pre .0 .booked
 
 returns : tie.Need-returns
-returns c = operation-typed (c .before .before .before .before .before .before .before .before .before .before .args .t .now) (c .before .before .before .before .before .before .before .before .before .before .args .s .now) (c .before .before .before .before .before .before .before .before .before .before .args .rows .now) (c .before .before .before .before .before .before .before .before .before .before .args .n) (c .before .before .before .before .before .before .before .before .before .before .args .i) (c .before .before .before .before .before .before .before .before .before .before .args .above) _ (sym (c .before .before .before .kind-of .ensures) ∙ c .before .before .if1 .taken) (c .before .extra-of .ensures) (c .root-type .ensures)
+returns c =
+    let a = c .before .before .before .before .before .before .before .before .before .before .args in
+    operation-typed (a .t .now) (a .s .now) (a .rows .now) (a .n) (a .i) (a .above) _ (sym (c .before .before .before .kind-of .ensures) ∙ c .before .before .if1 .taken) (c .before .extra-of .ensures) (c .root-type .ensures)
 
 condition-type-requires : tie.Need-condition-type-requires
-condition-type-requires c κs = (c .before .before .before .before .before .before .before .before .before .pre .0, c .before .before .before .before .before .before .before .before .before .pre .1)
+condition-type-requires c κs =
+    let g = c .before .before .before .before .before .before .before .before .before .pre in
+    (g .0, g .1)
 
 returns-2 : tie.Need-returns-2
-returns-2 c = fragment-typed (c .before .before .before .before .before .before .before .before .before .before .args .t .now) (c .before .before .before .before .before .before .before .before .before .before .args .s .now) (c .before .before .before .before .before .before .before .before .before .before .args .rows .now) (c .before .before .before .before .before .before .before .before .before .before .args .n) (c .before .before .before .before .before .before .before .before .before .before .args .i) (c .before .before .before .before .before .before .before .before .before .before .args .above) (sym (c .before .before .before .kind-of .ensures) ∙ c .before .if2 .taken) (c .condition-type .ensures)
+returns-2 c =
+    let a = c .before .before .before .before .before .before .before .before .before .before .args in
+    fragment-typed (a .t .now) (a .s .now) (a .rows .now) (a .n) (a .i) (a .above) (sym (c .before .before .before .kind-of .ensures) ∙ c .before .if2 .taken) (c .condition-type .ensures)
 
 condition-type-requires-2 : tie.Need-condition-type-requires-2
-condition-type-requires-2 c κs = (c .before .before .before .before .before .before .before .before .before .pre .0, c .before .before .before .before .before .before .before .before .before .pre .1)
+condition-type-requires-2 c κs =
+    let g = c .before .before .before .before .before .before .before .before .before .pre in
+    (g .0, g .1)
 
 returns-3 : tie.Need-returns-3
-returns-3 c = inline-typed (c .before .before .before .before .before .before .before .before .before .before .args .t .now) (c .before .before .before .before .before .before .before .before .before .before .args .s .now) (c .before .before .before .before .before .before .before .before .before .before .args .rows .now) (c .before .before .before .before .before .before .before .before .before .before .args .n) (c .before .before .before .before .before .before .before .before .before .before .args .i) (c .before .before .before .before .before .before .before .before .before .before .args .above) (rest-inline (rowIn (c .before .before .before .before .before .before .before .before .before .before .args .rows .now) (c .before .before .before .before .before .before .before .before .before .before .args .n) (c .before .before .before .before .before .before .before .before .before .before .args .i) .kind) (c .before .before .before .before .before .before .before .before .before .before .pre .2) (λ z. c .before .before .if1 .left (c .before .before .before .kind-of .ensures ∙ z)) (λ z. c .before .if2 .left (c .before .before .before .kind-of .ensures ∙ z)) (c .before .before .before .before .before .before .before .before .before .before .pre .3)) (c .condition-type2 .ensures)
+returns-3 c =
+    let a = c .before .before .before .before .before .before .before .before .before .before .args in
+    let g = c .before .before .before .before .before .before .before .before .before .before .pre in
+    inline-typed (a .t .now) (a .s .now) (a .rows .now) (a .n) (a .i) (a .above) (rest-inline (rowIn (a .rows .now) (a .n) (a .i) .kind) (g .2) (λ z. c .before .before .if1 .left (c .before .before .before .kind-of .ensures ∙ z)) (λ z. c .before .if2 .left (c .before .before .before .kind-of .ensures ∙ z)) (g .3)) (c .condition-type2 .ensures)
 
 pub other-type-spec : {M : Type 1} → statement M
 other-type-spec =

@@ -19,7 +19,8 @@ tested c =
 there : (c : tie.Then1)
     → (c .before .before .before .before .before .args .i) < (c .before .before .before .before .before .args .n)
 there c =
-    encloses-there (c .before .before .before .before .before .args .rows .now) (c .before .before .before .before .before .args .n) (c .before .before .before .before .before .args .i) (sym (tested (c .before)) ∙ c .if1 .taken)
+    let a = c .before .before .before .before .before .args in
+    encloses-there (a .rows .now) (a .n) (a .i) (sym (tested (c .before)) ∙ c .if1 .taken)
 
 kind-of-requires : tie.Need-kind-of-requires
 kind-of-requires c κs = search needs
@@ -31,13 +32,19 @@ mul-result : tie.Need-mul-result
 mul-result c = omega (arith, there c, c .before .before .before .before .before .pre .0 .few)
 
 shared-slice-read-result : tie.Need-shared-slice-read-result
-shared-slice-read-result c = omega (arith, there (c .before), c .before .before .before .before .before .before .pre .0 .few, c .before .before .before .before .before .before .pre .1)
+shared-slice-read-result c =
+    let g = c .before .before .before .before .before .before .pre in
+    omega (arith, there (c .before), g .0 .few, g .1)
 
 returns : tie.Need-returns
-returns c = ap (λ (b : Bool). cond b (getD (c .before .before .before .before .before .before .args .inside .now) (c .before .before .before .before .before .before .args .i) 0) 0) (sym (c .before .if1 .taken) ∙ tested (c .before .before))
+returns c =
+    let a = c .before .before .before .before .before .before .args in
+    ap (λ (b : Bool). cond b (getD (a .inside .now) (a .i) 0) 0) (sym (c .before .if1 .taken) ∙ tested (c .before .before))
 
 returns-2 : tie.Need-returns-2
-returns-2 c = ap (λ (b : Bool). cond b (getD (c .before .before .before .before .before .args .inside .now) (c .before .before .before .before .before .args .i) 0) 0) (sym (c .if1 .left) ∙ tested (c .before))
+returns-2 c =
+    let a = c .before .before .before .before .before .args in
+    ap (λ (b : Bool). cond b (getD (a .inside .now) (a .i) 0) 0) (sym (c .if1 .left) ∙ tested (c .before))
 
 pub type-inside-spec : {M : Type 1} → statement M
 type-inside-spec =

@@ -1,7 +1,6 @@
 -- From the first right below row p on.
 use mathlib.Core.Path.{_∙_}
 use native.Mathlib.Omega.{arith}
-use borrow.Author.Needs.{needs}
 use Rattle.naming.proofs.DirectiveLaws.{first-within, first-below}
 use Rattle.naming.proofs.first_below.Statement.{statement}
 use Rattle.naming.proofs.first_below.Tie as tie

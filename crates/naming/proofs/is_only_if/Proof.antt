@@ -1,7 +1,6 @@
 -- No argument, two, or one.
 use mathlib.Core.Path.{ap, _∙_}
 use native.Mathlib.Omega.{arith}
-use borrow.Author.Needs.{needs}
 use Rattle.paper.specs.Numbers.{kindArgument}
 use Rattle.paper_rules.specs.Rule9Directive.{isIf}
 use Rattle.constructs.specs.Rowed.{docOf}

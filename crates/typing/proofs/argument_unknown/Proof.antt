@@ -23,7 +23,9 @@ kind-of-requires : tie.Need-kind-of-requires
 kind-of-requires c κs = rowed-sized (c .before .before .before .before .before .before .pre .0)
 
 returns : tie.Need-returns
-returns c = argument-other (tableOf (c .before .before .before .before .before .before .before .before .args .t .now)) (docOf (c .before .before .before .before .before .before .before .before .args .s .now) (c .before .before .before .before .before .before .before .before .args .rows .now) (c .before .before .before .before .before .before .before .before .args .n)) (c .before .before .before .before .before .before .before .before .args .i) (λ z. c .if1 .taken (c .before .kind-of .ensures ∙ z))
+returns c =
+    let a = c .before .before .before .before .before .before .before .before .args in
+    argument-other (tableOf (a .t .now)) (docOf (a .s .now) (a .rows .now) (a .n)) (a .i) (λ z. c .if1 .taken (c .before .kind-of .ensures ∙ z))
 
 parent-of-requires : tie.Need-parent-of-requires
 parent-of-requires c κs = rowed-sized (c .before .before .before .before .before .before .before .before .pre .0)
@@ -35,15 +37,21 @@ kind-of-requires-2 : tie.Need-kind-of-requires-2
 kind-of-requires-2 c κs = rowed-sized (c .before .before .before .before .before .before .before .before .before .pre .0)
 
 returns-2 : tie.Need-returns-2
-returns-2 c = argument-elsewhere (tableOf (c .before .before .before .before .before .before .before .before .before .before .before .args .t .now)) (docOf (c .before .before .before .before .before .before .before .before .before .before .before .args .s .now) (c .before .before .before .before .before .before .before .before .before .before .before .args .rows .now) (c .before .before .before .before .before .before .before .before .before .before .before .args .n)) (c .before .before .before .before .before .before .before .before .before .before .before .args .i) (kind (c .before .before .before)) (λ z. c .if2 .taken (c .before .kind-of2 .ensures ∙ ap (λ (p : ℕ). rowIn (c .before .before .before .before .before .before .before .before .before .before .before .args .rows .now) (c .before .before .before .before .before .before .before .before .before .before .before .args .n) p .kind) (c .before .before .parent-of .ensures) ∙ z))
+returns-2 c =
+    let a = c .before .before .before .before .before .before .before .before .before .before .before .args in
+    argument-elsewhere (tableOf (a .t .now)) (docOf (a .s .now) (a .rows .now) (a .n)) (a .i) (kind (c .before .before .before)) (λ z. c .if2 .taken (c .before .kind-of2 .ensures ∙ ap (λ (p : ℕ). rowIn (a .rows .now) (a .n) p .kind) (c .before .before .parent-of .ensures) ∙ z))
 
 lacks-argument-requires : tie.Need-lacks-argument-requires
 lacks-argument-requires c κs =
+    let a = c .before .before .before .before .before .before .before .before .before .before .before .args in
+    let g = c .before .before .before .before .before .before .before .before .before .before .before .pre in
     let k = sym (c .before .kind-of2 .ensures) ∙ c .if2 .left in
-    (c .before .before .before .before .before .before .before .before .before .before .before .pre .0, c .before .before .before .before .before .before .before .before .before .before .before .pre .1, encloses-there (c .before .before .before .before .before .before .before .before .before .before .before .args .rows .now) (c .before .before .before .before .before .before .before .before .before .before .before .args .n) (c .before .before .parent-of .result) (sym (field-encloses _ k)), k)
+    (g .0, g .1, encloses-there (a .rows .now) (a .n) (c .before .before .parent-of .result) (sym (field-encloses _ k)), k)
 
 returns-3 : tie.Need-returns-3
-returns-3 c = argument-judged (tableOf (c .before .before .before .before .before .before .before .before .before .before .before .before .args .t .now)) (docOf (c .before .before .before .before .before .before .before .before .before .before .before .before .args .s .now) (c .before .before .before .before .before .before .before .before .before .before .before .before .args .rows .now) (c .before .before .before .before .before .before .before .before .before .before .before .before .args .n)) (c .before .before .before .before .before .before .before .before .before .before .before .before .args .i) (kind (c .before .before .before .before)) (ap (λ (p : ℕ). rowIn (c .before .before .before .before .before .before .before .before .before .before .before .before .args .rows .now) (c .before .before .before .before .before .before .before .before .before .before .before .before .args .n) p .kind) (sym (c .before .before .before .parent-of .ensures)) ∙ sym (c .before .before .kind-of2 .ensures) ∙ c .before .if2 .left) (c .lacks-argument .ensures ∙ ap (λ (p : ℕ). lacks (fieldAt (tableOf (c .before .before .before .before .before .before .before .before .before .before .before .before .args .t .now)) (docOf (c .before .before .before .before .before .before .before .before .before .before .before .before .args .s .now) (c .before .before .before .before .before .before .before .before .before .before .before .before .args .rows .now) (c .before .before .before .before .before .before .before .before .before .before .before .before .args .n)) p) (nameOf (docOf (c .before .before .before .before .before .before .before .before .before .before .before .before .args .s .now) (c .before .before .before .before .before .before .before .before .before .before .before .before .args .rows .now) (c .before .before .before .before .before .before .before .before .before .before .before .before .args .n)) (c .before .before .before .before .before .before .before .before .before .before .before .before .args .i))) (c .before .before .before .parent-of .ensures))
+returns-3 c =
+    let a = c .before .before .before .before .before .before .before .before .before .before .before .before .args in
+    argument-judged (tableOf (a .t .now)) (docOf (a .s .now) (a .rows .now) (a .n)) (a .i) (kind (c .before .before .before .before)) (ap (λ (p : ℕ). rowIn (a .rows .now) (a .n) p .kind) (sym (c .before .before .before .parent-of .ensures)) ∙ sym (c .before .before .kind-of2 .ensures) ∙ c .before .if2 .left) (c .lacks-argument .ensures ∙ ap (λ (p : ℕ). lacks (fieldAt (tableOf (a .t .now)) (docOf (a .s .now) (a .rows .now) (a .n)) p) (nameOf (docOf (a .s .now) (a .rows .now) (a .n)) (a .i))) (c .before .before .before .parent-of .ensures))
 
 pub argument-unknown-spec : {M : Type 1} → statement M
 argument-unknown-spec =

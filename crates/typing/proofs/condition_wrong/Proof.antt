@@ -24,7 +24,8 @@ kind c =
 parent : (c : tie.After-is-fragment)
     → isFragment (rowOf (docOf (c .before .before .before .before .before .before .before .before .before .args .s .now) (c .before .before .before .before .before .before .before .before .before .args .rows .now) (c .before .before .before .before .before .before .before .before .before .args .n)) (parentOf (docOf (c .before .before .before .before .before .before .before .before .before .args .s .now) (c .before .before .before .before .before .before .before .before .before .args .rows .now) (c .before .before .before .before .before .before .before .before .before .args .n)) (c .before .before .before .before .before .before .before .before .before .args .i))) ≡ c .is-fragment .result
 parent c =
-    sym (c .is-fragment .ensures ∙ ap (λ (k : ℕ). eqb k kindFragment || eqb k kindInline) (c .before .kind-of2 .ensures ∙ ap (λ (p : ℕ). rowIn (c .before .before .before .before .before .before .before .before .before .args .rows .now) (c .before .before .before .before .before .before .before .before .before .args .n) p .kind) (c .before .before .parent-of .ensures)))
+    let a = c .before .before .before .before .before .before .before .before .before .args in
+    sym (c .is-fragment .ensures ∙ ap (λ (k : ℕ). eqb k kindFragment || eqb k kindInline) (c .before .kind-of2 .ensures ∙ ap (λ (p : ℕ). rowIn (a .rows .now) (a .n) p .kind) (c .before .before .parent-of .ensures)))
 
 meant-tag : (c : tie.After-tag-meant)
     → c .tag-meant .result ≡ meant (tableOf (c .before .before .before .before .before .before .before .before .before .before .before .before .before .args .t .now)) (nameOf (docOf (c .before .before .before .before .before .before .before .before .before .before .before .before .before .args .s .now) (c .before .before .before .before .before .before .before .before .before .before .before .before .before .args .rows .now) (c .before .before .before .before .before .before .before .before .before .before .before .before .before .args .n)) (c .before .before .before .before .before .before .before .before .before .before .before .before .before .args .i)) .tag
@@ -35,7 +36,9 @@ kind-of-requires : tie.Need-kind-of-requires
 kind-of-requires c κs = rowed-sized (c .before .before .before .before .pre .1)
 
 returns : tie.Need-returns
-returns c = condition-other (tableOf (c .before .before .before .before .before .before .args .t .now)) (docOf (c .before .before .before .before .before .before .args .s .now) (c .before .before .before .before .before .before .args .rows .now) (c .before .before .before .before .before .before .args .n)) (c .before .before .before .before .before .before .args .i) (λ z. c .if1 .taken (c .before .kind-of .ensures ∙ z))
+returns c =
+    let a = c .before .before .before .before .before .before .args in
+    condition-other (tableOf (a .t .now)) (docOf (a .s .now) (a .rows .now) (a .n)) (a .i) (λ z. c .if1 .taken (c .before .kind-of .ensures ∙ z))
 
 parent-of-requires : tie.Need-parent-of-requires
 parent-of-requires c κs = rowed-sized (c .before .before .before .before .before .before .pre .1)
@@ -50,7 +53,9 @@ is-fragment-requires : tie.Need-is-fragment-requires
 is-fragment-requires c κs = search needs
 
 returns-2 : tie.Need-returns-2
-returns-2 c = condition-elsewhere (tableOf (c .before .before .before .before .before .before .before .before .before .before .args .t .now)) (docOf (c .before .before .before .before .before .before .before .before .before .before .args .s .now) (c .before .before .before .before .before .before .before .before .before .before .args .rows .now) (c .before .before .before .before .before .before .before .before .before .before .args .n)) (c .before .before .before .before .before .before .before .before .before .before .args .i) (kind (c .before .before .before .before)) (parent (c .before) ∙ not-true _ (c .if2 .taken))
+returns-2 c =
+    let a = c .before .before .before .before .before .before .before .before .before .before .args in
+    condition-elsewhere (tableOf (a .t .now)) (docOf (a .s .now) (a .rows .now) (a .n)) (a .i) (kind (c .before .before .before .before)) (parent (c .before) ∙ not-true _ (c .if2 .taken))
 
 name-of-requires : tie.Need-name-of-requires
 name-of-requires c κs = rowed-sized (c .before .before .before .before .before .before .before .before .before .before .pre .1)
@@ -65,13 +70,18 @@ cast-tag-meant-2 : tie.Need-cast-tag-meant-2
 cast-tag-meant-2 c = search needs
 
 tag-meant-requires : tie.Need-tag-meant-requires
-tag-meant-requires c κs = (c .before .before .before .before .before .before .before .before .before .before .before .before .pre .0, rw (c .before .name-of .ensures, c .size-of .ensures) (name-within (c .before .before .before .before .before .before .before .before .before .before .before .before .args .s .now) (c .before .before .before .before .before .before .before .before .before .before .before .before .args .rows .now) (c .before .before .before .before .before .before .before .before .before .before .before .before .args .n) (c .before .before .before .before .before .before .before .before .before .before .before .before .pre .1) (c .before .before .before .before .before .before .before .before .before .before .before .before .args .i)))
+tag-meant-requires c κs =
+    let a = c .before .before .before .before .before .before .before .before .before .before .before .before .args in
+    let g = c .before .before .before .before .before .before .before .before .before .before .before .before .pre in
+    (g .0, rw (c .before .name-of .ensures, c .size-of .ensures) (name-within (a .s .now) (a .rows .now) (a .n) (g .1) (a .i)))
 
 is-output-requires : tie.Need-is-output-requires
 is-output-requires c κs = search needs
 
 returns-3 : tie.Need-returns-3
-returns-3 c = condition-judged (tableOf (c .before .before .before .before .before .before .before .before .before .before .before .before .before .before .args .t .now)) (docOf (c .before .before .before .before .before .before .before .before .before .before .before .before .before .before .args .s .now) (c .before .before .before .before .before .before .before .before .before .before .before .before .before .before .args .rows .now) (c .before .before .before .before .before .before .before .before .before .before .before .before .before .before .args .n)) (c .before .before .before .before .before .before .before .before .before .before .before .before .before .before .args .i) (kind (c .before .before .before .before .before .before .before .before)) (parent (c .before .before .before .before .before) ∙ not-false _ (c .before .before .before .before .if2 .left)) (c .is-output .ensures ∙ ap (λ (k : ℕ). leb tagObject k && leb k tagUnion) (meant-tag (c .before)))
+returns-3 c =
+    let a = c .before .before .before .before .before .before .before .before .before .before .before .before .before .before .args in
+    condition-judged (tableOf (a .t .now)) (docOf (a .s .now) (a .rows .now) (a .n)) (a .i) (kind (c .before .before .before .before .before .before .before .before)) (parent (c .before .before .before .before .before) ∙ not-false _ (c .before .before .before .before .if2 .left)) (c .is-output .ensures ∙ ap (λ (k : ℕ). leb tagObject k && leb k tagUnion) (meant-tag (c .before)))
 
 pub condition-wrong-spec : {M : Type 1} → statement M
 condition-wrong-spec =

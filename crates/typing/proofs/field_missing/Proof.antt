@@ -13,7 +13,9 @@ kind-of-requires : tie.Need-kind-of-requires
 kind-of-requires c κs = rowed-sized (c .before .before .before .before .before .before .pre .0)
 
 returns : tie.Need-returns
-returns c = field-other (tableOf (c .before .before .before .before .before .before .before .before .args .t .now)) (docOf (c .before .before .before .before .before .before .before .before .args .s .now) (c .before .before .before .before .before .before .before .before .args .rows .now) (c .before .before .before .before .before .before .before .before .args .n)) (c .before .before .before .before .before .before .before .before .args .i) (λ z. c .if1 .taken (c .before .kind-of .ensures ∙ z))
+returns c =
+    let a = c .before .before .before .before .before .before .before .before .args in
+    field-other (tableOf (a .t .now)) (docOf (a .s .now) (a .rows .now) (a .n)) (a .i) (λ z. c .if1 .taken (c .before .kind-of .ensures ∙ z))
 
 mul-result : tie.Need-mul-result
 mul-result c = search needs
@@ -23,8 +25,10 @@ shared-slice-read-result c = search needs
 
 returns-2 : tie.Need-returns-2
 returns-2 c =
+    let a = c .before .before .before .before .before .before .before .before .before .args in
+    let g = c .before .before .before .before .before .before .before .before .before .pre in
     let k = sym (c .before .before .kind-of .ensures) ∙ c .before .if1 .left in
-    field-judged (tableOf (c .before .before .before .before .before .before .before .before .before .args .t .now)) (docOf (c .before .before .before .before .before .before .before .before .before .args .s .now) (c .before .before .before .before .before .before .before .before .before .args .rows .now) (c .before .before .before .before .before .before .before .before .before .args .n)) (c .before .before .before .before .before .before .before .before .before .args .i) k (c .before .before .before .before .before .before .before .before .before .args .t .now) (getD (c .before .before .before .before .before .before .before .before .before .args .at .now) (c .before .before .before .before .before .before .before .before .before .args .i) 0) (getD (c .before .before .before .before .before .before .before .before .before .args .to .now) (c .before .before .before .before .before .before .before .before .before .args .i) 0) (c .before .before .before .before .before .before .before .before .before .pre .1 .fields (c .before .before .before .before .before .before .before .before .before .args .i) (c .before .before .before .before .before .before .before .before .before .pre .2) k)
+    field-judged (tableOf (a .t .now)) (docOf (a .s .now) (a .rows .now) (a .n)) (a .i) k (a .t .now) (getD (a .at .now) (a .i) 0) (getD (a .to .now) (a .i) 0) (g .1 .fields (a .i) (g .2) k)
 
 pub field-missing-spec : {M : Type 1} → statement M
 field-missing-spec =

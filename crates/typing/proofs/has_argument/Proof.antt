@@ -19,10 +19,14 @@ enum-told-2 : tie.Need-enum-told-2
 enum-told-2 c = search needs
 
 returns : tie.Need-returns
-returns c = sym (any-found (argumentNamed (part (c .before .before .before .before .before .args .s .now) (c .before .before .before .before .before .args .at) (c .before .before .before .before .before .args .n))) (argumentsIn (c .before .before .before .before .before .args .t .now) (c .before .before .before .before .before .args .start) (c .before .before .before .before .before .args .end)) ∙ ap found (subst (FindArgument (c .before .before .before .before .before .args .t .now) (c .before .before .before .before .before .args .start) (c .before .before .before .before .before .args .end) (part (c .before .before .before .before .before .args .s .now) (c .before .before .before .before .before .args .at) (c .before .before .before .before .before .args .n))) (c .enum-told2 .given .1) (c .before .before .find-argument .ensures)))
+returns c =
+    let a = c .before .before .before .before .before .args in
+    sym (any-found (argumentNamed (part (a .s .now) (a .at) (a .n))) (argumentsIn (a .t .now) (a .start) (a .end)) ∙ ap found (subst (FindArgument (a .t .now) (a .start) (a .end) (part (a .s .now) (a .at) (a .n))) (c .enum-told2 .given .1) (c .before .before .find-argument .ensures)))
 
 returns-2 : tie.Need-returns-2
-returns-2 c = sym (any-found (argumentNamed (part (c .before .before .before .before .before .args .s .now) (c .before .before .before .before .before .args .at) (c .before .before .before .before .before .args .n))) (argumentsIn (c .before .before .before .before .before .args .t .now) (c .before .before .before .before .before .args .start) (c .before .before .before .before .before .args .end)) ∙ ap found (subst (FindArgument (c .before .before .before .before .before .args .t .now) (c .before .before .before .before .before .args .start) (c .before .before .before .before .before .args .end) (part (c .before .before .before .before .before .args .s .now) (c .before .before .before .before .before .args .at) (c .before .before .before .before .before .args .n))) (c .enum-told .given .1) (c .before .before .find-argument .ensures) .is))
+returns-2 c =
+    let a = c .before .before .before .before .before .args in
+    sym (any-found (argumentNamed (part (a .s .now) (a .at) (a .n))) (argumentsIn (a .t .now) (a .start) (a .end)) ∙ ap found (subst (FindArgument (a .t .now) (a .start) (a .end) (part (a .s .now) (a .at) (a .n))) (c .enum-told .given .1) (c .before .before .find-argument .ensures) .is))
 
 pub has-argument-spec : {M : Type 1} → statement M
 has-argument-spec =

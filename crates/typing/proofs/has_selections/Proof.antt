@@ -1,5 +1,5 @@
 -- A walk over the rows right below.
-use mathlib.Core.Path.{_≡_, sym, ap, _∙_}
+use mathlib.Core.Path.{_≡_, ap, _∙_}
 use mathlib.Core.Bool.{_&&_}
 use Prim.Native.Nat.{ℕ, _-_, _<_}
 use native.Mathlib.Omega.{arith}
@@ -24,13 +24,20 @@ abbrev μ-loop : tie.MeasureT-loop
 here : (c : tie.After-is-selection Inv-loop μ-loop)
     → selects (c .before .before .before .before .before .before .before .before .before .args .i) (rowIn (c .before .before .before .before .before .before .before .before .before .args .rows .now) (c .before .before .before .before .before .before .before .before .before .args .n) (c .before .before .before .loop .j)) ≡ c .is-selection .result
 here c =
-    selects-here (c .before .before .before .before .before .before .before .before .before .args .i) (rowIn (c .before .before .before .before .before .before .before .before .before .args .rows .now) (c .before .before .before .before .before .before .before .before .before .args .n) (c .before .before .before .loop .j)) (c .is-selection .result) (c .is-selection .ensures ∙ ap (λ (k : ℕ). leb kindField k && leb k kindInline) (c .before .kind-of .ensures)) (c .before .before .before .loop .inv .on (c .before .before .loop-test .taken))
+    let a = c .before .before .before .before .before .before .before .before .before .args in
+    let l = c .before .before .before .loop in
+    selects-here (a .i) (rowIn (a .rows .now) (a .n) (l .j)) (c .is-selection .result) (c .is-selection .ensures ∙ ap (λ (k : ℕ). leb kindField k && leb k kindInline) (c .before .kind-of .ensures)) (l .inv .on (c .before .before .loop-test .taken))
 
 link-of-requires : tie.Need-link-of-requires Inv-loop μ-loop
-link-of-requires c κs = omega (arith, c .before .before .before .before .pre .1 .firsts, c .before .before .before .before .pre .2, c .before .before .before .before .pre .0 .few)
+link-of-requires c κs =
+    let g = c .before .before .before .before .pre in
+    omega (arith, g .1 .firsts, g .2, g .0 .few)
 
 loop-holds : tie.Need-loop-holds Inv-loop μ-loop
-loop-holds c = family-start (c .before .before .before .before .before .args .rows .now) (c .before .before .before .before .before .args .n) (c .before .before .before .before .before .args .first .now) (c .before .before .before .before .before .args .next .now) (c .before .before .before .before .before .pre .1) (c .before .before .before .before .before .args .i) (selects (c .before .before .before .before .before .args .i)) (omega (arith, c .before .before .before .before .before .pre .2, c .before .before .before .before .before .pre .0 .few)) (λ r e. and-right (isSelection r) (below (c .before .before .before .before .before .args .i) r) e) (c .link-of .ensures)
+loop-holds c =
+    let a = c .before .before .before .before .before .args in
+    let g = c .before .before .before .before .before .pre in
+    family-start (a .rows .now) (a .n) (a .first .now) (a .next .now) (g .1) (a .i) (selects (a .i)) (omega (arith, g .2, g .0 .few)) (λ r e. and-right (isSelection r) (below (a .i) r) e) (c .link-of .ensures)
 
 kind-of-requires : tie.Need-kind-of-requires Inv-loop μ-loop
 kind-of-requires c κs = rowed-sized (c .before .before .before .before .before .before .before .pre .0)
@@ -39,21 +46,35 @@ is-selection-requires : tie.Need-is-selection-requires Inv-loop μ-loop
 is-selection-requires c κs = search needs
 
 returns : tie.Need-returns Inv-loop μ-loop
-returns c = selections-are (docOf (c .before .before .before .before .before .before .before .before .before .before .args .s .now) (c .before .before .before .before .before .before .before .before .before .before .args .rows .now) (c .before .before .before .before .before .before .before .before .before .before .args .n)) (c .before .before .before .before .before .before .before .before .before .before .args .i) (walk-any noRow (below (c .before .before .before .before .before .before .before .before .before .before .args .i)) (selects (c .before .before .before .before .before .before .before .before .before .before .args .i)) (rowsIn (c .before .before .before .before .before .before .before .before .before .before .args .rows .now) (c .before .before .before .before .before .before .before .before .before .before .args .n)) (c .before .before .before .before .before .before .before .before .before .before .args .n) 0 (c .before .before .before .before .loop .j) (c .before .before .before .before .loop .inv) (c .before .before .before .loop-test .taken) (here (c .before) ∙ c .if1 .taken))
+returns c =
+    let a = c .before .before .before .before .before .before .before .before .before .before .args in
+    let l = c .before .before .before .before .loop in
+    selections-are (docOf (a .s .now) (a .rows .now) (a .n)) (a .i) (walk-any noRow (below (a .i)) (selects (a .i)) (rowsIn (a .rows .now) (a .n)) (a .n) 0 (l .j) (l .inv) (c .before .before .before .loop-test .taken) (here (c .before) ∙ c .if1 .taken))
 
 link-of-requires-2 : tie.Need-link-of-requires-2 Inv-loop μ-loop
-link-of-requires-2 c κs = family-room (c .before .before .before .before .before .before .before .before .before .before .args .rows .now) (c .before .before .before .before .before .before .before .before .before .before .args .n) (c .before .before .before .before .before .before .before .before .before .before .args .first .now) (c .before .before .before .before .before .before .before .before .before .before .args .next .now) (c .before .before .before .before .before .before .before .before .before .before .pre .1) (c .before .before .before .before .loop .j) (c .before .before .before .loop-test .taken) (c .before .before .before .before .before .before .before .before .before .before .pre .0 .few)
+link-of-requires-2 c κs =
+    let a = c .before .before .before .before .before .before .before .before .before .before .args in
+    let g = c .before .before .before .before .before .before .before .before .before .before .pre in
+    family-room (a .rows .now) (a .n) (a .first .now) (a .next .now) (g .1) (c .before .before .before .before .loop .j) (c .before .before .before .loop-test .taken) (g .0 .few)
 
 loop-less : tie.Need-loop-less Inv-loop μ-loop
 loop-less c =
-    let h : c .before .before .before .before .before .loop .j < c .link-of2 .result = family-less (c .before .before .before .before .before .before .before .before .before .before .before .args .rows .now) (c .before .before .before .before .before .before .before .before .before .before .before .args .n) (c .before .before .before .before .before .before .before .before .before .before .before .args .first .now) (c .before .before .before .before .before .before .before .before .before .before .before .args .next .now) (c .before .before .before .before .before .before .before .before .before .before .before .pre .1) (c .before .before .before .before .before .loop .j) (c .before .before .before .before .loop-test .taken) (c .link-of2 .ensures) in
+    let a = c .before .before .before .before .before .before .before .before .before .before .before .args in
+    let l = c .before .before .before .before .before .loop in
+    let h : l .j < c .link-of2 .result = family-less (a .rows .now) (a .n) (a .first .now) (a .next .now) (c .before .before .before .before .before .before .before .before .before .before .before .pre .1) (l .j) (c .before .before .before .before .loop-test .taken) (c .link-of2 .ensures) in
     omega (arith, c .before .before .before .before .loop-test .taken)
 
 loop-again : tie.Need-loop-again Inv-loop μ-loop
-loop-again c = family-next (c .before .before .before .before .before .before .before .before .before .before .before .args .rows .now) (c .before .before .before .before .before .before .before .before .before .before .before .args .n) (c .before .before .before .before .before .before .before .before .before .before .before .args .first .now) (c .before .before .before .before .before .before .before .before .before .before .before .args .next .now) (c .before .before .before .before .before .before .before .before .before .before .before .pre .1) (c .before .before .before .before .before .before .before .before .before .before .before .args .i) (selects (c .before .before .before .before .before .before .before .before .before .before .before .args .i)) 0 (c .before .before .before .before .before .loop .j) (c .before .before .before .before .before .loop .inv) (c .before .before .before .before .loop-test .taken) (here (c .before .before) ∙ c .before .if1 .left) (c .link-of2 .ensures)
+loop-again c =
+    let a = c .before .before .before .before .before .before .before .before .before .before .before .args in
+    let l = c .before .before .before .before .before .loop in
+    family-next (a .rows .now) (a .n) (a .first .now) (a .next .now) (c .before .before .before .before .before .before .before .before .before .before .before .pre .1) (a .i) (selects (a .i)) 0 (l .j) (l .inv) (c .before .before .before .before .loop-test .taken) (here (c .before .before) ∙ c .before .if1 .left) (c .link-of2 .ensures)
 
 returns-2 : tie.Need-returns-2 Inv-loop μ-loop
-returns-2 c = selections-are (docOf (c .before .before .before .before .before .before .before .args .s .now) (c .before .before .before .before .before .before .before .args .rows .now) (c .before .before .before .before .before .before .before .args .n)) (c .before .before .before .before .before .before .before .args .i) (end-any noRow (below (c .before .before .before .before .before .before .before .args .i)) (selects (c .before .before .before .before .before .before .before .args .i)) (rowsIn (c .before .before .before .before .before .before .before .args .rows .now) (c .before .before .before .before .before .before .before .args .n)) (c .before .before .before .before .before .before .before .args .n) 0 (c .before .loop .j) (c .before .loop .inv) (c .loop-test .left))
+returns-2 c =
+    let a = c .before .before .before .before .before .before .before .args in
+    let l = c .before .loop in
+    selections-are (docOf (a .s .now) (a .rows .now) (a .n)) (a .i) (end-any noRow (below (a .i)) (selects (a .i)) (rowsIn (a .rows .now) (a .n)) (a .n) 0 (l .j) (l .inv) (c .loop-test .left))
 
 pub has-selections-spec : {M : Type 1} → statement M
 has-selections-spec =

@@ -22,7 +22,8 @@ use Rattle.typing.proofs.lacks_argument.Tie as tie
 field : (c : tie.Start)
     → FieldKept (c .args .t .now) (fieldAt (tableOf (c .args .t .now)) (docOf (c .args .s .now) (c .args .rows .now) (c .args .n)) (c .args .p)) (getD (c .args .at .now) (c .args .p) 0) (getD (c .args .to .now) (c .args .p) 0)
 field c =
-    c .pre .1 .fields (c .args .p) (c .pre .2) (c .pre .3)
+    let g = c .pre in
+    g .1 .fields (c .args .p) (g .2) (g .3)
 
 within : (c : tie.Else2)
     → Bounds (c .before .before .before .before .before .before .before .before .before .args .t .now) (getD (c .before .before .before .before .before .before .before .before .before .args .at .now) (c .before .before .before .before .before .before .before .before .before .args .p) 0) (getD (c .before .before .before .before .before .before .before .before .before .args .to .now) (c .before .before .before .before .before .before .before .before .before .args .p) 0)
@@ -41,10 +42,14 @@ shared-slice-read-a : tie.Need-shared-slice-read-a
 shared-slice-read-a c = search needs
 
 returns : tie.Need-returns
-returns c = sym (ap (λ (f : FieldIs). lacks f (nameOf (docOf (c .before .before .before .before .before .before .before .before .args .s .now) (c .before .before .before .before .before .before .before .before .args .rows .now) (c .before .before .before .before .before .before .before .before .args .n)) (c .before .before .before .before .before .before .before .before .args .i))) (field ((c .before .before .before .before .before .before .before .before)) .is) ∙ lacks-unknown (c .before .before .before .before .before .before .before .before .args .t .now) (getD (c .before .before .before .before .before .before .before .before .args .at .now) (c .before .before .before .before .before .before .before .before .args .p) 0) (getD (c .before .before .before .before .before .before .before .before .args .to .now) (c .before .before .before .before .before .before .before .before .args .p) 0) (nameOf (docOf (c .before .before .before .before .before .before .before .before .args .s .now) (c .before .before .before .before .before .before .before .before .args .rows .now) (c .before .before .before .before .before .before .before .before .args .n)) (c .before .before .before .before .before .before .before .before .args .i)) (c .if1 .taken))
+returns c =
+    let a = c .before .before .before .before .before .before .before .before .args in
+    sym (ap (λ (f : FieldIs). lacks f (nameOf (docOf (a .s .now) (a .rows .now) (a .n)) (a .i))) (field ((c .before .before .before .before .before .before .before .before)) .is) ∙ lacks-unknown (a .t .now) (getD (a .at .now) (a .p) 0) (getD (a .to .now) (a .p) 0) (nameOf (docOf (a .s .now) (a .rows .now) (a .n)) (a .i)) (c .if1 .taken))
 
 returns-2 : tie.Need-returns-2
-returns-2 c = sym (ap (λ (f : FieldIs). lacks f (nameOf (docOf (c .before .before .before .before .before .before .before .before .before .args .s .now) (c .before .before .before .before .before .before .before .before .before .args .rows .now) (c .before .before .before .before .before .before .before .before .before .args .n)) (c .before .before .before .before .before .before .before .before .before .args .i))) (field ((c .before .before .before .before .before .before .before .before .before)) .is) ∙ lacks-typename (c .before .before .before .before .before .before .before .before .before .args .t .now) (getD (c .before .before .before .before .before .before .before .before .before .args .at .now) (c .before .before .before .before .before .before .before .before .before .args .p) 0) (getD (c .before .before .before .before .before .before .before .before .before .args .to .now) (c .before .before .before .before .before .before .before .before .before .args .p) 0) (nameOf (docOf (c .before .before .before .before .before .before .before .before .before .args .s .now) (c .before .before .before .before .before .before .before .before .before .args .rows .now) (c .before .before .before .before .before .before .before .before .before .args .n)) (c .before .before .before .before .before .before .before .before .before .args .i)) (c .if2 .taken))
+returns-2 c =
+    let a = c .before .before .before .before .before .before .before .before .before .args in
+    sym (ap (λ (f : FieldIs). lacks f (nameOf (docOf (a .s .now) (a .rows .now) (a .n)) (a .i))) (field ((c .before .before .before .before .before .before .before .before .before)) .is) ∙ lacks-typename (a .t .now) (getD (a .at .now) (a .p) 0) (getD (a .to .now) (a .p) 0) (nameOf (docOf (a .s .now) (a .rows .now) (a .n)) (a .i)) (c .if2 .taken))
 
 cast-has-argument : tie.Need-cast-has-argument
 cast-has-argument c =
@@ -75,10 +80,14 @@ cast-has-argument-4 : tie.Need-cast-has-argument-4
 cast-has-argument-4 c = search needs
 
 has-argument-requires : tie.Need-has-argument-requires
-has-argument-requires c κs = (within (c .before .before .before), rw (c .before .name-of .ensures, c .size-of .ensures) (name-within (c .before .before .before .before .before .before .before .before .before .before .before .before .args .s .now) (c .before .before .before .before .before .before .before .before .before .before .before .before .args .rows .now) (c .before .before .before .before .before .before .before .before .before .before .before .before .args .n) (c .before .before .before .before .before .before .before .before .before .before .before .before .pre .0) (c .before .before .before .before .before .before .before .before .before .before .before .before .args .i)))
+has-argument-requires c κs =
+    let a = c .before .before .before .before .before .before .before .before .before .before .before .before .args in
+    (within (c .before .before .before), rw (c .before .name-of .ensures, c .size-of .ensures) (name-within (a .s .now) (a .rows .now) (a .n) (c .before .before .before .before .before .before .before .before .before .before .before .before .pre .0) (a .i)))
 
 returns-3 : tie.Need-returns-3
-returns-3 c = ap not (named c) ∙ sym (ap (λ (f : FieldIs). lacks f (nameOf (docOf (c .before .before .before .before .before .before .before .before .before .before .before .before .before .args .s .now) (c .before .before .before .before .before .before .before .before .before .before .before .before .before .args .rows .now) (c .before .before .before .before .before .before .before .before .before .before .before .before .before .args .n)) (c .before .before .before .before .before .before .before .before .before .before .before .before .before .args .i))) (field ((c .before .before .before .before .before .before .before .before .before .before .before .before .before)) .is) ∙ lacks-member (c .before .before .before .before .before .before .before .before .before .before .before .before .before .args .t .now) (getD (c .before .before .before .before .before .before .before .before .before .before .before .before .before .args .at .now) (c .before .before .before .before .before .before .before .before .before .before .before .before .before .args .p) 0) (getD (c .before .before .before .before .before .before .before .before .before .before .before .before .before .args .to .now) (c .before .before .before .before .before .before .before .before .before .before .before .before .before .args .p) 0) (nameOf (docOf (c .before .before .before .before .before .before .before .before .before .before .before .before .before .args .s .now) (c .before .before .before .before .before .before .before .before .before .before .before .before .before .args .rows .now) (c .before .before .before .before .before .before .before .before .before .before .before .before .before .args .n)) (c .before .before .before .before .before .before .before .before .before .before .before .before .before .args .i)) (omega (arith, c .before .before .before .before .before .if1 .left, c .before .before .before .before .if2 .left)))
+returns-3 c =
+    let a = c .before .before .before .before .before .before .before .before .before .before .before .before .before .args in
+    ap not (named c) ∙ sym (ap (λ (f : FieldIs). lacks f (nameOf (docOf (a .s .now) (a .rows .now) (a .n)) (a .i))) (field ((c .before .before .before .before .before .before .before .before .before .before .before .before .before)) .is) ∙ lacks-member (a .t .now) (getD (a .at .now) (a .p) 0) (getD (a .to .now) (a .p) 0) (nameOf (docOf (a .s .now) (a .rows .now) (a .n)) (a .i)) (omega (arith, c .before .before .before .before .before .if1 .left, c .before .before .before .before .if2 .left)))
 
 pub lacks-argument-spec : {M : Type 1} → statement M
 lacks-argument-spec =

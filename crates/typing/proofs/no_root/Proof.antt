@@ -14,7 +14,9 @@ kind-of-requires : tie.Need-kind-of-requires
 kind-of-requires c κs = rowed-sized (c .before .before .before .before .pre .1)
 
 returns : tie.Need-returns
-returns c = root-other (tableOf (c .before .before .before .before .before .before .args .t .now)) (docOf (c .before .before .before .before .before .before .args .s .now) (c .before .before .before .before .before .before .args .rows .now) (c .before .before .before .before .before .before .args .n)) (c .before .before .before .before .before .before .args .i) (λ z. c .if1 .taken (c .before .kind-of .ensures ∙ z))
+returns c =
+    let a = c .before .before .before .before .before .before .args in
+    root-other (tableOf (a .t .now)) (docOf (a .s .now) (a .rows .now) (a .n)) (a .i) (λ z. c .if1 .taken (c .before .kind-of .ensures ∙ z))
 
 extra-of-requires : tie.Need-extra-of-requires
 extra-of-requires c κs = rowed-sized (c .before .before .before .before .before .before .pre .1)
@@ -23,7 +25,9 @@ has-root-requires : tie.Need-has-root-requires
 has-root-requires c κs = c .before .before .before .before .before .before .before .pre .0
 
 returns-2 : tie.Need-returns-2
-returns-2 c = root-judged (tableOf (c .before .before .before .before .before .before .before .before .args .t .now)) (docOf (c .before .before .before .before .before .before .before .before .args .s .now) (c .before .before .before .before .before .before .before .before .args .rows .now) (c .before .before .before .before .before .before .before .before .args .n)) (c .before .before .before .before .before .before .before .before .args .i) (sym (c .before .before .before .kind-of .ensures) ∙ c .before .before .if1 .left) (c .has-root .ensures ∙ ap (λ (x : ℕ). found (rootOf (tableOf (c .before .before .before .before .before .before .before .before .args .t .now)) x)) (c .before .extra-of .ensures))
+returns-2 c =
+    let a = c .before .before .before .before .before .before .before .before .args in
+    root-judged (tableOf (a .t .now)) (docOf (a .s .now) (a .rows .now) (a .n)) (a .i) (sym (c .before .before .before .kind-of .ensures) ∙ c .before .before .if1 .left) (c .has-root .ensures ∙ ap (λ (x : ℕ). found (rootOf (tableOf (a .t .now)) x)) (c .before .extra-of .ensures))
 
 pub no-root-spec : {M : Type 1} → statement M
 no-root-spec =

@@ -1,0 +1,4 @@
+-- What the functions of this crate ask and answer.
+pub mod Owners
+pub mod Spreads
+pub mod Marks

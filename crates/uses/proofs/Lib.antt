@@ -1,0 +1,5 @@
+-- Laws of this crate, in the order in which they use each other.
+pub mod VerdictLaws
+pub mod LeastLaws
+pub mod FlagsLaws
+pub mod FlaggedLaws

@@ -1,0 +1,82 @@
+-- From nothing, the fragments, then the variables.
+use borrow.Author.Needs.{needs}
+use mathlib.Core.Path.{_≡_, sym, ap, _∙_}
+use Prim.Native.Nat.{ℕ}
+use lib.ListN.{length, replicate}
+use Rattle.paper.specs.Numbers.{mostRows}
+use Rattle.paper_types.specs.Types.{tableOf}
+use Rattle.constructs.specs.Rowed.{docOf}
+use Rattle.constructs.proofs.RowsIn.{rowed-sized, rows-count}
+use Rattle.spreading.specs.Marks.{Stamped}
+use Rattle.spreading.proofs.MarkLaws.{stamped-none}
+use Rattle.uses.proofs.FlagsLaws.{flags-none}
+use Rattle.uses.proofs.FlaggedLaws.{flagged}
+use Rattle.uses.proofs.flags.Statement.{statement}
+use Rattle.uses.proofs.flags.Tie as tie
+
+no-flags : (c : tie.After-clear)
+    → Stamped 0 (c .clear .last .0)
+no-flags c =
+    stamped-none (c .clear .ensures ∙ ap (λ (k : ℕ). replicate k 0) (c .before .before .before .before .before .before .before .before .before .before .before .before .before .before .before .before .before .before .before .pre .5))
+
+no-marks : (c : tie.After-clear2)
+    → Stamped 0 (c .clear2 .last .0)
+no-marks c =
+    stamped-none (c .clear2 .ensures ∙ ap (λ (k : ℕ). replicate k 0) (c .before .before .before .before .before .before .before .before .before .before .before .before .before .before .before .before .before .before .before .before .before .before .before .pre .3))
+
+marks : (c : tie.After-judge-fragments)
+    → length (c .judge-fragments .last .1 .1 .1 .1 .1 .1 .1 .1 .0) ≡ mostRows
+marks c =
+    c .judge-fragments .kept .1 .1 .1 .1 .1 .1 .1 .1 .0 ∙ no-marks ((c .before .before .before .before .before .before)) .size
+
+no-marks-again : (c : tie.After-clear3)
+    → Stamped 0 (c .clear3 .last .0)
+no-marks-again c =
+    stamped-none (c .clear3 .ensures ∙ ap (λ (k : ℕ). replicate k 0) (marks (c .before .before .before .before .before .before .before .before)))
+
+clear-requires : tie.Need-clear-requires
+clear-requires c κs = search needs
+
+clear-requires-2 : tie.Need-clear-requires-2
+clear-requires-2 c κs = search needs
+
+judge-fragments-requires : tie.Need-judge-fragments-requires
+judge-fragments-requires c κs =
+    let s = c .before .before .before .before .before .before .before .before .before .before .before .before .before .before .before .before .before .before .before .before .before .before .before .before .before .before .before .before in
+    (rowed-sized (s .pre .0 .rowed), s .pre .1, s .pre .2, no-marks (c .before .before .before .before .before), s .pre .4, no-flags ((c .before .before .before .before .before .before .before .before .before)) .size)
+
+clear-requires-3 : tie.Need-clear-requires-3
+clear-requires-3 c κs = search needs
+
+judge-operations-requires : tie.Need-judge-operations-requires
+judge-operations-requires c κs =
+    let s = c .before .before .before .before .before .before .before .before .before .before .before .before .before .before .before .before .before .before .before .before .before .before .before .before .before .before .before .before .before .before .before .before .before .before .before .before .before .before .before .before .before .before in
+    (s .pre .0, s .pre .1, s .pre .2, no-marks-again (c .before .before .before .before .before), c .before .before .before .before .before .before .before .before .before .before .before .before .before .judge-fragments .kept .1 .1 .1 .1 .1 .1 .1 .1 .1 .0 ∙ s .pre .4, c .before .before .before .before .before .before .before .before .before .before .before .before .before .judge-fragments .ensures (tableOf (s .args .t .now)) (flags-none (tableOf (s .args .t .now)) (docOf (s .args .s .now) (s .args .rows .now) (s .args .n)) _ (no-flags (c .before .before .before .before .before .before .before .before .before .before .before .before .before .before .before .before .before .before .before .before .before .before .before))))
+
+same-length : tie.Need-same-length
+same-length c = search needs
+
+same-length-2 : tie.Need-same-length-2
+same-length-2 c = search needs
+
+same-length-3 : tie.Need-same-length-3
+same-length-3 c = c .before .before .before .before .before .before .judge-operations .ensures .size ∙ sym (c .before .before .before .before .before .before .before .before .before .before .before .before .before .before .before .before .before .before .before .before .before .before .before .before .before .before .before .before .before .before .before .before .before .before .before .before .before .before .before .before .before .before .before .before .before .before .before .before .before .pre .5)
+
+returns : tie.Need-returns
+returns c =
+    let s = c .before .before .before .before .before .before .before .before .before .before .before .before .before .before .before .before .before .before .before .before .before .before .before .before .before .before .before .before .before .before .before .before .before .before .before .before .before .before .before .before .before .before .before .before .before .before .before .before .before in
+    flagged (tableOf (s .args .t .now)) (docOf (s .args .s .now) (s .args .rows .now) (s .args .n)) (s .args .n) _ (sym (rows-count (s .args .rows .now) (s .args .n))) (c .before .before .before .before .before .before .judge-operations .ensures)
+
+pub flags-spec : {M : Type 1} → statement M
+flags-spec =
+    tie.close
+    (tie.spec
+    clear-requires
+    clear-requires-2
+    judge-fragments-requires
+    clear-requires-3
+    judge-operations-requires
+    same-length
+    same-length-2
+    same-length-3
+    returns)

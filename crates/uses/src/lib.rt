@@ -1,0 +1,370 @@
+// The query rules 8 and 10, and 11 where variables are used: the least of them that each row breaks, as one number.
+// One search from each fragment and each operation; then each variable is compared with the operations that reach it.
+use constructs::extra_of;
+use constructs::is_called;
+use constructs::kind_of;
+use constructs::same_names;
+use links::link_of;
+use naming::first_below;
+use paper::KIND_FRAGMENT;
+use paper::KIND_OPERATION;
+use paper::KIND_TYPE_REFERENCE;
+use paper::KIND_VARIABLE;
+use paper::KIND_VARIABLE_DEFINITION;
+use paper_rules::RULE_CIRCLE;
+use paper_rules::RULE_UNDEFINED;
+use paper_rules::RULE_VARIABLE_TYPE;
+use placings::PLACE_BOOLEAN;
+use placings::PLACE_FIRST;
+use placings::PLACE_UNKNOWN;
+use placings::Place;
+use placings::nullable_of;
+use placings::place_of;
+ghost use mathlib.Core.Path.{_≡_};
+ghost use mathlib.Core.Bool.{_&&_};
+ghost use mathlib.Core.Option.{some};
+ghost use Prim.Native.Nat.{_+_, _<_};
+ghost use lib.ListN.{length};
+ghost use Rattle.paper.specs.Numbers.{mostRows, kindOperation, kindVariableDefinition};
+ghost use Rattle.paper_types.specs.Lists.{firstAt};
+ghost use Rattle.paper_types.specs.Types.{tableOf};
+ghost use Rattle.paper_rules.specs.Constructs.{is, called, nameOf};
+ghost use Rattle.paper_rules.specs.PlaceTypes.{shapeIn};
+ghost use Rattle.paper_rules.specs.Rule10Undefined.{definesIt};
+ghost use Rattle.paper_rules.specs.Rule11VariableType.{differ};
+ghost use Rattle.constructs.specs.Rowed.{rowIn, rowsIn, docOf, Rowed, Sized};
+ghost use Rattle.links.specs.Links.{Family, Kinds};
+ghost use Rattle.spreading.specs.Spreads.{Graph};
+ghost use Rattle.spreading.specs.Marks.{Stamped, Reached};
+ghost use Rattle.placings.specs.Placed.{coded, Within, Placed};
+ghost use Rattle.uses.specs.Flags.{verdictOf, Least, Circled, FlagsTo, FragmentsTo, Known, Flagged};
+
+// no rule is broken
+pub const NO_RULE: u32 = 0;
+
+// Is row j a variable definition of row i's name?
+fn defines_it(s: &[u8], rows: &[u32], n: usize, j: usize, i: usize) -> bool
+    requires { ⌜ Rowed (now s) (now rows) n ⌝ }
+    ensures { λ r. ⌜ r ≡ is kindVariableDefinition (rowIn (now (rows .entry)) n j) && called (docOf (now (s .entry)) (now (rows .entry)) n) (nameOf (docOf (now (s .entry)) (now (rows .entry)) n) i) (rowIn (now (rows .entry)) n j) ⌝ }
+{
+    if kind_of(rows, n, j) != KIND_VARIABLE_DEFINITION {
+        return false;
+    }
+    same_names(s, rows, n, j, i)
+}
+
+// The row of the first definition, by the operation of row o, of the variable of row i; n if there is none.
+fn definition_of(
+    s: &[u8],
+    rows: &[u32],
+    n: usize,
+    first: &[u32],
+    next: &[u32],
+    o: usize,
+    i: usize,
+) -> usize
+    requires { ⌜ Rowed (now s) (now rows) n × Family (rowsIn (now rows) n) (now first) (now next) × (o < n) ⌝ }
+    ensures { λ r. ⌜ r ≡ firstAt (definesIt (docOf (now (s .entry)) (now (rows .entry)) n) o (nameOf (docOf (now (s .entry)) (now (rows .entry)) n) i)) (rowsIn (now (rows .entry)) n) ⌝ }
+{
+    let mut j = link_of(first, o);
+    while j < n {
+        let after = link_of(next, j);
+        if defines_it(s, rows, n, j, i) {
+            return j;
+        }
+        j = after;
+    }
+    j
+}
+
+// Is the type reference of row r another type than that of the place p, but for the outermost Non-Null? Wrappers are compared first.
+fn differs(t: &[u8], s: &[u8], rows: &[u32], n: usize, r: usize, p: Place) -> bool
+    requires { ⌜ Rowed (now s) (now rows) n × Within (now t) p ⌝ }
+    ensures { λ b. ⌜ b ≡ differ (some (shapeIn (docOf (now (s .entry)) (now (rows .entry)) n) (rowIn (now (rows .entry)) n r))) (coded (now (t .entry)) p) ⌝ }
+{
+    if p.at == PLACE_UNKNOWN {
+        return false;
+    }
+    let declared = extra_of(rows, n, r);
+    let bare = nullable_of(declared);
+    let due = nullable_of(p.wrappers);
+    if bare != due {
+        return true;
+    }
+    if p.at == PLACE_BOOLEAN {
+        return !is_called(s, rows, n, r, b"Boolean", 0, 7);
+    }
+    !is_called(
+        s,
+        rows,
+        n,
+        r,
+        t,
+        (p.at - PLACE_FIRST) as usize,
+        p.size as usize,
+    )
+}
+
+// What the operation of row o says of the variable of row i: rule 10, 11 or none.
+fn verdict(
+    t: &[u8],
+    s: &[u8],
+    rows: &[u32],
+    n: usize,
+    first: &[u32],
+    next: &[u32],
+    at: &[u32],
+    size: &[u32],
+    wrappers: &[u32],
+    o: usize,
+    i: usize,
+) -> u32
+    requires { ⌜ Rowed (now s) (now rows) n × Family (rowsIn (now rows) n) (now first) (now next) × Placed (now t) (now s) (now rows) n (now at) (now size) (now wrappers) n × (o < n) ⌝ }
+    ensures { λ r. ⌜ r ≡ verdictOf (tableOf (now (t .entry))) (docOf (now (s .entry)) (now (rows .entry)) n) o i ⌝ }
+{
+    let v = definition_of(s, rows, n, first, next, o, i);
+    if n <= v {
+        return RULE_UNDEFINED;
+    }
+    let r = first_below(rows, n, first, next, KIND_TYPE_REFERENCE, v);
+    if n <= r {
+        return NO_RULE;
+    }
+    let p = place_of(rows, n, at, size, wrappers, i);
+    if differs(t, s, rows, n, r, p) {
+        return RULE_VARIABLE_TYPE;
+    }
+    NO_RULE
+}
+
+// The least that is said of the variable of row i up to the operation of row o, where that before it is f. Rule 10 is the least there is.
+fn lesser(
+    t: &[u8],
+    s: &[u8],
+    rows: &[u32],
+    n: usize,
+    first: &[u32],
+    next: &[u32],
+    at: &[u32],
+    size: &[u32],
+    wrappers: &[u32],
+    owner: &[u32],
+    mark: &[u32],
+    o: usize,
+    i: usize,
+    f: u32,
+) -> u32
+    requires { ⌜ Known (now t) (now s) (now rows) n (now first) (now next) (now at) (now size) (now wrappers) (now owner) × Reached (docOf (now s) (now rows) n) o (now mark) × (rowIn (now rows) n o .kind ≡ kindOperation) × (i < n) × Least (tableOf (now t)) (docOf (now s) (now rows) n) o i f ⌝ }
+    ensures { λ r. ⌜ Least (tableOf (now (t .entry))) (docOf (now (s .entry)) (now (rows .entry)) n) (o + 1) i r ⌝ }
+{
+    if f == RULE_UNDEFINED {
+        return f;
+    }
+    if !spreading::reaches(s, rows, n, owner, mark, o, i) {
+        return f;
+    }
+    let v = verdict(t, s, rows, n, first, next, at, size, wrappers, o, i);
+    if v == NO_RULE {
+        return f;
+    }
+    v
+}
+
+// Judges every variable by the operation of row o, after the search from it.
+fn judge_variables(
+    t: &[u8],
+    s: &[u8],
+    rows: &[u32],
+    n: usize,
+    first: &[u32],
+    next: &[u32],
+    firstk: &[u32],
+    nextk: &[u32],
+    at: &[u32],
+    size: &[u32],
+    wrappers: &[u32],
+    owner: &[u32],
+    mark: &[u32],
+    o: usize,
+    flag: &mut [u32],
+)
+    requires { ⌜ Known (now t) (now s) (now rows) n (now first) (now next) (now at) (now size) (now wrappers) (now owner) × Kinds (rowsIn (now rows) n) (now firstk) (now nextk) × Reached (docOf (now s) (now rows) n) o (now mark) × (rowIn (now rows) n o .kind ≡ kindOperation) × FlagsTo (tableOf (now t)) (docOf (now s) (now rows) n) n o (now flag) ⌝ }
+    ensures { λ _. ⌜ FlagsTo (tableOf (now (t .entry))) (docOf (now (s .entry)) (now (rows .entry)) n) n (o + 1) (now (flag .exit)) ⌝ }
+{
+    let mut i = link_of(firstk, KIND_VARIABLE as usize);
+    while i < n {
+        let f = flag[i];
+        flag[i] = lesser(
+            t,
+            s,
+            rows,
+            n,
+            first,
+            next,
+            at,
+            size,
+            wrappers,
+            owner,
+            mark,
+            o,
+            i,
+            f,
+        );
+        i = link_of(nextk, i);
+    }
+}
+
+// Judges every variable by every operation.
+fn judge_operations(
+    t: &[u8],
+    s: &[u8],
+    rows: &[u32],
+    n: usize,
+    first: &[u32],
+    next: &[u32],
+    firstk: &[u32],
+    nextk: &[u32],
+    at: &[u32],
+    size: &[u32],
+    wrappers: &[u32],
+    owner: &[u32],
+    target: &[u32],
+    firsts: &[u32],
+    nexts: &[u32],
+    mark: &mut [u32],
+    stack: &mut [u32],
+    flag: &mut [u32],
+)
+    requires { ⌜ Known (now t) (now s) (now rows) n (now first) (now next) (now at) (now size) (now wrappers) (now owner) × Kinds (rowsIn (now rows) n) (now firstk) (now nextk) × Graph (docOf (now s) (now rows) n) (now target) (now firsts) (now nexts) × Stamped 0 (now mark) × (length (now stack) ≡ mostRows) × FlagsTo (tableOf (now t)) (docOf (now s) (now rows) n) n 0 (now flag) ⌝ }
+    ensures { λ _. ⌜ FlagsTo (tableOf (now (t .entry))) (docOf (now (s .entry)) (now (rows .entry)) n) n n (now (flag .exit)) ⌝ }
+{
+    let mut o = link_of(firstk, KIND_OPERATION as usize);
+    while o < n {
+        spreading::reach(s, rows, n, target, firsts, nexts, mark, stack, o);
+        judge_variables(
+            t,
+            s,
+            rows,
+            n,
+            first,
+            next,
+            firstk,
+            nextk,
+            at,
+            size,
+            wrappers,
+            owner,
+            mark,
+            o,
+            flag,
+        );
+        o = link_of(nextk, o);
+    }
+}
+
+// Rule 8 if the fragment of row i reaches itself, else none.
+fn circle_of(
+    s: &[u8],
+    rows: &[u32],
+    n: usize,
+    target: &[u32],
+    firsts: &[u32],
+    nexts: &[u32],
+    mark: &mut [u32],
+    stack: &mut [u32],
+    i: usize,
+) -> u32
+    requires { ⌜ Sized (now rows) n × Graph (docOf (now s) (now rows) n) (now target) (now firsts) (now nexts) × Stamped i (now mark) × (length (now stack) ≡ mostRows) ⌝ }
+    ensures { λ r. ⌜ Circled (docOf (now (s .entry)) (now (rows .entry)) n) i r × Stamped (i + 1) (now (mark .exit)) ⌝ }
+{
+    if spreading::circles(s, rows, n, target, firsts, nexts, mark, stack, i) {
+        return RULE_CIRCLE;
+    }
+    NO_RULE
+}
+
+// Judges every fragment.
+fn judge_fragments(
+    s: &[u8],
+    rows: &[u32],
+    n: usize,
+    firstk: &[u32],
+    nextk: &[u32],
+    target: &[u32],
+    firsts: &[u32],
+    nexts: &[u32],
+    mark: &mut [u32],
+    stack: &mut [u32],
+    flag: &mut [u32],
+)
+    requires { ⌜ Sized (now rows) n × Kinds (rowsIn (now rows) n) (now firstk) (now nextk) × Graph (docOf (now s) (now rows) n) (now target) (now firsts) (now nexts) × Stamped 0 (now mark) × (length (now stack) ≡ mostRows) × (length (now flag) ≡ mostRows) ⌝ }
+    ensures { λ _. ⌜ FragmentsTo (docOf (now (s .entry)) (now (rows .entry)) n) (now (flag .entry)) n (now (flag .exit)) ⌝ }
+{
+    let mut f = link_of(firstk, KIND_FRAGMENT as usize);
+    while f < n {
+        flag[f] = circle_of(s, rows, n, target, firsts, nexts, mark, stack, f);
+        f = link_of(nextk, f);
+    }
+}
+
+// Judges fragments and variables. Marks rise within a round, so they are cleared between the two.
+pub fn flags(
+    t: &[u8],
+    s: &[u8],
+    rows: &[u32],
+    n: usize,
+    first: &[u32],
+    next: &[u32],
+    firstk: &[u32],
+    nextk: &[u32],
+    at: &[u32],
+    size: &[u32],
+    wrappers: &[u32],
+    owner: &[u32],
+    target: &[u32],
+    firsts: &[u32],
+    nexts: &[u32],
+    mark: &mut [u32],
+    stack: &mut [u32],
+    flag: &mut [u32],
+)
+    requires { ⌜ Known (now t) (now s) (now rows) n (now first) (now next) (now at) (now size) (now wrappers) (now owner) × Kinds (rowsIn (now rows) n) (now firstk) (now nextk) × Graph (docOf (now s) (now rows) n) (now target) (now firsts) (now nexts) × (length (now mark) ≡ mostRows) × (length (now stack) ≡ mostRows) × (length (now flag) ≡ mostRows) ⌝ }
+    ensures { λ _. ⌜ Flagged (tableOf (now (t .entry))) (docOf (now (s .entry)) (now (rows .entry)) n) (now (flag .exit)) ⌝ }
+{
+    links::clear(flag, 0);
+    links::clear(mark, 0);
+    judge_fragments(
+        s,
+        rows,
+        n,
+        firstk,
+        nextk,
+        target,
+        firsts,
+        nexts,
+        mark,
+        stack,
+        flag,
+    );
+    links::clear(mark, 0);
+    judge_operations(
+        t,
+        s,
+        rows,
+        n,
+        first,
+        next,
+        firstk,
+        nextk,
+        at,
+        size,
+        wrappers,
+        owner,
+        target,
+        firsts,
+        nexts,
+        mark,
+        stack,
+        flag,
+    );
+}
