@@ -1,45 +1,22 @@
-// Judges a document that was read against an accepted table: row by row, the least rule that each breaks.
-use constructs::kind_of;
-use paper::KIND_ARGUMENT;
-use paper::KIND_DIRECTIVE;
-use paper::KIND_FIELD;
-use paper::KIND_FRAGMENT;
-use paper::KIND_OPERATION;
-use paper::KIND_SPREAD;
-use paper::KIND_TYPE_REFERENCE;
-use paper::KIND_VARIABLE;
-use paper::KIND_VARIABLE_DEFINITION;
+// Judges a document that was read against an accepted table: makes all ready that the rules ask of it, then judges its rows.
+// What is lent mutably is scratch. Each function makes some of it and hands all on, so that what is used last takes no room before.
 use paper_rules::QueryAnswer;
-use paper_rules::RULE_ARGUMENT;
-use paper_rules::RULE_CONDITION;
-use paper_rules::RULE_DIRECTIVE;
-use paper_rules::RULE_FIELD;
-use paper_rules::RULE_FRAGMENT_REPEATED;
-use paper_rules::RULE_LEAF;
-use paper_rules::RULE_NAME_TWICE;
-use paper_rules::RULE_NO_ROOT;
-use paper_rules::RULE_OPERATION_REPEATED;
-use paper_rules::RULE_OPERATION_UNNAMED;
-use paper_rules::RULE_SPREAD;
-use paper_rules::RULE_VARIABLE_TYPE;
 ghost use mathlib.Core.Path.{_≡_};
-ghost use mathlib.Core.Bool.{cond};
-ghost use Prim.Native.Nat.{_≤_, _<_};
+ghost use Prim.Native.Nat.{_≤_};
 ghost use lib.ListN.{length};
-ghost use Rattle.paper.specs.Numbers.{mostRows, kindOperation, kindFragment, kindField, kindArgument, kindVariableDefinition};
+ghost use Rattle.paper.specs.Numbers.{mostRows};
 ghost use Rattle.paper_types.specs.TableNumbers.{mostTable};
-ghost use Rattle.paper_types.specs.Types.{Table, tableOf};
+ghost use Rattle.paper_types.specs.Types.{tableOf};
 ghost use Rattle.paper_types.specs.Judging.{judge};
 ghost use Rattle.paper_types.specs.declared.TableAnswer.the-variants.{Accepted};
 ghost use Rattle.types.specs.Booked.{Booked};
 ghost use Rattle.paper_rules.specs.QueryRules.{Judged};
-ghost use Rattle.constructs.specs.Rowed.{rowIn, rowsIn, docOf, Rowed};
+ghost use Rattle.constructs.specs.Rowed.{rowsIn, docOf, Rowed};
 ghost use Rattle.links.specs.Links.{firstsSize, kindsSize, Family, Kinds};
-ghost use Rattle.composites.specs.Coded.{Fielded};
-ghost use Rattle.enclosings.specs.Enclosed.{Asked, Enclosed};
+ghost use Rattle.enclosings.specs.Enclosed.{Asked};
+ghost use Rattle.placings.specs.Placed.{Fitted, Placed};
+ghost use Rattle.spreading.specs.Spreads.{Targeted};
 ghost use Rattle.uses.specs.Flags.{Flagged};
-ghost use Rattle.queries.specs.Least.{LeastAt};
-ghost use Rattle.queries.specs.Ready.{Ready};
 
 // How many rows there may be; how many firsts are linked, of a row or of none; how many kinds.
 const ROWS: usize = 2048;
@@ -48,221 +25,156 @@ const FIRSTS: usize = 2049;
 
 const KINDS: usize = 32;
 
-// The rule, if it is broken.
-fn rule_if(broken: bool, rule: u32) -> u32
-    ensures { λ r. ⌜ r ≡ cond broken rule 0 ⌝ }
+// Flags what breaks the rules that speak of paths.
+fn flag_with(
+    t: &[u8],
+    s: &[u8],
+    rows: &[u32],
+    n: usize,
+    first: &[u32],
+    next: &[u32],
+    firstk: &[u32],
+    nextk: &[u32],
+    at: &[u32],
+    to: &[u32],
+    inside: &[u32],
+    target: &[u32],
+    owner: &mut [u32],
+    firsts: &mut [u32],
+    nexts: &mut [u32],
+    mark: &mut [u32],
+    stack: &mut [u32],
+    flags: &mut [u32],
+)
+    requires { ⌜ Rowed (now s) (now rows) n × Family (rowsIn (now rows) n) (now first) (now next) × Kinds (rowsIn (now rows) n) (now firstk) (now nextk) × Placed (now t) (now s) (now rows) n (now at) (now to) (now inside) n × Targeted (docOf (now s) (now rows) n) (now target) × (length (now owner) ≡ mostRows) × (length (now firsts) ≡ firstsSize) × (length (now nexts) ≡ mostRows) × (length (now mark) ≡ mostRows) × (length (now stack) ≡ mostRows) × (length (now flags) ≡ mostRows) ⌝ }
+    ensures { λ _. ⌜ Flagged (tableOf (now (t .entry))) (docOf (now (s .entry)) (now (rows .entry)) n) (now (flags .exit)) ⌝ }
 {
-    if broken {
-        return rule;
-    }
-    0
+    spreading::owners(s, rows, n, owner);
+    spreading::spreads(s, rows, n, owner, firsts, nexts);
+    uses::flags(
+        t,
+        s,
+        rows,
+        n,
+        first,
+        next,
+        firstk,
+        nextk,
+        at,
+        to,
+        inside,
+        owner,
+        target,
+        firsts,
+        nexts,
+        mark,
+        stack,
+        flags,
+    );
 }
 
-// Rules 1, 2 and 13 at an operation.
-fn operation_rule(
+// The same, with scratch of its own.
+fn flag_rows(
+    t: &[u8],
+    s: &[u8],
+    rows: &[u32],
+    n: usize,
+    first: &[u32],
+    next: &[u32],
+    firstk: &[u32],
+    nextk: &[u32],
+    at: &[u32],
+    to: &[u32],
+    inside: &[u32],
+    target: &[u32],
+    flags: &mut [u32],
+)
+    requires { ⌜ Rowed (now s) (now rows) n × Family (rowsIn (now rows) n) (now first) (now next) × Kinds (rowsIn (now rows) n) (now firstk) (now nextk) × Placed (now t) (now s) (now rows) n (now at) (now to) (now inside) n × Targeted (docOf (now s) (now rows) n) (now target) × (length (now flags) ≡ mostRows) ⌝ }
+    ensures { λ _. ⌜ Flagged (tableOf (now (t .entry))) (docOf (now (s .entry)) (now (rows .entry)) n) (now (flags .exit)) ⌝ }
+{
+    let mut owner = [0u32; ROWS];
+    let mut firsts = [0u32; FIRSTS];
+    let mut nexts = [0u32; ROWS];
+    let mut mark = [0u32; ROWS];
+    let mut stack = [0u32; ROWS];
+    flag_with(
+        t,
+        s,
+        rows,
+        n,
+        first,
+        next,
+        firstk,
+        nextk,
+        at,
+        to,
+        inside,
+        target,
+        &mut owner,
+        &mut firsts,
+        &mut nexts,
+        &mut mark,
+        &mut stack,
+        flags,
+    );
+}
+
+// Finds where spreads lead, flags what breaks the rules that speak of paths, and judges the rows.
+fn judge_placed(
     t: &[u8],
     book: &[u32],
     s: &[u8],
     rows: &[u32],
     n: usize,
-    firstk: &[u32],
-    nextk: &[u32],
-    i: usize,
-) -> u32
-    requires { ⌜ Booked (now t) (now book) × Rowed (now s) (now rows) n × Kinds (rowsIn (now rows) n) (now firstk) (now nextk) × (i < n) × (rowIn (now rows) n i .kind ≡ kindOperation) ⌝ }
-    ensures { λ r. ⌜ LeastAt (tableOf (now (t .entry))) (docOf (now (s .entry)) (now (rows .entry)) n) i r ⌝ }
-{
-    if naming::operation_repeated(s, rows, n, firstk, nextk, i) {
-        return RULE_OPERATION_REPEATED;
-    }
-    if naming::operation_unnamed(rows, n, firstk, nextk, i) {
-        return RULE_OPERATION_UNNAMED;
-    }
-    rule_if(typing::no_root(t, book, s, rows, n, i), RULE_NO_ROOT)
-}
-
-// Rules 3 and 8 at a fragment definition.
-fn fragment_rule(
-    s: &[u8],
-    rows: &[u32],
-    n: usize,
-    firstk: &[u32],
-    nextk: &[u32],
-    flags: &[u32],
-    i: usize,
-) -> u32
-    requires { ⌜ Rowed (now s) (now rows) n × Kinds (rowsIn (now rows) n) (now firstk) (now nextk) × (i < length (now flags)) × (i < n) × (rowIn (now rows) n i .kind ≡ kindFragment) ⌝ }
-    ensures { λ r. ⌜ ((t : Table) → Flagged t (docOf (now (s .entry)) (now (rows .entry)) n) (now (flags .entry)) → LeastAt t (docOf (now (s .entry)) (now (rows .entry)) n) i r) ⌝ }
-{
-    if naming::fragment_repeated(s, rows, n, firstk, nextk, i) {
-        return RULE_FRAGMENT_REPEATED;
-    }
-    flags[i]
-}
-
-// Rules 5 and 6 at a field.
-fn field_rule(
-    t: &[u8],
-    s: &[u8],
-    rows: &[u32],
-    n: usize,
     first: &[u32],
     next: &[u32],
+    firstk: &[u32],
+    nextk: &[u32],
     inside: &[u32],
     at: &[u32],
     to: &[u32],
-    i: usize,
-) -> u32
-    requires { ⌜ Rowed (now s) (now rows) n × Family (rowsIn (now rows) n) (now first) (now next) × Enclosed (now t) (now s) (now rows) n (now inside) (now at) (now to) × (i < n) × (rowIn (now rows) n i .kind ≡ kindField) ⌝ }
-    ensures { λ r. ⌜ LeastAt (tableOf (now (t .entry))) (docOf (now (s .entry)) (now (rows .entry)) n) i r ⌝ }
+    target: &mut [u32],
+    flags: &mut [u32],
+) -> QueryAnswer
+    requires { ⌜ (length (now t) ≤ mostTable) × Asked (now t) (now book) (now s) (now rows) n (now first) (now next) × Kinds (rowsIn (now rows) n) (now firstk) (now nextk) × Placed (now t) (now s) (now rows) n (now at) (now to) (now inside) n × (length (now target) ≡ mostRows) × (length (now flags) ≡ mostRows) ⌝ }
+    ensures { λ r. ⌜ Judged (tableOf (now (t .entry))) (docOf (now (s .entry)) (now (rows .entry)) n) r ⌝ }
 {
-    if typing::field_missing(t, s, rows, n, inside, at, to, i) {
-        return RULE_FIELD;
-    }
-    let wrong = typing::leaf_wrong(t, s, rows, n, first, next, inside, at, to, i);
-    rule_if(wrong, RULE_LEAF)
-}
-
-// Rules 12 and 14 at an argument.
-fn argument_rule(
-    t: &[u8],
-    s: &[u8],
-    rows: &[u32],
-    n: usize,
-    first: &[u32],
-    next: &[u32],
-    inside: &[u32],
-    at: &[u32],
-    to: &[u32],
-    i: usize,
-) -> u32
-    requires { ⌜ (length (now t) ≤ mostTable) × Rowed (now s) (now rows) n × Family (rowsIn (now rows) n) (now first) (now next) × Enclosed (now t) (now s) (now rows) n (now inside) (now at) (now to) × (i < n) × (rowIn (now rows) n i .kind ≡ kindArgument) ⌝ }
-    ensures { λ r. ⌜ LeastAt (tableOf (now (t .entry))) (docOf (now (s .entry)) (now (rows .entry)) n) i r ⌝ }
-{
-    if naming::name_twice(s, rows, n, first, next, i) {
-        return RULE_NAME_TWICE;
-    }
-    let unknown = typing::argument_unknown(t, s, rows, n, inside, at, to, i);
-    rule_if(unknown, RULE_ARGUMENT)
-}
-
-// Rules 11 and 12 at a variable definition.
-fn definition_rule(
-    t: &[u8],
-    book: &[u32],
-    s: &[u8],
-    rows: &[u32],
-    n: usize,
-    first: &[u32],
-    next: &[u32],
-    i: usize,
-) -> u32
-    requires { ⌜ Booked (now t) (now book) × Rowed (now s) (now rows) n × Family (rowsIn (now rows) n) (now first) (now next) × (i < n) × (rowIn (now rows) n i .kind ≡ kindVariableDefinition) ⌝ }
-    ensures { λ r. ⌜ LeastAt (tableOf (now (t .entry))) (docOf (now (s .entry)) (now (rows .entry)) n) i r ⌝ }
-{
-    if placings::no_input_type(t, book, s, rows, n, first, next, i) {
-        return RULE_VARIABLE_TYPE;
-    }
-    rule_if(
-        naming::name_twice(s, rows, n, first, next, i),
-        RULE_NAME_TWICE,
+    spreading::targets(s, rows, n, firstk, nextk, target);
+    flag_rows(
+        t,
+        s,
+        rows,
+        n,
+        first,
+        next,
+        firstk,
+        nextk,
+        at,
+        to,
+        inside,
+        target,
+        flags,
+    );
+    verdicts::judge_rows(
+        t,
+        book,
+        s,
+        rows,
+        n,
+        first,
+        next,
+        firstk,
+        nextk,
+        inside,
+        at,
+        to,
+        target,
+        flags,
     )
 }
 
-// The least rule that row i breaks, or 0.
-fn rule_at(
-    t: &[u8],
-    book: &[u32],
-    s: &[u8],
-    rows: &[u32],
-    n: usize,
-    first: &[u32],
-    next: &[u32],
-    firstk: &[u32],
-    nextk: &[u32],
-    inside: &[u32],
-    at: &[u32],
-    to: &[u32],
-    flags: &[u32],
-    i: usize,
-) -> u32
-    requires { ⌜ Ready (now t) (now book) (now s) (now rows) n (now first) (now next) (now firstk) (now nextk) (now inside) (now at) (now to) (now flags) × (i < n) ⌝ }
-    ensures { λ r. ⌜ LeastAt (tableOf (now (t .entry))) (docOf (now (s .entry)) (now (rows .entry)) n) i r ⌝ }
-{
-    let kind = kind_of(rows, n, i);
-    match kind {
-        KIND_OPERATION => operation_rule(t, book, s, rows, n, firstk, nextk, i),
-        KIND_FRAGMENT => fragment_rule(s, rows, n, firstk, nextk, flags, i),
-        KIND_FIELD => field_rule(t, s, rows, n, first, next, inside, at, to, i),
-        KIND_SPREAD => rule_if(
-            naming::spread_of_none(s, rows, n, firstk, nextk, i),
-            RULE_SPREAD,
-        ),
-        KIND_ARGUMENT => argument_rule(t, s, rows, n, first, next, inside, at, to, i),
-        KIND_DIRECTIVE => rule_if(
-            naming::directive_wrong(s, rows, n, first, next, i),
-            RULE_DIRECTIVE,
-        ),
-        KIND_VARIABLE_DEFINITION => definition_rule(t, book, s, rows, n, first, next, i),
-        KIND_TYPE_REFERENCE => rule_if(
-            typing::condition_wrong(t, book, s, rows, n, i),
-            RULE_CONDITION,
-        ),
-        KIND_VARIABLE => flags[i],
-        _ => 0,
-    }
-}
-
-// What is said of a document's rows, all made ready: the first row that breaks a rule, and its least rule.
-fn judge_rows(
-    t: &[u8],
-    book: &[u32],
-    s: &[u8],
-    rows: &[u32],
-    n: usize,
-    first: &[u32],
-    next: &[u32],
-    firstk: &[u32],
-    nextk: &[u32],
-    inside: &[u32],
-    at: &[u32],
-    to: &[u32],
-    flags: &[u32],
-) -> QueryAnswer
-    requires { ⌜ Ready (now t) (now book) (now s) (now rows) n (now first) (now next) (now firstk) (now nextk) (now inside) (now at) (now to) (now flags) ⌝ }
-    ensures { λ r. ⌜ Judged (tableOf (now (t .entry))) (docOf (now (s .entry)) (now (rows .entry)) n) r ⌝ }
-{
-    let mut i = 0;
-    while i < n {
-        let rule = rule_at(
-            t,
-            book,
-            s,
-            rows,
-            n,
-            first,
-            next,
-            firstk,
-            nextk,
-            inside,
-            at,
-            to,
-            flags,
-            i,
-        );
-        if rule != 0 {
-            return QueryAnswer::Breaks {
-                row: i as u32,
-                rule: rule,
-            };
-        }
-        i += 1;
-    }
-    QueryAnswer::Fits
-}
-
-// Finds the types inside rows and what breaks the rules that speak of paths, then judges the rows. All that is lent mutably is scratch.
-fn type_rows(
+// Finds the types inside rows and the types due at places, and judges the rows.
+fn judge_linked(
     t: &[u8],
     book: &[u32],
     s: &[u8],
@@ -275,13 +187,15 @@ fn type_rows(
     inside: &mut [u32],
     at: &mut [u32],
     to: &mut [u32],
-    flags: &mut [u32],
 ) -> QueryAnswer
-    requires { ⌜ (length (now t) ≤ mostTable) × Asked (now t) (now book) (now s) (now rows) n (now first) (now next) × Kinds (rowsIn (now rows) n) (now firstk) (now nextk) × (length (now inside) ≡ mostRows) × (length (now at) ≡ mostRows) × (length (now to) ≡ mostRows) × (length (now flags) ≡ mostRows) ⌝ }
+    requires { ⌜ (length (now t) ≤ mostTable) × Fitted (now t) × Asked (now t) (now book) (now s) (now rows) n (now first) (now next) × Kinds (rowsIn (now rows) n) (now firstk) (now nextk) × (length (now inside) ≡ mostRows) × (length (now at) ≡ mostRows) × (length (now to) ≡ mostRows) ⌝ }
     ensures { λ r. ⌜ Judged (tableOf (now (t .entry))) (docOf (now (s .entry)) (now (rows .entry)) n) r ⌝ }
 {
     enclosings::enclose(t, book, s, rows, n, first, next, inside, at, to);
-    uses::flags(
+    placings::places(t, book, s, rows, n, at, to, inside);
+    let mut target = [0u32; ROWS];
+    let mut flags = [0u32; ROWS];
+    judge_placed(
         t,
         book,
         s,
@@ -294,27 +208,13 @@ fn type_rows(
         inside,
         at,
         to,
-        flags,
-    );
-    judge_rows(
-        t,
-        book,
-        s,
-        rows,
-        n,
-        first,
-        next,
-        firstk,
-        nextk,
-        inside,
-        at,
-        to,
-        flags,
+        &mut target,
+        &mut flags,
     )
 }
 
-// Links the rows, then judges them. All that is lent mutably is scratch.
-fn link_rows(
+// Links the rows, and judges them.
+fn judge_rowed(
     t: &[u8],
     book: &[u32],
     s: &[u8],
@@ -325,7 +225,7 @@ fn link_rows(
     firstk: &mut [u32],
     nextk: &mut [u32],
 ) -> QueryAnswer
-    requires { ⌜ (length (now t) ≤ mostTable) × Booked (now t) (now book) × Fielded (tableOf (now t)) × Rowed (now s) (now rows) n × (length (now first) ≡ firstsSize) × (length (now next) ≡ mostRows) × (length (now firstk) ≡ kindsSize) × (length (now nextk) ≡ mostRows) ⌝ }
+    requires { ⌜ (length (now t) ≤ mostTable) × Fitted (now t) × Booked (now t) (now book) × Rowed (now s) (now rows) n × (length (now first) ≡ firstsSize) × (length (now next) ≡ mostRows) × (length (now firstk) ≡ kindsSize) × (length (now nextk) ≡ mostRows) ⌝ }
     ensures { λ r. ⌜ Judged (tableOf (now (t .entry))) (docOf (now (s .entry)) (now (rows .entry)) n) r ⌝ }
 {
     links::families(s, rows, n, first, next);
@@ -333,8 +233,7 @@ fn link_rows(
     let mut inside = [0u32; ROWS];
     let mut at = [0u32; ROWS];
     let mut to = [0u32; ROWS];
-    let mut flags = [0u32; ROWS];
-    type_rows(
+    judge_linked(
         t,
         book,
         s,
@@ -347,7 +246,6 @@ fn link_rows(
         &mut inside,
         &mut at,
         &mut to,
-        &mut flags,
     )
 }
 
@@ -360,7 +258,7 @@ pub fn first_break(t: &[u8], book: &[u32], s: &[u8], rows: &[u32], n: usize) -> 
     let mut next = [0u32; ROWS];
     let mut firstk = [0u32; KINDS];
     let mut nextk = [0u32; ROWS];
-    link_rows(
+    judge_rowed(
         t,
         book,
         s,

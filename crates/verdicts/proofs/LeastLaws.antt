@@ -11,7 +11,7 @@ use Rattle.paper_types.specs.Types.{Table}
 use Rattle.paper_rules.specs.Constructs.{Doc, kindOf}
 use Rattle.paper_rules.specs.QueryRules.{Broken}
 use Rattle.paper_rules.proofs.BrokenAt.{rulesAt, among, rising, broken-among}
-use Rattle.queries.specs.Least.{LeastAt, none-at, least-at}
+use Rattle.verdicts.specs.Least.{LeastAt, none-at, least-at}
 
 -- `Told t d i ks r`: r is the first of the rules ks that row i breaks, 0 if it breaks none of them
 pub data Told (t : Table) (d : Doc) (i : ℕ) : List ℕ → ℕ → Type 0 where

@@ -1,7 +1,7 @@
-use Rattle.queries.proofs.RowLaws.{argument-first, argument-last}
+use Rattle.verdicts.proofs.RowLaws.{argument-first, argument-last}
 use borrow.Author.Needs.{needs}
-use Rattle.queries.proofs.argument_rule.Statement.{statement}
-use Rattle.queries.proofs.argument_rule.Tie as tie
+use Rattle.verdicts.proofs.argument_rule.Statement.{statement}
+use Rattle.verdicts.proofs.argument_rule.Tie as tie
 
 name-twice-requires : tie.Need-name-twice-requires
 name-twice-requires c κs = search needs

@@ -1,7 +1,7 @@
-use Rattle.queries.proofs.RowLaws.{field-first, field-last}
+use Rattle.verdicts.proofs.RowLaws.{field-first, field-last}
 use borrow.Author.Needs.{needs}
-use Rattle.queries.proofs.field_rule.Statement.{statement}
-use Rattle.queries.proofs.field_rule.Tie as tie
+use Rattle.verdicts.proofs.field_rule.Statement.{statement}
+use Rattle.verdicts.proofs.field_rule.Tie as tie
 
 field-missing-requires : tie.Need-field-missing-requires
 field-missing-requires c κs = search needs

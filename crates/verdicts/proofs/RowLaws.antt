@@ -25,9 +25,9 @@ use Rattle.paper_rules.specs.Rule13NoRoot.{noRoot}
 use Rattle.paper_rules.specs.Rule14Argument.{argumentUnknown}
 use Rattle.paper_rules.specs.QueryRules.{Broken, operation-repeated, operation-unnamed, fragment-repeated, condition, field, leaf, spread, circle, directive, undefined, no-input-type, other-type, name-twice, no-root, argument}
 use Rattle.paper_rules.proofs.BrokenAt.{rulesAt, none-broken, operation-repeated-so, operation-unnamed-so, fragment-repeated-so, condition-so, field-so, leaf-so, spread-so, circle-so, directive-so, undefined-so, variable-type-so, name-twice-so, no-root-so, argument-so}
-use Rattle.uses.specs.Flags.{Flag, flag-none, flag-circle, flag-undefined, flag-differs}
-use Rattle.queries.specs.Least.{LeastAt, none-at}
-use Rattle.queries.proofs.LeastLaws.{Told, no-more, found, passed, told-least}
+use Rattle.uses.specs.Flags.{Flag}
+use Rattle.verdicts.specs.Least.{LeastAt, none-at}
+use Rattle.verdicts.proofs.LeastLaws.{Told, no-more, found, passed, told-least}
 
 -- the answer b to a test
 so : {f b : Bool} → b ≡ f → b ≡ true → T f
@@ -62,10 +62,13 @@ module _ {t : Table} {d : Doc} {i : ℕ} where
 
   -- Rules 3 and 8 at a fragment definition.
   flag-fragment : (f : ℕ) → kindOf d i ≡ kindFragment → Flag t d i f → Told t d i (ruleCircle ∷ []) f
-  flag-fragment f e (flag-none c u v) = passed (λ h. c (circle-so h)) no-more
-  flag-fragment f e (flag-circle c) = found (circle c)
-  flag-fragment f e (flag-undefined u) = absurd (omega (arith, eqb→eq (kindOf d i) kindVariable (u .variable)))
-  flag-fragment f e (flag-differs v u) = absurd (omega (arith, eqb→eq (kindOf d i) kindVariable (v .variable)))
+  flag-fragment f e g = go (g .known)
+    where
+      go : (f ≡ 0) ⊎ ((f ≡ ruleCircle) ⊎ ((f ≡ ruleUndefined) ⊎ (f ≡ ruleVariableType))) → Told t d i (ruleCircle ∷ []) f
+      go (inl q) = subst (Told t d i (ruleCircle ∷ [])) (sym q) (passed (λ h. g .no-circle q (circle-so h)) no-more)
+      go (inr (inl q)) = subst (Told t d i (ruleCircle ∷ [])) (sym q) (found (circle (g .circles q)))
+      go (inr (inr (inl q))) = absurd (omega (arith, eqb→eq (kindOf d i) kindVariable (g .undefined q .variable)))
+      go (inr (inr (inr q))) = absurd (omega (arith, eqb→eq (kindOf d i) kindVariable (g .differs q .variable)))
 
   module _ (e : kindOf d i ≡ kindFragment) {a : Bool} (p : a ≡ fragmentRepeated d i) where
     pub fragment-first : a ≡ true → LeastAt t d i ruleFragmentRepeated
@@ -141,10 +144,13 @@ module _ {t : Table} {d : Doc} {i : ℕ} where
       go (inr v) = n v
 
   flag-variable : (f : ℕ) → kindOf d i ≡ kindVariable → Flag t d i f → Told t d i (ruleUndefined ∷ ruleVariableType ∷ []) f
-  flag-variable f e (flag-none c u v) = passed (λ h. u (undefined-so h)) (passed (differs-not e v) no-more)
-  flag-variable f e (flag-circle c) = absurd (omega (arith, eqb→eq (kindOf d i) kindFragment (c .fragment)))
-  flag-variable f e (flag-undefined u) = found (undefined u)
-  flag-variable f e (flag-differs v u) = passed (λ h. u (undefined-so h)) (found (other-type v))
+  flag-variable f e g = go (g .known)
+    where
+      go : (f ≡ 0) ⊎ ((f ≡ ruleCircle) ⊎ ((f ≡ ruleUndefined) ⊎ (f ≡ ruleVariableType))) → Told t d i (ruleUndefined ∷ ruleVariableType ∷ []) f
+      go (inl q) = subst (Told t d i (ruleUndefined ∷ ruleVariableType ∷ [])) (sym q) (passed (λ h. g .no-undefined q (undefined-so h)) (passed (differs-not e (g .no-differs q)) no-more))
+      go (inr (inl q)) = absurd (omega (arith, eqb→eq (kindOf d i) kindFragment (g .circles q .fragment)))
+      go (inr (inr (inl q))) = subst (Told t d i (ruleUndefined ∷ ruleVariableType ∷ [])) (sym q) (found (undefined (g .undefined q)))
+      go (inr (inr (inr q))) = subst (Told t d i (ruleUndefined ∷ ruleVariableType ∷ [])) (sym q) (passed (λ h. g .defined q (undefined-so h)) (found (other-type (g .differs q))))
 
   pub variable-only : kindOf d i ≡ kindVariable → {f : ℕ} → Flag t d i f → LeastAt t d i f
   unfolding rulesAt

@@ -1,7 +1,7 @@
-use Rattle.queries.proofs.RowLaws.{operation-first, operation-second, operation-last}
+use Rattle.verdicts.proofs.RowLaws.{operation-first, operation-second, operation-last}
 use borrow.Author.Needs.{needs}
-use Rattle.queries.proofs.operation_rule.Statement.{statement}
-use Rattle.queries.proofs.operation_rule.Tie as tie
+use Rattle.verdicts.proofs.operation_rule.Statement.{statement}
+use Rattle.verdicts.proofs.operation_rule.Tie as tie
 
 operation-repeated-requires : tie.Need-operation-repeated-requires
 operation-repeated-requires c κs = search needs

@@ -8,12 +8,14 @@ use Rattle.paper_types.specs.Types.{tableOf}
 use Rattle.constructs.specs.Rowed.{rowsIn, docOf}
 use Rattle.links.specs.Links.{Kinds}
 use Rattle.enclosings.specs.Enclosed.{Asked, Enclosed}
+use Rattle.spreading.specs.Spreads.{Targeted}
 use Rattle.uses.specs.Flags.{Flagged}
 
--- the table's book; the rows' links by parent and by kind; the types inside rows, and what each field is; the rules that speak of paths
-pub record Ready (t book s rows : List ℕ) (n : ℕ) (first next firstk nextk inside at to flags : List ℕ) : Type 0 where
+-- the table's book; the rows' links by parent and by kind; the types inside rows, and what each field is; where spreads lead; the rules that speak of paths
+pub record Ready (t book s rows : List ℕ) (n : ℕ) (first next firstk nextk inside at to target flags : List ℕ) : Type 0 where
   pub short : length t ≤ mostTable
   pub asked : Asked t book s rows n first next
   pub kinds : Kinds (rowsIn rows n) firstk nextk
   pub enclosed : Enclosed t s rows n inside at to
+  pub targeted : Targeted (docOf s rows n) target
   pub flagged : Flagged (tableOf t) (docOf s rows n) flags

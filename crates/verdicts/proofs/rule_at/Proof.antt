@@ -1,10 +1,9 @@
-use Rattle.constructs.proofs.RowsIn.{rows-count}
 use mathlib.Core.Path.{sym, _∙_}
 use native.Mathlib.Omega.{arith}
-use Rattle.queries.proofs.RowLaws.{spread-only, directive-only, condition-only, variable-only, other-kind}
+use Rattle.verdicts.proofs.RowLaws.{spread-only, directive-only, condition-only, variable-only, other-kind}
 use borrow.Author.Needs.{needs}
-use Rattle.queries.proofs.rule_at.Statement.{statement}
-use Rattle.queries.proofs.rule_at.Tie as tie
+use Rattle.verdicts.proofs.rule_at.Statement.{statement}
+use Rattle.verdicts.proofs.rule_at.Tie as tie
 
 kind-of-requires : tie.Need-kind-of-requires
 kind-of-requires c κs = search needs
@@ -14,7 +13,7 @@ operation-rule-requires c κs = search needs
 
 fragment-rule-requires : tie.Need-fragment-rule-requires
 fragment-rule-requires c κs =
-    let p = c .before .before .before .before .before .before .before .before .before .before .before .before .before .before .pre in
+    let p = c .before .before .before .before .before .before .before .before .before .before .before .before .before .before .before .pre in
     let r = p .0 in
     (r .asked .rowed, r .kinds, omega (arith, p .1, r .asked .rowed .few, r .flagged .size), p .1, sym (c .before .kind-of .ensures) ∙ c .match .keys2)
 
@@ -55,7 +54,7 @@ returns : tie.Need-returns
 returns c = search needs
 
 returns-2 : tie.Need-returns-2
-returns-2 c = c .fragment-rule .ensures _ (c .before .before .before .before .before .before .before .before .before .before .before .before .before .before .before .pre .0 .flagged)
+returns-2 c = c .fragment-rule .ensures _ (c .before .before .before .before .before .before .before .before .before .before .before .before .before .before .before .before .pre .0 .flagged)
 
 returns-3 : tie.Need-returns-3
 returns-3 c = search needs
@@ -77,8 +76,8 @@ returns-8 c = condition-only (sym (c .before .before .before .kind-of .ensures) 
 
 returns-9 : tie.Need-returns-9
 returns-9 c =
-    let a = c .before .before .before .before .before .before .before .before .before .before .before .before .before .before .before .args in
-    variable-only (sym (c .before .before .kind-of .ensures) ∙ c .before .match .keys9) (c .before .before .before .before .before .before .before .before .before .before .before .before .before .before .before .pre .0 .flagged .each (a .i) (omega (arith, rows-count (a .rows .now) (a .n), c .before .before .before .before .before .before .before .before .before .before .before .before .before .before .before .pre .1)))
+    let a = c .before .before .before .before .before .before .before .before .before .before .before .before .before .before .before .before .args in
+    variable-only (sym (c .before .before .kind-of .ensures) ∙ c .before .match .keys9) (c .before .before .before .before .before .before .before .before .before .before .before .before .before .before .before .before .pre .0 .flagged .flags (a .i))
 
 returns-10 : tie.Need-returns-10
 returns-10 c =

@@ -1,9 +1,7 @@
-use native.Mathlib.Omega.{arith}
-use Rattle.constructs.proofs.RowsIn.{rows-count}
-use Rattle.queries.proofs.RowLaws.{fragment-first, fragment-last}
+use Rattle.verdicts.proofs.RowLaws.{fragment-first, fragment-last}
 use borrow.Author.Needs.{needs}
-use Rattle.queries.proofs.fragment_rule.Statement.{statement}
-use Rattle.queries.proofs.fragment_rule.Tie as tie
+use Rattle.verdicts.proofs.fragment_rule.Statement.{statement}
+use Rattle.verdicts.proofs.fragment_rule.Tie as tie
 
 fragment-repeated-requires : tie.Need-fragment-repeated-requires
 fragment-repeated-requires c κs = search needs
@@ -20,7 +18,7 @@ shared-slice-read-result c = search needs
 returns-2 : tie.Need-returns-2
 returns-2 c =
     let a = c .before .before .before .before .before .before .before .before .args in
-    λ t f. fragment-last (c .before .before .before .before .before .before .before .before .pre .4) (c .before .before .fragment-repeated .ensures) (c .before .if1 .left) (f .each (a .i) (omega (arith, rows-count (a .rows .now) (a .n), c .before .before .before .before .before .before .before .before .pre .3)))
+    λ t f. fragment-last (c .before .before .before .before .before .before .before .before .pre .4) (c .before .before .fragment-repeated .ensures) (c .before .if1 .left) (f .flags (a .i))
 
 pub fragment-rule-spec : {M : Type 1} → statement M
 fragment-rule-spec =

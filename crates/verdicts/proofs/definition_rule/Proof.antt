@@ -1,7 +1,7 @@
-use Rattle.queries.proofs.RowLaws.{definition-first, definition-last}
+use Rattle.verdicts.proofs.RowLaws.{definition-first, definition-last}
 use borrow.Author.Needs.{needs}
-use Rattle.queries.proofs.definition_rule.Statement.{statement}
-use Rattle.queries.proofs.definition_rule.Tie as tie
+use Rattle.verdicts.proofs.definition_rule.Statement.{statement}
+use Rattle.verdicts.proofs.definition_rule.Tie as tie
 
 no-input-type-requires : tie.Need-no-input-type-requires
 no-input-type-requires c κs = search needs
