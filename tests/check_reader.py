@@ -235,8 +235,8 @@ def schema_of(table):
     roots = {0: b'Query'}
     for record in records:
         if record.tag == table_reader.ROOTS:
-            roots = {piece.tag - table_reader.QUERY: piece.content for piece in record.held}
-    return said, table_reader.Schema([table_reader.definition_of(r) for r in records]), roots
+            roots = {piece.tag - table_reader.QUERY: piece.content for piece in table_reader.held_in(record.tag, record.content)[0]}
+    return said, table_reader.Schema([table_reader.definition_of(r.tag, r.content) for r in records]), roots
 
 
 def check(table, document):
