@@ -7,6 +7,7 @@
 
 A line: the table and the document in hex (- for none), the report's eight numbers, how many row numbers follow, these.
 """
+import gc
 import json
 import multiprocessing
 import sys
@@ -19,6 +20,7 @@ from table_reader import ENUM, INPUT, INTERFACE, OBJECT, SCALAR, UNION, base_of,
 (OPERATION, FRAGMENT, FIELD, SPREAD, INLINE, ARGUMENT, DIRECTIVE, VARIABLE_DEFINITION, TYPE_REFERENCE, OBJECT_FIELD) = range(1, 11)
 VARIABLE, BOOLEAN, LIST, OBJECT_VALUE = 20, 24, 27, 28
 SELECTIONS = (FIELD, SPREAD, INLINE)
+KEPT = 8192         # tables whose reading is kept
 COMPOSITE, INPUT_TYPES = (OBJECT, INTERFACE, UNION), (SCALAR, ENUM, INPUT)
 
 
@@ -225,7 +227,7 @@ class Judge:
         return self.found
 
 
-@lru_cache(maxsize=256)
+@lru_cache(maxsize=KEPT)
 def schema_of(table):
     """The table's report and, where it is accepted, its types and the names of its roots by kind of operation."""
     said = table_reader.judge(table)
@@ -277,8 +279,9 @@ def cases_of(path):
 
 def compare(lines, what):
     count = wrong = 0
-    with multiprocessing.Pool() as pool:
-        for said in pool.imap(differs, lines, chunksize=64):
+    # nothing here has cycles, and collecting them takes a fifth of the time
+    with multiprocessing.Pool(initializer=gc.disable) as pool:
+        for said in pool.imap(differs, lines, chunksize=256):
             count += 1
             if said:
                 wrong += 1
