@@ -168,12 +168,64 @@ static void copy_definition(struct text *t) {
     replace(t, t->length, t->length, copy, n);
 }
 
+static int is_token(const struct text *t, uint32_t i, const char *word) {
+    size_t n = strlen(word);
+    return i < token_count && tokens[i].past - tokens[i].at == n && memcmp(t->bytes + tokens[i].at, word, n) == 0;
+}
+
+/* One that is this word, from a place chosen by chance on; token_count for none. */
+static uint32_t any_like(const struct text *t, const char *word) {
+    uint32_t from = any_token();
+    for (uint32_t k = 0; k < token_count; k++)
+        if (is_token(t, (from + k) % token_count, word))
+            return (from + k) % token_count;
+    return token_count;
+}
+
+/* An argument, a variable definition, an entry of an object or an aliased field once more behind itself. */
+static void repeat_entry(struct text *t) {
+    uint8_t copy[MOST_COPIED];
+    uint32_t i = any_like(t, ":");
+    if (i == token_count || i < 2 || i + 1 >= token_count)
+        return;
+    size_t at = tokens[i - (first_byte(t, i - 2) == '$' ? 2 : 1)].at, past = tokens[group_past(t, i + 1) - 1].past;
+    if (first_byte(t, i + 1) == '$' && i + 2 < token_count)
+        past = tokens[i + 2].past;
+    if (past - at > sizeof copy)
+        return;
+    memcpy(copy, t->bytes + at, past - at);
+    replace(t, past, past, copy, past - at);
+}
+
+/* A spread of some fragment: another name in an old one, or a new one at the beginning of some selections. */
+static void spread_some(struct text *t) {
+    uint8_t copy[MOST_COPIED] = "...";
+    uint32_t to = any_like(t, random_below(2) ? "..." : "{"), from = any_like(t, "fragment");
+    if (to == token_count || from + 1 >= token_count)
+        return;
+    size_t n = tokens[from + 1].past - tokens[from + 1].at;
+    if (n + 3 > sizeof copy)
+        return;
+    memcpy(copy + 3, t->bytes + tokens[from + 1].at, n);
+    int old = first_byte(t, to) == '.' && to + 1 < token_count && !is_token(t, to + 1, "on") && is_word(first_byte(t, to + 1));
+    replace(t, old ? tokens[to].at : tokens[to].past, old ? tokens[to + 1].past : tokens[to].past, copy, n + 3);
+}
+
+/* An operation of another kind. */
+static void other_kind(struct text *t) {
+    static const char *const kinds[] = {"query", "mutation", "subscription"};
+    const char *kind = kinds[random_below(3)];
+    uint32_t i = any_like(t, kinds[random_below(3)]);
+    if (i != token_count)
+        replace(t, tokens[i].at, tokens[i].past, kind, strlen(kind));
+}
+
 static const char *const pieces[] = {"@skip(if: true)", "@include(if: $v0)", "@skip(if: 1)", "@other", "@skip", "@include(if: true if: true)",
                                      "__typename", "__typename{a}", "...F0", "...F1", "...F9", "... on Query{__typename}", "... on Int{a}",
                                      "... on Nope{a}", "{__typename}", "(x: $v0)", "(if: $v1)", "[$v0]", "{x: $v0}", "$v0", "$v1", "$nope",
                                      "query{__typename}", "query Op0{__typename}", "mutation M{__typename}", "subscription{__typename}",
                                      "fragment F0 on Query{__typename}", "fragment F7 on Query{...F0 ...F7}", "$v0: Int", "$v0: [Int!]!",
-                                     "$v1: Nope", "a: a", "a", "nope", "id: 1", "!", "null", "true", "mutation", "subscription"};
+                                     "$v1: Nope", "a: a", "a", "nope", "id: 1", "!", "null", "true"};
 
 static void add_piece(struct text *t) {
     const char *piece = pieces[random_below(sizeof pieces / sizeof *pieces)];
@@ -185,12 +237,15 @@ static void change(struct text *t, struct some_bytes table) {
     find_tokens(t);
     if (!token_count)
         return;
-    switch (random_below(12)) {
+    switch (random_below(16)) {
     case 0: case 1: copy_group(t); break;
     case 2: drop_group(t); break;
     case 3: case 4: case 5: copy_word(t); break;
     case 6: case 7: table_word(t, table); break;
     case 8: case 9: copy_definition(t); break;
+    case 10: case 11: repeat_entry(t); break;
+    case 12: spread_some(t); break;
+    case 13: other_kind(t); break;
     default: add_piece(t);
     }
 }
