@@ -2,7 +2,8 @@
 """A plain, slow judge of documents against type tables, written from document 01 and from no code of this repository.
 
   check_reader.py vectors FILE   judges the pairs of a vectors file and compares with the answers that stand there
-  check_reader.py cases FILE     prints the cases of a vectors file, a line each, as tests/harness reads them
+  check_reader.py cases FILE     prints the cases of a vectors file, a line each, as tests/harness_checks reads them
+  check_reader.py files TABLE DOCUMENT [TABLE DOCUMENT]..   prints such lines for the pairs, with its own answers
   check_reader.py compare        reads such lines and compares their answers with its own
 
 A line: the table and the document in hex (- for none), the report's eight numbers, how many row numbers follow, these.
@@ -10,6 +11,7 @@ A line: the table and the document in hex (- for none), the report's eight numbe
 import gc
 import json
 import multiprocessing
+import pathlib
 import sys
 from functools import lru_cache
 
@@ -277,6 +279,18 @@ def cases_of(path):
             yield line_of(bytes.fromhex(case['table']), bytes.fromhex(case['doc']), case['report'], case['out'])
 
 
+def lines_of(paths):
+    for table, document in zip(paths[::2], paths[1::2]):
+        table, document = (pathlib.Path(path).read_bytes() for path in (table, document))
+        yield line_of(table, document, *check(table, document))
+
+
+def print_all(lines):
+    for line in lines:
+        print(line)
+    return 0
+
+
 def compare(lines, what):
     count = wrong = 0
     # nothing here has cycles, and collecting them takes a fifth of the time
@@ -295,9 +309,9 @@ def main(words):
     if words[:1] == ['vectors'] and len(words) == 2:
         return compare(cases_of(words[1]), 'vectors')
     if words[:1] == ['cases'] and len(words) == 2:
-        for line in cases_of(words[1]):
-            print(line)
-        return 0
+        return print_all(cases_of(words[1]))
+    if words[:1] == ['files'] and len(words) % 2 == 1:
+        return print_all(lines_of(words[1:]))
     if words == ['compare']:
         return compare((line.rstrip('\n') for line in sys.stdin), 'pairs')
     print(__doc__, file=sys.stderr)
