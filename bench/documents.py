@@ -20,7 +20,7 @@ from tables import Member, input_object, object_type, scalar, table  # noqa: E40
 MOST_FRAGMENTS, MOST_VARIABLES, MOST_MEMBERS, MOST_ARGUMENTS, MOST_RECORDS = 64, 64, 64, 16, 256
 NESTED = 28         # lists or objects in an argument
 
-PLAIN = [scalar('I'), object_type('Query', [Member('a', 'I'), Member('f', 'I', [Member('y', '[I]'), Member('z', '[[[[[[[I]]]]]]]')])])]
+PLAIN = [scalar('I'), object_type('Query', [Member('a', 'I'), Member('f', 'I', [Member('y', '[I]')])])]
 
 
 def largest(make, most):
@@ -34,9 +34,9 @@ def largest(make, most):
     return make(low)
 
 
-def uses(variable, count, argument='y'):
+def uses(variable, count):
     """A field with so many uses of a variable."""
-    return f'f({argument}:[{" ".join(["$" + variable] * count)}])'
+    return f'f(y:[{" ".join(["$" + variable] * count)}])'
 
 
 def fragment(name, *selections):
@@ -57,9 +57,11 @@ def users(operations, defined, length):
 
 
 def wrapped_users():
-    """Operations that reach uses of their variable, whose type has seven wrappers."""
-    heads = [f'query {name}($v:[[[[[[I]]]]]]!){{...F}}' for name in alike(255, 2, LETTERS)]
-    return largest(lambda n: ' '.join(heads + [fragment('F', uses('v', n, 'z'))]), MOST_ROWS)
+    """Operations that reach uses of their variable, whose type has a name of 18 bytes and seven wrappers."""
+    base = 'I' * 18
+    made = [scalar(base), object_type('Query', [Member('f', 'Int', [Member('y', f'[[[[[[[{base}]]]]]]]')])])]
+    heads = [f'query {name}($v:[[[[[[{base}]]]]]]!){{...F}}' for name in alike(255, 2, LETTERS)]
+    return made, largest(lambda n: ' '.join(heads + [fragment('F', uses('v', n))]), MOST_ROWS)
 
 
 def dag(spreads, last=''):
@@ -152,7 +154,7 @@ def worst():
     yield 'w_operations_long', 0, 'operations with one prefix in all their names', PLAIN, operations(16)
     yield 'w_users', 0, '255 operations that reach 1,023 uses of their variable', PLAIN, users(255, 1, 1)
     yield 'w_users_long', 0, 'as w_users, with a name of 7 bytes', PLAIN, users(255, 1, 7)
-    yield 'w_users_wrapped', 0, 'as w_users, with seven wrappers', PLAIN, wrapped_users()
+    yield 'w_users_wrapped', 0, 'as w_users, with a type of 18 bytes and seven wrappers', *wrapped_users()
     yield 'w_users_few', 0, '60 operations that reach 1,803 uses', PLAIN, users(60, 1, 6)
     yield 'w_users_of_2', 0, '170 operations of 2 variables that reach uses of the second', PLAIN, users(170, 2, 6)
     yield 'w_users_of_8', 0, '56 operations of 8 variables that reach uses of the last', PLAIN, users(56, 8, 6)
