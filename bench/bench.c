@@ -2,16 +2,13 @@
    borders of names, numbers and marks by a class table. CPU time, medians of batches.
 
      bench FILE..      (bench/run builds it and gives the files of bench/inputs) */
-#define _GNU_SOURCE
 #include "gateway.h"
+#include "timing.h"
 
 #include <inttypes.h>
 #include <stdio.h>
 #include <stdlib.h>
 #include <string.h>
-#include <time.h>
-
-enum { BATCHES = 21, BATCH_NS = 2000000, MOST_WORKS = 3 };
 
 static uint32_t rows[GW_ROWS_SIZE], report[GW_REPORT_SIZE];
 static uint32_t other[GW_ROWS_SIZE]; /* what memset clears */
@@ -24,92 +21,20 @@ struct document {
 
 /* ---- the three things that are timed */
 
-static void parse(const struct document *d) {
+static void parse(const void *of) {
+    const struct document *d = of;
     gw_parse(d->bytes, d->length, rows, GW_ROWS_SIZE, report, GW_REPORT_SIZE);
 }
 
-static void clear(const struct document *d) {
-    (void)d;
+static void clear(const void *of) {
+    (void)of;
     memset(other, 0, sizeof other);
     __asm__ volatile("" : : "r"(other) : "memory");
 }
 
-enum { OTHER, BLANK, MARK, DIGIT, LETTER };
-static uint8_t class_of[256];
-
-static void make_classes(void) {
-    for (const char *s = " \t\n\r,"; *s; s++)
-        class_of[(uint8_t)*s] = BLANK;
-    for (const char *s = "!$().:=@[]{|}\""; *s; s++)
-        class_of[(uint8_t)*s] = MARK;
-    for (int c = '0'; c <= '9'; c++)
-        class_of[c] = DIGIT;
-    for (int c = 'a'; c <= 'z'; c++)
-        class_of[c] = class_of[c - 'a' + 'A'] = LETTER;
-    class_of['_'] = LETTER;
-}
-
-static void class_loop(const struct document *d) {
-    const uint8_t *s = d->bytes;
-    size_t n = d->length, i = 0, tokens = 0;
-    while (i < n) {
-        uint8_t c = class_of[s[i++]];
-        if (c >= DIGIT) {
-            while (i < n && class_of[s[i]] >= DIGIT)
-                i++;
-            tokens++;
-        } else if (c == MARK) {
-            tokens++;
-        }
-    }
-    __asm__ volatile("" : : "r"(tokens) : "memory");
-}
-
-/* ---- timing */
-
-typedef void work(const struct document *);
-
-static double cpu_ns(void) {
-    struct timespec t;
-    clock_gettime(CLOCK_PROCESS_CPUTIME_ID, &t);
-    return (double)t.tv_sec * 1e9 + (double)t.tv_nsec;
-}
-
-static double batch(work *f, const struct document *d, long calls) {
-    double start = cpu_ns();
-    for (long i = 0; i < calls; i++)
-        f(d);
-    return (cpu_ns() - start) / (double)calls;
-}
-
-static int by_value(const void *a, const void *b) {
-    double x = *(const double *)a, y = *(const double *)b;
-    return (x > y) - (x < y);
-}
-
-static double median(double *some) {
-    qsort(some, BATCHES, sizeof *some, by_value);
-    return some[BATCHES / 2];
-}
-
-/* The medians of several works, their batches taken by turns; in times[k] how often the first takes the time of the k-th. */
-static void measure(int count, work **fs, const struct document **ds, double *ns, double *times) {
-    double took[MOST_WORKS][BATCHES], ratios[BATCHES];
-    long calls[MOST_WORKS];
-    for (int k = 0; k < count; k++) {
-        batch(fs[k], ds[k], 20);
-        calls[k] = 1 + (long)(BATCH_NS / batch(fs[k], ds[k], 20));
-    }
-    for (int b = 0; b < BATCHES; b++)
-        for (int k = 0; k < count; k++)
-            took[k][b] = batch(fs[k], ds[k], calls[k]);
-    for (int k = count - 1; k >= 0; k--) {
-        for (int b = 0; b < BATCHES; b++)
-            ratios[b] = took[0][b] / took[k][b];
-        times[k] = median(ratios);
-    }
-    for (int k = 0; k < count; k++)
-        ns[k] = median(took[k]);
+static void classes(const void *of) {
+    const struct document *d = of;
+    class_loop(d->bytes, d->length);
 }
 
 /* ---- documents */
@@ -121,14 +46,8 @@ static struct document *new_document(const char *name) {
 }
 
 static struct document *read_document(const char *path) {
-    struct document *d = new_document(strrchr(path, '/') ? strrchr(path, '/') + 1 : path);
-    FILE *file = fopen(path, "rb");
-    if (!file) {
-        perror(path);
-        exit(2);
-    }
-    d->length = fread(d->bytes, 1, sizeof d->bytes, file);
-    fclose(file);
+    struct document *d = new_document(file_name(path));
+    d->length = read_file(path, d->bytes, sizeof d->bytes);
     return d;
 }
 
@@ -159,13 +78,11 @@ static struct document *usual(size_t length) {
 /* ---- the tables */
 
 static void print_document(const struct document *d) {
-    work *fs[] = {parse, class_loop, clear};
-    const struct document *ds[] = {d, d, d};
-    double ns[3], times[3];
-    measure(3, fs, ds, ns, times);
+    struct timed works[] = {{.work = parse, .of = d}, {.work = classes, .of = d}, {.work = clear}};
+    measure(works, 3);
     parse(d);
-    printf("%-22s %6zu %5" PRIu32 " %5" PRIu32 " %9.0f %7.0f %9.0f %6.2f %9.0f %6.2f\n", d->name, d->length, report[0], report[1], ns[0],
-           (double)d->length / ns[0] * 1e3, ns[1], times[1], ns[2], times[2]);
+    printf("%-22s %6zu %5" PRIu32 " %5" PRIu32 " %9.0f %7.0f %9.0f %6.2f %9.0f %6.2f\n", d->name, d->length, report[0], report[1], works[0].ns,
+           (double)d->length / works[0].ns * 1e3, works[1].ns, works[1].times, works[2].ns, works[2].times);
 }
 
 static void print_inputs(int count, char **paths) {
@@ -185,11 +102,9 @@ static void print_growth(void) {
     printf("\ngrowth, one kind of text\n%8s %9s %8s\n", "bytes", "ns/call", "ns/byte");
     for (size_t n = 2048; n <= GW_MOST_TEXT; n *= 2) {
         struct document *d = usual(n);
-        work *fs[] = {parse};
-        const struct document *ds[] = {d};
-        double ns[1], times[1];
-        measure(1, fs, ds, ns, times);
-        printf("%8zu %9.0f %8.2f\n", n, ns[0], ns[0] / (double)n);
+        struct timed works[] = {{.work = parse, .of = d}};
+        measure(works, 1);
+        printf("%8zu %9.0f %8.2f\n", n, works[0].ns, works[0].ns / (double)n);
         free(d);
     }
 }
@@ -199,15 +114,13 @@ static void print_refused(struct document *accepted, const char *what, const cha
     struct document *refused = new_document(what);
     *refused = *accepted;
     memcpy(refused->bytes + at, wrong, strlen(wrong));
-    work *fs[] = {parse, parse};
-    const struct document *ds[] = {refused, accepted};
-    double ns[2], times[2];
-    measure(2, fs, ds, ns, times);
+    struct timed works[] = {{.work = parse, .of = refused}, {.work = parse, .of = accepted}};
+    measure(works, 2);
     parse(accepted);
     uint32_t good = report[0];
     parse(refused);
-    printf("%-34s %6zu %4" PRIu32 " %6" PRIu32 " %9.0f %9.0f %6.2f%s\n", what, refused->length, report[0], report[1], ns[0], ns[1], times[1],
-           good == GW_ACCEPTED ? "" : "  (the other is refused too)");
+    printf("%-34s %6zu %4" PRIu32 " %6" PRIu32 " %9.0f %9.0f %6.2f%s\n", what, refused->length, report[0], report[1], works[0].ns, works[1].ns,
+           works[1].times, good == GW_ACCEPTED ? "" : "  (the other is refused too)");
     free(refused);
     free(accepted);
 }
@@ -242,7 +155,6 @@ static void print_refusals(void) {
 }
 
 int main(int argc, char **argv) {
-    make_classes();
     print_inputs(argc - 1, argv + 1);
     print_growth();
     print_refusals();

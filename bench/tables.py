@@ -12,6 +12,7 @@ import sys
 ROOT = pathlib.Path(__file__).resolve().parent.parent
 sys.path.insert(0, str(ROOT / 'tests'))
 
+from names import LETTERS, alike, anagrams, one_bucket, short_names  # noqa: E402
 from table_reader import INTERFACE, OBJECT, judge  # noqa: E402
 from tables import (MOST_TABLE, Member, directive, enum, input_object, interface, object_type, roots, scalar, table,  # noqa: E402
                     union, written)
@@ -93,41 +94,7 @@ def realistic(most):
 
 # ---- the worst ones
 
-LETTERS = 'ABCDEFGHIJKLMNOPQRSTUVWXYZ_abcdefghijklmnopqrstuvwxyz'
 QUERY = object_type('Query', [Member('a', 'Int')])
-
-
-def short_names(count):
-    """All different, as short as can be; the later ones have two letters."""
-    twos = (a + b for a in LETTERS[:26] for b in LETTERS[27:])
-    return list(itertools.islice(itertools.chain((c for c in LETTERS if c != '_'), twos), count))
-
-
-def alike(count, length, letters='ab'):
-    """Names of one length that differ at the end alone."""
-    digits = 1
-    while len(letters) ** digits < count:
-        digits += 1
-    return ['N' * (length - digits) + ''.join(p) for p in itertools.islice(itertools.product(letters, repeat=digits), count)]
-
-
-def anagrams(count):
-    """Names of one length and the same letters in other orders, with one first and one last letter."""
-    return ['N' + ''.join(p) + 'n' for p in itertools.islice(itertools.permutations('abcdef'), count)]
-
-
-def bucket(name):
-    """Where crates/index looks a name up, of 256 places."""
-    h = 0
-    for byte in name.encode():
-        h = (h * 31 + byte) % 256
-    return h
-
-
-def one_bucket(count, prefix=''):
-    """Names of one length that are all looked up in the same place, as short as can be behind a prefix."""
-    found = (prefix + ''.join(p) for p in itertools.product(LETTERS, repeat=3))
-    return list(itertools.islice((n for n in found if not n.startswith('__') and bucket(n) == 0), count))
 
 
 def crowded_unions(prefix=''):

@@ -1,13 +1,17 @@
 /* The host: a program that calls the gateway core.
 
-     gateway parse FILE         prints the rows of a document, or why it is refused and where
-     gateway check-table FILE   judges a type table: says that it is accepted, or which rule is broken and where
+     gateway check TABLE DOCUMENT   judges a document by a type table: says that it is accepted, or which rule is broken and where
+     gateway check-table TABLE      judges a type table alone
+     gateway parse DOCUMENT         prints the rows of a document
 
-   FILE may be - for standard input. Ends with status 0 (accepted), 1 (refused) or 2 (bad usage, or no such file). */
+   Each is a file, one of them perhaps - for standard input. Ends with status 0 (accepted), 1 (refused) or 2 (bad usage, or no such file). */
 #include "gateway.h"
+#include "pair.h"
 #include "show.h"
+#include "show_query.h"
 #include "show_table.h"
 
+#include <inttypes.h>
 #include <stdio.h>
 #include <string.h>
 
@@ -17,9 +21,13 @@ enum { ACCEPTED = 0, REFUSED = 1, TROUBLE = 2 };
 static uint8_t document_bytes[GW_MOST_TEXT + 1], table_bytes[GW_MOST_TABLE + 1];
 static uint32_t rows[GW_ROWS_SIZE];
 
+static int is_standard(const char *path) {
+    return strcmp(path, "-") == 0;
+}
+
 /* Reads the beginning of a file, as far as there is room. */
 static int read_text(const char *path, uint8_t *room, size_t size, struct text *text) {
-    int standard = strcmp(path, "-") == 0;
+    int standard = is_standard(path);
     FILE *file = standard ? stdin : fopen(path, "rb");
     if (!file) {
         perror(path);
@@ -61,14 +69,49 @@ static int run_check_table(char **words) {
     return ACCEPTED;
 }
 
+/* Shows what gw_check refused: first what is told of the lengths and the table, then the text, then its rules. */
+static void show_check_refusal(const struct text *table, const struct text *document, const uint32_t *report) {
+    uint32_t other[GW_REPORT_SIZE];
+    int long_table = report[0] == GW_REFUSE_OVER_LENGTH && report[1] == GW_INPUT_TABLE;
+    int long_document = report[0] == GW_REFUSE_OVER_LENGTH && !long_table;
+    if (long_table || (!long_document && gw_check_table(table->bytes, table->length, other, GW_REPORT_SIZE) != GW_ACCEPTED)) {
+        show_table_refusal(table, report);
+    } else if (report[0] != GW_REFUSE_QUERY) {
+        show_refusal(document, report);
+    } else {
+        gw_parse(document->bytes, document->length, rows, GW_ROWS_SIZE, other, GW_REPORT_SIZE);
+        struct pair p = {table, document, rows, other[1]};
+        show_query_refusal(&p, report[1], report[2]);
+    }
+}
+
+static int run_check(char **words) {
+    struct text table, document;
+    uint32_t report[GW_REPORT_SIZE];
+    if (is_standard(words[0]) && is_standard(words[1])) {
+        fprintf(stderr, "standard input cannot be both\n");
+        return TROUBLE;
+    }
+    if (!read_text(words[0], table_bytes, sizeof table_bytes, &table) || !read_text(words[1], document_bytes, sizeof document_bytes, &document))
+        return TROUBLE;
+    uint32_t answer = gw_check(table.bytes, table.length, document.bytes, document.length, rows, GW_ROWS_SIZE, report, GW_REPORT_SIZE);
+    if (answer != GW_ACCEPTED) {
+        show_check_refusal(&table, &document, report);
+        return REFUSED;
+    }
+    printf("%s: accepted by %s, %" PRIu32 " rows\n", document.called, table.called, report[1]);
+    return ACCEPTED;
+}
+
 static const struct command {
     const char *name;
     int words;
     const char *usage;
     int (*run)(char **words);
 } commands[] = {
-    {"parse", 1, "parse FILE", run_parse},
-    {"check-table", 1, "check-table FILE", run_check_table},
+    {"check", 2, "check TABLE DOCUMENT", run_check},
+    {"check-table", 1, "check-table TABLE", run_check_table},
+    {"parse", 1, "parse DOCUMENT", run_parse},
 };
 
 enum { COMMANDS = sizeof commands / sizeof *commands };

@@ -79,17 +79,41 @@ struct piece name_of(const struct text *t, struct piece p) {
     return p.tag > GW_TAG_ARGUMENT || p.tag == GW_TAG_IMPLEMENTS || p.tag == GW_TAG_NAME ? p : nth(t, p, is_name_tag, 0);
 }
 
-static int same_text(const struct text *t, struct piece a, struct piece b) {
-    return a.end - a.start == b.end - b.start && memcmp(t->bytes + a.start, t->bytes + b.start, a.end - a.start) == 0;
+struct words text_of(const struct text *t, struct piece p) {
+    return (struct words){t->bytes + p.start, p.end - p.start};
 }
 
-/* The first field of a sort with the same name; tag 0 for none. */
-struct piece named_as(const struct text *t, struct piece holder, sort *wanted, struct piece like) {
+int same_words(struct words a, struct words b) {
+    return a.length == b.length && memcmp(a.bytes, b.bytes, a.length) == 0;
+}
+
+int is_word(struct words a, const char *word) {
+    return same_words(a, (struct words){(const uint8_t *)word, strlen(word)});
+}
+
+/* The first field of a sort with this name; tag 0 for none. */
+struct piece named(const struct text *t, struct piece holder, sort *wanted, struct words name) {
     for (uint32_t n = 0;; n++) {
         struct piece p = nth(t, holder, wanted, n);
-        if (!p.tag || same_text(t, name_of(t, p), name_of(t, like)))
+        if (!p.tag || same_words(text_of(t, name_of(t, p)), name))
             return p;
     }
+}
+
+struct piece named_as(const struct text *t, struct piece holder, sort *wanted, struct piece like) {
+    return named(t, holder, wanted, text_of(t, name_of(t, like)));
+}
+
+struct words reference_of(const struct text *t, struct piece holder) {
+    return text_of(t, nth(t, holder, is_reference_tag, 0));
+}
+
+struct words base_of(struct words w) {
+    while (w.length && w.bytes[0] == '[')
+        w = (struct words){w.bytes + 1, w.length - 1};
+    while (w.length && (w.bytes[w.length - 1] == ']' || w.bytes[w.length - 1] == '!'))
+        w.length--;
+    return w;
 }
 
 int is_type(int tag) {
@@ -113,8 +137,34 @@ const char *tag_words(int tag) {
     return tag > 0 && tag < (int)(sizeof words / sizeof *words) && words[tag] ? words[tag] : "no such field";
 }
 
+static int is_built_in(struct words name) {
+    static const char *const words[] = {"Int", "Float", "String", "Boolean", "ID"};
+    for (size_t i = 0; i < sizeof words / sizeof *words; i++)
+        if (is_word(name, words[i]))
+            return 1;
+    return 0;
+}
+
+const char *meaning_words(const struct text *t, struct words name) {
+    if (is_built_in(name))
+        return "a built-in scalar";
+    switch (named(t, whole(t), is_type, name).tag) {
+    case GW_TAG_SCALAR: return "a scalar";
+    case GW_TAG_OBJECT: return "an object";
+    case GW_TAG_INTERFACE: return "an interface";
+    case GW_TAG_UNION: return "a union";
+    case GW_TAG_ENUM: return "an enum";
+    case GW_TAG_INPUT_OBJECT: return "an input object";
+    default: return "no type";
+    }
+}
+
+void print_words(struct words w) {
+    print_piece(stdout, w.bytes, w.length, PIECE);
+}
+
 void print_text(const struct text *t, struct piece p) {
-    print_piece(stdout, t->bytes + p.start, p.end - p.start, PIECE);
+    print_words(text_of(t, p));
 }
 
 void print_name(const struct text *t, struct piece p) {

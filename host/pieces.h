@@ -16,6 +16,16 @@ struct piece piece_at(const struct text *t, size_t at, size_t end);
 /* The table as what holds the records. */
 struct piece whole(const struct text *t);
 
+/* Some bytes, of a table or of a document; NULL for none. */
+struct words {
+    const uint8_t *bytes;
+    size_t length;
+};
+
+struct words text_of(const struct text *t, struct piece p);
+int same_words(struct words a, struct words b);
+int is_word(struct words a, const char *word);
+
 /* Sorts of fields, by their tags. A member is a field, argument, union member, enum value or root. */
 typedef int sort(int tag);
 sort is_record, is_type, is_directive, is_member, is_implemented, is_argument, is_name_tag, is_reference_tag;
@@ -29,10 +39,19 @@ uint32_t count_before(const struct text *t, struct piece holder, sort *wanted, s
 /* The text that names a field: its name's, or its own where it holds nothing but a name. */
 struct piece name_of(const struct text *t, struct piece p);
 
-/* The first field of a sort with the same name; tag 0 for none. */
+/* The first field of a sort with this name, or with that of another field; tag 0 for none. */
+struct piece named(const struct text *t, struct piece holder, sort *wanted, struct words name);
 struct piece named_as(const struct text *t, struct piece holder, sort *wanted, struct piece like);
 
+/* The text of the type reference that a field or argument holds, and the base of a type reference. */
+struct words reference_of(const struct text *t, struct piece holder);
+struct words base_of(struct words reference);
+
+/* The kind of the type that a name means: "an object", "a built-in scalar", "no type". */
+const char *meaning_words(const struct text *t, struct words name);
+
 const char *tag_words(int tag);
+void print_words(struct words w);
 void print_text(const struct text *t, struct piece p);
 void print_name(const struct text *t, struct piece p);
 

@@ -46,9 +46,14 @@ static struct place place_of(const struct text *text, size_t offset) {
     return place;
 }
 
+void print_line_column(const struct text *text, size_t offset) {
+    struct place place = place_of(text, offset);
+    printf("%" PRIu32 ":%" PRIu32, place.line, place.column);
+}
+
 /* ---- rows */
 
-static const char *kind_words(uint32_t kind) {
+const char *kind_words(uint32_t kind) {
     static const char *const words[] = {
         [GW_KIND_OPERATION] = "operation", [GW_KIND_FRAGMENT] = "fragment", [GW_KIND_FIELD] = "field",
         [GW_KIND_SPREAD] = "spread", [GW_KIND_INLINE] = "inline fragment", [GW_KIND_ARGUMENT] = "argument",
@@ -201,7 +206,7 @@ static size_t caret_offset(const struct text *text, size_t offset) {
     return offset;
 }
 
-static void show_caret(const struct text *text, size_t offset) {
+void show_caret(const struct text *text, size_t offset) {
     struct place place = place_of(text, offset);
     size_t from = shown_from(text, place.line_start, offset);
     const char *dots = from > place.line_start ? "..." : "";
@@ -218,8 +223,8 @@ void show_refusal(const struct text *text, const uint32_t *report) {
         return;
     }
     size_t offset = report[1] <= text->length ? report[1] : text->length;
-    struct place place = place_of(text, offset);
-    printf("%s:%" PRIu32 ":%" PRIu32 ": refusal %" PRIu32 ", byte %zu: %s\n", text->called, place.line, place.column, number,
-           offset, refusal_words(text, number, offset));
+    printf("%s:", text->called);
+    print_line_column(text, offset);
+    printf(": refusal %" PRIu32 ", byte %zu: %s\n", number, offset, refusal_words(text, number, offset));
     show_caret(text, caret_offset(text, offset));
 }

@@ -18,4 +18,11 @@ void show_rows(const struct text *text, const uint32_t *rows, uint32_t count);
 /* The refusal in words, with the line of the text and a caret under the place. */
 void show_refusal(const struct text *text, const uint32_t *report);
 
+/* A row's kind in words. */
+const char *kind_words(uint32_t kind);
+
+/* The line and the column of an offset, 3:14; and the line with a caret under it. */
+void print_line_column(const struct text *text, size_t offset);
+void show_caret(const struct text *text, size_t offset);
+
 #endif

@@ -6,7 +6,6 @@
 
 #include <inttypes.h>
 #include <stdio.h>
-#include <string.h>
 
 static const char *rule_words(uint32_t rule) {
     static const char *const words[] = {
@@ -30,7 +29,7 @@ static const char *rule_words(uint32_t rule) {
 }
 
 static void print_type(const struct text *t, struct piece holder) {
-    print_text(t, nth(t, holder, is_reference_tag, 0));
+    print_words(reference_of(t, holder));
 }
 
 /* ---- a broken rule */
@@ -40,47 +39,6 @@ struct about {
     uint32_t rule, number;
     struct piece record, member, argument, interface, promised, promised_argument;
 };
-
-/* The base of a type reference. */
-static struct piece base_of(const struct text *t, struct piece holder) {
-    struct piece p = nth(t, holder, is_reference_tag, 0);
-    while (p.start < p.end && t->bytes[p.start] == '[')
-        p.start++;
-    while (p.end > p.start && (t->bytes[p.end - 1] == ']' || t->bytes[p.end - 1] == '!'))
-        p.end--;
-    return p;
-}
-
-static int is_text(const struct text *t, struct piece p, const char *word) {
-    size_t n = strlen(word);
-    return p.end - p.start == n && memcmp(t->bytes + p.start, word, n) == 0;
-}
-
-static int is_built_in(const struct text *t, struct piece name) {
-    static const char *const words[] = {"Int", "Float", "String", "Boolean", "ID"};
-    for (size_t i = 0; i < sizeof words / sizeof *words; i++)
-        if (is_text(t, name, words[i]))
-            return 1;
-    return 0;
-}
-
-/* The kind of the type that a name means, in words. */
-static const char *meaning_words(const struct text *t, struct piece name) {
-    struct piece like = name, found;
-    like.tag = GW_TAG_NAME;
-    if (is_built_in(t, name))
-        return "a built-in scalar";
-    found = named_as(t, whole(t), is_type, like);
-    switch (found.tag) {
-    case GW_TAG_SCALAR: return "a scalar";
-    case GW_TAG_OBJECT: return "an object";
-    case GW_TAG_INTERFACE: return "an interface";
-    case GW_TAG_UNION: return "a union";
-    case GW_TAG_ENUM: return "an enum";
-    case GW_TAG_INPUT_OBJECT: return "an input object";
-    default: return "no type";
-    }
-}
 
 static struct about find(const struct text *t, const uint32_t *report) {
     struct about a = {.rule = report[2], .number = report[1]};
@@ -178,12 +136,12 @@ static void print_break(const struct text *t, const struct about *a) {
         printf("its type is ");
         print_type(t, typed);
         printf(", and ");
-        print_text(t, base_of(t, typed));
-        printf(" is %s", meaning_words(t, base_of(t, typed)));
+        print_words(base_of(reference_of(t, typed)));
+        printf(" is %s", meaning_words(t, base_of(reference_of(t, typed))));
         break;
     case GW_RULE_NOT_OBJECT_OR_INTERFACE: case GW_RULE_ROOT:
         print_name(t, a->member);
-        printf(" is %s", meaning_words(t, name_of(t, a->member)));
+        printf(" is %s", meaning_words(t, text_of(t, name_of(t, a->member))));
         break;
     case GW_RULE_IMPLEMENTED_TWICE: printf("it stands there before"); break;
     case GW_RULE_RESERVED_NAME: case GW_RULE_RESERVED_MEMBER: printf("such names are kept for introspection"); break;

@@ -1,5 +1,6 @@
 /* The gateway core's C interface: the calls, the sizes of their buffers, the refusals, the numbers in rows and tables.
-   The names are those of crates/paper/src/lib.rt and crates/paper_types/src/lib.rt with GW_ before them.
+   The names are those of the lib.rt of crates/paper, crates/paper_types and crates/paper_rules with GW_ before them, the
+   rules of the last with GW_QUERY_.
 
    Every call is a pure function of its inputs: no heap, no global state, no system call; it may run in any number of
    threads at once. Buffers must be aligned for their type and must not overlap. A buffer of length 0 may be NULL.
@@ -37,9 +38,11 @@ extern "C" {
 /* Bytes of stack, more than a call takes (measured, not proved: tests/stack.c). */
 #define GW_PARSE_STACK 20480
 #define GW_CHECK_TABLE_STACK 24576
+#define GW_CHECK_STACK 126976
 
-/* What a call answers, which is also report[0]. Shown: report[1], of refusal 9 report[1] to report[5]. */
-#define GW_ACCEPTED 0             /* shown: gw_parse's count of rows */
+/* What a call answers, which is also report[0]. Shown: report[1], of refusal 9 report[1] to report[5], of 10 report[1] and
+   report[2]. */
+#define GW_ACCEPTED 0             /* shown: the count of rows, by the calls that write rows */
 #define GW_REFUSE_BUFFER 1        /* a buffer is shorter than its fixed size; nothing shown */
 #define GW_REFUSE_OVER_LENGTH 2   /* an input is over its length; shown: which (GW_INPUT_..) */
 #define GW_REFUSE_NO_TOKEN 3      /* bytes that start no token, or bad text in a string or comment; shown: offset of it */
@@ -49,6 +52,7 @@ extern "C" {
 #define GW_REFUSE_FRAMING 7       /* a table's house fields are not framed as they must be; shown: the smallest wrong offset */
 #define GW_REFUSE_TOO_MANY 8      /* another count over its size; shown: offset of the first over it */
 #define GW_REFUSE_SCHEMA 9        /* a table breaks a schema rule; shown: definition, rule, member, part, argument */
+#define GW_REFUSE_QUERY 10        /* a document breaks a query rule; shown: row, rule */
 
 #define GW_INPUT_DOCUMENT 0
 #define GW_INPUT_VARIABLES 1
@@ -187,6 +191,58 @@ uint32_t gw_parse(const uint8_t *document, size_t document_len,
      if (gw_check_table(table, table_len, report, GW_REPORT_SIZE) == GW_REFUSE_SCHEMA)
          printf("definition %u breaks rule %u\n", report[1], report[2]); */
 uint32_t gw_check_table(const uint8_t *table, size_t table_len, uint32_t *report, size_t report_len);
+
+/* The query rules, each with the row at fault. Of a repeat it is the later one; a name that is repeated means its first. */
+#define GW_QUERY_RULE_OPERATION_REPEATED 1 /* an operation's name is repeated; the operation */
+#define GW_QUERY_RULE_OPERATION_UNNAMED 2  /* an operation without a name beside another one; the operation */
+#define GW_QUERY_RULE_FRAGMENT_REPEATED 3  /* a fragment's name is repeated; the fragment */
+#define GW_QUERY_RULE_CONDITION 4          /* a condition is no object, interface or union; its type reference */
+#define GW_QUERY_RULE_FIELD 5              /* the enclosing type has no such field; the field */
+#define GW_QUERY_RULE_LEAF 6               /* selections in a field of a scalar or enum, or none in another; the field */
+#define GW_QUERY_RULE_SPREAD 7             /* no fragment has this name; the spread */
+#define GW_QUERY_RULE_CIRCLE 8             /* a fragment spreads itself, directly or through others; the fragment */
+#define GW_QUERY_RULE_DIRECTIVE 9          /* a directive other than @skip or @include, on no selection, a second time there, or
+                                              without just one argument, an if that is a boolean or a variable; the directive */
+#define GW_QUERY_RULE_UNDEFINED 10         /* an operation that reaches a variable does not define it; the variable */
+#define GW_QUERY_RULE_VARIABLE_TYPE 11     /* a variable is defined with a type that is no input type: its definition; or with
+                                              another type than its place has, but for Non-Null outside: the variable */
+#define GW_QUERY_RULE_NAME_TWICE 12        /* an argument or variable name is repeated; the argument, variable definition */
+#define GW_QUERY_RULE_NO_ROOT 13           /* the table has no root for this kind of operation; the operation */
+#define GW_QUERY_RULE_ARGUMENT 14          /* the field has no such argument; the argument */
+
+/* Judges a type table, and by it a document.
+
+   table     read: any bytes, of any length
+   document  read: any bytes, of any length
+   rows      lent: at least GW_ROWS_SIZE numbers
+   report    lent: at least GW_REPORT_SIZE numbers
+
+   Answers GW_ACCEPTED for a document that breaks none of the fourteen rules by an accepted table, or the first refusal that there
+   is: 1, 2, of the table (7, 8, 9, as gw_check_table), of the document's text (3 to 6 and 8, as gw_parse), of its rules (10). Of
+   several broken rules the one with the least row is told, then the one with the least number. What the call leaves:
+
+     answer                       report                          rows
+     GW_ACCEPTED                  0, count of rows, zeros         the rows, as gw_parse leaves them
+     GW_REFUSE_BUFFER             1, zeros; untouched if it is    untouched
+                                  itself too short
+     GW_REFUSE_OVER_LENGTH        2, GW_INPUT_DOCUMENT or         untouched
+                                  GW_INPUT_TABLE, zeros
+     GW_REFUSE_QUERY              10, row, rule, zeros            zeros up to GW_ROWS_SIZE
+     any other                    as that of gw_check_table or    zeros up to GW_ROWS_SIZE
+                                  gw_parse
+
+   Of an 8 the report does not say whose it is: the table's where gw_check_table answers 8 too. Beyond the fixed sizes nothing is
+   written. The row of a 10 is that of gw_parse, which still reads the document:
+
+     if (gw_check(table, table_len, text, text_len, rows, GW_ROWS_SIZE, report, GW_REPORT_SIZE) == GW_REFUSE_QUERY) {
+         uint32_t row = report[1], rule = report[2];
+         gw_parse(text, text_len, rows, GW_ROWS_SIZE, report, GW_REPORT_SIZE);
+         printf("rule %u is broken at byte %u\n", rule, rows[GW_ROW_SIZE * row + GW_ROW_START]);
+     } */
+uint32_t gw_check(const uint8_t *table, size_t table_len,
+                  const uint8_t *document, size_t document_len,
+                  uint32_t *rows, size_t rows_len,
+                  uint32_t *report, size_t report_len);
 
 #ifdef __cplusplus
 }

@@ -2,13 +2,16 @@
 """A plain, slow judge of documents against type tables, written from document 01 and from no code of this repository.
 
   check_reader.py vectors FILE   judges the pairs of a vectors file and compares with the answers that stand there
-  check_reader.py cases FILE     prints the cases of a vectors file, a line each, as tests/harness reads them
+  check_reader.py cases FILE     prints the cases of a vectors file, a line each, as tests/harness_checks reads them
+  check_reader.py files TABLE DOCUMENT [TABLE DOCUMENT]..   prints such lines for the pairs, with its own answers
   check_reader.py compare        reads such lines and compares their answers with its own
 
 A line: the table and the document in hex (- for none), the report's eight numbers, how many row numbers follow, these.
 """
+import gc
 import json
 import multiprocessing
+import pathlib
 import sys
 from functools import lru_cache
 
@@ -19,6 +22,7 @@ from table_reader import ENUM, INPUT, INTERFACE, OBJECT, SCALAR, UNION, base_of,
 (OPERATION, FRAGMENT, FIELD, SPREAD, INLINE, ARGUMENT, DIRECTIVE, VARIABLE_DEFINITION, TYPE_REFERENCE, OBJECT_FIELD) = range(1, 11)
 VARIABLE, BOOLEAN, LIST, OBJECT_VALUE = 20, 24, 27, 28
 SELECTIONS = (FIELD, SPREAD, INLINE)
+KEPT = 8192         # tables whose reading is kept
 COMPOSITE, INPUT_TYPES = (OBJECT, INTERFACE, UNION), (SCALAR, ENUM, INPUT)
 
 
@@ -225,7 +229,7 @@ class Judge:
         return self.found
 
 
-@lru_cache(maxsize=256)
+@lru_cache(maxsize=KEPT)
 def schema_of(table):
     """The table's report and, where it is accepted, its types and the names of its roots by kind of operation."""
     said = table_reader.judge(table)
@@ -235,8 +239,8 @@ def schema_of(table):
     roots = {0: b'Query'}
     for record in records:
         if record.tag == table_reader.ROOTS:
-            roots = {piece.tag - table_reader.QUERY: piece.content for piece in record.held}
-    return said, table_reader.Schema([table_reader.definition_of(r) for r in records]), roots
+            roots = {piece.tag - table_reader.QUERY: piece.content for piece in table_reader.held_in(record.tag, record.content)[0]}
+    return said, table_reader.Schema([table_reader.definition_of(r.tag, r.content) for r in records]), roots
 
 
 def check(table, document):
@@ -275,10 +279,23 @@ def cases_of(path):
             yield line_of(bytes.fromhex(case['table']), bytes.fromhex(case['doc']), case['report'], case['out'])
 
 
+def lines_of(paths):
+    for table, document in zip(paths[::2], paths[1::2]):
+        table, document = (pathlib.Path(path).read_bytes() for path in (table, document))
+        yield line_of(table, document, *check(table, document))
+
+
+def print_all(lines):
+    for line in lines:
+        print(line)
+    return 0
+
+
 def compare(lines, what):
     count = wrong = 0
-    with multiprocessing.Pool() as pool:
-        for said in pool.imap(differs, lines, chunksize=64):
+    # nothing here has cycles, and collecting them takes a fifth of the time
+    with multiprocessing.Pool(initializer=gc.disable) as pool:
+        for said in pool.imap(differs, lines, chunksize=256):
             count += 1
             if said:
                 wrong += 1
@@ -292,9 +309,9 @@ def main(words):
     if words[:1] == ['vectors'] and len(words) == 2:
         return compare(cases_of(words[1]), 'vectors')
     if words[:1] == ['cases'] and len(words) == 2:
-        for line in cases_of(words[1]):
-            print(line)
-        return 0
+        return print_all(cases_of(words[1]))
+    if words[:1] == ['files'] and len(words) % 2 == 1:
+        return print_all(lines_of(words[1:]))
     if words == ['compare']:
         return compare((line.rstrip('\n') for line in sys.stdin), 'pairs')
     print(__doc__, file=sys.stderr)

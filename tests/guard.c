@@ -4,8 +4,11 @@
 
 #include <stdio.h>
 #include <stdlib.h>
+#include <string.h>
 #include <sys/mman.h>
 #include <unistd.h>
+
+enum { PAINT = 0xA5 };
 
 struct guarded guard_map(size_t bytes) {
     size_t page = (size_t)sysconf(_SC_PAGESIZE);
@@ -24,4 +27,31 @@ void *guard_low(struct guarded g, size_t bytes) {
 
 void *guard_high(struct guarded g, size_t bytes) {
     return bytes <= g.bytes ? g.first + (g.bytes - bytes) : NULL;
+}
+
+void *guard_copy(struct guarded g, const void *from, size_t bytes, int high) {
+    void *place = high ? guard_high(g, bytes) : guard_low(g, bytes);
+    if (bytes)
+        memcpy(place, from, bytes);
+    return place;
+}
+
+void *guard_paint(struct guarded g, size_t bytes, int high) {
+    void *place = high ? guard_high(g, bytes) : guard_low(g, bytes);
+    memset(place, PAINT, bytes);
+    return place;
+}
+
+/* All bytes are this one: the first is, and each is like the one before it. */
+static int is_all(const void *from, size_t bytes, int byte) {
+    const uint8_t *first = from;
+    return bytes == 0 || (first[0] == byte && memcmp(first, first + 1, bytes - 1) == 0);
+}
+
+int is_painted(const void *from, size_t bytes) {
+    return is_all(from, bytes, PAINT);
+}
+
+int is_zero(const uint32_t *from, size_t count) {
+    return is_all(from, count * sizeof *from, 0);
 }

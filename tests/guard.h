@@ -1,4 +1,4 @@
-/* Memory between two pages that trap: a read or write beside a buffer ends the program. */
+/* Memory between two pages that trap: a read or write beside a buffer ends the program. What is lent is painted before a call. */
 #ifndef GUARD_H
 #define GUARD_H
 
@@ -15,5 +15,12 @@ struct guarded guard_map(size_t bytes);
 /* A block of that many bytes right above the lower trap, or right below the upper one. */
 void *guard_low(struct guarded g, size_t bytes);
 void *guard_high(struct guarded g, size_t bytes);
+
+/* Such a block with a copy of some bytes, or painted. */
+void *guard_copy(struct guarded g, const void *from, size_t bytes, int high);
+void *guard_paint(struct guarded g, size_t bytes, int high);
+
+int is_painted(const void *from, size_t bytes);
+int is_zero(const uint32_t *from, size_t count);
 
 #endif

@@ -10,6 +10,7 @@
 #include "every.h"
 #include "gateway.h"
 #include "guard.h"
+#include "lines.h"
 #include "random.h"
 
 #include <inttypes.h>
@@ -17,11 +18,9 @@
 #include <stdlib.h>
 #include <string.h>
 
-enum { TAIL = 64, PAINT = 0xA5, SEED = 2016 };
+enum { TAIL = 64, SEED = 2016 };
 
 static struct guarded document_room, rows_room, report_room;
-static uint32_t zeros[GW_ROWS_SIZE];
-static uint8_t paint[(GW_ROWS_SIZE + TAIL) * 4];
 
 /* What is lent to a call, and on which side of it the trap lies. */
 struct lent {
@@ -54,24 +53,11 @@ static void expect(int holds, const char *what) {
         fail(what);
 }
 
-static int painted(const void *from, size_t bytes) {
-    return memcmp(from, paint, bytes) == 0;
-}
-
-static int all_zero(const uint32_t *from, size_t count) {
-    return memcmp(from, zeros, count * sizeof *from) == 0;
-}
-
 /* ---- one call */
 
 static void lend(const uint8_t *document, size_t length, size_t rows_len, size_t report_len, int high) {
-    void *(*place)(struct guarded, size_t) = high ? guard_high : guard_low;
-    uint8_t *copy = place(document_room, length);
-    if (length)
-        memcpy(copy, document, length);
-    now = (struct lent){copy, length, place(rows_room, rows_len * 4), rows_len, place(report_room, report_len * 4), report_len};
-    memset(now.rows, PAINT, rows_len * 4);
-    memset(now.report, PAINT, report_len * 4);
+    now = (struct lent){guard_copy(document_room, document, length, high), length, guard_paint(rows_room, rows_len * 4, high), rows_len,
+                        guard_paint(report_room, report_len * 4, high), report_len};
 }
 
 static uint32_t call(void) {
@@ -80,14 +66,14 @@ static uint32_t call(void) {
 
 /* The buffers after refusal 1 or 2. */
 static void check_untouched(uint32_t answer) {
-    expect(painted(now.rows, now.rows_len * 4), "a refusal 1 or 2 touched the rows");
+    expect(is_painted(now.rows, now.rows_len * 4), "a refusal 1 or 2 touched the rows");
     if (now.report_len < GW_REPORT_SIZE) {
         expect(answer == GW_REFUSE_BUFFER, "a short report is not refused by 1");
-        expect(painted(now.report, now.report_len * 4), "a short report was touched");
+        expect(is_painted(now.report, now.report_len * 4), "a short report was touched");
         return;
     }
     expect(answer == (now.rows_len < GW_ROWS_SIZE ? GW_REFUSE_BUFFER : GW_REFUSE_OVER_LENGTH), "not refused by 1 or 2");
-    expect(now.report[0] == answer && all_zero(now.report + 1, GW_REPORT_SIZE - 1), "the report of 1 or 2 is wrong");
+    expect(now.report[0] == answer && is_zero(now.report + 1, GW_REPORT_SIZE - 1), "the report of 1 or 2 is wrong");
 }
 
 static int is_name(const uint8_t *s, size_t n) {
@@ -135,17 +121,17 @@ static void check_answer(uint32_t answer) {
     uint32_t shown = now.report[1];
     expect(answer == now.report[0], "the answer is not the report's");
     expect(answer <= GW_REFUSE_TOO_MANY && answer != 1 && answer != 2 && answer != 7, "an answer is unknown");
-    expect(all_zero(now.report + 2, GW_REPORT_SIZE - 2), "the report's rest is not zero");
+    expect(is_zero(now.report + 2, GW_REPORT_SIZE - 2), "the report's rest is not zero");
     seen_answers[answer]++;
     if (answer != GW_ACCEPTED) {
         expect(shown <= now.document_len, "an offset is past the text");
-        expect(all_zero(now.rows, GW_ROWS_SIZE), "a refusal left the rows unclear");
+        expect(is_zero(now.rows, GW_ROWS_SIZE), "a refusal left the rows unclear");
         return;
     }
     expect(shown > 1 && shown <= GW_MOST_ROWS, "a count of rows is wrong");
     for (uint32_t i = 0; i < shown; i++)
         check_row(i);
-    expect(all_zero(now.rows + GW_ROW_SIZE * shown, GW_ROWS_SIZE - GW_ROW_SIZE * shown), "the unused rows are not zero");
+    expect(is_zero(now.rows + GW_ROW_SIZE * shown, GW_ROWS_SIZE - GW_ROW_SIZE * shown), "the unused rows are not zero");
 }
 
 /* Calls on what is lent and checks all that holds for every call. */
@@ -153,12 +139,12 @@ static uint32_t checked_call(void) {
     uint32_t answer = call();
     int early = now.report_len < GW_REPORT_SIZE || now.rows_len < GW_ROWS_SIZE || now.document_len > GW_MOST_TEXT;
     if (now.report_len >= GW_REPORT_SIZE)
-        expect(painted(now.report + GW_REPORT_SIZE, (now.report_len - GW_REPORT_SIZE) * 4), "the report's tail was touched");
+        expect(is_painted(now.report + GW_REPORT_SIZE, (now.report_len - GW_REPORT_SIZE) * 4), "the report's tail was touched");
     if (early) {
         check_untouched(answer);
         return answer;
     }
-    expect(painted(now.rows + GW_ROWS_SIZE, (now.rows_len - GW_ROWS_SIZE) * 4), "the rows' tail was touched");
+    expect(is_painted(now.rows + GW_ROWS_SIZE, (now.rows_len - GW_ROWS_SIZE) * 4), "the rows' tail was touched");
     check_answer(answer);
     return answer;
 }
@@ -179,46 +165,24 @@ struct given {
     uint32_t *rows;
 };
 
-static int hex(int c) {
-    return c >= 'a' ? c - 'a' + 10 : c - '0';
-}
-
 static int read_case(FILE *file, struct given *g) {
-    int c = fgetc(file);
-    if (c == EOF)
+    uint32_t count;
+    if (!has_line(file))
         return 0;
-    for (g->text.length = 0; c != ' '; c = fgetc(file)) {
-        int low = c == '-' ? 0 : fgetc(file);
-        if (c != '-' && g->text.length < TEXT_ROOM)
-            g->text.bytes[g->text.length++] = (uint8_t)(hex(c) * 16 + hex(low));
-    }
-    int good = 1;
-    for (int i = 0; i < GW_REPORT_SIZE; i++)
-        good &= fscanf(file, "%" SCNu32, &g->report[i]) == 1;
-    good &= fscanf(file, "%zu", &g->count) == 1 && g->count <= GW_ROWS_SIZE;
-    for (size_t i = 0; good && i < g->count; i++)
-        good &= fscanf(file, "%" SCNu32, &g->rows[i]) == 1;
-    if (!good || fgetc(file) != '\n') {
-        fprintf(stderr, "harness: a line of the cases is no case\n");
-        exit(2);
-    }
+    g->text.length = read_hex(file, g->text.bytes, TEXT_ROOM);
+    read_numbers(file, g->report, GW_REPORT_SIZE);
+    read_numbers(file, &count, 1);
+    g->count = count <= GW_ROWS_SIZE ? count : GW_ROWS_SIZE;
+    read_numbers(file, g->rows, g->count);
+    read_end(file);
     return 1;
-}
-
-static FILE *opened(const char *path) {
-    FILE *file = fopen(path, "rb");
-    if (!file) {
-        perror(path);
-        exit(2);
-    }
-    return file;
 }
 
 static void check_case(const struct given *g, int high, size_t tail) {
     lend(g->text.bytes, g->text.length, GW_ROWS_SIZE + tail, GW_REPORT_SIZE + tail, high);
     checked_call();
     expect(memcmp(now.report, g->report, sizeof g->report) == 0, "the report is not the case's");
-    expect(memcmp(now.rows, g->report[0] == GW_REFUSE_OVER_LENGTH ? (void *)paint : g->rows, g->count * 4) == 0, "the rows are not the case's");
+    expect(memcmp(now.rows, g->rows, g->count * 4) == 0, "the rows are not the case's");
 }
 
 static int run_vectors(const char *path) {
@@ -251,7 +215,7 @@ static void check_null(const uint8_t *text) {
         lend(text, 3, 0, GW_REPORT_SIZE, high);
         now.rows = NULL;
         expect(gw_parse(now.document, 3, NULL, 0, now.report, GW_REPORT_SIZE) == GW_REFUSE_BUFFER, "no rows at NULL");
-        expect(now.report[0] == GW_REFUSE_BUFFER && all_zero(now.report + 1, GW_REPORT_SIZE - 1), "the report for no rows at NULL");
+        expect(now.report[0] == GW_REFUSE_BUFFER && is_zero(now.report + 1, GW_REPORT_SIZE - 1), "the report for no rows at NULL");
     }
 }
 
@@ -310,16 +274,12 @@ static void free_corpus(struct corpus *c) {
 }
 
 static void print_case(const struct text *t) {
-    size_t count = now.report[0] == GW_ACCEPTED ? (size_t)now.report[1] * GW_ROW_SIZE : 0;
-    for (size_t i = 0; i < t->length; i++)
-        printf("%02x", t->bytes[i]);
-    printf("%s", t->length ? "" : "-");
-    for (int i = 0; i < GW_REPORT_SIZE; i++)
-        printf(" %" PRIu32, now.report[i]);
-    printf(" %zu", count);
-    for (size_t i = 0; i < count; i++)
-        printf(" %" PRIu32, now.rows[i]);
-    printf("\n");
+    uint32_t count = now.report[0] == GW_ACCEPTED ? now.report[1] * GW_ROW_SIZE : 0;
+    print_hex(t->bytes, t->length);
+    print_numbers(now.report, GW_REPORT_SIZE);
+    print_numbers(&count, 1);
+    print_numbers(now.rows, count);
+    putchar('\n');
 }
 
 static void print_answer(const struct text *t) {
@@ -381,7 +341,6 @@ int main(int argc, char **argv) {
     document_room = guard_map(TEXT_ROOM);
     rows_room = guard_map((GW_ROWS_SIZE + TAIL) * 4);
     report_room = guard_map((GW_REPORT_SIZE + TAIL) * 4);
-    memset(paint, PAINT, sizeof paint);
     if (argc == 3 && strcmp(argv[1], "vectors") == 0)
         return run_vectors(argv[2]);
     if (argc == 2 && strcmp(argv[1], "buffers") == 0)

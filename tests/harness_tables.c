@@ -8,6 +8,7 @@
    Table and report lie between pages that trap. Ends with status 1 at the first thing that is wrong. */
 #include "gateway.h"
 #include "guard.h"
+#include "lines.h"
 #include "random.h"
 #include "random_tables.h"
 
@@ -16,10 +17,9 @@
 #include <stdlib.h>
 #include <string.h>
 
-enum { TAIL = 64, PAINT = 0xA5, SEED = 2016 };
+enum { TAIL = 64, SEED = 2016 };
 
 static struct guarded table_room, report_room;
-static uint8_t paint[(GW_REPORT_SIZE + TAIL) * 4];
 
 /* ---- telling what is wrong */
 
@@ -49,22 +49,14 @@ static void expect(int holds, const char *what) {
 /* ---- one call */
 
 static void lend(const uint8_t *table, size_t length, size_t report_len, int high) {
-    void *(*place)(struct guarded, size_t) = high ? guard_high : guard_low;
-    uint8_t *copy = place(table_room, length);
-    if (length)
-        memcpy(copy, table, length);
-    now.table = copy;
+    now.table = guard_copy(table_room, table, length, high);
     now.table_len = length;
-    now.report = place(report_room, report_len * 4);
+    now.report = guard_paint(report_room, report_len * 4, high);
     now.report_len = report_len;
-    memset(now.report, PAINT, report_len * 4);
 }
 
 static int zero_from(size_t i) {
-    while (i < GW_REPORT_SIZE)
-        if (now.report[i++])
-            return 0;
-    return 1;
+    return is_zero(now.report + i, GW_REPORT_SIZE - i);
 }
 
 static uint32_t records_of(const uint8_t *bytes, size_t length) {
@@ -118,10 +110,10 @@ static uint32_t checked_call(void) {
     uint32_t answer = gw_check_table(now.table, now.table_len, now.report, now.report_len);
     if (now.report_len < GW_REPORT_SIZE) {
         expect(answer == GW_REFUSE_BUFFER, "a short report is not refused by 1");
-        expect(memcmp(now.report, paint, now.report_len * 4) == 0, "a short report was touched");
+        expect(is_painted(now.report, now.report_len * 4), "a short report was touched");
         return answer;
     }
-    expect(memcmp(now.report + GW_REPORT_SIZE, paint, (now.report_len - GW_REPORT_SIZE) * 4) == 0, "the report's tail was touched");
+    expect(is_painted(now.report + GW_REPORT_SIZE, (now.report_len - GW_REPORT_SIZE) * 4), "the report's tail was touched");
     check_answer(answer);
     return answer;
 }
@@ -142,35 +134,13 @@ static void check_before(const struct table *t, uint32_t answer, uint32_t offset
 
 /* ---- the cases: lines of table_reader.py */
 
-static int hex(int c) {
-    return c >= 'a' ? c - 'a' + 10 : c - '0';
-}
-
 static int read_case(FILE *file, struct table *t, uint32_t *report) {
-    int c = fgetc(file), good = 1;
-    if (c == EOF)
+    if (!has_line(file))
         return 0;
-    for (t->length = 0; c != ' ' && c != EOF; c = fgetc(file)) {
-        int low = c == '-' ? 0 : fgetc(file);
-        if (c != '-' && t->length < TABLE_ROOM)
-            t->bytes[t->length++] = (uint8_t)(hex(c) * 16 + hex(low));
-    }
-    for (int i = 0; i < GW_REPORT_SIZE; i++)
-        good &= fscanf(file, "%" SCNu32, &report[i]) == 1;
-    if (!good || fgetc(file) != '\n') {
-        fprintf(stderr, "harness_tables: a line of the cases is no case\n");
-        exit(2);
-    }
+    t->length = read_hex(file, t->bytes, TABLE_ROOM);
+    read_numbers(file, report, GW_REPORT_SIZE);
+    read_end(file);
     return 1;
-}
-
-static FILE *opened(const char *path) {
-    FILE *file = strcmp(path, "-") == 0 ? stdin : fopen(path, "rb");
-    if (!file) {
-        perror(path);
-        exit(2);
-    }
-    return file;
 }
 
 static void check_case(const struct table *t, const uint32_t *report, int high, size_t tail) {
@@ -266,17 +236,9 @@ static void free_tables(struct tables *given) {
 }
 
 static void print_case(const struct table *t) {
-    static const char digits[] = "0123456789abcdef";
-    static char text[2 * TABLE_ROOM];
-    for (size_t i = 0; i < t->length; i++) {
-        text[2 * i] = digits[t->bytes[i] >> 4];
-        text[2 * i + 1] = digits[t->bytes[i] & 15];
-    }
-    fwrite(text, 1, 2 * t->length, stdout);
-    printf("%s", t->length ? "" : "-");
-    for (int i = 0; i < GW_REPORT_SIZE; i++)
-        printf(" %" PRIu32, now.report[i]);
-    printf("\n");
+    print_hex(t->bytes, t->length);
+    print_numbers(now.report, GW_REPORT_SIZE);
+    putchar('\n');
 }
 
 static int run_sample(long count, const struct tables *given) {
@@ -329,7 +291,6 @@ static int run_random(long count, const struct tables *given) {
 int main(int argc, char **argv) {
     table_room = guard_map(TABLE_ROOM);
     report_room = guard_map((GW_REPORT_SIZE + TAIL) * 4);
-    memset(paint, PAINT, sizeof paint);
     if (argc == 3 && strcmp(argv[1], "vectors") == 0)
         return run_vectors(argv[2]);
     if (argc == 2 && strcmp(argv[1], "buffers") == 0)

@@ -1,6 +1,6 @@
 #!/usr/bin/env python3
-"""Holds include/gateway.h to the lib.rt of crates/paper and crates/paper_types: each number of the one is in the other,
-with GW_ before its name.
+"""Holds include/gateway.h to the lib.rt of crates/paper, crates/paper_types and crates/paper_rules: each number of the one is in
+the other, with GW_ before its name, a query rule with GW_QUERY_.
 
 The header alone names the columns of a row and the stack of a call.
 """
@@ -9,6 +9,7 @@ import re
 import sys
 
 ROOT = pathlib.Path(__file__).resolve().parent.parent
+NUMBER = r'^pub const (\w+): \w+ = (\d+);'
 COLUMNS = 'ROW_KIND ROW_START ROW_END ROW_PARENT ROW_NAME_START ROW_NAME_LENGTH ROW_EXTRA'.split()
 
 
@@ -19,9 +20,11 @@ def numbers(path, pattern):
 def main():
     code = {}
     for crate in ('paper', 'paper_types'):
-        code.update(numbers(f'crates/{crate}/src/lib.rt', r'^pub const (\w+): \w+ = (\d+);'))
+        code.update(numbers(f'crates/{crate}/src/lib.rt', NUMBER))
+    for name, number in numbers('crates/paper_rules/src/lib.rt', NUMBER).items():
+        code['QUERY_' + name if name.startswith('RULE_') else name] = number
     header = numbers('include/gateway.h', r'^#define GW_(\w+) (\d+)\b')
-    for call in ('PARSE', 'CHECK_TABLE'):
+    for call in ('PARSE', 'CHECK_TABLE', 'CHECK'):
         header.pop(f'{call}_STACK')
     columns = {name: header.pop(name, None) for name in COLUMNS if name not in code}
     wrong = sorted(name for name in code.keys() | header.keys() if code.get(name) != header.get(name))

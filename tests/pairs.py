@@ -1,18 +1,22 @@
 #!/usr/bin/env python3
-"""Pairs of a type table and a document that fits it, made by chance: the seeds that tests/random_pairs changes.
+"""Pairs of a type table and a document that fits it, made by chance: cases, and the seeds that tests/random_pairs changes.
 
-  pairs.py make COUNT VECTORS FILE..   prints COUNT pairs over the accepted tables of a vectors file and the given table files
+  pairs.py COUNT VECTORS FILE..   prints COUNT pairs over the accepted tables of a vectors file, the given table files, and
+                                  tables made by chance, with the answers of check_reader.py
 
-A line: the table and the document in hex. The same words give the same lines.
+A line is as check_reader.py reads it. Fails if a document does not fit. The same words give the same lines.
 """
 import json
 import random
 import sys
 
 import check_reader
-from table_reader import ENUM, INPUT, INTERFACE, OBJECT, SCALAR, UNION, base_of
+import tables
+from table_reader import ENUM, INPUT, INTERFACE, MOST_WRAPPERS, OBJECT, SCALAR, UNION, base_of
 
 MOST_SHARED = 12      # variables of one document
+MADE_TABLES = 200
+MOST_TABLE, MOST_DOCUMENT = 3000, 600
 KINDS = ['query', 'mutation', 'subscription']
 LITERALS = {b'Int': ['1', '0', '-7', '2147483647'], b'Float': ['1.5', '2', '-0.0e3'], b'String': ['"s"', '""', '"\\u00e9"'],
             b'Boolean': ['true', 'false'], b'ID': ['"i"', '4']}
@@ -37,15 +41,15 @@ class Maker:
             self.variables[due] = f'v{len(self.variables)}'
         return '$' + self.variables[due]
 
-    def value(self, due, depth):
+    def value(self, due, depth, variables=True):
         plain = due[:-1] if due.endswith(b'!') else due
-        if self.one_in(4):
+        if variables and self.one_in(4):
             given = self.variable(due)
             if given:
                 return given
         if plain.startswith(b'['):
             if depth == 0 or self.one_in(4):
-                return self.value(plain[1:-1], depth)
+                return self.value(base_of(plain), depth, False)     # stands for lists of one; not for a variable or a list
             return '[' + ' '.join(self.value(plain[1:-1], depth - 1) for _ in range(self.chance.randrange(3))) + ']'
         wanted = self.schema.types[plain]
         if wanted.kind == INPUT:
@@ -115,12 +119,15 @@ class Maker:
         self.fragments[name] = f'fragment {name} on {condition.decode()} {self.selections(condition, depth - 1)}'
         return name
 
+    def mark(self, due):
+        return '!' if self.one_in(3) and due.count(b'[') + due.count(b'!') < MOST_WRAPPERS else ''
+
     def document(self):
         operations = []
         for i in range(1 + (self.chance.randrange(3) if self.one_in(3) else 0)):
             kind = self.chance.choice([k for k in self.roots])
             operations.append((kind, self.selections(self.roots[kind], self.chance.randrange(1, 4))))
-        declared = ' '.join(f'${name}: {due.decode()}{"!" if self.one_in(3) else ""}' for due, name in self.variables.items())
+        declared = ' '.join(f'${name}: {due.decode()}{self.mark(due)}' for due, name in self.variables.items())
         texts = [text for text in self.fragments.values()]
         for i, (kind, body) in enumerate(operations):
             if kind == 0 and len(operations) == 1 and not declared and self.one_in(2):
@@ -132,7 +139,7 @@ class Maker:
         return ' '.join(texts)
 
 
-def tables_of(vectors, files):
+def tables_of(vectors, files, chance):
     found = {}
     with open(vectors) as file:
         for line in file:
@@ -140,24 +147,28 @@ def tables_of(vectors, files):
     for path in files:
         with open(path, 'rb') as file:
             found[file.read()] = True
-    return [table for table in found if len(table) < 3000 and check_reader.schema_of(table)[1]]
+    for _ in range(MADE_TABLES):
+        found[tables.table(tables.valid(chance, chance.choice([1, 2, 2, 3])))] = True
+    return [table for table in found if len(table) < MOST_TABLE and check_reader.schema_of(table)[1]]
 
 
 def main(words):
-    if words[:1] != ['make'] or len(words) < 3:
+    if len(words) < 2 or not words[0].isdigit():
         print(__doc__, file=sys.stderr)
         return 2
     chance = random.Random(2016)
-    tables = tables_of(words[2], words[3:])
-    for _ in range(int(words[1])):
-        table = chance.choice(tables)
+    given, refused = tables_of(words[1], words[2:], chance), 0
+    for _ in range(int(words[0])):
+        table = chance.choice(given)
         _, schema, roots = check_reader.schema_of(table)
         while True:
             document = Maker(schema, roots, chance).document().encode()
-            if len(document) < 800:
+            if len(document) < MOST_DOCUMENT:
                 break
-        print(table.hex(), document.hex())
-    return 0
+        said, rows = check_reader.check(table, document)
+        refused += said[0] != 0
+        print(check_reader.line_of(table, document, said, rows))
+    return 1 if refused else 0
 
 
 if __name__ == '__main__':

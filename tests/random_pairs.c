@@ -1,9 +1,10 @@
-/* Random pairs. Most changes move, copy or exchange tokens of the same document, so that it is still read and breaks one rule or none. */
+/* Random pairs. Most changes move, copy or exchange tokens of the document, or bring in names of the table, so that it is still
+   read and breaks one rule or none. */
 #include "random_pairs.h"
 
 #include <string.h>
 
-enum { MOST_TOKENS = 4000 };
+enum { MOST_TOKENS = 4000, MOST_COPIED = 600, SMALL = 400 };
 
 struct token {
     uint32_t at, past;
@@ -13,50 +14,44 @@ static struct token tokens[MOST_TOKENS];
 static uint32_t token_count;
 
 static int is_word(uint8_t b) {
-    return b == '_' || b == '-' || b == '.' || (b >= '0' && b <= '9') || (b >= 'A' && b <= 'Z') || (b >= 'a' && b <= 'z');
+    return b == '_' || (b >= '0' && b <= '9') || (b >= 'A' && b <= 'Z') || (b >= 'a' && b <= 'z');
 }
 
 static int is_ignored(uint8_t b) {
     return b == ' ' || b == ',' || b == '\n' || b == '\t' || b == '\r';
 }
 
-/* Words, strings and single marks; roughly the draft's tokens. */
+static size_t past_token(const struct text *t, size_t at) {
+    size_t past = at + 1;
+    uint8_t b = t->bytes[at];
+    if (b == '"')
+        while (past < t->length && t->bytes[past++] != '"')
+            ;
+    else if (b == '.')
+        while (past < t->length && t->bytes[past] == '.')
+            past++;
+    else if (is_word(b) || b == '-')
+        while (past < t->length && is_word(t->bytes[past]))
+            past++;
+    return past;
+}
+
+/* Words, strings, runs of dots and single marks; roughly the draft's tokens. */
 static void find_tokens(const struct text *t) {
     token_count = 0;
     for (size_t i = 0; i < t->length && token_count < MOST_TOKENS;) {
-        size_t past = i + 1;
         if (is_ignored(t->bytes[i])) {
             i++;
             continue;
         }
-        if (t->bytes[i] == '"')
-            while (past < t->length && t->bytes[past++] != '"')
-                ;
-        else if (t->bytes[i] == '.')
-            while (past < t->length && t->bytes[past] == '.')
-                past++;
-        else if (is_word(t->bytes[i]))
-            while (past < t->length && is_word(t->bytes[past]) && t->bytes[past] != '.')
-                past++;
+        size_t past = past_token(t, i);
         tokens[token_count++] = (struct token){(uint32_t)i, (uint32_t)past};
         i = past;
     }
 }
 
-/* Puts bytes with a space around them in the place of those from `from` to `to`. */
-static void replace(struct text *t, size_t from, size_t to, const void *with, size_t n) {
-    if (t->length - (to - from) + n + 2 > TEXT_ROOM)
-        return;
-    memmove(t->bytes + from + n + 2, t->bytes + to, t->length - to);
-    t->bytes[from] = ' ';
-    if (n)
-        memcpy(t->bytes + from + 1, with, n);
-    t->bytes[from + n + 1] = ' ';
-    t->length += n + 2 - (to - from);
-}
-
-static uint32_t any_token(void) {
-    return random_below(token_count);
+static uint8_t first_byte(const struct text *t, uint32_t token) {
+    return t->bytes[tokens[token].at];
 }
 
 static int opens(uint8_t b) {
@@ -71,11 +66,158 @@ static int closes(uint8_t b) {
 static uint32_t group_past(const struct text *t, uint32_t i) {
     int depth = 0;
     for (; i < token_count; i++) {
-        depth += opens(t->bytes[tokens[i].at]) - closes(t->bytes[tokens[i].at]);
+        depth += opens(first_byte(t, i)) - closes(first_byte(t, i));
         if (depth <= 0)
             return i + 1;
     }
     return token_count;
+}
+
+static uint32_t any_token(void) {
+    return random_below(token_count);
+}
+
+/* A word, where a few tries find one. */
+static uint32_t any_word(const struct text *t) {
+    uint32_t i = any_token();
+    for (int tries = 0; tries < 8 && !is_word(first_byte(t, i)); tries++)
+        i = any_token();
+    return i;
+}
+
+/* Puts bytes with a blank on both sides in the place of those from `from` to `to`. */
+static void replace(struct text *t, size_t from, size_t to, const void *with, size_t n) {
+    if (t->length - (to - from) + n + 2 > TEXT_ROOM)
+        return;
+    memmove(t->bytes + from + n + 2, t->bytes + to, t->length - to);
+    t->bytes[from] = ' ';
+    if (n)
+        memcpy(t->bytes + from + 1, with, n);
+    t->bytes[from + n + 1] = ' ';
+    t->length += n + 2 - (to - from);
+}
+
+/* ---- the changes */
+
+/* A token or a group of them: from the first byte to one past the last. */
+static struct token any_group(const struct text *t) {
+    uint32_t i = any_token(), past = random_below(3) ? i + 1 : group_past(t, i);
+    struct token group = {tokens[i].at, tokens[past - 1].past};
+    if (group.past - group.at > MOST_COPIED)
+        group.past = tokens[i].past - group.at > MOST_COPIED ? group.at : tokens[i].past;
+    return group;
+}
+
+/* A token or group of the document in the place of another token, or behind it. */
+static void copy_group(struct text *t) {
+    uint8_t copy[MOST_COPIED];
+    struct token to = tokens[any_token()], from = any_group(t);
+    memcpy(copy, t->bytes + from.at, from.past - from.at);
+    replace(t, random_below(4) ? to.at : to.past, to.past, copy, from.past - from.at);
+}
+
+static void drop_group(struct text *t) {
+    struct token group = any_group(t);
+    replace(t, group.at, group.past, NULL, 0);
+}
+
+/* A word of the document in the place of another one. */
+static void copy_word(struct text *t) {
+    uint8_t copy[MOST_COPIED];
+    struct token to = tokens[any_word(t)], from = tokens[any_word(t)];
+    size_t n = from.past - from.at < MOST_COPIED ? from.past - from.at : MOST_COPIED;
+    memcpy(copy, t->bytes + from.at, n);
+    replace(t, to.at, to.past, copy, n);
+}
+
+/* A word of the table in the place of one of the document. */
+static void table_word(struct text *t, struct some_bytes table) {
+    struct token to = tokens[any_word(t)];
+    if (!table.length)
+        return;
+    size_t at = random_below((uint32_t)table.length), past;
+    while (at + 1 < table.length && !is_word(table.bytes[at]))
+        at++;
+    while (at > 0 && is_word(table.bytes[at - 1]))
+        at--;
+    for (past = at; past < table.length && is_word(table.bytes[past]) && past - at < MOST_COPIED; past++)
+        ;
+    replace(t, to.at, to.past, table.bytes + at, past - at);
+}
+
+/* A whole definition once more at the end, or moved there. */
+static void copy_definition(struct text *t) {
+    uint8_t copy[MOST_COPIED];
+    struct token found = {0, 0};
+    uint32_t from = 0, count = 0;
+    int depth = 0;
+    for (uint32_t i = 0; i < token_count; i++) {
+        depth += opens(first_byte(t, i)) - closes(first_byte(t, i));
+        if (depth > 0 || first_byte(t, i) != '}')
+            continue;
+        if (random_below(++count) == 0)
+            found = (struct token){tokens[from].at, tokens[i].past};
+        from = i + 1;
+    }
+    size_t n = found.past - found.at;
+    if (n > sizeof copy)
+        return;
+    memcpy(copy, t->bytes + found.at, n);
+    if (random_below(2))
+        replace(t, found.at, found.past, NULL, 0);
+    replace(t, t->length, t->length, copy, n);
+}
+
+static int is_token(const struct text *t, uint32_t i, const char *word) {
+    size_t n = strlen(word);
+    return i < token_count && tokens[i].past - tokens[i].at == n && memcmp(t->bytes + tokens[i].at, word, n) == 0;
+}
+
+/* One that is this word, from a place chosen by chance on; token_count for none. */
+static uint32_t any_like(const struct text *t, const char *word) {
+    uint32_t from = any_token();
+    for (uint32_t k = 0; k < token_count; k++)
+        if (is_token(t, (from + k) % token_count, word))
+            return (from + k) % token_count;
+    return token_count;
+}
+
+/* An argument, a variable definition, an entry of an object or an aliased field once more behind itself. */
+static void repeat_entry(struct text *t) {
+    uint8_t copy[MOST_COPIED];
+    uint32_t i = any_like(t, ":");
+    if (i == token_count || i < 2 || i + 1 >= token_count)
+        return;
+    size_t at = tokens[i - (first_byte(t, i - 2) == '$' ? 2 : 1)].at, past = tokens[group_past(t, i + 1) - 1].past;
+    if (first_byte(t, i + 1) == '$' && i + 2 < token_count)
+        past = tokens[i + 2].past;
+    if (past - at > sizeof copy)
+        return;
+    memcpy(copy, t->bytes + at, past - at);
+    replace(t, past, past, copy, past - at);
+}
+
+/* A spread of some fragment: another name in an old one, or a new one at the beginning of some selections. */
+static void spread_some(struct text *t) {
+    uint8_t copy[MOST_COPIED] = "...";
+    uint32_t to = any_like(t, random_below(2) ? "..." : "{"), from = any_like(t, "fragment");
+    if (to == token_count || from + 1 >= token_count)
+        return;
+    size_t n = tokens[from + 1].past - tokens[from + 1].at;
+    if (n + 3 > sizeof copy)
+        return;
+    memcpy(copy + 3, t->bytes + tokens[from + 1].at, n);
+    int old = first_byte(t, to) == '.' && to + 1 < token_count && !is_token(t, to + 1, "on") && is_word(first_byte(t, to + 1));
+    replace(t, old ? tokens[to].at : tokens[to].past, old ? tokens[to + 1].past : tokens[to].past, copy, n + 3);
+}
+
+/* An operation of another kind. */
+static void other_kind(struct text *t) {
+    static const char *const kinds[] = {"query", "mutation", "subscription"};
+    const char *kind = kinds[random_below(3)];
+    uint32_t i = any_like(t, kinds[random_below(3)]);
+    if (i != token_count)
+        replace(t, tokens[i].at, tokens[i].past, kind, strlen(kind));
 }
 
 static const char *const pieces[] = {"@skip(if: true)", "@include(if: $v0)", "@skip(if: 1)", "@other", "@skip", "@include(if: true if: true)",
@@ -85,33 +227,45 @@ static const char *const pieces[] = {"@skip(if: true)", "@include(if: $v0)", "@s
                                      "fragment F0 on Query{__typename}", "fragment F7 on Query{...F0 ...F7}", "$v0: Int", "$v0: [Int!]!",
                                      "$v1: Nope", "a: a", "a", "nope", "id: 1", "!", "null", "true"};
 
-static void change(struct text *t) {
-    uint8_t copy[600];
+static void add_piece(struct text *t) {
+    const char *piece = pieces[random_below(sizeof pieces / sizeof *pieces)];
+    struct token to = tokens[any_token()];
+    replace(t, random_below(3) ? to.past : to.at, to.past, piece, strlen(piece));
+}
+
+static void change(struct text *t, struct some_bytes table) {
     find_tokens(t);
     if (!token_count)
         return;
-    struct token a = tokens[any_token()];
-    uint32_t from = any_token(), past = group_past(t, from + random_below(2) < token_count ? from : 0);
-    struct token b = {tokens[from].at, tokens[random_below(3) ? from : past - 1].past};
-    size_t n = b.past - b.at < sizeof copy ? b.past - b.at : sizeof copy;
-    memcpy(copy, t->bytes + b.at, n);
-    const char *piece = pieces[random_below(sizeof pieces / sizeof *pieces)];
-    switch (random_below(8)) {
-    case 0: case 1: case 2: replace(t, a.at, a.past, copy, n); break;
-    case 3: replace(t, a.past, a.past, copy, n); break;
-    case 4: replace(t, b.at, b.past, NULL, 0); break;
-    case 5: case 6: replace(t, a.past, a.past, piece, strlen(piece)); break;
-    default: replace(t, a.at, a.past, piece, strlen(piece));
+    switch (random_below(16)) {
+    case 0: case 1: copy_group(t); break;
+    case 2: drop_group(t); break;
+    case 3: case 4: case 5: copy_word(t); break;
+    case 6: case 7: table_word(t, table); break;
+    case 8: case 9: copy_definition(t); break;
+    case 10: case 11: repeat_entry(t); break;
+    case 12: spread_some(t); break;
+    case 13: other_kind(t); break;
+    default: add_piece(t);
     }
 }
 
-void random_pair(struct pair *p, const struct pairs *given) {
-    const struct pair *from = given->all[random_below((uint32_t)given->count)];
-    p->table = random_below(30) ? from->table : given->all[random_below((uint32_t)given->count)]->table;
-    memcpy(p->document.bytes, from->document.bytes, from->document.length);
+static const struct given_pair *any_pair(const struct given_pairs *given) {
+    const struct given_pair *from = &given->all[random_below(given->count)];
+    for (int tries = 0; from->document.length > SMALL && tries < 6 && random_below(40); tries++)
+        from = &given->all[random_below(given->count)];
+    return from;
+}
+
+void random_pair(struct pair *p, const struct given_pairs *given) {
+    const struct given_pair *from = any_pair(given);
+    const struct family *family = random_below(40) ? from->family : any_pair(given)->family;
+    p->table = family->tables[random_below(3) ? 0 : random_below(family->count)];
     p->document.length = from->document.length;
+    if (from->document.length)
+        memcpy(p->document.bytes, from->document.bytes, from->document.length);
     for (uint32_t changes = random_below(4); changes > 0; changes--)
-        change(&p->document);
+        change(&p->document, p->table);
     if (random_below(50) == 0 && p->document.length)
         p->document.bytes[random_below((uint32_t)p->document.length)] = (uint8_t)random_below(256);
 }

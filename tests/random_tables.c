@@ -186,7 +186,7 @@ static void rebyte(struct table *t) {
     }
 }
 
-static void mutate(struct table *t, const struct tables *given) {
+void change_table(struct table *t, const struct tables *given) {
     switch (random_below(24)) {
     case 0: case 1: case 2: case 3: case 4: case 5: case 6: case 7: exchange(t, given); break;
     case 8: case 9: case 10: repeat(t); break;
@@ -203,5 +203,5 @@ void random_table(struct table *t, const struct tables *given) {
     t->length = from->length;
     memcpy(t->bytes, from->bytes, from->length);
     for (uint32_t changes = 1 + random_below(random_below(4) ? 2 : 6); changes > 0; changes--)
-        mutate(t, given);
+        change_table(t, given);
 }

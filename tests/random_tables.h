@@ -20,4 +20,7 @@ struct tables {
 /* The next table, after random_start. Most are small. */
 void random_table(struct table *t, const struct tables *given);
 
+/* One change, for which a part of another table may be taken. */
+void change_table(struct table *t, const struct tables *given);
+
 #endif

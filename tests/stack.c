@@ -1,7 +1,7 @@
 /* How much stack a call takes: it runs on a stack of its own that was painted, and the paint that is gone is counted, on
    deep documents and on the documents and tables of the files. It must not be more than the header says.
 
-     stack FILE..      FILE.table is given to gw_check_table, any other to gw_parse */
+     stack FILE..      FILE.table is given to gw_check_table, any other to gw_parse and, by the table before it, to gw_check */
 #define _GNU_SOURCE
 #include "gateway.h"
 
@@ -27,6 +27,10 @@ static void check_table(void) {
     gw_check_table(table, table_length, report, GW_REPORT_SIZE);
 }
 
+static void check(void) {
+    gw_check(table, table_length, document, length, rows, GW_ROWS_SIZE, report, GW_REPORT_SIZE);
+}
+
 static void nothing(void) {
 }
 
@@ -50,44 +54,51 @@ static size_t stack_of(void (*call)(void)) {
     return with > without ? with - without : 0;
 }
 
+static size_t most_parse, most_check_table, most_check;
+
+static void note(size_t *most, void (*call)(void)) {
+    size_t taken = stack_of(call);
+    if (taken > *most)
+        *most = taken;
+}
+
+static void note_document(void) {
+    note(&most_parse, parse);
+    note(&most_check, check);
+}
+
 static void put(const char *s, int times) {
     for (size_t n = strlen(s); times-- > 0 && length + n <= sizeof document; length += n)
         memcpy(document + length, s, n);
 }
 
 /* Selection sets, then values: 32 levels in all. */
-static size_t deep(const char *set, int sets, const char *value, int values) {
+static void note_deep(const char *set, int sets, const char *value, int values) {
     length = 0;
     put("query Q($v:[[[[[T!]]]]]=[1])@d{", 1);
     put(set, sets);
     put("a@d(x:", 1);
     put(value, values);
     put("1", 1);
-    return stack_of(parse);
+    note_document();
 }
 
 /* A default value of 31 levels, in the parentheses of the variables. */
-static size_t deep_default(const char *value) {
+static void note_deep_default(const char *value) {
     length = 0;
     put("query Q($v:T=", 1);
     put(value, 31);
-    return stack_of(parse);
+    note_document();
 }
 
-static size_t larger(size_t a, size_t b) {
-    return a > b ? a : b;
-}
-
-static size_t most_on_deep_ones(void) {
+static void note_deep_ones(void) {
     static const char *const sets[] = {"a:b(x:1)@d{", "...on T@d(x:1){"}, *const values[] = {"[", "{y:"};
-    size_t most = 0;
     for (int v = 0; v < 2; v++) {
-        most = larger(most, deep_default(values[v]));
+        note_deep_default(values[v]);
         for (int s = 0; s < 2; s++)
             for (int n = 0; n <= 30; n++)
-                most = larger(most, deep(sets[s], n, values[v], 30 - n));
+                note_deep(sets[s], n, values[v], 30 - n);
     }
-    return most;
 }
 
 static size_t read_file(const char *path, uint8_t *room, size_t size) {
@@ -111,17 +122,25 @@ static int told(const char *call, size_t most, size_t said) {
     return most <= said;
 }
 
+/* type Query { a: Int } */
+static const uint8_t small_table[] = "\x02\x00\x15\x10\x00\x05Query\x12\x00\x0a\x10\x00\x01"
+                                     "a\x14\x00\x03Int";
+
 int main(int argc, char **argv) {
-    size_t most = most_on_deep_ones(), most_table = stack_of(check_table);
+    table_length = sizeof small_table - 1;
+    memcpy(table, small_table, table_length);
+    note(&most_check_table, check_table);
+    note_deep_ones();
     for (int i = 1; i < argc; i++)
         if (is_table(argv[i])) {
             table_length = read_file(argv[i], table, sizeof table);
-            most_table = larger(most_table, stack_of(check_table));
+            note(&most_check_table, check_table);
         } else {
             length = read_file(argv[i], document, sizeof document);
-            most = larger(most, stack_of(parse));
+            note_document();
         }
-    int right = told("gw_parse", most, GW_PARSE_STACK);
-    right &= told("gw_check_table", most_table, GW_CHECK_TABLE_STACK);
+    int right = told("gw_parse", most_parse, GW_PARSE_STACK);
+    right &= told("gw_check_table", most_check_table, GW_CHECK_TABLE_STACK);
+    right &= told("gw_check", most_check, GW_CHECK_STACK);
     return right ? 0 : 1;
 }

@@ -1,27 +1,32 @@
-// What the programs that run the vectors share: reading a case from standard input, comparing the report, telling a line.
-// `tests/vectors/pack.py` writes the cases. A case is its head, its input and what the call must write beside the report. All numbers are of two
-// bytes, the low one first: in the head the length of the input, the length of what must be written in bytes, and the eight numbers of the report.
+// What the programs that run the vectors share: reading a case from standard input, comparing report and rows, telling a line.
+// `tests/vectors/pack.py` writes the cases. A case is its head, its table, its document and the rows that the call must write, as far as it has
+// them. All numbers are of two bytes, the low one first: in the head the lengths of the three in bytes, and the eight numbers of the report.
 use libc::STDIN_FILENO;
 use libc::STDOUT_FILENO;
 use paper::REPORT_SIZE;
+use paper::ROWS_SIZE;
 ghost use Rattle.io.specs.Counts.{Counts};
 
 // more cases than any file has
 pub const MOST_CASES: u64 = 1000;
 
-pub const HEAD_SIZE: usize = 20;
+pub const HEAD_SIZE: usize = 22;
 
 // where the lengths and the report stand in the head
-pub const HEAD_INPUT: usize = 0;
+pub const HEAD_TABLE: usize = 0;
 
-pub const HEAD_WRITTEN: usize = 2;
+pub const HEAD_DOCUMENT: usize = 2;
 
-const HEAD_REPORT: usize = 4;
+pub const HEAD_ROWS: usize = 4;
 
-// every buffer holds it before the call; a report is lent with four numbers more than its fixed size
+const HEAD_REPORT: usize = 6;
+
+// every buffer holds it before the call; each is lent with four numbers more than its fixed size
 pub const STALE: u32 = 70000;
 
 pub const REPORT_LENT: usize = 12;
+
+pub const ROWS_LENT: usize = 14340;
 
 // A number by its two bytes
 fn word(low: u8, high: u8) -> u32 {
@@ -57,6 +62,30 @@ pub fn report_same(report: &[u32], head: &[u8], answer: u32) -> bool {
     }
     for i in 0..REPORT_LENT {
         if report[i] != report_expected(head, i) {
+            return false;
+        }
+    }
+    true
+}
+
+// What number i of the rows must be: refusal 2 leaves them
+fn row_expected(want: &[u8], i: usize, kept: bool) -> u32 {
+    if kept {
+        return STALE;
+    }
+    if ROWS_SIZE <= i {
+        return STALE;
+    }
+    number(want, 2 * i)
+}
+
+// Whether the rows are the case's and then zeros, and nothing beyond them is written
+pub fn rows_same(rows: &[u32], want: &[u8], kept: bool) -> bool {
+    if rows.len() < ROWS_LENT {
+        return false;
+    }
+    for i in 0..ROWS_LENT {
+        if rows[i] != row_expected(want, i, kept) {
             return false;
         }
     }

@@ -1,41 +1,14 @@
 // Calls `gw_parse` on each case of the file `stdin`, and compares the answer, the report and the rows with the case's. Writes a line a case. The
 // last two cases are wrong on purpose. `tests/vectors/pack.py` makes `stdin` and `stdout` of `tests/vectors/parse.jsonl`; crate `vectors` tells the
-// form of a case, whose input is the document and whose written numbers are the rows, of two bytes each.
+// form of a case, which has no table.
 use paper::REFUSE_OVER_LENGTH;
-use paper::ROWS_SIZE;
-use vectors::HEAD_INPUT;
+use vectors::HEAD_DOCUMENT;
+use vectors::HEAD_ROWS;
 use vectors::HEAD_SIZE;
-use vectors::HEAD_WRITTEN;
 use vectors::MOST_CASES;
 use vectors::REPORT_LENT;
+use vectors::ROWS_LENT;
 use vectors::STALE;
-
-// four numbers more than the fixed size
-const ROWS_LENT: usize = 14340;
-
-// What number i of the rows must be: refusal 2 leaves them
-fn row_expected(want: &[u8], i: usize, kept: bool) -> u32 {
-    if kept {
-        return STALE;
-    }
-    if ROWS_SIZE <= i {
-        return STALE;
-    }
-    vectors::number(want, 2 * i)
-}
-
-// Whether the rows are the case's and then zeros, and nothing beyond them is written
-fn rows_same(rows: &[u32], want: &[u8], kept: bool) -> bool {
-    if rows.len() < ROWS_LENT {
-        return false;
-    }
-    for i in 0..ROWS_LENT {
-        if rows[i] != row_expected(want, i, kept) {
-            return false;
-        }
-    }
-    true
-}
 
 // Case n, in lent buffers
 fn compare(
@@ -51,7 +24,7 @@ fn compare(
         return;
     }
     let mut same = vectors::report_same(report, head, answer);
-    if !rows_same(rows, want, answer == REFUSE_OVER_LENGTH) {
+    if !vectors::rows_same(rows, want, answer == REFUSE_OVER_LENGTH) {
         same = false;
     }
     vectors::tell(n, answer, report[1], same);
@@ -71,9 +44,12 @@ fn run_case(n: u64) -> bool {
         return false;
     }
     let mut document = io::large_buffer();
-    let d = vectors::read_some(&mut document, vectors::number(&head, HEAD_INPUT) as usize);
+    let d = vectors::read_some(
+        &mut document,
+        vectors::number(&head, HEAD_DOCUMENT) as usize,
+    );
     let mut want = io::large_buffer();
-    let w = vectors::read_some(&mut want, vectors::number(&head, HEAD_WRITTEN) as usize);
+    let w = vectors::read_some(&mut want, vectors::number(&head, HEAD_ROWS) as usize);
     call(n, &head, &document[..d], &want[..w]);
     true
 }

@@ -1,8 +1,8 @@
 // Calls `gw_check_table` on each case of the file `stdin`, and compares the answer and the report with the case's. Writes a line a case. The last
 // two cases are wrong on purpose. `tests/vectors/pack.py` makes `stdin` and `stdout` of `tests/vectors/tables.jsonl`; crate `vectors` tells the form
-// of a case, whose input is the table and which has nothing written beside the report.
-use vectors::HEAD_INPUT;
+// of a case, which has a table alone.
 use vectors::HEAD_SIZE;
+use vectors::HEAD_TABLE;
 use vectors::MOST_CASES;
 use vectors::REPORT_LENT;
 use vectors::STALE;
@@ -30,7 +30,7 @@ fn run_case(n: u64) -> bool {
         return false;
     }
     let mut table = io::large_buffer();
-    let t = vectors::read_some(&mut table, vectors::number(&head, HEAD_INPUT) as usize);
+    let t = vectors::read_some(&mut table, vectors::number(&head, HEAD_TABLE) as usize);
     call(n, &head, &table[..t]);
     true
 }

@@ -1,8 +1,8 @@
--- `vectors_parse::rows_same` ends and is safe: each turn takes the next number.
+-- `vectors::rows_same` ends and is safe: each turn takes the next number.
 use Prim.Native.Nat.{_-_}
 use borrow.Author.Needs.{needs}
-use Rattle.vectors_parse.proofs.rows_same.Statement.{statement}
-use Rattle.vectors_parse.proofs.rows_same.Tie as tie
+use Rattle.vectors.proofs.rows_same.Statement.{statement}
+use Rattle.vectors.proofs.rows_same.Tie as tie
 
 abbrev Inv-loop : tie.InvT-loop
 Inv-loop rows want kept i₀ i = Unit
