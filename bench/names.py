@@ -23,15 +23,16 @@ def anagrams(count):
     return ['N' + ''.join(p) + 'n' for p in itertools.islice(itertools.permutations('abcdef'), count)]
 
 
-def bucket(name):
-    """Where crates/index looks a name up, of 256 places."""
+def bucket(name, seed=0):
+    """Where crates/index looks a name up, of 256 places, by a seed. It takes another seed where names crowd one place."""
+    multiplier = (1640531527 + 1013904226 * seed) % 2**31
     h = 0
     for byte in name.encode():
-        h = (h * 31 + byte) % 256
-    return h
+        h = (h + byte) * multiplier % 2**31
+    return h // 2**23
 
 
 def one_bucket(count, prefix=''):
-    """Names of one length that are all looked up in the same place, as short as can be behind a prefix."""
+    """Names of one length that the first seed puts into the same place, as short as can be behind a prefix."""
     found = (prefix + ''.join(p) for p in itertools.product(LETTERS, repeat=3))
-    return list(itertools.islice((n for n in found if not n.startswith('__') and bucket(n) == 0), count))
+    return list(itertools.islice((n for n in found if not n.startswith('__') and bucket(n) == bucket(prefix + 'AAA')), count))

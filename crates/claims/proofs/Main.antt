@@ -71,6 +71,32 @@ use Rattle.members.proofs.find_member.Statement as find-member
 use Rattle.members.proofs.find_member.Met as find-member-met
 use Rattle.members.proofs.find_argument.Statement as find-argument
 use Rattle.members.proofs.find_argument.Met as find-argument-met
+use Rattle.lookups.proofs.kind_at.Statement as kind-at
+use Rattle.lookups.proofs.kind_at.Met as kind-at-met
+use Rattle.lookups.proofs.find_member.Statement as look-member
+use Rattle.lookups.proofs.find_member.Met as look-member-met
+use Rattle.lookups.proofs.find_argument.Statement as look-argument
+use Rattle.lookups.proofs.find_argument.Met as look-argument-met
+use Rattle.lookups.proofs.member_type.Statement as member-type
+use Rattle.lookups.proofs.member_type.Met as member-type-met
+use Rattle.lookups.proofs.argument_type.Statement as argument-type
+use Rattle.lookups.proofs.argument_type.Met as argument-type-met
+use Rattle.lookups.proofs.root_meant.Statement as root-meant
+use Rattle.lookups.proofs.root_meant.Met as root-meant-met
+use Rattle.naming.proofs.first_called.Statement as first-called
+use Rattle.naming.proofs.first_called.Met as first-called-met
+use Rattle.spreading.proofs.reach.Statement as reach
+use Rattle.spreading.proofs.reach.Met as reach-met
+use Rattle.spreading.proofs.reaches.Statement as reaches
+use Rattle.spreading.proofs.reaches.Met as reaches-met
+use Rattle.spreading.proofs.circles.Statement as circles
+use Rattle.spreading.proofs.circles.Met as circles-met
+use Rattle.enclosings.proofs.enclose.Statement as enclose
+use Rattle.enclosings.proofs.enclose.Met as enclose-met
+use Rattle.placings.proofs.places.Statement as places
+use Rattle.placings.proofs.places.Met as places-met
+use Rattle.uses.proofs.definition_of.Statement as definition-of
+use Rattle.uses.proofs.definition_of.Met as definition-of-met
 use Rattle.documents.proofs.variables_text.Statement as variables-text
 use Rattle.documents.proofs.variables_text.Met as variables-text-met
 use Rattle.claims.proofs.FitsLaws as fits
@@ -408,3 +434,52 @@ definition-members = looked.definition-members
 
 pub field-arguments : (t : List ℕ) (start stop : ℕ) → argumentsIn t start stop ≡ memberFrom t tagField start stop .arguments
 field-arguments = looked.field-arguments
+
+-- `lookups`: of the definition of a number its tag, and its first member of a name; of a member the first argument of a name; their types, with what the
+-- base means and the wrappers; what the root of an operation's kind means. Their contracts (`crates/lookups/specs`) speak of `tableOf`.
+pub definition-tag-meets : {M : Type 1} → kind-at.statement M
+definition-tag-meets = kind-at-met.met
+
+pub definition-member-meets : {M : Type 1} → look-member.statement M
+definition-member-meets = look-member-met.met
+
+pub member-argument-meets : {M : Type 1} → look-argument.statement M
+member-argument-meets = look-argument-met.met
+
+pub member-type-meets : {M : Type 1} → member-type.statement M
+member-type-meets = member-type-met.met
+
+pub argument-type-meets : {M : Type 1} → argument-type.statement M
+argument-type-meets = argument-type-met.met
+
+pub root-meets : {M : Type 1} → root-meant.statement M
+root-meets = root-meant-met.met
+
+-- ---- LOOKING UP IN A DOCUMENT: what coercion and planning will stand on. Their contracts speak of `docOf` the lent rows (`crates/constructs/specs`).
+
+-- `naming::first_called`: the first row of a kind and a name; of kind 1, the operation of a name.
+pub row-by-name-meets : {M : Type 1} → first-called.statement M
+row-by-name-meets = first-called-met.met
+
+-- Reaching as it is computed is the relation: `spreading::reach` marks the fragments that some spread which a definition reaches spreads,
+-- `spreading::reaches` decides `Reaches` for a row, `spreading::circles` decides rule 8.
+pub reach-meets : {M : Type 1} → reach.statement M
+reach-meets = reach-met.met
+
+pub reaches-meets : {M : Type 1} → reaches.statement M
+reaches-meets = reaches-met.met
+
+pub circles-meets : {M : Type 1} → circles.statement M
+circles-meets = circles-met.met
+
+-- `enclosings::enclose` keeps the type inside each row and what each field is (`inside`, `fieldAt`); `placings::places` the type due at each argument,
+-- object field and value (`place`).
+pub enclose-meets : {M : Type 1} → enclose.statement M
+enclose-meets = enclose-met.met
+
+pub places-meets : {M : Type 1} → places.statement M
+places-meets = places-met.met
+
+-- `uses::definition_of`: the first definition, by an operation, of a variable.
+pub variable-definition-meets : {M : Type 1} → definition-of.statement M
+variable-definition-meets = definition-of-met.met

@@ -54,7 +54,7 @@ fn defines_it(s: &[u8], rows: &[u32], n: usize, j: usize, i: usize) -> bool
 }
 
 // The row of the first definition, by the operation of row o, of the variable of row i; n if there is none.
-fn definition_of(
+pub fn definition_of(
     s: &[u8],
     rows: &[u32],
     n: usize,
