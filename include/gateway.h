@@ -38,7 +38,7 @@ extern "C" {
 /* Bytes of stack, more than a call takes (measured, not proved: tests/stack.c). */
 #define GW_PARSE_STACK 20480
 #define GW_CHECK_TABLE_STACK 24576
-#define GW_CHECK_STACK 126976
+#define GW_CHECK_STACK 131072
 
 /* What a call answers, which is also report[0]. Shown: report[1], of refusal 9 report[1] to report[5], of 10 report[1] and
    report[2]. */
