@@ -71,10 +71,13 @@ pub fn find_tag(t: &[u8], at: usize, end: usize, tag: u8) -> Part
     }
 }
 
-// A letter or `_`.
+// A letter or `_`. The most frequent come first.
 pub fn is_letter(b: u8) -> bool
     ensures { λ r. ⌜ r ≡ oneOf letter b ⌝ }
 {
+    if 96 < b {
+        return b < 123;
+    }
     if b < 65 {
         return false;
     }
@@ -84,18 +87,15 @@ pub fn is_letter(b: u8) -> bool
     if b < 95 {
         return false;
     }
-    if b < 96 {
-        return true;
-    }
-    if b < 97 {
-        return false;
-    }
-    b < 123
+    b < 96
 }
 
 pub fn is_name_byte(b: u8) -> bool
     ensures { λ r. ⌜ r ≡ oneOf letterOrDigit b ⌝ }
 {
+    if 96 < b {
+        return b < 123;
+    }
     if b < 48 {
         return false;
     }
