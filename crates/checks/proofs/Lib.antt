@@ -1,2 +1,3 @@
 -- Laws of this crate.
 pub mod DocumentLaws
+pub mod BeyondLaws

@@ -1,8 +1,16 @@
-// Judges a document by a type table, in buffers that have their sizes: the table, then the text, then the rules.
+// Judges a document by a type table: the table, then the text, then the rules; and the whole answer to `gw_check`.
 use index::BOOK_SIZE;
 use paper::ACCEPTED;
+use paper::INPUT_DOCUMENT;
+use paper::MOST_TEXT;
+use paper::REFUSE_BUFFER;
+use paper::REPORT_SIZE;
+use paper::ROWS_SIZE;
+use paper::Refusal;
 use paper_rules::QueryAnswer;
 use paper_rules::REFUSE_QUERY;
+use paper_types::INPUT_TABLE;
+use paper_types::MOST_TABLE;
 use paper_types::TableAnswer;
 use reader::Read;
 ghost use mathlib.Core.Path.{_≡_};
@@ -66,10 +74,29 @@ fn check_with(
 }
 
 // Judges a table, and by it a document, with a book of its own. The rows are of their fixed size.
-pub fn check(table: &[u8], document: &[u8], rows: &mut [u32], report: &mut [u32]) -> u32
+fn check(table: &[u8], document: &[u8], rows: &mut [u32], report: &mut [u32]) -> u32
     requires { ⌜ Lent (now rows) (now report) × Short (now table) (now document) × (length (now rows) ≡ rowsSize) ⌝ }
     ensures { λ r. ⌜ CheckedDocument (now (table .entry)) (now (document .entry)) (now (rows .entry)) (now (report .entry)) (now (rows .exit)) (now (report .exit)) r ⌝ }
 {
     let mut book = [0u32; BOOK_SIZE];
     check_with(table, &mut book, document, rows, report)
+}
+
+// What `gw_check` answers: the buffers are tested, then the document is judged.
+pub fn answer(table: &[u8], document: &[u8], rows: &mut [u32], report: &mut [u32]) -> u32
+    ensures { λ r. ⌜ CheckedDocument (now (table .entry)) (now (document .entry)) (now (rows .entry)) (now (report .entry)) (now (rows .exit)) (now (report .exit)) r ⌝ }
+{
+    if report.len() < REPORT_SIZE {
+        return REFUSE_BUFFER;
+    }
+    if rows.len() < ROWS_SIZE {
+        return telling::tell_refusal(report, Refusal::Buffer);
+    }
+    if MOST_TEXT < document.len() {
+        return telling::tell_refusal(report, Refusal::OverLength(INPUT_DOCUMENT));
+    }
+    if MOST_TABLE < table.len() {
+        return telling::tell_refusal(report, Refusal::OverLength(INPUT_TABLE));
+    }
+    check(table, document, &mut rows[..ROWS_SIZE], report)
 }

@@ -1,12 +1,4 @@
 // `gw_check`: judges a document by a type table.
-use paper::INPUT_DOCUMENT;
-use paper::MOST_TEXT;
-use paper::REFUSE_BUFFER;
-use paper::REPORT_SIZE;
-use paper::ROWS_SIZE;
-use paper::Refusal;
-use paper_types::INPUT_TABLE;
-use paper_types::MOST_TABLE;
 ghost use Rattle.paper_rules.specs.DocumentCalls.{CheckedDocument};
 
 // C: uint32_t gw_check(const uint8_t *table, size_t table_len, const uint8_t *document, size_t document_len,
@@ -25,17 +17,5 @@ pub extern "C" fn gw_check(
 ) -> u32
     ensures { λ r. ⌜ CheckedDocument (now (table .entry)) (now (document .entry)) (now (rows .entry)) (now (report .entry)) (now (rows .exit)) (now (report .exit)) r ⌝ }
 {
-    if report.len() < REPORT_SIZE {
-        return REFUSE_BUFFER;
-    }
-    if rows.len() < ROWS_SIZE {
-        return telling::tell_refusal(report, Refusal::Buffer);
-    }
-    if MOST_TEXT < document.len() {
-        return telling::tell_refusal(report, Refusal::OverLength(INPUT_DOCUMENT));
-    }
-    if MOST_TABLE < table.len() {
-        return telling::tell_refusal(report, Refusal::OverLength(INPUT_TABLE));
-    }
-    checks::check(table, document, &mut rows[..ROWS_SIZE], report)
+    checks::answer(table, document, rows, report)
 }

@@ -1,4 +1,4 @@
-// The calls that the host makes, and nothing else: each tests its buffers and calls one proved function.
+// The calls that the host makes, and nothing else: each is one proved function that tests its buffers.
 // A call stands in a file of its own.
 pub mod check;
 pub mod check_table;

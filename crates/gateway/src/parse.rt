@@ -1,12 +1,4 @@
 // `gw_parse`: reads a document into rows.
-use paper::ACCEPTED;
-use paper::INPUT_DOCUMENT;
-use paper::MOST_TEXT;
-use paper::REFUSE_BUFFER;
-use paper::REPORT_SIZE;
-use paper::ROWS_SIZE;
-use paper::Refusal;
-use reader::Read;
 ghost use Rattle.paper.specs.Calls.{Parsed};
 
 // C: uint32_t gw_parse(const uint8_t *document, size_t document_len,
@@ -19,21 +11,5 @@ ghost use Rattle.paper.specs.Calls.{Parsed};
 pub extern "C" fn gw_parse(document: &[u8], rows: &mut [u32], report: &mut [u32]) -> u32
     ensures { λ r. ⌜ Parsed (now (document .entry)) (now (rows .entry)) (now (report .entry)) (now (rows .exit)) (now (report .exit)) r ⌝ }
 {
-    if report.len() < REPORT_SIZE {
-        return REFUSE_BUFFER;
-    }
-    if rows.len() < ROWS_SIZE {
-        return telling::tell_refusal(report, Refusal::Buffer);
-    }
-    if MOST_TEXT < document.len() {
-        return telling::tell_refusal(report, Refusal::OverLength(INPUT_DOCUMENT));
-    }
-    let r = parsing::parse(document, &mut rows[..ROWS_SIZE]);
-    match r {
-        Read::Done(c) => {
-            telling::tell(report, ACCEPTED, c.rows);
-            ACCEPTED
-        }
-        Read::Refused(why) => telling::tell_refusal(report, why),
-    }
+    parsing::answer(document, rows, report)
 }

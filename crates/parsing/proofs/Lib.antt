@@ -1,3 +1,4 @@
 -- Laws of this crate.
 pub mod BufferLaws
 pub mod FilledLaws
+pub mod ParsedLaws

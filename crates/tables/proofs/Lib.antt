@@ -1,1 +1,2 @@
 pub mod TablesLaws
+pub mod CheckedLaws

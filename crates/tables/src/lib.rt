@@ -1,7 +1,12 @@
-// Judges a type table: its framing, its sizes, its schema rules, in this order.
+// Judges a type table: its framing, its sizes, its schema rules, in this order; and the whole answer to `gw_check_table`.
 use counts::Counted;
 use frames::Framed;
 use index::BOOK_SIZE;
+use paper::REFUSE_BUFFER;
+use paper::REPORT_SIZE;
+use paper::Refusal;
+use paper_types::INPUT_TABLE;
+use paper_types::MOST_TABLE;
 use paper_types::TableAnswer;
 use possible::BITS_SIZE;
 ghost use mathlib.Core.Path.{_≡_};
@@ -12,6 +17,7 @@ ghost use Rattle.paper_types.specs.TableNumbers.{mostTable};
 ghost use Rattle.paper_types.specs.House.{framing};
 ghost use Rattle.paper_types.specs.TableSizes.{counts};
 ghost use Rattle.paper_types.specs.Judging.{judge};
+ghost use Rattle.paper_types.specs.TableCalls.{Checked};
 ghost use Rattle.index.specs.Book.{bookSize};
 ghost use Rattle.possible.specs.Possible.{Blank};
 ghost use Rattle.tables.specs.Judges.{Judges};
@@ -62,4 +68,18 @@ pub fn judge_table(t: &[u8]) -> TableAnswer
 {
     let mut book = [0u32; BOOK_SIZE];
     judge_with(t, &mut book)
+}
+
+// What `gw_check_table` answers: the buffers are tested, then the table is judged.
+pub fn answer(table: &[u8], report: &mut [u32]) -> u32
+    ensures { λ r. ⌜ Checked (now (table .entry)) (now (report .entry)) (now (report .exit)) r ⌝ }
+{
+    if report.len() < REPORT_SIZE {
+        return REFUSE_BUFFER;
+    }
+    if MOST_TABLE < table.len() {
+        return telling::tell_refusal(report, Refusal::OverLength(INPUT_TABLE));
+    }
+    let a = judge_table(table);
+    telling::tell_table(report, a)
 }

@@ -1,10 +1,10 @@
--- `gateway::check_table::gw_check_table` meets its contract: each way to its end is one case of `Checked`.
+-- `tables::answer` meets its contract: each way to its end is one case of `Checked`.
 use mathlib.Core.Path.{refl}
 use borrow.Author.Needs.{needs}
 use Rattle.paper_types.specs.TableCalls.{short-report}
-use Rattle.gateway.proofs.CheckedLaws.{checked-over, checked-judged}
-use Rattle.gateway.proofs.check_table.gw_check_table.Statement.{statement}
-use Rattle.gateway.proofs.check_table.gw_check_table.Tie as tie
+use Rattle.tables.proofs.CheckedLaws.{checked-over, checked-judged}
+use Rattle.tables.proofs.answer.Statement.{statement}
+use Rattle.tables.proofs.answer.Tie as tie
 
 returns : tie.Need-returns
 returns c = short-report (c .if1 .taken) refl
@@ -37,8 +37,8 @@ returns-3 c =
     let t = c .before .before .tell-table .ensures in
     checked-judged _ _ _ _ (i .before .if1 .left) _ (i .if2 .left) (j .judge-table .ensures) (t .0) (t .1)
 
-pub gw-check-table-spec : {M : Type 1} → statement M
-gw-check-table-spec =
+pub answer-spec : {M : Type 1} → statement M
+answer-spec =
     tie.close
     (tie.spec
     returns

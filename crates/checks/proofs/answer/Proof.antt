@@ -4,10 +4,10 @@ use native.Mathlib.Nat.{le-of-eq}
 use lib.Seq.{length-take-le}
 use Rattle.paper.specs.Numbers.{rowsSize}
 use Rattle.paper_rules.specs.DocumentCalls.{short-report}
-use Rattle.gateway.proofs.DocumentLaws.{rows-short, document-long, table-long, checked-beyond}
+use Rattle.checks.proofs.BeyondLaws.{rows-short, document-long, table-long, checked-beyond}
 use borrow.Author.Needs.{needs}
-use Rattle.gateway.proofs.check.gw_check.Statement.{statement}
-use Rattle.gateway.proofs.check.gw_check.Tie as tie
+use Rattle.checks.proofs.answer.Statement.{statement}
+use Rattle.checks.proofs.answer.Tie as tie
 
 returns : tie.Need-returns
 returns c = short-report (c .if1 .taken) refl refl
@@ -65,8 +65,8 @@ same-length-5 c = search needs
 returns-5 : tie.Need-returns-5
 returns-5 c = checked-beyond _ _ _ _ _ _ _ (c .before .before .before .before .before .before .before .before .before .before .if1 .left, c .before .before .before .before .before .before .before .before .before .if2 .left) (c .before .before .before .before .before .before .before .before .if3 .left, c .before .before .before .before .before .before .before .if4 .left) refl (c .before .before .before .before .check .ensures)
 
-pub gw-check-spec : {M : Type 1} → statement M
-gw-check-spec =
+pub answer-spec : {M : Type 1} → statement M
+answer-spec =
     tie.close
     (tie.spec
     returns

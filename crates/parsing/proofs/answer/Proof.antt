@@ -1,13 +1,13 @@
--- `gateway::parse::gw_parse` meets its contract: each way to its end is one case of `Parsed`.
+-- `parsing::answer` meets its contract: each way to its end is one case of `Parsed`.
 use mathlib.Core.Path.{refl, sym}
 use Prim.Native.Nat.{ℕ}
 use borrow.Author.Needs.{needs}
 use lib.Seq.{length-take-le}
 use Rattle.paper.specs.Numbers.{rowsSize}
 use Rattle.paper.specs.Calls.{short-report}
-use Rattle.gateway.proofs.ParsedLaws.{parsed-short, parsed-over, parsed-done, parsed-refused}
-use Rattle.gateway.proofs.parse.gw_parse.Statement.{statement}
-use Rattle.gateway.proofs.parse.gw_parse.Tie as tie
+use Rattle.parsing.proofs.ParsedLaws.{parsed-short, parsed-over, parsed-done, parsed-refused}
+use Rattle.parsing.proofs.answer.Statement.{statement}
+use Rattle.parsing.proofs.answer.Tie as tie
 
 returns : tie.Need-returns
 returns c = short-report (c .if1 .taken) refl refl
@@ -88,8 +88,8 @@ returns-5 c =
     let t = c .before .before .tell-refusal3 .ensures in
     parsed-refused _ _ _ _ _ _ _ (i .before .before .if1 .left) (i .before .if2 .left) (i .if3 .left) (p .parse .ensures) refl _ _ (r .r2 .given .1) (t .0) (t .1)
 
-pub gw-parse-spec : {M : Type 1} → statement M
-gw-parse-spec =
+pub answer-spec : {M : Type 1} → statement M
+answer-spec =
     tie.close
     (tie.spec
     returns

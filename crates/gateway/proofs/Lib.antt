@@ -1,4 +1,0 @@
--- Laws that the proofs of the calls cite.
-pub mod ParsedLaws
-pub mod CheckedLaws
-pub mod DocumentLaws
