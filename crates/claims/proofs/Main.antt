@@ -85,12 +85,12 @@ use Rattle.lookups.proofs.root_meant.Statement as root-meant
 use Rattle.lookups.proofs.root_meant.Met as root-meant-met
 use Rattle.naming.proofs.first_called.Statement as first-called
 use Rattle.naming.proofs.first_called.Met as first-called-met
-use Rattle.spreading.proofs.reach.Statement as reach
-use Rattle.spreading.proofs.reach.Met as reach-met
-use Rattle.spreading.proofs.reaches.Statement as reaches
-use Rattle.spreading.proofs.reaches.Met as reaches-met
-use Rattle.spreading.proofs.circles.Statement as circles
-use Rattle.spreading.proofs.circles.Met as circles-met
+use Rattle.reaching.proofs.reach.Statement as reach
+use Rattle.reaching.proofs.reach.Met as reach-met
+use Rattle.reaching.proofs.reaches.Statement as reaches
+use Rattle.reaching.proofs.reaches.Met as reaches-met
+use Rattle.reaching.proofs.circles.Statement as circles
+use Rattle.reaching.proofs.circles.Met as circles-met
 use Rattle.enclosings.proofs.enclose.Statement as enclose
 use Rattle.enclosings.proofs.enclose.Met as enclose-met
 use Rattle.placings.proofs.places.Statement as places
@@ -461,8 +461,8 @@ root-meets = root-meant-met.met
 pub row-by-name-meets : {M : Type 1} → first-called.statement M
 row-by-name-meets = first-called-met.met
 
--- Reaching as it is computed is the relation: `spreading::reach` marks the fragments that some spread which a definition reaches spreads,
--- `spreading::reaches` decides `Reaches` for a row, `spreading::circles` decides rule 8.
+-- Reaching as it is computed is the relation: `reaching::reach` marks the fragments that some spread which a definition reaches spreads,
+-- `reaching::reaches` decides `Reaches` for a row, `reaching::circles` decides rule 8.
 pub reach-meets : {M : Type 1} → reach.statement M
 reach-meets = reach-met.met
 

@@ -1,15 +1,13 @@
 -- What is kept for a document's rows: the type inside each, and what each field is.
 -- Assumes nothing.
 use mathlib.Core.Path.{_≡_}
-use mathlib.Core.Bool.{Bool, true, false, _||_, cond}
+use mathlib.Core.Bool.{Bool, true, _||_, cond}
 use mathlib.Core.List.{List}
 use Prim.Native.Nat.{ℕ, _<_}
 use lib.ListN.{length, getD}
 use lib.Dec.{eqb}
-use Rattle.paper.specs.Numbers.{mostRows, kindOperation, kindFragment, kindField, kindInline, kindTypeReference}
-use Rattle.paper.specs.Rows.{Row}
+use Rattle.paper.specs.Numbers.{mostRows, kindOperation, kindFragment, kindField, kindInline}
 use Rattle.paper_types.specs.Types.{tableOf}
-use Rattle.paper_rules.specs.Constructs.{is, below}
 use Rattle.paper_rules.specs.Enclosing.{inside, fieldAt}
 use Rattle.types.specs.Booked.{Booked}
 use Rattle.constructs.specs.Rowed.{rowIn, rowsIn, docOf, Rowed}
@@ -23,10 +21,6 @@ encloses k = eqb k kindOperation || (eqb k kindFragment || (eqb k kindField || e
 -- the type kept for a row; none for one of another kind, or one that is not there
 abbrev pub typeKept : List ℕ → ℕ → List ℕ → ℕ → ℕ
 typeKept rows n inner i = cond (encloses (rowIn rows n i .kind)) (getD inner i 0) 0
-
--- a row is the type condition of the fragment of row i
-abbrev pub conditions : ℕ → Row → Bool
-conditions i r = cond (is kindTypeReference r) (below i r) false
 
 -- what is asked of a table, its book, and a document's bytes, rows and links
 pub record Asked (t book s rows : List ℕ) (n : ℕ) (first next : List ℕ) : Type 0 where

@@ -6,7 +6,6 @@ use constructs::kind_of;
 use constructs::name_of;
 use constructs::parent_of;
 use constructs::size_of;
-use links::link_of;
 use paper::KIND_FIELD;
 use paper::KIND_FRAGMENT;
 use paper::KIND_INLINE;
@@ -17,14 +16,12 @@ ghost use mathlib.Core.Bool.{true};
 ghost use Prim.Native.Nat.{suc, _<_};
 ghost use lib.ListN.{length};
 ghost use Rattle.paper.specs.Numbers.{kindField, mostRows};
-ghost use Rattle.paper_types.specs.Lists.{firstAt};
 ghost use Rattle.paper_types.specs.Types.{tableOf};
 ghost use Rattle.paper_rules.specs.Enclosing.{conditionOf, conditioned, insideFrom, enclosing};
 ghost use Rattle.types.specs.Booked.{Booked};
-ghost use Rattle.constructs.specs.Rowed.{rowIn, rowsIn, docOf, Rowed, Sized};
-ghost use Rattle.links.specs.Links.{Family};
+ghost use Rattle.constructs.specs.Rowed.{rowIn, docOf, Rowed, Sized};
 ghost use Rattle.composites.specs.Coded.{typeCoded, Fielded};
-ghost use Rattle.enclosings.specs.Enclosed.{encloses, typeKept, conditions, Asked, EnclosedTo, Enclosed};
+ghost use Rattle.enclosings.specs.Enclosed.{encloses, typeKept, Asked, EnclosedTo, Enclosed};
 
 // Has a row of this kind a type inside?
 pub fn encloses(kind: u32) -> bool
@@ -53,21 +50,6 @@ pub fn type_inside(rows: &[u32], n: usize, inside: &[u32], i: usize) -> u32
     NO_TYPE
 }
 
-// The row of a fragment's type condition; n if it has none.
-fn condition_row(rows: &[u32], n: usize, first: &[u32], next: &[u32], i: usize) -> usize
-    requires { ⌜ Sized (now rows) n × Family (rowsIn (now rows) n) (now first) (now next) × (i < n) ⌝ }
-    ensures { λ r. ⌜ r ≡ firstAt (conditions i) (rowsIn (now (rows .entry)) n) ⌝ }
-{
-    let mut j = link_of(first, i);
-    while j < n {
-        if kind_of(rows, n, j) == KIND_TYPE_REFERENCE {
-            return j;
-        }
-        j = link_of(next, j);
-    }
-    j
-}
-
 // The type of a fragment's condition; `above` if it has none.
 fn condition_type(
     t: &[u8],
@@ -83,7 +65,7 @@ fn condition_type(
     requires { ⌜ Asked (now t) (now book) (now s) (now rows) n (now first) (now next) × (i < n) ⌝ }
     ensures { λ r. ⌜ typeCoded r ≡ conditioned (tableOf (now (t .entry))) (docOf (now (s .entry)) (now (rows .entry)) n) (typeCoded above) (conditionOf (docOf (now (s .entry)) (now (rows .entry)) n) i) ⌝ }
 {
-    let j = condition_row(rows, n, first, next, i);
+    let j = siblings::first_below(rows, n, first, next, KIND_TYPE_REFERENCE, i);
     if n <= j {
         return above;
     }

@@ -9,7 +9,8 @@ use Rattle.constructs.specs.Rowed.{rowsIn, rowIn, docOf}
 use Rattle.links.specs.Links.{kindsSize, Kinds}
 use Rattle.links.proofs.Walks.{and-left, and-known, walk-first, end-first}
 use Rattle.links.proofs.ChainWalks.{RowWalk, kinds-start, kinds-less, kinds-next}
-use Rattle.naming.specs.Alike.{kindCalled, firstCalled}
+use Rattle.siblings.specs.Alike.{kindCalled}
+use Rattle.naming.specs.Called.{firstCalled}
 
 -- the walk is at row j
 abbrev pub Calling : List ℕ → List ℕ → ℕ → ℕ → List ℕ → ℕ → Type 0

@@ -1,34 +1,24 @@
 -- The rules on names, case by case, by the first row of a kind and a name.
 use mathlib.Core.Path.{_≡_, sym, ap, _∙_}
-use mathlib.Core.Bool.{Bool, true, false, not, _&&_, _||_}
+use mathlib.Core.Bool.{true, false, not}
 use mathlib.Core.List.{List}
 use Prim.Native.Nat.{ℕ, suc, _<_, _≤_}
 use native.Mathlib.Decide.{decLt}
 use native.Mathlib.Omega.{arith}
-use lib.ListN.{length, drop}
 use lib.Dec.{leb, ltb}
 use borrow.Author.Tests.{eq-eqb, ne-eqb, lt-ltb, le-ltb, le-leb, lt-leb}
-use Rattle.paper.specs.Numbers.{kindOperation, kindFragment, kindSpread, kindArgument, kindVariableDefinition}
-use Rattle.paper_types.specs.Lists.{anyOf}
-use Rattle.paper_types.specs.Rules.{earlier}
+use Rattle.paper.specs.Numbers.{kindOperation, kindFragment, kindSpread}
 use Rattle.paper_types.proofs.ListsLaws.{any-take, any-first}
 use Rattle.paper_rules.specs.Constructs.{Doc, count, rowOf, kindOf, nameOf, is, fragmentCalled, fragmentNamed, hasFragment}
 use Rattle.paper_rules.specs.Rule1OperationRepeated.{operationRepeated}
 use Rattle.paper_rules.specs.Rule2OperationUnnamed.{operationUnnamed}
 use Rattle.paper_rules.specs.Rule3FragmentRepeated.{fragmentRepeated}
 use Rattle.paper_rules.specs.Rule7Spread.{spreadOfNone}
-use Rattle.paper_rules.specs.Rule12NameTwice.{nameTwice}
 use Rattle.links.specs.Links.{nextWith}
-use Rattle.links.proofs.Nexts.{any-yes, any-no, earlier-yes, earlier-no}
-use Rattle.naming.specs.Alike.{kindCalled, firstCalled, isLike, firstLike}
-
--- one passes from number i on: the first of these is an element
-pub any-next : {A : Type 0} (p : A → Bool) (xs : List A) (i : ℕ) → ltb (nextWith p xs i) (length xs) ≡ anyOf p (drop i xs)
-any-next p xs i = go (decLt (nextWith p xs i) (length xs))
-  where
-    go : Dec (nextWith p xs i < length xs) → ltb (nextWith p xs i) (length xs) ≡ anyOf p (drop i xs)
-    go (yes h) = lt-ltb (nextWith p xs i) (length xs) h ∙ sym (any-yes p xs i h)
-    go (no h) = le-ltb (nextWith p xs i) (length xs) (omega arith) ∙ sym (any-no p xs i (omega arith))
+use Rattle.links.proofs.Nexts.{earlier-yes, earlier-no}
+use Rattle.siblings.specs.Alike.{kindCalled}
+use Rattle.siblings.proofs.BelowLaws.{any-next}
+use Rattle.naming.specs.Called.{firstCalled}
 
 -- a name means a fragment if the first of that name is a row
 pub fragment-known : (d : Doc) (m : List ℕ) → hasFragment d m ≡ ltb (fragmentNamed d m) (count d)
@@ -95,19 +85,3 @@ module _ (d : Doc) (i : ℕ) where
   pub spread-none : kindOf d i ≡ kindSpread → (n : ℕ) → count d ≡ n → leb n (fragmentNamed d (nameOf d i)) ≡ spreadOfNone d i
   unfolding spreadOfNone
   spread-none e n q = rw (← q, eq-eqb (kindOf d i) kindSpread e) (not-less (fragmentNamed d (nameOf d i)) (count d) ∙ ap not (sym (fragment-known d (nameOf d i))))
-
-  -- 12
-  pub twice-argument : kindOf d i ≡ kindArgument → earlier (isLike d i) i (d .rows) ≡ nameTwice d i
-  unfolding nameTwice
-  twice-argument e = sym (ap (λ (k : Bool). (k || is kindVariableDefinition (rowOf d i)) && earlier (isLike d i) i (d .rows)) (eq-eqb (kindOf d i) kindArgument e))
-
-  pub twice-variable : (kindOf d i ≡ kindArgument → ⊥) → kindOf d i ≡ kindVariableDefinition → earlier (isLike d i) i (d .rows) ≡ nameTwice d i
-  unfolding nameTwice
-  twice-variable f e = rw (ne-eqb (kindOf d i) kindArgument f, eq-eqb (kindOf d i) kindVariableDefinition e)
-
-  pub twice-other : (kindOf d i ≡ kindArgument → ⊥) → (kindOf d i ≡ kindVariableDefinition → ⊥) → false ≡ nameTwice d i
-  unfolding nameTwice
-  twice-other f g = rw (ne-eqb (kindOf d i) kindArgument f, ne-eqb (kindOf d i) kindVariableDefinition g)
-
-  pub like-earlier : i ≤ count d → ltb (firstLike d i) i ≡ earlier (isLike d i) i (d .rows)
-  like-earlier h = sym (any-take (isLike d i) (d .rows) i h)

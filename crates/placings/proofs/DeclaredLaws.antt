@@ -15,7 +15,7 @@ use Rattle.paper_rules.specs.Enclosing.{then}
 use Rattle.paper_rules.specs.PlaceTypes.{shapeIn}
 use Rattle.paper_rules.specs.Rule11VariableType.{declared, noInputType}
 use Rattle.links.proofs.Nexts.{find-yes, find-no}
-use Rattle.naming.specs.Alike.{isBelow, firstBelow}
+use Rattle.siblings.specs.Alike.{isBelow, firstBelow}
 use Rattle.placings.specs.Placed.{inputTag}
 
 -- the tag of an input type

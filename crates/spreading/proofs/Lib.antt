@@ -3,7 +3,3 @@ pub mod OwnerLaws
 pub mod SpreaderLaws
 pub mod LinkLaws
 pub mod TargetLaws
-pub mod DrawLaws
-pub mod SearchLaws
-pub mod PassLaws
-pub mod MarkLaws

@@ -8,9 +8,11 @@ use lib.ListN.{length, getD, set, replicate, length-set, length-replicate, getD-
 use lib.Seq.{getD-set-same, getD-set-other}
 use Rattle.paper.specs.Numbers.{mostRows}
 use Rattle.paper_rules.specs.Constructs.{Doc, count}
+use Rattle.constructs.specs.Rowed.{docOf}
+use Rattle.constructs.proofs.RowsIn.{rows-count}
 use Rattle.links.specs.Links.{firstsSize}
 use Rattle.spreading.specs.Owners.{Defines}
-use Rattle.spreading.specs.Spreads.{SpreadIn, Spreader, FirstOf, Linked}
+use Rattle.spreading.specs.Spreads.{SpreadIn, Spreader, FirstOf, Targeted, Linked, Graph}
 use Rattle.spreading.proofs.OwnerLaws.{definition-within}
 use Rattle.spreading.proofs.SpreaderLaws.{spread-within}
 
@@ -87,3 +89,8 @@ linking-end {d = d} {first = first} x e = record {
   eldest = λ a h. subst (λ (k : ℕ). FirstOf (SpreadIn d a) (count d) k (getD first a 0)) e (x .eldest a h);
   younger = λ a s h w. x .younger a s (omega arith) h w;
 }
+
+-- the spreads of a document, linked, as a graph
+pub graph-of : (s rows : List ℕ) (n : ℕ) {target first next : List ℕ} → n ≤ mostRows → Targeted (docOf s rows n) target → Linked (docOf s rows n) first next
+    → Graph (docOf s rows n) target first next
+graph-of s rows n m x y = record { few = omega (arith, rows-count rows n); targeted = x; linked = y }

@@ -1,4 +1,3 @@
 -- What the functions of this crate ask and answer.
 pub mod Owners
 pub mod Spreads
-pub mod Marks

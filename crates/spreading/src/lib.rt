@@ -1,4 +1,4 @@
-// Which fragments a definition reaches: by a search over the spreads of each definition, which are linked once for a document.
+// Where spreads lead: the definition of each row, the fragment of each spread, and the spreads of each definition, linked once for a document.
 use constructs::kind_of;
 use constructs::parent_of;
 use paper::KIND_FRAGMENT;
@@ -6,17 +6,14 @@ use paper::KIND_OPERATION;
 use paper::KIND_SPREAD;
 use paper::NO_PARENT;
 ghost use mathlib.Core.Path.{_≡_};
-ghost use Prim.Native.Nat.{_+_, _≤_, _<_};
+ghost use Prim.Native.Nat.{_<_};
 ghost use lib.ListN.{length};
 ghost use Rattle.paper.specs.Numbers.{mostRows};
-ghost use Rattle.paper_rules.specs.Reaching.{Reaches};
 ghost use Rattle.paper_rules.specs.Rule7Spread.{spreadOfNone};
-ghost use Rattle.paper_rules.specs.Rule8Circle.{ReachesItself};
-ghost use Rattle.constructs.specs.Rowed.{docOf, rowsIn, Rowed, Sized, Decides};
+ghost use Rattle.constructs.specs.Rowed.{docOf, rowsIn, Rowed, Sized};
 ghost use Rattle.links.specs.Links.{firstsSize, Kinds};
-ghost use Rattle.spreading.specs.Owners.{Defines, Owner, Owned, OwnedTo};
-ghost use Rattle.spreading.specs.Spreads.{Targeted, Linked, Spreader, Graph};
-ghost use Rattle.spreading.specs.Marks.{Stamped, Reached, Noted, Room, Search, Passed};
+ghost use Rattle.spreading.specs.Owners.{Owner, Owned, OwnedTo};
+ghost use Rattle.spreading.specs.Spreads.{Targeted, Linked, Spreader};
 
 // The definition that row i stands in, given those of the rows before it; 2,048 if there is none.
 fn owner_of(s: &[u8], rows: &[u32], n: usize, owner: &[u32], i: usize) -> u32
@@ -97,115 +94,4 @@ pub fn spreads(s: &[u8], rows: &[u32], n: usize, owner: &[u32], first: &mut [u32
         let a = spreader(s, rows, n, owner, j);
         links::put_first(first, next, a, j);
     }
-}
-
-// Marks the fragment of row f and puts it on the stack, if there is one and it is not marked yet; the stack's new height.
-fn note(n: usize, mark: &mut [u32], stack: &mut [u32], top: usize, stamp: u32, f: usize) -> usize
-    requires { ⌜ Room n stamp (now mark) (now stack) top ⌝ }
-    ensures { λ r. ⌜ Noted n stamp f (now (mark .entry)) (now (stack .entry)) top (now (mark .exit)) (now (stack .exit)) r ⌝ }
-{
-    if n <= f {
-        return top;
-    }
-    if mark[f] == stamp {
-        return top;
-    }
-    mark[f] = stamp;
-    stack[top] = f as u32;
-    top + 1
-}
-
-// Passes over the spreads of the definition of row g, in the search from row a; the stack's new height.
-fn pass(
-    s: &[u8],
-    rows: &[u32],
-    n: usize,
-    target: &[u32],
-    first: &[u32],
-    next: &[u32],
-    mark: &mut [u32],
-    stack: &mut [u32],
-    top: usize,
-    a: usize,
-    g: usize,
-) -> usize
-    requires { ⌜ Graph (docOf (now s) (now rows) n) (now target) (now first) (now next) × Search (docOf (now s) (now rows) n) a (now mark) (now stack) top g 0 ⌝ }
-    ensures { λ r. ⌜ Passed (docOf (now (s .entry)) (now (rows .entry)) n) a (now (mark .entry)) (now (stack .entry)) top g (now (mark .exit)) (now (stack .exit)) r ⌝ }
-{
-    let stamp = a as u32 + 1;
-    let mut height = top;
-    let mut j = first[g] as usize;
-    while j < n {
-        height = note(n, mark, stack, height, stamp, target[j] as usize);
-        j = next[j] as usize;
-    }
-    height
-}
-
-// Marks the fragments that the definition of row a reaches with a + 1. Marks of earlier searches, from rows before a, may stand.
-pub fn reach(
-    s: &[u8],
-    rows: &[u32],
-    n: usize,
-    target: &[u32],
-    first: &[u32],
-    next: &[u32],
-    mark: &mut [u32],
-    stack: &mut [u32],
-    a: usize,
-)
-    requires { ⌜ Graph (docOf (now s) (now rows) n) (now target) (now first) (now next) × Defines (docOf (now s) (now rows) n) a × Stamped a (now mark) × (length (now stack) ≡ mostRows) ⌝ }
-    ensures { λ _. ⌜ Reached (docOf (now (s .entry)) (now (rows .entry)) n) a (now (mark .exit)) ⌝ }
-{
-    let mut top = pass(s, rows, n, target, first, next, mark, stack, 0, a, a);
-    while 0 < top {
-        top -= 1;
-        let g = stack[top] as usize;
-        top = pass(s, rows, n, target, first, next, mark, stack, top, a, g);
-    }
-}
-
-// Is row i a fragment that reaches itself?
-pub fn circles(
-    s: &[u8],
-    rows: &[u32],
-    n: usize,
-    target: &[u32],
-    first: &[u32],
-    next: &[u32],
-    mark: &mut [u32],
-    stack: &mut [u32],
-    i: usize,
-) -> bool
-    requires { ⌜ Sized (now rows) n × Graph (docOf (now s) (now rows) n) (now target) (now first) (now next) × Stamped i (now mark) × (length (now stack) ≡ mostRows) ⌝ }
-    ensures { λ r. ⌜ Decides r (ReachesItself (docOf (now (s .entry)) (now (rows .entry)) n) i) × Stamped (i + 1) (now (mark .exit)) ⌝ }
-{
-    if kind_of(rows, n, i) != KIND_FRAGMENT {
-        return false;
-    }
-    reach(s, rows, n, target, first, next, mark, stack, i);
-    mark[i] == i as u32 + 1
-}
-
-// Does the definition of row o reach row i, by the marks of the search from it?
-pub fn reaches(
-    s: &[u8],
-    rows: &[u32],
-    n: usize,
-    owner: &[u32],
-    mark: &[u32],
-    o: usize,
-    i: usize,
-) -> bool
-    requires { ⌜ Owned (docOf (now s) (now rows) n) (now owner) × Reached (docOf (now s) (now rows) n) o (now mark) × Defines (docOf (now s) (now rows) n) o × (n ≤ mostRows) × (i < n) ⌝ }
-    ensures { λ r. ⌜ Decides r (Reaches (docOf (now (s .entry)) (now (rows .entry)) n) o i) ⌝ }
-{
-    let w = owner[i] as usize;
-    if w == o {
-        return true;
-    }
-    if n <= w {
-        return false;
-    }
-    mark[w] == o as u32 + 1
 }

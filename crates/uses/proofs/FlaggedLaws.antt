@@ -13,7 +13,7 @@ use Rattle.paper_rules.specs.Constructs.{Doc, count, is, kindOf}
 use Rattle.paper_rules.specs.Rule10Undefined.{Undefined}
 use Rattle.paper_rules.specs.Rule11VariableType.{Differs}
 use Rattle.spreading.proofs.OwnerLaws.{row-within}
-use Rattle.spreading.proofs.MarkLaws.{circle-not}
+use Rattle.reaching.proofs.MarkLaws.{circle-not}
 use Rattle.uses.specs.Flags.{noRule, Least, Circled, FlagsTo, Flag, Flagged}
 use Rattle.uses.proofs.LeastLaws.{said-undefined, said-differs, unsaid-undefined, unsaid-differs}
 

@@ -18,9 +18,9 @@ use Rattle.constructs.specs.Rowed.{Decides}
 use Rattle.links.specs.Links.{nextWith}
 use Rattle.links.proofs.Nexts.{next-least, next-most, next-passes, next-skips}
 use Rattle.spreading.specs.Spreads.{FirstOf}
-use Rattle.spreading.specs.Marks.{Stamped}
+use Rattle.reaching.specs.Marks.{Stamped}
 use Rattle.spreading.proofs.OwnerLaws.{row-within}
-use Rattle.spreading.proofs.MarkLaws.{stamped-up}
+use Rattle.reaching.proofs.MarkLaws.{stamped-up}
 use Rattle.uses.specs.Flags.{noRule, Least, Circled, FlagsTo, FragmentsTo}
 use Rattle.uses.proofs.LeastLaws.{least-none, least-skip}
 

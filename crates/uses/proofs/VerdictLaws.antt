@@ -20,7 +20,7 @@ use Rattle.paper_rules.specs.Rule10Undefined.{definesIt, defines}
 use Rattle.paper_rules.specs.Rule11VariableType.{declared, declaredBy, differ}
 use Rattle.index.specs.Book.{part}
 use Rattle.links.proofs.Walks.{and-left, and-right, and-known}
-use Rattle.naming.specs.Alike.{firstBelow}
+use Rattle.siblings.specs.Alike.{firstBelow}
 use Rattle.placings.specs.Placed.{placeUnknown, placeBoolean, placeFirst, coded}
 use Rattle.placings.specs.declared.Place.{Place}
 use Rattle.placings.proofs.ShapeLaws.{coded-unknown, coded-boolean, coded-base}

@@ -5,7 +5,6 @@ use constructs::is_called;
 use constructs::kind_of;
 use constructs::same_names;
 use links::link_of;
-use naming::first_below;
 use paper::KIND_FRAGMENT;
 use paper::KIND_OPERATION;
 use paper::KIND_TYPE_REFERENCE;
@@ -20,6 +19,7 @@ use placings::PLACE_UNKNOWN;
 use placings::Place;
 use placings::nullable_of;
 use placings::place_of;
+use siblings::first_below;
 ghost use mathlib.Core.Path.{_≡_};
 ghost use mathlib.Core.Bool.{_&&_};
 ghost use mathlib.Core.Option.{some};
@@ -35,7 +35,7 @@ ghost use Rattle.paper_rules.specs.Rule11VariableType.{differ};
 ghost use Rattle.constructs.specs.Rowed.{rowIn, rowsIn, docOf, Rowed, Sized};
 ghost use Rattle.links.specs.Links.{Family, Kinds};
 ghost use Rattle.spreading.specs.Spreads.{Graph};
-ghost use Rattle.spreading.specs.Marks.{Stamped, Reached};
+ghost use Rattle.reaching.specs.Marks.{Stamped, Reached};
 ghost use Rattle.placings.specs.Placed.{coded, Within, Placed};
 ghost use Rattle.uses.specs.Flags.{verdictOf, Least, Circled, FlagsTo, FragmentsTo, Known, Flagged};
 
@@ -160,7 +160,7 @@ fn lesser(
     if f == RULE_UNDEFINED {
         return f;
     }
-    if !spreading::reaches(s, rows, n, owner, mark, o, i) {
+    if !reaching::reaches(s, rows, n, owner, mark, o, i) {
         return f;
     }
     let v = verdict(t, s, rows, n, first, next, at, size, wrappers, o, i);
@@ -240,7 +240,7 @@ fn judge_operations(
 {
     let mut o = link_of(firstk, KIND_OPERATION as usize);
     while o < n {
-        spreading::reach(s, rows, n, target, firsts, nexts, mark, stack, o);
+        reaching::reach(s, rows, n, target, firsts, nexts, mark, stack, o);
         judge_variables(
             t,
             s,
@@ -277,7 +277,7 @@ fn circle_of(
     requires { ⌜ Sized (now rows) n × Graph (docOf (now s) (now rows) n) (now target) (now firsts) (now nexts) × Stamped i (now mark) × (length (now stack) ≡ mostRows) ⌝ }
     ensures { λ r. ⌜ Circled (docOf (now (s .entry)) (now (rows .entry)) n) i r × Stamped (i + 1) (now (mark .exit)) ⌝ }
 {
-    if spreading::circles(s, rows, n, target, firsts, nexts, mark, stack, i) {
+    if reaching::circles(s, rows, n, target, firsts, nexts, mark, stack, i) {
         return RULE_CIRCLE;
     }
     NO_RULE

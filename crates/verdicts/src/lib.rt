@@ -129,7 +129,7 @@ fn argument_rule(
     requires { ⌜ (length (now t) ≤ mostTable) × Rowed (now s) (now rows) n × Family (rowsIn (now rows) n) (now first) (now next) × Enclosed (now t) (now s) (now rows) n (now inside) (now at) (now to) × (i < n) × (rowIn (now rows) n i .kind ≡ kindArgument) ⌝ }
     ensures { λ r. ⌜ LeastAt (tableOf (now (t .entry))) (docOf (now (s .entry)) (now (rows .entry)) n) i r ⌝ }
 {
-    if naming::name_twice(s, rows, n, first, next, i) {
+    if siblings::name_twice(s, rows, n, first, next, i) {
         return RULE_NAME_TWICE;
     }
     let unknown = typing::argument_unknown(t, s, rows, n, inside, at, to, i);
@@ -154,7 +154,7 @@ fn definition_rule(
         return RULE_VARIABLE_TYPE;
     }
     rule_if(
-        naming::name_twice(s, rows, n, first, next, i),
+        siblings::name_twice(s, rows, n, first, next, i),
         RULE_NAME_TWICE,
     )
 }
@@ -191,7 +191,7 @@ fn rule_at(
         ),
         KIND_ARGUMENT => argument_rule(t, s, rows, n, first, next, inside, at, to, i),
         KIND_DIRECTIVE => rule_if(
-            naming::directive_wrong(s, rows, n, first, next, i),
+            siblings::directive_wrong(s, rows, n, first, next, i),
             RULE_DIRECTIVE,
         ),
         KIND_VARIABLE_DEFINITION => definition_rule(t, book, s, rows, n, first, next, i),

@@ -1,4 +1,4 @@
-use Rattle.spreading.proofs.MarkLaws.{graph-of}
+use Rattle.spreading.proofs.LinkLaws.{graph-of}
 use borrow.Author.Needs.{needs}
 use Rattle.queries.proofs.flag_with.Statement.{statement}
 use Rattle.queries.proofs.flag_with.Tie as tie

@@ -7,8 +7,8 @@ use Rattle.paper.specs.Numbers.{mostRows}
 use Rattle.paper_types.specs.Types.{tableOf}
 use Rattle.constructs.specs.Rowed.{docOf}
 use Rattle.constructs.proofs.RowsIn.{rowed-sized, rows-count}
-use Rattle.spreading.specs.Marks.{Stamped}
-use Rattle.spreading.proofs.MarkLaws.{stamped-none}
+use Rattle.reaching.specs.Marks.{Stamped}
+use Rattle.reaching.proofs.MarkLaws.{stamped-none}
 use Rattle.uses.proofs.FlagsLaws.{flags-none}
 use Rattle.uses.proofs.FlaggedLaws.{flagged}
 use Rattle.uses.proofs.flags.Statement.{statement}

@@ -1,0 +1,190 @@
+// The query rules on rows beside each other and right below a row: 9 and 12.
+use constructs::is_called;
+use constructs::kind_of;
+use constructs::name_of;
+use constructs::parent_of;
+use constructs::size_of;
+use links::link_of;
+use paper::KIND_ARGUMENT;
+use paper::KIND_BOOLEAN;
+use paper::KIND_DIRECTIVE;
+use paper::KIND_FIELD;
+use paper::KIND_INLINE;
+use paper::KIND_VARIABLE;
+use paper::KIND_VARIABLE_DEFINITION;
+ghost use mathlib.Core.Path.{_≡_};
+ghost use Prim.Native.Nat.{_+_, _≤_, _<_};
+ghost use lib.ListN.{length};
+ghost use Rattle.paper_types.specs.Rules.{earlier};
+ghost use Rattle.paper.specs.Numbers.{kindArgument, kindDirective};
+ghost use Rattle.index.specs.Book.{part};
+ghost use Rattle.paper_rules.specs.Constructs.{isSelection};
+ghost use Rattle.paper_rules.specs.Rule9Directive.{rowsBelow, isIf, onlyIfs, directiveRight, directiveWrong};
+ghost use Rattle.paper_rules.specs.Rule12NameTwice.{nameTwice};
+ghost use Rattle.constructs.specs.Rowed.{rowIn, rowsIn, docOf, Rowed, Sized};
+ghost use Rattle.links.specs.Links.{Family};
+ghost use Rattle.siblings.specs.Alike.{kindCalled, firstLike, isLike, firstBelow, Beside, nextBeside};
+
+// Is row j of kind k, and its name the text of l bytes from `at` on in t?
+fn is_kind_called(
+    s: &[u8],
+    rows: &[u32],
+    n: usize,
+    j: usize,
+    k: u32,
+    t: &[u8],
+    at: usize,
+    l: usize,
+) -> bool
+    requires { ⌜ Rowed (now s) (now rows) n × (at + l ≤ length (now t)) ⌝ }
+    ensures { λ r. ⌜ r ≡ kindCalled (docOf (now (s .entry)) (now (rows .entry)) n) k (part (now (t .entry)) at l) (rowIn (now (rows .entry)) n j) ⌝ }
+{
+    if kind_of(rows, n, j) != k {
+        return false;
+    }
+    is_called(s, rows, n, j, t, at, l)
+}
+
+// The first of row i and those beside it that has row i's kind and name.
+fn first_like(s: &[u8], rows: &[u32], n: usize, first: &[u32], next: &[u32], i: usize) -> usize
+    requires { ⌜ Rowed (now s) (now rows) n × Family (rowsIn (now rows) n) (now first) (now next) × (i < n) ⌝ }
+    ensures { λ r. ⌜ r ≡ firstLike (docOf (now (s .entry)) (now (rows .entry)) n) i ⌝ }
+{
+    let k = kind_of(rows, n, i);
+    let at = name_of(rows, n, i) as usize;
+    let l = size_of(rows, n, i) as usize;
+    let p = parent_of(rows, n, i) as usize;
+    let mut j = link_of(first, p);
+    while j < n {
+        if is_kind_called(s, rows, n, j, k, s, at, l) {
+            return j;
+        }
+        j = link_of(next, j);
+    }
+    j
+}
+
+// Has an earlier row of its kind beside it the name of row i?
+fn is_repeated(s: &[u8], rows: &[u32], n: usize, first: &[u32], next: &[u32], i: usize) -> bool
+    requires { ⌜ Rowed (now s) (now rows) n × Family (rowsIn (now rows) n) (now first) (now next) × (i < n) ⌝ }
+    ensures { λ r. ⌜ r ≡ earlier (isLike (docOf (now (s .entry)) (now (rows .entry)) n) i) i (rowsIn (now (rows .entry)) n) ⌝ }
+{
+    first_like(s, rows, n, first, next, i) < i
+}
+
+// Rule 12: has an earlier argument or variable definition beside it the name of this one?
+pub fn name_twice(s: &[u8], rows: &[u32], n: usize, first: &[u32], next: &[u32], i: usize) -> bool
+    requires { ⌜ Rowed (now s) (now rows) n × Family (rowsIn (now rows) n) (now first) (now next) × (i < n) ⌝ }
+    ensures { λ r. ⌜ r ≡ nameTwice (docOf (now (s .entry)) (now (rows .entry)) n) i ⌝ }
+{
+    let k = kind_of(rows, n, i);
+    if k == KIND_ARGUMENT {
+        return is_repeated(s, rows, n, first, next, i);
+    }
+    if k == KIND_VARIABLE_DEFINITION {
+        return is_repeated(s, rows, n, first, next, i);
+    }
+    false
+}
+
+// The first of kind k from row j on, that row and those beside it; n if there is none.
+fn next_beside(rows: &[u32], n: usize, next: &[u32], k: u32, j: usize) -> usize
+    requires { ⌜ Sized (now rows) n × Beside (rowsIn (now rows) n) (now next) × (j ≤ n) ⌝ }
+    ensures { λ r. ⌜ r ≡ nextBeside (rowsIn (now (rows .entry)) n) k j ⌝ }
+{
+    let mut m = j;
+    while m < n {
+        if kind_of(rows, n, m) == k {
+            return m;
+        }
+        m = link_of(next, m);
+    }
+    m
+}
+
+// The first of kind k right below row p; n if there is none.
+pub fn first_below(rows: &[u32], n: usize, first: &[u32], next: &[u32], k: u32, p: usize) -> usize
+    requires { ⌜ Sized (now rows) n × Family (rowsIn (now rows) n) (now first) (now next) × (p < n) ⌝ }
+    ensures { λ r. ⌜ r ≡ firstBelow (rowsIn (now (rows .entry)) n) k p ⌝ }
+{
+    next_beside(rows, n, next, k, link_of(first, p))
+}
+
+// Is row i a selection: a field, a spread or an inline fragment?
+fn is_selection(rows: &[u32], n: usize, i: usize) -> bool
+    requires { ⌜ Sized (now rows) n ⌝ }
+    ensures { λ r. ⌜ r ≡ isSelection (rowIn (now (rows .entry)) n i) ⌝ }
+{
+    let k = kind_of(rows, n, i);
+    if k < KIND_FIELD {
+        return false;
+    }
+    k <= KIND_INLINE
+}
+
+// Is the argument of row a an `if`, a boolean or a variable?
+fn is_if(s: &[u8], rows: &[u32], n: usize, first: &[u32], next: &[u32], a: usize) -> bool
+    requires { ⌜ Rowed (now s) (now rows) n × Family (rowsIn (now rows) n) (now first) (now next) × (a < n) ⌝ }
+    ensures { λ r. ⌜ r ≡ isIf (docOf (now (s .entry)) (now (rows .entry)) n) a ⌝ }
+{
+    if !is_called(s, rows, n, a, b"if", 0, 2) {
+        return false;
+    }
+    if first_below(rows, n, first, next, KIND_BOOLEAN, a) < n {
+        return true;
+    }
+    first_below(rows, n, first, next, KIND_VARIABLE, a) < n
+}
+
+// Has row i one argument only, and such?
+fn is_only_if(s: &[u8], rows: &[u32], n: usize, first: &[u32], next: &[u32], i: usize) -> bool
+    requires { ⌜ Rowed (now s) (now rows) n × Family (rowsIn (now rows) n) (now first) (now next) × (i < n) ⌝ }
+    ensures { λ r. ⌜ r ≡ onlyIfs (docOf (now (s .entry)) (now (rows .entry)) n) (rowsBelow (docOf (now (s .entry)) (now (rows .entry)) n) kindArgument i) ⌝ }
+{
+    let a = first_below(rows, n, first, next, KIND_ARGUMENT, i);
+    if n <= a {
+        return false;
+    }
+    if next_beside(rows, n, next, KIND_ARGUMENT, link_of(next, a)) < n {
+        return false;
+    }
+    is_if(s, rows, n, first, next, a)
+}
+
+// Is nothing wrong with the directive of row i?
+fn is_right(s: &[u8], rows: &[u32], n: usize, first: &[u32], next: &[u32], i: usize) -> bool
+    requires { ⌜ Rowed (now s) (now rows) n × Family (rowsIn (now rows) n) (now first) (now next) × (i < n) × (rowIn (now rows) n i .kind ≡ kindDirective) ⌝ }
+    ensures { λ r. ⌜ r ≡ directiveRight (docOf (now (s .entry)) (now (rows .entry)) n) i ⌝ }
+{
+    let at = name_of(rows, n, i) as usize;
+    let l = size_of(rows, n, i) as usize;
+    if !faults::is_known_directive(s, at, l) {
+        return false;
+    }
+    let p = parent_of(rows, n, i) as usize;
+    if !is_selection(rows, n, p) {
+        return false;
+    }
+    if is_repeated(s, rows, n, first, next, i) {
+        return false;
+    }
+    is_only_if(s, rows, n, first, next, i)
+}
+
+// Rule 9: is something wrong with this directive?
+pub fn directive_wrong(
+    s: &[u8],
+    rows: &[u32],
+    n: usize,
+    first: &[u32],
+    next: &[u32],
+    i: usize,
+) -> bool
+    requires { ⌜ Rowed (now s) (now rows) n × Family (rowsIn (now rows) n) (now first) (now next) × (i < n) ⌝ }
+    ensures { λ r. ⌜ r ≡ directiveWrong (docOf (now (s .entry)) (now (rows .entry)) n) i ⌝ }
+{
+    if kind_of(rows, n, i) != KIND_DIRECTIVE {
+        return false;
+    }
+    !is_right(s, rows, n, first, next, i)
+}
