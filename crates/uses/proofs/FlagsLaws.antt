@@ -21,7 +21,7 @@ use Rattle.spreading.specs.Spreads.{FirstOf}
 use Rattle.reaching.specs.Marks.{Stamped}
 use Rattle.spreading.proofs.OwnerLaws.{row-within}
 use Rattle.reaching.proofs.MarkLaws.{stamped-up}
-use Rattle.uses.specs.Flags.{noRule, Least, Circled, FlagsTo, FragmentsTo}
+use Rattle.uses.specs.Flags.{noRule, Circled, FlagsBy, FlagsTo, LikenedTo, FragmentsTo}
 use Rattle.uses.proofs.LeastLaws.{least-none, least-skip}
 
 -- the first row of kind k from row i on
@@ -114,58 +114,85 @@ module _ (d : Doc) where
   pub fragments-end : (old flag mark stack : List ℕ) (f n : ℕ) → FragmentLoop d old flag mark stack f → count d ≤ f → n ≡ count d → FragmentsTo d old n flag
   fragments-end old flag mark stack f n p h e = let z : f ≡ n = omega (arith, p .most) in rw (sym z) (p .judged)
 
--- Variables, by the operation of row o: those before row j are judged, and row j is the next
-pub record VariableLoop (t : Table) (d : Doc) (g o : ℕ) (flag : List ℕ) (j : ℕ) : Type 0 where
+-- Variables: of those before row j holds D, of the others L
+pub record Halves (D L : ℕ → Type 0) (j i : ℕ) : Type 0 where
+  pub done : i < j → D i
+  pub left : j ≤ i → L i
+
+-- and row j is the next
+pub record VariableLoop (D L : ℕ → Type 0) (d : Doc) (g : ℕ) (flag : List ℕ) (j : ℕ) : Type 0 where
   pub most : j ≤ count d
   pub at : j < count d → kindOf d j ≡ kindVariable
-  pub size : length flag ≡ mostRows
-  pub done : (i : ℕ) → i < j → kindOf d i ≡ kindVariable → Least t d (o + 1) i (getD flag i 0)
-  pub left : (i : ℕ) → j ≤ i → kindOf d i ≡ kindVariable → Least t d o i (getD flag i 0)
-  pub fragments : (i : ℕ) → i < g → kindOf d i ≡ kindFragment → Circled d i (getD flag i 0)
-  pub others : (i : ℕ) → (kindOf d i ≡ kindVariable → ⊥) → (kindOf d i ≡ kindFragment → ⊥) → getD flag i 0 ≡ noRule
+  pub flags : FlagsBy (Halves D L j) d g flag
 
-module _ (t : Table) (d : Doc) (g o : ℕ) (flag : List ℕ) where
-  pub variables-start : (j : ℕ) → FirstKind d kindVariable 0 j → FlagsTo t d g o flag → VariableLoop t d g o flag j
+-- a variable is a row
+pub variable-within : (d : Doc) (i : ℕ) → kindOf d i ≡ kindVariable → i < count d
+variable-within d i e = row-within d (is kindVariable) i refl (rw e tt)
+
+module _ (D L : ℕ → Type 0) (d : Doc) (g : ℕ) (flag : List ℕ) where
+  pub variables-start : (j : ℕ) → FirstKind d kindVariable 0 j → FlagsBy L d g flag → VariableLoop D L d g flag j
   variables-start j n x = record {
     most = n .most;
     at = n .holds;
-    size = x .size;
-    done = λ i h e. absurd (n .skips i (omega arith) h e);
-    left = λ i h e. x .variables i e;
-    fragments = x .fragments;
-    others = x .others;
+    flags = record {
+      size = x .size;
+      variables = λ i e. record { done = λ h. absurd (n .skips i (omega arith) h e); left = λ h. x .variables i e };
+      fragments = x .fragments;
+      others = x .others;
+    };
   }
 
-  module _ (j : ℕ) (p : VariableLoop t d g o flag j) where
-    pub variables-more : (x k : ℕ) → j < count d → count d ≤ mostRows → FirstKind d kindVariable (suc j) k → Least t d (o + 1) j x → VariableLoop t d g o (set flag j x) k
-    variables-more x k h l n c = record {
+  module _ (j : ℕ) (p : VariableLoop D L d g flag j) where
+    -- the flag of row j is as it should be
+    pub variables-skip : (k : ℕ) → FirstKind d kindVariable (suc j) k → D j → VariableLoop D L d g flag k
+    variables-skip k n c = record {
       most = n .most;
       at = n .holds;
-      size = length-set flag j x ∙ p .size;
-      done = λ i m e. go i m e (ℕ-discrete i j) (decLt i j);
-      left = λ i m e. rw (other i (λ z. omega (arith, n .from))) (p .left i (omega (arith, n .from)) e);
-      fragments = λ i m e. rw (other i (λ z. omega (arith, e, p .at h, ap (kindOf d) z))) (p .fragments i m e);
-      others = λ i a b. other i (λ z. a (ap (kindOf d) z ∙ p .at h)) ∙ p .others i a b;
+      flags = record {
+        size = p .flags .size;
+        variables = λ i e. record { done = λ m. go i m e (ℕ-discrete i j) (decLt i j); left = λ m. p .flags .variables i e .left (omega (arith, n .from)) };
+        fragments = p .flags .fragments;
+        others = p .flags .others;
+      };
+    }
+      where
+        go : (i : ℕ) → i < k → kindOf d i ≡ kindVariable → Dec (i ≡ j) → Dec (i < j) → D i
+        go i m e (yes z) b = rw z c
+        go i m e (no z) (yes b) = p .flags .variables i e .done b
+        go i m e (no z) (no b) = absurd (n .skips i (omega arith) m e)
+
+    -- it is written; what holds of the others still does
+    pub variables-set : (D′ L′ : ℕ → Type 0) (x k : ℕ) → j < count d → FirstKind d kindVariable (suc j) k → D′ j → ((i : ℕ) → i < j → D i → D′ i) → ((i : ℕ) → j < i → L i → L′ i)
+        → VariableLoop D′ L′ d g (set flag j x) k
+    variables-set D′ L′ x k h n c v w = record {
+      most = n .most;
+      at = n .holds;
+      flags = record {
+        size = length-set flag j x ∙ p .flags .size;
+        variables = λ i e. record {
+          done = λ m. go i m e (ℕ-discrete i j) (decLt i j);
+          left = λ m. w i (omega (arith, n .from)) (p .flags .variables i e .left (omega (arith, n .from)));
+        };
+        fragments = λ i m e. rw (other i (λ z. omega (arith, e, p .at h, ap (kindOf d) z))) (p .flags .fragments i m e);
+        others = λ i a b. other i (λ z. a (ap (kindOf d) z ∙ p .at h)) ∙ p .flags .others i a b;
+      };
     }
       where
         other : (i : ℕ) → (i ≡ j → ⊥) → getD (set flag j x) i 0 ≡ getD flag i 0
         other i z = getD-set-other flag j i x 0 z
 
-        go : (i : ℕ) → i < k → kindOf d i ≡ kindVariable → Dec (i ≡ j) → Dec (i < j) → Least t d (o + 1) i (getD (set flag j x) i 0)
-        go i m e (yes z) b = rw (z, getD-set-same flag j x 0 (omega (arith, p .size))) c
-        go i m e (no z) (yes b) = rw (other i z) (p .done i b e)
+        go : (i : ℕ) → i < k → kindOf d i ≡ kindVariable → Dec (i ≡ j) → Dec (i < j) → D′ i
+        go i m e (yes z) b = rw z c
+        go i m e (no z) (yes b) = v i b (p .flags .variables i e .done b)
         go i m e (no z) (no b) = absurd (n .skips i (omega arith) m e)
 
-    pub variables-end : count d ≤ j → FlagsTo t d g (o + 1) flag
+    pub variables-end : count d ≤ j → FlagsBy D d g flag
     variables-end h = record {
-      size = p .size;
-      variables = λ i e. p .done i (omega (arith, kind-within i e)) e;
-      fragments = p .fragments;
-      others = p .others;
+      size = p .flags .size;
+      variables = λ i e. p .flags .variables i e .done (omega (arith, variable-within d i e));
+      fragments = p .flags .fragments;
+      others = p .flags .others;
     }
-      where
-        kind-within : (i : ℕ) → kindOf d i ≡ kindVariable → i < count d
-        kind-within i e = row-within d (is kindVariable) i refl (rw e tt)
 
 -- Operations: those before row o have judged, and row o is the next
 pub record OperationLoop (t : Table) (d : Doc) (g : ℕ) (flag mark stack : List ℕ) (o : ℕ) : Type 0 where
@@ -173,10 +200,10 @@ pub record OperationLoop (t : Table) (d : Doc) (g : ℕ) (flag mark stack : List
   pub at : o < count d → kindOf d o ≡ kindOperation
   pub stamped : Stamped o mark
   pub stacked : length stack ≡ mostRows
-  pub flags : FlagsTo t d g o flag
+  pub flags : LikenedTo t d g o flag
 
 module _ (t : Table) (d : Doc) (g : ℕ) where
-  pub operations-next : (flag mark stack : List ℕ) (m o : ℕ) → FirstKind d kindOperation m o → FlagsTo t d g m flag → Stamped m mark → length stack ≡ mostRows → OperationLoop t d g flag mark stack o
+  pub operations-next : (flag mark stack : List ℕ) (m o : ℕ) → FirstKind d kindOperation m o → LikenedTo t d g m flag → Stamped m mark → length stack ≡ mostRows → OperationLoop t d g flag mark stack o
   operations-next flag mark stack m o n x s l = record {
     most = n .most;
     at = n .holds;
@@ -184,11 +211,14 @@ module _ (t : Table) (d : Doc) (g : ℕ) where
     stacked = l;
     flags = record {
       size = x .size;
-      variables = λ i e. least-skip t d i m o (getD flag i 0) (λ p h k. ne-eqb (kindOf d p) kindOperation (n .skips p h k)) (x .variables i e);
+      variables = λ i e. record {
+        own = λ h. least-skip t d i m o (getD flag i 0) (λ p h k. ne-eqb (kindOf d p) kindOperation (n .skips p h k)) (x .variables i e .own h);
+        like = x .variables i e .like;
+      };
       fragments = x .fragments;
       others = x .others;
     };
   }
 
-  pub operations-end : (flag mark stack : List ℕ) (o m : ℕ) → OperationLoop t d g flag mark stack o → count d ≤ o → m ≡ count d → FlagsTo t d g m flag
+  pub operations-end : (flag mark stack : List ℕ) (o m : ℕ) → OperationLoop t d g flag mark stack o → count d ≤ o → m ≡ count d → LikenedTo t d g m flag
   operations-end flag mark stack o m p h e = let z : o ≡ m = omega (arith, p .most) in rw (sym z) (p .flags)

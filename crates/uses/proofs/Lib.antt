@@ -2,4 +2,6 @@
 pub mod VerdictLaws
 pub mod LeastLaws
 pub mod FlagsLaws
+pub mod LikeLaws
+pub mod LikenLaws
 pub mod FlaggedLaws

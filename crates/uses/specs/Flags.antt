@@ -4,9 +4,9 @@ use mathlib.Core.Path.{_≡_}
 use mathlib.Core.Logic.{_⊎_}
 use mathlib.Core.Bool.{cond}
 use mathlib.Core.List.{List}
-use Prim.Native.Nat.{ℕ, _<_}
-use lib.ListN.{length, getD}
-use lib.Dec.{T}
+use Prim.Native.Nat.{ℕ, _+_, _-_, _≤_, _<_}
+use lib.ListN.{length, getD, set}
+use lib.Dec.{T, ltb}
 use Rattle.paper.specs.Numbers.{mostRows, kindOperation, kindFragment, kindVariable}
 use Rattle.paper_types.specs.Types.{Table}
 use Rattle.paper_rules.specs.QueryNumbers.{ruleCircle, ruleUndefined, ruleVariableType}
@@ -19,6 +19,7 @@ use Rattle.paper_rules.specs.Rule11VariableType.{declaredBy, differ, Differs}
 use Rattle.constructs.specs.Rowed.{rowsIn, docOf, Rowed}
 use Rattle.links.specs.Links.{Family}
 use Rattle.spreading.specs.Owners.{Owned}
+use Rattle.reaching.specs.Marks.{Waits}
 use Rattle.placings.specs.Placed.{Placed}
 
 abbrev pub noRule : ℕ
@@ -57,12 +58,39 @@ pub record Circled (d : Doc) (i f : ℕ) : Type 0 where
   pub no-circle : f ≡ noRule → ReachesItself d i → ⊥
   pub known : (f ≡ noRule) ⊎ (f ≡ ruleCircle)
 
--- the fragments before row g are judged, and the variables by the operations before row m
-pub record FlagsTo (t : Table) (d : Doc) (g m : ℕ) (flag : List ℕ) : Type 0 where
+-- what the operations before any row say of the variable of row j, they say of that of row i
+abbrev pub Alike : Table → Doc → ℕ → ℕ → Type 0
+Alike t d i j = (m f : ℕ) → Least t d m j f → Least t d m i f
+
+-- from here on a flag says which row a variable is like
+abbrev pub likeFirst : ℕ
+likeFirst = 4096
+
+-- the variable of row i is like that of row j, which stands before it and has a flag of its own
+pub record Like (t : Table) (d : Doc) (flag : List ℕ) (i j : ℕ) : Type 0 where
+  pub before : j < i
+  pub variable : kindOf d j ≡ kindVariable
+  pub own : getD flag j 0 < likeFirst
+  pub alike : Alike t d i j
+
+-- the variable of row i is judged by the operations before row m, or said to be like another
+pub record Judged (t : Table) (d : Doc) (m : ℕ) (flag : List ℕ) (i : ℕ) : Type 0 where
+  pub own : getD flag i 0 < likeFirst → Least t d m i (getD flag i 0)
+  pub like : likeFirst ≤ getD flag i 0 → Like t d flag i (getD flag i 0 - likeFirst)
+
+-- the fragments before row g are judged, and of the variables holds P
+pub record FlagsBy (P : ℕ → Type 0) (d : Doc) (g : ℕ) (flag : List ℕ) : Type 0 where
   pub size : length flag ≡ mostRows
-  pub variables : (i : ℕ) → kindOf d i ≡ kindVariable → Least t d m i (getD flag i 0)
+  pub variables : (i : ℕ) → kindOf d i ≡ kindVariable → P i
   pub fragments : (i : ℕ) → i < g → kindOf d i ≡ kindFragment → Circled d i (getD flag i 0)
   pub others : (i : ℕ) → (kindOf d i ≡ kindVariable → ⊥) → (kindOf d i ≡ kindFragment → ⊥) → getD flag i 0 ≡ noRule
+
+-- the variables are judged by the operations before row m; the same but for those that are like others
+abbrev pub FlagsTo : Table → Doc → ℕ → ℕ → List ℕ → Type 0
+FlagsTo t d g m flag = FlagsBy (λ i. Least t d m i (getD flag i 0)) d g flag
+
+abbrev pub LikenedTo : Table → Doc → ℕ → ℕ → List ℕ → Type 0
+LikenedTo t d g m flag = FlagsBy (Judged t d m flag) d g flag
 
 -- the same for any table, from flags where nothing is judged
 abbrev pub FragmentsTo : Doc → List ℕ → ℕ → List ℕ → Type 0
@@ -74,6 +102,33 @@ pub record Known (t s rows : List ℕ) (n : ℕ) (first next at size wrappers ow
   pub family : Family (rowsIn rows n) first next
   pub placed : Placed t s rows n at size wrappers n
   pub owned : Owned (docOf s rows n) owner
+
+-- the same without the links
+pub record Unlinked (t s rows : List ℕ) (n : ℕ) (at size wrappers owner : List ℕ) : Type 0 where
+  pub rowed : Rowed s rows n
+  pub placed : Placed t s rows n at size wrappers n
+  pub owned : Owned (docOf s rows n) owner
+
+-- the first m of the stack are variables before row i
+pub record Models (d : Doc) (stack : List ℕ) (m i : ℕ) : Type 0 where
+  pub size : length stack ≡ mostRows
+  pub few : m ≤ i
+  pub variables : (k : ℕ) → k < m → kindOf d (getD stack k 0) ≡ kindVariable
+  pub before : (k : ℕ) → k < m → getD stack k 0 < i
+
+-- one of them is that of row j, and the variable of row i is like it
+pub record ModelOf (t : Table) (d : Doc) (stack : List ℕ) (m i j : ℕ) : Type 0 where
+  pub waits : Waits stack m j
+  pub alike : Alike t d i j
+
+-- row i is likened to one of them, or is one more
+pub data Likened (t : Table) (d : Doc) (i : ℕ) (stack flag : List ℕ) (m : ℕ) : List ℕ → List ℕ → ℕ → Type 0 where
+  copy : (j : ℕ) → ModelOf t d stack m i j → Likened t d i stack flag m stack (set flag i (likeFirst + j)) m
+  model : Likened t d i stack flag m (set stack m i) flag (m + 1)
+
+-- the flag of row i, or of the row that it is said to be like
+unfoldable pub ownFlag : List ℕ → ℕ → ℕ
+ownFlag flag i = cond (ltb (getD flag i 0) likeFirst) (getD flag i 0) (getD flag (getD flag i 0 - likeFirst) 0)
 
 -- f is what is said of row i by the rules 8, 10 and 11, but for variable definitions
 pub record Flag (t : Table) (d : Doc) (i f : ℕ) : Type 0 where

@@ -1,5 +1,6 @@
 // The query rules 8 and 10, and 11 where variables are used: the least of them that each row breaks, as one number.
 // One search from each fragment and each operation; then each variable is compared with the operations that reach it.
+// Most variables are like one before them, in name, place and owner: these are not compared, but get its flag.
 use constructs::extra_of;
 use constructs::is_called;
 use constructs::kind_of;
@@ -21,11 +22,12 @@ use placings::nullable_of;
 use placings::place_of;
 use siblings::first_below;
 ghost use mathlib.Core.Path.{_≡_};
-ghost use mathlib.Core.Bool.{_&&_};
+ghost use mathlib.Core.Bool.{true, _&&_};
 ghost use mathlib.Core.Option.{some};
-ghost use Prim.Native.Nat.{_+_, _<_};
-ghost use lib.ListN.{length};
-ghost use Rattle.paper.specs.Numbers.{mostRows, kindOperation, kindVariableDefinition};
+ghost use Prim.Native.Nat.{_+_, _-_, _≤_, _<_};
+ghost use lib.ListN.{length, getD};
+ghost use lib.Dec.{eqb};
+ghost use Rattle.paper.specs.Numbers.{mostRows, kindOperation, kindVariable, kindVariableDefinition};
 ghost use Rattle.paper_types.specs.Lists.{firstAt};
 ghost use Rattle.paper_types.specs.Types.{tableOf};
 ghost use Rattle.paper_rules.specs.Constructs.{is, called, nameOf};
@@ -37,10 +39,16 @@ ghost use Rattle.links.specs.Links.{Family, Kinds};
 ghost use Rattle.spreading.specs.Spreads.{Graph};
 ghost use Rattle.reaching.specs.Marks.{Stamped, Reached};
 ghost use Rattle.placings.specs.Placed.{coded, Within, Placed};
-ghost use Rattle.uses.specs.Flags.{verdictOf, Least, Circled, FlagsTo, FragmentsTo, Known, Flagged};
+ghost use Rattle.uses.specs.Flags.{verdictOf, Least, Circled, Alike, likeFirst, FlagsTo, LikenedTo, FragmentsTo, Known, Unlinked, Models, ModelOf, Likened, ownFlag, Flagged};
 
 // no rule is broken
 pub const NO_RULE: u32 = 0;
+
+// from here on a flag says which row the variable is like, until it is settled
+const LIKE_FIRST: u32 = 4096;
+
+// how many models, the newest, a variable is compared with: a bound on the work
+const MOST_MODELS: usize = 64;
 
 // Is row j a variable definition of row i's name?
 fn defines_it(s: &[u8], rows: &[u32], n: usize, j: usize, i: usize) -> bool
@@ -170,7 +178,170 @@ fn lesser(
     v
 }
 
-// Judges every variable by the operation of row o, after the search from it.
+// Is the same number kept for rows i and j?
+fn same_number(kept: &[u32], i: usize, j: usize) -> bool
+    requires { ⌜ (i < length (now kept)) × (j < length (now kept)) ⌝ }
+    ensures { λ r. ⌜ r ≡ eqb (getD (now (kept .entry)) i 0) (getD (now (kept .entry)) j 0) ⌝ }
+{
+    kept[i] == kept[j]
+}
+
+// Is the variable of row i like that of row j: of the same owner, place and name? Numbers are compared first.
+fn is_like(
+    t: &[u8],
+    s: &[u8],
+    rows: &[u32],
+    n: usize,
+    at: &[u32],
+    size: &[u32],
+    wrappers: &[u32],
+    owner: &[u32],
+    i: usize,
+    j: usize,
+) -> bool
+    requires { ⌜ Unlinked (now t) (now s) (now rows) n (now at) (now size) (now wrappers) (now owner) × (rowIn (now rows) n i .kind ≡ kindVariable) × (rowIn (now rows) n j .kind ≡ kindVariable) ⌝ }
+    ensures { λ r. ⌜ (r ≡ true → Alike (tableOf (now (t .entry))) (docOf (now (s .entry)) (now (rows .entry)) n) i j) ⌝ }
+{
+    if !same_number(owner, i, j) {
+        return false;
+    }
+    if !same_number(at, i, j) {
+        return false;
+    }
+    if !same_number(size, i, j) {
+        return false;
+    }
+    if !same_number(wrappers, i, j) {
+        return false;
+    }
+    same_names(s, rows, n, i, j)
+}
+
+// Where the newest of m models begin.
+fn newest(m: usize) -> usize
+    ensures { λ r. ⌜ r ≤ m ⌝ }
+{
+    if m < MOST_MODELS {
+        return 0;
+    }
+    m - MOST_MODELS
+}
+
+// The newest model that the variable of row i is like, among the first m of the stack; n if none of the last is.
+fn model_of(
+    t: &[u8],
+    s: &[u8],
+    rows: &[u32],
+    n: usize,
+    at: &[u32],
+    size: &[u32],
+    wrappers: &[u32],
+    owner: &[u32],
+    stack: &[u32],
+    m: usize,
+    i: usize,
+) -> usize
+    requires { ⌜ Unlinked (now t) (now s) (now rows) n (now at) (now size) (now wrappers) (now owner) × Models (docOf (now s) (now rows) n) (now stack) m i × (rowIn (now rows) n i .kind ≡ kindVariable) ⌝ }
+    ensures { λ r. ⌜ (r < n → ModelOf (tableOf (now (t .entry))) (docOf (now (s .entry)) (now (rows .entry)) n) (now (stack .entry)) m i r) ⌝ }
+{
+    let end = newest(m);
+    let mut k = m;
+    while end < k {
+        k -= 1;
+        let model = link_of(stack, k);
+        if is_like(t, s, rows, n, at, size, wrappers, owner, i, model) {
+            return model;
+        }
+    }
+    n
+}
+
+// Likens the variable of row i to one of the first m on the stack, or puts it there too; how many are there then.
+fn liken_one(
+    t: &[u8],
+    s: &[u8],
+    rows: &[u32],
+    n: usize,
+    at: &[u32],
+    size: &[u32],
+    wrappers: &[u32],
+    owner: &[u32],
+    stack: &mut [u32],
+    flag: &mut [u32],
+    m: usize,
+    i: usize,
+) -> usize
+    requires { ⌜ Unlinked (now t) (now s) (now rows) n (now at) (now size) (now wrappers) (now owner) × Models (docOf (now s) (now rows) n) (now stack) m i × (rowIn (now rows) n i .kind ≡ kindVariable) × (length (now flag) ≡ mostRows) ⌝ }
+    ensures { λ r. ⌜ Likened (tableOf (now (t .entry))) (docOf (now (s .entry)) (now (rows .entry)) n) i (now (stack .entry)) (now (flag .entry)) m (now (stack .exit)) (now (flag .exit)) r ⌝ }
+{
+    let model = model_of(t, s, rows, n, at, size, wrappers, owner, stack, m, i);
+    if model < n {
+        flag[i] = LIKE_FIRST + model as u32;
+        return m;
+    }
+    stack[m] = i as u32;
+    m + 1
+}
+
+// Likens each variable to one before it, where one is found.
+fn liken(
+    t: &[u8],
+    s: &[u8],
+    rows: &[u32],
+    n: usize,
+    firstk: &[u32],
+    nextk: &[u32],
+    at: &[u32],
+    size: &[u32],
+    wrappers: &[u32],
+    owner: &[u32],
+    stack: &mut [u32],
+    flag: &mut [u32],
+)
+    requires { ⌜ Unlinked (now t) (now s) (now rows) n (now at) (now size) (now wrappers) (now owner) × Kinds (rowsIn (now rows) n) (now firstk) (now nextk) × (length (now stack) ≡ mostRows) × FlagsTo (tableOf (now t)) (docOf (now s) (now rows) n) n 0 (now flag) ⌝ }
+    ensures { λ _. ⌜ LikenedTo (tableOf (now (t .entry))) (docOf (now (s .entry)) (now (rows .entry)) n) n 0 (now (flag .exit)) ⌝ }
+{
+    let mut m = 0;
+    let mut v = link_of(firstk, KIND_VARIABLE as usize);
+    while v < n {
+        m = liken_one(t, s, rows, n, at, size, wrappers, owner, stack, flag, m, v);
+        v = link_of(nextk, v);
+    }
+}
+
+// The flag of row i, or of the row that it is said to be like.
+fn own_flag(flag: &[u32], i: usize) -> u32
+    requires { ⌜ (i < length (now flag)) × (likeFirst ≤ getD (now flag) i 0 → getD (now flag) i 0 - likeFirst < length (now flag)) ⌝ }
+    ensures { λ r. ⌜ r ≡ ownFlag (now (flag .entry)) i ⌝ }
+{
+    let f = flag[i];
+    if f < LIKE_FIRST {
+        return f;
+    }
+    flag[(f - LIKE_FIRST) as usize]
+}
+
+// Gives each variable that is like another the flag of that.
+fn settle(
+    t: &[u8],
+    s: &[u8],
+    rows: &[u32],
+    n: usize,
+    firstk: &[u32],
+    nextk: &[u32],
+    flag: &mut [u32],
+)
+    requires { ⌜ Sized (now rows) n × Kinds (rowsIn (now rows) n) (now firstk) (now nextk) × LikenedTo (tableOf (now t)) (docOf (now s) (now rows) n) n n (now flag) ⌝ }
+    ensures { λ _. ⌜ FlagsTo (tableOf (now (t .entry))) (docOf (now (s .entry)) (now (rows .entry)) n) n n (now (flag .exit)) ⌝ }
+{
+    let mut v = link_of(firstk, KIND_VARIABLE as usize);
+    while v < n {
+        flag[v] = own_flag(flag, v);
+        v = link_of(nextk, v);
+    }
+}
+
+// Judges every variable that is like none by the operation of row o, after the search from it.
 fn judge_variables(
     t: &[u8],
     s: &[u8],
@@ -188,33 +359,35 @@ fn judge_variables(
     o: usize,
     flag: &mut [u32],
 )
-    requires { ⌜ Known (now t) (now s) (now rows) n (now first) (now next) (now at) (now size) (now wrappers) (now owner) × Kinds (rowsIn (now rows) n) (now firstk) (now nextk) × Reached (docOf (now s) (now rows) n) o (now mark) × (rowIn (now rows) n o .kind ≡ kindOperation) × FlagsTo (tableOf (now t)) (docOf (now s) (now rows) n) n o (now flag) ⌝ }
-    ensures { λ _. ⌜ FlagsTo (tableOf (now (t .entry))) (docOf (now (s .entry)) (now (rows .entry)) n) n (o + 1) (now (flag .exit)) ⌝ }
+    requires { ⌜ Known (now t) (now s) (now rows) n (now first) (now next) (now at) (now size) (now wrappers) (now owner) × Kinds (rowsIn (now rows) n) (now firstk) (now nextk) × Reached (docOf (now s) (now rows) n) o (now mark) × (rowIn (now rows) n o .kind ≡ kindOperation) × LikenedTo (tableOf (now t)) (docOf (now s) (now rows) n) n o (now flag) ⌝ }
+    ensures { λ _. ⌜ LikenedTo (tableOf (now (t .entry))) (docOf (now (s .entry)) (now (rows .entry)) n) n (o + 1) (now (flag .exit)) ⌝ }
 {
     let mut i = link_of(firstk, KIND_VARIABLE as usize);
     while i < n {
         let f = flag[i];
-        flag[i] = lesser(
-            t,
-            s,
-            rows,
-            n,
-            first,
-            next,
-            at,
-            size,
-            wrappers,
-            owner,
-            mark,
-            o,
-            i,
-            f,
-        );
+        if f < LIKE_FIRST {
+            flag[i] = lesser(
+                t,
+                s,
+                rows,
+                n,
+                first,
+                next,
+                at,
+                size,
+                wrappers,
+                owner,
+                mark,
+                o,
+                i,
+                f,
+            );
+        }
         i = link_of(nextk, i);
     }
 }
 
-// Judges every variable by every operation.
+// Judges every variable that is like none by every operation.
 fn judge_operations(
     t: &[u8],
     s: &[u8],
@@ -235,8 +408,8 @@ fn judge_operations(
     stack: &mut [u32],
     flag: &mut [u32],
 )
-    requires { ⌜ Known (now t) (now s) (now rows) n (now first) (now next) (now at) (now size) (now wrappers) (now owner) × Kinds (rowsIn (now rows) n) (now firstk) (now nextk) × Graph (docOf (now s) (now rows) n) (now target) (now firsts) (now nexts) × Stamped 0 (now mark) × (length (now stack) ≡ mostRows) × FlagsTo (tableOf (now t)) (docOf (now s) (now rows) n) n 0 (now flag) ⌝ }
-    ensures { λ _. ⌜ FlagsTo (tableOf (now (t .entry))) (docOf (now (s .entry)) (now (rows .entry)) n) n n (now (flag .exit)) ⌝ }
+    requires { ⌜ Known (now t) (now s) (now rows) n (now first) (now next) (now at) (now size) (now wrappers) (now owner) × Kinds (rowsIn (now rows) n) (now firstk) (now nextk) × Graph (docOf (now s) (now rows) n) (now target) (now firsts) (now nexts) × Stamped 0 (now mark) × (length (now stack) ≡ mostRows) × LikenedTo (tableOf (now t)) (docOf (now s) (now rows) n) n 0 (now flag) ⌝ }
+    ensures { λ _. ⌜ LikenedTo (tableOf (now (t .entry))) (docOf (now (s .entry)) (now (rows .entry)) n) n n (now (flag .exit)) ⌝ }
 {
     let mut o = link_of(firstk, KIND_OPERATION as usize);
     while o < n {
@@ -307,7 +480,7 @@ fn judge_fragments(
     }
 }
 
-// Judges fragments and variables. Marks rise within a round, so they are cleared between the two.
+// Judges fragments, then variables, one of each that are alike. Marks rise within a round, so they are cleared between the two.
 pub fn flags(
     t: &[u8],
     s: &[u8],
@@ -347,6 +520,20 @@ pub fn flags(
         flag,
     );
     links::clear(mark, 0);
+    liken(
+        t,
+        s,
+        rows,
+        n,
+        firstk,
+        nextk,
+        at,
+        size,
+        wrappers,
+        owner,
+        stack,
+        flag,
+    );
     judge_operations(
         t,
         s,
@@ -367,4 +554,5 @@ pub fn flags(
         stack,
         flag,
     );
+    settle(t, s, rows, n, firstk, nextk, flag);
 }
