@@ -1,11 +1,12 @@
 -- Number by number, then the names.
 use mathlib.Core.Path.{_≡_, sym, _∙_}
 use mathlib.Core.Bool.{Bool, false, not, true≢false}
-use Prim.Native.Nat.{ℕ}
+use Prim.Native.Nat.{ℕ, _<_}
 use native.Mathlib.Omega.{arith}
 use lib.ListN.{getD}
 use lib.Dec.{eqb}
 use borrow.Author.Tests.{eqb-true, not-false}
+use Rattle.paper.specs.Numbers.{mostRows}
 use Rattle.paper_types.proofs.TextLaws.{same-sound}
 use Rattle.paper_rules.specs.Constructs.{nameOf}
 use Rattle.constructs.specs.Rowed.{docOf}
@@ -16,11 +17,14 @@ use Rattle.uses.proofs.is_like.Tie as tie
 equal : (b : Bool) (x y : ℕ) → not b ≡ false → b ≡ eqb x y → x ≡ y
 equal b x y l e = eqb-true x y (sym e ∙ not-false b l)
 
+rooms : (c : tie.Start) → (c .args .i < mostRows) × (c .args .j < mostRows)
+rooms c = (variable-room (c .pre .0) (c .args .i) (c .pre .1), variable-room (c .pre .0) (c .args .j) (c .pre .2))
+
 same-number-requires : tie.Need-same-number-requires
 same-number-requires c κs =
     let s = c .before .before .before .before .before .before .before in
-    let u = s .pre .0 in
-    (omega (arith, variable-room u (s .args .i) (s .pre .1), u .owned .size), omega (arith, variable-room u (s .args .j) (s .pre .2), u .owned .size))
+    let r = rooms s in
+    (omega (arith, r .0, r .1, s .pre .0 .owned .size), omega (arith, r .0, r .1, s .pre .0 .owned .size))
 
 returns : tie.Need-returns
 returns c = λ e. absurd (true≢false (sym e))
@@ -28,8 +32,8 @@ returns c = λ e. absurd (true≢false (sym e))
 same-number-requires-2 : tie.Need-same-number-requires-2
 same-number-requires-2 c κs =
     let s = c .before .before .before .before .before .before .before .before .before in
-    let u = s .pre .0 in
-    (omega (arith, variable-room u (s .args .i) (s .pre .1), u .placed .enclosed .ats), omega (arith, variable-room u (s .args .j) (s .pre .2), u .placed .enclosed .ats))
+    let r = rooms s in
+    (omega (arith, r .0, r .1, s .pre .0 .placed .enclosed .ats), omega (arith, r .0, r .1, s .pre .0 .placed .enclosed .ats))
 
 returns-2 : tie.Need-returns-2
 returns-2 c = λ e. absurd (true≢false (sym e))
@@ -37,8 +41,8 @@ returns-2 c = λ e. absurd (true≢false (sym e))
 same-number-requires-3 : tie.Need-same-number-requires-3
 same-number-requires-3 c κs =
     let s = c .before .before .before .before .before .before .before .before .before .before .before in
-    let u = s .pre .0 in
-    (omega (arith, variable-room u (s .args .i) (s .pre .1), u .placed .enclosed .tos), omega (arith, variable-room u (s .args .j) (s .pre .2), u .placed .enclosed .tos))
+    let r = rooms s in
+    (omega (arith, r .0, r .1, s .pre .0 .placed .enclosed .tos), omega (arith, r .0, r .1, s .pre .0 .placed .enclosed .tos))
 
 returns-3 : tie.Need-returns-3
 returns-3 c = λ e. absurd (true≢false (sym e))
@@ -46,8 +50,8 @@ returns-3 c = λ e. absurd (true≢false (sym e))
 same-number-requires-4 : tie.Need-same-number-requires-4
 same-number-requires-4 c κs =
     let s = c .before .before .before .before .before .before .before .before .before .before .before .before .before in
-    let u = s .pre .0 in
-    (omega (arith, variable-room u (s .args .i) (s .pre .1), u .placed .enclosed .inners), omega (arith, variable-room u (s .args .j) (s .pre .2), u .placed .enclosed .inners))
+    let r = rooms s in
+    (omega (arith, r .0, r .1, s .pre .0 .placed .enclosed .inners), omega (arith, r .0, r .1, s .pre .0 .placed .enclosed .inners))
 
 returns-4 : tie.Need-returns-4
 returns-4 c = λ e. absurd (true≢false (sym e))
