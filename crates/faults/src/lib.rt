@@ -167,7 +167,7 @@ pub fn is_no_enum_value(t: &[u8], at: usize, n: usize) -> bool
 }
 
 // Rules 7 and 8: the tag of the type that the reference in a content has as its base, 0 of no type.
-fn base_tag(t: &[u8], book: &[u32], start: usize, end: usize) -> u32
+pub fn base_tag(t: &[u8], book: &[u32], start: usize, end: usize) -> u32
     requires { ⌜ Booked (now t) (now book) × Bounds (now t) start end ⌝ }
     ensures { λ r. ⌜ r ≡ baseMeant (tableOf (now (t .entry))) (typeIn (fieldsIn (now (t .entry)) start end)) .tag ⌝ }
 {
@@ -176,7 +176,7 @@ fn base_tag(t: &[u8], book: &[u32], start: usize, end: usize) -> u32
 }
 
 // Object, interface or union.
-fn is_output(tag: u32) -> bool
+pub fn is_output(tag: u32) -> bool
     ensures { λ r. ⌜ r ≡ isOutputTag tag ⌝ }
 {
     if tag < OBJECT {

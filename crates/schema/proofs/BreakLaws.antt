@@ -19,10 +19,12 @@ use Rattle.paper_types.specs.Judging.{Break, break, rules, breaksOf, breaks, an
 use Rattle.paper_types.specs.declared.TableAnswer.{TableAnswer}
 use Rattle.paper_types.specs.declared.TableAnswer.the-variants.{Accepted, Breaks}
 use Rattle.paper_types.proofs.Walk.{breaksFrom, definitionAt, breaks-start, breaks-on, breaks-here, breaks-end}
+use Rattle.keeping.specs.Keeping.{AllKept}
+use Rattle.sound.specs.Sound.{Sound}
 use Rattle.places.specs.Placed.{placed}
 use Rattle.places.specs.declared.PlaceRead.{PlaceRead}
 use Rattle.places.specs.declared.PlaceRead.the-variants.{At, Kept}
-use Rattle.schema.specs.Schema.{earlyRule, promiseRule, lateRule, ruleOf, shownAt, queryAnswer}
+use Rattle.schema.specs.Schema.{earlyRule, promiseRule, lateRule, ruleOf, NextRule, shownAt, queryAnswer}
 
 -- what is said where a first break is all there may be
 abbrev pub said : Option Break → TableAnswer
@@ -88,6 +90,38 @@ module _ (t : Table) (i : ℕ) (d : Definition) where
             ∙ ap (λ (n : ℕ). said (head? (breaksBy t i d n (16 - k)))) (let q : suc k ≡ k + 1 = omega arith in q)
             ∙ ap (λ (n : ℕ). said (head? (breaksBy t i d (k + 1) n))) (let q : 16 - k ≡ 17 - (k + 1) = omega arith in q);
       }
+
+  -- a rule that is kept may be passed over; so the five of a walk of their own
+  skip : (k : ℕ) → InTurn t i d k → k ≤ 16 → ruleOf k t i d ≡ [] → InTurn t i d (k + 1)
+  skip k w h e = turn-on k w h Kept (sym (ap (λ (ps : List Place). placed (head? ps)) e)) refl
+
+  turn-clean : Sound t i d → InTurn t i d 4 → InTurn t i d 9
+  unfolding ruleOf earlyRule
+  turn-clean s w =
+      let a = skip 4 w (omega arith) (s .name-repeated) in
+      let b = skip 5 a (omega arith) (s .reserved-member) in
+      let c = skip 6 b (omega arith) (s .enum-value) in
+      let e = skip 7 c (omega arith) (s .no-type) in
+      skip 8 e (omega arith) (s .wrong-base)
+
+  turn-kept : AllKept t i d → InTurn t i d 11 → InTurn t i d 16
+  unfolding ruleOf lateRule promiseRule
+  turn-kept s w =
+      let a = skip 11 w (omega arith) (s .field-missing) in
+      let b = skip 12 a (omega arith) (s .field-type) in
+      let c = skip 13 b (omega arith) (s .argument-missing) in
+      let e = skip 14 c (omega arith) (s .argument-type) in
+      skip 15 e (omega arith) (s .argument-extra)
+
+  pub turn-next : (clean promising : Bool) (k r : ℕ) → InTurn t i d (k + 1) → (clean ≡ true → Sound t i d) → (promising ≡ false → AllKept t i d) → NextRule clean promising k r → InTurn t i d r
+  turn-next clean promising k r w s a (inl e) = subst (InTurn t i d) (sym e) w
+  turn-next clean promising k r w s a (inr (inl e)) = subst (InTurn t i d) (sym (e .2)) (turn-clean (s (e .1)) (subst (λ (n : ℕ). InTurn t i d (n + 1)) (e .0) w))
+  turn-next clean promising k r w s a (inr (inr e)) = subst (InTurn t i d) (sym (e .2)) (turn-kept (a (e .1)) (subst (λ (n : ℕ). InTurn t i d (n + 1)) (e .0) w))
+
+pub turn-less : (clean promising : Bool) (k r : ℕ) → k ≤ 16 → NextRule clean promising k r → 17 - r < 17 - k
+turn-less clean promising k r h (inl e) = omega (arith, e)
+turn-less clean promising k r h (inr (inl e)) = omega (arith, e .0, e .2)
+turn-less clean promising k r h (inr (inr e)) = omega (arith, e .0, e .2)
 
 -- what the walk over the definitions knows at number i
 pub record InOrder (t : Table) (i : ℕ) : Type 0 where

@@ -2,8 +2,9 @@
 -- Assumes nothing.
 use mathlib.Core.Path.{_≡_}
 use mathlib.Core.Bool.{Bool, true, false, cond}
+use mathlib.Core.Logic.{_⊎_}
 use mathlib.Core.List.{List}
-use Prim.Native.Nat.{ℕ}
+use Prim.Native.Nat.{ℕ, _+_}
 use lib.ListN.{length}
 use lib.Dec.{leb, eqb}
 use Rattle.paper_types.specs.TableNumbers.{noPlace, ruleReservedName, ruleNameKnown, ruleNoMembers, ruleNameRepeated, ruleReservedMember, ruleEnumValue, ruleNoType, ruleBase, ruleNotObjectOrInterface, ruleImplementedTwice, ruleFieldMissing, ruleFieldType, ruleArgumentMissing, ruleArgumentType, ruleRoot}
@@ -50,6 +51,11 @@ lateRule k =
 
 unfoldable pub ruleOf : ℕ → Rule
 ruleOf k = cond (leb k ruleBase) (earlyRule k) (lateRule k)
+
+-- the rule after number k: the next, or the first behind 4 to 8 or 11 to 15 where these are kept
+abbrev pub NextRule : Bool → Bool → ℕ → ℕ → Type 0
+NextRule clean promising k r =
+    (r ≡ k + 1) ⊎ (((k ≡ ruleNoMembers) × (clean ≡ true) × (r ≡ ruleNotObjectOrInterface)) ⊎ ((k ≡ ruleImplementedTwice) × (promising ≡ false) × (r ≡ ruleRoot)))
 
 -- a rule's first place in definition i, as the answer shows it
 abbrev pub shownAt : ℕ → ℕ → PlaceRead → TableAnswer

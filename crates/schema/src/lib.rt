@@ -20,10 +20,12 @@ use paper_types::RULE_ROOT;
 use paper_types::TableAnswer;
 use places::PlaceRead;
 ghost use mathlib.Core.Path.{_≡_};
+ghost use mathlib.Core.Bool.{true};
 ghost use mathlib.Core.Option.{none};
 ghost use mathlib.Core.List.{head?};
 ghost use Prim.Native.Nat.{_+_, _≤_, _<_};
 ghost use lib.ListN.{length};
+ghost use Rattle.paper_types.specs.TableNumbers.{ruleRoot};
 ghost use Rattle.paper_types.specs.Lists.{anyOf};
 ghost use Rattle.paper_types.specs.Types.{tableOf, isRoots};
 ghost use Rattle.paper_types.specs.Judging.{breaksOf, breaks, answer};
@@ -33,7 +35,8 @@ ghost use Rattle.types.specs.Booked.{Booked, definitionOn, startIn, endIn};
 ghost use Rattle.listings.specs.Listed.{Listed};
 ghost use Rattle.possible.specs.Possible.{Possible};
 ghost use Rattle.types.specs.Sizes.{Slim};
-ghost use Rattle.schema.specs.Schema.{earlyRule, promiseRule, lateRule, ruleOf, shownAt, queryAnswer, Checkable, Promising, Answered};
+ghost use Rattle.sound.specs.Sound.{Sound};
+ghost use Rattle.schema.specs.Schema.{earlyRule, promiseRule, lateRule, ruleOf, NextRule, shownAt, queryAnswer, Checkable, Promising, Answered};
 
 // What a rule from 1 to 8 shows first of definition i.
 fn early_place(t: &[u8], book: &[u32], rule: u32, i: usize) -> PlaceRead
@@ -151,9 +154,36 @@ fn shown(i: usize, rule: u32, p: PlaceRead) -> TableAnswer
     }
 }
 
+// The rule to ask after this one, which is kept: 4 to 8 are passed over where the definition is known to keep them, and 11 to 15.
+fn next_rule(clean: bool, promising: bool, rule: u32) -> u32
+    requires { ⌜ rule ≤ ruleRoot ⌝ }
+    ensures { λ r. ⌜ NextRule clean promising rule r ⌝ }
+{
+    if rule == RULE_NO_MEMBERS {
+        if clean {
+            return RULE_NOT_OBJECT_OR_INTERFACE;
+        }
+        return rule + 1;
+    }
+    if rule == RULE_IMPLEMENTED_TWICE {
+        if promising {
+            return rule + 1;
+        }
+        return RULE_ROOT;
+    }
+    rule + 1
+}
+
 // The first break of definition i, the rules in turn.
-fn rules_in_turn(t: &[u8], book: &[u32], listed: &[u32], promising: bool, i: usize) -> TableAnswer
-    requires { ⌜ Booked (now t) (now book) × Slim (tableOf (now t)) × (i < countIn (now book)) × Promising (now t) (now book) (now listed) i promising ⌝ }
+fn rules_in_turn(
+    t: &[u8],
+    book: &[u32],
+    listed: &[u32],
+    clean: bool,
+    promising: bool,
+    i: usize,
+) -> TableAnswer
+    requires { ⌜ Booked (now t) (now book) × Slim (tableOf (now t)) × (i < countIn (now book)) × Promising (now t) (now book) (now listed) i promising × (clean ≡ true → Sound (tableOf (now t)) i (definitionOn (now t) i)) ⌝ }
     ensures { λ r. ⌜ r ≡ answer none none (head? (breaksOf (tableOf (now (t .entry))) i (definitionOn (now (t .entry)) i))) ⌝ }
 {
     let mut rule = RULE_RESERVED_NAME;
@@ -162,7 +192,7 @@ fn rules_in_turn(t: &[u8], book: &[u32], listed: &[u32], promising: bool, i: usi
         let PlaceRead::Kept = p else {
             return shown(i, rule, p);
         };
-        rule += 1;
+        rule = next_rule(clean, promising, rule);
     }
     TableAnswer::Accepted
 }
@@ -198,7 +228,8 @@ fn definition_breaks(
     ensures { λ r. ⌜ Answered (now (listed .exit)) r (answer none none (head? (breaksOf (tableOf (now (t .entry))) i (definitionOn (now (t .entry)) i)))) ⌝ }
 {
     let promising = list_promises(t, book, bits, listed, i);
-    rules_in_turn(t, book, listed, promising, i)
+    let clean = sound::is_sound(t, book, i);
+    rules_in_turn(t, book, listed, clean, promising, i)
 }
 
 // Is there a record 8?
