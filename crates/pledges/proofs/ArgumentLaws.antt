@@ -15,7 +15,7 @@ use Rattle.index.specs.Book.{part}
 use Rattle.members.specs.Members.{memberFrom, argumentsIn, Typed, ArgumentsFrom}
 use Rattle.members.proofs.TypeLaws.{typed-non-null, typed-same}
 use Rattle.types.specs.Sizes.{slimArgument, slimMember}
-use Rattle.promises.specs.Asked.{failing}
+use Rattle.pledges.specs.Asked.{failing}
 use Rattle.types.proofs.SlimLaws.{slim-argument, slim-arguments}
 
 module _ (rule : ℕ) (x : Argument) where

@@ -1,8 +1,8 @@
 -- By the rule's number.
 use borrow.Author.Tests.{eq-eqb, ne-eqb}
 use Rattle.paper_types.specs.TableNumbers.{ruleFieldMissing}
-use Rattle.promises.proofs.lacking.Statement.{statement}
-use Rattle.promises.proofs.lacking.Tie as tie
+use Rattle.pledges.proofs.lacking.Statement.{statement}
+use Rattle.pledges.proofs.lacking.Tie as tie
 
 returns : tie.Need-returns
 returns c = rw (ne-eqb (c .before .args .rule) ruleFieldMissing (c .if1 .taken))

@@ -1,4 +1,4 @@
-use Rattle.promises.proofs.AskedLaws.{type-kept, type-broken}
+use Rattle.pledges.proofs.OwnLaws.{type-kept, type-broken}
 use Rattle.types.proofs.SlimLaws.{slim-type}
 use Rattle.members.specs.Members.{memberFrom}
 use Rattle.paper_types.specs.Types.{tableOf, canBe}
@@ -6,8 +6,8 @@ use Rattle.paper_types.specs.SubTypes.{subTest}
 use mathlib.Core.Bool.{not}
 use mathlib.Core.Path.{_≡_, sym, ap, _∙_}
 use borrow.Author.Needs.{needs}
-use Rattle.promises.proofs.type_place.Statement.{statement}
-use Rattle.promises.proofs.type_place.Tie as tie
+use Rattle.pledges.proofs.type_place.Statement.{statement}
+use Rattle.pledges.proofs.type_place.Tie as tie
 
 member-type-requires : tie.Need-member-type-requires
 member-type-requires c κs = search needs
