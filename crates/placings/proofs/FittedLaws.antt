@@ -1,5 +1,5 @@
 -- In a table with right framing and sizes, arguments and input fields have at most seven wrappers, and an input object's members are input fields.
-use mathlib.Core.Path.{_≡_, refl, sym, ap, subst, _∙_}
+use mathlib.Core.Path.{_≡_, refl, sym, ap, _∙_}
 use mathlib.Core.Bool.{Bool, true, false, cond, true≢false}
 use mathlib.Core.Option.{Option, none, some}
 use mathlib.Core.List.{List, [], _∷_}
@@ -13,20 +13,15 @@ use Rattle.paper_types.specs.Lists.{allOf, find}
 use Rattle.paper_types.specs.Types.{Member, tableOf, isUnion, blank, tagNothing, nameOnly}
 use Rattle.paper_types.specs.Rules.{memberNamed}
 use Rattle.paper_types.proofs.Every.{Every, no-more, one-more, every-at}
-use Rattle.paper_types.proofs.ListsLaws.{find-some}
 use Rattle.paper_types.proofs.FramedLaws.{RightMember, RightDefinition, a-scalar, an-object, an-interface, a-union, an-enum, an-input-object, a-directive, the-roots}
 use Rattle.paper_types.proofs.FramedTable.{framing-right}
 use Rattle.paper_rules.specs.Enclosing.{FieldIs, typename, member, unknown, definitionAt, isTypename, fieldOf, orMissing, fieldIn}
 use Rattle.types.specs.Sizes.{slimMember, slimDefinition}
 use Rattle.types.proofs.Fitting.{references-slim, all-at}
 use Rattle.links.proofs.Walks.{and-left, and-right}
-use Rattle.placings.specs.Placed.{slim, slimArgument, slimInput, Fitted}
-
--- what all pass, the one found passes
-pub find-passes : {A : Type 0} (p q : A → Bool) (d : A) (xs : List A) (x : A) → allOf q xs ≡ true → find p xs ≡ some x → q x ≡ true
-find-passes p q d xs x e f =
-    let z = find-some p xs x d f in
-    subst (λ y. q y ≡ true) (z .2) (all-at q d xs e (z .0) (z .1))
+use Rattle.shapes.specs.Shapes.{slim, slimArgument, slimInput}
+use Rattle.placings.specs.Placed.{Fitted}
+use Rattle.shapes.proofs.FoundLaws.{find-passes}
 
 -- a field that is known is a member
 member-found : (o : Option Member) (m : Member) → orMissing o ≡ member m → o ≡ some m

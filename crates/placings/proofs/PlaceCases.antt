@@ -25,9 +25,10 @@ use Rattle.constructs.proofs.RowsIn.{row-none}
 use Rattle.composites.specs.Coded.{fieldTypename, fieldUnknown, fieldMissing, fieldCoded, FieldKept}
 use Rattle.composites.proofs.CompositeLaws.{kind-is}
 use Rattle.composites.proofs.FieldLaws.{coded-member}
-use Rattle.placings.specs.Placed.{placeUnknown, placeFirst, coded, Keeps, slimArgument, slimInput, argumentShape, memberShape, Fitted}
-use Rattle.placings.specs.declared.Place.{Place}
-use Rattle.placings.proofs.ShapeLaws.{coded-unknown, coded-boolean, coded-base, keeps-unknown}
+use Rattle.shapes.specs.Shapes.{placeUnknown, placeFirst, coded, Keeps, slimArgument, slimInput, argumentShape, memberShape}
+use Rattle.placings.specs.Placed.{Fitted}
+use Rattle.shapes.specs.declared.Place.{Place}
+use Rattle.shapes.proofs.ShapeLaws.{coded-unknown, coded-boolean, coded-base, keeps-unknown}
 use Rattle.placings.proofs.FittedLaws.{arguments-slim, inputs-slim}
 
 -- a row of a kind is there

@@ -6,8 +6,8 @@ use Rattle.paper_types.specs.Types.{tableOf}
 use Rattle.paper_rules.specs.Constructs.{kindOf, parentOf}
 use Rattle.constructs.specs.Rowed.{docOf, rowIn}
 use Rattle.constructs.proofs.RowsIn.{rowed-sized}
-use Rattle.placings.specs.Placed.{coded}
-use Rattle.placings.proofs.ShapeLaws.{keeps-unknown, keeps-self}
+use Rattle.shapes.specs.Shapes.{coded}
+use Rattle.shapes.proofs.ShapeLaws.{keeps-unknown, keeps-self}
 use Rattle.placings.proofs.PlaceCases.{from-argument, from-object-field, from-lower, from-higher, from-item, from-value}
 use Rattle.placings.proofs.place_from.Statement.{statement}
 use Rattle.placings.proofs.place_from.Tie as tie

@@ -1,15 +1,17 @@
 -- A place and the type that it is.
 use mathlib.Core.Path.{_≡_, refl, sym, ap, _∙_}
-use mathlib.Core.Bool.{Bool, true, false, cond}
+use mathlib.Core.Bool.{Bool, true, false, not, _&&_, cond}
 use mathlib.Core.Option.{none, some}
 use mathlib.Core.List.{List}
 use Prim.Native.Nat.{ℕ, _+_, _-_, _*_, _/_, _%_, _≤_}
 use native.Mathlib.Omega.{arith}
-use lib.Dec.{eqb}
+use lib.Dec.{eqb, leb}
 use borrow.Author.Tests.{eq-eqb, ne-eqb, leb-true}
 use Rattle.paper.specs.Numbers.{mostWrappers, wrapList, wrapNonNull}
+use Rattle.paper_types.specs.TableNumbers.{tagObject, tagUnion}
 use Rattle.paper_types.specs.Lists.{bytes}
 use Rattle.paper_types.specs.References.{Ref, named, listOf, nonNull}
+use Rattle.paper_types.specs.Types.{tagNothing}
 use Rattle.paper_types.proofs.ReferenceSizes.{wrappers as wrapperCount}
 use Rattle.paper_rules.specs.Enclosing.{then}
 use Rattle.paper_rules.specs.PlaceTypes.{shape, wrappersOf, shapeOf, nullable, itemOf}
@@ -17,8 +19,8 @@ use Rattle.fields.specs.Wrappers.{packOf}
 use Rattle.index.specs.Book.{part}
 use Rattle.members.specs.Members.{Typed}
 use Rattle.members.proofs.TypeLaws.{typed-packs}
-use Rattle.placings.specs.Placed.{placeUnknown, placeBoolean, placeFirst, coded, Within, Keeps, Items, slim}
-use Rattle.placings.specs.declared.Place.{Place}
+use Rattle.shapes.specs.Shapes.{placeUnknown, placeBoolean, placeFirst, coded, Within, Keeps, Items, slim, inputTag}
+use Rattle.shapes.specs.declared.Place.{Place}
 
 -- the wrappers of a reference are those of a table's number
 wrappers-pack : (r : Ref) → wrappersOf r ≡ packOf r
@@ -103,3 +105,10 @@ module _ (p : Place) (w : ℕ) (e : w ≡ nullable (p .wrappers)) where
 
     pub items-some : Items p (record { at = p .at; size = p .size; wrappers = w / 4 })
     items-some t v = record { is = item-is t; within = v }
+
+-- the tag of an input type
+pub input-nothing : (tag : ℕ) → tag ≡ tagNothing → false ≡ inputTag tag
+input-nothing tag e = rw (eq-eqb tag tagNothing e)
+
+pub input-type : (tag : ℕ) {r : Bool} → (tag ≡ tagNothing → ⊥) → r ≡ leb tagObject tag && leb tag tagUnion → not r ≡ inputTag tag
+input-type tag h e = rw (ne-eqb tag tagNothing h) (ap not e)

@@ -1,9 +1,9 @@
 -- As the table has it, two bytes on.
 use mathlib.Core.Path.{refl}
 use native.Mathlib.Omega.{arith}
-use Rattle.placings.proofs.ShapeLaws.{keeps-typed}
-use Rattle.placings.proofs.typed.Statement.{statement}
-use Rattle.placings.proofs.typed.Tie as tie
+use Rattle.shapes.proofs.ShapeLaws.{keeps-typed}
+use Rattle.shapes.proofs.typed.Statement.{statement}
+use Rattle.shapes.proofs.typed.Tie as tie
 
 type-in-requires : tie.Need-type-in-requires
 type-in-requires c κs = c .before .pre .0

@@ -1,8 +1,8 @@
 -- Not nothing, not an output type.
 use borrow.Author.Needs.{needs}
-use Rattle.placings.proofs.DeclaredLaws.{input-nothing, input-type}
-use Rattle.placings.proofs.is_input.Statement.{statement}
-use Rattle.placings.proofs.is_input.Tie as tie
+use Rattle.shapes.proofs.ShapeLaws.{input-nothing, input-type}
+use Rattle.shapes.proofs.is_input.Statement.{statement}
+use Rattle.shapes.proofs.is_input.Tie as tie
 
 returns : tie.Need-returns
 returns c = input-nothing (c .before .args .tag) (c .if1 .taken)

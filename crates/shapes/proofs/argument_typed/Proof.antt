@@ -7,9 +7,9 @@ use Rattle.paper_types.specs.Rules.{argumentNamed}
 use Rattle.paper_rules.specs.Constructs.{nameOf}
 use Rattle.constructs.specs.Rowed.{docOf}
 use Rattle.constructs.proofs.RowsIn.{rowed-sized, name-within}
-use Rattle.placings.proofs.FoundLaws.{found-bounds, argument-none, argument-slim, argument-kept}
-use Rattle.placings.proofs.argument_typed.Statement.{statement}
-use Rattle.placings.proofs.argument_typed.Tie as tie
+use Rattle.shapes.proofs.FoundLaws.{found-bounds, argument-none, argument-slim, argument-kept}
+use Rattle.shapes.proofs.argument_typed.Statement.{statement}
+use Rattle.shapes.proofs.argument_typed.Tie as tie
 
 found : (c : tie.After-from)
     → Finds (c .before .before .before .before .before .before .before .before .args .start) (c .before .before .before .before .before .before .before .before .args .end) (c .from .given .0 .1 .0) (c .from .given .0 .1 .1 .0) (find (argumentNamed (nameOf (docOf (c .before .before .before .before .before .before .before .before .args .s .now) (c .before .before .before .before .before .before .before .before .args .rows .now) (c .before .before .before .before .before .before .before .before .args .n)) (c .before .before .before .before .before .before .before .before .args .i))) (argumentsIn (c .before .before .before .before .before .before .before .before .args .t .now) (c .before .before .before .before .before .before .before .before .args .start) (c .before .before .before .before .before .before .before .before .args .end))) (argumentFrom (c .before .before .before .before .before .before .before .before .args .t .now) (c .from .given .0 .1 .0) (c .from .given .0 .1 .1 .0))

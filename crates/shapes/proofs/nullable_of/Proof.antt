@@ -1,7 +1,7 @@
 -- By the lowest two bits.
-use Rattle.placings.proofs.ShapeLaws.{nullable-off, nullable-kept}
-use Rattle.placings.proofs.nullable_of.Statement.{statement}
-use Rattle.placings.proofs.nullable_of.Tie as tie
+use Rattle.shapes.proofs.ShapeLaws.{nullable-off, nullable-kept}
+use Rattle.shapes.proofs.nullable_of.Statement.{statement}
+use Rattle.shapes.proofs.nullable_of.Tie as tie
 
 returns : tie.Need-returns
 returns c = nullable-off (c .before .args .wrappers) (c .if1 .taken)

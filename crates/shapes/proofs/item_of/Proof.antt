@@ -1,8 +1,8 @@
 -- By the wrapper under the outermost Non-Null.
 use borrow.Author.Needs.{needs}
-use Rattle.placings.proofs.ShapeLaws.{items-none, items-some}
-use Rattle.placings.proofs.item_of.Statement.{statement}
-use Rattle.placings.proofs.item_of.Tie as tie
+use Rattle.shapes.proofs.ShapeLaws.{items-none, items-some}
+use Rattle.shapes.proofs.item_of.Statement.{statement}
+use Rattle.shapes.proofs.item_of.Tie as tie
 
 nullable-of-requires : tie.Need-nullable-of-requires
 nullable-of-requires c κs = search needs

@@ -7,9 +7,9 @@ use Rattle.paper_types.specs.Rules.{memberNamed}
 use Rattle.paper_rules.specs.Constructs.{nameOf}
 use Rattle.constructs.specs.Rowed.{docOf}
 use Rattle.constructs.proofs.RowsIn.{rowed-sized, name-within}
-use Rattle.placings.proofs.FoundLaws.{found-bounds, input-none, input-slim, input-kept}
-use Rattle.placings.proofs.input_typed.Statement.{statement}
-use Rattle.placings.proofs.input_typed.Tie as tie
+use Rattle.shapes.proofs.FoundLaws.{found-bounds, input-none, input-slim, input-kept}
+use Rattle.shapes.proofs.input_typed.Statement.{statement}
+use Rattle.shapes.proofs.input_typed.Tie as tie
 
 found : (c : tie.After-from)
     → Finds (c .before .before .before .before .before .before .before .before .args .start) (c .before .before .before .before .before .before .before .before .args .end) (c .from .given .0 .1 .0) (c .from .given .0 .1 .1 .0) (find (memberNamed (nameOf (docOf (c .before .before .before .before .before .before .before .before .args .s .now) (c .before .before .before .before .before .before .before .before .args .rows .now) (c .before .before .before .before .before .before .before .before .args .n)) (c .before .before .before .before .before .before .before .before .args .i))) (membersIn (c .before .before .before .before .before .before .before .before .args .t .now) (c .before .before .before .before .before .before .before .before .args .start) (c .before .before .before .before .before .before .before .before .args .end))) (memberFrom (c .before .before .before .before .before .before .before .before .args .t .now) (c .from .given .0 .0) (c .from .given .0 .1 .0) (c .from .given .0 .1 .1 .0))

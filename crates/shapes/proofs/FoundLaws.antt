@@ -1,6 +1,6 @@
 -- The type of an argument or input field that a search finds in a content.
-use mathlib.Core.Path.{_≡_, sym, ap, _∙_}
-use mathlib.Core.Bool.{true}
+use mathlib.Core.Path.{_≡_, sym, ap, subst, _∙_}
+use mathlib.Core.Bool.{Bool, true}
 use mathlib.Core.Option.{Option, none, some}
 use mathlib.Core.List.{List, []}
 use Prim.Native.Nat.{ℕ}
@@ -12,15 +12,22 @@ use Rattle.paper_types.specs.Lists.{allOf, find}
 use Rattle.paper_types.specs.References.{named}
 use Rattle.paper_types.specs.Types.{Argument, Member, typeIn, nameOnly, tagNothing}
 use Rattle.paper_types.specs.Rules.{memberNamed, argumentNamed}
+use Rattle.paper_types.proofs.ListsLaws.{find-some}
 use Rattle.paper_rules.specs.PlaceTypes.{shapeOf}
 use Rattle.fields.specs.Fields.{Bounds}
 use Rattle.members.specs.Members.{fieldsIn, membersIn, argumentsIn, memberFrom, argumentFrom, inputFrom, Finds}
 use Rattle.members.proofs.MemberLaws.{input-is, member-tag}
+use Rattle.types.proofs.Fitting.{all-at}
 use Rattle.links.proofs.Walks.{and-left, and-right}
-use Rattle.placings.specs.Placed.{Keeps, slim, slimArgument, slimInput, argumentShape, memberShape}
-use Rattle.placings.specs.declared.Place.{Place}
-use Rattle.placings.proofs.ShapeLaws.{keeps-unknown}
-use Rattle.placings.proofs.FittedLaws.{find-passes}
+use Rattle.shapes.specs.Shapes.{Keeps, slim, slimArgument, slimInput, argumentShape, memberShape}
+use Rattle.shapes.specs.declared.Place.{Place}
+use Rattle.shapes.proofs.ShapeLaws.{keeps-unknown}
+
+-- what all pass, the one found passes
+pub find-passes : {A : Type 0} (p q : A → Bool) (d : A) (xs : List A) (x : A) → allOf q xs ≡ true → find p xs ≡ some x → q x ≡ true
+find-passes p q d xs x e f =
+    let z = find-some p xs x d f in
+    subst (λ y. q y ≡ true) (z .2) (all-at q d xs e (z .0) (z .1))
 
 -- an argument of no name, for a number that is not there
 abbrev noArgument : Argument
