@@ -5,9 +5,9 @@ use Rattle.paper.specs.Tokens.{same}
 use Rattle.paper_types.specs.Lists.{bytes}
 use Rattle.paper_types.specs.Rules.{noEnumValues}
 use Rattle.index.specs.Book.{part}
-use Rattle.faults.proofs.TestLaws.{word-here, word-later, word-last}
-use Rattle.faults.proofs.is_no_enum_value.Statement.{statement}
-use Rattle.faults.proofs.is_no_enum_value.Tie as tie
+use Rattle.names.proofs.NameLaws.{word-here, word-later, word-last}
+use Rattle.names.proofs.is_no_enum_value.Statement.{statement}
+use Rattle.names.proofs.is_no_enum_value.Tie as tie
 
 slice-aggregate-is-text : tie.Need-slice-aggregate-is-text
 slice-aggregate-is-text c = search needs

@@ -6,9 +6,9 @@ use Rattle.paper.specs.Tokens.{same}
 use Rattle.index.specs.Book.{part}
 use Rattle.members.specs.Members.{NextImplemented, implementedIn}
 use Rattle.members.specs.declared.FieldFound.the-variants.{Found}
-use Rattle.faults.proofs.CountedLaws.{Counting, counting-start, counting-none, counting-end, counting-found, counting-more}
-use Rattle.faults.proofs.is_implemented_before.Statement.{statement}
-use Rattle.faults.proofs.is_implemented_before.Tie as tie
+use Rattle.names.proofs.CountedLaws.{Counting, counting-start, counting-none, counting-end, counting-found, counting-more}
+use Rattle.names.proofs.is_implemented_before.Statement.{statement}
+use Rattle.names.proofs.is_implemented_before.Tie as tie
 
 abbrev Inv-loop : tie.InvT-loop
 Inv-loop t from end count at n i₀ left₀ i left = Counting (same (part t at n)) from end i count left (implementedIn t from end) (implementedIn t i end)

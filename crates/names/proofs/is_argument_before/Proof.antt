@@ -8,10 +8,10 @@ use Rattle.paper.specs.Tokens.{same}
 use Rattle.index.specs.Book.{part}
 use Rattle.members.specs.Members.{NextArgument, argumentsIn}
 use Rattle.members.specs.declared.FieldFound.the-variants.{Found}
-use Rattle.faults.proofs.CountedLaws.{Counting, counting-start, counting-none, counting-end, counting-found, counting-more}
+use Rattle.names.proofs.CountedLaws.{Counting, counting-start, counting-none, counting-end, counting-found, counting-more}
 use Rattle.paper_types.specs.Rules.{argumentNamed}
-use Rattle.faults.proofs.is_argument_before.Statement.{statement}
-use Rattle.faults.proofs.is_argument_before.Tie as tie
+use Rattle.names.proofs.is_argument_before.Statement.{statement}
+use Rattle.names.proofs.is_argument_before.Tie as tie
 
 abbrev Inv-loop : tie.InvT-loop
 Inv-loop t from end count at n i₀ left₀ i left = Counting (argumentNamed (part t at n)) from end i count left (argumentsIn t from end) (argumentsIn t i end)

@@ -1,8 +1,8 @@
 -- Short names, then the two bytes.
 use borrow.Author.Needs.{needs}
-use Rattle.faults.proofs.TestLaws.{short-reserved, reserved-other, reserved-second}
-use Rattle.faults.proofs.is_reserved.Statement.{statement}
-use Rattle.faults.proofs.is_reserved.Tie as tie
+use Rattle.names.proofs.NameLaws.{short-reserved, reserved-other, reserved-second}
+use Rattle.names.proofs.is_reserved.Statement.{statement}
+use Rattle.names.proofs.is_reserved.Tie as tie
 
 returns : tie.Need-returns
 returns c = short-reserved (c .before .args .t .now) (c .before .args .at) (c .before .args .n) (c .if1 .taken)
