@@ -1,34 +1,16 @@
--- The types due at a document's rows, as three numbers each; what is asked of a table.
+-- The types due at a document's rows, as three numbers each.
 -- Assumes nothing.
-use mathlib.Core.Path.{_≡_}
 use mathlib.Core.Bool.{not, _&&_, cond}
-use mathlib.Core.Option.{none}
 use mathlib.Core.List.{List}
 use Prim.Native.Nat.{ℕ, _<_}
-use lib.ListN.{length, getD}
+use lib.ListN.{getD}
 use lib.Dec.{ltb}
-use Rattle.paper.specs.Numbers.{mostRows, kindField}
-use Rattle.paper_types.specs.House.{framing}
-use Rattle.paper_types.specs.TableSizes.{counts}
 use Rattle.paper_types.specs.Types.{tableOf}
-use Rattle.paper_rules.specs.Enclosing.{fieldAt}
 use Rattle.paper_rules.specs.PlaceTypes.{place}
 use Rattle.constructs.specs.Rowed.{docOf, rowIn}
-use Rattle.composites.specs.Coded.{FieldKept}
 use Rattle.enclosings.specs.Enclosed.{encloses, Enclosed}
 use Rattle.shapes.specs.Shapes.{placeUnknown, Keeps}
 use Rattle.shapes.specs.declared.Place.{Place}
-
--- what is asked of a table: framing and sizes are right
-pub record Fitted (t : List ℕ) : Type 0 where
-  pub framed : framing t ≡ none
-  pub counted : counts t ≡ none
-
--- what is kept of each field of a document
-pub record FieldsKept (t s rows : List ℕ) (n : ℕ) (at to : List ℕ) : Type 0 where
-  pub ats : length at ≡ mostRows
-  pub tos : length to ≡ mostRows
-  pub fields : (i : ℕ) → rowIn rows n i .kind ≡ kindField → FieldKept t (fieldAt (tableOf t) (docOf s rows n) i) (getD at i 0) (getD to i 0)
 
 abbrev pub noPlace : Place
 noPlace = record { at = placeUnknown; size = 0; wrappers = 0 }

@@ -1,23 +1,11 @@
-// The type that is due at each argument, object field and value of a document, by a table.
-use composites::FIELD_TYPENAME;
+// The type that is due at each argument, object field and value of a document, by a table, kept for each row; whether a variable definition's is no input type.
 use constructs::kind_of;
 use constructs::name_of;
 use constructs::parent_of;
 use constructs::size_of;
-use links::link_of;
 use naming::first_below;
-use paper::KIND_ARGUMENT;
-use paper::KIND_DIRECTIVE;
-use paper::KIND_FIELD;
-use paper::KIND_LIST;
-use paper::KIND_OBJECT;
-use paper::KIND_OBJECT_FIELD;
 use paper::KIND_TYPE_REFERENCE;
-use paper::KIND_VARIABLE;
 use paper::KIND_VARIABLE_DEFINITION;
-use paper_types::TAG_INPUT_OBJECT;
-use shapes::PLACE_BOOLEAN;
-use shapes::PLACE_FIRST;
 use shapes::PLACE_UNKNOWN;
 use shapes::Place;
 ghost use mathlib.Core.Path.{_≡_};
@@ -25,113 +13,13 @@ ghost use Prim.Native.Nat.{_+_, _<_};
 ghost use lib.ListN.{length};
 ghost use Rattle.paper.specs.Numbers.{mostRows};
 ghost use Rattle.paper_types.specs.Types.{tableOf};
-ghost use Rattle.paper_rules.specs.Constructs.{nameOf};
-ghost use Rattle.paper_rules.specs.Enclosing.{then};
-ghost use Rattle.paper_rules.specs.PlaceTypes.{inputFieldOf, argumentPlace, placeFrom};
 ghost use Rattle.paper_rules.specs.Rule11VariableType.{noInputType};
 ghost use Rattle.types.specs.Booked.{Booked};
 ghost use Rattle.constructs.specs.Rowed.{docOf, rowsIn, Rowed, Sized};
 ghost use Rattle.links.specs.Links.{Family};
 ghost use Rattle.enclosings.specs.Enclosed.{Enclosed};
-ghost use Rattle.shapes.specs.Shapes.{coded, Within, Keeps};
-ghost use Rattle.placings.specs.Placed.{Fitted, FieldsKept, placeIn, Placed};
-
-// The type due at the argument of row i: of a directive Boolean, of a field its definition's.
-fn argument_place(
-    t: &[u8],
-    s: &[u8],
-    rows: &[u32],
-    n: usize,
-    at: &[u32],
-    to: &[u32],
-    i: usize,
-) -> Place
-    requires { ⌜ Fitted (now t) × Rowed (now s) (now rows) n × FieldsKept (now t) (now s) (now rows) n (now at) (now to) ⌝ }
-    ensures { λ r. ⌜ Keeps (now (t .entry)) (argumentPlace (tableOf (now (t .entry))) (docOf (now (s .entry)) (now (rows .entry)) n) i) r ⌝ }
-{
-    let p = parent_of(rows, n, i) as usize;
-    let kind = kind_of(rows, n, p);
-    if kind == KIND_DIRECTIVE {
-        return Place {
-            at: PLACE_BOOLEAN,
-            size: 0,
-            wrappers: 0,
-        };
-    }
-    if kind != KIND_FIELD {
-        return shapes::unknown();
-    }
-    let start = link_of(at, p);
-    if start <= FIELD_TYPENAME as usize {
-        return shapes::unknown();
-    }
-    shapes::argument_typed(t, start, link_of(to, p), s, rows, n, i)
-}
-
-// The type due at the object's field of row i, where p is due at the object.
-fn input_place(
-    t: &[u8],
-    book: &[u32],
-    s: &[u8],
-    rows: &[u32],
-    n: usize,
-    i: usize,
-    p: Place,
-) -> Place
-    requires { ⌜ Fitted (now t) × Booked (now t) (now book) × Rowed (now s) (now rows) n × Within (now t) p ⌝ }
-    ensures { λ r. ⌜ Keeps (now (t .entry)) (then (coded (now (t .entry)) p) (inputFieldOf (tableOf (now (t .entry))) (nameOf (docOf (now (s .entry)) (now (rows .entry)) n) i))) r ⌝ }
-{
-    if p.at < PLACE_FIRST {
-        return shapes::unknown();
-    }
-    let k = types::number_meant(t, book, t, (p.at - PLACE_FIRST) as usize, p.size as usize);
-    if types::kind_in(book, k) != TAG_INPUT_OBJECT as u32 {
-        return shapes::unknown();
-    }
-    shapes::input_typed(
-        t,
-        index::start_of(book, k),
-        index::end_of(book, k),
-        s,
-        rows,
-        n,
-        i,
-    )
-}
-
-// The type due at row i, where that due at its parent is p.
-fn place_from(
-    t: &[u8],
-    book: &[u32],
-    s: &[u8],
-    rows: &[u32],
-    n: usize,
-    at: &[u32],
-    to: &[u32],
-    i: usize,
-    p: Place,
-) -> Place
-    requires { ⌜ Fitted (now t) × Booked (now t) (now book) × Rowed (now s) (now rows) n × FieldsKept (now t) (now s) (now rows) n (now at) (now to) × Within (now t) p ⌝ }
-    ensures { λ r. ⌜ Keeps (now (t .entry)) (placeFrom (tableOf (now (t .entry))) (docOf (now (s .entry)) (now (rows .entry)) n) i (coded (now (t .entry)) p)) r ⌝ }
-{
-    let kind = kind_of(rows, n, i);
-    if kind == KIND_ARGUMENT {
-        return argument_place(t, s, rows, n, at, to, i);
-    }
-    if kind == KIND_OBJECT_FIELD {
-        return input_place(t, book, s, rows, n, i, p);
-    }
-    if kind < KIND_VARIABLE {
-        return shapes::unknown();
-    }
-    if KIND_OBJECT < kind {
-        return shapes::unknown();
-    }
-    if kind_of(rows, n, parent_of(rows, n, i) as usize) == KIND_LIST {
-        return shapes::item_of(p);
-    }
-    p
-}
+ghost use Rattle.dues.specs.Dues.{Fitted};
+ghost use Rattle.placings.specs.Placed.{placeIn, Placed};
 
 // The type due at row i, as it is kept.
 pub fn place_of(
@@ -185,7 +73,7 @@ fn keep_place(
         return;
     }
     let above = place_of(rows, n, at, size, wrappers, parent_of(rows, n, i) as usize);
-    let p = place_from(t, book, s, rows, n, at, size, i, above);
+    let p = dues::place_from(t, book, s, rows, n, at, size, i, above);
     at[i] = p.at;
     size[i] = p.size;
     wrappers[i] = p.wrappers;

@@ -26,10 +26,10 @@ use Rattle.composites.specs.Coded.{fieldTypename, fieldUnknown, fieldMissing, f
 use Rattle.composites.proofs.CompositeLaws.{kind-is}
 use Rattle.composites.proofs.FieldLaws.{coded-member}
 use Rattle.shapes.specs.Shapes.{placeUnknown, placeFirst, coded, Keeps, slimArgument, slimInput, argumentShape, memberShape}
-use Rattle.placings.specs.Placed.{Fitted}
+use Rattle.dues.specs.Dues.{Fitted}
 use Rattle.shapes.specs.declared.Place.{Place}
 use Rattle.shapes.proofs.ShapeLaws.{coded-unknown, coded-boolean, coded-base, keeps-unknown}
-use Rattle.placings.proofs.FittedLaws.{arguments-slim, inputs-slim}
+use Rattle.dues.proofs.FittedLaws.{arguments-slim, inputs-slim}
 
 -- a row of a kind is there
 pub field-there : (rows : List ℕ) (n p : ℕ) → rowIn rows n p .kind ≡ kindField → p < n

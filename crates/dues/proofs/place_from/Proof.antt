@@ -8,9 +8,9 @@ use Rattle.constructs.specs.Rowed.{docOf, rowIn}
 use Rattle.constructs.proofs.RowsIn.{rowed-sized}
 use Rattle.shapes.specs.Shapes.{coded}
 use Rattle.shapes.proofs.ShapeLaws.{keeps-unknown, keeps-self}
-use Rattle.placings.proofs.PlaceCases.{from-argument, from-object-field, from-lower, from-higher, from-item, from-value}
-use Rattle.placings.proofs.place_from.Statement.{statement}
-use Rattle.placings.proofs.place_from.Tie as tie
+use Rattle.dues.proofs.PlaceCases.{from-argument, from-object-field, from-lower, from-higher, from-item, from-value}
+use Rattle.dues.proofs.place_from.Statement.{statement}
+use Rattle.dues.proofs.place_from.Tie as tie
 
 above : (c : tie.After-kind-of2)
     → c .kind-of2 .result ≡ kindOf (docOf (c .before .before .before .before .before .before .before .before .before .before .before .before .before .args .s .now) (c .before .before .before .before .before .before .before .before .before .before .before .before .before .args .rows .now) (c .before .before .before .before .before .before .before .before .before .before .before .before .before .args .n)) (parentOf (docOf (c .before .before .before .before .before .before .before .before .before .before .before .before .before .args .s .now) (c .before .before .before .before .before .before .before .before .before .before .before .before .before .args .rows .now) (c .before .before .before .before .before .before .before .before .before .before .before .before .before .args .n)) (c .before .before .before .before .before .before .before .before .before .before .before .before .before .args .i))

@@ -11,9 +11,9 @@ use Rattle.constructs.specs.Rowed.{docOf, rowIn}
 use Rattle.constructs.proofs.RowsIn.{rowed-sized}
 use Rattle.composites.specs.Coded.{FieldKept}
 use Rattle.shapes.proofs.ShapeLaws.{keeps-unknown, keeps-boolean}
-use Rattle.placings.proofs.PlaceCases.{field-there, argument-of-directive, argument-of-other, argument-of-leaf, member-slim, argument-of-member}
-use Rattle.placings.proofs.argument_place.Statement.{statement}
-use Rattle.placings.proofs.argument_place.Tie as tie
+use Rattle.dues.proofs.PlaceCases.{field-there, argument-of-directive, argument-of-other, argument-of-leaf, member-slim, argument-of-member}
+use Rattle.dues.proofs.argument_place.Statement.{statement}
+use Rattle.dues.proofs.argument_place.Tie as tie
 
 kind : (c : tie.After-kind-of)
     → c .kind-of .result ≡ kindOf (docOf (c .before .before .before .before .before .before .before .args .s .now) (c .before .before .before .before .before .before .before .args .rows .now) (c .before .before .before .before .before .before .before .args .n)) (parentOf (docOf (c .before .before .before .before .before .before .before .args .s .now) (c .before .before .before .before .before .before .before .args .rows .now) (c .before .before .before .before .before .before .before .args .n)) (c .before .before .before .before .before .before .before .args .i))

@@ -20,7 +20,7 @@ use Rattle.types.specs.Sizes.{slimMember, slimDefinition}
 use Rattle.types.proofs.Fitting.{references-slim, all-at}
 use Rattle.links.proofs.Walks.{and-left, and-right}
 use Rattle.shapes.specs.Shapes.{slim, slimArgument, slimInput}
-use Rattle.placings.specs.Placed.{Fitted}
+use Rattle.dues.specs.Dues.{Fitted}
 use Rattle.shapes.proofs.FoundLaws.{find-passes}
 
 -- a field that is known is a member

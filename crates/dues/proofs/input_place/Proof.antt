@@ -7,9 +7,9 @@ use Rattle.paper_rules.specs.Constructs.{nameOf}
 use Rattle.index.specs.Book.{countIn}
 use Rattle.types.proofs.Objects.{entry-bounds}
 use Rattle.constructs.specs.Rowed.{docOf}
-use Rattle.placings.proofs.PlaceCases.{input-of-none, input-of-other, input-below, input-slims, input-of-object}
-use Rattle.placings.proofs.input_place.Statement.{statement}
-use Rattle.placings.proofs.input_place.Tie as tie
+use Rattle.dues.proofs.PlaceCases.{input-of-none, input-of-other, input-below, input-slims, input-of-object}
+use Rattle.dues.proofs.input_place.Statement.{statement}
+use Rattle.dues.proofs.input_place.Tie as tie
 
 below : (c : tie.Else2)
     → c .before .before .number-meant .result < countIn (c .before .before .before .before .before .before .before .before .before .before .before .args .book .now)
