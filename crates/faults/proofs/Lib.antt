@@ -1,3 +1,2 @@
-pub mod CountedLaws
 pub mod TestLaws
 pub mod FailLaws

@@ -1,6 +1,5 @@
-// Whether a definition's name, a member, an argument or an implemented name breaks a schema rule: the tests that the rules' walks share.
+// Whether a member, an argument or an implemented name breaks a schema rule: the tests that the rules' walks share.
 // Nothing is asked of the table but its sizes.
-use members::FieldFound;
 use paper_types::RULE_BASE;
 use paper_types::RULE_ENUM_VALUE;
 use paper_types::RULE_IMPLEMENTED_TWICE;
@@ -10,20 +9,14 @@ use paper_types::RULE_RESERVED_MEMBER;
 use paper_types::TAG_ARGUMENT;
 use paper_types::TAG_FIELD;
 ghost use mathlib.Core.Path.{_≡_};
-ghost use mathlib.Core.Bool.{true, false};
-ghost use Prim.Native.Nat.{_+_, _-_, _≤_, _<_};
-ghost use lib.ListN.{length, take};
-ghost use Rattle.paper.specs.Tokens.{same};
-ghost use Rattle.paper_types.specs.Lists.{anyOf};
-ghost use Rattle.paper_types.specs.Types.{tableOf, typeIn, builtInDirectives};
-ghost use Rattle.paper_types.specs.Rules.{isReserved, noEnumValues, memberNamed, argumentNamed, baseMeant, isOutput, memberUnknown, memberBaseWrong};
+ghost use Prim.Native.Nat.{_-_};
+ghost use Rattle.paper_types.specs.Types.{tableOf, typeIn};
+ghost use Rattle.paper_types.specs.Rules.{baseMeant, memberUnknown, memberBaseWrong};
 ghost use Rattle.fields.specs.Fields.{Bounds};
 ghost use Rattle.index.specs.Book.{part};
 ghost use Rattle.members.specs.Members.{fieldsIn, membersIn, argumentsIn, implementedIn, memberFrom, argumentFrom};
 ghost use Rattle.types.specs.Booked.{Booked};
 ghost use Rattle.faults.specs.Faults.{memberFails, argumentFails, implementedFails, isOutputTag};
-
-const UNDERSCORE: u8 = 0x5f;
 
 // the tags of meant types
 const NO_TYPE: u32 = 0;
@@ -35,136 +28,6 @@ const INTERFACE: u32 = 3;
 const UNION: u32 = 4;
 
 const INPUT_OBJECT: u32 = 6;
-
-// Rules 1 and 5: does the name of n bytes from `at` on begin `__`?
-pub fn is_reserved(t: &[u8], at: usize, n: usize) -> bool
-    requires { ⌜ at + n ≤ length (now t) ⌝ }
-    ensures { λ r. ⌜ r ≡ isReserved (part (now (t .entry)) at n) ⌝ }
-{
-    if n < 2 {
-        return false;
-    }
-    if t[at] != UNDERSCORE {
-        return false;
-    }
-    t[at + 1] == UNDERSCORE
-}
-
-// Rule 2: is it the name of a directive that is always known?
-pub fn is_known_directive(t: &[u8], at: usize, n: usize) -> bool
-    requires { ⌜ at + n ≤ length (now t) ⌝ }
-    ensures { λ r. ⌜ r ≡ anyOf (same (part (now (t .entry)) at n)) builtInDirectives ⌝ }
-{
-    if index::is_text(t, at, n, b"skip", 0, 4) {
-        return true;
-    }
-    index::is_text(t, at, n, b"include", 0, 7)
-}
-
-// Rule 4: has one of the first `count` members, from `from` on, the name of n bytes from `at` on?
-pub fn is_member_before(t: &[u8], from: usize, end: usize, count: u32, at: usize, n: usize) -> bool
-    requires { ⌜ Bounds (now t) from end × (at + n ≤ length (now t)) ⌝ }
-    ensures { λ r. ⌜ r ≡ anyOf (memberNamed (part (now (t .entry)) at n)) (take count (membersIn (now (t .entry)) from end)) ⌝ }
-{
-    let mut i = from;
-    let mut left = count;
-    while 0 < left {
-        let FieldFound::Found {
-            tag,
-            start,
-            end: stop,
-        } = members::next_member(t, i, end)
-        else {
-            return false;
-        };
-        let m = members::member_name(t, tag, start, stop);
-        if index::is_text(t, m.at, m.size, t, at, n) {
-            return true;
-        }
-        i = stop;
-        left -= 1;
-    }
-    false
-}
-
-// The same of a field's arguments.
-pub fn is_argument_before(
-    t: &[u8],
-    from: usize,
-    end: usize,
-    count: u32,
-    at: usize,
-    n: usize,
-) -> bool
-    requires { ⌜ Bounds (now t) from end × (at + n ≤ length (now t)) ⌝ }
-    ensures { λ r. ⌜ r ≡ anyOf (argumentNamed (part (now (t .entry)) at n)) (take count (argumentsIn (now (t .entry)) from end)) ⌝ }
-{
-    let mut i = from;
-    let mut left = count;
-    while 0 < left {
-        let FieldFound::Found {
-            tag: _,
-            start,
-            end: stop,
-        } = members::next_argument(t, i, end)
-        else {
-            return false;
-        };
-        let m = members::name_in(t, start, stop);
-        if index::is_text(t, m.at, m.size, t, at, n) {
-            return true;
-        }
-        i = stop;
-        left -= 1;
-    }
-    false
-}
-
-// Rule 10: is one of the first `count` implemented names the n bytes from `at` on?
-pub fn is_implemented_before(
-    t: &[u8],
-    from: usize,
-    end: usize,
-    count: u32,
-    at: usize,
-    n: usize,
-) -> bool
-    requires { ⌜ Bounds (now t) from end × (at + n ≤ length (now t)) ⌝ }
-    ensures { λ r. ⌜ r ≡ anyOf (same (part (now (t .entry)) at n)) (take count (implementedIn (now (t .entry)) from end)) ⌝ }
-{
-    let mut i = from;
-    let mut left = count;
-    while 0 < left {
-        let FieldFound::Found {
-            tag: _,
-            start,
-            end: stop,
-        } = members::next_implemented(t, i, end)
-        else {
-            return false;
-        };
-        if index::is_text(t, at, n, t, start, stop - start) {
-            return true;
-        }
-        i = stop;
-        left -= 1;
-    }
-    false
-}
-
-// Rule 6: is it `true`, `false` or `null`?
-pub fn is_no_enum_value(t: &[u8], at: usize, n: usize) -> bool
-    requires { ⌜ at + n ≤ length (now t) ⌝ }
-    ensures { λ r. ⌜ r ≡ anyOf (same (part (now (t .entry)) at n)) noEnumValues ⌝ }
-{
-    if index::is_text(t, at, n, b"true", 0, 4) {
-        return true;
-    }
-    if index::is_text(t, at, n, b"false", 0, 5) {
-        return true;
-    }
-    index::is_text(t, at, n, b"null", 0, 4)
-}
 
 // Rules 7 and 8: the tag of the type that the reference in a content has as its base, 0 of no type.
 pub fn base_tag(t: &[u8], book: &[u32], start: usize, end: usize) -> u32
@@ -236,13 +99,13 @@ pub fn is_member_broken(
     }
     let name = members::member_name(t, tag, start, stop);
     if rule == RULE_NAME_REPEATED {
-        return is_member_before(t, from, end, m, name.at, name.size);
+        return names::is_member_before(t, from, end, m, name.at, name.size);
     }
     if rule == RULE_RESERVED_MEMBER {
-        return is_reserved(t, name.at, name.size);
+        return names::is_reserved(t, name.at, name.size);
     }
     if rule == RULE_ENUM_VALUE {
-        return is_no_enum_value(t, name.at, name.size);
+        return names::is_no_enum_value(t, name.at, name.size);
     }
     types::tag_meant(t, book, t, name.at, name.size) != OBJECT
 }
@@ -269,10 +132,10 @@ pub fn is_argument_broken(
     }
     let name = members::name_in(t, start, stop);
     if rule == RULE_NAME_REPEATED {
-        return is_argument_before(t, from, end, a, name.at, name.size);
+        return names::is_argument_before(t, from, end, a, name.at, name.size);
     }
     if rule == RULE_RESERVED_MEMBER {
-        return is_reserved(t, name.at, name.size);
+        return names::is_reserved(t, name.at, name.size);
     }
     false
 }
@@ -292,7 +155,7 @@ pub fn is_implemented_broken(
     ensures { λ r. ⌜ r ≡ implementedFails rule (tableOf (now (t .entry))) (implementedIn (now (t .entry)) from end) m (part (now (t .entry)) start (stop - start)) ⌝ }
 {
     if rule == RULE_IMPLEMENTED_TWICE {
-        return is_implemented_before(t, from, end, m, start, stop - start);
+        return names::is_implemented_before(t, from, end, m, start, stop - start);
     }
     types::tag_meant(t, book, t, start, stop - start) != INTERFACE
 }

@@ -1,29 +1,20 @@
 -- The type reference right below a variable definition, and whether its name is that of an input type.
 use mathlib.Core.Path.{_≡_, sym, ap, _∙_}
-use mathlib.Core.Bool.{Bool, true, false, not, _&&_}
+use mathlib.Core.Bool.{Bool, true, false, not}
 use mathlib.Core.Option.{Option, none, some}
 use Prim.Native.Nat.{ℕ, _≤_, _<_}
 use native.Mathlib.Omega.{arith}
-use lib.Dec.{leb}
 use borrow.Author.Tests.{eq-eqb, ne-eqb}
 use Rattle.paper.specs.Numbers.{kindTypeReference, kindVariableDefinition}
 use Rattle.paper.specs.Rows.{Row}
-use Rattle.paper_types.specs.TableNumbers.{tagObject, tagUnion}
-use Rattle.paper_types.specs.Types.{Table, meant, tagNothing}
+use Rattle.paper_types.specs.Types.{Table, meant}
 use Rattle.paper_rules.specs.Constructs.{Doc, count, noRow, rowOf, kindOf, nameOf}
 use Rattle.paper_rules.specs.Enclosing.{then}
 use Rattle.paper_rules.specs.PlaceTypes.{shapeIn}
 use Rattle.paper_rules.specs.Rule11VariableType.{declared, noInputType}
 use Rattle.links.proofs.Nexts.{find-yes, find-no}
 use Rattle.siblings.specs.Alike.{isBelow, firstBelow}
-use Rattle.placings.specs.Placed.{inputTag}
-
--- the tag of an input type
-pub input-nothing : (tag : ℕ) → tag ≡ tagNothing → false ≡ inputTag tag
-input-nothing tag e = rw (eq-eqb tag tagNothing e)
-
-pub input-type : (tag : ℕ) {r : Bool} → (tag ≡ tagNothing → ⊥) → r ≡ leb tagObject tag && leb tag tagUnion → not r ≡ inputTag tag
-input-type tag h e = rw (ne-eqb tag tagNothing h) (ap not e)
+use Rattle.shapes.specs.Shapes.{inputTag}
 
 module _ (d : Doc) (v r : ℕ) (e : r ≡ firstBelow (d .rows) kindTypeReference v) where
   pub declared-some : r < count d → declared d v ≡ some (shapeIn d (rowOf d r))

@@ -1,7 +1,3 @@
 -- Laws of this crate, in the order in which they use each other.
-pub mod ShapeLaws
-pub mod FittedLaws
-pub mod FoundLaws
-pub mod PlaceCases
 pub mod PlacedLaws
 pub mod DeclaredLaws

@@ -18,10 +18,12 @@ use Rattle.constructs.specs.Rowed.{docOf, rowIn, Rowed}
 use Rattle.constructs.proofs.RowsIn.{rows-count, parent-before}
 use Rattle.enclosings.specs.Enclosed.{encloses, Enclosed}
 use Rattle.enclosings.proofs.EnclosedLaws.{rowed-before, enclosed-other-inside, enclosed-other-at, enclosed-other-to}
-use Rattle.placings.specs.Placed.{coded, Keeps, FieldsKept, noPlace, placeIn, Placed}
-use Rattle.placings.specs.declared.Place.{Place}
-use Rattle.placings.proofs.ShapeLaws.{keeps-unknown}
-use Rattle.placings.proofs.PlaceCases.{field-there, from-lower}
+use Rattle.shapes.specs.Shapes.{coded, Keeps}
+use Rattle.dues.specs.Dues.{FieldsKept}
+use Rattle.placings.specs.Placed.{noPlace, placeIn, Placed}
+use Rattle.shapes.specs.declared.Place.{Place}
+use Rattle.shapes.proofs.ShapeLaws.{keeps-unknown}
+use Rattle.dues.proofs.PlaceCases.{field-there, from-lower}
 
 -- a row with a type inside is no value, argument or object field
 enclosing-low : (k : ℕ) → encloses k ≡ true → k ≤ kindInline

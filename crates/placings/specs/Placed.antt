@@ -1,85 +1,16 @@
--- A place's type as three numbers, and such numbers for a document's rows; what is asked of a table.
+-- The types due at a document's rows, as three numbers each.
 -- Assumes nothing.
-use mathlib.Core.Path.{_≡_}
-use mathlib.Core.Bool.{Bool, not, _&&_, cond}
-use mathlib.Core.Option.{Option, none, some}
+use mathlib.Core.Bool.{not, _&&_, cond}
 use mathlib.Core.List.{List}
-use Prim.Native.Nat.{ℕ, _+_, _-_, _<_, _≤_}
-use lib.ListN.{length, getD}
-use lib.Dec.{eqb, leb, ltb}
-use Rattle.paper.specs.Numbers.{mostRows, mostWrappers, kindField}
-use Rattle.paper_types.specs.TableNumbers.{tagObject, tagUnion, tagArgument}
-use Rattle.paper_types.specs.Lists.{bytes}
-use Rattle.paper_types.specs.References.{Ref}
-use Rattle.paper_types.specs.House.{framing}
-use Rattle.paper_types.specs.TableSizes.{counts}
-use Rattle.paper_types.specs.Types.{Argument, Member, tableOf, tagNothing}
-use Rattle.paper_types.proofs.ReferenceSizes.{wrappers as wrapperCount}
-use Rattle.paper_rules.specs.Enclosing.{then, fieldAt}
-use Rattle.paper_rules.specs.PlaceTypes.{Shape, shape, shapeOf, itemOf, place}
-use Rattle.index.specs.Book.{part}
+use Prim.Native.Nat.{ℕ, _<_}
+use lib.ListN.{getD}
+use lib.Dec.{ltb}
+use Rattle.paper_types.specs.Types.{tableOf}
+use Rattle.paper_rules.specs.PlaceTypes.{place}
 use Rattle.constructs.specs.Rowed.{docOf, rowIn}
-use Rattle.composites.specs.Coded.{FieldKept}
 use Rattle.enclosings.specs.Enclosed.{encloses, Enclosed}
-use Rattle.placings.specs.declared.Place.{Place}
-
--- the first number: the type is not known; it is Boolean, whose name need not stand in the table; else its base stands there, two bytes before
-abbrev pub placeUnknown : ℕ
-placeUnknown = 0
-
-abbrev pub placeBoolean : ℕ
-placeBoolean = 1
-
-abbrev pub placeFirst : ℕ
-placeFirst = 2
-
--- the type that a place is
-unfoldable pub coded : List ℕ → Place → Option Shape
-coded t p =
-    cond (eqb (p .at) placeUnknown) none
-    (cond (eqb (p .at) placeBoolean) (some (shape (bytes "Boolean") (p .wrappers))) (some (shape (part t (p .at - placeFirst) (p .size)) (p .wrappers))))
-
--- a base that stands in the table lies within it
-abbrev pub Within : List ℕ → Place → Type 0
-Within t p = placeFirst ≤ p .at → (p .at - placeFirst) + p .size ≤ length t
-
--- the place p is this type
-pub record Keeps (t : List ℕ) (x : Option Shape) (p : Place) : Type 0 where
-  pub is : x ≡ coded t p
-  pub within : Within t p
-
--- r is the items' type of p, whatever the table
-abbrev pub Items : Place → Place → Type 0
-Items p r = (t : List ℕ) → Within t p → Keeps t (then (coded t p) itemOf) r
-
--- at most seven wrappers
-abbrev pub slim : Ref → Bool
-slim r = leb (wrapperCount r) mostWrappers
-
-abbrev pub slimArgument : Argument → Bool
-slimArgument x = slim (x .type)
-
--- an input field, with at most seven
-abbrev pub slimInput : Member → Bool
-slimInput e = eqb (e .tag) tagArgument && slim (e .type)
-
--- the type of what was found
-abbrev pub argumentShape : Option Argument → Option Shape
-argumentShape o = then o (λ x. some (shapeOf (x .type)))
-
-abbrev pub memberShape : Option Member → Option Shape
-memberShape o = then o (λ e. some (shapeOf (e .type)))
-
--- what is asked of a table: framing and sizes are right
-pub record Fitted (t : List ℕ) : Type 0 where
-  pub framed : framing t ≡ none
-  pub counted : counts t ≡ none
-
--- what is kept of each field of a document
-pub record FieldsKept (t s rows : List ℕ) (n : ℕ) (at to : List ℕ) : Type 0 where
-  pub ats : length at ≡ mostRows
-  pub tos : length to ≡ mostRows
-  pub fields : (i : ℕ) → rowIn rows n i .kind ≡ kindField → FieldKept t (fieldAt (tableOf t) (docOf s rows n) i) (getD at i 0) (getD to i 0)
+use Rattle.shapes.specs.Shapes.{placeUnknown, Keeps}
+use Rattle.shapes.specs.declared.Place.{Place}
 
 abbrev pub noPlace : Place
 noPlace = record { at = placeUnknown; size = 0; wrappers = 0 }
@@ -93,7 +24,3 @@ placeIn rows n at size wrappers i =
 pub record Placed (t s rows : List ℕ) (n : ℕ) (at size wrappers : List ℕ) (k : ℕ) : Type 0 where
   pub enclosed : Enclosed t s rows n wrappers at size
   pub kept : (i : ℕ) → i < k → Keeps t (place (tableOf t) (docOf s rows n) i) (placeIn rows n at size wrappers i)
-
--- the tags of scalars, enums and input objects, among those of types
-abbrev pub inputTag : ℕ → Bool
-inputTag tag = not (eqb tag tagNothing) && not (leb tagObject tag && leb tag tagUnion)

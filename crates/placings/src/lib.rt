@@ -1,269 +1,25 @@
-// The type that is due at each argument, object field and value of a document, by a table.
-use composites::FIELD_TYPENAME;
+// The type that is due at each argument, object field and value of a document, by a table, kept for each row; whether a variable definition's is no input type.
 use constructs::kind_of;
 use constructs::name_of;
 use constructs::parent_of;
 use constructs::size_of;
-use links::link_of;
-use members::FieldFound;
-use paper::KIND_ARGUMENT;
-use paper::KIND_DIRECTIVE;
-use paper::KIND_FIELD;
-use paper::KIND_LIST;
-use paper::KIND_OBJECT;
-use paper::KIND_OBJECT_FIELD;
 use paper::KIND_TYPE_REFERENCE;
-use paper::KIND_VARIABLE;
 use paper::KIND_VARIABLE_DEFINITION;
-use paper::WRAP_LIST;
-use paper::WRAP_NON_NULL;
-use paper_types::TAG_INPUT_OBJECT;
+use shapes::PLACE_UNKNOWN;
+use shapes::Place;
 use siblings::first_below;
 ghost use mathlib.Core.Path.{_≡_};
-ghost use mathlib.Core.Bool.{true};
-ghost use mathlib.Core.Option.{some};
 ghost use Prim.Native.Nat.{_+_, _<_};
 ghost use lib.ListN.{length};
 ghost use Rattle.paper.specs.Numbers.{mostRows};
-ghost use Rattle.paper_types.specs.Lists.{allOf, find};
-ghost use Rattle.paper_types.specs.Types.{typeIn, tableOf};
-ghost use Rattle.paper_types.specs.Rules.{argumentNamed, memberNamed};
-ghost use Rattle.paper_rules.specs.Constructs.{nameOf};
-ghost use Rattle.paper_rules.specs.Enclosing.{then};
-ghost use Rattle.paper_rules.specs.PlaceTypes.{shapeOf, nullable, inputFieldOf, argumentPlace, placeFrom};
+ghost use Rattle.paper_types.specs.Types.{tableOf};
 ghost use Rattle.paper_rules.specs.Rule11VariableType.{noInputType};
-ghost use Rattle.fields.specs.Fields.{Bounds};
-ghost use Rattle.members.specs.Members.{fieldsIn, argumentsIn, membersIn};
 ghost use Rattle.types.specs.Booked.{Booked};
 ghost use Rattle.constructs.specs.Rowed.{docOf, rowsIn, Rowed, Sized};
 ghost use Rattle.links.specs.Links.{Family};
 ghost use Rattle.enclosings.specs.Enclosed.{Enclosed};
-ghost use Rattle.placings.specs.Placed.{placeUnknown, coded, Within, Keeps, Items, slim, slimArgument, slimInput, argumentShape, memberShape, Fitted, FieldsKept, placeIn, Placed, inputTag};
-
-// A place's type: where its base begins in the table, two bytes on, or 0 where it is not known, or 1 for Boolean; the base's size; the wrappers.
-pub struct Place {
-    pub at: u32,
-    pub size: u32,
-    pub wrappers: u32,
-}
-
-pub const PLACE_UNKNOWN: u32 = 0;
-
-pub const PLACE_BOOLEAN: u32 = 1;
-
-pub const PLACE_FIRST: u32 = 2;
-
-const WRAPPERS: u32 = 4;
-
-// the tag of what a name of no type means
-const TAG_NOTHING: u32 = 0;
-
-fn unknown() -> Place
-    ensures { λ r. ⌜ r .at ≡ placeUnknown ⌝ }
-{
-    Place {
-        at: PLACE_UNKNOWN,
-        size: 0,
-        wrappers: 0,
-    }
-}
-
-// Wrappers without the outermost Non-Null.
-pub fn nullable_of(wrappers: u32) -> u32
-    ensures { λ r. ⌜ r ≡ nullable wrappers ⌝ }
-{
-    if wrappers % WRAPPERS == WRAP_NON_NULL {
-        return wrappers / WRAPPERS;
-    }
-    wrappers
-}
-
-// The type of a list's items.
-fn item_of(p: Place) -> Place
-    ensures { λ r. ⌜ Items p r ⌝ }
-{
-    let w = nullable_of(p.wrappers);
-    if w % WRAPPERS != WRAP_LIST {
-        return unknown();
-    }
-    Place {
-        at: p.at,
-        size: p.size,
-        wrappers: w / WRAPPERS,
-    }
-}
-
-// The type of the argument or input field with this content.
-fn typed(t: &[u8], start: usize, end: usize) -> Place
-    requires { ⌜ Bounds (now t) start end × (slim (typeIn (fieldsIn (now t) start end)) ≡ true) ⌝ }
-    ensures { λ r. ⌜ Keeps (now (t .entry)) (some (shapeOf (typeIn (fieldsIn (now (t .entry)) start end)))) r ⌝ }
-{
-    let r = members::type_in(t, start, end);
-    Place {
-        at: r.at as u32 + PLACE_FIRST,
-        size: r.size as u32,
-        wrappers: r.wrappers,
-    }
-}
-
-// The type of the argument of row i's name, in the field with this content.
-fn argument_typed(
-    t: &[u8],
-    start: usize,
-    end: usize,
-    s: &[u8],
-    rows: &[u32],
-    n: usize,
-    i: usize,
-) -> Place
-    requires { ⌜ Bounds (now t) start end × Rowed (now s) (now rows) n × (allOf slimArgument (argumentsIn (now t) start end) ≡ true) ⌝ }
-    ensures { λ r. ⌜ Keeps (now (t .entry)) (argumentShape (find (argumentNamed (nameOf (docOf (now (s .entry)) (now (rows .entry)) n) i)) (argumentsIn (now (t .entry)) start end))) r ⌝ }
-{
-    let FieldFound::Found {
-        tag: _,
-        start: from,
-        end: to,
-    } = members::find_argument(
-        t,
-        start,
-        end,
-        s,
-        name_of(rows, n, i) as usize,
-        size_of(rows, n, i) as usize,
-    )
-    else {
-        return unknown();
-    };
-    typed(t, from, to)
-}
-
-// The type of the input field of row i's name, in the input object with this content.
-fn input_typed(
-    t: &[u8],
-    start: usize,
-    end: usize,
-    s: &[u8],
-    rows: &[u32],
-    n: usize,
-    i: usize,
-) -> Place
-    requires { ⌜ Bounds (now t) start end × Rowed (now s) (now rows) n × (allOf slimInput (membersIn (now t) start end) ≡ true) ⌝ }
-    ensures { λ r. ⌜ Keeps (now (t .entry)) (memberShape (find (memberNamed (nameOf (docOf (now (s .entry)) (now (rows .entry)) n) i)) (membersIn (now (t .entry)) start end))) r ⌝ }
-{
-    let FieldFound::Found {
-        tag: _,
-        start: from,
-        end: to,
-    } = members::find_member(
-        t,
-        start,
-        end,
-        s,
-        name_of(rows, n, i) as usize,
-        size_of(rows, n, i) as usize,
-    )
-    else {
-        return unknown();
-    };
-    typed(t, from, to)
-}
-
-// The type due at the argument of row i: of a directive Boolean, of a field its definition's.
-fn argument_place(
-    t: &[u8],
-    s: &[u8],
-    rows: &[u32],
-    n: usize,
-    at: &[u32],
-    to: &[u32],
-    i: usize,
-) -> Place
-    requires { ⌜ Fitted (now t) × Rowed (now s) (now rows) n × FieldsKept (now t) (now s) (now rows) n (now at) (now to) ⌝ }
-    ensures { λ r. ⌜ Keeps (now (t .entry)) (argumentPlace (tableOf (now (t .entry))) (docOf (now (s .entry)) (now (rows .entry)) n) i) r ⌝ }
-{
-    let p = parent_of(rows, n, i) as usize;
-    let kind = kind_of(rows, n, p);
-    if kind == KIND_DIRECTIVE {
-        return Place {
-            at: PLACE_BOOLEAN,
-            size: 0,
-            wrappers: 0,
-        };
-    }
-    if kind != KIND_FIELD {
-        return unknown();
-    }
-    let start = link_of(at, p);
-    if start <= FIELD_TYPENAME as usize {
-        return unknown();
-    }
-    argument_typed(t, start, link_of(to, p), s, rows, n, i)
-}
-
-// The type due at the object's field of row i, where p is due at the object.
-fn input_place(
-    t: &[u8],
-    book: &[u32],
-    s: &[u8],
-    rows: &[u32],
-    n: usize,
-    i: usize,
-    p: Place,
-) -> Place
-    requires { ⌜ Fitted (now t) × Booked (now t) (now book) × Rowed (now s) (now rows) n × Within (now t) p ⌝ }
-    ensures { λ r. ⌜ Keeps (now (t .entry)) (then (coded (now (t .entry)) p) (inputFieldOf (tableOf (now (t .entry))) (nameOf (docOf (now (s .entry)) (now (rows .entry)) n) i))) r ⌝ }
-{
-    if p.at < PLACE_FIRST {
-        return unknown();
-    }
-    let k = types::number_meant(t, book, t, (p.at - PLACE_FIRST) as usize, p.size as usize);
-    if types::kind_in(book, k) != TAG_INPUT_OBJECT as u32 {
-        return unknown();
-    }
-    input_typed(
-        t,
-        index::start_of(book, k),
-        index::end_of(book, k),
-        s,
-        rows,
-        n,
-        i,
-    )
-}
-
-// The type due at row i, where that due at its parent is p.
-fn place_from(
-    t: &[u8],
-    book: &[u32],
-    s: &[u8],
-    rows: &[u32],
-    n: usize,
-    at: &[u32],
-    to: &[u32],
-    i: usize,
-    p: Place,
-) -> Place
-    requires { ⌜ Fitted (now t) × Booked (now t) (now book) × Rowed (now s) (now rows) n × FieldsKept (now t) (now s) (now rows) n (now at) (now to) × Within (now t) p ⌝ }
-    ensures { λ r. ⌜ Keeps (now (t .entry)) (placeFrom (tableOf (now (t .entry))) (docOf (now (s .entry)) (now (rows .entry)) n) i (coded (now (t .entry)) p)) r ⌝ }
-{
-    let kind = kind_of(rows, n, i);
-    if kind == KIND_ARGUMENT {
-        return argument_place(t, s, rows, n, at, to, i);
-    }
-    if kind == KIND_OBJECT_FIELD {
-        return input_place(t, book, s, rows, n, i, p);
-    }
-    if kind < KIND_VARIABLE {
-        return unknown();
-    }
-    if KIND_OBJECT < kind {
-        return unknown();
-    }
-    if kind_of(rows, n, parent_of(rows, n, i) as usize) == KIND_LIST {
-        return item_of(p);
-    }
-    p
-}
+ghost use Rattle.dues.specs.Dues.{Fitted};
+ghost use Rattle.placings.specs.Placed.{placeIn, Placed};
 
 // The type due at row i, as it is kept.
 pub fn place_of(
@@ -317,7 +73,7 @@ fn keep_place(
         return;
     }
     let above = place_of(rows, n, at, size, wrappers, parent_of(rows, n, i) as usize);
-    let p = place_from(t, book, s, rows, n, at, size, i, above);
+    let p = dues::place_from(t, book, s, rows, n, at, size, i, above);
     at[i] = p.at;
     size[i] = p.size;
     wrappers[i] = p.wrappers;
@@ -344,16 +100,6 @@ pub fn places(
     }
 }
 
-// Is it the tag of a scalar, an enum or an input object?
-fn is_input(tag: u32) -> bool
-    ensures { λ r. ⌜ r ≡ inputTag tag ⌝ }
-{
-    if tag == TAG_NOTHING {
-        return false;
-    }
-    !composites::is_output(tag)
-}
-
 // Is row i a variable definition whose type is no input type?
 pub fn no_input_type(
     t: &[u8],
@@ -375,7 +121,7 @@ pub fn no_input_type(
     if n <= r {
         return true;
     }
-    !is_input(types::tag_meant(
+    !shapes::is_input(types::tag_meant(
         t,
         book,
         s,

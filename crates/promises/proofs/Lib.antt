@@ -1,4 +1,2 @@
-pub mod Walking
-pub mod ArgumentLaws
 pub mod AskedLaws
 pub mod MeantLaws

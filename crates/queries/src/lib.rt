@@ -14,7 +14,8 @@ ghost use Rattle.paper_rules.specs.QueryRules.{Judged};
 ghost use Rattle.constructs.specs.Rowed.{rowsIn, docOf, Rowed};
 ghost use Rattle.links.specs.Links.{firstsSize, kindsSize, Family, Kinds};
 ghost use Rattle.enclosings.specs.Enclosed.{Asked};
-ghost use Rattle.placings.specs.Placed.{Fitted, Placed};
+ghost use Rattle.dues.specs.Dues.{Fitted};
+ghost use Rattle.placings.specs.Placed.{Placed};
 ghost use Rattle.spreading.specs.Spreads.{Targeted};
 ghost use Rattle.uses.specs.Flags.{Flagged};
 

@@ -109,7 +109,7 @@ pub fn reserved_name(t: &[u8], book: &[u32], i: usize) -> PlaceRead
     ensures { λ r. ⌜ r ≡ placed (head? (reservedName (tableOf (now (t .entry))) i (definitionOn (now (t .entry)) i))) ⌝ }
 {
     let n = name_of(t, book, i);
-    whole(faults::is_reserved(t, n.at, n.size))
+    whole(names::is_reserved(t, n.at, n.size))
 }
 
 // Is the name of definition i a built-in scalar's, or a type's before it?
@@ -130,7 +130,7 @@ fn is_directive_before(t: &[u8], book: &[u32], i: usize) -> bool
     ensures { λ r. ⌜ r ≡ directiveKnown (tableOf (now (t .entry))) i (definitionOn (now (t .entry)) i) ⌝ }
 {
     let n = name_of(t, book, i);
-    if faults::is_known_directive(t, n.at, n.size) {
+    if names::is_known_directive(t, n.at, n.size) {
         return true;
     }
     types::first_directive(t, book, t, n.at, n.size) < i

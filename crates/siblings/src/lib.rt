@@ -158,7 +158,7 @@ fn is_right(s: &[u8], rows: &[u32], n: usize, first: &[u32], next: &[u32], i: us
 {
     let at = name_of(rows, n, i) as usize;
     let l = size_of(rows, n, i) as usize;
-    if !faults::is_known_directive(s, at, l) {
+    if !names::is_known_directive(s, at, l) {
         return false;
     }
     let p = parent_of(rows, n, i) as usize;

@@ -79,7 +79,7 @@ fn is_argument_new(
     ensures { λ r. ⌜ Told argumentName (Before argumentName (argumentsIn (now (t .entry)) from end) a (part (now (t .entry)) at n) ≡ false) (argumentsIn (now (t .entry)) from end) a (part (now (t .entry)) at n) (now (seen .entry)) (now (seen .exit)) mark r ⌝ }
 {
     if note(t, seen, mark, at, n) {
-        return !faults::is_argument_before(t, from, end, a, at, n);
+        return !names::is_argument_before(t, from, end, a, at, n);
     }
     true
 }
@@ -99,7 +99,7 @@ fn is_member_new(
     ensures { λ r. ⌜ Told memberName (Before memberName (membersIn (now (t .entry)) from end) m (part (now (t .entry)) at n) ≡ false) (membersIn (now (t .entry)) from end) m (part (now (t .entry)) at n) (now (seen .entry)) (now (seen .exit)) mark r ⌝ }
 {
     if note(t, seen, mark, at, n) {
-        return !faults::is_member_before(t, from, end, m, at, n);
+        return !names::is_member_before(t, from, end, m, at, n);
     }
     true
 }
@@ -130,7 +130,7 @@ fn is_argument_sound(
     ensures { λ r. ⌜ Told argumentName (ArgumentSound (tableOf (now (t .entry))) (argumentsIn (now (t .entry)) from end) a (argumentFrom (now (t .entry)) start stop)) (argumentsIn (now (t .entry)) from end) a (argumentFrom (now (t .entry)) start stop .name) (now (seen .entry)) (now (seen .exit)) mark r ⌝ }
 {
     let name = members::name_in(t, start, stop);
-    if faults::is_reserved(t, name.at, name.size) {
+    if names::is_reserved(t, name.at, name.size) {
         return false;
     }
     if !is_argument_new(t, seen, mark, from, end, a, name.at, name.size) {
@@ -213,10 +213,10 @@ fn is_member_sound(
     ensures { λ r. ⌜ Told memberName (MemberSound (tableOf (now (t .entry))) (membersIn (now (t .entry)) from end) m (memberFrom (now (t .entry)) tag start stop)) (membersIn (now (t .entry)) from end) m (memberFrom (now (t .entry)) tag start stop .name) (now (seen .entry)) (now (seen .exit)) memberMark r × (length (now (others .exit)) ≡ cells) ⌝ }
 {
     let name = members::member_name(t, tag, start, stop);
-    if faults::is_reserved(t, name.at, name.size) {
+    if names::is_reserved(t, name.at, name.size) {
         return false;
     }
-    if faults::is_no_enum_value(t, name.at, name.size) {
+    if names::is_no_enum_value(t, name.at, name.size) {
         return false;
     }
     if !is_member_new(t, seen, MEMBER, from, end, m, name.at, name.size) {

@@ -21,9 +21,9 @@ use Rattle.paper_rules.specs.Rule11VariableType.{declared, declaredBy, differ}
 use Rattle.index.specs.Book.{part}
 use Rattle.links.proofs.Walks.{and-left, and-right, and-known}
 use Rattle.siblings.specs.Alike.{firstBelow}
-use Rattle.placings.specs.Placed.{placeUnknown, placeBoolean, placeFirst, coded}
-use Rattle.placings.specs.declared.Place.{Place}
-use Rattle.placings.proofs.ShapeLaws.{coded-unknown, coded-boolean, coded-base}
+use Rattle.shapes.specs.Shapes.{placeUnknown, placeBoolean, placeFirst, coded}
+use Rattle.shapes.specs.declared.Place.{Place}
+use Rattle.shapes.proofs.ShapeLaws.{coded-unknown, coded-boolean, coded-base}
 use Rattle.placings.proofs.DeclaredLaws.{declared-some, declared-none}
 use Rattle.uses.specs.Flags.{noRule, verdictOf}
 

@@ -14,12 +14,12 @@ use paper::KIND_VARIABLE_DEFINITION;
 use paper_rules::RULE_CIRCLE;
 use paper_rules::RULE_UNDEFINED;
 use paper_rules::RULE_VARIABLE_TYPE;
-use placings::PLACE_BOOLEAN;
-use placings::PLACE_FIRST;
-use placings::PLACE_UNKNOWN;
-use placings::Place;
-use placings::nullable_of;
 use placings::place_of;
+use shapes::PLACE_BOOLEAN;
+use shapes::PLACE_FIRST;
+use shapes::PLACE_UNKNOWN;
+use shapes::Place;
+use shapes::nullable_of;
 use siblings::first_below;
 ghost use mathlib.Core.Path.{_≡_};
 ghost use mathlib.Core.Bool.{true, _&&_};
@@ -38,7 +38,8 @@ ghost use Rattle.constructs.specs.Rowed.{rowIn, rowsIn, docOf, Rowed, Sized};
 ghost use Rattle.links.specs.Links.{Family, Kinds};
 ghost use Rattle.spreading.specs.Spreads.{Graph};
 ghost use Rattle.reaching.specs.Marks.{Stamped, Reached};
-ghost use Rattle.placings.specs.Placed.{coded, Within, Placed};
+ghost use Rattle.shapes.specs.Shapes.{coded, Within};
+ghost use Rattle.placings.specs.Placed.{Placed};
 ghost use Rattle.uses.specs.Flags.{verdictOf, Least, Circled, Alike, likeFirst, FlagsTo, LikenedTo, FragmentsTo, Known, Unlinked, Models, ModelOf, Likened, ownFlag, Flagged};
 
 // no rule is broken

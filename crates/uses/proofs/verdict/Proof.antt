@@ -4,7 +4,7 @@ use native.Mathlib.Omega.{arith}
 use Rattle.paper_types.specs.Types.{tableOf}
 use Rattle.constructs.specs.Rowed.{docOf}
 use Rattle.constructs.proofs.RowsIn.{rowed-sized, rows-count}
-use Rattle.placings.specs.Placed.{Keeps, coded}
+use Rattle.shapes.specs.Shapes.{Keeps, coded}
 use Rattle.placings.proofs.PlacedLaws.{placed-at}
 use Rattle.paper_rules.specs.PlaceTypes.{place}
 use Rattle.uses.proofs.VerdictLaws.{says-undefined, says-nothing, says-differs, says-fits}

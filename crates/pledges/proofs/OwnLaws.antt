@@ -1,0 +1,52 @@
+-- The places of a rule 11 to 15 at one field, by the rule's number.
+use mathlib.Core.Path.{_≡_, sym, ap, _∙_}
+use mathlib.Core.Bool.{Bool, true, false}
+use mathlib.Core.List.{List, head?}
+use Prim.Native.Nat.{ℕ}
+use borrow.Author.Tests.{eq-eqb, ne-eqb}
+use Rattle.paper_types.specs.TableNumbers.{noPlace, ruleFieldMissing, ruleFieldType, ruleArgumentExtra}
+use Rattle.paper_types.specs.Lists.{onlyIf}
+use Rattle.paper_types.specs.Types.{Argument, Member, Table}
+use Rattle.paper_types.specs.Rules.{Place, partArgumentAt, noSubType}
+use Rattle.places.specs.Placed.{placed}
+use Rattle.places.specs.declared.PlaceRead.{PlaceRead}
+use Rattle.places.specs.declared.PlaceRead.the-variants.{At, Kept}
+use Rattle.pledges.specs.Asked.{argumentsAsked, ruleAsked}
+
+-- a test's place
+pub only-here : (m p a : ℕ) {r b : Bool} → r ≡ b → r ≡ true → At m p a ≡ placed (head? (onlyIf b (partArgumentAt m p a)))
+only-here m p a e h = rw (← e, h)
+
+pub only-kept : (q : Place) {r b : Bool} → r ≡ b → r ≡ false → Kept ≡ placed (head? (onlyIf b q))
+only-kept q e h = rw (← e, h)
+
+-- by other names of the same arguments
+pub asked-by : (rule m p : ℕ) (xs ys : List Argument) {xs′ ys′ : List Argument} {qs : List Place} {r : PlaceRead}
+    → r ≡ placed (head? (argumentsAsked rule m p xs ys)) → xs ≡ xs′ → ys ≡ ys′ → qs ≡ argumentsAsked rule m p xs′ ys′ → r ≡ placed (head? qs)
+asked-by rule m p xs ys {qs = qs} e f g h =
+    let z : argumentsAsked rule m p xs ys ≡ qs = rw (f, g) (sym h) in
+    e ∙ ap (λ (os : List Place). placed (head? os)) z
+
+-- the definition's own field, by the rule's number
+module _ (rule : ℕ) (t : Table) (m p : ℕ) (f e : Member) where
+  pub own-missing : rule ≡ ruleFieldMissing → Kept ≡ placed (head? (ruleAsked rule t m p f e))
+  unfolding ruleAsked
+  own-missing h = rw (eq-eqb rule ruleFieldMissing h)
+
+  module _ (h : rule ≡ ruleFieldMissing → ⊥) (k : rule ≡ ruleFieldType → ⊥) where
+    pub own-extra : rule ≡ ruleArgumentExtra → ruleAsked rule t m p f e ≡ argumentsAsked rule m p (e .arguments) (f .arguments)
+    unfolding ruleAsked
+    own-extra l = rw (ne-eqb rule ruleFieldMissing h, ne-eqb rule ruleFieldType k, eq-eqb rule ruleArgumentExtra l)
+
+    pub own-other : (rule ≡ ruleArgumentExtra → ⊥) → ruleAsked rule t m p f e ≡ argumentsAsked rule m p (f .arguments) (e .arguments)
+    unfolding ruleAsked
+    own-other l = rw (ne-eqb rule ruleFieldMissing h, ne-eqb rule ruleFieldType k, ne-eqb rule ruleArgumentExtra l)
+
+-- rule 12, by the test of sub-types
+pub type-kept : (t : Table) (m p : ℕ) (f e : Member) → noSubType t f e ≡ false → Kept ≡ placed (head? (ruleAsked ruleFieldType t m p f e))
+unfolding ruleAsked
+type-kept t m p f e h = rw h
+
+pub type-broken : (t : Table) (m p : ℕ) (f e : Member) → noSubType t f e ≡ true → At m p noPlace ≡ placed (head? (ruleAsked ruleFieldType t m p f e))
+unfolding ruleAsked
+type-broken t m p f e h = rw h
