@@ -18,7 +18,7 @@ use Rattle.constructs.proofs.RowsIn.{rows-count}
 use Rattle.spreading.specs.Owners.{Defines, Owned}
 use Rattle.spreading.proofs.OwnerLaws.{definition-within, operation-defines}
 use Rattle.reaching.proofs.DrawLaws.{reaches-either, draws-defines}
-use Rattle.placings.specs.Placed.{coded}
+use Rattle.shapes.specs.Shapes.{coded}
 use Rattle.placings.proofs.PlacedLaws.{in-row, placed-at}
 use Rattle.uses.specs.Flags.{verdictOf, Reaching, Said, Unsaid, Alike, Known, Unlinked}
 use Rattle.uses.proofs.FlagsLaws.{variable-within}
