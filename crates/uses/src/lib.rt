@@ -17,7 +17,7 @@ ghost use Rattle.constructs.specs.Rowed.{rowIn, rowsIn, docOf, Sized};
 ghost use Rattle.links.specs.Links.{Kinds};
 ghost use Rattle.spreading.specs.Spreads.{Graph};
 ghost use Rattle.reaching.specs.Marks.{Stamped, Reached};
-ghost use Rattle.likes.specs.Flags.{Circled, LikenedTo, FragmentsTo, Known, Flagged};
+ghost use Rattle.likes.specs.Flags.{Circled, FlagsTo, LikenedTo, FragmentsTo, Known, Flagged};
 
 // Judges every variable that is like none by the operation of row o, after the search from it.
 fn judge_variables(
