@@ -9,7 +9,7 @@ use native.Mathlib.Omega.{arith}
 use lib.ListN.{length, take, drop, getD, set, length-set}
 use lib.Seq.{getD-set-same, getD-set-other, getD-take, getD-drop, drop-drop, take-add}
 use lib.Dec.{eqb}
-use borrow.Author.Tests.{eq-eqb, ne-eqb, eqb-true, eqb-false, not-true}
+use borrow.Author.Tests.{eq-eqb, ne-eqb, lt-ltb, le-ltb, eqb-true, eqb-false, not-true}
 use Rattle.paper.specs.Tokens.{same}
 use Rattle.paper_types.specs.Lists.{anyOf, eachFrom, each, onlyIf}
 use Rattle.paper_types.specs.TableNumbers.{tagField, tagArgument}
@@ -21,7 +21,7 @@ use Rattle.index.proofs.Texts.{length-part}
 use Rattle.members.specs.Members.{fieldsIn, memberFrom, First}
 use Rattle.faults.specs.Faults.{isOutputTag}
 use Rattle.faults.proofs.TestLaws.{unknown-field, unknown-input, unknown-other, wrong-field, wrong-input, wrong-other}
-use Rattle.sound.specs.Sound.{EveryFrom, memberName, argumentName, Before, ArgumentSound, BaseSound, MemberSound, Sound, InputTag, cells, beforeLast, last, cellOf, Seen, Noted, Onward, Told}
+use Rattle.sound.specs.Sound.{EveryFrom, memberName, argumentName, Before, ArgumentSound, BaseSound, MemberSound, Sound, InputTag, cells, long, secondLast, last, tailAt, cellOf, Seen, Noted, Onward, Told}
 
 -- nothing is shown of what is sound
 every-none : {A B : Type 0} (P : ℕ → A → Type 0) (f : ℕ → A → List B) → ((i : ℕ) (x : A) → P i x → f i x ≡ []) → (i : ℕ) (xs : List A) → EveryFrom P i xs → eachFrom i f xs ≡ []
@@ -114,12 +114,29 @@ module _ (t : List ℕ) (at n : ℕ) (w : at + n ≤ length t) where
     unfolding cellOf
     cell-one e = sym (rw (length-part t at n w, ne-eqb n 0 z, eq-eqb n 1 e, first-is) refl)
 
-    pub cell-more : (n ≡ 1 → ⊥) → (x y : ℕ) → x ≡ getD t (at + n - 2) 0 → y ≡ getD t (at + n - 1) 0 → (n + first + beforeLast * x + last * y) % cells ≡ cellOf (part t at n)
-    unfolding cellOf
-    cell-more o x y g h =
-        let u : getD (part t at n) (n - 2) 0 ≡ x = part-at t at n (n - 2) (omega (arith, z, o)) ∙ ap (λ (j : ℕ). getD t j 0) (let e : at + (n - 2) ≡ at + n - 2 = omega (arith, z, o) in e) ∙ sym g in
-        let v : getD (part t at n) (n - 1) 0 ≡ y = part-at t at n (n - 1) (omega (arith, z)) ∙ ap (λ (j : ℕ). getD t j 0) (let e : at + (n - 1) ≡ at + n - 1 = omega (arith, z) in e) ∙ sym h in
-        sym (rw (length-part t at n w, ne-eqb n 0 z, ne-eqb n 1 o, first-is, u, v) refl)
+    module _ (o : n ≡ 1 → ⊥) (x y : ℕ) (g : x ≡ getD t (at + n - 2) 0) (h : y ≡ getD t (at + n - 1) 0) where
+      abbrev ends : ℕ
+      ends = n + first + secondLast * x + last * y
+
+      second-is : getD (part t at n) (n - 2) 0 ≡ x
+      second-is = part-at t at n (n - 2) (omega (arith, z, o)) ∙ ap (λ (j : ℕ). getD t j 0) (let e : at + (n - 2) ≡ at + n - 2 = omega (arith, z, o) in e) ∙ sym g
+
+      last-is : getD (part t at n) (n - 1) 0 ≡ y
+      last-is = part-at t at n (n - 1) (omega (arith, z)) ∙ ap (λ (j : ℕ). getD t j 0) (let e : at + (n - 1) ≡ at + n - 1 = omega (arith, z) in e) ∙ sym h
+
+      pub cell-short : n < long → ends % cells ≡ cellOf (part t at n)
+      unfolding cellOf
+      cell-short l = sym (rw (length-part t at n w, ne-eqb n 0 z, ne-eqb n 1 o, lt-ltb n long l, first-is, second-is, last-is) refl)
+
+      pub cell-long : long ≤ n → (v : ℕ) → v ≡ tailAt t (at + n - long) → (ends + v) % cells ≡ cellOf (part t at n)
+      unfolding cellOf
+      cell-long l v e = sym (rw (length-part t at n w, ne-eqb n 0 z, ne-eqb n 1 o, le-ltb n long l, first-is, second-is, last-is, sixth-is, by 1 (omega arith), by 2 (omega arith), by 3 (omega arith)) (ap (λ (k : ℕ). (ends + k) % cells) (sym e)))
+        where
+          sixth-is : getD (part t at n) (n - 6) 0 ≡ getD t (at + n - 6) 0
+          sixth-is = part-at t at n (n - 6) (omega arith) ∙ ap (λ (k : ℕ). getD t k 0) (let r : at + (n - 6) ≡ at + n - 6 = omega arith in r)
+
+          by : (j : ℕ) → j < 4 → getD (part t at n) (n - 6 + j) 0 ≡ getD t (at + n - 6 + j) 0
+          by j q = part-at t at n (n - 6 + j) (omega arith) ∙ ap (λ (k : ℕ). getD t k 0) (let r : at + (n - 6 + j) ≡ at + n - 6 + j = omega arith in r)
 
 -- a name is noted: it was, or it is now
 module _ (old : List ℕ) (mark : ℕ) (n : List ℕ) (k : ℕ) (e : k ≡ cellOf n) (s : length old ≡ cells) where

@@ -7,7 +7,7 @@ use mathlib.Core.List.{List, [], _∷_}
 use Prim.{Unit}
 use Prim.Native.Nat.{ℕ, suc, _+_, _-_, _*_, _%_}
 use lib.ListN.{length, getD}
-use lib.Dec.{eqb}
+use lib.Dec.{eqb, ltb}
 use Rattle.paper.specs.Tokens.{same}
 use Rattle.paper_types.specs.Types.{Argument, Member, Definition, Table, isUnknown}
 use Rattle.paper_types.specs.Rules.{earlier, isReserved, isNoEnumValue, baseMeant, memberUnknown, isOutput, memberBaseWrong, nameRepeated, reservedMember, enumValue, noType, wrongBase}
@@ -61,25 +61,50 @@ pub record InputTag (k : ℕ) : Type 0 where
   pub known : eqb k 0 ≡ false
   pub input : isOutputTag k ≡ false
 
--- the cell in which a name is noted: by its length, its first byte and its last two, and what these two count
+-- the cell in which a name is noted: by its length, its first byte and of a long one its last six, else its last two, and what each of these counts
 abbrev pub cells : ℕ
 cells = 256
 
-abbrev pub beforeLast : ℕ
-beforeLast = 7
+abbrev pub long : ℕ
+long = 6
+
+abbrev pub tailLimit : ℕ
+tailLimit = 65536
+
+abbrev pub sixthLast : ℕ
+sixthLast = 43
+
+abbrev pub fifthLast : ℕ
+fifthLast = 41
+
+abbrev pub fourthLast : ℕ
+fourthLast = 61
+
+abbrev pub thirdLast : ℕ
+thirdLast = 107
+
+abbrev pub secondLast : ℕ
+secondLast = 7
 
 abbrev pub last : ℕ
-last = 31
+last = 17
 
 -- what members' names are noted by
 abbrev pub memberMark : ℕ
 memberMark = 1
 
+-- the four bytes from j on, before the last two; the length, the first byte and the last two
+abbrev pub tailAt : List ℕ → ℕ → ℕ
+tailAt s j = sixthLast * getD s j 0 + fifthLast * getD s (j + 1) 0 + fourthLast * getD s (j + 2) 0 + thirdLast * getD s (j + 3) 0
+
+abbrev pub endsOf : List ℕ → ℕ
+endsOf n = length n + getD n 0 0 + secondLast * getD n (length n - 2) 0 + last * getD n (length n - 1) 0
+
 unfoldable pub cellOf : List ℕ → ℕ
 cellOf n =
     cond (eqb (length n) 0) 0
     (cond (eqb (length n) 1) (getD n 0 0 % cells)
-    ((length n + getD n 0 0 + beforeLast * getD n (length n - 2) 0 + last * getD n (length n - 1) 0) % cells))
+    (cond (ltb (length n) long) (endsOf n % cells) ((endsOf n + tailAt n (length n - long)) % cells)))
 
 -- the cells of the first m names hold this mark
 abbrev pub Seen : {A : Type 0} → (A → List ℕ) → List A → ℕ → List ℕ → ℕ → Type 0

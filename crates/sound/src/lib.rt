@@ -13,25 +13,46 @@ ghost use Rattle.fields.specs.Fields.{Bounds};
 ghost use Rattle.index.specs.Book.{part, countIn};
 ghost use Rattle.members.specs.Members.{membersIn, argumentsIn, memberFrom, argumentFrom};
 ghost use Rattle.types.specs.Booked.{Booked, definitionOn};
-ghost use Rattle.sound.specs.Sound.{EveryFrom, memberName, argumentName, Before, ArgumentSound, BaseSound, MemberSound, Sound, InputTag, cells, cellOf, memberMark, Noted, Told};
+ghost use Rattle.sound.specs.Sound.{EveryFrom, memberName, argumentName, Before, ArgumentSound, BaseSound, MemberSound, Sound, InputTag, cells, tailLimit, tailAt, cellOf, memberMark, Noted, Told};
 
 // the tags of meant types
 const NO_TYPE: u32 = 0;
 
 const INPUT_OBJECT: u32 = 6;
 
-// Names are noted in so many cells; what the last two bytes of a name count in its cell's number.
+// Names are noted in so many cells; what each of the last six bytes of a name counts in its cell's number.
 const CELLS: usize = 256;
 
-const BEFORE_LAST: usize = 7;
+const LONG: usize = 6;
 
-const LAST: usize = 31;
+const SIXTH_LAST: usize = 43;
+
+const FIFTH_LAST: usize = 41;
+
+const FOURTH_LAST: usize = 61;
+
+const THIRD_LAST: usize = 107;
+
+const SECOND_LAST: usize = 7;
+
+const LAST: usize = 17;
 
 // A byte as a place.
 fn wide(x: u8) -> usize
     ensures { λ r. ⌜ (r ≡ x) × (r < 256) ⌝ }
 {
     x as usize
+}
+
+// What the four bytes from `at` on count, where two are behind them.
+fn tail_of(t: &[u8], at: usize) -> usize
+    requires { ⌜ (at + 4 ≤ length (now t)) × (length (now t) ≤ mostTable) ⌝ }
+    ensures { λ r. ⌜ (r ≡ tailAt (now (t .entry)) at) × (r < tailLimit) ⌝ }
+{
+    SIXTH_LAST * wide(t[at])
+        + FIFTH_LAST * wide(t[at + 1])
+        + FOURTH_LAST * wide(t[at + 2])
+        + THIRD_LAST * wide(t[at + 3])
 }
 
 // The cell of the name of n bytes from `at` on.
@@ -46,9 +67,13 @@ fn cell_of(t: &[u8], at: usize, n: usize) -> usize
     if n == 1 {
         return first % CELLS;
     }
-    let before = wide(t[at + n - 2]);
+    let second = wide(t[at + n - 2]);
     let last = wide(t[at + n - 1]);
-    (n + first + BEFORE_LAST * before + LAST * last) % CELLS
+    let ends = n + first + SECOND_LAST * second + LAST * last;
+    if n < LONG {
+        return ends % CELLS;
+    }
+    (ends + tail_of(t, at + n - LONG)) % CELLS
 }
 
 // Notes a name by this mark; may it be noted already?

@@ -17,7 +17,7 @@ ghost use Rattle.constructs.specs.Rowed.{rowIn, rowsIn, docOf, Sized};
 ghost use Rattle.links.specs.Links.{Kinds};
 ghost use Rattle.spreading.specs.Spreads.{Graph};
 ghost use Rattle.reaching.specs.Marks.{Stamped, Reached};
-ghost use Rattle.likes.specs.Flags.{Circled, LikenedTo, FragmentsTo, Known, Flagged};
+ghost use Rattle.likes.specs.Flags.{Circled, FlagsTo, LikenedTo, FragmentsTo, Known, Flagged};
 
 // Judges every variable that is like none by the operation of row o, after the search from it.
 fn judge_variables(
@@ -113,6 +113,67 @@ fn judge_operations(
     }
 }
 
+// Judges every variable by every operation: those that are like others by what is said of these.
+fn judge_uses(
+    t: &[u8],
+    s: &[u8],
+    rows: &[u32],
+    n: usize,
+    first: &[u32],
+    next: &[u32],
+    firstk: &[u32],
+    nextk: &[u32],
+    at: &[u32],
+    size: &[u32],
+    wrappers: &[u32],
+    owner: &[u32],
+    target: &[u32],
+    firsts: &[u32],
+    nexts: &[u32],
+    mark: &mut [u32],
+    stack: &mut [u32],
+    flag: &mut [u32],
+)
+    requires { ⌜ Known (now t) (now s) (now rows) n (now first) (now next) (now at) (now size) (now wrappers) (now owner) × Kinds (rowsIn (now rows) n) (now firstk) (now nextk) × Graph (docOf (now s) (now rows) n) (now target) (now firsts) (now nexts) × Stamped 0 (now mark) × (length (now stack) ≡ mostRows) × FlagsTo (tableOf (now t)) (docOf (now s) (now rows) n) n 0 (now flag) ⌝ }
+    ensures { λ _. ⌜ FlagsTo (tableOf (now (t .entry))) (docOf (now (s .entry)) (now (rows .entry)) n) n n (now (flag .exit)) ⌝ }
+{
+    likes::liken(
+        t,
+        s,
+        rows,
+        n,
+        firstk,
+        nextk,
+        at,
+        size,
+        wrappers,
+        owner,
+        stack,
+        flag,
+    );
+    judge_operations(
+        t,
+        s,
+        rows,
+        n,
+        first,
+        next,
+        firstk,
+        nextk,
+        at,
+        size,
+        wrappers,
+        owner,
+        target,
+        firsts,
+        nexts,
+        mark,
+        stack,
+        flag,
+    );
+    likes::settle(t, s, rows, n, firstk, nextk, flag);
+}
+
 // Rule 8 if the fragment of row i reaches itself, else none.
 fn circle_of(
     s: &[u8],
@@ -158,7 +219,7 @@ fn judge_fragments(
     }
 }
 
-// Judges fragments, then variables, one of each that are alike. Marks rise within a round, so they are cleared between the two.
+// Judges fragments and variables. Marks rise within a round, so they are cleared between the two.
 pub fn flags(
     t: &[u8],
     s: &[u8],
@@ -198,21 +259,7 @@ pub fn flags(
         flag,
     );
     links::clear(mark, 0);
-    likes::liken(
-        t,
-        s,
-        rows,
-        n,
-        firstk,
-        nextk,
-        at,
-        size,
-        wrappers,
-        owner,
-        stack,
-        flag,
-    );
-    judge_operations(
+    judge_uses(
         t,
         s,
         rows,
@@ -232,5 +279,4 @@ pub fn flags(
         stack,
         flag,
     );
-    likes::settle(t, s, rows, n, firstk, nextk, flag);
 }

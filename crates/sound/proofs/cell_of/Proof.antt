@@ -1,7 +1,7 @@
 -- By the name's length.
 use borrow.Author.Needs.{needs}
 use native.Mathlib.Omega.{arith}
-use Rattle.sound.proofs.SoundLaws.{cell-none, cell-one, cell-more}
+use Rattle.sound.proofs.SoundLaws.{cell-none, cell-one, cell-short, cell-long}
 use Rattle.sound.proofs.cell_of.Statement.{statement}
 use Rattle.sound.proofs.cell_of.Tie as tie
 
@@ -45,25 +45,42 @@ shared-slice-read-wide-3 c = search needs
 wide-requires-3 : tie.Need-wide-requires-3
 wide-requires-3 c κs = search needs
 
-add-result : tie.Need-add-result
-add-result c = search needs
+add-ends : tie.Need-add-ends
+add-ends c = search needs
 
-mul-result : tie.Need-mul-result
-mul-result c = search needs
+mul-ends : tie.Need-mul-ends
+mul-ends c = search needs
 
-add-result-2 : tie.Need-add-result-2
-add-result-2 c = search needs
+add-ends-2 : tie.Need-add-ends-2
+add-ends-2 c = search needs
 
-mul-result-2 : tie.Need-mul-result-2
-mul-result-2 c = search needs
+mul-ends-2 : tie.Need-mul-ends-2
+mul-ends-2 c = search needs
 
-add-result-3 : tie.Need-add-result-3
-add-result-3 c = search needs
+add-ends-3 : tie.Need-add-ends-3
+add-ends-3 c = search needs
 
 returns-3 : tie.Need-returns-3
 returns-3 c =
-    let a = c .before .before .before .before .before .before .before .before .before .args in
-    (cell-more (a .t .now) (a .at) (a .n) (c .before .before .before .before .before .before .before .before .before .pre .0) (c .before .before .before .before .before .before .before .if1 .left) (c .before .before .before .before .before .wide .result) (c .before .before .before .before .before .wide .ensures .0) (c .before .before .before .before .if2 .left) (c .before .before .wide2 .result) (c .wide3 .result) (c .before .before .wide2 .ensures .0) (c .wide3 .ensures .0), omega arith)
+    let a = c .before .before .before .before .before .before .before .before .before .before .args in
+    (cell-short (a .t .now) (a .at) (a .n) (c .before .before .before .before .before .before .before .before .before .before .pre .0) (c .before .before .before .before .before .before .before .before .if1 .left) (c .before .before .before .before .before .before .wide .result) (c .before .before .before .before .before .before .wide .ensures .0) (c .before .before .before .before .before .if2 .left) (c .before .before .before .wide2 .result) (c .before .wide3 .result) (c .before .before .before .wide2 .ensures .0) (c .before .wide3 .ensures .0) (c .if3 .taken), omega arith)
+
+add-tail-of : tie.Need-add-tail-of
+add-tail-of c = search needs
+
+sub-tail-of : tie.Need-sub-tail-of
+sub-tail-of c = search needs
+
+tail-of-requires : tie.Need-tail-of-requires
+tail-of-requires c κs = search needs
+
+add-result : tie.Need-add-result
+add-result c = search needs
+
+returns-4 : tie.Need-returns-4
+returns-4 c =
+    let a = c .before .before .before .before .before .before .before .before .before .before .before .args in
+    (cell-long (a .t .now) (a .at) (a .n) (c .before .before .before .before .before .before .before .before .before .before .before .pre .0) (c .before .before .before .before .before .before .before .before .before .if1 .left) (c .before .before .before .before .before .before .before .wide .result) (c .before .before .before .before .before .before .before .wide .ensures .0) (c .before .before .before .before .before .before .if2 .left) (c .before .before .before .before .wide2 .result) (c .before .before .wide3 .result) (c .before .before .before .before .wide2 .ensures .0) (c .before .before .wide3 .ensures .0) (c .before .if3 .left) _ (c .tail-of .ensures .0), omega arith)
 
 pub cell-of-spec : {M : Type 1} → statement M
 cell-of-spec =
@@ -81,9 +98,14 @@ cell-of-spec =
     sub-wide-2
     shared-slice-read-wide-3
     wide-requires-3
+    add-ends
+    mul-ends
+    add-ends-2
+    mul-ends-2
+    add-ends-3
+    returns-3
+    add-tail-of
+    sub-tail-of
+    tail-of-requires
     add-result
-    mul-result
-    add-result-2
-    mul-result-2
-    add-result-3
-    returns-3)
+    returns-4)

@@ -1,4 +1,4 @@
--- From nothing, the fragments, then the variables: those that are like others are set apart, and settled at the end.
+-- From nothing, the fragments, then the variables.
 use borrow.Author.Needs.{needs}
 use mathlib.Core.Path.{_≡_, sym, ap, _∙_}
 use Prim.Native.Nat.{ℕ}
@@ -10,7 +10,6 @@ use Rattle.constructs.proofs.RowsIn.{rowed-sized, rows-count}
 use Rattle.reaching.specs.Marks.{Stamped}
 use Rattle.reaching.proofs.MarkLaws.{stamped-none}
 use Rattle.likes.proofs.FlagsLaws.{flags-none}
-use Rattle.likes.proofs.LikeLaws.{unlinked}
 use Rattle.uses.proofs.FlaggedLaws.{flagged}
 use Rattle.uses.proofs.flags.Statement.{statement}
 use Rattle.uses.proofs.flags.Tie as tie
@@ -49,37 +48,24 @@ judge-fragments-requires c κs =
 clear-requires-3 : tie.Need-clear-requires-3
 clear-requires-3 c κs = search needs
 
-stacked : (c : tie.After-judge-fragments)
-    → length (c .judge-fragments .last .1 .1 .1 .1 .1 .1 .1 .1 .1 .0) ≡ mostRows
-stacked c =
-    c .judge-fragments .kept .1 .1 .1 .1 .1 .1 .1 .1 .1 .0 ∙ c .before .before .before .before .before .before .before .before .before .before .before .before .before .before .before .before .before .before .before .before .before .before .before .before .before .before .before .before .before .pre .4
-
-liken-requires : tie.Need-liken-requires
-liken-requires c κs =
-    let s = c .before .before .before .before .before .before .before .before .before .before .before .before .before .before .before .before .before .before .before .before .before .before .before .before .before .before .before .before .before .before .before .before .before .before .before .before .before .before .before .before .before in
-    (unlinked (s .pre .0), s .pre .1, stacked (c .before .before .before .before .before .before .before .before .before .before .before .before), c .before .before .before .before .before .before .before .before .before .before .before .before .judge-fragments .ensures (tableOf (s .args .t .now)) (flags-none (tableOf (s .args .t .now)) (docOf (s .args .s .now) (s .args .rows .now) (s .args .n)) _ (no-flags (c .before .before .before .before .before .before .before .before .before .before .before .before .before .before .before .before .before .before .before .before .before .before))))
-
-judge-operations-requires : tie.Need-judge-operations-requires
-judge-operations-requires c κs =
-    let s = c .before .before .before .before .before .before .before .before .before .before .before .before .before .before .before .before .before .before .before .before .before .before .before .before .before .before .before .before .before .before .before .before .before .before .before .before .before .before .before .before .before .before .before .before .before .before .before .before .before in
-    (s .pre .0, s .pre .1, s .pre .2, no-marks-again (c .before .before .before .before .before .before .before .before .before .before .before .before), c .before .before .before .before .before .before .before .liken .kept .1 .1 .1 .1 .1 .1 .1 .1 .1 .1 .0 ∙ stacked (c .before .before .before .before .before .before .before .before .before .before .before .before .before .before .before .before .before .before .before .before), c .before .before .before .before .before .before .before .liken .ensures)
-
-settle-requires : tie.Need-settle-requires
-settle-requires c κs = (rowed-sized (c .before .before .before .before .before .before .before .before .before .before .before .before .before .before .before .before .before .before .before .before .before .before .before .before .before .before .before .before .before .before .before .before .before .before .before .before .before .before .before .before .before .before .before .before .before .before .before .before .before .before .before .before .before .before .before .before .before .pre .0 .rowed), c .before .before .before .before .before .before .before .before .before .before .before .before .before .before .before .before .before .before .before .before .before .before .before .before .before .before .before .before .before .before .before .before .before .before .before .before .before .before .before .before .before .before .before .before .before .before .before .before .before .before .before .before .before .before .before .before .before .pre .1, c .before .before .before .before .before .before .before .judge-operations .ensures)
+judge-uses-requires : tie.Need-judge-uses-requires
+judge-uses-requires c κs =
+    let s = c .before .before .before .before .before .before .before .before .before .before .before .before .before .before .before .before .before .before .before .before .before .before .before .before .before .before .before .before .before .before .before .before .before .before .before .before .before .before .before .before .before .before in
+    (s .pre .0, s .pre .1, s .pre .2, no-marks-again (c .before .before .before .before .before), c .before .before .before .before .before .before .before .before .before .before .before .before .before .judge-fragments .kept .1 .1 .1 .1 .1 .1 .1 .1 .1 .0 ∙ s .pre .4, c .before .before .before .before .before .before .before .before .before .before .before .before .before .judge-fragments .ensures (tableOf (s .args .t .now)) (flags-none (tableOf (s .args .t .now)) (docOf (s .args .s .now) (s .args .rows .now) (s .args .n)) _ (no-flags (c .before .before .before .before .before .before .before .before .before .before .before .before .before .before .before .before .before .before .before .before .before .before .before))))
 
 same-length : tie.Need-same-length
-same-length c = c .before .before .before .before .before .before .before .before .before .before .judge-operations .kept .1 .1 .1 .1 .1 .1 .1 .1 .1 .1 .1 .1 .1 .1 .1 .0 ∙ no-marks-again (c .before .before .before .before .before .before .before .before .before .before .before .before .before .before .before .before .before .before .before .before .before .before .before) .size ∙ sym (c .before .before .before .before .before .before .before .before .before .before .before .before .before .before .before .before .before .before .before .before .before .before .before .before .before .before .before .before .before .before .before .before .before .before .before .before .before .before .before .before .before .before .before .before .before .before .before .before .before .before .before .before .before .before .before .before .before .before .before .before .pre .3)
+same-length c = search needs
 
 same-length-2 : tie.Need-same-length-2
-same-length-2 c = c .before .before .before .before .before .before .before .before .before .before .judge-operations .kept .1 .1 .1 .1 .1 .1 .1 .1 .1 .1 .1 .1 .1 .1 .1 .1 .0 ∙ c .before .before .before .before .before .before .before .before .before .before .before .before .before .before .before .before .before .before .liken .kept .1 .1 .1 .1 .1 .1 .1 .1 .1 .1 .0 ∙ stacked (c .before .before .before .before .before .before .before .before .before .before .before .before .before .before .before .before .before .before .before .before .before .before .before .before .before .before .before .before .before .before .before) ∙ sym (c .before .before .before .before .before .before .before .before .before .before .before .before .before .before .before .before .before .before .before .before .before .before .before .before .before .before .before .before .before .before .before .before .before .before .before .before .before .before .before .before .before .before .before .before .before .before .before .before .before .before .before .before .before .before .before .before .before .before .before .before .pre .4)
+same-length-2 c = search needs
 
 same-length-3 : tie.Need-same-length-3
-same-length-3 c = c .before .before .settle .ensures .size ∙ sym (c .before .before .before .before .before .before .before .before .before .before .before .before .before .before .before .before .before .before .before .before .before .before .before .before .before .before .before .before .before .before .before .before .before .before .before .before .before .before .before .before .before .before .before .before .before .before .before .before .before .before .before .before .before .before .before .before .before .before .before .before .pre .5)
+same-length-3 c = c .before .before .before .before .before .before .judge-uses .ensures .size ∙ sym (c .before .before .before .before .before .before .before .before .before .before .before .before .before .before .before .before .before .before .before .before .before .before .before .before .before .before .before .before .before .before .before .before .before .before .before .before .before .before .before .before .before .before .before .before .before .before .before .before .before .pre .5)
 
 returns : tie.Need-returns
 returns c =
-    let s = c .before .before .before .before .before .before .before .before .before .before .before .before .before .before .before .before .before .before .before .before .before .before .before .before .before .before .before .before .before .before .before .before .before .before .before .before .before .before .before .before .before .before .before .before .before .before .before .before .before .before .before .before .before .before .before .before .before .before .before .before in
-    flagged (tableOf (s .args .t .now)) (docOf (s .args .s .now) (s .args .rows .now) (s .args .n)) (s .args .n) _ (sym (rows-count (s .args .rows .now) (s .args .n))) (c .before .before .settle .ensures)
+    let s = c .before .before .before .before .before .before .before .before .before .before .before .before .before .before .before .before .before .before .before .before .before .before .before .before .before .before .before .before .before .before .before .before .before .before .before .before .before .before .before .before .before .before .before .before .before .before .before .before .before in
+    flagged (tableOf (s .args .t .now)) (docOf (s .args .s .now) (s .args .rows .now) (s .args .n)) (s .args .n) _ (sym (rows-count (s .args .rows .now) (s .args .n))) (c .before .before .before .before .before .before .judge-uses .ensures)
 
 pub flags-spec : {M : Type 1} → statement M
 flags-spec =
@@ -89,9 +75,7 @@ flags-spec =
     clear-requires-2
     judge-fragments-requires
     clear-requires-3
-    liken-requires
-    judge-operations-requires
-    settle-requires
+    judge-uses-requires
     same-length
     same-length-2
     same-length-3
