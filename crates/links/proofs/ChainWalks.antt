@@ -13,6 +13,7 @@ use Rattle.paper.specs.Rows.{Row}
 use Rattle.paper_rules.specs.Constructs.{noRow, is, below}
 use Rattle.constructs.specs.Rowed.{rowsIn, rowIn}
 use Rattle.constructs.proofs.RowsIn.{rows-count}
+use Rattle.constructs.proofs.Rooms.{room-enough}
 use Rattle.links.specs.Links.{nextWith, kindsSize, Family, Kinds}
 use Rattle.links.proofs.Nexts.{next-least}
 use Rattle.links.proofs.Walks.{Walk, walk-start, walk-next}
@@ -39,7 +40,7 @@ module _ (rows : List ℕ) (n : ℕ) where
         omega (arith, f .younger j (omega (arith, rows-count rows n)), next-least (below (rowIn rows n j .parent)) (rowsIn rows n) (suc j))
 
     pub family-room : (j : ℕ) → j < n → n ≤ mostRows → j < length next
-    family-room j h m = omega (arith, f .nexts)
+    family-room j h m = omega (arith, f .nexts, rows-count rows n, room-enough (length (rowsIn rows n)) (omega (arith, rows-count rows n)))
 
     pub family-start : (p : ℕ) (q : Row → Bool) {j : ℕ} → p ≤ mostRows → ((r : Row) → q r ≡ true → below p r ≡ true) → j ≡ getD first p 0 → RowWalk rows n (below p) q 0 j
     family-start p q {j = j} h w e = row-walk (below p) q 0 j (omega arith) w (family-first p h e)
@@ -64,7 +65,7 @@ module _ (rows : List ℕ) (n : ℕ) where
     kinds-less p j m h b e = omega (arith, kinds-after p j m h b e, next-least (is p) (rowsIn rows n) (suc j))
 
     pub kinds-room : (j : ℕ) → j < n → n ≤ mostRows → j < length next
-    kinds-room j h m = omega (arith, f .nexts)
+    kinds-room j h m = omega (arith, f .nexts, rows-count rows n, room-enough (length (rowsIn rows n)) (omega (arith, rows-count rows n)))
 
     pub kinds-start : (p : ℕ) (q : Row → Bool) {j : ℕ} → p < kindsSize → ((r : Row) → q r ≡ true → is p r ≡ true) → j ≡ getD first p 0 → RowWalk rows n (is p) q 0 j
     kinds-start p q {j = j} h w e = row-walk (is p) q 0 j (omega arith) w (kinds-first p h e)
