@@ -38,3 +38,7 @@ room-most n = go (leb n fewRows)
 -- the same, of the rows that lie in the lent numbers
 pub room-rows : (rows : List ℕ) (n : ℕ) → roomOf (length (rowsIn rows n)) ≡ roomOf n
 room-rows rows n = ap roomOf (rows-count rows n)
+
+-- a row's number is in room
+pub room-at : (rows : List ℕ) (n i : ℕ) {l : ℕ} → l ≡ roomOf (length (rowsIn rows n)) → n ≤ mostRows → i < n → i < l
+room-at rows n i e h k = omega (arith, room-rows rows n, room-enough n h)
