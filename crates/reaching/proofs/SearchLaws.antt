@@ -14,7 +14,7 @@ use Rattle.paper.specs.Numbers.{mostRows}
 use Rattle.paper_rules.specs.Constructs.{Doc, count, nameOf, fragmentNamed}
 use Rattle.paper_rules.specs.Reaching.{Within, Spreads}
 use Rattle.constructs.specs.Rowed.{roomOf}
-use Rattle.constructs.proofs.Rooms.{room-enough}
+use Rattle.constructs.proofs.Rooms.{room-enough, room-most}
 use Rattle.spreading.specs.Owners.{Defines}
 use Rattle.spreading.specs.Spreads.{SpreadIn, FirstOf}
 use Rattle.reaching.specs.Marks.{Draws, Stamped, stamp, Reached, others, Noted, Waits, PassedTo, Met, Search}
@@ -69,6 +69,10 @@ search-start d a mark stack h m l = record {
 }
 
 module _ (d : Doc) (a : ℕ) (mark stack : List ℕ) (top g j : ℕ) (x : Search d a mark stack top g j) where
+  -- no more wait than there are rows
+  pub search-most : top ≤ mostRows
+  search-most = omega (arith, x .room, room-most (count d))
+
   -- what is passed over is a definition
   pub search-defines : Defines d g
   search-defines = ⊎-elim (λ e. subst (Defines d) (sym e) (x .defines)) (λ e. draws-defines d a g (x .sound g e)) (x .met)

@@ -4,9 +4,9 @@ use mathlib.Core.Path.{refl, sym, _∙_}
 use Prim.Native.Nat.{_+_, _-_}
 use native.Mathlib.Omega.{arith}
 use Rattle.constructs.specs.Rowed.{docOf}
-use Rattle.constructs.proofs.Rooms.{room-most, room-rows}
+use Rattle.constructs.proofs.Rooms.{room-rows}
 use Rattle.reaching.specs.Marks.{stamp, others}
-use Rattle.reaching.proofs.SearchLaws.{search-start, search-pop, search-end}
+use Rattle.reaching.proofs.SearchLaws.{search-start, search-most, search-pop, search-end}
 use Rattle.reaching.proofs.PassLaws.{Searching}
 use Rattle.reaching.proofs.reach.Statement.{statement}
 use Rattle.reaching.proofs.reach.Tie as tie
@@ -27,7 +27,7 @@ sub-top : tie.Need-sub-top Inv-loop μ-loop
 sub-top c = search needs
 
 mul-g : tie.Need-mul-g Inv-loop μ-loop
-mul-g c = omega (arith, c .before .loop .inv .search .room, room-most _)
+mul-g c = omega (arith, search-most _ _ _ _ _ _ _ (c .before .loop .inv .search))
 
 slice-read-g : tie.Need-slice-read-g Inv-loop μ-loop
 slice-read-g c = omega (arith, c .before .loop-test .taken, c .before .before .loop .inv .search .room, c .before .before .loop .inv .search .stacked)
