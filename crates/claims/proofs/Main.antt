@@ -95,8 +95,8 @@ use Rattle.enclosings.proofs.enclose.Statement as enclose
 use Rattle.enclosings.proofs.enclose.Met as enclose-met
 use Rattle.placings.proofs.places.Statement as places
 use Rattle.placings.proofs.places.Met as places-met
-use Rattle.uses.proofs.definition_of.Statement as definition-of
-use Rattle.uses.proofs.definition_of.Met as definition-of-met
+use Rattle.says.proofs.definition_of.Statement as definition-of
+use Rattle.says.proofs.definition_of.Met as definition-of-met
 use Rattle.documents.proofs.variables_text.Statement as variables-text
 use Rattle.documents.proofs.variables_text.Met as variables-text-met
 use Rattle.claims.proofs.FitsLaws as fits
@@ -480,6 +480,6 @@ enclose-meets = enclose-met.met
 pub places-meets : {M : Type 1} → places.statement M
 places-meets = places-met.met
 
--- `uses::definition_of`: the first definition, by an operation, of a variable.
+-- `says::definition_of`: the first definition, by an operation, of a variable.
 pub variable-definition-meets : {M : Type 1} → definition-of.statement M
 variable-definition-meets = definition-of-met.met

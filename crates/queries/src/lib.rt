@@ -17,7 +17,7 @@ ghost use Rattle.enclosings.specs.Enclosed.{Asked};
 ghost use Rattle.dues.specs.Dues.{Fitted};
 ghost use Rattle.placings.specs.Placed.{Placed};
 ghost use Rattle.spreading.specs.Spreads.{Targeted};
-ghost use Rattle.uses.specs.Flags.{Flagged};
+ghost use Rattle.likes.specs.Flags.{Flagged};
 
 // How many rows there may be; how many firsts are linked, of a row or of none; how many kinds.
 const ROWS: usize = 2048;

@@ -14,8 +14,8 @@ use Rattle.paper_rules.specs.Rule10Undefined.{Undefined}
 use Rattle.paper_rules.specs.Rule11VariableType.{Differs}
 use Rattle.spreading.proofs.OwnerLaws.{row-within}
 use Rattle.reaching.proofs.MarkLaws.{circle-not}
-use Rattle.uses.specs.Flags.{noRule, Least, Circled, FlagsTo, Flag, Flagged}
-use Rattle.uses.proofs.LeastLaws.{said-undefined, said-differs, unsaid-undefined, unsaid-differs}
+use Rattle.likes.specs.Flags.{noRule, Least, Circled, FlagsTo, Flag, Flagged}
+use Rattle.likes.proofs.LeastLaws.{said-undefined, said-differs, unsaid-undefined, unsaid-differs}
 
 module _ (t : Table) (d : Doc) (i f : ℕ) where
   -- rules 10 and 11 are broken at variables only

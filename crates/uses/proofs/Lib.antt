@@ -1,7 +1,2 @@
 -- Laws of this crate, in the order in which they use each other.
-pub mod VerdictLaws
-pub mod LeastLaws
-pub mod FlagsLaws
-pub mod LikeLaws
-pub mod LikenLaws
 pub mod FlaggedLaws

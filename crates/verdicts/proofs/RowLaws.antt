@@ -25,7 +25,7 @@ use Rattle.paper_rules.specs.Rule13NoRoot.{noRoot}
 use Rattle.paper_rules.specs.Rule14Argument.{argumentUnknown}
 use Rattle.paper_rules.specs.QueryRules.{Broken, operation-repeated, operation-unnamed, fragment-repeated, condition, field, leaf, spread, circle, directive, undefined, no-input-type, other-type, name-twice, no-root, argument}
 use Rattle.paper_rules.proofs.BrokenAt.{rulesAt, none-broken, operation-repeated-so, operation-unnamed-so, fragment-repeated-so, condition-so, field-so, leaf-so, spread-so, circle-so, directive-so, undefined-so, variable-type-so, name-twice-so, no-root-so, argument-so}
-use Rattle.uses.specs.Flags.{Flag}
+use Rattle.likes.specs.Flags.{Flag}
 use Rattle.verdicts.specs.Least.{LeastAt, none-at}
 use Rattle.verdicts.proofs.LeastLaws.{Told, no-more, found, passed, told-least}
 

@@ -9,7 +9,7 @@ use Rattle.constructs.specs.Rowed.{rowsIn, docOf}
 use Rattle.links.specs.Links.{Kinds}
 use Rattle.enclosings.specs.Enclosed.{Asked, Enclosed}
 use Rattle.spreading.specs.Spreads.{Targeted}
-use Rattle.uses.specs.Flags.{Flagged}
+use Rattle.likes.specs.Flags.{Flagged}
 
 -- the table's book; the rows' links by parent and by kind; the types inside rows, and what each field is; where spreads lead; the rules that speak of paths
 pub record Ready (t book s rows : List ℕ) (n : ℕ) (first next firstk nextk inside at to target flags : List ℕ) : Type 0 where

@@ -34,7 +34,7 @@ ghost use Rattle.paper_rules.specs.QueryRules.{Judged};
 ghost use Rattle.constructs.specs.Rowed.{rowIn, rowsIn, docOf, Rowed};
 ghost use Rattle.links.specs.Links.{Family, Kinds};
 ghost use Rattle.enclosings.specs.Enclosed.{Enclosed};
-ghost use Rattle.uses.specs.Flags.{Flagged};
+ghost use Rattle.likes.specs.Flags.{Flagged};
 ghost use Rattle.verdicts.specs.Least.{LeastAt};
 ghost use Rattle.verdicts.specs.Ready.{Ready};
 

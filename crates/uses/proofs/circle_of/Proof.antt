@@ -3,7 +3,7 @@ use borrow.Author.Needs.{needs}
 use mathlib.Core.Path.{refl, sym, _∙_}
 use mathlib.Core.Bool.{true≢false}
 use Rattle.constructs.specs.Rowed.{docOf}
-use Rattle.uses.proofs.FlagsLaws.{circled-by}
+use Rattle.likes.proofs.FlagsLaws.{circled-by}
 use Rattle.uses.proofs.circle_of.Statement.{statement}
 use Rattle.uses.proofs.circle_of.Tie as tie
 

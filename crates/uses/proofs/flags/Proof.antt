@@ -9,8 +9,8 @@ use Rattle.constructs.specs.Rowed.{docOf}
 use Rattle.constructs.proofs.RowsIn.{rowed-sized, rows-count}
 use Rattle.reaching.specs.Marks.{Stamped}
 use Rattle.reaching.proofs.MarkLaws.{stamped-none}
-use Rattle.uses.proofs.FlagsLaws.{flags-none}
-use Rattle.uses.proofs.LikeLaws.{unlinked}
+use Rattle.likes.proofs.FlagsLaws.{flags-none}
+use Rattle.likes.proofs.LikeLaws.{unlinked}
 use Rattle.uses.proofs.FlaggedLaws.{flagged}
 use Rattle.uses.proofs.flags.Statement.{statement}
 use Rattle.uses.proofs.flags.Tie as tie

@@ -10,7 +10,7 @@ use Rattle.paper_rules.specs.Constructs.{count, is}
 use Rattle.constructs.specs.Rowed.{rowIn, docOf}
 use Rattle.constructs.proofs.RowsIn.{rows-count}
 use Rattle.links.proofs.ChainWalks.{kinds-first, kinds-after, kinds-less, kinds-room}
-use Rattle.uses.proofs.FlagsLaws.{kind-next, FragmentLoop, fragments-start, fragments-more, fragments-end}
+use Rattle.likes.proofs.FlagsLaws.{kind-next, FragmentLoop, fragments-start, fragments-more, fragments-end}
 use Rattle.uses.proofs.judge_fragments.Statement.{statement}
 use Rattle.uses.proofs.judge_fragments.Tie as tie
 

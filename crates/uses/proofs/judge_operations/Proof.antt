@@ -12,7 +12,7 @@ use Rattle.constructs.specs.Rowed.{rowIn, docOf}
 use Rattle.constructs.proofs.RowsIn.{rows-count}
 use Rattle.links.proofs.ChainWalks.{kinds-first, kinds-after, kinds-less, kinds-room}
 use Rattle.spreading.proofs.OwnerLaws.{operation-defines}
-use Rattle.uses.proofs.FlagsLaws.{kind-next, OperationLoop, operations-next, operations-end}
+use Rattle.likes.proofs.FlagsLaws.{kind-next, OperationLoop, operations-next, operations-end}
 use Rattle.uses.proofs.judge_operations.Statement.{statement}
 use Rattle.uses.proofs.judge_operations.Tie as tie
 

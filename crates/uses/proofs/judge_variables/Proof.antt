@@ -13,8 +13,8 @@ use Rattle.paper_rules.specs.Constructs.{count, is}
 use Rattle.constructs.specs.Rowed.{rowIn, docOf}
 use Rattle.constructs.proofs.RowsIn.{rows-count}
 use Rattle.links.proofs.ChainWalks.{kinds-first, kinds-after, kinds-less, kinds-room}
-use Rattle.uses.proofs.FlagsLaws.{kind-next}
-use Rattle.uses.proofs.LikenLaws.{JudgeLoop, judge-start, judge-left, judge-skip, judge-more, judge-end}
+use Rattle.likes.proofs.FlagsLaws.{kind-next}
+use Rattle.likes.proofs.LikenLaws.{JudgeLoop, judge-start, judge-left, judge-skip, judge-more, judge-end}
 use Rattle.uses.proofs.judge_variables.Statement.{statement}
 use Rattle.uses.proofs.judge_variables.Tie as tie
 
