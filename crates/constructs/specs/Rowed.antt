@@ -2,10 +2,11 @@
 -- Assumes nothing.
 use mathlib.Core.Path.{_≡_}
 use mathlib.Core.Logic.{_⊎_}
-use mathlib.Core.Bool.{Bool, true, false}
+use mathlib.Core.Bool.{Bool, true, false, cond}
 use mathlib.Core.List.{List, [], _∷_}
 use Prim.Native.Nat.{ℕ, zero, suc, _+_, _*_, _<_, _≤_}
 use lib.ListN.{length, getD}
+use lib.Dec.{leb}
 use Rattle.paper.specs.Numbers.{mostText, mostRows, rowSize, rowsSize, noParent}
 use Rattle.paper.specs.Rows.{Row}
 use Rattle.paper_rules.specs.Constructs.{Doc, noRow}
@@ -46,6 +47,14 @@ pub record Rowed (s rows : List ℕ) (n : ℕ) : Type 0 where
 pub record Sized (rows : List ℕ) (n : ℕ) : Type 0 where
   pub size : length rows ≡ rowsSize
   pub few : n ≤ mostRows
+
+-- up to how many rows there are few
+abbrev pub fewRows : ℕ
+fewRows = 256
+
+-- how many numbers a list has that holds one for each of n rows: few for few rows
+unfoldable pub roomOf : ℕ → ℕ
+roomOf n = cond (leb n fewRows) fewRows mostRows
 
 -- an answer that decides a promise
 abbrev pub Decides : Bool → Type 0 → Type 0

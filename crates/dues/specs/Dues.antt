@@ -5,12 +5,12 @@ use mathlib.Core.Option.{none}
 use mathlib.Core.List.{List}
 use Prim.Native.Nat.{ℕ}
 use lib.ListN.{length, getD}
-use Rattle.paper.specs.Numbers.{mostRows, kindField}
+use Rattle.paper.specs.Numbers.{kindField}
 use Rattle.paper_types.specs.House.{framing}
 use Rattle.paper_types.specs.TableSizes.{counts}
 use Rattle.paper_types.specs.Types.{tableOf}
 use Rattle.paper_rules.specs.Enclosing.{fieldAt}
-use Rattle.constructs.specs.Rowed.{docOf, rowIn}
+use Rattle.constructs.specs.Rowed.{docOf, rowIn, roomOf}
 use Rattle.composites.specs.Coded.{FieldKept}
 
 -- what is asked of a table: framing and sizes are right
@@ -20,6 +20,6 @@ pub record Fitted (t : List ℕ) : Type 0 where
 
 -- what is kept of each field of a document
 pub record FieldsKept (t s rows : List ℕ) (n : ℕ) (at to : List ℕ) : Type 0 where
-  pub ats : length at ≡ mostRows
-  pub tos : length to ≡ mostRows
+  pub ats : length at ≡ roomOf n
+  pub tos : length to ≡ roomOf n
   pub fields : (i : ℕ) → rowIn rows n i .kind ≡ kindField → FieldKept t (fieldAt (tableOf t) (docOf s rows n) i) (getD at i 0) (getD to i 0)

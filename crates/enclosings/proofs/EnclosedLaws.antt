@@ -8,14 +8,15 @@ use native.Mathlib.Decide.{decLt}
 use native.Mathlib.Omega.{arith}
 use lib.ListN.{length, getD, set, length-set}
 use lib.Seq.{getD-set-same, getD-set-other}
-use Rattle.paper.specs.Numbers.{mostRows, kindField}
+use Rattle.paper.specs.Numbers.{kindField}
 use Rattle.paper_types.specs.Types.{tableOf}
 use Rattle.paper_rules.specs.Constructs.{nameOf}
 use Rattle.paper_rules.specs.Enclosing.{inside, insideFrom, enclosing, fieldIn, typeIn, fieldAt}
 use Rattle.paper_rules.proofs.Climbing.{ParentsBefore}
 use Rattle.paper_rules.proofs.EnclosingLaws.{inside-step, inside-is, from-other, from-field}
-use Rattle.constructs.specs.Rowed.{rowIn, docOf, Rowed}
+use Rattle.constructs.specs.Rowed.{rowIn, docOf, Rowed, roomOf}
 use Rattle.constructs.proofs.RowsIn.{rows-count, parent-before}
+use Rattle.constructs.proofs.Rooms.{room-enough}
 use Rattle.composites.specs.Coded.{typeCoded, fieldCoded, FieldKept, TypeKnown}
 use Rattle.enclosings.specs.Enclosed.{encloses, typeKept, EnclosedTo, Enclosed}
 use Rattle.enclosings.proofs.KindLaws.{encloses-there, no-operation, no-fragment, no-field, no-inline}
@@ -53,7 +54,7 @@ module _ (t s rows : List ℕ) (n : ℕ) (r : Rowed s rows n) where
   pub above-known : (i above : ℕ) → enclosing (tableOf t) (docOf s rows n) i ≡ typeCoded above → TypeKnown (tableOf t) above
   above-known i above e k q = inside-is (tableOf t) (docOf s rows n) (rowIn rows n i .parent) k (e ∙ q)
 
-  pub enclosed-begin : {inner at to : List ℕ} → length inner ≡ mostRows → length at ≡ mostRows → length to ≡ mostRows → EnclosedTo t s rows n 0 inner at to
+  pub enclosed-begin : {inner at to : List ℕ} → length inner ≡ roomOf n → length at ≡ roomOf n → length to ≡ roomOf n → EnclosedTo t s rows n 0 inner at to
   enclosed-begin a b c = record {
     inners = a;
     ats = b;
@@ -63,8 +64,8 @@ module _ (t s rows : List ℕ) (n : ℕ) (r : Rowed s rows n) where
   }
 
   module _ (i : ℕ) (l : i < n) (inner at to : List ℕ) (e : EnclosedTo t s rows n i inner at to) where
-    room : i < mostRows
-    room = omega (arith, r .few)
+    room : i < roomOf n
+    room = omega (arith, room-enough n (r .few))
 
     -- what holds of each row before i, and of i
     upTo : {P : ℕ → Type 0} → ((j : ℕ) → j < i → P j) → P i → (j : ℕ) → j < suc i → P j
@@ -77,7 +78,7 @@ module _ (t s rows : List ℕ) (n : ℕ) (r : Rowed s rows n) where
     kept-before : (xs : List ℕ) (x j : ℕ) → j < i → getD xs j 0 ≡ getD (set xs i x) j 0
     kept-before xs x j h = sym (getD-set-other xs i j x 0 (λ z. omega arith))
 
-    kept-here : (xs : List ℕ) (x : ℕ) → length xs ≡ mostRows → x ≡ getD (set xs i x) i 0
+    kept-here : (xs : List ℕ) (x : ℕ) → length xs ≡ roomOf n → x ≡ getD (set xs i x) i 0
     kept-here xs x h = sym (getD-set-same xs i x 0 (omega (arith, room)))
 
     pub enclosed-skip : encloses (rowIn rows n i .kind) ≡ false → EnclosedTo t s rows n (suc i) inner at to

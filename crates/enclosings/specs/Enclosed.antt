@@ -6,11 +6,11 @@ use mathlib.Core.List.{List}
 use Prim.Native.Nat.{ℕ, _<_}
 use lib.ListN.{length, getD}
 use lib.Dec.{eqb}
-use Rattle.paper.specs.Numbers.{mostRows, kindOperation, kindFragment, kindField, kindInline}
+use Rattle.paper.specs.Numbers.{kindOperation, kindFragment, kindField, kindInline}
 use Rattle.paper_types.specs.Types.{tableOf}
 use Rattle.paper_rules.specs.Enclosing.{inside, fieldAt}
 use Rattle.types.specs.Booked.{Booked}
-use Rattle.constructs.specs.Rowed.{rowIn, rowsIn, docOf, Rowed}
+use Rattle.constructs.specs.Rowed.{rowIn, rowsIn, docOf, Rowed, roomOf}
 use Rattle.links.specs.Links.{Family}
 use Rattle.composites.specs.Coded.{typeCoded, FieldKept, Fielded}
 
@@ -31,9 +31,9 @@ pub record Asked (t book s rows : List ℕ) (n : ℕ) (first next : List ℕ) : 
 
 -- Of the first m rows: of those that may have one the type inside, and of each field what it is. Of rows of other kinds nothing is said.
 pub record EnclosedTo (t s rows : List ℕ) (n m : ℕ) (inner at to : List ℕ) : Type 0 where
-  pub inners : length inner ≡ mostRows
-  pub ats : length at ≡ mostRows
-  pub tos : length to ≡ mostRows
+  pub inners : length inner ≡ roomOf n
+  pub ats : length at ≡ roomOf n
+  pub tos : length to ≡ roomOf n
   pub types : (i : ℕ) → i < m → encloses (rowIn rows n i .kind) ≡ true → inside (tableOf t) (docOf s rows n) i ≡ typeCoded (getD inner i 0)
   pub fields : (i : ℕ) → i < m → rowIn rows n i .kind ≡ kindField → FieldKept t (fieldAt (tableOf t) (docOf s rows n) i) (getD at i 0) (getD to i 0)
 

@@ -15,11 +15,11 @@ ghost use mathlib.Core.Path.{_≡_};
 ghost use mathlib.Core.Bool.{true};
 ghost use Prim.Native.Nat.{suc, _<_};
 ghost use lib.ListN.{length};
-ghost use Rattle.paper.specs.Numbers.{kindField, mostRows};
+ghost use Rattle.paper.specs.Numbers.{kindField};
 ghost use Rattle.paper_types.specs.Types.{tableOf};
 ghost use Rattle.paper_rules.specs.Enclosing.{conditionOf, conditioned, insideFrom, enclosing};
 ghost use Rattle.types.specs.Booked.{Booked};
-ghost use Rattle.constructs.specs.Rowed.{rowIn, docOf, Rowed, Sized};
+ghost use Rattle.constructs.specs.Rowed.{rowIn, docOf, Rowed, Sized, roomOf};
 ghost use Rattle.composites.specs.Coded.{typeCoded, Fielded};
 ghost use Rattle.enclosings.specs.Enclosed.{encloses, typeKept, Asked, EnclosedTo, Enclosed};
 
@@ -41,7 +41,7 @@ pub fn encloses(kind: u32) -> bool
 
 // The type kept for row i; none for a row without a type inside, or one that is not there.
 pub fn type_inside(rows: &[u32], n: usize, inside: &[u32], i: usize) -> u32
-    requires { ⌜ Sized (now rows) n × (length (now inside) ≡ mostRows) ⌝ }
+    requires { ⌜ Sized (now rows) n × (length (now inside) ≡ roomOf n) ⌝ }
     ensures { λ r. ⌜ r ≡ typeKept (now (rows .entry)) n (now (inside .entry)) i ⌝ }
 {
     if encloses(kind_of(rows, n, i)) {
@@ -174,7 +174,7 @@ pub fn enclose(
     at: &mut [u32],
     to: &mut [u32],
 )
-    requires { ⌜ Asked (now t) (now book) (now s) (now rows) n (now first) (now next) × (length (now inside) ≡ mostRows) × (length (now at) ≡ mostRows) × (length (now to) ≡ mostRows) ⌝ }
+    requires { ⌜ Asked (now t) (now book) (now s) (now rows) n (now first) (now next) × (length (now inside) ≡ roomOf n) × (length (now at) ≡ roomOf n) × (length (now to) ≡ roomOf n) ⌝ }
     ensures { λ _. ⌜ Enclosed (now (t .entry)) (now (s .entry)) (now (rows .entry)) n (now (inside .exit)) (now (at .exit)) (now (to .exit)) ⌝ }
 {
     let mut i = 0;

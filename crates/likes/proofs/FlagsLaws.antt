@@ -14,7 +14,8 @@ use Rattle.paper_types.specs.Types.{Table}
 use Rattle.paper_rules.specs.QueryNumbers.{ruleCircle}
 use Rattle.paper_rules.specs.Constructs.{Doc, count, noRow, is, kindOf}
 use Rattle.paper_rules.specs.Rule8Circle.{ReachesItself}
-use Rattle.constructs.specs.Rowed.{Decides}
+use Rattle.constructs.specs.Rowed.{Decides, roomOf}
+use Rattle.constructs.proofs.Rooms.{room-enough}
 use Rattle.links.specs.Links.{nextWith}
 use Rattle.links.proofs.Nexts.{next-least, next-most, next-passes, next-skips}
 use Rattle.spreading.specs.Spreads.{FirstOf}
@@ -37,7 +38,7 @@ kind-next d k i l e = rw e (record {
 })
 
 -- nothing is judged
-pub flags-none : (t : Table) (d : Doc) (flag : List ℕ) → Stamped 0 flag → FlagsTo t d 0 0 flag
+pub flags-none : (t : Table) (d : Doc) (flag : List ℕ) → Stamped d 0 flag → FlagsTo t d 0 0 flag
 flags-none t d flag x = record {
   size = x .size;
   variables = λ i k. rw (zero i) (least-none t d i);
@@ -61,9 +62,9 @@ circled-by d i false f x y z =
 pub record FragmentLoop (d : Doc) (old flag mark stack : List ℕ) (f : ℕ) : Type 0 where
   pub most : f ≤ count d
   pub at : f < count d → kindOf d f ≡ kindFragment
-  pub size : length flag ≡ mostRows
-  pub stamped : Stamped f mark
-  pub stacked : length stack ≡ mostRows
+  pub size : length flag ≡ roomOf (count d)
+  pub stamped : Stamped d f mark
+  pub stacked : length stack ≡ roomOf (count d)
   pub judged : FragmentsTo d old f flag
 
 module _ (d : Doc) where
@@ -75,7 +76,7 @@ module _ (d : Doc) where
       go i h e (yes l) = x .fragments i l e
       go i h e (no l) = absurd (s i (omega arith) h e)
 
-  fragments-set : (t : Table) (flag : List ℕ) (f x : ℕ) → f < mostRows → kindOf d f ≡ kindFragment → Circled d f x → FlagsTo t d f 0 flag → FlagsTo t d (suc f) 0 (set flag f x)
+  fragments-set : (t : Table) (flag : List ℕ) (f x : ℕ) → f < roomOf (count d) → kindOf d f ≡ kindFragment → Circled d f x → FlagsTo t d f 0 flag → FlagsTo t d (suc f) 0 (set flag f x)
   fragments-set t flag f x l k c p = record {
     size = length-set flag f x ∙ p .size;
     variables = λ i e. rw (other i (λ z. omega (arith, e, k, ap (kindOf d) z))) (p .variables i e);
@@ -90,7 +91,7 @@ module _ (d : Doc) where
       go i h e (yes z) = rw (z, getD-set-same flag f x 0 (omega (arith, p .size))) c
       go i h e (no z) = rw (other i z) (p .fragments i (omega arith) e)
 
-  pub fragments-start : (flag mark stack : List ℕ) (f : ℕ) → FirstKind d kindFragment 0 f → length flag ≡ mostRows → Stamped 0 mark → length stack ≡ mostRows → FragmentLoop d flag flag mark stack f
+  pub fragments-start : (flag mark stack : List ℕ) (f : ℕ) → FirstKind d kindFragment 0 f → length flag ≡ roomOf (count d) → Stamped d 0 mark → length stack ≡ roomOf (count d) → FragmentLoop d flag flag mark stack f
   fragments-start flag mark stack f n l m s = record {
     most = n .most;
     at = n .holds;
@@ -101,14 +102,14 @@ module _ (d : Doc) where
   }
 
   pub fragments-more : (old flag mark stack mark′ stack′ : List ℕ) (f x k : ℕ) → FragmentLoop d old flag mark stack f → f < count d → count d ≤ mostRows → FirstKind d kindFragment (suc f) k → Circled d f x
-      → Stamped (f + 1) mark′ → length stack′ ≡ mostRows → FragmentLoop d old (set flag f x) mark′ stack′ k
+      → Stamped d (f + 1) mark′ → length stack′ ≡ roomOf (count d) → FragmentLoop d old (set flag f x) mark′ stack′ k
   fragments-more old flag mark stack mark′ stack′ f x k p h l n c m s = record {
     most = n .most;
     at = n .holds;
     size = length-set flag f x ∙ p .size;
     stamped = stamped-up m (omega (arith, n .from));
     stacked = s;
-    judged = λ t y. fragments-skip t (set flag f x) (suc f) k (n .skips) (fragments-set t flag f x (omega arith) (p .at h) c (p .judged t y));
+    judged = λ t y. fragments-skip t (set flag f x) (suc f) k (n .skips) (fragments-set t flag f x (omega (arith, room-enough (count d) l)) (p .at h) c (p .judged t y));
   }
 
   pub fragments-end : (old flag mark stack : List ℕ) (f n : ℕ) → FragmentLoop d old flag mark stack f → count d ≤ f → n ≡ count d → FragmentsTo d old n flag
@@ -198,12 +199,12 @@ module _ (D L : ℕ → Type 0) (d : Doc) (g : ℕ) (flag : List ℕ) where
 pub record OperationLoop (t : Table) (d : Doc) (g : ℕ) (flag mark stack : List ℕ) (o : ℕ) : Type 0 where
   pub most : o ≤ count d
   pub at : o < count d → kindOf d o ≡ kindOperation
-  pub stamped : Stamped o mark
-  pub stacked : length stack ≡ mostRows
+  pub stamped : Stamped d o mark
+  pub stacked : length stack ≡ roomOf (count d)
   pub flags : LikenedTo t d g o flag
 
 module _ (t : Table) (d : Doc) (g : ℕ) where
-  pub operations-next : (flag mark stack : List ℕ) (m o : ℕ) → FirstKind d kindOperation m o → LikenedTo t d g m flag → Stamped m mark → length stack ≡ mostRows → OperationLoop t d g flag mark stack o
+  pub operations-next : (flag mark stack : List ℕ) (m o : ℕ) → FirstKind d kindOperation m o → LikenedTo t d g m flag → Stamped d m mark → length stack ≡ roomOf (count d) → OperationLoop t d g flag mark stack o
   operations-next flag mark stack m o n x s l = record {
     most = n .most;
     at = n .holds;

@@ -6,15 +6,16 @@ use Prim.Native.Nat.{ℕ, _<_}
 use native.Mathlib.Omega.{arith}
 use lib.ListN.{getD}
 use lib.Dec.{eqb→eq}
-use Rattle.paper.specs.Numbers.{mostRows, kindOperation, kindVariable}
+use Rattle.paper.specs.Numbers.{kindOperation, kindVariable}
 use Rattle.paper_types.specs.Types.{Table, tableOf}
 use Rattle.paper_rules.specs.QueryNumbers.{ruleUndefined, ruleVariableType}
 use Rattle.paper_rules.specs.Constructs.{Doc, count, kindOf, nameOf}
 use Rattle.paper_rules.specs.PlaceTypes.{place}
 use Rattle.paper_rules.specs.Reaching.{Within, Reaches}
 use Rattle.paper_rules.specs.Reaching.Reaches.{here, through}
-use Rattle.constructs.specs.Rowed.{docOf, rowIn}
+use Rattle.constructs.specs.Rowed.{docOf, rowIn, roomOf}
 use Rattle.constructs.proofs.RowsIn.{rows-count}
+use Rattle.constructs.proofs.Rooms.{room-enough}
 use Rattle.spreading.specs.Owners.{Defines, Owned}
 use Rattle.spreading.proofs.OwnerLaws.{definition-within, operation-defines}
 use Rattle.reaching.proofs.DrawLaws.{reaches-either, draws-defines}
@@ -63,9 +64,9 @@ module _ (t : Table) (d : Doc) (i j : ℕ) (e : nameOf d i ≡ nameOf d j) (p : 
 pub unlinked : {t s rows : List ℕ} {n : ℕ} {first next at size wrappers owner : List ℕ} → Known t s rows n first next at size wrappers owner → Unlinked t s rows n at size wrappers owner
 unlinked k = record { rowed = k .rowed; placed = k .placed; owned = k .owned }
 
--- a variable is one of the rows
-pub variable-room : {t s rows : List ℕ} {n : ℕ} {at size wrappers owner : List ℕ} → Unlinked t s rows n at size wrappers owner → (i : ℕ) → rowIn rows n i .kind ≡ kindVariable → i < mostRows
-variable-room {s = s} {rows = rows} {n = n} u i k = omega (arith, variable-within (docOf s rows n) i k, rows-count rows n, u .rowed .few)
+-- a variable is one of the rows, and in room
+pub variable-room : {t s rows : List ℕ} {n : ℕ} {at size wrappers owner : List ℕ} → Unlinked t s rows n at size wrappers owner → (i : ℕ) → rowIn rows n i .kind ≡ kindVariable → i < roomOf n
+variable-room {s = s} {rows = rows} {n = n} u i k = omega (arith, variable-within (docOf s rows n) i k, rows-count rows n, room-enough n (u .rowed .few))
 
 -- two variables of a document, by the numbers that are kept of them
 module _ (t s rows : List ℕ) (n : ℕ) (at size wrappers owner : List ℕ) (u : Unlinked t s rows n at size wrappers owner) where

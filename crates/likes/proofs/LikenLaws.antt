@@ -11,6 +11,8 @@ use borrow.Author.Tests.{lt-ltb, le-ltb}
 use Rattle.paper.specs.Numbers.{mostRows, kindVariable}
 use Rattle.paper_types.specs.Types.{Table}
 use Rattle.paper_rules.specs.Constructs.{Doc, count, kindOf}
+use Rattle.constructs.specs.Rowed.{roomOf}
+use Rattle.constructs.proofs.Rooms.{room-enough}
 use Rattle.likes.specs.Flags.{Least, Like, Judged, likeFirst, FlagsTo, LikenedTo, Models, ModelOf, Likened, ownFlag}
 use Rattle.likes.specs.Flags.Likened.{copy, model}
 use Rattle.likes.proofs.FlagsLaws.{FirstKind, VariableLoop, variables-start, variables-skip, variables-set, variables-end}
@@ -74,7 +76,7 @@ module _ (t : Table) (d : Doc) (g o : ℕ) (flag : List ℕ) where
     pub judge-more : (x k : ℕ) → j < count d → count d ≤ mostRows → FirstKind d kindVariable (suc j) k → Least t d (o + 1) j x → JudgeLoop t d g o (set flag j x) k
     judge-more x k h l n c =
         let a : x < likeFirst = least-small t d (o + 1) j x c in
-        let b : j < length flag = omega (arith, p .flags .size) in
+        let b : j < length flag = omega (arith, p .flags .size, room-enough (count d) l) in
         variables-set (Judged t d (o + 1) flag) (Judged t d o flag) d g flag j p (Judged t d (o + 1) (set flag j x)) (Judged t d o (set flag j x)) x k h n
         (judged-own t d (o + 1) (set flag j x) j (rw (getD-set-same flag j x 0 b) c))
         (λ i m y. judged-write t d flag j x (o + 1) i b a (λ z. omega arith) y)
@@ -123,7 +125,7 @@ module _ (t : Table) (d : Doc) (g m : ℕ) (flag : List ℕ) where
     settle-more x k h l n e =
         let c : Least t d m j x = rw e (settle-least h) in
         let a : x < likeFirst = least-small t d m j x c in
-        let b : j < length flag = omega (arith, p .flags .size) in
+        let b : j < length flag = omega (arith, p .flags .size, room-enough (count d) l) in
         variables-set D (Judged t d m flag) d g flag j p (λ i. Least t d m i (getD (set flag j x) i 0)) (Judged t d m (set flag j x)) x k h n
         (rw (getD-set-same flag j x 0 b) c)
         (λ i w y. least-set t d flag j x m i (λ z. omega arith) y)
@@ -139,7 +141,7 @@ pub record LikenLoop (t : Table) (d : Doc) (g : ℕ) (stack flag : List ℕ) (m 
   pub own : (k : ℕ) → k < m → getD flag (getD stack k 0) 0 < likeFirst
 
 module _ (t : Table) (d : Doc) (g : ℕ) where
-  pub liken-start : (stack flag : List ℕ) (j : ℕ) → FirstKind d kindVariable 0 j → length stack ≡ mostRows → FlagsTo t d g 0 flag → LikenLoop t d g stack flag 0 j
+  pub liken-start : (stack flag : List ℕ) (j : ℕ) → FirstKind d kindVariable 0 j → length stack ≡ roomOf (count d) → FlagsTo t d g 0 flag → LikenLoop t d g stack flag 0 j
   liken-start stack flag j n l x = record {
     loop = variables-start (Judged t d 0 flag) (λ i. Least t d 0 i (getD flag i 0)) d g flag j n x;
     models = record { size = l; few = omega arith; variables = λ k h. absurd (omega arith); before = λ k h. absurd (omega arith) };
@@ -165,7 +167,7 @@ module _ (t : Table) (d : Doc) (g : ℕ) where
     }
       where
         here : getD (set flag j (likeFirst + r)) j 0 ≡ likeFirst + r
-        here = getD-set-same flag j (likeFirst + r) 0 (omega (arith, p .loop .flags .size))
+        here = getD-set-same flag j (likeFirst + r) 0 (omega (arith, p .loop .flags .size, room-enough (count d) l))
 
         back : (likeFirst + r) - likeFirst ≡ r
         back = omega arith
@@ -197,7 +199,7 @@ module _ (t : Table) (d : Doc) (g : ℕ) where
         each P x y q a = go (ℕ-discrete q m)
           where
             go : Dec (q ≡ m) → P (getD (set stack m j) q 0)
-            go (yes z) = rw (z, getD-set-same stack m j 0 (omega (arith, p .models .few, p .models .size))) x
+            go (yes z) = rw (z, getD-set-same stack m j 0 (omega (arith, p .models .few, p .models .size, room-enough (count d) l))) x
             go (no z) = rw (getD-set-other stack m q j 0 z) (y q (omega arith))
 
     pub liken-more : {stack′ flag′ : List ℕ} {m′ : ℕ} (k : ℕ) → FirstKind d kindVariable (suc j) k → Likened t d j stack flag m stack′ flag′ m′ → LikenLoop t d g stack′ flag′ m′ k

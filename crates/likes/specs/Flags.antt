@@ -7,16 +7,16 @@ use mathlib.Core.List.{List}
 use Prim.Native.Nat.{ℕ, _+_, _-_, _≤_, _<_}
 use lib.ListN.{length, getD, set}
 use lib.Dec.{T, ltb}
-use Rattle.paper.specs.Numbers.{mostRows, kindOperation, kindFragment, kindVariable}
+use Rattle.paper.specs.Numbers.{kindOperation, kindFragment, kindVariable}
 use Rattle.paper_types.specs.Types.{Table}
 use Rattle.paper_rules.specs.QueryNumbers.{ruleCircle, ruleUndefined, ruleVariableType}
-use Rattle.paper_rules.specs.Constructs.{Doc, is, rowOf, kindOf, nameOf}
+use Rattle.paper_rules.specs.Constructs.{Doc, count, is, rowOf, kindOf, nameOf}
 use Rattle.paper_rules.specs.PlaceTypes.{place}
 use Rattle.paper_rules.specs.Reaching.{Reaches}
 use Rattle.paper_rules.specs.Rule8Circle.{ReachesItself}
 use Rattle.paper_rules.specs.Rule10Undefined.{defines, Undefined}
 use Rattle.paper_rules.specs.Rule11VariableType.{declaredBy, differ, Differs}
-use Rattle.constructs.specs.Rowed.{rowsIn, docOf, Rowed}
+use Rattle.constructs.specs.Rowed.{rowsIn, docOf, Rowed, roomOf}
 use Rattle.links.specs.Links.{Family}
 use Rattle.spreading.specs.Owners.{Owned}
 use Rattle.reaching.specs.Marks.{Waits}
@@ -80,7 +80,7 @@ pub record Judged (t : Table) (d : Doc) (m : ℕ) (flag : List ℕ) (i : ℕ) : 
 
 -- the fragments before row g are judged, and of the variables holds P
 pub record FlagsBy (P : ℕ → Type 0) (d : Doc) (g : ℕ) (flag : List ℕ) : Type 0 where
-  pub size : length flag ≡ mostRows
+  pub size : length flag ≡ roomOf (count d)
   pub variables : (i : ℕ) → kindOf d i ≡ kindVariable → P i
   pub fragments : (i : ℕ) → i < g → kindOf d i ≡ kindFragment → Circled d i (getD flag i 0)
   pub others : (i : ℕ) → (kindOf d i ≡ kindVariable → ⊥) → (kindOf d i ≡ kindFragment → ⊥) → getD flag i 0 ≡ noRule
@@ -111,7 +111,7 @@ pub record Unlinked (t s rows : List ℕ) (n : ℕ) (at size wrappers owner : Li
 
 -- the first m of the stack are variables before row i
 pub record Models (d : Doc) (stack : List ℕ) (m i : ℕ) : Type 0 where
-  pub size : length stack ≡ mostRows
+  pub size : length stack ≡ roomOf (count d)
   pub few : m ≤ i
   pub variables : (k : ℕ) → k < m → kindOf d (getD stack k 0) ≡ kindVariable
   pub before : (k : ℕ) → k < m → getD stack k 0 < i
@@ -143,5 +143,5 @@ pub record Flag (t : Table) (d : Doc) (i f : ℕ) : Type 0 where
 
 -- each row's
 pub record Flagged (t : Table) (d : Doc) (flag : List ℕ) : Type 0 where
-  pub size : length flag ≡ mostRows
+  pub size : length flag ≡ roomOf (count d)
   pub flags : (i : ℕ) → Flag t d i (getD flag i 0)

@@ -8,9 +8,9 @@ ghost use mathlib.Core.Bool.{true};
 ghost use Prim.Native.Nat.{_-_, _≤_, _<_};
 ghost use lib.ListN.{length, getD};
 ghost use lib.Dec.{eqb};
-ghost use Rattle.paper.specs.Numbers.{mostRows, kindVariable};
+ghost use Rattle.paper.specs.Numbers.{kindVariable};
 ghost use Rattle.paper_types.specs.Types.{tableOf};
-ghost use Rattle.constructs.specs.Rowed.{rowIn, rowsIn, docOf, Sized};
+ghost use Rattle.constructs.specs.Rowed.{rowIn, rowsIn, docOf, Sized, roomOf};
 ghost use Rattle.links.specs.Links.{Kinds};
 ghost use Rattle.likes.specs.Flags.{Alike, likeFirst, FlagsTo, LikenedTo, Unlinked, Models, ModelOf, Likened, ownFlag};
 
@@ -113,7 +113,7 @@ fn liken_one(
     m: usize,
     i: usize,
 ) -> usize
-    requires { ⌜ Unlinked (now t) (now s) (now rows) n (now at) (now size) (now wrappers) (now owner) × Models (docOf (now s) (now rows) n) (now stack) m i × (rowIn (now rows) n i .kind ≡ kindVariable) × (length (now flag) ≡ mostRows) ⌝ }
+    requires { ⌜ Unlinked (now t) (now s) (now rows) n (now at) (now size) (now wrappers) (now owner) × Models (docOf (now s) (now rows) n) (now stack) m i × (rowIn (now rows) n i .kind ≡ kindVariable) × (length (now flag) ≡ roomOf n) ⌝ }
     ensures { λ r. ⌜ Likened (tableOf (now (t .entry))) (docOf (now (s .entry)) (now (rows .entry)) n) i (now (stack .entry)) (now (flag .entry)) m (now (stack .exit)) (now (flag .exit)) r ⌝ }
 {
     let model = model_of(t, s, rows, n, at, size, wrappers, owner, stack, m, i);
@@ -140,7 +140,7 @@ pub fn liken(
     stack: &mut [u32],
     flag: &mut [u32],
 )
-    requires { ⌜ Unlinked (now t) (now s) (now rows) n (now at) (now size) (now wrappers) (now owner) × Kinds (rowsIn (now rows) n) (now firstk) (now nextk) × (length (now stack) ≡ mostRows) × FlagsTo (tableOf (now t)) (docOf (now s) (now rows) n) n 0 (now flag) ⌝ }
+    requires { ⌜ Unlinked (now t) (now s) (now rows) n (now at) (now size) (now wrappers) (now owner) × Kinds (rowsIn (now rows) n) (now firstk) (now nextk) × (length (now stack) ≡ roomOf n) × FlagsTo (tableOf (now t)) (docOf (now s) (now rows) n) n 0 (now flag) ⌝ }
     ensures { λ _. ⌜ LikenedTo (tableOf (now (t .entry))) (docOf (now (s .entry)) (now (rows .entry)) n) n 0 (now (flag .exit)) ⌝ }
 {
     let mut m = 0;

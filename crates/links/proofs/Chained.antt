@@ -9,6 +9,8 @@ use lib.Seq.{getD-set-same, getD-set-other, ext-getD}
 use lib.Dec.{eqb}
 use borrow.Author.Tests.{eq-eqb, ne-eqb, eqb-true, eqb-false}
 use Rattle.paper.specs.Numbers.{mostRows}
+use Rattle.constructs.specs.Rowed.{roomOf}
+use Rattle.constructs.proofs.Rooms.{room-enough}
 use Rattle.links.specs.Links.{nextWith}
 use Rattle.links.proofs.Nexts.{next-here, next-step, next-end}
 
@@ -41,17 +43,17 @@ keyed key k x = eqb (key x) k
 -- the elements from number i on are linked by their keys; keys from `size` on are not
 pub record Chains {A : Type 0} (d : A) (key : A → ℕ) (size : ℕ) (xs : List A) (first next : List ℕ) (i : ℕ) : Type 0 where
   pub firsts : length first ≡ size
-  pub nexts : length next ≡ mostRows
+  pub nexts : length next ≡ roomOf (length xs)
   pub few : length xs ≤ mostRows
   pub least : i ≤ length xs
   pub head : (k : ℕ) → k < size → getD first k 0 ≡ nextWith (keyed key k) xs i
   pub tail : (j : ℕ) → i ≤ j → j < length xs → key (getD xs j d) < size → getD next j 0 ≡ nextWith (keyed key (key (getD xs j d))) xs (suc j)
 
 module _ {A : Type 0} (d : A) (key : A → ℕ) (size : ℕ) (xs : List A) where
-  pub chains-none : (first next : List ℕ) (n : ℕ) → n ≡ length xs → n ≤ mostRows → length next ≡ mostRows → first ≡ replicate size n → Chains d key size xs first next n
+  pub chains-none : (first next : List ℕ) (n : ℕ) → n ≡ length xs → n ≤ mostRows → length next ≡ roomOf n → first ≡ replicate size n → Chains d key size xs first next n
   chains-none first next n e m l f = record {
     firsts = ap length f ∙ length-replicate size n;
-    nexts = l;
+    nexts = l ∙ ap roomOf e;
     few = omega arith;
     least = omega arith;
     head = λ k w. ap (λ (z : List ℕ). getD z k 0) f ∙ getD-replicate size k n 0 w ∙ next-end (keyed key k) xs n (omega arith);
@@ -76,8 +78,8 @@ module _ {A : Type 0} (d : A) (key : A → ℕ) (size : ℕ) (xs : List A) where
 
     -- it is put in front of the chain of its key
     module _ (h : k < size) (f : first′ ≡ set first k j) (g : next′ ≡ set next j (getD first k 0)) where
-      in-room : j < mostRows
-      in-room = omega (arith, c .least, c .few)
+      in-room : j < length next
+      in-room = omega (arith, c .least, c .nexts, room-enough (length xs) (c .few))
 
       new-head : (m : ℕ) → m < size → getD first′ m 0 ≡ nextWith (keyed key m) xs j
       new-head m w = rw f (go (eqb m k) refl)
@@ -96,7 +98,7 @@ module _ {A : Type 0} (d : A) (key : A → ℕ) (size : ℕ) (xs : List A) where
         where
           go : (b : Bool) → eqb m j ≡ b → getD (set next j (getD first k 0)) m 0 ≡ nextWith (keyed key (key (getD xs m d))) xs (suc m)
           go true q =
-              rw (eqb-true m j q, ← e, ← z) (getD-set-same next j (getD first k 0) 0 (omega (arith, in-room, c .nexts)) ∙ c .head k h)
+              rw (eqb-true m j q, ← e, ← z) (getD-set-same next j (getD first k 0) 0 in-room ∙ c .head k h)
           go false q =
               let y : m ≡ j → ⊥ = eqb-false m j q in
               getD-set-other next j m (getD first k 0) 0 y ∙ c .tail m (omega arith) v w

@@ -8,8 +8,9 @@ use lib.ListN.{length, getD, set, replicate}
 use Rattle.paper.specs.Numbers.{mostRows, noParent}
 use Rattle.paper.specs.Rows.{Row}
 use Rattle.paper_rules.specs.Constructs.{noRow}
-use Rattle.constructs.specs.Rowed.{rowsIn, rowIn, Rowed}
+use Rattle.constructs.specs.Rowed.{rowsIn, rowIn, Rowed, roomOf}
 use Rattle.constructs.proofs.RowsIn.{rows-count, parent-before}
+use Rattle.constructs.proofs.Rooms.{room-enough, room-most}
 use Rattle.links.specs.Links.{firstsSize, kindsSize, Family, Kinds}
 use Rattle.links.proofs.Chained.{Chains, chains-none, chains-skip, chains-more}
 
@@ -24,7 +25,7 @@ abbrev pub sorts : Row → ℕ
 sorts r = r .kind
 
 module _ (key : Row → ℕ) (size : ℕ) (rows : List ℕ) (n : ℕ) where
-  pub linking-start : (first next : List ℕ) (l : ℕ) → n ≤ mostRows → l ≡ size → length next ≡ mostRows → first ≡ replicate l n → RowChains key size rows n first next n
+  pub linking-start : (first next : List ℕ) (l : ℕ) → n ≤ mostRows → l ≡ size → length next ≡ roomOf n → first ≡ replicate l n → RowChains key size rows n first next n
   linking-start first next l m e h q =
       chains-none noRow key size (rowsIn rows n) first next n (sym (rows-count rows n)) m h (q ∙ ap (λ (k : ℕ). replicate k n) e)
 
@@ -33,7 +34,10 @@ module _ (key : Row → ℕ) (size : ℕ) (rows : List ℕ) (n : ℕ) where
     linking-row = omega (arith, c .least, rows-count rows n)
 
     pub linking-room : j - 1 < length next
-    linking-room = omega (arith, c .least, c .few, c .nexts)
+    linking-room = omega (arith, c .least, c .nexts, room-enough (length (rowsIn rows n)) (c .few))
+
+    pub linking-most : length next ≤ mostRows
+    linking-most = omega (arith, c .nexts, room-most (length (rowsIn rows n)))
 
     pub linking-more : {k : ℕ} (first′ next′ : List ℕ) → k ≡ key (rowIn rows n (j - 1)) → k < size → first′ ≡ set first k (j - 1) → next′ ≡ set next (j - 1) (getD first k 0) → RowChains key size rows n first′ next′ (j - 1)
     linking-more {k = k} first′ next′ e h f g = chains-more noRow key size (rowsIn rows n) first next first′ next′ j (j - 1) k c (omega arith) e h f g

@@ -9,6 +9,7 @@ use Rattle.paper.specs.Numbers.{mostRows}
 use Rattle.paper.specs.Rows.{Row}
 use Rattle.paper_types.specs.Lists.{firstAt}
 use Rattle.paper_rules.specs.Constructs.{noRow, is, below}
+use Rattle.constructs.specs.Rowed.{roomOf}
 
 -- the number of the first from number i on that passes; the count of all if none does
 unfoldable pub nextWith : {A : Type 0} → (A → Bool) → List A → ℕ → ℕ
@@ -24,13 +25,13 @@ kindsSize = 32
 -- of each row the first right below it, and after each row the next beside it
 pub record Family (rs : List Row) (first next : List ℕ) : Type 0 where
   pub firsts : length first ≡ firstsSize
-  pub nexts : length next ≡ mostRows
+  pub nexts : length next ≡ roomOf (length rs)
   pub eldest : (p : ℕ) → p ≤ mostRows → getD first p 0 ≡ nextWith (below p) rs 0
   pub younger : (j : ℕ) → j < length rs → getD next j 0 ≡ nextWith (below (getD rs j noRow .parent)) rs (suc j)
 
 -- of each kind the first row, and after each row the next of its kind
 pub record Kinds (rs : List Row) (first next : List ℕ) : Type 0 where
   pub firsts : length first ≡ kindsSize
-  pub nexts : length next ≡ mostRows
+  pub nexts : length next ≡ roomOf (length rs)
   pub earliest : (k : ℕ) → k < kindsSize → getD first k 0 ≡ nextWith (is k) rs 0
   pub later : (j : ℕ) → j < length rs → getD rs j noRow .kind < kindsSize → getD next j 0 ≡ nextWith (is (getD rs j noRow .kind)) rs (suc j)

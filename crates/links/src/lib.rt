@@ -5,7 +5,7 @@ ghost use mathlib.Core.Path.{_≡_};
 ghost use Prim.Native.Nat.{_≤_, _<_};
 ghost use lib.ListN.{length, getD, set, replicate};
 ghost use Rattle.paper.specs.Numbers.{mostRows};
-ghost use Rattle.constructs.specs.Rowed.{rowsIn, Rowed, Sized};
+ghost use Rattle.constructs.specs.Rowed.{rowsIn, Rowed, Sized, roomOf};
 ghost use Rattle.links.specs.Links.{firstsSize, kindsSize, Family, Kinds};
 
 fn wide(x: u32) -> usize
@@ -37,7 +37,7 @@ pub fn clear(first: &mut [u32], n: usize)
 
 // Puts row j in front of the chain p.
 pub fn put_first(first: &mut [u32], next: &mut [u32], p: usize, j: usize)
-    requires { ⌜ (p < length (now first)) × (j < length (now next)) × (length (now next) ≡ mostRows) ⌝ }
+    requires { ⌜ (p < length (now first)) × (j < length (now next)) × (length (now next) ≤ mostRows) ⌝ }
     ensures { λ _. ⌜ (now (first .exit) ≡ set (now (first .entry)) p j) × (now (next .exit) ≡ set (now (next .entry)) j (getD (now (first .entry)) p 0)) ⌝ }
 {
     next[j] = first[p];
@@ -46,7 +46,7 @@ pub fn put_first(first: &mut [u32], next: &mut [u32], p: usize, j: usize)
 
 // Links the rows right below each row.
 pub fn families(s: &[u8], rows: &[u32], n: usize, first: &mut [u32], next: &mut [u32])
-    requires { ⌜ Rowed (now s) (now rows) n × (length (now first) ≡ firstsSize) × (length (now next) ≡ mostRows) ⌝ }
+    requires { ⌜ Rowed (now s) (now rows) n × (length (now first) ≡ firstsSize) × (length (now next) ≡ roomOf n) ⌝ }
     ensures { λ _. ⌜ Family (rowsIn (now (rows .entry)) n) (now (first .exit)) (now (next .exit)) ⌝ }
 {
     clear(first, n);
@@ -60,7 +60,7 @@ pub fn families(s: &[u8], rows: &[u32], n: usize, first: &mut [u32], next: &mut 
 
 // Links the rows of each kind.
 pub fn kinds(rows: &[u32], n: usize, first: &mut [u32], next: &mut [u32])
-    requires { ⌜ Sized (now rows) n × (length (now first) ≡ kindsSize) × (length (now next) ≡ mostRows) ⌝ }
+    requires { ⌜ Sized (now rows) n × (length (now first) ≡ kindsSize) × (length (now next) ≡ roomOf n) ⌝ }
     ensures { λ _. ⌜ Kinds (rowsIn (now (rows .entry)) n) (now (first .exit)) (now (next .exit)) ⌝ }
 {
     clear(first, n);

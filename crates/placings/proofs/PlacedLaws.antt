@@ -9,13 +9,14 @@ use lib.ListN.{getD, set}
 use lib.Seq.{getD-set-same, getD-set-other}
 use lib.Dec.{eqb, ltb}
 use borrow.Author.Tests.{eqb-true, eqb-false, ltb-true, ltb-false, lt-ltb, le-ltb}
-use Rattle.paper.specs.Numbers.{mostRows, kindOperation, kindFragment, kindField, kindInline}
+use Rattle.paper.specs.Numbers.{kindOperation, kindFragment, kindField, kindInline}
 use Rattle.paper_types.specs.Types.{tableOf}
 use Rattle.paper_rules.specs.Constructs.{parentOf}
 use Rattle.paper_rules.specs.PlaceTypes.{place, placeFrom}
 use Rattle.paper_rules.proofs.PlaceLaws.{place-step, place-none}
-use Rattle.constructs.specs.Rowed.{docOf, rowIn, Rowed}
+use Rattle.constructs.specs.Rowed.{docOf, rowIn, Rowed, roomOf}
 use Rattle.constructs.proofs.RowsIn.{rows-count, parent-before}
+use Rattle.constructs.proofs.Rooms.{room-enough}
 use Rattle.enclosings.specs.Enclosed.{encloses, Enclosed}
 use Rattle.enclosings.proofs.EnclosedLaws.{rowed-before, enclosed-other-inside, enclosed-other-at, enclosed-other-to}
 use Rattle.shapes.specs.Shapes.{coded, Keeps}
@@ -125,7 +126,7 @@ module _ (t s rows : List ℕ) (n : ℕ) (r : Rowed s rows n) where
 
     in-same : placeIn rows n ats sizes wraps i ≡ x
     in-same =
-        let l : i < mostRows = omega (arith, h, r .few) in
+        let l : i < roomOf n = omega (arith, room-enough n (r .few)) in
         in-row rows n ats sizes wraps i h e
         ∙ rw (getD-set-same at i (x .at) 0 (omega (arith, p .enclosed .ats)), getD-set-same size i (x .size) 0 (omega (arith, p .enclosed .tos)), getD-set-same wrappers i (x .wrappers) 0 (omega (arith, p .enclosed .inners)))
 

@@ -11,11 +11,10 @@ use siblings::first_below;
 ghost use mathlib.Core.Path.{_≡_};
 ghost use Prim.Native.Nat.{_+_, _<_};
 ghost use lib.ListN.{length};
-ghost use Rattle.paper.specs.Numbers.{mostRows};
 ghost use Rattle.paper_types.specs.Types.{tableOf};
 ghost use Rattle.paper_rules.specs.Rule11VariableType.{noInputType};
 ghost use Rattle.types.specs.Booked.{Booked};
-ghost use Rattle.constructs.specs.Rowed.{docOf, rowsIn, Rowed, Sized};
+ghost use Rattle.constructs.specs.Rowed.{docOf, rowsIn, Rowed, Sized, roomOf};
 ghost use Rattle.links.specs.Links.{Family};
 ghost use Rattle.enclosings.specs.Enclosed.{Enclosed};
 ghost use Rattle.dues.specs.Dues.{Fitted};
@@ -30,7 +29,7 @@ pub fn place_of(
     wrappers: &[u32],
     i: usize,
 ) -> Place
-    requires { ⌜ Sized (now rows) n × (length (now at) ≡ mostRows) × (length (now size) ≡ mostRows) × (length (now wrappers) ≡ mostRows) ⌝ }
+    requires { ⌜ Sized (now rows) n × (length (now at) ≡ roomOf n) × (length (now size) ≡ roomOf n) × (length (now wrappers) ≡ roomOf n) ⌝ }
     ensures { λ r. ⌜ r ≡ placeIn (now (rows .entry)) n (now (at .entry)) (now (size .entry)) (now (wrappers .entry)) i ⌝ }
 {
     if n <= i {

@@ -5,10 +5,10 @@ use Prim.Native.Nat.{ℕ, zero, suc, _≤_}
 use native.Mathlib.Omega.{arith}
 use lib.ListN.{getD, replicate, length-replicate}
 use lib.Dec.{eqb, eqb→eq}
-use Rattle.paper.specs.Numbers.{mostRows, kindFragment}
-use Rattle.paper_rules.specs.Constructs.{Doc, kindOf}
+use Rattle.paper.specs.Numbers.{kindFragment}
+use Rattle.paper_rules.specs.Constructs.{Doc, count, kindOf}
 use Rattle.paper_rules.specs.Rule8Circle.{ReachesItself}
-use Rattle.constructs.specs.Rowed.{Decides}
+use Rattle.constructs.specs.Rowed.{Decides, roomOf}
 use Rattle.reaching.specs.Marks.{Stamped, stamp, Reached}
 use Rattle.reaching.proofs.DrawLaws.{circles-draws, draws-circles, decides-eq}
 
@@ -20,11 +20,11 @@ circle-decides d i mark e r =
     decides-eq (getD mark i 0) (stamp i) (ReachesItself d i) (λ q. record { fragment = rw e tt; circles = draws-circles d i (r .sound i q) }) (λ x. r .complete i (circles-draws d i (x .circles)))
 
 -- marks that are none above m are none above a larger number; cleared, none is above 0
-pub stamped-up : {m k : ℕ} {mark : List ℕ} → Stamped m mark → m ≤ k → Stamped k mark
+pub stamped-up : {d : Doc} {m k : ℕ} {mark : List ℕ} → Stamped d m mark → m ≤ k → Stamped d k mark
 stamped-up x l = record { size = x .size; most = λ i. omega (arith, x .most i) }
 
-pub stamped-none : {mark : List ℕ} → mark ≡ replicate mostRows 0 → Stamped 0 mark
-stamped-none e = rw e (record { size = length-replicate {A = ℕ} mostRows 0; most = λ i. none mostRows i })
+pub stamped-none : (d : Doc) {mark : List ℕ} → mark ≡ replicate (roomOf (count d)) 0 → Stamped d 0 mark
+stamped-none d e = rw e (record { size = length-replicate {A = ℕ} (roomOf (count d)) 0; most = λ i. none (roomOf (count d)) i })
   where
     none : (n i : ℕ) → getD (replicate n 0) i 0 ≤ 0
     none zero i = omega arith

@@ -1,11 +1,12 @@
 -- Over the spreads of one definition, along their links.
-use mathlib.Core.Path.{_≡_, refl, _∙_}
+use mathlib.Core.Path.{_≡_, refl, sym, _∙_}
 use mathlib.Core.List.{List}
 use Prim.Native.Nat.{ℕ, suc, _+_, _<_, _≤_}
 use native.Mathlib.Omega.{arith}
-use lib.ListN.{getD}
+use lib.ListN.{length, getD}
 use Rattle.paper.specs.Numbers.{mostRows}
 use Rattle.paper_rules.specs.Constructs.{Doc, count}
+use Rattle.constructs.proofs.Rooms.{room-enough, room-most}
 use Rattle.spreading.specs.Spreads.{SpreadIn, FirstOf, Graph}
 use Rattle.reaching.specs.Marks.{stamp, others, Noted, Room, Search, Passed}
 use Rattle.spreading.proofs.OwnerLaws.{definition-within}
@@ -31,8 +32,16 @@ module _ {d : Doc} {target first next : List ℕ} (h : Graph d target first next
       record { search = search-skip d a mark stack height g 0 x j n; at = n .holds; counted = refl }
 
   module _ {old : List ℕ} {top j n : ℕ} (e : count d ≡ n) (x : Passing d a old top mark stack height g j) where
+    held : n ≤ length mark
+    held = omega (arith, x .search .stamped .size, room-enough (count d) (h .few))
+
     pub passing-room : Room n (stamp a) mark stack height
-    passing-room = record { few = omega (arith, h .few); marks = x .search .stamped .size; stacked = x .search .stacked; room = x .search .room }
+    passing-room = record {
+      few = held;
+      most = omega (arith, x .search .stamped .size, room-most (count d));
+      stacked = x .search .stacked ∙ sym (x .search .stamped .size);
+      room = omega (arith, x .search .room, x .search .stamped .size);
+    }
 
     after : j < n → FirstOf (SpreadIn d g) (count d) (suc j) (getD next j 0)
     after l = h .linked .younger g j (search-defines d a mark stack height g j (x .search)) (x .at (omega arith))
@@ -51,7 +60,7 @@ module _ {d : Doc} {target first next : List ℕ} (h : Graph d target first next
               search-skip d a mark′ stack′ height′ g (suc j)
               (search-turn d a mark stack height g j n f (x .search) e m s (p ∙ h .targeted .leads j (s .spread)) w) k r;
           at = r .holds;
-          counted = noted-count n (stamp a) f mark stack height (omega (arith, x .search .stamped .size)) w ∙ x .counted;
+          counted = noted-count n (stamp a) f mark stack height held w ∙ x .counted;
         }
 
     pub passing-end : (stack₀ : List ℕ) → n ≤ j → Passed d a old stack₀ top g mark stack height

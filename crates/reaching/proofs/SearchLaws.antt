@@ -13,6 +13,8 @@ use borrow.Author.Tests.{eq-eqb, ne-eqb}
 use Rattle.paper.specs.Numbers.{mostRows}
 use Rattle.paper_rules.specs.Constructs.{Doc, count, nameOf, fragmentNamed}
 use Rattle.paper_rules.specs.Reaching.{Within, Spreads}
+use Rattle.constructs.specs.Rowed.{roomOf}
+use Rattle.constructs.proofs.Rooms.{room-enough, room-most}
 use Rattle.spreading.specs.Owners.{Defines}
 use Rattle.spreading.specs.Spreads.{SpreadIn, FirstOf}
 use Rattle.reaching.specs.Marks.{Draws, Stamped, stamp, Reached, others, Noted, Waits, PassedTo, Met, Search}
@@ -53,7 +55,7 @@ marked-still m mark f i h e = go (ℕ-discrete i f)
     go (no q) = getD-set-other mark f i m 0 q ∙ e
 
 -- how a search begins
-pub search-start : (d : Doc) (a : ℕ) (mark stack : List ℕ) → Defines d a → Stamped a mark → length stack ≡ mostRows → Search d a mark stack 0 a 0
+pub search-start : (d : Doc) (a : ℕ) (mark stack : List ℕ) → Defines d a → Stamped d a mark → length stack ≡ roomOf (count d) → Search d a mark stack 0 a 0
 search-start d a mark stack h m l = record {
   defines = h;
   stamped = record { size = m .size; most = λ i. omega (arith, m .most i) };
@@ -67,6 +69,10 @@ search-start d a mark stack h m l = record {
 }
 
 module _ (d : Doc) (a : ℕ) (mark stack : List ℕ) (top g j : ℕ) (x : Search d a mark stack top g j) where
+  -- no more wait than there are rows
+  pub search-most : top ≤ mostRows
+  search-most = omega (arith, x .room, room-most (count d))
+
   -- what is passed over is a definition
   pub search-defines : Defines d g
   search-defines = ⊎-elim (λ e. subst (Defines d) (sym e) (x .defines)) (λ e. draws-defines d a g (x .sound g e)) (x .met)
@@ -146,17 +152,20 @@ module _ (d : Doc) (a : ℕ) (mark stack : List ℕ) (top g j : ℕ) (x : Search
 
   -- a fragment that is not marked yet is marked and put on the stack
   module _ (f : ℕ) (r : Draws d a f) (l : f < count d) (c : count d ≤ mostRows) (n : getD mark f 0 ≡ stamp a → ⊥) where
+    marked : f < length mark
+    marked = omega (arith, x .stamped .size, room-enough (count d) c)
+
     less : suc (others (stamp a) (set mark f (stamp a))) ≡ others (stamp a) mark
-    less = others-set (stamp a) mark f (omega (arith, x .stamped .size)) n
+    less = others-set (stamp a) mark f marked n
 
     pub top-within : top < length stack
     top-within = omega (arith, less, x .room, x .stacked)
 
     still : (i : ℕ) → getD mark i 0 ≡ stamp a → getD (set mark f (stamp a)) i 0 ≡ stamp a
-    still i e = marked-still (stamp a) mark f i (omega (arith, x .stamped .size)) e
+    still i e = marked-still (stamp a) mark f i marked e
 
     here : getD (set mark f (stamp a)) f 0 ≡ stamp a
-    here = marked-here (stamp a) mark f (omega (arith, x .stamped .size))
+    here = marked-here (stamp a) mark f marked
 
     search-mark : Search d a (set mark f (stamp a)) (set stack top f) (top + 1) g j
     search-mark = record {
@@ -217,5 +226,5 @@ noted-count n m f mark stack top l (old h) = refl
 noted-count n m f mark stack top l (new h u) = omega (arith, others-set m mark f (omega arith) u)
 
 -- there is room on the stack for a row that is not marked
-pub noted-room : (m f : ℕ) (mark : List ℕ) (top : ℕ) → f < length mark → (getD mark f 0 ≡ m → ⊥) → top + others m mark ≤ mostRows → top < mostRows
+pub noted-room : (m f : ℕ) (mark : List ℕ) (top : ℕ) → f < length mark → (getD mark f 0 ≡ m → ⊥) → top + others m mark ≤ length mark → top < length mark
 noted-room m f mark top l u r = omega (arith, others-set m mark f l u)

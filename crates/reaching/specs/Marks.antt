@@ -10,6 +10,7 @@ use lib.Dec.{eqb}
 use Rattle.paper.specs.Numbers.{mostRows}
 use Rattle.paper_rules.specs.Constructs.{Doc, count}
 use Rattle.paper_rules.specs.Reaching.{Spreads, Reaches}
+use Rattle.constructs.specs.Rowed.{roomOf}
 use Rattle.spreading.specs.Owners.{Defines}
 use Rattle.spreading.specs.Spreads.{SpreadIn}
 
@@ -20,8 +21,8 @@ pub record Draws (d : Doc) (a f : ℕ) : Type 0 where
   pub spreads : Spreads d at f
 
 -- a mark for each row, none above m
-pub record Stamped (m : ℕ) (mark : List ℕ) : Type 0 where
-  pub size : length mark ≡ mostRows
+pub record Stamped (d : Doc) (m : ℕ) (mark : List ℕ) : Type 0 where
+  pub size : length mark ≡ roomOf (count d)
   pub most : (i : ℕ) → getD mark i 0 ≤ m
 
 -- the mark of a search from row a
@@ -30,7 +31,7 @@ stamp a = a + 1
 
 -- the fragments that the definition of row a reaches have the mark of its search, no other row has it, and none has a larger one
 pub record Reached (d : Doc) (a : ℕ) (mark : List ℕ) : Type 0 where
-  pub stamped : Stamped (stamp a) mark
+  pub stamped : Stamped d (stamp a) mark
   pub sound : (f : ℕ) → getD mark f 0 ≡ stamp a → Draws d a f
   pub complete : (f : ℕ) → Draws d a f → getD mark f 0 ≡ stamp a
 
@@ -47,10 +48,10 @@ pub data Noted (n m f : ℕ) (mark stack : List ℕ) (top : ℕ) : List ℕ → 
 
 -- what noting a row asks: the stack has room for all that are not marked
 pub record Room (n m : ℕ) (mark stack : List ℕ) (top : ℕ) : Type 0 where
-  pub few : n ≤ mostRows
-  pub marks : length mark ≡ mostRows
-  pub stacked : length stack ≡ mostRows
-  pub room : top + others m mark ≤ mostRows
+  pub few : n ≤ length mark
+  pub most : length mark ≤ mostRows
+  pub stacked : length stack ≡ length mark
+  pub room : top + others m mark ≤ length mark
 
 -- g is one of the first `top` of the stack
 pub record Waits (stack : List ℕ) (top g : ℕ) : Type 0 where
@@ -69,9 +70,9 @@ Met a mark g = (g ≡ a) ⊎ (getD mark g 0 ≡ stamp a)
 -- amid the search from row a: of the definition of row g the spreads up to row j are passed, of all others met all, but of those on the stack
 pub record Search (d : Doc) (a : ℕ) (mark stack : List ℕ) (top g j : ℕ) : Type 0 where
   pub defines : Defines d a
-  pub stamped : Stamped (stamp a) mark
-  pub stacked : length stack ≡ mostRows
-  pub room : top + others (stamp a) mark ≤ mostRows
+  pub stamped : Stamped d (stamp a) mark
+  pub stacked : length stack ≡ roomOf (count d)
+  pub room : top + others (stamp a) mark ≤ roomOf (count d)
   pub sound : (f : ℕ) → getD mark f 0 ≡ stamp a → Draws d a f
   pub waiting : (k : ℕ) → k < top → getD mark (getD stack k 0) 0 ≡ stamp a
   pub met : Met a mark g

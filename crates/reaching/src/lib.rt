@@ -7,7 +7,7 @@ ghost use lib.ListN.{length};
 ghost use Rattle.paper.specs.Numbers.{mostRows};
 ghost use Rattle.paper_rules.specs.Reaching.{Reaches};
 ghost use Rattle.paper_rules.specs.Rule8Circle.{ReachesItself};
-ghost use Rattle.constructs.specs.Rowed.{docOf, Sized, Decides};
+ghost use Rattle.constructs.specs.Rowed.{docOf, Sized, Decides, roomOf};
 ghost use Rattle.spreading.specs.Owners.{Defines, Owned};
 ghost use Rattle.spreading.specs.Spreads.{Graph};
 ghost use Rattle.reaching.specs.Marks.{Stamped, Reached, Noted, Room, Search, Passed};
@@ -67,7 +67,7 @@ pub fn reach(
     stack: &mut [u32],
     a: usize,
 )
-    requires { ⌜ Graph (docOf (now s) (now rows) n) (now target) (now first) (now next) × Defines (docOf (now s) (now rows) n) a × Stamped a (now mark) × (length (now stack) ≡ mostRows) ⌝ }
+    requires { ⌜ Graph (docOf (now s) (now rows) n) (now target) (now first) (now next) × Defines (docOf (now s) (now rows) n) a × Stamped (docOf (now s) (now rows) n) a (now mark) × (length (now stack) ≡ roomOf n) ⌝ }
     ensures { λ _. ⌜ Reached (docOf (now (s .entry)) (now (rows .entry)) n) a (now (mark .exit)) ⌝ }
 {
     let mut top = pass(s, rows, n, target, first, next, mark, stack, 0, a, a);
@@ -90,8 +90,8 @@ pub fn circles(
     stack: &mut [u32],
     i: usize,
 ) -> bool
-    requires { ⌜ Sized (now rows) n × Graph (docOf (now s) (now rows) n) (now target) (now first) (now next) × Stamped i (now mark) × (length (now stack) ≡ mostRows) ⌝ }
-    ensures { λ r. ⌜ Decides r (ReachesItself (docOf (now (s .entry)) (now (rows .entry)) n) i) × Stamped (i + 1) (now (mark .exit)) ⌝ }
+    requires { ⌜ Sized (now rows) n × Graph (docOf (now s) (now rows) n) (now target) (now first) (now next) × Stamped (docOf (now s) (now rows) n) i (now mark) × (length (now stack) ≡ roomOf n) ⌝ }
+    ensures { λ r. ⌜ Decides r (ReachesItself (docOf (now (s .entry)) (now (rows .entry)) n) i) × Stamped (docOf (now (s .entry)) (now (rows .entry)) n) (i + 1) (now (mark .exit)) ⌝ }
 {
     if kind_of(rows, n, i) != KIND_FRAGMENT {
         return false;

@@ -8,8 +8,9 @@ use lib.ListN.{length, getD, set, replicate, length-set, length-replicate, getD-
 use lib.Seq.{getD-set-same, getD-set-other}
 use Rattle.paper.specs.Numbers.{mostRows}
 use Rattle.paper_rules.specs.Constructs.{Doc, count}
-use Rattle.constructs.specs.Rowed.{docOf}
+use Rattle.constructs.specs.Rowed.{docOf, roomOf}
 use Rattle.constructs.proofs.RowsIn.{rows-count}
+use Rattle.constructs.proofs.Rooms.{room-enough}
 use Rattle.links.specs.Links.{firstsSize}
 use Rattle.spreading.specs.Owners.{Defines}
 use Rattle.spreading.specs.Spreads.{SpreadIn, Spreader, FirstOf, Targeted, Linked, Graph}
@@ -35,12 +36,12 @@ first-later P n i j u x = record {
 -- the spreads from row j on are linked
 pub record Linking (d : Doc) (first next : List ℕ) (j : ℕ) : Type 0 where
   pub firsts : length first ≡ firstsSize
-  pub nexts : length next ≡ mostRows
+  pub nexts : length next ≡ roomOf (count d)
   pub most : j ≤ count d
   pub eldest : (a : ℕ) → Defines d a → FirstOf (SpreadIn d a) (count d) j (getD first a 0)
   pub younger : (a s : ℕ) → j ≤ s → Defines d a → SpreadIn d a s → FirstOf (SpreadIn d a) (count d) (suc s) (getD next s 0)
 
-pub linking-start : (d : Doc) (first next : List ℕ) (n : ℕ) → count d ≡ n → n ≤ mostRows → first ≡ replicate firstsSize n → length next ≡ mostRows → Linking d first next n
+pub linking-start : (d : Doc) (first next : List ℕ) (n : ℕ) → count d ≡ n → n ≤ mostRows → first ≡ replicate firstsSize n → length next ≡ roomOf (count d) → Linking d first next n
 linking-start d first next n c m e l = record {
   firsts = ap length e ∙ length-replicate firstsSize n;
   nexts = l;
@@ -78,7 +79,7 @@ linking-more d first next j o x z m s p q = rw (p, q) (record {
     younger : (a i : ℕ) → j - 1 ≤ i → Defines d a → SpreadIn d a i → Dec (i ≡ j - 1) → FirstOf (SpreadIn d a) (count d) (suc i) (getD (set next (j - 1) (getD first o 0)) i 0)
     younger a i l h w (yes e) =
         let u : o ≡ a = s .sole a h (subst (SpreadIn d a) e w) in
-        rw (e, getD-set-same next (j - 1) (getD first o 0) 0 (omega (arith, x .nexts, x .most)), u) (first-from a h)
+        rw (e, getD-set-same next (j - 1) (getD first o 0) 0 (omega (arith, x .nexts, x .most, room-enough (count d) m)), u) (first-from a h)
     younger a i l h w (no e) =
         rw (getD-set-other next (j - 1) i (getD first o 0) 0 e) (x .younger a i (omega arith) h w)
 

@@ -15,7 +15,7 @@ use Rattle.paper.specs.Rows.{Row}
 use Rattle.paper_rules.specs.Constructs.{Doc, count, noRow, rowOf, kindOf, parentOf}
 use Rattle.paper_rules.specs.Reaching.{isDefinition, Within}
 use Rattle.paper_rules.specs.Reaching.Within.{itself, deeper}
-use Rattle.constructs.specs.Rowed.{docOf, Rowed}
+use Rattle.constructs.specs.Rowed.{docOf, Rowed, roomOf}
 use Rattle.constructs.proofs.RowsIn.{rows-count, parent-before}
 use Rattle.spreading.specs.Owners.{Defines, Owner, Owned, OwnedTo}
 
@@ -85,10 +85,10 @@ pub other-defines-not : (d : Doc) (i : ℕ) → (kindOf d i ≡ kindOperation �
 other-defines-not d i o f = rw (ne-eqb (kindOf d i) kindOperation o, ne-eqb (kindOf d i) kindFragment f) tt
 
 -- row by row
-pub owned-none : (d : Doc) (owner : List ℕ) → length owner ≡ mostRows → OwnedTo d 0 owner
+pub owned-none : (d : Doc) (owner : List ℕ) → length owner ≡ roomOf (count d) → OwnedTo d 0 owner
 owned-none d owner l = record { size = l; owns = λ j h. absurd (omega arith) }
 
-pub owned-more : (d : Doc) (owner : List ℕ) (i o : ℕ) → i < mostRows → OwnedTo d i owner → Owner d i o → OwnedTo d (i + 1) (set owner i o)
+pub owned-more : (d : Doc) (owner : List ℕ) (i o : ℕ) → i < roomOf (count d) → OwnedTo d i owner → Owner d i o → OwnedTo d (i + 1) (set owner i o)
 owned-more d owner i o m w x = record { size = length-set owner i o ∙ w .size; owns = λ j h. go j h (ℕ-discrete j i) }
   where
     go : (j : ℕ) → j < i + 1 → Dec (j ≡ i) → Owner d j (getD (set owner i o) j 0)

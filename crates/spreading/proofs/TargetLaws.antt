@@ -13,6 +13,8 @@ use Rattle.paper.specs.Numbers.{mostRows, kindSpread}
 use Rattle.paper_types.proofs.ListsLaws.{any-first, firstAt-most}
 use Rattle.paper_rules.specs.Constructs.{Doc, count, noRow, is, kindOf, nameOf, fragmentCalled, fragmentNamed, hasFragment}
 use Rattle.paper_rules.specs.Rule7Spread.{spreadOfNone}
+use Rattle.constructs.specs.Rowed.{roomOf}
+use Rattle.constructs.proofs.Rooms.{room-enough}
 use Rattle.links.specs.Links.{nextWith}
 use Rattle.links.proofs.Nexts.{next-least, next-most, next-passes, next-skips}
 use Rattle.spreading.specs.Spreads.{IsSpread, Targeted, FirstOf}
@@ -33,11 +35,11 @@ spread-next d i l = record {
 
 -- the spreads before row i are led, and row i is the next
 pub record Targeting (d : Doc) (target : List ℕ) (i : ℕ) : Type 0 where
-  pub size : length target ≡ mostRows
+  pub size : length target ≡ roomOf (count d)
   pub at : i < count d → IsSpread d i
   pub leads : (s : ℕ) → s < i → IsSpread d s → getD target s 0 ≡ fragmentNamed d (nameOf d s)
 
-pub targeting-start : (d : Doc) (target : List ℕ) {i : ℕ} → length target ≡ mostRows → i ≡ nextWith (is kindSpread) (d .rows) 0 → Targeting d target i
+pub targeting-start : (d : Doc) (target : List ℕ) {i : ℕ} → length target ≡ roomOf (count d) → i ≡ nextWith (is kindSpread) (d .rows) 0 → Targeting d target i
 targeting-start d target l e =
     let n = spread-next d 0 (omega arith) in
     rw e (record { size = l; at = n .holds; leads = λ s h x. absurd (n .skips s (omega arith) h x) })
@@ -53,7 +55,7 @@ targeting-more d target i {f = f} x l m p e =
     })
   where
     go : (s : ℕ) → s < nextWith (is kindSpread) (d .rows) (suc i) → IsSpread d s → Dec (s ≡ i) → Dec (s < i) → getD (set target i f) s 0 ≡ fragmentNamed d (nameOf d s)
-    go s h w (yes q) v = rw (q, getD-set-same target i f 0 (omega (arith, x .size))) p
+    go s h w (yes q) v = rw (q, getD-set-same target i f 0 (omega (arith, x .size, room-enough (count d) m))) p
     go s h w (no q) (yes v) = getD-set-other target i s f 0 q ∙ x .leads s v w
     go s h w (no q) (no v) = absurd (spread-next d (suc i) l .skips s (omega arith) h w)
 

@@ -8,6 +8,7 @@ use lib.Dec.{T}
 use Rattle.paper.specs.Numbers.{mostRows, kindSpread}
 use Rattle.paper_rules.specs.Constructs.{Doc, count, is, rowOf, nameOf, fragmentNamed}
 use Rattle.paper_rules.specs.Reaching.{Within}
+use Rattle.constructs.specs.Rowed.{roomOf}
 use Rattle.links.specs.Links.{firstsSize}
 use Rattle.spreading.specs.Owners.{Defines}
 
@@ -17,7 +18,7 @@ IsSpread d s = T (is kindSpread (rowOf d s))
 
 -- of each spread the first fragment of its name; the count of rows if there is none
 pub record Targeted (d : Doc) (target : List ℕ) : Type 0 where
-  pub size : length target ≡ mostRows
+  pub size : length target ≡ roomOf (count d)
   pub leads : (s : ℕ) → IsSpread d s → getD target s 0 ≡ fragmentNamed d (nameOf d s)
 
 -- row s is a spread in the definition of row a
@@ -41,7 +42,7 @@ pub record FirstOf (P : ℕ → Type 0) (n i j : ℕ) : Type 0 where
 -- of each definition its first spread, and after each spread the next of its definition
 pub record Linked (d : Doc) (first next : List ℕ) : Type 0 where
   pub firsts : length first ≡ firstsSize
-  pub nexts : length next ≡ mostRows
+  pub nexts : length next ≡ roomOf (count d)
   pub eldest : (a : ℕ) → Defines d a → FirstOf (SpreadIn d a) (count d) 0 (getD first a 0)
   pub younger : (a s : ℕ) → Defines d a → SpreadIn d a s → FirstOf (SpreadIn d a) (count d) (suc s) (getD next s 0)
 

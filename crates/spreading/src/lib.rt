@@ -8,9 +8,8 @@ use paper::NO_PARENT;
 ghost use mathlib.Core.Path.{_≡_};
 ghost use Prim.Native.Nat.{_<_};
 ghost use lib.ListN.{length};
-ghost use Rattle.paper.specs.Numbers.{mostRows};
 ghost use Rattle.paper_rules.specs.Rule7Spread.{spreadOfNone};
-ghost use Rattle.constructs.specs.Rowed.{docOf, rowsIn, Rowed, Sized};
+ghost use Rattle.constructs.specs.Rowed.{docOf, rowsIn, Rowed, Sized, roomOf};
 ghost use Rattle.links.specs.Links.{firstsSize, Kinds};
 ghost use Rattle.spreading.specs.Owners.{Owner, Owned, OwnedTo};
 ghost use Rattle.spreading.specs.Spreads.{Targeted, Linked, Spreader};
@@ -36,7 +35,7 @@ fn owner_of(s: &[u8], rows: &[u32], n: usize, owner: &[u32], i: usize) -> u32
 
 // Finds the definition of each row.
 pub fn owners(s: &[u8], rows: &[u32], n: usize, owner: &mut [u32])
-    requires { ⌜ Rowed (now s) (now rows) n × (length (now owner) ≡ mostRows) ⌝ }
+    requires { ⌜ Rowed (now s) (now rows) n × (length (now owner) ≡ roomOf n) ⌝ }
     ensures { λ _. ⌜ Owned (docOf (now (s .entry)) (now (rows .entry)) n) (now (owner .exit)) ⌝ }
 {
     let mut i = 0;
@@ -49,7 +48,7 @@ pub fn owners(s: &[u8], rows: &[u32], n: usize, owner: &mut [u32])
 
 // Finds the fragment that each spread leads to.
 pub fn targets(s: &[u8], rows: &[u32], n: usize, firstk: &[u32], nextk: &[u32], target: &mut [u32])
-    requires { ⌜ Rowed (now s) (now rows) n × Kinds (rowsIn (now rows) n) (now firstk) (now nextk) × (length (now target) ≡ mostRows) ⌝ }
+    requires { ⌜ Rowed (now s) (now rows) n × Kinds (rowsIn (now rows) n) (now firstk) (now nextk) × (length (now target) ≡ roomOf n) ⌝ }
     ensures { λ _. ⌜ Targeted (docOf (now (s .entry)) (now (rows .entry)) n) (now (target .exit)) ⌝ }
 {
     let mut i = links::link_of(firstk, KIND_SPREAD as usize);
@@ -84,7 +83,7 @@ fn spreader(s: &[u8], rows: &[u32], n: usize, owner: &[u32], j: usize) -> usize
 
 // Links the spreads of each definition.
 pub fn spreads(s: &[u8], rows: &[u32], n: usize, owner: &[u32], first: &mut [u32], next: &mut [u32])
-    requires { ⌜ Rowed (now s) (now rows) n × Owned (docOf (now s) (now rows) n) (now owner) × (length (now first) ≡ firstsSize) × (length (now next) ≡ mostRows) ⌝ }
+    requires { ⌜ Rowed (now s) (now rows) n × Owned (docOf (now s) (now rows) n) (now owner) × (length (now first) ≡ firstsSize) × (length (now next) ≡ roomOf n) ⌝ }
     ensures { λ _. ⌜ Linked (docOf (now (s .entry)) (now (rows .entry)) n) (now (first .exit)) (now (next .exit)) ⌝ }
 {
     links::clear(first, n);

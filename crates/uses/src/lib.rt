@@ -11,9 +11,9 @@ use says::NO_RULE;
 ghost use mathlib.Core.Path.{_≡_};
 ghost use Prim.Native.Nat.{_+_};
 ghost use lib.ListN.{length};
-ghost use Rattle.paper.specs.Numbers.{mostRows, kindOperation};
+ghost use Rattle.paper.specs.Numbers.{kindOperation};
 ghost use Rattle.paper_types.specs.Types.{tableOf};
-ghost use Rattle.constructs.specs.Rowed.{rowIn, rowsIn, docOf, Sized};
+ghost use Rattle.constructs.specs.Rowed.{rowIn, rowsIn, docOf, Sized, roomOf};
 ghost use Rattle.links.specs.Links.{Kinds};
 ghost use Rattle.spreading.specs.Spreads.{Graph};
 ghost use Rattle.reaching.specs.Marks.{Stamped, Reached};
@@ -86,7 +86,7 @@ fn judge_operations(
     stack: &mut [u32],
     flag: &mut [u32],
 )
-    requires { ⌜ Known (now t) (now s) (now rows) n (now first) (now next) (now at) (now size) (now wrappers) (now owner) × Kinds (rowsIn (now rows) n) (now firstk) (now nextk) × Graph (docOf (now s) (now rows) n) (now target) (now firsts) (now nexts) × Stamped 0 (now mark) × (length (now stack) ≡ mostRows) × LikenedTo (tableOf (now t)) (docOf (now s) (now rows) n) n 0 (now flag) ⌝ }
+    requires { ⌜ Known (now t) (now s) (now rows) n (now first) (now next) (now at) (now size) (now wrappers) (now owner) × Kinds (rowsIn (now rows) n) (now firstk) (now nextk) × Graph (docOf (now s) (now rows) n) (now target) (now firsts) (now nexts) × Stamped (docOf (now s) (now rows) n) 0 (now mark) × (length (now stack) ≡ roomOf n) × LikenedTo (tableOf (now t)) (docOf (now s) (now rows) n) n 0 (now flag) ⌝ }
     ensures { λ _. ⌜ LikenedTo (tableOf (now (t .entry))) (docOf (now (s .entry)) (now (rows .entry)) n) n n (now (flag .exit)) ⌝ }
 {
     let mut o = link_of(firstk, KIND_OPERATION as usize);
@@ -134,7 +134,7 @@ fn judge_uses(
     stack: &mut [u32],
     flag: &mut [u32],
 )
-    requires { ⌜ Known (now t) (now s) (now rows) n (now first) (now next) (now at) (now size) (now wrappers) (now owner) × Kinds (rowsIn (now rows) n) (now firstk) (now nextk) × Graph (docOf (now s) (now rows) n) (now target) (now firsts) (now nexts) × Stamped 0 (now mark) × (length (now stack) ≡ mostRows) × FlagsTo (tableOf (now t)) (docOf (now s) (now rows) n) n 0 (now flag) ⌝ }
+    requires { ⌜ Known (now t) (now s) (now rows) n (now first) (now next) (now at) (now size) (now wrappers) (now owner) × Kinds (rowsIn (now rows) n) (now firstk) (now nextk) × Graph (docOf (now s) (now rows) n) (now target) (now firsts) (now nexts) × Stamped (docOf (now s) (now rows) n) 0 (now mark) × (length (now stack) ≡ roomOf n) × FlagsTo (tableOf (now t)) (docOf (now s) (now rows) n) n 0 (now flag) ⌝ }
     ensures { λ _. ⌜ FlagsTo (tableOf (now (t .entry))) (docOf (now (s .entry)) (now (rows .entry)) n) n n (now (flag .exit)) ⌝ }
 {
     likes::liken(
@@ -186,8 +186,8 @@ fn circle_of(
     stack: &mut [u32],
     i: usize,
 ) -> u32
-    requires { ⌜ Sized (now rows) n × Graph (docOf (now s) (now rows) n) (now target) (now firsts) (now nexts) × Stamped i (now mark) × (length (now stack) ≡ mostRows) ⌝ }
-    ensures { λ r. ⌜ Circled (docOf (now (s .entry)) (now (rows .entry)) n) i r × Stamped (i + 1) (now (mark .exit)) ⌝ }
+    requires { ⌜ Sized (now rows) n × Graph (docOf (now s) (now rows) n) (now target) (now firsts) (now nexts) × Stamped (docOf (now s) (now rows) n) i (now mark) × (length (now stack) ≡ roomOf n) ⌝ }
+    ensures { λ r. ⌜ Circled (docOf (now (s .entry)) (now (rows .entry)) n) i r × Stamped (docOf (now (s .entry)) (now (rows .entry)) n) (i + 1) (now (mark .exit)) ⌝ }
 {
     if reaching::circles(s, rows, n, target, firsts, nexts, mark, stack, i) {
         return RULE_CIRCLE;
@@ -209,7 +209,7 @@ fn judge_fragments(
     stack: &mut [u32],
     flag: &mut [u32],
 )
-    requires { ⌜ Sized (now rows) n × Kinds (rowsIn (now rows) n) (now firstk) (now nextk) × Graph (docOf (now s) (now rows) n) (now target) (now firsts) (now nexts) × Stamped 0 (now mark) × (length (now stack) ≡ mostRows) × (length (now flag) ≡ mostRows) ⌝ }
+    requires { ⌜ Sized (now rows) n × Kinds (rowsIn (now rows) n) (now firstk) (now nextk) × Graph (docOf (now s) (now rows) n) (now target) (now firsts) (now nexts) × Stamped (docOf (now s) (now rows) n) 0 (now mark) × (length (now stack) ≡ roomOf n) × (length (now flag) ≡ roomOf n) ⌝ }
     ensures { λ _. ⌜ FragmentsTo (docOf (now (s .entry)) (now (rows .entry)) n) (now (flag .entry)) n (now (flag .exit)) ⌝ }
 {
     let mut f = link_of(firstk, KIND_FRAGMENT as usize);
@@ -240,7 +240,7 @@ pub fn flags(
     stack: &mut [u32],
     flag: &mut [u32],
 )
-    requires { ⌜ Known (now t) (now s) (now rows) n (now first) (now next) (now at) (now size) (now wrappers) (now owner) × Kinds (rowsIn (now rows) n) (now firstk) (now nextk) × Graph (docOf (now s) (now rows) n) (now target) (now firsts) (now nexts) × (length (now mark) ≡ mostRows) × (length (now stack) ≡ mostRows) × (length (now flag) ≡ mostRows) ⌝ }
+    requires { ⌜ Known (now t) (now s) (now rows) n (now first) (now next) (now at) (now size) (now wrappers) (now owner) × Kinds (rowsIn (now rows) n) (now firstk) (now nextk) × Graph (docOf (now s) (now rows) n) (now target) (now firsts) (now nexts) × (length (now mark) ≡ roomOf n) × (length (now stack) ≡ roomOf n) × (length (now flag) ≡ roomOf n) ⌝ }
     ensures { λ _. ⌜ Flagged (tableOf (now (t .entry))) (docOf (now (s .entry)) (now (rows .entry)) n) (now (flag .exit)) ⌝ }
 {
     links::clear(flag, 0);

@@ -9,6 +9,7 @@ use Rattle.paper_rules.specs.Constructs.{kindOf, parentOf}
 use Rattle.paper_rules.specs.Enclosing.{fieldAt}
 use Rattle.constructs.specs.Rowed.{docOf, rowIn}
 use Rattle.constructs.proofs.RowsIn.{rowed-sized}
+use Rattle.constructs.proofs.Rooms.{room-enough}
 use Rattle.composites.specs.Coded.{FieldKept}
 use Rattle.shapes.proofs.ShapeLaws.{keeps-unknown, keeps-boolean}
 use Rattle.dues.proofs.PlaceCases.{field-there, argument-of-directive, argument-of-other, argument-of-leaf, member-slim, argument-of-member}
@@ -57,7 +58,7 @@ returns-2 c =
 link-of-requires : tie.Need-link-of-requires
 link-of-requires c κs =
     let s = c .before .before .before .before .before .before .before .before .before in
-    omega (arith, field-there (s .args .rows .now) (s .args .n) (rowIn (s .args .rows .now) (s .args .n) (s .args .i) .parent) (is-field c), c .before .before .before .parent-of .ensures, s .pre .2 .ats, s .pre .1 .few)
+    omega (arith, field-there (s .args .rows .now) (s .args .n) (rowIn (s .args .rows .now) (s .args .n) (s .args .i) .parent) (is-field c), c .before .before .before .parent-of .ensures, s .pre .2 .ats, room-enough _ (s .pre .1 .few))
 
 cast-if3 : tie.Need-cast-if3
 cast-if3 c = search needs
@@ -73,7 +74,7 @@ returns-3 c =
 link-of-requires-2 : tie.Need-link-of-requires-2
 link-of-requires-2 c κs =
     let s = c .before .before .before .before .before .before .before .before .before .before .before in
-    omega (arith, field-there (s .args .rows .now) (s .args .n) (rowIn (s .args .rows .now) (s .args .n) (s .args .i) .parent) (is-field (c .before .before)), c .before .before .before .before .before .parent-of .ensures, s .pre .2 .tos, s .pre .1 .few)
+    omega (arith, field-there (s .args .rows .now) (s .args .n) (rowIn (s .args .rows .now) (s .args .n) (s .args .i) .parent) (is-field (c .before .before)), c .before .before .before .before .before .parent-of .ensures, s .pre .2 .tos, room-enough _ (s .pre .1 .few))
 
 argument-typed-requires : tie.Need-argument-typed-requires
 argument-typed-requires c κs =

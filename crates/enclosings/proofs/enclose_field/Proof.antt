@@ -1,5 +1,7 @@
 -- Three stores for one row.
+use native.Mathlib.Omega.{arith}
 use Rattle.constructs.proofs.RowsIn.{rowed-sized, name-within}
+use Rattle.constructs.proofs.Rooms.{room-enough}
 use Rattle.enclosings.proofs.EnclosedLaws.{above-known, enclosed-field}
 use borrow.Author.Needs.{needs}
 use Rattle.enclosings.proofs.enclose_field.Statement.{statement}
@@ -30,19 +32,25 @@ mul-inside : tie.Need-mul-inside
 mul-inside c = search needs
 
 slice-write-inside : tie.Need-slice-write-inside
-slice-write-inside c = search needs
+slice-write-inside c =
+    let g = c .before .before .before .before .before .before .before .before .before .before .before .pre in
+    omega (arith, g .3 .inners, g .4, room-enough _ (g .2 .few))
 
 mul-at : tie.Need-mul-at
 mul-at c = search needs
 
 slice-write-at : tie.Need-slice-write-at
-slice-write-at c = search needs
+slice-write-at c =
+    let g = c .before .before .before .before .before .before .before .before .before .before .before .pre in
+    omega (arith, g .3 .ats, g .4, room-enough _ (g .2 .few))
 
 mul-to : tie.Need-mul-to
 mul-to c = search needs
 
 slice-write-to : tie.Need-slice-write-to
-slice-write-to c = search needs
+slice-write-to c =
+    let g = c .before .before .before .before .before .before .before .before .before .before .before .pre in
+    omega (arith, g .3 .tos, g .4, room-enough _ (g .2 .few))
 
 same-length : tie.Need-same-length
 same-length c = search needs

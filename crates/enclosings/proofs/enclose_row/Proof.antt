@@ -6,6 +6,7 @@ use Rattle.paper_types.specs.Types.{tableOf}
 use Rattle.paper_rules.specs.Enclosing.{enclosing}
 use Rattle.constructs.specs.Rowed.{rowIn, docOf}
 use Rattle.constructs.proofs.RowsIn.{rowed-sized}
+use Rattle.constructs.proofs.Rooms.{room-enough}
 use Rattle.composites.specs.Coded.{typeCoded}
 use Rattle.enclosings.specs.Enclosed.{encloses}
 use Rattle.enclosings.proofs.EnclosedLaws.{kept-above, enclosed-skip, enclosed-type}
@@ -74,7 +75,9 @@ mul-inside : tie.Need-mul-inside
 mul-inside c = search needs
 
 slice-write-inside : tie.Need-slice-write-inside
-slice-write-inside c = search needs
+slice-write-inside c =
+    let g = c .before .before .before .before .before .before .before .before .before .before .before .before .before .before .before .before .before .pre in
+    omega (arith, g .1 .inners, g .2, room-enough _ (g .0 .rowed .few))
 
 same-length-4 : tie.Need-same-length-4
 same-length-4 c = search needs

@@ -5,6 +5,7 @@ use Prim.Native.Nat.{_<_}
 use native.Mathlib.Omega.{arith}
 use lib.ListN.{getD}
 use Rattle.constructs.specs.Rowed.{rowIn}
+use Rattle.constructs.proofs.Rooms.{room-enough}
 use Rattle.enclosings.specs.Enclosed.{encloses}
 use Rattle.enclosings.proofs.KindLaws.{encloses-there}
 use borrow.Author.Needs.{needs}
@@ -34,7 +35,7 @@ mul-result c = omega (arith, there c, c .before .before .before .before .before 
 shared-slice-read-result : tie.Need-shared-slice-read-result
 shared-slice-read-result c =
     let g = c .before .before .before .before .before .before .pre in
-    omega (arith, there (c .before), g .0 .few, g .1)
+    omega (arith, there (c .before), g .1, room-enough _ (g .0 .few))
 
 returns : tie.Need-returns
 returns c =

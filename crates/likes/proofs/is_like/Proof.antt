@@ -6,10 +6,10 @@ use native.Mathlib.Omega.{arith}
 use lib.ListN.{getD}
 use lib.Dec.{eqb}
 use borrow.Author.Tests.{eqb-true, not-false}
-use Rattle.paper.specs.Numbers.{mostRows}
 use Rattle.paper_types.proofs.TextLaws.{same-sound}
 use Rattle.paper_rules.specs.Constructs.{nameOf}
-use Rattle.constructs.specs.Rowed.{docOf}
+use Rattle.constructs.specs.Rowed.{docOf, roomOf}
+use Rattle.constructs.proofs.Rooms.{room-rows}
 use Rattle.likes.proofs.LikeLaws.{variable-room, alike}
 use Rattle.likes.proofs.is_like.Statement.{statement}
 use Rattle.likes.proofs.is_like.Tie as tie
@@ -17,14 +17,15 @@ use Rattle.likes.proofs.is_like.Tie as tie
 equal : (b : Bool) (x y : ℕ) → not b ≡ false → b ≡ eqb x y → x ≡ y
 equal b x y l e = eqb-true x y (sym e ∙ not-false b l)
 
-rooms : (c : tie.Start) → (c .args .i < mostRows) × (c .args .j < mostRows)
+rooms : (c : tie.Start) → (c .args .i < roomOf (c .args .n)) × (c .args .j < roomOf (c .args .n))
 rooms c = (variable-room (c .pre .0) (c .args .i) (c .pre .1), variable-room (c .pre .0) (c .args .j) (c .pre .2))
 
 same-number-requires : tie.Need-same-number-requires
 same-number-requires c κs =
     let s = c .before .before .before .before .before .before .before in
     let r = rooms s in
-    (omega (arith, r .0, r .1, s .pre .0 .owned .size), omega (arith, r .0, r .1, s .pre .0 .owned .size))
+    let e = room-rows (s .args .rows .now) (s .args .n) in
+    (omega (arith, r .0, e, s .pre .0 .owned .size), omega (arith, r .1, e, s .pre .0 .owned .size))
 
 returns : tie.Need-returns
 returns c = λ e. absurd (true≢false (sym e))

@@ -10,6 +10,7 @@ use Rattle.paper_types.specs.Types.{tableOf}
 use Rattle.paper_rules.specs.Constructs.{count, is}
 use Rattle.constructs.specs.Rowed.{rowIn, docOf}
 use Rattle.constructs.proofs.RowsIn.{rows-count}
+use Rattle.constructs.proofs.Rooms.{room-rows}
 use Rattle.links.proofs.ChainWalks.{kinds-first, kinds-after, kinds-less, kinds-room}
 use Rattle.likes.proofs.FlagsLaws.{kind-next}
 use Rattle.likes.proofs.LikenLaws.{LikenLoop, liken-start, liken-more, liken-end}
@@ -43,12 +44,12 @@ loop-holds : tie.Need-loop-holds Inv-loop μ-loop
 loop-holds c =
     let s = c .before .before .before .before .before .before .before .before .before .before .before .before in
     let d = docOf (s .args .s .now) (s .args .rows .now) (s .args .n) in
-    liken-start (tableOf (s .args .t .now)) d (s .args .n) (s .args .stack .now) (s .args .flag .now) (c .link-of .result) (kind-next d kindVariable 0 (omega arith) (kinds-first (s .args .rows .now) (s .args .n) (s .args .firstk .now) (s .args .nextk .now) (s .pre .1) kindVariable (omega arith) (c .link-of .ensures))) (s .pre .2) (s .pre .3)
+    liken-start (tableOf (s .args .t .now)) d (s .args .n) (s .args .stack .now) (s .args .flag .now) (c .link-of .result) (kind-next d kindVariable 0 (omega arith) (kinds-first (s .args .rows .now) (s .args .n) (s .args .firstk .now) (s .args .nextk .now) (s .pre .1) kindVariable (omega arith) (c .link-of .ensures))) (s .pre .2 ∙ sym (room-rows (s .args .rows .now) (s .args .n))) (s .pre .3)
 
 liken-one-requires : tie.Need-liken-one-requires Inv-loop μ-loop
 liken-one-requires c κs =
     let l = c .before .before .before .loop in
-    (c .before .before .before .before .before .before .before .before .before .before .before .before .before .before .before .before .pre .0, l .inv .models, l .inv .loop .at (below (c .before .before)), l .inv .loop .flags .size)
+    (c .before .before .before .before .before .before .before .before .before .before .before .before .before .before .before .before .pre .0, l .inv .models, l .inv .loop .at (below (c .before .before)), l .inv .loop .flags .size ∙ room-rows _ _)
 
 link-of-requires-2 : tie.Need-link-of-requires-2 Inv-loop μ-loop
 link-of-requires-2 c κs =
@@ -68,7 +69,7 @@ loop-again c =
     liken-more (tableOf (s .args .t .now)) d (s .args .n) (l .stack) (l .flag) (l .m) (l .v) (l .inv) (below (c .before .before .before .before .before .before .before .before)) (omega (arith, rows-count (s .args .rows .now) (s .args .n), s .pre .0 .rowed .few)) (c .link-of2 .result) (kind-next d kindVariable (suc (l .v)) (below (c .before .before .before .before .before .before .before .before)) (kinds-after (s .args .rows .now) (s .args .n) (s .args .firstk .now) (s .args .nextk .now) (s .pre .1) kindVariable (l .v) (omega arith) (c .before .before .before .before .before .before .before .before .loop-test .taken) (variable (c .before .before .before .before .before .before .before .before)) (c .link-of2 .ensures))) (c .before .before .before .before .before .liken-one .ensures)
 
 same-length : tie.Need-same-length Inv-loop μ-loop
-same-length c = c .before .loop .inv .models .size ∙ sym (c .before .before .before .before .before .before .before .before .before .before .before .before .before .before .pre .2)
+same-length c = c .before .loop .inv .models .size ∙ room-rows _ _ ∙ sym (c .before .before .before .before .before .before .before .before .before .before .before .before .before .before .pre .2)
 
 same-length-2 : tie.Need-same-length-2 Inv-loop μ-loop
 same-length-2 c = c .before .loop .inv .loop .flags .size ∙ sym (c .before .before .before .before .before .before .before .before .before .before .before .before .before .before .pre .3 .size)

@@ -3,13 +3,18 @@ use borrow.Author.Needs.{needs}
 use Prim.Native.Nat.{_<_}
 use native.Mathlib.Omega.{arith}
 use Rattle.paper.specs.Numbers.{mostRows}
+use Rattle.constructs.specs.Rowed.{roomOf}
+use Rattle.constructs.proofs.Rooms.{room-most, room-rows}
 use Rattle.likes.specs.Flags.Likened.{copy, model}
 use Rattle.likes.proofs.LikeLaws.{variable-room}
 use Rattle.likes.proofs.liken_one.Statement.{statement}
 use Rattle.likes.proofs.liken_one.Tie as tie
 
+held : (c : tie.Start) → c .args .i < roomOf (c .args .n)
+held c = variable-room (c .pre .0) (c .args .i) (c .pre .2)
+
 room : (c : tie.Start) → c .args .i < mostRows
-room c = variable-room (c .pre .0) (c .args .i) (c .pre .2)
+room c = omega (arith, held c, room-most (c .args .n))
 
 model-of-requires : tie.Need-model-of-requires
 model-of-requires c κs = (c .before .before .before .before .before .before .before .before .before .before .pre .0, c .before .before .before .before .before .before .before .before .before .before .pre .1, c .before .before .before .before .before .before .before .before .before .before .pre .2)
@@ -24,7 +29,7 @@ mul-flag : tie.Need-mul-flag
 mul-flag c = omega (arith, room (c .before .before .before .before .before .before .before .before .before .before .before .before))
 
 slice-write-flag : tie.Need-slice-write-flag
-slice-write-flag c = omega (arith, room (c .before .before .before .before .before .before .before .before .before .before .before .before), c .before .before .before .before .before .before .before .before .before .before .before .before .pre .3)
+slice-write-flag c = omega (arith, held (c .before .before .before .before .before .before .before .before .before .before .before .before), c .before .before .before .before .before .before .before .before .before .before .before .before .pre .3)
 
 same-length : tie.Need-same-length
 same-length c = search needs
@@ -42,7 +47,9 @@ mul-stack : tie.Need-mul-stack
 mul-stack c = omega (arith, room (c .before .before .before .before .before .before .before .before .before .before .before .before), c .before .before .before .before .before .before .before .before .before .before .before .before .pre .1 .few)
 
 slice-write-stack : tie.Need-slice-write-stack
-slice-write-stack c = omega (arith, room (c .before .before .before .before .before .before .before .before .before .before .before .before), c .before .before .before .before .before .before .before .before .before .before .before .before .pre .1 .few, c .before .before .before .before .before .before .before .before .before .before .before .before .pre .1 .size)
+slice-write-stack c =
+    let s = c .before .before .before .before .before .before .before .before .before .before .before .before in
+    omega (arith, held s, s .pre .1 .few, s .pre .1 .size, room-rows (s .args .rows .now) (s .args .n))
 
 add-result : tie.Need-add-result
 add-result c = omega (arith, room (c .before .before .before .before .before .before .before .before .before .before .before .before), c .before .before .before .before .before .before .before .before .before .before .before .before .pre .1 .few)

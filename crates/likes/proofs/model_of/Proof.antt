@@ -2,7 +2,8 @@
 use mathlib.Core.Path.{sym}
 use Prim.Native.Nat.{_-_, _≤_, _<_}
 use native.Mathlib.Omega.{arith}
-use Rattle.paper.specs.Numbers.{mostRows}
+use Rattle.constructs.specs.Rowed.{roomOf}
+use Rattle.constructs.proofs.Rooms.{room-rows}
 use Rattle.likes.proofs.LikeLaws.{variable-room}
 use Rattle.likes.proofs.model_of.Statement.{statement}
 use Rattle.likes.proofs.model_of.Tie as tie
@@ -13,7 +14,7 @@ Inv-loop t s rows n at size wrappers owner stack m i end k₀ k = k ≤ m
 abbrev μ-loop : tie.MeasureT-loop
 μ-loop t s rows n at size wrappers owner stack m i end k₀ k = k
 
-room : (c : tie.Start Inv-loop μ-loop) → c .args .m < mostRows
+room : (c : tie.Start Inv-loop μ-loop) → c .args .m < roomOf (c .args .n)
 room c = omega (arith, variable-room (c .pre .0) (c .args .i) (c .pre .2), c .pre .1 .few)
 
 here : (c : tie.In-loop Inv-loop μ-loop) → c .before .loop .k - 1 < c .before .before .before .before .before .before .before .before .before .before .before .args .m
@@ -29,7 +30,9 @@ sub-k : tie.Need-sub-k Inv-loop μ-loop
 sub-k c = omega (arith, c .loop-test .taken)
 
 link-of-requires : tie.Need-link-of-requires Inv-loop μ-loop
-link-of-requires c κs = omega (arith, here c, room (c .before .before .before .before .before .before .before .before .before .before .before), c .before .before .before .before .before .before .before .before .before .before .before .pre .1 .size)
+link-of-requires c κs =
+    let s = c .before .before .before .before .before .before .before .before .before .before .before in
+    omega (arith, here c, room s, s .pre .1 .size, room-rows (s .args .rows .now) (s .args .n))
 
 is-like-requires : tie.Need-is-like-requires Inv-loop μ-loop
 is-like-requires c κs =

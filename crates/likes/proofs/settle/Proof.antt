@@ -10,6 +10,7 @@ use Rattle.paper_types.specs.Types.{tableOf}
 use Rattle.paper_rules.specs.Constructs.{count, is}
 use Rattle.constructs.specs.Rowed.{rowIn, docOf}
 use Rattle.constructs.proofs.RowsIn.{rows-count}
+use Rattle.constructs.proofs.Rooms.{room-at}
 use Rattle.links.proofs.ChainWalks.{kinds-first, kinds-after, kinds-less, kinds-room}
 use Rattle.likes.proofs.FlagsLaws.{kind-next}
 use Rattle.likes.proofs.LikenLaws.{SettleLoop, settle-start, settle-before, settle-more, settle-end}
@@ -51,13 +52,14 @@ own-flag-requires c κs =
     let l = c .before .before .loop in
     let d = docOf (s .args .s .now) (s .args .rows .now) (s .args .n) in
     let b = below (c .before) in
-    (omega (arith, c .before .loop-test .taken, s .pre .0 .few, l .inv .flags .size), λ h. omega (arith, settle-before (tableOf (s .args .t .now)) d (s .args .n) (s .args .n) (l .flag) (l .v) (l .inv) b h, c .before .loop-test .taken, s .pre .0 .few, l .inv .flags .size))
+    let r = room-at (s .args .rows .now) (s .args .n) (l .v) (l .inv .flags .size) (s .pre .0 .few) (c .before .loop-test .taken) in
+    (r, λ h. omega (arith, settle-before (tableOf (s .args .t .now)) d (s .args .n) (s .args .n) (l .flag) (l .v) (l .inv) b h, r))
 
 mul-flag : tie.Need-mul-flag Inv-loop μ-loop
 mul-flag c = omega (arith, c .before .before .loop-test .taken, c .before .before .before .before .before .before .before .before .before .before .before .pre .0 .few)
 
 slice-write-flag : tie.Need-slice-write-flag Inv-loop μ-loop
-slice-write-flag c = omega (arith, c .before .before .loop-test .taken, c .before .before .before .before .before .before .before .before .before .before .before .pre .0 .few, c .before .before .before .loop .inv .flags .size)
+slice-write-flag c = room-at _ _ _ (c .before .before .before .loop .inv .flags .size) (c .before .before .before .before .before .before .before .before .before .before .before .pre .0 .few) (c .before .before .loop-test .taken)
 
 link-of-requires-2 : tie.Need-link-of-requires-2 Inv-loop μ-loop
 link-of-requires-2 c κs =

@@ -3,8 +3,9 @@ use mathlib.Core.Path.{sym, _∙_}
 use Prim.Native.Nat.{_-_}
 use native.Mathlib.Omega.{arith}
 use Rattle.constructs.proofs.RowsIn.{rowed-sized}
+use Rattle.constructs.proofs.Rooms.{room-rows}
 use Rattle.links.specs.Links.{firstsSize}
-use Rattle.links.proofs.Linking.{RowChains, parents, linking-start, linking-row, linking-room, linking-more, parent-place, families-end}
+use Rattle.links.proofs.Linking.{RowChains, parents, linking-start, linking-row, linking-room, linking-most, linking-more, parent-place, families-end}
 use borrow.Author.Needs.{needs}
 use Rattle.links.proofs.families.Statement.{statement}
 use Rattle.links.proofs.families.Tie as tie
@@ -35,7 +36,7 @@ put-first-requires c κs =
     let s = c .before .before .before .before .before .before .before .before .before .before .before .before .before in
     let l = c .before .before .before .before .loop in
     let r = linking-row parents firstsSize (s .args .rows .now) (s .args .n) (l .first) (l .next) (l .inv) (c .before .before .before .loop-test .taken) in
-    (omega (arith, c .before .before .parent-of .ensures, l .inv .firsts, parent-place _ _ _ (s .pre .0) (l .j - 1) r), linking-room parents firstsSize (s .args .rows .now) (s .args .n) (l .first) (l .next) (l .inv) (c .before .before .before .loop-test .taken), l .inv .nexts)
+    (omega (arith, c .before .before .parent-of .ensures, l .inv .firsts, parent-place _ _ _ (s .pre .0) (l .j - 1) r), linking-room parents firstsSize (s .args .rows .now) (s .args .n) (l .first) (l .next) (l .inv) (c .before .before .before .loop-test .taken), linking-most parents firstsSize (s .args .rows .now) (s .args .n) (l .first) (l .next) (l .inv) (c .before .before .before .loop-test .taken))
 
 loop-less : tie.Need-loop-less Inv-loop μ-loop
 loop-less c = search needs
@@ -52,7 +53,7 @@ same-length : tie.Need-same-length Inv-loop μ-loop
 same-length c = c .before .loop .inv .firsts ∙ sym (c .before .before .before .before .before .before .before .before .before .before .pre .1)
 
 same-length-2 : tie.Need-same-length-2 Inv-loop μ-loop
-same-length-2 c = c .before .loop .inv .nexts ∙ sym (c .before .before .before .before .before .before .before .before .before .before .pre .2)
+same-length-2 c = c .before .loop .inv .nexts ∙ room-rows _ _ ∙ sym (c .before .before .before .before .before .before .before .before .before .before .pre .2)
 
 returns : tie.Need-returns Inv-loop μ-loop
 returns c = families-end _ _ _ _ _ _ (c .before .before .before .before .before .before .before .before .before .before .pre .0) (c .before .loop .inv) (c .loop-test .left)

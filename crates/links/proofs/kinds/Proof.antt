@@ -1,8 +1,9 @@
 -- From the last row to the first, each in front of those of its kind.
 use mathlib.Core.Path.{sym, _∙_}
 use native.Mathlib.Omega.{arith}
+use Rattle.constructs.proofs.Rooms.{room-rows}
 use Rattle.links.specs.Links.{kindsSize}
-use Rattle.links.proofs.Linking.{RowChains, sorts, linking-start, linking-room, linking-more, linking-skip, kinds-end}
+use Rattle.links.proofs.Linking.{RowChains, sorts, linking-start, linking-room, linking-most, linking-more, linking-skip, kinds-end}
 use borrow.Author.Needs.{needs}
 use Rattle.links.proofs.kinds.Statement.{statement}
 use Rattle.links.proofs.kinds.Tie as tie
@@ -32,7 +33,7 @@ put-first-requires : tie.Need-put-first-requires Inv-loop μ-loop
 put-first-requires c κs =
     let s = c .before .before .before .before .before .before .before .before .before .before .before .before .before in
     let l = c .before .before .before .before .before .loop in
-    (c .before .before .if1 .taken, linking-room sorts kindsSize (s .args .rows .now) (s .args .n) (l .first) (l .next) (l .inv) (c .before .before .before .before .loop-test .taken), l .inv .nexts)
+    (c .before .before .if1 .taken, linking-room sorts kindsSize (s .args .rows .now) (s .args .n) (l .first) (l .next) (l .inv) (c .before .before .before .before .loop-test .taken), linking-most sorts kindsSize (s .args .rows .now) (s .args .n) (l .first) (l .next) (l .inv) (c .before .before .before .before .loop-test .taken))
 
 loop-less : tie.Need-loop-less Inv-loop μ-loop
 loop-less c = search needs
@@ -55,7 +56,7 @@ same-length : tie.Need-same-length Inv-loop μ-loop
 same-length c = c .before .loop .inv .firsts ∙ sym (c .before .before .before .before .before .before .before .before .before .pre .1)
 
 same-length-2 : tie.Need-same-length-2 Inv-loop μ-loop
-same-length-2 c = c .before .loop .inv .nexts ∙ sym (c .before .before .before .before .before .before .before .before .before .pre .2)
+same-length-2 c = c .before .loop .inv .nexts ∙ room-rows _ _ ∙ sym (c .before .before .before .before .before .before .before .before .before .pre .2)
 
 returns : tie.Need-returns Inv-loop μ-loop
 returns c = kinds-end _ _ _ _ _ (c .before .loop .inv) (c .loop-test .left)

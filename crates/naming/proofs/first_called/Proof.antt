@@ -4,6 +4,7 @@ use Prim.Native.Nat.{_-_}
 use native.Mathlib.Omega.{arith}
 use borrow.Author.Needs.{needs}
 use Rattle.index.specs.Book.{part}
+use Rattle.links.proofs.ChainWalks.{kinds-room}
 use Rattle.naming.proofs.CalledLaws.{Calling, calling-start, calling-less, calling-next, calling-here, calling-end}
 use Rattle.naming.proofs.first_called.Statement.{statement}
 use Rattle.naming.proofs.first_called.Tie as tie
@@ -37,7 +38,7 @@ returns c =
 link-of-requires-2 : tie.Need-link-of-requires-2 Inv-loop μ-loop
 link-of-requires-2 c κs =
     let p = c .before .before .before .before .before .before .before .before .before .before .pre in
-    omega (arith, p .1 .nexts, p .0 .few, c .before .before .loop-test .taken)
+    kinds-room _ _ _ _ (p .1) _ (c .before .before .loop-test .taken) (p .0 .few)
 
 loop-less : tie.Need-loop-less Inv-loop μ-loop
 loop-less c =

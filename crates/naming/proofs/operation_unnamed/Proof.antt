@@ -6,7 +6,7 @@ use borrow.Author.Needs.{needs}
 use Rattle.paper.specs.Numbers.{kindOperation}
 use Rattle.constructs.specs.Rowed.{docOf}
 use Rattle.constructs.proofs.RowsIn.{rows-count}
-use Rattle.links.proofs.ChainWalks.{kinds-first, kinds-after}
+use Rattle.links.proofs.ChainWalks.{kinds-first, kinds-after, kinds-room}
 use Rattle.naming.proofs.RuleLaws.{unnamed-other, unnamed-named, unnamed-before, unnamed-after}
 use Rattle.naming.proofs.operation_unnamed.Statement.{statement}
 use Rattle.naming.proofs.operation_unnamed.Tie as tie
@@ -39,7 +39,9 @@ returns-3 c =
     λ s. unnamed-before (docOf s (a .rows .now) (a .n)) (a .i) (sym (c .before .before .before .before .before .kind-of .ensures) ∙ c .before .before .before .before .if1 .left) (sym (c .before .before .before .size-of .ensures) ∙ c .before .before .if2 .left) (omega (arith, c .before .before .before .before .before .before .before .before .before .pre .2, rows-count (a .rows .now) (a .n))) (omega (arith, c .if3 .taken, kinds-first (a .rows .now) (a .n) (a .firstk .now) (a .nextk .now) (c .before .before .before .before .before .before .before .before .before .pre .1) kindOperation (omega arith) (c .before .link-of .ensures)))
 
 link-of-requires-2 : tie.Need-link-of-requires-2
-link-of-requires-2 c κs = omega (arith, c .before .before .before .before .before .before .before .before .before .pre .1 .nexts, c .before .before .before .before .before .before .before .before .before .pre .0 .few, c .before .before .before .before .before .before .before .before .before .pre .2)
+link-of-requires-2 c κs =
+    let p = c .before .before .before .before .before .before .before .before .before .pre in
+    kinds-room _ _ _ _ (p .1) _ (p .2) (p .0 .few)
 
 returns-4 : tie.Need-returns-4
 returns-4 c =

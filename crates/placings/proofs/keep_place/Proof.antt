@@ -3,6 +3,7 @@ use borrow.Author.Needs.{needs}
 use mathlib.Core.Path.{sym, ap, _∙_}
 use native.Mathlib.Omega.{arith}
 use Rattle.constructs.proofs.RowsIn.{rowed-sized}
+use Rattle.constructs.proofs.Rooms.{room-enough}
 use Rattle.enclosings.specs.Enclosed.{encloses}
 use Rattle.placings.specs.Placed.{placeIn}
 use Rattle.placings.proofs.PlacedLaws.{fields-kept, parent-kept, placed-enclosing, placed-row}
@@ -44,7 +45,7 @@ mul-at c =
 slice-write-at : tie.Need-slice-write-at
 slice-write-at c =
     let s = c .before .before .before .before .before .before .before .before .before .before .before .before .before .before .before .before .before .before in
-    omega (arith, s .pre .4, s .pre .2 .few, s .pre .3 .enclosed .ats)
+    omega (arith, s .pre .4, s .pre .3 .enclosed .ats, room-enough _ (s .pre .2 .few))
 
 mul-size : tie.Need-mul-size
 mul-size c =
@@ -54,7 +55,7 @@ mul-size c =
 slice-write-size : tie.Need-slice-write-size
 slice-write-size c =
     let s = c .before .before .before .before .before .before .before .before .before .before .before .before .before .before .before .before .before .before in
-    omega (arith, s .pre .4, s .pre .2 .few, s .pre .3 .enclosed .tos)
+    omega (arith, s .pre .4, s .pre .3 .enclosed .tos, room-enough _ (s .pre .2 .few))
 
 mul-wrappers : tie.Need-mul-wrappers
 mul-wrappers c =
@@ -64,7 +65,7 @@ mul-wrappers c =
 slice-write-wrappers : tie.Need-slice-write-wrappers
 slice-write-wrappers c =
     let s = c .before .before .before .before .before .before .before .before .before .before .before .before .before .before .before .before .before .before in
-    omega (arith, s .pre .4, s .pre .2 .few, s .pre .3 .enclosed .inners)
+    omega (arith, s .pre .4, s .pre .3 .enclosed .inners, room-enough _ (s .pre .2 .few))
 
 same-length : tie.Need-same-length
 same-length c = search needs

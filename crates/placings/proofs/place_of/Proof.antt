@@ -2,6 +2,7 @@
 use borrow.Author.Needs.{needs}
 use mathlib.Core.Path.{sym, ap, _∙_}
 use native.Mathlib.Omega.{arith}
+use Rattle.constructs.proofs.Rooms.{room-enough}
 use Rattle.enclosings.specs.Enclosed.{encloses}
 use Rattle.placings.proofs.PlacedLaws.{in-none, in-enclosing, in-row}
 use Rattle.placings.proofs.place_of.Statement.{statement}
@@ -27,19 +28,25 @@ mul-t10 : tie.Need-mul-t10
 mul-t10 c = search needs
 
 shared-slice-read-t9 : tie.Need-shared-slice-read-t9
-shared-slice-read-t9 c = search needs
+shared-slice-read-t9 c =
+    let g = c .before .before .before .before .before .before .before .before .before .pre in
+    omega (arith, g .1, c .before .before .before .before .if1 .left, room-enough _ (g .0 .few))
 
 mul-t12 : tie.Need-mul-t12
 mul-t12 c = search needs
 
 shared-slice-read-t14 : tie.Need-shared-slice-read-t14
-shared-slice-read-t14 c = search needs
+shared-slice-read-t14 c =
+    let g = c .before .before .before .before .before .before .before .before .before .before .pre in
+    omega (arith, g .2, c .before .before .before .before .before .if1 .left, room-enough _ (g .0 .few))
 
 mul-t15 : tie.Need-mul-t15
 mul-t15 c = search needs
 
 shared-slice-read-t17 : tie.Need-shared-slice-read-t17
-shared-slice-read-t17 c = search needs
+shared-slice-read-t17 c =
+    let g = c .before .before .before .before .before .before .before .before .before .before .before .pre in
+    omega (arith, g .3, c .before .before .before .before .before .before .if1 .left, room-enough _ (g .0 .few))
 
 returns-3 : tie.Need-returns-3
 returns-3 c =

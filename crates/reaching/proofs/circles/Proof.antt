@@ -4,8 +4,9 @@ use mathlib.Core.Path.{_≡_, sym, _∙_}
 use Prim.Native.Nat.{_<_}
 use native.Mathlib.Omega.{arith}
 use Rattle.paper.specs.Numbers.{mostRows, kindFragment}
-use Rattle.paper_rules.specs.Constructs.{kindOf}
+use Rattle.paper_rules.specs.Constructs.{count, kindOf}
 use Rattle.constructs.specs.Rowed.{docOf}
+use Rattle.constructs.proofs.Rooms.{room-enough}
 use Rattle.spreading.proofs.OwnerLaws.{definition-within, fragment-defines}
 use Rattle.reaching.proofs.MarkLaws.{circle-not, circle-decides, stamped-up}
 use Rattle.reaching.proofs.circles.Statement.{statement}
@@ -14,11 +15,14 @@ use Rattle.reaching.proofs.circles.Tie as tie
 kind : (c : tie.Else1) → kindOf (docOf (c .before .before .before .before .before .before .before .before .before .args .s .now) (c .before .before .before .before .before .before .before .before .before .args .rows .now) (c .before .before .before .before .before .before .before .before .before .args .n)) (c .before .before .before .before .before .before .before .before .before .args .i) ≡ kindFragment
 kind c = sym (c .before .kind-of .ensures) ∙ c .if1 .left
 
-below : (c : tie.Else1) → c .before .before .before .before .before .before .before .before .before .args .i < mostRows
-below c =
+there : (c : tie.Else1) → c .before .before .before .before .before .before .before .before .before .args .i < count (docOf (c .before .before .before .before .before .before .before .before .before .args .s .now) (c .before .before .before .before .before .before .before .before .before .args .rows .now) (c .before .before .before .before .before .before .before .before .before .args .n))
+there c =
     let a = c .before .before .before .before .before .before .before .before .before .args in
     let d = docOf (a .s .now) (a .rows .now) (a .n) in
-    omega (arith, definition-within d (a .i) (fragment-defines d (a .i) (kind c)), c .before .before .before .before .before .before .before .before .before .pre .1 .few)
+    definition-within d (a .i) (fragment-defines d (a .i) (kind c))
+
+below : (c : tie.Else1) → c .before .before .before .before .before .before .before .before .before .args .i < mostRows
+below c = omega (arith, there c, c .before .before .before .before .before .before .before .before .before .pre .1 .few)
 
 kind-of-requires : tie.Need-kind-of-requires
 kind-of-requires c κs = search needs
@@ -33,7 +37,7 @@ mul-result : tie.Need-mul-result
 mul-result c = omega (arith, below (c .before .before .before .before .before .before .before))
 
 slice-read-result : tie.Need-slice-read-result
-slice-read-result c = omega (arith, below (c .before .before .before .before .before .before .before .before), c .before .before .before .before .before .reach .ensures .stamped .size)
+slice-read-result c = omega (arith, there (c .before .before .before .before .before .before .before .before), c .before .before .before .before .before .reach .ensures .stamped .size, room-enough _ (c .before .before .before .before .before .before .before .before .before .before .before .before .before .before .before .before .before .pre .1 .few))
 
 cast-result : tie.Need-cast-result
 cast-result c = omega (arith, below (c .before .before .before .before .before .before .before .before))

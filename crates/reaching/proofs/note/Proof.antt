@@ -33,7 +33,7 @@ mul-stack c = search needs
 slice-write-stack : tie.Need-slice-write-stack
 slice-write-stack c =
     let a = c .before .before .before .args in
-    omega (arith, c .before .before .before .pre .stacked, noted-room (a .stamp) (a .f) (a .mark .now) (a .top) (omega (arith, c .before .before .if1 .left, c .before .before .before .pre .few, c .before .before .before .pre .marks)) (c .if2 .left) (c .before .before .before .pre .room))
+    omega (arith, c .before .before .before .pre .stacked, noted-room (a .stamp) (a .f) (a .mark .now) (a .top) (omega (arith, c .before .before .if1 .left, c .before .before .before .pre .few)) (c .if2 .left) (c .before .before .before .pre .room))
 
 add-result : tie.Need-add-result
 add-result c = search needs

@@ -4,6 +4,7 @@ use Prim.Native.Nat.{_-_}
 use native.Mathlib.Omega.{arith}
 use Rattle.constructs.specs.Rowed.{docOf}
 use Rattle.constructs.proofs.RowsIn.{rows-count}
+use Rattle.constructs.proofs.Rooms.{room-enough}
 use Rattle.reaching.proofs.PassLaws.{Passing, start-below, passed-below, passing-start, passing-room, passing-less, passing-more, passing-end}
 use Rattle.reaching.proofs.pass.Statement.{statement}
 use Rattle.reaching.proofs.pass.Tie as tie
@@ -33,10 +34,10 @@ loop-holds : tie.Need-loop-holds Inv-loop μ-loop
 loop-holds c = passing-start (c .before .before .before .before .before .before .before .before .pre .0) (c .before .before .before .before .before .before .before .before .pre .1) refl
 
 mul-note : tie.Need-mul-note Inv-loop μ-loop
-mul-note c = omega (arith, c .before .before .loop-test .taken, passing-room (c .before .before .before .before .before .before .before .before .before .before .before .before .pre .0) (rows-count (c .before .before .before .before .before .before .before .before .before .before .before .before .args .rows .now) (c .before .before .before .before .before .before .before .before .before .before .before .before .args .n)) (c .before .before .before .loop .inv) .few)
+mul-note c = omega (arith, c .before .before .loop-test .taken, c .before .before .before .before .before .before .before .before .before .before .before .before .pre .0 .few, rows-count (c .before .before .before .before .before .before .before .before .before .before .before .before .args .rows .now) (c .before .before .before .before .before .before .before .before .before .before .before .before .args .n))
 
 shared-slice-read-note : tie.Need-shared-slice-read-note Inv-loop μ-loop
-shared-slice-read-note c = omega (arith, c .before .before .before .loop-test .taken, passing-room (c .before .before .before .before .before .before .before .before .before .before .before .before .before .pre .0) (rows-count (c .before .before .before .before .before .before .before .before .before .before .before .before .before .args .rows .now) (c .before .before .before .before .before .before .before .before .before .before .before .before .before .args .n)) (c .before .before .before .before .loop .inv) .few, c .before .before .before .before .before .before .before .before .before .before .before .before .before .pre .0 .targeted .size)
+shared-slice-read-note c = omega (arith, c .before .before .before .loop-test .taken, c .before .before .before .before .before .before .before .before .before .before .before .before .before .pre .0 .few, rows-count (c .before .before .before .before .before .before .before .before .before .before .before .before .before .args .rows .now) (c .before .before .before .before .before .before .before .before .before .before .before .before .before .args .n), c .before .before .before .before .before .before .before .before .before .before .before .before .before .pre .0 .targeted .size, room-enough _ (c .before .before .before .before .before .before .before .before .before .before .before .before .before .pre .0 .few))
 
 cast-note : tie.Need-cast-note Inv-loop μ-loop
 cast-note c = omega (arith, c .shared-slice-known7 .given (c .before .before .before .before .loop .j))
@@ -45,10 +46,10 @@ note-requires : tie.Need-note-requires Inv-loop μ-loop
 note-requires c κs = passing-room (c .before .before .before .before .before .before .before .before .before .before .before .before .before .pre .0) (rows-count (c .before .before .before .before .before .before .before .before .before .before .before .before .before .args .rows .now) (c .before .before .before .before .before .before .before .before .before .before .before .before .before .args .n)) (c .before .before .before .before .loop .inv)
 
 mul-j-2 : tie.Need-mul-j-2 Inv-loop μ-loop
-mul-j-2 c = omega (arith, c .before .before .before .before .before .before .before .before .loop-test .taken, passing-room (c .before .before .before .before .before .before .before .before .before .before .before .before .before .before .before .before .before .before .pre .0) (rows-count (c .before .before .before .before .before .before .before .before .before .before .before .before .before .before .before .before .before .before .args .rows .now) (c .before .before .before .before .before .before .before .before .before .before .before .before .before .before .before .before .before .before .args .n)) (c .before .before .before .before .before .before .before .before .before .loop .inv) .few)
+mul-j-2 c = omega (arith, c .before .before .before .before .before .before .before .before .loop-test .taken, c .before .before .before .before .before .before .before .before .before .before .before .before .before .before .before .before .before .before .pre .0 .few, rows-count (c .before .before .before .before .before .before .before .before .before .before .before .before .before .before .before .before .before .before .args .rows .now) (c .before .before .before .before .before .before .before .before .before .before .before .before .before .before .before .before .before .before .args .n))
 
 shared-slice-read-j-2 : tie.Need-shared-slice-read-j-2 Inv-loop μ-loop
-shared-slice-read-j-2 c = omega (arith, c .before .before .before .before .before .before .before .before .before .loop-test .taken, passing-room (c .before .before .before .before .before .before .before .before .before .before .before .before .before .before .before .before .before .before .before .pre .0) (rows-count (c .before .before .before .before .before .before .before .before .before .before .before .before .before .before .before .before .before .before .before .args .rows .now) (c .before .before .before .before .before .before .before .before .before .before .before .before .before .before .before .before .before .before .before .args .n)) (c .before .before .before .before .before .before .before .before .before .before .loop .inv) .few, c .before .before .before .before .before .before .before .before .before .before .before .before .before .before .before .before .before .before .before .pre .0 .linked .nexts)
+shared-slice-read-j-2 c = omega (arith, c .before .before .before .before .before .before .before .before .before .loop-test .taken, c .before .before .before .before .before .before .before .before .before .before .before .before .before .before .before .before .before .before .before .pre .0 .few, rows-count (c .before .before .before .before .before .before .before .before .before .before .before .before .before .before .before .before .before .before .before .args .rows .now) (c .before .before .before .before .before .before .before .before .before .before .before .before .before .before .before .before .before .before .before .args .n), c .before .before .before .before .before .before .before .before .before .before .before .before .before .before .before .before .before .before .before .pre .0 .linked .nexts, room-enough _ (c .before .before .before .before .before .before .before .before .before .before .before .before .before .before .before .before .before .before .before .pre .0 .few))
 
 cast-j-2 : tie.Need-cast-j-2 Inv-loop μ-loop
 cast-j-2 c = omega (arith, c .shared-slice-known8 .given (c .before .before .before .before .before .before .before .before .before .before .loop .j))

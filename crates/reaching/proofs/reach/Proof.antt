@@ -4,8 +4,9 @@ use mathlib.Core.Path.{refl, sym, _∙_}
 use Prim.Native.Nat.{_+_, _-_}
 use native.Mathlib.Omega.{arith}
 use Rattle.constructs.specs.Rowed.{docOf}
+use Rattle.constructs.proofs.Rooms.{room-rows}
 use Rattle.reaching.specs.Marks.{stamp, others}
-use Rattle.reaching.proofs.SearchLaws.{search-start, search-pop, search-end}
+use Rattle.reaching.proofs.SearchLaws.{search-start, search-most, search-pop, search-end}
 use Rattle.reaching.proofs.PassLaws.{Searching}
 use Rattle.reaching.proofs.reach.Statement.{statement}
 use Rattle.reaching.proofs.reach.Tie as tie
@@ -17,7 +18,7 @@ abbrev μ-loop : tie.MeasureT-loop
 μ-loop s rows n target first next mark₀ stack₀ a top₀ mark stack top = top + others (stamp a) mark
 
 pass-requires : tie.Need-pass-requires Inv-loop μ-loop
-pass-requires c κs = (c .before .before .before .before .before .before .before .before .before .pre .0, search-start _ _ _ _ (c .before .before .before .before .before .before .before .before .before .pre .1) (c .before .before .before .before .before .before .before .before .before .pre .2) (c .before .before .before .before .before .before .before .before .before .pre .3))
+pass-requires c κs = (c .before .before .before .before .before .before .before .before .before .pre .0, search-start _ _ _ _ (c .before .before .before .before .before .before .before .before .before .pre .1) (c .before .before .before .before .before .before .before .before .before .pre .2) (c .before .before .before .before .before .before .before .before .before .pre .3 ∙ sym (room-rows _ _)))
 
 loop-holds : tie.Need-loop-holds Inv-loop μ-loop
 loop-holds c = record { last = c .before .before .before .before .before .before .before .before .before .before .before .before .before .before .args .a; search = c .before .before .before .before .pass .ensures .search }
@@ -26,7 +27,7 @@ sub-top : tie.Need-sub-top Inv-loop μ-loop
 sub-top c = search needs
 
 mul-g : tie.Need-mul-g Inv-loop μ-loop
-mul-g c = omega (arith, c .before .loop .inv .search .room)
+mul-g c = omega (arith, search-most _ _ _ _ _ _ _ (c .before .loop .inv .search))
 
 slice-read-g : tie.Need-slice-read-g Inv-loop μ-loop
 slice-read-g c = omega (arith, c .before .loop-test .taken, c .before .before .loop .inv .search .room, c .before .before .loop .inv .search .stacked)
@@ -47,7 +48,7 @@ same-length : tie.Need-same-length Inv-loop μ-loop
 same-length c = c .before .loop .inv .search .stamped .size ∙ sym (c .before .before .before .before .before .before .before .before .before .before .before .before .before .before .before .before .pre .2 .size)
 
 same-length-2 : tie.Need-same-length-2 Inv-loop μ-loop
-same-length-2 c = c .before .loop .inv .search .stacked ∙ sym (c .before .before .before .before .before .before .before .before .before .before .before .before .before .before .before .before .pre .3)
+same-length-2 c = c .before .loop .inv .search .stacked ∙ room-rows _ _ ∙ sym (c .before .before .before .before .before .before .before .before .before .before .before .before .before .before .before .before .pre .3)
 
 returns : tie.Need-returns Inv-loop μ-loop
 returns c = search-end _ _ _ _ (c .before .loop .top) _ _ (c .before .loop .inv .search) (omega (arith, c .loop-test .left)) refl

@@ -5,6 +5,7 @@ use native.Mathlib.Omega.{arith}
 use Rattle.paper_rules.specs.Constructs.{count}
 use Rattle.constructs.specs.Rowed.{docOf}
 use Rattle.constructs.proofs.RowsIn.{rows-count}
+use Rattle.constructs.proofs.Rooms.{room-at}
 use Rattle.spreading.proofs.OwnerLaws.{definition-within}
 use Rattle.reaching.proofs.DrawLaws.{reaches-own, reaches-none, reaches-mark}
 use Rattle.reaching.proofs.reaches.Statement.{statement}
@@ -17,7 +18,7 @@ mul-w : tie.Need-mul-w
 mul-w c = search needs
 
 shared-slice-read-w : tie.Need-shared-slice-read-w
-shared-slice-read-w c = search needs
+shared-slice-read-w c = room-at _ _ _ (c .before .pre .0 .size) (c .before .pre .3) (c .before .pre .4)
 
 cast-w : tie.Need-cast-w
 cast-w c = omega (arith, c .shared-slice-known .given (c .before .args .i))
@@ -34,7 +35,7 @@ mul-result : tie.Need-mul-result
 mul-result c = omega (arith, c .if2 .left, c .before .before .before .pre .3)
 
 shared-slice-read-result : tie.Need-shared-slice-read-result
-shared-slice-read-result c = omega (arith, c .before .if2 .left, c .before .before .before .before .pre .3, c .before .before .before .before .pre .1 .stamped .size)
+shared-slice-read-result c = room-at _ _ _ (c .before .before .before .before .pre .1 .stamped .size) (c .before .before .before .before .pre .3) (omega (arith, c .before .if2 .left))
 
 cast-result : tie.Need-cast-result
 cast-result c =

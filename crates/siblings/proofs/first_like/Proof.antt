@@ -5,7 +5,7 @@ use native.Mathlib.Omega.{arith}
 use lib.ListN.{getD}
 use borrow.Author.Needs.{needs}
 use Rattle.constructs.proofs.RowsIn.{name-within}
-use Rattle.links.proofs.ChainWalks.{family-less}
+use Rattle.links.proofs.ChainWalks.{family-less, family-room}
 use Rattle.siblings.proofs.BesideLaws.{parent-most, as-called, Liking, liking-start, liking-next, liking-here, liking-end}
 use Rattle.siblings.proofs.first_like.Statement.{statement}
 use Rattle.siblings.proofs.first_like.Tie as tie
@@ -63,7 +63,7 @@ returns c =
 link-of-requires-2 : tie.Need-link-of-requires-2 Inv-loop μ-loop
 link-of-requires-2 c κs =
     let p = c .before .before .before .before .before .before .before .before .before .before .before .before .before .pre in
-    omega (arith, p .1 .nexts, p .0 .few, c .before .before .loop-test .taken)
+    family-room _ _ _ _ (p .1) _ (c .before .before .loop-test .taken) (p .0 .few)
 
 loop-less : tie.Need-loop-less Inv-loop μ-loop
 loop-less c =

@@ -5,6 +5,7 @@ use Rattle.paper.specs.Numbers.{kindArgument}
 use Rattle.paper_rules.specs.Rule9Directive.{isIf}
 use Rattle.constructs.specs.Rowed.{docOf}
 use Rattle.constructs.proofs.RowsIn.{rows-count, rowed-sized}
+use Rattle.links.proofs.ChainWalks.{family-room}
 use Rattle.siblings.proofs.DirectiveLaws.{second-below, second-within, only-none, only-more, only-one}
 use Rattle.siblings.proofs.is_only_if.Statement.{statement}
 use Rattle.siblings.proofs.is_only_if.Tie as tie
@@ -20,7 +21,9 @@ returns c =
     only-none (docOf (a .s .now) (a .rows .now) (a .n)) (a .i) (omega (arith, c .if1 .taken, c .before .first-below .ensures, rows-count (a .rows .now) (a .n)))
 
 link-of-requires : tie.Need-link-of-requires
-link-of-requires c κs = omega (arith, c .before .before .before .before .before .before .pre .1 .nexts, c .before .before .before .before .before .before .pre .0 .few, c .if1 .left)
+link-of-requires c κs =
+    let p = c .before .before .before .before .before .before .pre in
+    family-room _ _ _ _ (p .1) _ (c .if1 .left) (p .0 .few)
 
 next-beside-requires : tie.Need-next-beside-requires
 next-beside-requires c κs =

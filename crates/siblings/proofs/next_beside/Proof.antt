@@ -3,7 +3,7 @@ use mathlib.Core.Path.{sym, _∙_}
 use Prim.Native.Nat.{_-_}
 use native.Mathlib.Omega.{arith}
 use borrow.Author.Needs.{needs}
-use Rattle.links.proofs.ChainWalks.{family-less}
+use Rattle.links.proofs.ChainWalks.{family-less, family-room}
 use Rattle.siblings.proofs.BesideLaws.{Seeking, seeking-start, seeking-next, seeking-here, seeking-end}
 use Rattle.siblings.proofs.next_beside.Statement.{statement}
 use Rattle.siblings.proofs.next_beside.Tie as tie
@@ -30,7 +30,7 @@ returns c =
 link-of-requires : tie.Need-link-of-requires Inv-loop μ-loop
 link-of-requires c κs =
     let p = c .before .before .before .before .before .before .pre in
-    omega (arith, p .1 .family .nexts, p .0 .few, c .before .before .loop-test .taken)
+    family-room _ _ _ _ (p .1 .family) _ (c .before .before .loop-test .taken) (p .0 .few)
 
 loop-less : tie.Need-loop-less Inv-loop μ-loop
 loop-less c =

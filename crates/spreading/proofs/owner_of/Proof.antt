@@ -4,6 +4,7 @@ use mathlib.Core.Path.{sym, _∙_}
 use native.Mathlib.Omega.{arith}
 use Rattle.constructs.specs.Rowed.{docOf}
 use Rattle.constructs.proofs.RowsIn.{rows-count}
+use Rattle.constructs.proofs.Rooms.{room-at}
 use Rattle.spreading.proofs.OwnerLaws.{operation-defines, fragment-defines, owner-itself, owner-at-parent, owner-of-none}
 use Rattle.spreading.proofs.owner_of.Statement.{statement}
 use Rattle.spreading.proofs.owner_of.Tie as tie
@@ -39,7 +40,9 @@ mul-result : tie.Need-mul-result
 mul-result c = search needs
 
 shared-slice-read-result : tie.Need-shared-slice-read-result
-shared-slice-read-result c = search needs
+shared-slice-read-result c =
+    let p = c .before .before .before .before .before .before .before .before .before .pre in
+    room-at _ _ _ (p .1 .size) (p .0 .few) (omega (arith, c .before .if3 .taken, p .2))
 
 returns-3 : tie.Need-returns-3
 returns-3 c =

@@ -7,6 +7,7 @@ use Rattle.paper.specs.Numbers.{kindSpread}
 use Rattle.paper_rules.specs.Constructs.{kindOf}
 use Rattle.constructs.specs.Rowed.{docOf}
 use Rattle.constructs.proofs.RowsIn.{rows-count}
+use Rattle.constructs.proofs.Rooms.{room-at}
 use Rattle.spreading.proofs.SpreaderLaws.{spread-is, spread-within}
 use Rattle.spreading.proofs.TargetLaws.{lost-not, lost-leads}
 use Rattle.spreading.proofs.spread_of_none.Statement.{statement}
@@ -31,7 +32,7 @@ mul-result : tie.Need-mul-result
 mul-result c = omega (arith, below c, c .before .before .before .before .before .pre .0 .few)
 
 shared-slice-read-result : tie.Need-shared-slice-read-result
-shared-slice-read-result c = omega (arith, below (c .before), c .before .before .before .before .before .before .pre .0 .few, c .before .before .before .before .before .before .pre .1 .size)
+shared-slice-read-result c = room-at _ _ _ (c .before .before .before .before .before .before .pre .1 .size) (c .before .before .before .before .before .before .pre .0 .few) (below (c .before))
 
 cast-result : tie.Need-cast-result
 cast-result c = omega (arith, c .shared-slice-known4 .given (c .before .before .before .before .before .before .args .i))

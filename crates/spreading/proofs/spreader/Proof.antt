@@ -4,6 +4,7 @@ use mathlib.Core.Path.{sym, _∙_}
 use native.Mathlib.Omega.{arith}
 use Rattle.constructs.specs.Rowed.{docOf}
 use Rattle.constructs.proofs.RowsIn.{rows-count}
+use Rattle.constructs.proofs.Rooms.{room-at}
 use Rattle.spreading.proofs.SpreaderLaws.{spread-is, spreader-owner, spreader-none}
 use Rattle.spreading.proofs.spreader.Statement.{statement}
 use Rattle.spreading.proofs.spreader.Tie as tie
@@ -15,7 +16,9 @@ mul-result : tie.Need-mul-result
 mul-result c = search needs
 
 shared-slice-read-result : tie.Need-shared-slice-read-result
-shared-slice-read-result c = search needs
+shared-slice-read-result c =
+    let p = c .before .before .before .before .before .before .pre in
+    room-at _ _ _ (p .1 .size) (p .0 .few) (p .2)
 
 cast-result : tie.Need-cast-result
 cast-result c = omega (arith, c .shared-slice-known4 .given (c .before .before .before .before .before .before .args .j))

@@ -3,8 +3,10 @@ use borrow.Author.Needs.{needs}
 use mathlib.Core.Path.{ap, sym, _∙_}
 use native.Mathlib.Omega.{arith}
 use lib.ListN.{replicate}
+use Rattle.paper_rules.specs.Constructs.{count}
 use Rattle.constructs.specs.Rowed.{docOf}
 use Rattle.constructs.proofs.RowsIn.{rows-count}
+use Rattle.constructs.proofs.Rooms.{room-most, room-rows, room-at}
 use Rattle.spreading.proofs.LinkLaws.{Linking, linking-start, linking-more, linking-end}
 use Rattle.spreading.proofs.spreads.Statement.{statement}
 use Rattle.spreading.proofs.spreads.Tie as tie
@@ -19,7 +21,7 @@ clear-requires : tie.Need-clear-requires Inv-loop μ-loop
 clear-requires c κs = c .before .before .before .before .before .before .pre .0 .few
 
 loop-holds : tie.Need-loop-holds Inv-loop μ-loop
-loop-holds c = linking-start _ _ _ _ (rows-count (c .before .before .before .before .before .before .before .before .before .args .rows .now) (c .before .before .before .before .before .before .before .before .before .args .n)) (c .before .before .before .before .before .before .before .before .before .pre .0 .few) (c .before .before .clear .ensures ∙ ap (λ l. replicate l (c .before .before .before .before .before .before .before .before .before .args .n)) (c .before .before .before .before .before .before .before .before .before .pre .2)) (c .before .before .before .before .before .before .before .before .before .pre .3)
+loop-holds c = linking-start _ _ _ _ (rows-count (c .before .before .before .before .before .before .before .before .before .args .rows .now) (c .before .before .before .before .before .before .before .before .before .args .n)) (c .before .before .before .before .before .before .before .before .before .pre .0 .few) (c .before .before .clear .ensures ∙ ap (λ l. replicate l (c .before .before .before .before .before .before .before .before .before .args .n)) (c .before .before .before .before .before .before .before .before .before .pre .2)) (c .before .before .before .before .before .before .before .before .before .pre .3 ∙ sym (room-rows _ _))
 
 sub-j : tie.Need-sub-j Inv-loop μ-loop
 sub-j c = search needs
@@ -28,7 +30,7 @@ spreader-requires : tie.Need-spreader-requires Inv-loop μ-loop
 spreader-requires c κs = (c .before .before .before .before .before .before .before .before .before .before .before .pre .0, c .before .before .before .before .before .before .before .before .before .before .before .pre .1, omega (arith, c .loop-test .taken, c .before .loop .inv .most, rows-count (c .before .before .before .before .before .before .before .before .before .before .before .args .rows .now) (c .before .before .before .before .before .before .before .before .before .before .before .args .n)))
 
 put-first-requires : tie.Need-put-first-requires Inv-loop μ-loop
-put-first-requires c κs = (omega (arith, c .before .before .spreader .ensures .most, c .before .before .before .before .loop .inv .firsts), omega (arith, c .before .before .before .loop-test .taken, c .before .before .before .before .loop .inv .most, c .before .before .before .before .loop .inv .nexts, rows-count (c .before .before .before .before .before .before .before .before .before .before .before .before .before .before .args .rows .now) (c .before .before .before .before .before .before .before .before .before .before .before .before .before .before .args .n), c .before .before .before .before .before .before .before .before .before .before .before .before .before .before .pre .0 .few), c .before .before .before .before .loop .inv .nexts)
+put-first-requires c κs = (omega (arith, c .before .before .spreader .ensures .most, c .before .before .before .before .loop .inv .firsts), room-at _ _ _ (c .before .before .before .before .loop .inv .nexts) (c .before .before .before .before .before .before .before .before .before .before .before .before .before .before .pre .0 .few) (omega (arith, c .before .before .before .loop-test .taken, c .before .before .before .before .loop .inv .most, rows-count (c .before .before .before .before .before .before .before .before .before .before .before .before .before .before .args .rows .now) (c .before .before .before .before .before .before .before .before .before .before .before .before .before .before .args .n))), omega (arith, c .before .before .before .before .loop .inv .nexts, room-most (count (docOf (c .before .before .before .before .before .before .before .before .before .before .before .before .before .before .args .s .now) (c .before .before .before .before .before .before .before .before .before .before .before .before .before .before .args .rows .now) (c .before .before .before .before .before .before .before .before .before .before .before .before .before .before .args .n)))))
 
 loop-less : tie.Need-loop-less Inv-loop μ-loop
 loop-less c = omega (arith, c .before .before .before .before .before .before .before .before .loop-test .taken)
@@ -43,7 +45,7 @@ same-length : tie.Need-same-length Inv-loop μ-loop
 same-length c = c .before .loop .inv .firsts ∙ sym (c .before .before .before .before .before .before .before .before .before .before .before .pre .2)
 
 same-length-2 : tie.Need-same-length-2 Inv-loop μ-loop
-same-length-2 c = c .before .loop .inv .nexts ∙ sym (c .before .before .before .before .before .before .before .before .before .before .before .pre .3)
+same-length-2 c = c .before .loop .inv .nexts ∙ room-rows _ _ ∙ sym (c .before .before .before .before .before .before .before .before .before .before .before .pre .3)
 
 returns : tie.Need-returns Inv-loop μ-loop
 returns c = linking-end (c .before .loop .inv) (omega (arith, c .loop-test .left))

@@ -8,7 +8,8 @@ use Rattle.paper.specs.Numbers.{kindSpread}
 use Rattle.paper_rules.specs.Constructs.{count, is, nameOf}
 use Rattle.constructs.specs.Rowed.{docOf, rowIn}
 use Rattle.constructs.proofs.RowsIn.{rows-count}
-use Rattle.links.proofs.ChainWalks.{kinds-first, kinds-after, kinds-less}
+use Rattle.constructs.proofs.Rooms.{room-rows, room-at}
+use Rattle.links.proofs.ChainWalks.{kinds-first, kinds-after, kinds-less, kinds-room}
 use Rattle.spreading.proofs.SpreaderLaws.{spread-true}
 use Rattle.spreading.proofs.TargetLaws.{fragment-most, Targeting, targeting-start, targeting-more, targeting-end}
 use Rattle.spreading.proofs.targets.Statement.{statement}
@@ -33,7 +34,7 @@ link-of-requires : tie.Need-link-of-requires Inv-loop μ-loop
 link-of-requires c κs = omega (arith, c .before .before .before .before .before .pre .1 .firsts)
 
 loop-holds : tie.Need-loop-holds Inv-loop μ-loop
-loop-holds c = targeting-start _ _ (c .before .before .before .before .before .before .pre .2) (kinds-first _ _ _ _ (c .before .before .before .before .before .before .pre .1) kindSpread (omega arith) (c .link-of .ensures))
+loop-holds c = targeting-start _ _ (c .before .before .before .before .before .before .pre .2 ∙ sym (room-rows _ _)) (kinds-first _ _ _ _ (c .before .before .before .before .before .before .pre .1) kindSpread (omega arith) (c .link-of .ensures))
 
 fragment-named-requires : tie.Need-fragment-named-requires Inv-loop μ-loop
 fragment-named-requires c κs = (c .before .before .before .before .before .before .before .before .pre .0, c .before .before .before .before .before .before .before .before .pre .1, c .loop-test .taken)
@@ -48,10 +49,10 @@ mul-target : tie.Need-mul-target Inv-loop μ-loop
 mul-target c = omega (arith, c .before .loop-test .taken, c .before .before .before .before .before .before .before .before .before .pre .0 .few)
 
 slice-write-target : tie.Need-slice-write-target Inv-loop μ-loop
-slice-write-target c = omega (arith, c .before .loop-test .taken, c .before .before .before .before .before .before .before .before .before .pre .0 .few, c .before .before .loop .inv .size)
+slice-write-target c = room-at _ _ _ (c .before .before .loop .inv .size) (c .before .before .before .before .before .before .before .before .before .pre .0 .few) (c .before .loop-test .taken)
 
 link-of-requires-2 : tie.Need-link-of-requires-2 Inv-loop μ-loop
-link-of-requires-2 c κs = omega (arith, c .before .loop-test .taken, c .before .before .before .before .before .before .before .before .before .pre .0 .few, c .before .before .before .before .before .before .before .before .before .pre .1 .nexts)
+link-of-requires-2 c κs = kinds-room _ _ _ _ (c .before .before .before .before .before .before .before .before .before .pre .1) _ (c .before .loop-test .taken) (c .before .before .before .before .before .before .before .before .before .pre .0 .few)
 
 loop-less : tie.Need-loop-less Inv-loop μ-loop
 loop-less c = omega (arith, c .before .before .loop-test .taken, kinds-less _ _ _ _ (c .before .before .before .before .before .before .before .before .before .before .pre .1) kindSpread (c .before .before .before .loop .i) (omega arith) (c .before .before .loop-test .taken) (spread (c .before .before)) (c .link-of2 .ensures))
@@ -62,7 +63,7 @@ loop-again c =
     targeting-more (docOf (a .s .now) (a .rows .now) (a .n)) _ (c .before .before .before .loop .i) (c .before .before .before .loop .inv) (below (c .before .before)) (omega (arith, rows-count (a .rows .now) (a .n), c .before .before .before .before .before .before .before .before .before .before .pre .0 .few)) (c .before .fragment-named .ensures) (kinds-after _ _ _ _ (c .before .before .before .before .before .before .before .before .before .before .pre .1) kindSpread (c .before .before .before .loop .i) (omega arith) (c .before .before .loop-test .taken) (spread (c .before .before)) (c .link-of2 .ensures))
 
 same-length : tie.Need-same-length Inv-loop μ-loop
-same-length c = c .before .loop .inv .size ∙ sym (c .before .before .before .before .before .before .before .before .pre .2)
+same-length c = c .before .loop .inv .size ∙ room-rows _ _ ∙ sym (c .before .before .before .before .before .before .before .before .pre .2)
 
 returns : tie.Need-returns Inv-loop μ-loop
 returns c =

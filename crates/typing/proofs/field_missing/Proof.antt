@@ -1,9 +1,11 @@
 -- By the field's first number.
 use mathlib.Core.Path.{sym, _∙_}
+use native.Mathlib.Omega.{arith}
 use lib.ListN.{getD}
 use Rattle.paper_types.specs.Types.{tableOf}
 use Rattle.constructs.specs.Rowed.{docOf}
 use Rattle.constructs.proofs.RowsIn.{rowed-sized}
+use Rattle.constructs.proofs.Rooms.{room-enough}
 use Rattle.typing.proofs.RuleLaws.{field-other, field-judged}
 use borrow.Author.Needs.{needs}
 use Rattle.typing.proofs.field_missing.Statement.{statement}
@@ -21,7 +23,9 @@ mul-result : tie.Need-mul-result
 mul-result c = search needs
 
 shared-slice-read-result : tie.Need-shared-slice-read-result
-shared-slice-read-result c = search needs
+shared-slice-read-result c =
+    let g = c .before .before .before .before .before .before .before .before .before .pre in
+    omega (arith, g .1 .ats, g .2, room-enough _ (g .0 .few))
 
 returns-2 : tie.Need-returns-2
 returns-2 c =

@@ -13,6 +13,7 @@ use Rattle.fields.specs.Fields.{Bounds}
 use Rattle.members.specs.Members.{argumentsIn}
 use Rattle.constructs.specs.Rowed.{docOf}
 use Rattle.constructs.proofs.RowsIn.{rowed-sized, name-within}
+use Rattle.constructs.proofs.Rooms.{room-enough}
 use Rattle.composites.specs.Coded.{FieldKept}
 use Rattle.typing.proofs.CodedLaws.{lacks-unknown, lacks-typename, lacks-member}
 use borrow.Author.Needs.{needs}
@@ -39,7 +40,9 @@ mul-a : tie.Need-mul-a
 mul-a c = search needs
 
 shared-slice-read-a : tie.Need-shared-slice-read-a
-shared-slice-read-a c = search needs
+shared-slice-read-a c =
+    let g = c .before .before .before .before .before .before .before .pre in
+    omega (arith, g .1 .ats, g .2, room-enough _ (g .0 .few))
 
 returns : tie.Need-returns
 returns c =
@@ -60,7 +63,9 @@ mul-has-argument : tie.Need-mul-has-argument
 mul-has-argument c = search needs
 
 shared-slice-read-has-argument : tie.Need-shared-slice-read-has-argument
-shared-slice-read-has-argument c = search needs
+shared-slice-read-has-argument c =
+    let g = c .before .before .before .before .before .before .before .before .before .before .pre in
+    omega (arith, g .1 .tos, g .2, room-enough _ (g .0 .few))
 
 cast-has-argument-2 : tie.Need-cast-has-argument-2
 cast-has-argument-2 c =

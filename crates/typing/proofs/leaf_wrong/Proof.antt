@@ -1,11 +1,13 @@
 -- By the field's first number, its selections, and the type inside.
 use mathlib.Core.Path.{_≡_, sym, _∙_}
+use native.Mathlib.Omega.{arith}
 use lib.ListN.{getD}
 use Rattle.paper.specs.Numbers.{kindField}
 use Rattle.paper_types.specs.Types.{tableOf}
 use Rattle.paper_rules.specs.Enclosing.{fieldAt, typeIn}
 use Rattle.constructs.specs.Rowed.{rowIn, docOf}
 use Rattle.constructs.proofs.RowsIn.{rowed-sized}
+use Rattle.constructs.proofs.Rooms.{room-enough}
 use Rattle.composites.specs.Coded.{typeCoded, FieldKept}
 use Rattle.enclosings.proofs.KindLaws.{field-encloses}
 use Rattle.enclosings.proofs.EnclosedLaws.{field-inside}
@@ -44,7 +46,9 @@ mul-if2 : tie.Need-mul-if2
 mul-if2 c = search needs
 
 shared-slice-read-if2 : tie.Need-shared-slice-read-if2
-shared-slice-read-if2 c = search needs
+shared-slice-read-if2 c =
+    let g = c .before .before .before .before .before .before .before .before .before .before .before .pre in
+    omega (arith, g .2 .ats, g .3, room-enough _ (g .0 .few))
 
 returns-2 : tie.Need-returns-2
 returns-2 c =
@@ -60,7 +64,9 @@ mul-result : tie.Need-mul-result
 mul-result c = search needs
 
 shared-slice-read-result : tie.Need-shared-slice-read-result
-shared-slice-read-result c = search needs
+shared-slice-read-result c =
+    let g = c .before .before .before .before .before .before .before .before .before .before .before .before .before .before .before .pre in
+    omega (arith, g .2 .inners, g .3, room-enough _ (g .0 .few))
 
 returns-3 : tie.Need-returns-3
 returns-3 c =
@@ -71,7 +77,9 @@ mul-result-2 : tie.Need-mul-result-2
 mul-result-2 c = search needs
 
 shared-slice-read-result-2 : tie.Need-shared-slice-read-result-2
-shared-slice-read-result-2 c = search needs
+shared-slice-read-result-2 c =
+    let g = c .before .before .before .before .before .before .before .before .before .before .before .before .before .before .before .pre in
+    omega (arith, g .2 .inners, g .3, room-enough _ (g .0 .few))
 
 returns-4 : tie.Need-returns-4
 returns-4 c =

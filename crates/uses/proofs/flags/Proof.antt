@@ -3,10 +3,11 @@ use borrow.Author.Needs.{needs}
 use mathlib.Core.Path.{_≡_, sym, ap, _∙_}
 use Prim.Native.Nat.{ℕ}
 use lib.ListN.{length, replicate}
-use Rattle.paper.specs.Numbers.{mostRows}
 use Rattle.paper_types.specs.Types.{tableOf}
-use Rattle.constructs.specs.Rowed.{docOf}
+use Rattle.paper_rules.specs.Constructs.{count}
+use Rattle.constructs.specs.Rowed.{docOf, roomOf}
 use Rattle.constructs.proofs.RowsIn.{rowed-sized, rows-count}
+use Rattle.constructs.proofs.Rooms.{room-rows}
 use Rattle.reaching.specs.Marks.{Stamped}
 use Rattle.reaching.proofs.MarkLaws.{stamped-none}
 use Rattle.likes.proofs.FlagsLaws.{flags-none}
@@ -15,24 +16,24 @@ use Rattle.uses.proofs.flags.Statement.{statement}
 use Rattle.uses.proofs.flags.Tie as tie
 
 no-flags : (c : tie.After-clear)
-    → Stamped 0 (c .clear .last .0)
+    → Stamped (docOf (c .before .before .before .before .before .before .before .before .before .before .before .before .before .before .before .before .before .before .before .args .s .now) (c .before .before .before .before .before .before .before .before .before .before .before .before .before .before .before .before .before .before .before .args .rows .now) (c .before .before .before .before .before .before .before .before .before .before .before .before .before .before .before .before .before .before .before .args .n)) 0 (c .clear .last .0)
 no-flags c =
-    stamped-none (c .clear .ensures ∙ ap (λ (k : ℕ). replicate k 0) (c .before .before .before .before .before .before .before .before .before .before .before .before .before .before .before .before .before .before .before .pre .5))
+    stamped-none _ (c .clear .ensures ∙ ap (λ (k : ℕ). replicate k 0) (c .before .before .before .before .before .before .before .before .before .before .before .before .before .before .before .before .before .before .before .pre .5 ∙ sym (room-rows _ _)))
 
 no-marks : (c : tie.After-clear2)
-    → Stamped 0 (c .clear2 .last .0)
+    → Stamped (docOf (c .before .before .before .before .before .before .before .before .before .before .before .before .before .before .before .before .before .before .before .before .before .before .before .args .s .now) (c .before .before .before .before .before .before .before .before .before .before .before .before .before .before .before .before .before .before .before .before .before .before .before .args .rows .now) (c .before .before .before .before .before .before .before .before .before .before .before .before .before .before .before .before .before .before .before .before .before .before .before .args .n)) 0 (c .clear2 .last .0)
 no-marks c =
-    stamped-none (c .clear2 .ensures ∙ ap (λ (k : ℕ). replicate k 0) (c .before .before .before .before .before .before .before .before .before .before .before .before .before .before .before .before .before .before .before .before .before .before .before .pre .3))
+    stamped-none _ (c .clear2 .ensures ∙ ap (λ (k : ℕ). replicate k 0) (c .before .before .before .before .before .before .before .before .before .before .before .before .before .before .before .before .before .before .before .before .before .before .before .pre .3 ∙ sym (room-rows _ _)))
 
 marks : (c : tie.After-judge-fragments)
-    → length (c .judge-fragments .last .1 .1 .1 .1 .1 .1 .1 .1 .0) ≡ mostRows
+    → length (c .judge-fragments .last .1 .1 .1 .1 .1 .1 .1 .1 .0) ≡ roomOf (count (docOf (c .before .before .before .before .before .before .before .before .before .before .before .before .before .before .before .before .before .before .before .before .before .before .before .before .before .before .before .before .before .args .s .now) (c .before .before .before .before .before .before .before .before .before .before .before .before .before .before .before .before .before .before .before .before .before .before .before .before .before .before .before .before .before .args .rows .now) (c .before .before .before .before .before .before .before .before .before .before .before .before .before .before .before .before .before .before .before .before .before .before .before .before .before .before .before .before .before .args .n)))
 marks c =
     c .judge-fragments .kept .1 .1 .1 .1 .1 .1 .1 .1 .0 ∙ no-marks ((c .before .before .before .before .before .before)) .size
 
 no-marks-again : (c : tie.After-clear3)
-    → Stamped 0 (c .clear3 .last .0)
+    → Stamped (docOf (c .before .before .before .before .before .before .before .before .before .before .before .before .before .before .before .before .before .before .before .before .before .before .before .before .before .before .before .before .before .before .before .before .before .before .before .before .before .args .s .now) (c .before .before .before .before .before .before .before .before .before .before .before .before .before .before .before .before .before .before .before .before .before .before .before .before .before .before .before .before .before .before .before .before .before .before .before .before .before .args .rows .now) (c .before .before .before .before .before .before .before .before .before .before .before .before .before .before .before .before .before .before .before .before .before .before .before .before .before .before .before .before .before .before .before .before .before .before .before .before .before .args .n)) 0 (c .clear3 .last .0)
 no-marks-again c =
-    stamped-none (c .clear3 .ensures ∙ ap (λ (k : ℕ). replicate k 0) (marks (c .before .before .before .before .before .before .before .before)))
+    stamped-none _ (c .clear3 .ensures ∙ ap (λ (k : ℕ). replicate k 0) (marks (c .before .before .before .before .before .before .before .before)))
 
 clear-requires : tie.Need-clear-requires
 clear-requires c κs = search needs
@@ -43,7 +44,7 @@ clear-requires-2 c κs = search needs
 judge-fragments-requires : tie.Need-judge-fragments-requires
 judge-fragments-requires c κs =
     let s = c .before .before .before .before .before .before .before .before .before .before .before .before .before .before .before .before .before .before .before .before .before .before .before .before .before .before .before .before in
-    (rowed-sized (s .pre .0 .rowed), s .pre .1, s .pre .2, no-marks (c .before .before .before .before .before), s .pre .4, no-flags ((c .before .before .before .before .before .before .before .before .before)) .size)
+    (rowed-sized (s .pre .0 .rowed), s .pre .1, s .pre .2, no-marks (c .before .before .before .before .before), s .pre .4, no-flags ((c .before .before .before .before .before .before .before .before .before)) .size ∙ room-rows _ _)
 
 clear-requires-3 : tie.Need-clear-requires-3
 clear-requires-3 c κs = search needs
@@ -60,7 +61,7 @@ same-length-2 : tie.Need-same-length-2
 same-length-2 c = search needs
 
 same-length-3 : tie.Need-same-length-3
-same-length-3 c = c .before .before .before .before .before .before .judge-uses .ensures .size ∙ sym (c .before .before .before .before .before .before .before .before .before .before .before .before .before .before .before .before .before .before .before .before .before .before .before .before .before .before .before .before .before .before .before .before .before .before .before .before .before .before .before .before .before .before .before .before .before .before .before .before .before .pre .5)
+same-length-3 c = c .before .before .before .before .before .before .judge-uses .ensures .size ∙ room-rows _ _ ∙ sym (c .before .before .before .before .before .before .before .before .before .before .before .before .before .before .before .before .before .before .before .before .before .before .before .before .before .before .before .before .before .before .before .before .before .before .before .before .before .before .before .before .before .before .before .before .before .before .before .before .before .pre .5)
 
 returns : tie.Need-returns
 returns c =

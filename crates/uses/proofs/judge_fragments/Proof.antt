@@ -9,6 +9,7 @@ use Rattle.paper.specs.Numbers.{kindFragment}
 use Rattle.paper_rules.specs.Constructs.{count, is}
 use Rattle.constructs.specs.Rowed.{rowIn, docOf}
 use Rattle.constructs.proofs.RowsIn.{rows-count}
+use Rattle.constructs.proofs.Rooms.{room-rows, room-at}
 use Rattle.links.proofs.ChainWalks.{kinds-first, kinds-after, kinds-less, kinds-room}
 use Rattle.likes.proofs.FlagsLaws.{kind-next, FragmentLoop, fragments-start, fragments-more, fragments-end}
 use Rattle.uses.proofs.judge_fragments.Statement.{statement}
@@ -43,19 +44,20 @@ loop-holds : tie.Need-loop-holds Inv-loop μ-loop
 loop-holds c =
     let s = c .before .before .before .before .before .before .before .before .before .before .before in
     let d = docOf (s .args .s .now) (s .args .rows .now) (s .args .n) in
-    fragments-start d (s .args .flag .now) (s .args .mark .now) (s .args .stack .now) (c .link-of .result) (kind-next d kindFragment 0 (omega arith) (kinds-first (s .args .rows .now) (s .args .n) (s .args .firstk .now) (s .args .nextk .now) (s .pre .1) kindFragment (omega arith) (c .link-of .ensures))) (s .pre .5) (s .pre .3) (s .pre .4)
+    let e = sym (room-rows (s .args .rows .now) (s .args .n)) in
+    fragments-start d (s .args .flag .now) (s .args .mark .now) (s .args .stack .now) (c .link-of .result) (kind-next d kindFragment 0 (omega arith) (kinds-first (s .args .rows .now) (s .args .n) (s .args .firstk .now) (s .args .nextk .now) (s .pre .1) kindFragment (omega arith) (c .link-of .ensures))) (s .pre .5 ∙ e) (s .pre .3) (s .pre .4 ∙ e)
 
 circle-of-requires : tie.Need-circle-of-requires Inv-loop μ-loop
 circle-of-requires c κs =
     let s = c .before .before .before .before .before .before .before .before .before .before .before .before .before .before .before in
     let l = c .before .before .before .loop in
-    (s .pre .0, s .pre .2, l .inv .stamped, l .inv .stacked)
+    (s .pre .0, s .pre .2, l .inv .stamped, l .inv .stacked ∙ room-rows _ _)
 
 mul-flag : tie.Need-mul-flag Inv-loop μ-loop
 mul-flag c = omega (arith, c .before .before .before .before .before .before .before .loop-test .taken, c .before .before .before .before .before .before .before .before .before .before .before .before .before .before .before .before .before .before .before .before .pre .0 .few)
 
 slice-write-flag : tie.Need-slice-write-flag Inv-loop μ-loop
-slice-write-flag c = omega (arith, c .before .before .before .before .before .before .before .loop-test .taken, c .before .before .before .before .before .before .before .before .before .before .before .before .before .before .before .before .before .before .before .before .pre .0 .few, c .before .before .before .before .before .before .before .before .loop .inv .size)
+slice-write-flag c = room-at _ _ _ (c .before .before .before .before .before .before .before .before .loop .inv .size) (c .before .before .before .before .before .before .before .before .before .before .before .before .before .before .before .before .before .before .before .before .pre .0 .few) (c .before .before .before .before .before .before .before .loop-test .taken)
 
 link-of-requires-2 : tie.Need-link-of-requires-2 Inv-loop μ-loop
 link-of-requires-2 c κs =
@@ -78,10 +80,10 @@ same-length : tie.Need-same-length Inv-loop μ-loop
 same-length c = c .before .loop .inv .stamped .size ∙ sym (c .before .before .before .before .before .before .before .before .before .before .before .before .before .pre .3 .size)
 
 same-length-2 : tie.Need-same-length-2 Inv-loop μ-loop
-same-length-2 c = c .before .loop .inv .stacked ∙ sym (c .before .before .before .before .before .before .before .before .before .before .before .before .before .pre .4)
+same-length-2 c = c .before .loop .inv .stacked ∙ room-rows _ _ ∙ sym (c .before .before .before .before .before .before .before .before .before .before .before .before .before .pre .4)
 
 same-length-3 : tie.Need-same-length-3 Inv-loop μ-loop
-same-length-3 c = c .before .loop .inv .size ∙ sym (c .before .before .before .before .before .before .before .before .before .before .before .before .before .pre .5)
+same-length-3 c = c .before .loop .inv .size ∙ room-rows _ _ ∙ sym (c .before .before .before .before .before .before .before .before .before .before .before .before .before .pre .5)
 
 returns : tie.Need-returns Inv-loop μ-loop
 returns c =

@@ -10,6 +10,7 @@ use Rattle.paper_types.specs.Types.{tableOf}
 use Rattle.paper_rules.specs.Constructs.{count, kindOf}
 use Rattle.constructs.specs.Rowed.{rowIn, docOf}
 use Rattle.constructs.proofs.RowsIn.{rows-count}
+use Rattle.constructs.proofs.Rooms.{room-rows}
 use Rattle.links.proofs.ChainWalks.{kinds-first, kinds-after, kinds-less, kinds-room}
 use Rattle.spreading.proofs.OwnerLaws.{operation-defines}
 use Rattle.likes.proofs.FlagsLaws.{kind-next, OperationLoop, operations-next, operations-end}
@@ -43,13 +44,13 @@ loop-holds : tie.Need-loop-holds Inv-loop μ-loop
 loop-holds c =
     let s = c .before .before .before .before .before .before .before .before .before .before .before .before .before .before .before .before .before .before in
     let d = docOf (s .args .s .now) (s .args .rows .now) (s .args .n) in
-    operations-next (tableOf (s .args .t .now)) d (s .args .n) (s .args .flag .now) (s .args .mark .now) (s .args .stack .now) 0 (c .link-of .result) (kind-next d kindOperation 0 (omega arith) (kinds-first (s .args .rows .now) (s .args .n) (s .args .firstk .now) (s .args .nextk .now) (s .pre .1) kindOperation (omega arith) (c .link-of .ensures))) (s .pre .5) (s .pre .3) (s .pre .4)
+    operations-next (tableOf (s .args .t .now)) d (s .args .n) (s .args .flag .now) (s .args .mark .now) (s .args .stack .now) 0 (c .link-of .result) (kind-next d kindOperation 0 (omega arith) (kinds-first (s .args .rows .now) (s .args .n) (s .args .firstk .now) (s .args .nextk .now) (s .pre .1) kindOperation (omega arith) (c .link-of .ensures))) (s .pre .5) (s .pre .3) (s .pre .4 ∙ sym (room-rows (s .args .rows .now) (s .args .n)))
 
 reach-requires : tie.Need-reach-requires Inv-loop μ-loop
 reach-requires c κs =
     let s = c .before .before .before .before .before .before .before .before .before .before .before .before .before .before .before .before .before .before .before .before .before .before in
     let l = c .before .before .before .loop in
-    (s .pre .2, operation-defines (docOf (s .args .s .now) (s .args .rows .now) (s .args .n)) (l .o) (kind (c .before .before)), l .inv .stamped, l .inv .stacked)
+    (s .pre .2, operation-defines (docOf (s .args .s .now) (s .args .rows .now) (s .args .n)) (l .o) (kind (c .before .before)), l .inv .stamped, l .inv .stacked ∙ room-rows _ _)
 
 judge-variables-requires : tie.Need-judge-variables-requires Inv-loop μ-loop
 judge-variables-requires c κs =
@@ -78,7 +79,7 @@ same-length : tie.Need-same-length Inv-loop μ-loop
 same-length c = c .before .loop .inv .stamped .size ∙ sym (c .before .before .before .before .before .before .before .before .before .before .before .before .before .before .before .before .before .before .before .before .pre .3 .size)
 
 same-length-2 : tie.Need-same-length-2 Inv-loop μ-loop
-same-length-2 c = c .before .loop .inv .stacked ∙ sym (c .before .before .before .before .before .before .before .before .before .before .before .before .before .before .before .before .before .before .before .before .pre .4)
+same-length-2 c = c .before .loop .inv .stacked ∙ room-rows _ _ ∙ sym (c .before .before .before .before .before .before .before .before .before .before .before .before .before .before .before .before .before .before .before .before .pre .4)
 
 same-length-3 : tie.Need-same-length-3 Inv-loop μ-loop
 same-length-3 c = c .before .loop .inv .flags .size ∙ sym (c .before .before .before .before .before .before .before .before .before .before .before .before .before .before .before .before .before .before .before .before .pre .5 .size)

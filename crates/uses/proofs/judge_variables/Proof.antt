@@ -12,6 +12,7 @@ use Rattle.paper_types.specs.Types.{tableOf}
 use Rattle.paper_rules.specs.Constructs.{count, is}
 use Rattle.constructs.specs.Rowed.{rowIn, docOf}
 use Rattle.constructs.proofs.RowsIn.{rows-count}
+use Rattle.constructs.proofs.Rooms.{room-at}
 use Rattle.links.proofs.ChainWalks.{kinds-first, kinds-after, kinds-less, kinds-room}
 use Rattle.likes.proofs.FlagsLaws.{kind-next}
 use Rattle.likes.proofs.LikenLaws.{JudgeLoop, judge-start, judge-left, judge-skip, judge-more, judge-end}
@@ -51,7 +52,7 @@ mul-f : tie.Need-mul-f Inv-loop μ-loop
 mul-f c = omega (arith, c .loop-test .taken, c .before .before .before .before .before .before .before .before .before .before .before .before .before .before .before .before .pre .0 .rowed .few)
 
 slice-read-f : tie.Need-slice-read-f Inv-loop μ-loop
-slice-read-f c = omega (arith, c .before .loop-test .taken, c .before .before .before .before .before .before .before .before .before .before .before .before .before .before .before .before .before .pre .0 .rowed .few, c .before .before .loop .inv .flags .size)
+slice-read-f c = room-at _ _ _ (c .before .before .loop .inv .flags .size) (c .before .before .before .before .before .before .before .before .before .before .before .before .before .before .before .before .before .pre .0 .rowed .few) (c .before .loop-test .taken)
 
 lesser-requires : tie.Need-lesser-requires Inv-loop μ-loop
 lesser-requires c κs =
@@ -63,7 +64,7 @@ mul-flag : tie.Need-mul-flag Inv-loop μ-loop
 mul-flag c = omega (arith, c .before .before .before .loop-test .taken, c .before .before .before .before .before .before .before .before .before .before .before .before .before .before .before .before .before .before .before .pre .0 .rowed .few)
 
 slice-write-flag : tie.Need-slice-write-flag Inv-loop μ-loop
-slice-write-flag c = omega (arith, c .before .before .before .loop-test .taken, c .before .before .before .before .before .before .before .before .before .before .before .before .before .before .before .before .before .before .before .pre .0 .rowed .few, c .before .before .before .before .loop .inv .flags .size)
+slice-write-flag c = room-at _ _ _ (c .before .before .before .before .loop .inv .flags .size) (c .before .before .before .before .before .before .before .before .before .before .before .before .before .before .before .before .before .before .before .pre .0 .rowed .few) (c .before .before .before .loop-test .taken)
 
 link-of-requires-2 : tie.Need-link-of-requires-2 Inv-loop μ-loop
 link-of-requires-2 c κs =

@@ -1,5 +1,5 @@
 use mathlib.Core.Path.{sym, _∙_}
-use native.Mathlib.Omega.{arith}
+use Rattle.constructs.proofs.Rooms.{room-at}
 use Rattle.verdicts.proofs.RowLaws.{spread-only, directive-only, condition-only, variable-only, other-kind}
 use borrow.Author.Needs.{needs}
 use Rattle.verdicts.proofs.rule_at.Statement.{statement}
@@ -15,7 +15,7 @@ fragment-rule-requires : tie.Need-fragment-rule-requires
 fragment-rule-requires c κs =
     let p = c .before .before .before .before .before .before .before .before .before .before .before .before .before .before .before .pre in
     let r = p .0 in
-    (r .asked .rowed, r .kinds, omega (arith, p .1, r .asked .rowed .few, r .flagged .size), p .1, sym (c .before .kind-of .ensures) ∙ c .match .keys2)
+    (r .asked .rowed, r .kinds, room-at _ _ _ (r .flagged .size) (r .asked .rowed .few) (p .1), p .1, sym (c .before .kind-of .ensures) ∙ c .match .keys2)
 
 field-rule-requires : tie.Need-field-rule-requires
 field-rule-requires c κs = search needs
@@ -48,7 +48,9 @@ mul-result : tie.Need-mul-result
 mul-result c = search needs
 
 shared-slice-read-result : tie.Need-shared-slice-read-result
-shared-slice-read-result c = search needs
+shared-slice-read-result c =
+    let p = c .before .before .before .before .before .before .before .before .before .before .before .before .before .before .before .before .pre in
+    room-at _ _ _ (p .0 .flagged .size) (p .0 .asked .rowed .few) (p .1)
 
 returns : tie.Need-returns
 returns c = search needs
