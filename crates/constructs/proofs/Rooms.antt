@@ -6,7 +6,7 @@ use Prim.Native.Nat.{ℕ, _<_, _≤_}
 use native.Mathlib.Omega.{arith}
 use lib.ListN.{length}
 use lib.Dec.{leb}
-use borrow.Author.Tests.{leb-true, leb-false, le-leb, lt-leb}
+use borrow.Author.Tests.{leb-true, le-leb, lt-leb}
 use Rattle.paper.specs.Numbers.{mostRows}
 use Rattle.constructs.specs.Rowed.{rowsIn, fewRows, roomOf}
 use Rattle.constructs.proofs.RowsIn.{rows-count}
