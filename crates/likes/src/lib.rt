@@ -69,6 +69,14 @@ fn newest(m: usize) -> usize
     m - MOST_MODELS
 }
 
+// Number k of the stack.
+fn model_at(stack: &[u16], k: usize) -> usize
+    requires { ⌜ k < length (now stack) ⌝ }
+    ensures { λ r. ⌜ r ≡ getD (now (stack .entry)) k 0 ⌝ }
+{
+    stack[k] as usize
+}
+
 // The newest model that the variable of row i is like, among the first m of the stack; n if none of the last is.
 fn model_of(
     t: &[u8],
@@ -79,7 +87,7 @@ fn model_of(
     size: &[u32],
     wrappers: &[u32],
     owner: &[u32],
-    stack: &[u32],
+    stack: &[u16],
     m: usize,
     i: usize,
 ) -> usize
@@ -90,7 +98,7 @@ fn model_of(
     let mut k = m;
     while end < k {
         k -= 1;
-        let model = link_of(stack, k);
+        let model = model_at(stack, k);
         if is_like(t, s, rows, n, at, size, wrappers, owner, i, model) {
             return model;
         }
@@ -108,7 +116,7 @@ fn liken_one(
     size: &[u32],
     wrappers: &[u32],
     owner: &[u32],
-    stack: &mut [u32],
+    stack: &mut [u16],
     flag: &mut [u32],
     m: usize,
     i: usize,
@@ -121,7 +129,7 @@ fn liken_one(
         flag[i] = LIKE_FIRST + model as u32;
         return m;
     }
-    stack[m] = i as u32;
+    stack[m] = i as u16;
     m + 1
 }
 
@@ -137,7 +145,7 @@ pub fn liken(
     size: &[u32],
     wrappers: &[u32],
     owner: &[u32],
-    stack: &mut [u32],
+    stack: &mut [u16],
     flag: &mut [u32],
 )
     requires { ⌜ Unlinked (now t) (now s) (now rows) n (now at) (now size) (now wrappers) (now owner) × Kinds (rowsIn (now rows) n) (now firstk) (now nextk) × (length (now stack) ≡ roomOf n) × FlagsTo (tableOf (now t)) (docOf (now s) (now rows) n) n 0 (now flag) ⌝ }

@@ -45,7 +45,7 @@ fn flag_with(
     firsts: &mut [u32],
     nexts: &mut [u32],
     mark: &mut [u32],
-    stack: &mut [u32],
+    stack: &mut [u16],
     flags: &mut [u32],
 )
     requires { ⌜ Rowed (now s) (now rows) n × Family (rowsIn (now rows) n) (now first) (now next) × Kinds (rowsIn (now rows) n) (now firstk) (now nextk) × Placed (now t) (now s) (now rows) n (now at) (now to) (now inside) n × Targeted (docOf (now s) (now rows) n) (now target) × (length (now owner) ≡ roomOf n) × (length (now firsts) ≡ firstsSize) × (length (now nexts) ≡ roomOf n) × (length (now mark) ≡ roomOf n) × (length (now stack) ≡ roomOf n) × (length (now flags) ≡ roomOf n) ⌝ }
@@ -94,7 +94,7 @@ fn judge_placed(
     firsts: &mut [u32],
     nexts: &mut [u32],
     mark: &mut [u32],
-    stack: &mut [u32],
+    stack: &mut [u16],
     flags: &mut [u32],
 ) -> QueryAnswer
     requires { ⌜ (length (now t) ≤ mostTable) × Asked (now t) (now book) (now s) (now rows) n (now first) (now next) × Kinds (rowsIn (now rows) n) (now firstk) (now nextk) × Placed (now t) (now s) (now rows) n (now at) (now to) (now inside) n × (length (now target) ≡ roomOf n) × (length (now owner) ≡ roomOf n) × (length (now firsts) ≡ firstsSize) × (length (now nexts) ≡ roomOf n) × (length (now mark) ≡ roomOf n) × (length (now stack) ≡ roomOf n) × (length (now flags) ≡ roomOf n) ⌝ }
@@ -158,7 +158,7 @@ fn judge_linked(
     firsts: &mut [u32],
     nexts: &mut [u32],
     mark: &mut [u32],
-    stack: &mut [u32],
+    stack: &mut [u16],
     flags: &mut [u32],
 ) -> QueryAnswer
     requires { ⌜ (length (now t) ≤ mostTable) × Fitted (now t) × Asked (now t) (now book) (now s) (now rows) n (now first) (now next) × Kinds (rowsIn (now rows) n) (now firstk) (now nextk) × (length (now inside) ≡ roomOf n) × (length (now at) ≡ roomOf n) × (length (now to) ≡ roomOf n) × (length (now target) ≡ roomOf n) × (length (now owner) ≡ roomOf n) × (length (now firsts) ≡ firstsSize) × (length (now nexts) ≡ roomOf n) × (length (now mark) ≡ roomOf n) × (length (now stack) ≡ roomOf n) × (length (now flags) ≡ roomOf n) ⌝ }
@@ -208,7 +208,7 @@ fn judge_rowed(
     firsts: &mut [u32],
     nexts: &mut [u32],
     mark: &mut [u32],
-    stack: &mut [u32],
+    stack: &mut [u16],
     flags: &mut [u32],
 ) -> QueryAnswer
     requires { ⌜ (length (now t) ≤ mostTable) × Fitted (now t) × Booked (now t) (now book) × Rowed (now s) (now rows) n × (length (now first) ≡ firstsSize) × (length (now next) ≡ roomOf n) × (length (now firstk) ≡ kindsSize) × (length (now nextk) ≡ roomOf n) × (length (now inside) ≡ roomOf n) × (length (now at) ≡ roomOf n) × (length (now to) ≡ roomOf n) × (length (now target) ≡ roomOf n) × (length (now owner) ≡ roomOf n) × (length (now firsts) ≡ firstsSize) × (length (now nexts) ≡ roomOf n) × (length (now mark) ≡ roomOf n) × (length (now stack) ≡ roomOf n) × (length (now flags) ≡ roomOf n) ⌝ }
@@ -256,7 +256,7 @@ fn judge_few(t: &[u8], book: &[u32], s: &[u8], rows: &[u32], n: usize) -> QueryA
     let mut firsts = [0u32; FIRSTS];
     let mut nexts = [0u32; FEW_ROWS];
     let mut mark = [0u32; FEW_ROWS];
-    let mut stack = [0u32; FEW_ROWS];
+    let mut stack = [0u16; FEW_ROWS];
     let mut flags = [0u32; FEW_ROWS];
     judge_rowed(
         t,
@@ -298,7 +298,7 @@ fn judge_many(t: &[u8], book: &[u32], s: &[u8], rows: &[u32], n: usize) -> Query
     let mut firsts = [0u32; FIRSTS];
     let mut nexts = [0u32; ROWS];
     let mut mark = [0u32; ROWS];
-    let mut stack = [0u32; ROWS];
+    let mut stack = [0u16; ROWS];
     let mut flags = [0u32; ROWS];
     judge_rowed(
         t,

@@ -13,7 +13,7 @@ ghost use Rattle.spreading.specs.Spreads.{Graph};
 ghost use Rattle.reaching.specs.Marks.{Stamped, Reached, Noted, Room, Search, Passed};
 
 // Marks the fragment of row f and puts it on the stack, if there is one and it is not marked yet; the stack's new height.
-fn note(n: usize, mark: &mut [u32], stack: &mut [u32], top: usize, stamp: u32, f: usize) -> usize
+fn note(n: usize, mark: &mut [u32], stack: &mut [u16], top: usize, stamp: u32, f: usize) -> usize
     requires { ⌜ Room n stamp (now mark) (now stack) top ⌝ }
     ensures { λ r. ⌜ Noted n stamp f (now (mark .entry)) (now (stack .entry)) top (now (mark .exit)) (now (stack .exit)) r ⌝ }
 {
@@ -24,7 +24,7 @@ fn note(n: usize, mark: &mut [u32], stack: &mut [u32], top: usize, stamp: u32, f
         return top;
     }
     mark[f] = stamp;
-    stack[top] = f as u32;
+    stack[top] = f as u16;
     top + 1
 }
 
@@ -37,7 +37,7 @@ fn pass(
     first: &[u32],
     next: &[u32],
     mark: &mut [u32],
-    stack: &mut [u32],
+    stack: &mut [u16],
     top: usize,
     a: usize,
     g: usize,
@@ -64,7 +64,7 @@ pub fn reach(
     first: &[u32],
     next: &[u32],
     mark: &mut [u32],
-    stack: &mut [u32],
+    stack: &mut [u16],
     a: usize,
 )
     requires { ⌜ Graph (docOf (now s) (now rows) n) (now target) (now first) (now next) × Defines (docOf (now s) (now rows) n) a × Stamped (docOf (now s) (now rows) n) a (now mark) × (length (now stack) ≡ roomOf n) ⌝ }
@@ -87,7 +87,7 @@ pub fn circles(
     first: &[u32],
     next: &[u32],
     mark: &mut [u32],
-    stack: &mut [u32],
+    stack: &mut [u16],
     i: usize,
 ) -> bool
     requires { ⌜ Sized (now rows) n × Graph (docOf (now s) (now rows) n) (now target) (now first) (now next) × Stamped (docOf (now s) (now rows) n) i (now mark) × (length (now stack) ≡ roomOf n) ⌝ }

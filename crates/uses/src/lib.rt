@@ -83,7 +83,7 @@ fn judge_operations(
     firsts: &[u32],
     nexts: &[u32],
     mark: &mut [u32],
-    stack: &mut [u32],
+    stack: &mut [u16],
     flag: &mut [u32],
 )
     requires { ⌜ Known (now t) (now s) (now rows) n (now first) (now next) (now at) (now size) (now wrappers) (now owner) × Kinds (rowsIn (now rows) n) (now firstk) (now nextk) × Graph (docOf (now s) (now rows) n) (now target) (now firsts) (now nexts) × Stamped (docOf (now s) (now rows) n) 0 (now mark) × (length (now stack) ≡ roomOf n) × LikenedTo (tableOf (now t)) (docOf (now s) (now rows) n) n 0 (now flag) ⌝ }
@@ -131,7 +131,7 @@ fn judge_uses(
     firsts: &[u32],
     nexts: &[u32],
     mark: &mut [u32],
-    stack: &mut [u32],
+    stack: &mut [u16],
     flag: &mut [u32],
 )
     requires { ⌜ Known (now t) (now s) (now rows) n (now first) (now next) (now at) (now size) (now wrappers) (now owner) × Kinds (rowsIn (now rows) n) (now firstk) (now nextk) × Graph (docOf (now s) (now rows) n) (now target) (now firsts) (now nexts) × Stamped (docOf (now s) (now rows) n) 0 (now mark) × (length (now stack) ≡ roomOf n) × FlagsTo (tableOf (now t)) (docOf (now s) (now rows) n) n 0 (now flag) ⌝ }
@@ -183,7 +183,7 @@ fn circle_of(
     firsts: &[u32],
     nexts: &[u32],
     mark: &mut [u32],
-    stack: &mut [u32],
+    stack: &mut [u16],
     i: usize,
 ) -> u32
     requires { ⌜ Sized (now rows) n × Graph (docOf (now s) (now rows) n) (now target) (now firsts) (now nexts) × Stamped (docOf (now s) (now rows) n) i (now mark) × (length (now stack) ≡ roomOf n) ⌝ }
@@ -206,7 +206,7 @@ fn judge_fragments(
     firsts: &[u32],
     nexts: &[u32],
     mark: &mut [u32],
-    stack: &mut [u32],
+    stack: &mut [u16],
     flag: &mut [u32],
 )
     requires { ⌜ Sized (now rows) n × Kinds (rowsIn (now rows) n) (now firstk) (now nextk) × Graph (docOf (now s) (now rows) n) (now target) (now firsts) (now nexts) × Stamped (docOf (now s) (now rows) n) 0 (now mark) × (length (now stack) ≡ roomOf n) × (length (now flag) ≡ roomOf n) ⌝ }
@@ -237,7 +237,7 @@ pub fn flags(
     firsts: &[u32],
     nexts: &[u32],
     mark: &mut [u32],
-    stack: &mut [u32],
+    stack: &mut [u16],
     flag: &mut [u32],
 )
     requires { ⌜ Known (now t) (now s) (now rows) n (now first) (now next) (now at) (now size) (now wrappers) (now owner) × Kinds (rowsIn (now rows) n) (now firstk) (now nextk) × Graph (docOf (now s) (now rows) n) (now target) (now firsts) (now nexts) × (length (now mark) ≡ roomOf n) × (length (now stack) ≡ roomOf n) × (length (now flag) ≡ roomOf n) ⌝ }

@@ -29,19 +29,19 @@ loop-holds c = omega arith
 sub-k : tie.Need-sub-k Inv-loop μ-loop
 sub-k c = omega (arith, c .loop-test .taken)
 
-link-of-requires : tie.Need-link-of-requires Inv-loop μ-loop
-link-of-requires c κs =
+model-at-requires : tie.Need-model-at-requires Inv-loop μ-loop
+model-at-requires c κs =
     let s = c .before .before .before .before .before .before .before .before .before .before .before in
     omega (arith, here c, room s, s .pre .1 .size, room-rows (s .args .rows .now) (s .args .n))
 
 is-like-requires : tie.Need-is-like-requires Inv-loop μ-loop
 is-like-requires c κs =
     let s = c .before .before .before .before .before .before .before .before .before .before .before .before in
-    (s .pre .0, s .pre .2, rw (c .link-of .ensures) (s .pre .1 .variables (c .before .before .loop .k - 1) (here (c .before))))
+    (s .pre .0, s .pre .2, rw (c .model-at .ensures) (s .pre .1 .variables (c .before .before .loop .k - 1) (here (c .before))))
 
 returns : tie.Need-returns Inv-loop μ-loop
 returns c =
-    λ h. record { waits = record { at = c .before .before .before .before .loop .k - 1; below = here (c .before .before .before); is = sym (c .before .before .link-of .ensures) }; alike = c .before .is-like .ensures (c .if1 .taken) }
+    λ h. record { waits = record { at = c .before .before .before .before .loop .k - 1; below = here (c .before .before .before); is = sym (c .before .before .model-at .ensures) }; alike = c .before .is-like .ensures (c .if1 .taken) }
 
 loop-less : tie.Need-loop-less Inv-loop μ-loop
 loop-less c = omega (arith, c .before .before .before .loop-test .taken)
@@ -61,7 +61,7 @@ model-of-spec =
     newest-requires
     loop-holds
     sub-k
-    link-of-requires
+    model-at-requires
     is-like-requires
     returns
     loop-less

@@ -6,46 +6,46 @@ use Rattle.queries.proofs.judge_many.Statement.{statement}
 use Rattle.queries.proofs.judge_many.Tie as tie
 
 slice-aggregate-judge-rowed : tie.Need-slice-aggregate-judge-rowed
-slice-aggregate-judge-rowed c = search needs
+slice-aggregate-judge-rowed c = refl
 
 slice-aggregate-judge-rowed-2 : tie.Need-slice-aggregate-judge-rowed-2
-slice-aggregate-judge-rowed-2 c = search needs
+slice-aggregate-judge-rowed-2 c = refl
 
 slice-aggregate-judge-rowed-3 : tie.Need-slice-aggregate-judge-rowed-3
-slice-aggregate-judge-rowed-3 c = search needs
+slice-aggregate-judge-rowed-3 c = refl
 
 slice-aggregate-judge-rowed-4 : tie.Need-slice-aggregate-judge-rowed-4
-slice-aggregate-judge-rowed-4 c = search needs
+slice-aggregate-judge-rowed-4 c = refl
 
 slice-aggregate-judge-rowed-5 : tie.Need-slice-aggregate-judge-rowed-5
-slice-aggregate-judge-rowed-5 c = search needs
+slice-aggregate-judge-rowed-5 c = refl
 
 slice-aggregate-judge-rowed-6 : tie.Need-slice-aggregate-judge-rowed-6
-slice-aggregate-judge-rowed-6 c = search needs
+slice-aggregate-judge-rowed-6 c = refl
 
 slice-aggregate-judge-rowed-7 : tie.Need-slice-aggregate-judge-rowed-7
-slice-aggregate-judge-rowed-7 c = search needs
+slice-aggregate-judge-rowed-7 c = refl
 
 slice-aggregate-judge-rowed-8 : tie.Need-slice-aggregate-judge-rowed-8
-slice-aggregate-judge-rowed-8 c = search needs
+slice-aggregate-judge-rowed-8 c = refl
 
 slice-aggregate-judge-rowed-9 : tie.Need-slice-aggregate-judge-rowed-9
-slice-aggregate-judge-rowed-9 c = search needs
+slice-aggregate-judge-rowed-9 c = refl
 
 slice-aggregate-judge-rowed-10 : tie.Need-slice-aggregate-judge-rowed-10
-slice-aggregate-judge-rowed-10 c = search needs
+slice-aggregate-judge-rowed-10 c = refl
 
 slice-aggregate-judge-rowed-11 : tie.Need-slice-aggregate-judge-rowed-11
-slice-aggregate-judge-rowed-11 c = search needs
+slice-aggregate-judge-rowed-11 c = refl
 
 slice-aggregate-judge-rowed-12 : tie.Need-slice-aggregate-judge-rowed-12
-slice-aggregate-judge-rowed-12 c = search needs
+slice-aggregate-judge-rowed-12 c = refl
 
 slice-aggregate-judge-rowed-13 : tie.Need-slice-aggregate-judge-rowed-13
-slice-aggregate-judge-rowed-13 c = search needs
+slice-aggregate-judge-rowed-13 c = refl
 
 slice-aggregate-judge-rowed-14 : tie.Need-slice-aggregate-judge-rowed-14
-slice-aggregate-judge-rowed-14 c = search needs
+slice-aggregate-judge-rowed-14 c = refl
 
 judge-rowed-requires : tie.Need-judge-rowed-requires
 judge-rowed-requires c κs =
