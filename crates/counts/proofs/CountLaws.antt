@@ -14,9 +14,9 @@ use borrow.Author.Tests.{eq-eqb, ne-eqb, lt-ltb, le-ltb, eqb-true, eqb-false, le
 use types.Run.{OneOf}
 use denote.Enum.Declared.{tagOf}
 use Rattle.paper.specs.Numbers.{mostWrappers}
-use Rattle.paper_types.specs.TableNumbers.{mostImplemented, mostMembers, mostArguments, mostRecords, tagScalar, tagRoots, tagImplements, tagField, tagArgument, tagSubscriptionRoot}
+use Rattle.paper_types.specs.TableNumbers.{mostImplemented, mostMembers, mostArguments, mostRecords, tagScalar, tagRoots, tagImplements, tagField, tagArgument, tagSubscriptionRoot, tagName}
 use Rattle.paper_types.specs.Lists.{anyOf, onlyIf}
-use Rattle.paper_types.specs.House.{piece, pieces, contentOf, mostDeep}
+use Rattle.paper_types.specs.House.{piece, pieces, lookUp, contents, contentOf, mostDeep}
 use Rattle.paper_types.specs.TableSizes.{Room, room, isOver, lessRoom, roomInTable, roomIn, oversIn, isWrapper, wrappersOver, oversBy, overs, counts}
 use Rattle.paper_types.proofs.ListsLaws.{head-nil}
 use Rattle.paper_types.proofs.HolderLaws.{over-on, over-here, over-inside}
@@ -186,6 +186,30 @@ deeper : (depth at tag : ℕ) (s : List ℕ) → (depth ≡ 0 → ⊥) → overs
 unfolding overs
 deeper zero at tag s n = absurd (n refl)
 deeper (suc d) at tag s n = let e : suc d - 1 ≡ d = omega arith in rw e
+
+-- a name, or no deeper
+module _ (depth tag : ℕ) {r : Bool} (e : r ≡ eqb tag tagName || eqb depth 0) where
+  pub over-plain : (at : ℕ) (s : List ℕ) → r ≡ true → Within ≡ toldOver (head? (overs depth at tag s))
+  unfolding overs oversBy lookUp contents
+  over-plain at s p = go (eqb tag tagName) refl depth refl
+    where
+      go : (b : Bool) → eqb tag tagName ≡ b → (n : ℕ) → depth ≡ n → Within ≡ toldOver (head? (overs depth at tag s))
+      go b q zero z = over-deep depth at tag s z
+      go true q (suc n) z = rw (z, eqb-true tag tagName q)
+      go false q (suc n) z =
+          let y : false ≡ true = sym (e ∙ rw (q, z, ne-eqb (suc n) 0 (λ w. omega (arith, w)))) ∙ p in
+          let x : _≡_ {A = ℕ} 0 1 = cc in
+          absurd (omega (arith, x))
+
+  pub not-plain : r ≡ false → depth ≡ 0 → ⊥
+  not-plain p z =
+      let y : true ≡ false = sym (go (eqb tag tagName)) ∙ rw (eq-eqb depth 0 z) at (sym e) ∙ p in
+      let x : _≡_ {A = ℕ} 0 1 = cc in
+      absurd (omega (arith, x))
+    where
+      go : (b : Bool) → b || true ≡ true
+      go true = refl
+      go false = refl
 
 -- a content that is no fields, by the keys of the code's other answers
 pub leaf-over : (depth at tag : ℕ) (s : List ℕ) (h : Holding) → (depth ≡ 0 → ⊥) → HoldsAs tag h → OneOf (0 ∷ 1 ∷ 3 ∷ []) (tagOf the-type h)

@@ -13,16 +13,19 @@ use paper_types::MOST_RECORDS;
 use paper_types::TAG_ARGUMENT;
 use paper_types::TAG_FIELD;
 use paper_types::TAG_IMPLEMENTS;
+use paper_types::TAG_NAME;
 use paper_types::TAG_ROOTS;
 use paper_types::TAG_SCALAR;
 use paper_types::TAG_SUBSCRIPTION_ROOT;
 ghost use mathlib.Core.Path.{_≡_};
+ghost use mathlib.Core.Bool.{_||_};
 ghost use mathlib.Core.List.{head?};
 ghost use Prim.Native.Nat.{_+_, _≤_};
 ghost use lib.ListN.{length};
 ghost use lib.Seq.{slice};
+ghost use lib.Dec.{eqb};
 ghost use Rattle.paper.specs.Numbers.{mostWrappers};
-ghost use Rattle.paper_types.specs.TableNumbers.{mostTable};
+ghost use Rattle.paper_types.specs.TableNumbers.{mostTable, tagName};
 ghost use Rattle.paper_types.specs.TableSizes.{wrappersOver, overs, counts};
 ghost use Rattle.fields.specs.Fields.{Bounds};
 ghost use Rattle.counts.specs.Counts.{toldOver, wrapsBy, roomFor, restRoom, leafOvers, recordBy};
@@ -116,12 +119,22 @@ fn rest_room(holder: u8) -> u32
     MOST_ARGUMENTS
 }
 
+// Is nothing counted in a field of this tag, fields being so deep in it at most? Most fields are names.
+fn is_plain(tag: u8, depth: u32) -> bool
+    ensures { λ r. ⌜ r ≡ eqb tag tagName || eqb depth 0 ⌝ }
+{
+    if tag == TAG_NAME {
+        return true;
+    }
+    depth == 0
+}
+
 // The field whose tag stands at `at` and whose content ends at `end`; fields stand in it `depth` deep at most.
 fn first_over(t: &[u8], at: usize, tag: u8, end: usize, depth: u32) -> Counted
     requires { ⌜ Bounds (now t) (at + 3) end ⌝ }
     ensures { λ r. ⌜ r ≡ toldOver (head? (overs depth at tag (slice (at + 3) end (now (t .entry))))) ⌝ }
 {
-    if depth == 0 {
+    if is_plain(tag, depth) {
         return Counted::Within;
     }
     let h = content_of(tag);
