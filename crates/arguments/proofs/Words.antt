@@ -19,8 +19,8 @@ use Rattle.paper.proofs.Test.{all, implies, implies-out, all-at}
 use Rattle.paper.proofs.Tables.{graphql, factored, allC, atC}
 use Rattle.paper.proofs.Checked.{fits}
 use Rattle.paper.proofs.Going.{Stack, State, st, Out, go, goes}
-use Rattle.characters.specs.Head.{headOf, kindOf, wordOf, wordNumber}
-use Rattle.characters.specs.declared.TokenRead.the-variants.{Token}
+use Rattle.strings.specs.Head.{headOf, kindOf, wordOf, wordNumber}
+use Rattle.strings.specs.declared.TokenRead.the-variants.{Token}
 use Rattle.reader.specs.declared.Cursor.{Cursor}
 use Rattle.reader.specs.Reader.{Looks}
 use Rattle.reader.proofs.Steps.{tokenOf, is}

@@ -6,7 +6,7 @@ use lib.ListN.{take, drop}
 use Rattle.paper.specs.Grammar.{nt}
 use Rattle.paper.specs.Language.{Arguments?, Directive, Directives?, TypeCondition}
 use Rattle.paper.proofs.Going.{Stack}
-use Rattle.characters.specs.Head.{wordOf}
+use Rattle.strings.specs.Head.{wordOf}
 use Rattle.reader.specs.declared.Cursor.{Cursor}
 
 -- the bytes of the token that a cursor looks at

@@ -1,8 +1,4 @@
 // Reads arguments, directives and type conditions, and writes their rows.
-use characters::TOKEN_AT;
-use characters::TOKEN_NAME;
-use characters::TOKEN_PAREN_CLOSE;
-use characters::TOKEN_PAREN_OPEN;
 use paper::KIND_ARGUMENT;
 use paper::KIND_DIRECTIVE;
 use paper::KIND_TYPE_REFERENCE;
@@ -13,6 +9,10 @@ use reader::Read;
 use reader::no_going;
 use reader::put_end;
 use reader::put_row;
+use strings::TOKEN_AT;
+use strings::TOKEN_NAME;
+use strings::TOKEN_PAREN_CLOSE;
+use strings::TOKEN_PAREN_OPEN;
 use values::entry;
 ghost use mathlib.Core.Path.{_≡_};
 ghost use Rattle.reader.specs.Reader.{Ready, Said};

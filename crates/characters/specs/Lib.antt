@@ -1,4 +1,1 @@
-pub mod Head
-pub mod Piece
-pub mod Run
 pub mod Characters

@@ -19,7 +19,7 @@ use Rattle.paper.proofs.Theory.{T→eq}
 use Rattle.paper.proofs.Test.{all, implies, implies-out, all-at}
 use Rattle.paper.proofs.Tables.{graphql, factored, allC, atC}
 use Rattle.paper.proofs.Going.{Stack, State, st, start, whole, halt, go}
-use Rattle.characters.specs.Head.{headOf, wordNumber}
+use Rattle.strings.specs.Head.{headOf, wordNumber}
 use Rattle.reader.specs.Reader.{Looks, Ready, at, movedTo, noGoingOf, Went, Said}
 use Rattle.reader.specs.declared.Cursor.{Cursor}
 use Rattle.reader.specs.declared.Read.{Read}

@@ -19,7 +19,7 @@ use Rattle.paper.proofs.Lexing.{from}
 use Rattle.paper.proofs.Machine.{fst, choose}
 use Rattle.paper.proofs.Tables.{graphql, factored}
 use Rattle.paper.proofs.Going.{Stack, State, st, halt, go}
-use Rattle.characters.specs.Head.{headOf, kindOf, wordNumber, wordOf}
+use Rattle.strings.specs.Head.{headOf, kindOf, wordNumber, wordOf}
 use Rattle.reader.specs.Reader.{Looks, Ready, at, movedTo, noGoingOf, Went, Said}
 use Rattle.reader.specs.declared.Cursor.{Cursor}
 use Rattle.reader.specs.declared.Read.{Read}

@@ -19,7 +19,7 @@ use Rattle.paper.proofs.Lexing.{from}
 use Rattle.paper.proofs.Machine.{choose}
 use Rattle.paper.proofs.Tables.{factored}
 use Rattle.paper.proofs.Going.{Stack, State, st, go}
-use Rattle.characters.specs.Head.{headOf, kindOf, wordNumber}
+use Rattle.strings.specs.Head.{headOf, kindOf, wordNumber}
 use Rattle.reader.specs.Reader.{Looks, Ready, at, movedTo, Went, Said}
 use Rattle.reader.specs.declared.Cursor.{Cursor}
 use Rattle.reader.specs.declared.Read.{Read}

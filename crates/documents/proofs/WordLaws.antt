@@ -21,7 +21,7 @@ use Rattle.paper.proofs.Test.{all, implies, implies-out, all-at}
 use Rattle.paper.proofs.Tables.{graphql, factored, allC, atC}
 use Rattle.paper.proofs.Checked.{fits}
 use Rattle.paper.proofs.Going.{Stack, State, st, halt, go, goes, many}
-use Rattle.characters.specs.Head.{kindOf, wordNumber, wordOf}
+use Rattle.strings.specs.Head.{kindOf, wordNumber, wordOf}
 use Rattle.reader.specs.Reader.{Looks}
 use Rattle.reader.specs.declared.Cursor.{Cursor}
 use Rattle.reader.proofs.Steps.{is, not-is, tokenOf, front-token, isNone, refuses}

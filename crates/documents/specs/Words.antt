@@ -7,7 +7,7 @@ use lib.Dec.{eqb}
 use Rattle.paper.specs.Grammar.{nt, act}
 use Rattle.paper.specs.Language.{end, Directives?, SelectionSet}
 use Rattle.paper.proofs.Going.{Stack}
-use Rattle.characters.specs.Head.{wordOf}
+use Rattle.strings.specs.Head.{wordOf}
 use Rattle.reader.specs.declared.Cursor.{Cursor}
 use Rattle.arguments.specs.Arguments.{bytesAt}
 

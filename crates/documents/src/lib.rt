@@ -1,16 +1,6 @@
 // Reads documents and variables texts, and writes their rows.
 use arguments::condition;
 use arguments::directives_if;
-use characters::TOKEN_BRACE_OPEN;
-use characters::TOKEN_END;
-use characters::TOKEN_NAME;
-use characters::TOKEN_PAREN_OPEN;
-use characters::TokenRead;
-use characters::WORD_FRAGMENT;
-use characters::WORD_MUTATION;
-use characters::WORD_OTHER;
-use characters::WORD_QUERY;
-use characters::WORD_SUBSCRIPTION;
 use paper::EXTRA_MUTATION;
 use paper::EXTRA_QUERY;
 use paper::EXTRA_SUBSCRIPTION;
@@ -29,6 +19,16 @@ use reader::put_end;
 use reader::put_row;
 use selections::names_fragment;
 use selections::selection_set;
+use strings::TOKEN_BRACE_OPEN;
+use strings::TOKEN_END;
+use strings::TOKEN_NAME;
+use strings::TOKEN_PAREN_OPEN;
+use strings::TokenRead;
+use strings::WORD_FRAGMENT;
+use strings::WORD_MUTATION;
+use strings::WORD_OTHER;
+use strings::WORD_QUERY;
+use strings::WORD_SUBSCRIPTION;
 use variables::variable_definitions;
 ghost use mathlib.Core.Path.{_≡_};
 ghost use mathlib.Core.Bool.{true};
@@ -40,7 +40,7 @@ ghost use Rattle.paper.specs.Numbers.{mostText, mostLevels, mostRows, rowsSize,
 ghost use Rattle.paper.specs.Language.{Document, Definition, VariablesText, VariableDefinitions?, FragmentName, TypeCondition};
 ghost use Rattle.paper.specs.Rows.{pop};
 ghost use Rattle.paper.proofs.Lexing.{from};
-ghost use Rattle.characters.specs.Head.{headOf};
+ghost use Rattle.strings.specs.Head.{headOf};
 ghost use Rattle.reader.specs.Reader.{Ready, Said, movedTo};
 ghost use Rattle.selections.specs.Selections.{namesFragment};
 ghost use Rattle.variables.specs.Counted.{CountedSaid, stays, anyCounts, fragmentsAre, variablesAre, sameCounts, sameFragments, fragmentsBecome};
@@ -211,7 +211,7 @@ fn word_at(s: &[u8], c: Cursor) -> u32
     ensures { λ r. ⌜ r ≡ wordAt (now (s .entry)) c ⌝ }
 {
     if c.kind == TOKEN_NAME {
-        return characters::word(s, c.start as usize, c.end as usize);
+        return strings::word(s, c.start as usize, c.end as usize);
     }
     WORD_OTHER
 }

@@ -8,9 +8,9 @@ use Rattle.paper.specs.Numbers.{mostText}
 use Rattle.paper.specs.Tokens.{Tok, Text, over, bad, token}
 use Rattle.paper.proofs.Lexing.{from}
 use Rattle.paper.proofs.FromLaws.{from-token, from-over, from-bad}
-use Rattle.characters.specs.Head.{headOf, kindOf}
-use Rattle.characters.specs.declared.TokenRead.{TokenRead}
-use Rattle.characters.specs.declared.TokenRead.the-variants.{Token, Bad}
+use Rattle.strings.specs.Head.{headOf, kindOf}
+use Rattle.strings.specs.declared.TokenRead.{TokenRead}
+use Rattle.strings.specs.declared.TokenRead.the-variants.{Token, Bad}
 use Rattle.reader.specs.declared.Read.{Read}
 use Rattle.reader.specs.Reader.{Within, locatedOf, movedTo}
 

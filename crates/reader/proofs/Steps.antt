@@ -26,9 +26,9 @@ use Rattle.paper.proofs.Tables.{graphql, factored, allC, atC}
 use Rattle.paper.specs.Language.{numC}
 use Rattle.paper.proofs.Checked.{fits}
 use Rattle.paper.proofs.Going.{Stack, State, st, Out, halt, go, goes, heed, deep, many, marked}
-use Rattle.characters.specs.Head.{headOf, kindOf}
-use Rattle.characters.specs.declared.TokenRead.{TokenRead}
-use Rattle.characters.specs.declared.TokenRead.the-variants.{Token, Bad}
+use Rattle.strings.specs.Head.{headOf, kindOf}
+use Rattle.strings.specs.declared.TokenRead.{TokenRead}
+use Rattle.strings.specs.declared.TokenRead.the-variants.{Token, Bad}
 use Rattle.reader.specs.declared.Cursor.{Cursor}
 use Rattle.reader.specs.Reader.{Looks}
 

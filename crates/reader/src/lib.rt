@@ -1,7 +1,7 @@
 // What every reader shares: the cursor, the answer, and the rows in the lent numbers.
-use characters::TokenRead;
 use paper::ROW_SIZE;
 use paper::Refusal;
+use strings::TokenRead;
 ghost use mathlib.Core.Path.{_≡_};
 ghost use mathlib.Core.List.{[], _∷_};
 ghost use Prim.Native.Nat.{_+_, _*_, _≤_, _<_};
@@ -9,7 +9,7 @@ ghost use lib.ListN.{length, set};
 ghost use lib.Seq.{sets};
 ghost use Rattle.paper.specs.Numbers.{mostText, mostRows, rowsSize};
 ghost use Rattle.paper.proofs.Lexing.{from};
-ghost use Rattle.characters.specs.Head.{headOf};
+ghost use Rattle.strings.specs.Head.{headOf};
 ghost use Rattle.reader.specs.Reader.{Within, locatedOf, movedTo, noGoingOf};
 
 // The token looked at, where the last one taken ended, and how many rows there are.

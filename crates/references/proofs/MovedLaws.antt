@@ -9,9 +9,9 @@ use Rattle.paper.specs.declared.Refusal.{Refusal}
 use Rattle.paper.specs.declared.Refusal.the-variants.{NoToken}
 use Rattle.paper.proofs.Lexing.{from}
 use Rattle.paper.proofs.Going.{Stack, State, halt, go, startIn, stopIn}
-use Rattle.characters.specs.Head.{headOf}
-use Rattle.characters.specs.declared.TokenRead.{TokenRead}
-use Rattle.characters.specs.declared.TokenRead.the-variants.{Token, Bad}
+use Rattle.strings.specs.Head.{headOf}
+use Rattle.strings.specs.declared.TokenRead.{TokenRead}
+use Rattle.strings.specs.declared.TokenRead.the-variants.{Token, Bad}
 use Rattle.reader.specs.Reader.{Looks, movedTo}
 use Rattle.reader.specs.declared.Cursor.{Cursor}
 use Rattle.reader.specs.declared.Read.{Read}

@@ -1,8 +1,4 @@
 // Reads type references, and writes their rows.
-use characters::TOKEN_BANG;
-use characters::TOKEN_BRACKET_CLOSE;
-use characters::TOKEN_BRACKET_OPEN;
-use characters::TOKEN_NAME;
 use paper::KIND_TYPE_REFERENCE;
 use paper::MOST_ROWS;
 use paper::MOST_WRAPPERS;
@@ -13,6 +9,10 @@ use reader::Cursor;
 use reader::Read;
 use reader::no_going;
 use reader::put_row;
+use strings::TOKEN_BANG;
+use strings::TOKEN_BRACKET_CLOSE;
+use strings::TOKEN_BRACKET_OPEN;
+use strings::TOKEN_NAME;
 ghost use mathlib.Core.Path.{_≡_};
 ghost use Prim.Native.Nat.{_≤_};
 ghost use Rattle.paper.specs.Numbers.{mostWrappers};

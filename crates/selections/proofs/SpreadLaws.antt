@@ -19,13 +19,13 @@ use Rattle.paper.proofs.Machine.{choose}
 use Rattle.paper.proofs.Theory.{and-l, and-r, and-i}
 use Rattle.paper.proofs.Tables.{factored}
 use Rattle.paper.proofs.Going.{Stack, st, go}
-use Rattle.characters.specs.Head.{headOf}
+use Rattle.strings.specs.Head.{headOf}
 use Rattle.reader.specs.declared.Cursor.{Cursor}
 use Rattle.reader.specs.declared.Read.{Read}
 use Rattle.reader.specs.declared.Read.the-variants.{Done, Refused}
 use Rattle.reader.specs.Reader.{movedTo, at, Ready, Went, Halts, Said}
 use Rattle.paper.specs.Language.{language, the, spread, nameButOn, kind, named, end, Selection, SpreadRest, FragmentName, TypeCondition?, TypeCondition, Directives?}
-use Rattle.characters.specs.Head.{wordOf}
+use Rattle.strings.specs.Head.{wordOf}
 use Rattle.reader.proofs.Steps.{first, null, refuse, plain, too-many-rows, is, not-is, not-two, refuses, refusesEnd}
 use Rattle.reader.proofs.Cells.{put, put-length, row-begins, kind-told, ends-row}
 use Rattle.arguments.specs.Arguments.{AtOn, bytesAt, conditionStack, directivesStack}

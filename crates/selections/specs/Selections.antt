@@ -7,7 +7,7 @@ use Rattle.paper.specs.Grammar.{nt, act}
 use Rattle.paper.specs.Numbers.{mostRows, kindField}
 use Rattle.paper.specs.Language.{end, SelectionSet, SelectionSet?, Selection, Field, AliasRest, SpreadRest, Arguments?, Directives?}
 use Rattle.paper.proofs.Going.{Stack}
-use Rattle.characters.specs.Head.{wordOf}
+use Rattle.strings.specs.Head.{wordOf}
 use Rattle.reader.specs.declared.Cursor.{Cursor}
 use Rattle.reader.specs.declared.Read.{Read}
 use Rattle.reader.specs.declared.Read.the-variants.{Done, Refused}

@@ -2,12 +2,6 @@
 use arguments::arguments_if;
 use arguments::condition;
 use arguments::directives_if;
-use characters::TOKEN_BRACE_CLOSE;
-use characters::TOKEN_BRACE_OPEN;
-use characters::TOKEN_COLON;
-use characters::TOKEN_NAME;
-use characters::TOKEN_SPREAD;
-use characters::WORD_ON;
 use paper::KIND_FIELD;
 use paper::KIND_INLINE;
 use paper::KIND_SPREAD;
@@ -18,6 +12,12 @@ use reader::Read;
 use reader::no_going;
 use reader::put_end;
 use reader::put_row;
+use strings::TOKEN_BRACE_CLOSE;
+use strings::TOKEN_BRACE_OPEN;
+use strings::TOKEN_COLON;
+use strings::TOKEN_NAME;
+use strings::TOKEN_SPREAD;
+use strings::WORD_ON;
 ghost use mathlib.Core.Path.{_≡_};
 ghost use mathlib.Core.Bool.{true, false};
 ghost use mathlib.Core.List.{[]};
@@ -259,7 +259,7 @@ pub fn names_fragment(s: &[u8], c: Cursor) -> bool
     ensures { λ r. ⌜ r ≡ namesFragment (now (s .entry)) c ⌝ }
 {
     if c.kind == TOKEN_NAME {
-        return characters::word(s, c.start as usize, c.end as usize) != WORD_ON;
+        return strings::word(s, c.start as usize, c.end as usize) != WORD_ON;
     }
     false
 }

@@ -5,7 +5,7 @@ use Prim.Native.Nat.{ℕ, _<_}
 use native.Mathlib.Omega.{arith}
 use lib.Dec.{eqb}
 use Rattle.paper.specs.Language.{Class, bang, dollar, parenL, parenR, spread, colon, equals, atSign, bracketL, bracketR, braceL, bar, braceR, n-query, n-mutation, n-subscription, n-fragment, n-on, n-true, n-false, n-null, n-other, int, float, string}
-use Rattle.characters.specs.Head.{kindOf, wordNumber}
+use Rattle.strings.specs.Head.{kindOf, wordNumber}
 
 -- the class of a kind that is no name's; the last stands for all other numbers
 abbrev pub classOfKind : ℕ → Class

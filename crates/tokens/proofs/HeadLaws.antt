@@ -17,9 +17,9 @@ use Rattle.paper.proofs.Longest.{Match, scan}
 use Rattle.paper.proofs.LexTables.{lexer}
 use Rattle.paper.proofs.Lexing.{from, found, shown, orBad, piece-byte}
 use Rattle.paper.proofs.FromLaws.{from-token, from-over, from-bad}
-use Rattle.characters.specs.Head.{kindOf, headOf, wordOf}
-use Rattle.characters.specs.Piece.{pieceAt}
-use Rattle.characters.specs.declared.TokenRead.the-variants.{Token, Bad}
+use Rattle.strings.specs.Head.{kindOf, headOf, wordOf}
+use Rattle.strings.specs.Piece.{pieceAt}
+use Rattle.strings.specs.declared.TokenRead.the-variants.{Token, Bad}
 use Rattle.tokens.proofs.ClassLaws.{classOfKind, kind-class, classOfWord, word-class}
 use Rattle.tokens.proofs.KindLaws.{name-kind, classed-kind, kind-some, plain, plain-name, plain-piece}
 use Rattle.tokens.proofs.Unroll.{piece-is, unroll, from-end}

@@ -13,9 +13,9 @@ use Rattle.paper.proofs.Longest.{Match, scan}
 use Rattle.paper.proofs.LexTables.{lexer}
 use Rattle.paper.proofs.Lexing.{from, found, shown, orBad, piece-byte}
 use Rattle.paper.proofs.FromLaws.{piece-within}
-use Rattle.characters.specs.Head.{headOf}
-use Rattle.characters.specs.Piece.{pieceAt, tokenHere, tokenOf, asToken, ignoredHere, ignoredOf, asIgnored}
-use Rattle.characters.specs.declared.TokenRead.the-variants.{Token, Bad}
+use Rattle.strings.specs.Head.{headOf}
+use Rattle.strings.specs.Piece.{pieceAt, tokenHere, tokenOf, asToken, ignoredHere, ignoredOf, asIgnored}
+use Rattle.strings.specs.declared.TokenRead.the-variants.{Token, Bad}
 use Rattle.tokens.proofs.KindLaws.{classed-kind}
 use Rattle.tokens.proofs.Unroll.{piece-is, unroll, from-end}
 

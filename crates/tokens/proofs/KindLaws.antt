@@ -16,7 +16,7 @@ use Rattle.paper.proofs.Longest.{Match, scan, Best}
 use Rattle.paper.proofs.LexTables.{lexer, lexFactored, allL, numL, atL}
 use Rattle.paper.proofs.LexChecked.{fitsL}
 use Rattle.paper.proofs.Lexing.{piece}
-use Rattle.characters.specs.Head.{kindOf}
+use Rattle.strings.specs.Head.{kindOf}
 
 or-kind : (b : Bool) (c d : Class) → kindOf c ≡ 1 → kindOf d ≡ 1 → kindOf (orElse b c d) ≡ 1
 or-kind true c d h k = h

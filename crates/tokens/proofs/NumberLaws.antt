@@ -16,14 +16,14 @@ use Rattle.paper.specs.Language.{Class, int, float}
 use Rattle.paper.specs.Lexical.{What, is, Piece, Digit*, Digit+, Sign?, Whole, span, letter, digit, dot, e, sign, zero, lexical, hitsByte}
 use Rattle.paper.proofs.Machine.{took, refused, step, enter, choose}
 use Rattle.paper.proofs.LexTables.{lexer, lexFactored}
-use Rattle.characters.specs.Head.{kindOf}
-use Rattle.characters.specs.Piece.{asToken, tokenHere}
-use Rattle.characters.specs.Run.{runOf, startsWith, fractionSize, signSize, exponentSize, wholeSize}
+use Rattle.strings.specs.Head.{kindOf}
+use Rattle.strings.specs.Piece.{asToken, tokenHere}
+use Rattle.strings.specs.Run.{runOf, startsWith, fractionSize, signSize, exponentSize, wholeSize}
 use Rattle.tokens.specs.Skip.{punctuatorOf}
-use Rattle.characters.specs.declared.TokenRead.the-variants.{Token, Bad}
+use Rattle.strings.specs.declared.TokenRead.the-variants.{Token, Bad}
 use Rattle.characters.proofs.ByteLaws.{front}
 use Rattle.tokens.proofs.RunLaws.{run-yes, starts-at}
-use Rattle.characters.proofs.ReadLaws.{Stack, Read, Nothing, read-size, read-take, read-end, read-stop, read-back, read-mark, read-run, read-alike, nothing-alike, alike-byte, alike-end, nothing-take, nothing-refused, nothing-end, read-token, nothing-token}
+use Rattle.strings.proofs.ReadLaws.{Stack, Read, Nothing, read-size, read-take, read-end, read-stop, read-back, read-mark, read-run, read-alike, nothing-alike, alike-byte, alike-end, nothing-take, nothing-refused, nothing-end, read-token, nothing-token}
 use Rattle.tokens.proofs.StepLaws.{end-piece, repeats-digit, step-digit, step-no-digit, end-digit, step-sign, step-no-sign, end-sign, step-no-whole, end-whole, Exponent, Exponent?, Rest, step-e, step-no-e, rest-e, rest-none, rest-dot, end-exponent, end-rest}
 use Rattle.tokens.proofs.WhatLaws.{bad-byte}
 

@@ -11,7 +11,7 @@ use lib.Dec.{leb, ltb}
 use lib.ListN.{length, getD, drop, drop-of-length-le, length-drop}
 use lib.Seq.{drop-drop}
 use Rattle.paper.specs.Lexical.{Set, span, within, hitsByte, digit, dot, e}
-use Rattle.characters.specs.Run.{runOf, startsWith, withDigits, fractionSize, signSize, exponentSize, wholeSize}
+use Rattle.strings.specs.Run.{runOf, startsWith, withDigits, fractionSize, signSize, exponentSize, wholeSize}
 use Rattle.characters.proofs.ByteLaws.{front}
 use Rattle.tokens.proofs.RunLaws.{run-yes, run-within, starts-at, starts-end}
 

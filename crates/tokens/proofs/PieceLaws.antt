@@ -13,14 +13,14 @@ use Rattle.paper.specs.Language.{Class, bang, dollar, parenL, parenR, spread, c
 use Rattle.paper.specs.Lexical.{Set, What, span, is, ignored, Piece, letter, letterOrDigit, lexical, hitsByte}
 use Rattle.paper.proofs.Machine.{took, step, enter, choose}
 use Rattle.paper.proofs.LexTables.{lexer, lexFactored}
-use Rattle.characters.specs.Head.{kindOf}
-use Rattle.characters.specs.Piece.{tokenHere, ignoredHere}
-use Rattle.characters.specs.Run.{runOf}
+use Rattle.strings.specs.Head.{kindOf}
+use Rattle.strings.specs.Piece.{tokenHere, ignoredHere}
+use Rattle.strings.specs.Run.{runOf}
 use Rattle.tokens.specs.Skip.{lookup, punctuatorOf}
-use Rattle.characters.specs.declared.TokenRead.the-variants.{Token, Bad}
+use Rattle.strings.specs.declared.TokenRead.the-variants.{Token, Bad}
 use Rattle.characters.proofs.ByteLaws.{front, bytes-agree}
 use Rattle.tokens.proofs.NumberParts.{miss-one}
-use Rattle.characters.proofs.ReadLaws.{Stack, Read, Nothing, read-take, read-mark, read-run, nothing-take, nothing-refused, nothing-end, read-token, nothing-token, read-ignored, nothing-ignored}
+use Rattle.strings.proofs.ReadLaws.{Stack, Read, Nothing, read-take, read-mark, read-run, nothing-take, nothing-refused, nothing-end, read-token, nothing-token, read-ignored, nothing-ignored}
 use Rattle.tokens.proofs.StepLaws.{taken, missed, end-tm, end-piece, repeats-name, step-letter}
 use Rattle.tokens.proofs.WhatLaws.{blank, kept-byte}
 

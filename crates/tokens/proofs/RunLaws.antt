@@ -7,7 +7,7 @@ use native.Mathlib.Nat.{add-zero, add-assoc}
 use native.Mathlib.Omega.{arith}
 use lib.ListN.{length, getD, drop, drop-of-length-le}
 use Rattle.paper.specs.Lexical.{Set, hitsByte}
-use Rattle.characters.specs.Run.{runOf, startsWith}
+use Rattle.strings.specs.Run.{runOf, startsWith}
 use Rattle.characters.proofs.ByteLaws.{front}
 
 module _ (p : Set) where

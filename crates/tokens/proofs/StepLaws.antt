@@ -12,7 +12,7 @@ use Rattle.paper.proofs.Machine.{took, emptied, refused, pick, fst, nul, step, 
 use Rattle.paper.proofs.Theory.{or-l, pick-none, step-by, step-none, choose-first, choose-null}
 use Rattle.paper.proofs.LexTables.{lexer, lexFactored}
 use Rattle.paper.proofs.LexChecked.{fitsL}
-use Rattle.characters.proofs.ReadLaws.{Stack, Repeats}
+use Rattle.strings.proofs.ReadLaws.{Stack, Repeats}
 
 eq→T : (b : Bool) → b ≡ true → T b
 eq→T b q = subst T (sym q) tt

@@ -16,11 +16,11 @@ use Rattle.paper.proofs.Test.{all, all-at, all-mem, implies, implies-out}
 use Rattle.paper.proofs.Longest.{Match, scan, longer, further, Best, best}
 use Rattle.paper.proofs.LexTables.{lexer, lexFactored, allL, numL, atL, sameL}
 use Rattle.paper.proofs.LexChecked.{fitsL, followL}
-use Rattle.characters.specs.Piece.{pieceAt, tokenHere, tokenOf, asToken, ignoredHere, ignoredOf, asIgnored}
+use Rattle.strings.specs.Piece.{pieceAt, tokenHere, tokenOf, asToken, ignoredHere, ignoredOf, asIgnored}
 use Rattle.tokens.specs.Skip.{punctuatorOf}
-use Rattle.characters.specs.declared.TokenRead.the-variants.{Bad}
+use Rattle.strings.specs.declared.TokenRead.the-variants.{Bad}
 use Rattle.characters.proofs.ByteLaws.{from-all}
-use Rattle.characters.proofs.ReadLaws.{Stack}
+use Rattle.strings.proofs.ReadLaws.{Stack}
 use Rattle.tokens.proofs.StepLaws.{end-piece}
 
 -- the parts that write no mark

@@ -7,7 +7,7 @@ use lib.Dec.{eqb}
 use lib.ListN.{length, drop, getD}
 use Rattle.paper.specs.Lexical.{letter, hitsByte}
 use Rattle.paper.proofs.Lexing.{from}
-use Rattle.characters.specs.Piece.{ignoredHere}
+use Rattle.strings.specs.Piece.{ignoredHere}
 
 -- the tokens of s from p on are those from r on, and at r stands no ignored piece
 pub record Skipped (s : List ℕ) (p r : ℕ) : Type 0 where

@@ -20,7 +20,7 @@ use Rattle.paper.proofs.Machine.{fst, choose}
 use Rattle.paper.proofs.Test.{all, implies}
 use Rattle.paper.proofs.Tables.{graphql, factored, allC}
 use Rattle.paper.proofs.Going.{Stack, st, go}
-use Rattle.characters.specs.Head.{kindOf}
+use Rattle.strings.specs.Head.{kindOf}
 use Rattle.reader.specs.declared.Cursor.{Cursor}
 use Rattle.reader.specs.declared.Read.{Read}
 use Rattle.reader.specs.declared.Read.the-variants.{Done, Refused}

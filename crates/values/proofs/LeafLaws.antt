@@ -22,8 +22,8 @@ use Rattle.paper.proofs.Theory.{and-l}
 use Rattle.paper.proofs.Test.{all, implies, implies-out, all-at}
 use Rattle.paper.proofs.Tables.{graphql, factored, allC, atC}
 use Rattle.paper.proofs.Going.{Stack, st, go, halt}
-use Rattle.characters.specs.Head.{headOf, kindOf, wordOf, wordNumber}
-use Rattle.characters.specs.declared.TokenRead.the-variants.{Token}
+use Rattle.strings.specs.Head.{headOf, kindOf, wordOf, wordNumber}
+use Rattle.strings.specs.declared.TokenRead.the-variants.{Token}
 use Rattle.reader.specs.declared.Cursor.{Cursor}
 use Rattle.reader.specs.declared.Read.{Read}
 use Rattle.reader.specs.Reader.{Ready, at, Said, noGoingOf}

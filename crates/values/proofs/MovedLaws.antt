@@ -14,9 +14,9 @@ use Rattle.paper.specs.declared.Refusal.{Refusal}
 use Rattle.paper.specs.declared.Refusal.the-variants.{NoToken}
 use Rattle.paper.proofs.Lexing.{from}
 use Rattle.paper.proofs.Going.{Stack, State, st, halt, go, startIn, stopIn}
-use Rattle.characters.specs.Head.{headOf}
-use Rattle.characters.specs.declared.TokenRead.{TokenRead}
-use Rattle.characters.specs.declared.TokenRead.the-variants.{Token, Bad}
+use Rattle.strings.specs.Head.{headOf}
+use Rattle.strings.specs.declared.TokenRead.{TokenRead}
+use Rattle.strings.specs.declared.TokenRead.the-variants.{Token, Bad}
 use Rattle.reader.specs.declared.Cursor.{Cursor}
 use Rattle.reader.specs.declared.Read.{Read}
 use Rattle.reader.specs.declared.Read.the-variants.{Done, Refused}
@@ -87,7 +87,7 @@ moved-halts s e n r x q p S σ = cases (from s e) refl
     cases : (t : Text) → from s e ≡ t → go S σ (from s e) ≡ halt x
     cases (over m) f = absurd (apart 0 m m (ap headOf f))
     cases (bad m) f = let z : Refused x ≡ Refused (NoToken m) = sym p ∙ q ∙ ap (λ (t : Text). movedTo e n (headOf t)) f in rw f (ap halt (cc))
-    cases (token k t) f = absurd (apart (Rattle.characters.specs.Head.kindOf (k .class)) (k .start) (k .stop) (ap headOf f))
+    cases (token k t) f = absurd (apart (Rattle.strings.specs.Head.kindOf (k .class)) (k .start) (k .stop) (ap headOf f))
 
 -- what a reader says that answers with the cursor past its last token, which ends at e
 module _ (gain : ℕ) (s rows rows′ : List ℕ) (c : Cursor) (parent left : ℕ) (α : Stack) (e n : ℕ) (size : length rows′ ≡ rowsSize) (within : e ≤ length s) (few : n ≤ mostRows) (on : gain + c .stop ≤ e)

@@ -23,7 +23,7 @@ use Rattle.paper.proofs.Going.{Stack, State, st, halt, go, goes, ended}
 use Rattle.reader.specs.declared.Cursor.{Cursor}
 use Rattle.reader.specs.Reader.{Looks}
 use Rattle.reader.proofs.Steps.{tokenOf, refuses, refusesEnd, isNone, Front, a-token, the-end, front, by-kind}
-use Rattle.characters.specs.Head.{kindOf}
+use Rattle.strings.specs.Head.{kindOf}
 
 not-eq : (b : Bool) → T (not b) → b ≡ false
 not-eq true h = absurd h

@@ -1,17 +1,4 @@
 // Reads values, and the entries of arguments and objects, and writes their rows.
-use characters::TOKEN_BRACE_CLOSE;
-use characters::TOKEN_BRACE_OPEN;
-use characters::TOKEN_BRACKET_CLOSE;
-use characters::TOKEN_BRACKET_OPEN;
-use characters::TOKEN_COLON;
-use characters::TOKEN_DOLLAR;
-use characters::TOKEN_FLOAT;
-use characters::TOKEN_INT;
-use characters::TOKEN_NAME;
-use characters::TOKEN_STRING;
-use characters::WORD_FALSE;
-use characters::WORD_NULL;
-use characters::WORD_TRUE;
 use paper::EXTRA_FALSE;
 use paper::EXTRA_TRUE;
 use paper::KIND_BOOLEAN;
@@ -31,12 +18,25 @@ use reader::Read;
 use reader::no_going;
 use reader::put_end;
 use reader::put_row;
+use strings::TOKEN_BRACE_CLOSE;
+use strings::TOKEN_BRACE_OPEN;
+use strings::TOKEN_BRACKET_CLOSE;
+use strings::TOKEN_BRACKET_OPEN;
+use strings::TOKEN_COLON;
+use strings::TOKEN_DOLLAR;
+use strings::TOKEN_FLOAT;
+use strings::TOKEN_INT;
+use strings::TOKEN_NAME;
+use strings::TOKEN_STRING;
+use strings::WORD_FALSE;
+use strings::WORD_NULL;
+use strings::WORD_TRUE;
 ghost use mathlib.Core.Path.{_≡_};
 ghost use mathlib.Core.Logic.{_≢_};
 ghost use Prim.Native.Nat.{_<_};
 ghost use Rattle.paper.specs.Numbers.{mostRows};
 ghost use Rattle.paper.specs.Language.{dollar, bracketL, braceL, n-other};
-ghost use Rattle.characters.specs.Head.{kindOf};
+ghost use Rattle.strings.specs.Head.{kindOf};
 ghost use Rattle.reader.specs.Reader.{Ready, Said};
 ghost use Rattle.values.specs.Stacks.{valueStack, entryStack, EntryKind};
 ghost use Rattle.values.specs.Marks.{Leaf, Open, Close, SaidScalar, SaidVariable, SaidNamed};
@@ -70,7 +70,7 @@ fn word_value(s: &[u8], rows: &mut [u32], c: Cursor, parent: u32) -> Read
 {
     let start = c.start;
     let end = c.end;
-    let w = characters::word(s, start as usize, end as usize);
+    let w = strings::word(s, start as usize, end as usize);
     if w == WORD_TRUE {
         return leaf(s, rows, c, parent, KIND_BOOLEAN, 0, 0, EXTRA_TRUE);
     }

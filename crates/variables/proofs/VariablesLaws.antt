@@ -18,7 +18,7 @@ use Rattle.paper.proofs.Lexing.{from}
 use Rattle.paper.proofs.Machine.{choose}
 use Rattle.paper.proofs.Tables.{factored}
 use Rattle.paper.proofs.Going.{Stack, st, go}
-use Rattle.characters.specs.Head.{headOf}
+use Rattle.strings.specs.Head.{headOf}
 use Rattle.reader.specs.Reader.{Looks, Ready, at, movedTo}
 use Rattle.reader.specs.declared.Cursor.{Cursor}
 use Rattle.reader.specs.declared.Read.{Read}

@@ -1,9 +1,4 @@
 // Reads variable definitions, and writes their rows.
-use characters::TOKEN_COLON;
-use characters::TOKEN_DOLLAR;
-use characters::TOKEN_EQUALS;
-use characters::TOKEN_NAME;
-use characters::TOKEN_PAREN_CLOSE;
 use paper::KIND_VARIABLE_DEFINITION;
 use paper::MOST_ROWS;
 use paper::MOST_VARIABLES;
@@ -14,6 +9,11 @@ use reader::no_going;
 use reader::put_end;
 use reader::put_row;
 use references::type_reference;
+use strings::TOKEN_COLON;
+use strings::TOKEN_DOLLAR;
+use strings::TOKEN_EQUALS;
+use strings::TOKEN_NAME;
+use strings::TOKEN_PAREN_CLOSE;
 ghost use mathlib.Core.Path.{_≡_};
 ghost use mathlib.Core.List.{[], _∷_};
 ghost use Prim.Native.Nat.{ℕ, _+_, _<_};

@@ -4,7 +4,7 @@ use Prim.Native.Nat.{_+_, _-_}
 use native.Mathlib.Omega.{arith}
 use lib.ListN.{length, drop}
 use Rattle.paper.specs.Lexical.{letterOrDigit}
-use Rattle.characters.specs.Run.{runOf}
+use Rattle.strings.specs.Run.{runOf}
 use Rattle.tokens.proofs.RunLaws.{run-more, run-stop, run-end}
 use borrow.Author.Needs.{needs}
 use Rattle.tokens.proofs.name_end.Statement.{statement}

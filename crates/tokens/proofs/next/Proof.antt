@@ -3,8 +3,8 @@ use mathlib.Core.Path.{_≡_, sym, ap, _∙_}
 use lib.ListN.{drop}
 use Rattle.paper.proofs.Lexing.{from as tokens-from}
 use Rattle.paper.specs.Tokens.{Text}
-use Rattle.characters.specs.Head.{headOf}
-use Rattle.characters.specs.Piece.{tokenHere}
+use Rattle.strings.specs.Head.{headOf}
+use Rattle.strings.specs.Piece.{tokenHere}
 use Rattle.tokens.proofs.PieceLaws.{name-at, mark-at}
 use Rattle.tokens.proofs.HereLaws.{here-end, here-token}
 use borrow.Author.Needs.{needs}

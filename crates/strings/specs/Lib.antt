@@ -1,0 +1,4 @@
+pub mod Head
+pub mod Piece
+pub mod Run
+pub mod Parts
