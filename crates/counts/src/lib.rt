@@ -50,7 +50,7 @@ fn wraps(b: u8) -> u32
 }
 
 // The wrapper over the most, in a reference's text.
-fn wrapper_over(t: &[u8], start: usize, end: usize) -> Counted
+pub fn wrapper_over(t: &[u8], start: usize, end: usize) -> Counted
     requires { ⌜ Bounds (now t) start end ⌝ }
     ensures { λ r. ⌜ r ≡ toldOver (head? (wrappersOver mostWrappers start (slice start end (now (t .entry))))) ⌝ }
 {

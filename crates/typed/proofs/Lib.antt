@@ -1,0 +1,2 @@
+-- Laws of the quick judges of a field and an argument.
+pub mod FineLaws
