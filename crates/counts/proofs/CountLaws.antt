@@ -41,7 +41,7 @@ told-over : (o : Option ℕ) (v : ℕ) → toldOver o ≡ Over v → o ≡ some 
 told-over none v e = let z : Within ≡ Over v = e in cc
 told-over (some u) v e = let z : Over u ≡ Over v = e in cc
 
-pred-is : (n : ℕ) → pred n ≡ n - 1
+pub pred-is : (n : ℕ) → pred n ≡ n - 1
 pred-is zero = refl
 pred-is (suc n) = let e : suc n - 1 ≡ n = omega arith in sym e
 
@@ -165,7 +165,7 @@ module _ (names rest k : ℕ) where
       go false true = field-less (between tagArgument tagArgument k)
       go false false = refl
 
-room-start : (tag : ℕ) → roomsOf tag mostImplemented (restRoom tag) ≡ roomIn tag
+pub room-start : (tag : ℕ) → roomsOf tag mostImplemented (restRoom tag) ≡ roomIn tag
 unfolding roomIn
 room-start tag = go (leb tag tagRoots) (eqb tag tagField)
   where

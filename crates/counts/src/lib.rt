@@ -86,7 +86,7 @@ fn leaf_over(t: &[u8], start: usize, end: usize, h: Holding) -> Counted
 }
 
 // Which of a holder's counts a field is of: 1 the names that a record implements, 2 a record's members or a field's arguments, 0 none.
-fn room_of(holder: u8, k: u8) -> u32
+pub fn room_of(holder: u8, k: u8) -> u32
     ensures { λ r. ⌜ r ≡ roomFor holder k ⌝ }
 {
     if holder <= TAG_ROOTS {
@@ -110,7 +110,7 @@ fn room_of(holder: u8, k: u8) -> u32
     0
 }
 
-fn rest_room(holder: u8) -> u32
+pub fn rest_room(holder: u8) -> u32
     ensures { λ r. ⌜ r ≡ restRoom holder ⌝ }
 {
     if holder <= TAG_ROOTS {

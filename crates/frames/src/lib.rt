@@ -109,7 +109,7 @@ pub fn content_of(tag: u8) -> Holding
 }
 
 // Is there a field with this tag?
-fn has_tag(t: &[u8], start: usize, end: usize, tag: u8) -> bool
+pub fn has_tag(t: &[u8], start: usize, end: usize, tag: u8) -> bool
     requires { ⌜ Bounds (now t) start end ⌝ }
     ensures { λ r. ⌜ r ≡ anyOf (tagIs tag) (pieces start (slice start end (now (t .entry)))) ⌝ }
 {
@@ -142,7 +142,7 @@ fn rank_of(k: u8) -> u32
 }
 
 // The least rank in place behind a field of this tag: its own where there may be many, else the next.
-fn least_after(k: u8) -> u32
+pub fn least_after(k: u8) -> u32
     ensures { λ r. ⌜ r ≡ leastAfter k ⌝ }
 {
     let rank = rank_of(k);
@@ -159,7 +159,7 @@ fn least_after(k: u8) -> u32
 }
 
 // Is a field of this tag in place, in a holder of these, from the least rank on?
-fn in_place(first: u8, from: u8, to: u8, least: u32, k: u8) -> bool
+pub fn in_place(first: u8, from: u8, to: u8, least: u32, k: u8) -> bool
     ensures { λ r. ⌜ r ≡ placed first from to least k ⌝ }
 {
     if rank_of(k) < least {
@@ -251,7 +251,7 @@ fn first_wrong(t: &[u8], at: usize, tag: u8, end: usize, depth: u32) -> Framed
 }
 
 // Records are 1 to 8 in any order, and 8 only once: `roots` is whether it may still come.
-fn record_in_place(roots: bool, k: u8) -> bool
+pub fn record_in_place(roots: bool, k: u8) -> bool
     ensures { λ r. ⌜ r ≡ recordInPlace roots k ⌝ }
 {
     if k < TAG_SCALAR {
@@ -266,7 +266,7 @@ fn record_in_place(roots: bool, k: u8) -> bool
     true
 }
 
-fn roots_after(roots: bool, k: u8) -> bool
+pub fn roots_after(roots: bool, k: u8) -> bool
     ensures { λ r. ⌜ r ≡ rootsAfter roots k ⌝ }
 {
     if k == TAG_ROOTS {

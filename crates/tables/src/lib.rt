@@ -9,7 +9,9 @@ use paper_types::INPUT_TABLE;
 use paper_types::MOST_TABLE;
 use paper_types::TableAnswer;
 use possible::BITS_SIZE;
+use usual::is_usual;
 ghost use mathlib.Core.Path.{_≡_};
+ghost use mathlib.Core.Bool.{true};
 ghost use mathlib.Core.Option.{none};
 ghost use Prim.Native.Nat.{_≤_};
 ghost use lib.ListN.{length};
@@ -18,6 +20,8 @@ ghost use Rattle.paper_types.specs.House.{framing};
 ghost use Rattle.paper_types.specs.TableSizes.{counts};
 ghost use Rattle.paper_types.specs.Judging.{judge};
 ghost use Rattle.paper_types.specs.TableCalls.{Checked};
+ghost use Rattle.frames.specs.Framing.{told};
+ghost use Rattle.counts.specs.Counts.{toldOver};
 ghost use Rattle.index.specs.Book.{bookSize};
 ghost use Rattle.possible.specs.Possible.{Blank};
 ghost use Rattle.tables.specs.Judges.{Judges};
@@ -33,12 +37,34 @@ fn judge_rules(t: &[u8], book: &mut [u32], bits: &mut [u32], listed: &mut [u32])
     schema::first_break(t, book, bits, listed)
 }
 
-// The sizes and the schema rules of a table whose framing is right.
-fn judge_framed(t: &[u8], book: &mut [u32]) -> TableAnswer
-    requires { ⌜ (length (now t) ≤ mostTable) × (framing (now t) ≡ none) × (length (now book) ≡ bookSize) ⌝ }
+// Refusal 7, where it is not known that there is none.
+fn framing_unless(t: &[u8], usual: bool) -> Framed
+    requires { ⌜ (length (now t) ≤ mostTable) × (usual ≡ true → framing (now t) ≡ none) ⌝ }
+    ensures { λ r. ⌜ r ≡ told (framing (now (t .entry))) ⌝ }
+{
+    if usual {
+        return Framed::Right;
+    }
+    frames::framing(t)
+}
+
+// Refusal 8, where it is not known that there is none.
+fn over_unless(t: &[u8], usual: bool) -> Counted
+    requires { ⌜ (length (now t) ≤ mostTable) × (usual ≡ true → counts (now t) ≡ none) ⌝ }
+    ensures { λ r. ⌜ r ≡ toldOver (counts (now (t .entry))) ⌝ }
+{
+    if usual {
+        return Counted::Within;
+    }
+    counts::over(t)
+}
+
+// The sizes and the schema rules of a table whose framing is right. The scratch is made at one place, so that it is on the stack once.
+fn judge_framed(t: &[u8], book: &mut [u32], usual: bool) -> TableAnswer
+    requires { ⌜ (length (now t) ≤ mostTable) × (framing (now t) ≡ none) × (length (now book) ≡ bookSize) × (usual ≡ true → counts (now t) ≡ none) ⌝ }
     ensures { λ r. ⌜ Judges (now (t .entry)) (now (book .exit)) r ⌝ }
 {
-    let c = counts::over(t);
+    let c = over_unless(t, usual);
     match c {
         Counted::Over(at) => TableAnswer::TooMany(at),
         Counted::Within => {
@@ -49,15 +75,17 @@ fn judge_framed(t: &[u8], book: &mut [u32]) -> TableAnswer
     }
 }
 
-// What is said of a table. The book is lent for its definitions, and is the table's where it is accepted.
+// What is said of a table. The book is lent for its definitions, and is the table's where it is accepted. Most tables are known to be right by
+// one walk; where that cannot tell, two others find the first offset that is not.
 pub fn judge_with(t: &[u8], book: &mut [u32]) -> TableAnswer
     requires { ⌜ (length (now t) ≤ mostTable) × (length (now book) ≡ bookSize) ⌝ }
     ensures { λ r. ⌜ Judges (now (t .entry)) (now (book .exit)) r ⌝ }
 {
-    let f = frames::framing(t);
+    let usual = is_usual(t);
+    let f = framing_unless(t, usual);
     match f {
         Framed::Wrong(at) => TableAnswer::Framing(at),
-        Framed::Right => judge_framed(t, book),
+        Framed::Right => judge_framed(t, book, usual),
     }
 }
 

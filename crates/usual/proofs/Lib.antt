@@ -1,0 +1,2 @@
+-- Laws of the quick judge of a table.
+pub mod UsualLaws

@@ -1,0 +1,2 @@
+-- What the quick judge of a table answers.
+pub mod Usual
