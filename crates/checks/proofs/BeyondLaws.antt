@@ -1,31 +1,32 @@
 -- From what a check of the fixed sizes leaves to what `gw_check` must do.
 use mathlib.Core.Path.{_≡_, refl, sym, ap, _∙_, subst}
 use mathlib.Core.List.{List, [], _++_}
-use Prim.Native.Nat.{ℕ, _-_, _≤_, _<_}
+use Prim.Native.Nat.{ℕ, _-_, _≤_}
 use native.Mathlib.Omega.{arith}
 use lib.ListN.{length, take, drop, replicate}
 use lib.Seq.{length-take-le}
-use Rattle.paper.specs.Numbers.{mostText, rowsSize, reportSize, inputDocument}
+use Rattle.paper.specs.Numbers.{rowsSize, reportSize}
 use Rattle.paper.specs.Rows.{flat}
 use Rattle.paper.specs.Refusals.{numberOf}
 use Rattle.paper.specs.Calls.{filled, tells}
-use Rattle.paper.specs.declared.Refusal.the-variants.{Buffer, OverLength}
-use Rattle.paper_types.specs.TableNumbers.{mostTable, inputTable}
+use Rattle.paper.specs.declared.Refusal.{Refusal}
+use Rattle.buffers.specs.Buffers.{Asks, Sized}
+use Rattle.buffers.specs.Buffers.{short-rows as asks-rows, long-document as asks-document, long-table as asks-table}
+use Rattle.buffers.specs.declared.Sizes.{Sizes}
+use Rattle.buffers.specs.declared.Sizes.the-variants.{Unmet}
 use Rattle.paper_rules.specs.DocumentCalls.{Lent, Short, CheckedDocument, short-report, short-rows, long-document, long-table, refuses-table, refuses-text, breaks-rule, accepts}
 use Rattle.checks.proofs.DocumentLaws.{none-beyond}
 
--- A buffer or an input that does not keep to its size.
-module _ (table document rows report report′ : List ℕ) (n : ℕ) (h : reportSize ≤ length report) where
-  pub rows-short : length rows < rowsSize → n ≡ numberOf Buffer → report′ ≡ tells Buffer report → CheckedDocument table document rows report rows report′ n
-  rows-short w p e = subst (CheckedDocument table document rows report rows report′) (sym p) (short-rows h w refl e)
-
-  pub document-long : rowsSize ≤ length rows → mostText < length document → n ≡ numberOf (OverLength inputDocument) → report′ ≡ tells (OverLength inputDocument) report →
-      CheckedDocument table document rows report rows report′ n
-  document-long w l p e = subst (CheckedDocument table document rows report rows report′) (sym p) (long-document (h, w) l refl e)
-
-  pub table-long : rowsSize ≤ length rows → length document ≤ mostText → mostTable < length table → n ≡ numberOf (OverLength inputTable) → report′ ≡ tells (OverLength inputTable) report →
-      CheckedDocument table document rows report rows report′ n
-  table-long w l m p e = subst (CheckedDocument table document rows report rows report′) (sym p) (long-table (h, w) l m refl e)
+-- Rows or an input that do not keep to their sizes.
+pub sizes-unmet : (table document rows report report′ : List ℕ) (s : Sizes) (z : Refusal) (n : ℕ) → reportSize ≤ length report → Sized (length rows) (length document) (length table) s → s ≡ Unmet z →
+    n ≡ numberOf z → report′ ≡ tells z report → CheckedDocument table document rows report rows report′ n
+sizes-unmet table document rows report report′ s z n h a q p e =
+    subst (CheckedDocument table document rows report rows report′) (sym p) (go z (subst (Sized (length rows) (length document) (length table)) q a) e)
+  where
+    go : (y : Refusal) → Asks (length rows) (length document) (length table) y → report′ ≡ tells y report → CheckedDocument table document rows report rows report′ (numberOf y)
+    go _ (asks-rows w) f = short-rows h w refl f
+    go _ (asks-document w l) f = long-document (h, w) l refl f
+    go _ (asks-table w l m) f = long-table (h, w) l m refl f
 
 -- What is done to the fixed size of longer rows is done to these, and nothing beyond.
 module _ (table document rows report rows₁ rows′ report′ : List ℕ) (lent : Lent rows report) (short : Short table document) (e : rows′ ≡ rows₁ ++ drop rowsSize rows) where

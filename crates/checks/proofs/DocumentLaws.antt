@@ -30,7 +30,9 @@ use Rattle.constructs.proofs.ReadRows.{Taken, cleared-taken}
 use Rattle.reader.specs.declared.Cursor.{Cursor}
 use Rattle.reader.specs.declared.Read.{Read}
 use Rattle.reader.specs.declared.Read.the-variants.{Done, Refused}
-use Rattle.parsing.specs.Parsing.{cleared, Filled}
+use Rattle.buffers.specs.Buffers.{cleared}
+use Rattle.endings.specs.Endings.{Ended}
+use Rattle.parsing.specs.Parsing.{Filled}
 use Rattle.parsing.proofs.FilledLaws.{rows-filled, whole-room, whole-size}
 
 -- rows of the fixed size have nothing beyond it
@@ -72,17 +74,15 @@ module _ (table document rows report rows₁ : List ℕ) (lent : Lent rows repor
         let same : take n (m .cells) ≡ flat (taken .list) = sym (take-at (take n (m .cells)) zeros n first) ∙ ap (take n) (sym (g .2)) ∙ ap (λ (k : ℕ). take (rowSize * k) rows₁) (g .3) ∙ taken .cells in
         none-beyond rows₁ rows e ∙ ap (λ (l : List ℕ). l ++ drop rowsSize rows) (g .2) ∙ rows-filled (m .cells) rows n size room ∙ ap (λ (l : List ℕ). filled rowsSize l rows) same
 
-    pub rules-broken : (rows′ report′ : List ℕ) (a : QueryAnswer) (i k : ℕ) → Judged (tableOf table) (docOf document rows₁ (d .rows)) a → a ≡ Breaks i k → rows′ ≡ cleared 0 rows₁ →
-        report′ ≡ filled reportSize (refuseQuery ∷ i ∷ k ∷ []) report → CheckedDocument table document rows report rows′ report′ refuseQuery
-    rules-broken rows′ report′ a i k h w c p =
-        breaks-rule lent short j (tokens-are document) (taken .said) (judged-read (Breaks i k) (subst (Judged (tableOf table) (docOf document rows₁ (d .rows))) w h)) (c ∙ all-cleared rows rows₁ e (taken .rowed .size)) p
-
-    pub document-fits : (report′ : List ℕ) (a : QueryAnswer) → Judged (tableOf table) (docOf document rows₁ (d .rows)) a → a ≡ Fits →
-        report′ ≡ filled reportSize (accepted ∷ d .rows ∷ []) report → CheckedDocument table document rows report rows₁ report′ accepted
-    document-fits report′ a h w p =
-        accepts lent short j (tokens-are document) (taken .said) (judged-read Fits (subst (Judged (tableOf table) (docOf document rows₁ (d .rows))) w h))
-        rows-left
-        (p ∙ ap (λ (n : ℕ). filled reportSize (accepted ∷ n ∷ []) report) (taken .count))
+    pub judged-told : (rows′ report′ : List ℕ) (a : QueryAnswer) (n : ℕ) → Judged (tableOf table) (docOf document rows₁ (d .rows)) a → Ended (d .rows) a rows₁ report rows′ report′ n →
+        CheckedDocument table document rows report rows′ report′ n
+    unfolding Ended
+    judged-told rows′ report′ (Breaks i k) n h t =
+        subst (CheckedDocument table document rows report rows′ report′) (sym (t .0))
+        (breaks-rule lent short j (tokens-are document) (taken .said) (judged-read (Breaks i k) h) (t .1 ∙ all-cleared rows rows₁ e (taken .rowed .size)) (t .2))
+    judged-told rows′ report′ Fits n h t =
+        subst (CheckedDocument table document rows report rows′ report′) (sym (t .0))
+        (accepts lent short j (tokens-are document) (taken .said) (judged-read Fits h) (t .1 ∙ rows-left) (t .2 ∙ ap (λ (k : ℕ). filled reportSize (accepted ∷ k ∷ []) report) (taken .count)))
 
 -- A table that is not accepted.
 pub table-refused : (table document rows report rows′ report′ : List ℕ) (a : TableAnswer) (n : ℕ) → Lent rows report → Short table document → length rows ≡ rowsSize → a ≡ judge table → (a ≡ Accepted → ⊥) →

@@ -1,16 +1,9 @@
 // Judges a document by a type table: the table, then the text, then the rules; and the whole answer to `gw_check`.
+use buffers::Sizes;
 use index::BOOK_SIZE;
-use paper::ACCEPTED;
-use paper::INPUT_DOCUMENT;
-use paper::MOST_TEXT;
 use paper::REFUSE_BUFFER;
 use paper::REPORT_SIZE;
 use paper::ROWS_SIZE;
-use paper::Refusal;
-use paper_rules::QueryAnswer;
-use paper_rules::REFUSE_QUERY;
-use paper_types::INPUT_TABLE;
-use paper_types::MOST_TABLE;
 use paper_types::TableAnswer;
 use reader::Read;
 ghost use mathlib.Core.Path.{_≡_};
@@ -38,17 +31,7 @@ fn check_document(
         Read::Done(c) => {
             let n = c.rows;
             let q = queries::first_break(table, book, document, rows, n as usize);
-            match q {
-                QueryAnswer::Fits => {
-                    telling::tell(report, ACCEPTED, n);
-                    ACCEPTED
-                }
-                QueryAnswer::Breaks { row, rule } => {
-                    parsing::clear(rows, 0);
-                    telling::tell_five(report, REFUSE_QUERY, row, rule, 0, 0, 0);
-                    REFUSE_QUERY
-                }
-            }
+            endings::tell_judged(q, n, rows, report)
         }
         Read::Refused(why) => telling::tell_refusal(report, why),
     }
@@ -67,7 +50,7 @@ fn check_with(
 {
     let a = tables::judge_with(table, book);
     let TableAnswer::Accepted = a else {
-        parsing::clear(rows, 0);
+        buffers::clear(rows, 0);
         return telling::tell_table(report, a);
     };
     check_document(table, book, document, rows, report)
@@ -82,21 +65,16 @@ fn check(table: &[u8], document: &[u8], rows: &mut [u32], report: &mut [u32]) ->
     check_with(table, &mut book, document, rows, report)
 }
 
-// What `gw_check` answers: the buffers are tested, then the document is judged.
+// What `gw_check` answers: the sizes are tested, then the document is judged.
 pub fn answer(table: &[u8], document: &[u8], rows: &mut [u32], report: &mut [u32]) -> u32
     ensures { λ r. ⌜ CheckedDocument (now (table .entry)) (now (document .entry)) (now (rows .entry)) (now (report .entry)) (now (rows .exit)) (now (report .exit)) r ⌝ }
 {
     if report.len() < REPORT_SIZE {
         return REFUSE_BUFFER;
     }
-    if rows.len() < ROWS_SIZE {
-        return telling::tell_refusal(report, Refusal::Buffer);
+    let s = buffers::sizes_met(rows.len(), document.len(), table.len());
+    match s {
+        Sizes::Met => check(table, document, &mut rows[..ROWS_SIZE], report),
+        Sizes::Unmet(why) => telling::tell_refusal(report, why),
     }
-    if MOST_TEXT < document.len() {
-        return telling::tell_refusal(report, Refusal::OverLength(INPUT_DOCUMENT));
-    }
-    if MOST_TABLE < table.len() {
-        return telling::tell_refusal(report, Refusal::OverLength(INPUT_TABLE));
-    }
-    check(table, document, &mut rows[..ROWS_SIZE], report)
 }

@@ -17,7 +17,8 @@ use Rattle.documents.specs.Documents.{Ended}
 use Rattle.reader.specs.declared.Cursor.{Cursor}
 use Rattle.reader.specs.declared.Read.{Read}
 use Rattle.reader.specs.declared.Read.the-variants.{Done, Refused}
-use Rattle.parsing.specs.Parsing.{cleared, Filled}
+use Rattle.buffers.specs.Buffers.{cleared}
+use Rattle.parsing.specs.Parsing.{Filled}
 
 -- a text read through has rows within the buffer
 module _ (s rows : List ℕ) (m : State) (e : length rows ≡ rowsSize) (q : go (start rows) (nt Document ∷ []) (from s 0) ≡ whole m) where

@@ -1,4 +1,3 @@
 -- Laws of this crate.
-pub mod BufferLaws
 pub mod FilledLaws
 pub mod ParsedLaws

@@ -1,4 +1,4 @@
-use Rattle.checks.proofs.DocumentLaws.{done-taken, document-fits, rules-broken, text-refused}
+use Rattle.checks.proofs.DocumentLaws.{done-taken, judged-told, text-refused}
 use borrow.Author.Needs.{needs}
 use Rattle.checks.proofs.check_document.Statement.{statement}
 use Rattle.checks.proofs.check_document.Tie as tie
@@ -17,20 +17,8 @@ first-break-requires c κs =
     let p = c .before .before .before .before .before .before .before .before .before .before .before .before .before .pre in
     (p .1 .1, p .3, p .4, done-taken _ _ _ _ _ (p .1 .0) (p .2) (c .before .before .before .before .before .before .parse .ensures) (c .before .before .r .given .1) .rowed)
 
-enum-told : tie.Need-enum-told
-enum-told c = search needs
-
-tell-requires : tie.Need-tell-requires
-tell-requires c κs = search needs
-
-enum-known-q : tie.Need-enum-known-q
-enum-known-q c = search needs
-
-clear-requires : tie.Need-clear-requires
-clear-requires c κs = search needs
-
-tell-five-requires : tie.Need-tell-five-requires
-tell-five-requires c κs = search needs
+tell-judged-requires : tie.Need-tell-judged-requires
+tell-judged-requires c κs = search needs
 
 enum-known-r-2 : tie.Need-enum-known-r-2
 enum-known-r-2 c = search needs
@@ -46,8 +34,8 @@ same-length-2 c = search needs
 
 returns : tie.Need-returns
 returns c =
-    let p = c .before .before .before .before .before .before .before .before .before .before .before .before .before .before .before .before .before .before .before .before .pre in
-    document-fits _ _ _ _ _ (p .0) (p .1) (p .2) (p .3) _ (c .before .before .before .before .before .before .before .before .before .before .before .before .before .parse .ensures) _ (c .before .before .before .before .before .before .before .before .before .r .given .1) _ _ (c .before .before .before .before .before .before .first-break .ensures) (c .before .before .before .before .enum-told .given .1) (c .before .before .tell .ensures)
+    let p = c .before .before .before .before .before .before .before .before .before .before .before .before .before .before .before .before .before .before .before .before .before .pre in
+    judged-told _ _ _ _ _ (p .0) (p .1) (p .2) (p .3) _ (c .before .before .before .before .before .before .before .before .before .before .before .before .before .before .parse .ensures) _ (c .before .before .before .before .before .before .before .before .before .before .r .given .1) _ _ _ _ (c .before .before .before .before .before .before .before .first-break .ensures) (c .before .before .before .before .tell-judged .ensures)
 
 same-length-3 : tie.Need-same-length-3
 same-length-3 c = search needs
@@ -57,17 +45,6 @@ same-length-4 c = search needs
 
 returns-2 : tie.Need-returns-2
 returns-2 c =
-    let p = c .before .before .before .before .before .before .before .before .before .before .before .before .before .before .before .before .before .before .before .before .before .before .before .before .before .pre in
-    rules-broken _ _ _ _ _ (p .0) (p .1) (p .2) (p .3) _ (c .before .before .before .before .before .before .before .before .before .before .before .before .before .before .before .before .before .before .parse .ensures) _ (c .before .before .before .before .before .before .before .before .before .before .before .before .before .before .r .given .1) _ _ _ _ _ (c .before .before .before .before .before .before .before .before .before .before .before .first-break .ensures) (c .before .before .before .before .before .before .before .before .before .q .given .1) (c .before .before .before .before .before .before .clear .ensures) (c .before .before .tell-five .ensures)
-
-same-length-5 : tie.Need-same-length-5
-same-length-5 c = search needs
-
-same-length-6 : tie.Need-same-length-6
-same-length-6 c = search needs
-
-returns-3 : tie.Need-returns-3
-returns-3 c =
     let p = c .before .before .before .before .before .before .before .before .before .before .before .before .before .before .before .before .pre in
     let t = c .before .before .tell-refusal .ensures in
     text-refused _ _ _ _ _ (p .0) (p .1) (p .2) (p .3) _ (c .before .before .before .before .before .before .before .before .before .parse .ensures) _ _ _ (c .before .before .before .before .before .r2 .given .1) (t .0) (t .1)
@@ -80,11 +57,7 @@ check-document-spec =
     enum-known-r
     cast-first-break
     first-break-requires
-    enum-told
-    tell-requires
-    enum-known-q
-    clear-requires
-    tell-five-requires
+    tell-judged-requires
     enum-known-r-2
     tell-refusal-requires
     same-length
@@ -92,7 +65,4 @@ check-document-spec =
     returns
     same-length-3
     same-length-4
-    returns-2
-    same-length-5
-    same-length-6
-    returns-3)
+    returns-2)

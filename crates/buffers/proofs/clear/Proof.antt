@@ -1,4 +1,4 @@
--- `parsing::clear` meets its contract: before turn i the numbers from `from` up to i are 0.
+-- `buffers::clear` meets its contract: before turn i the numbers from `from` up to i are 0.
 use mathlib.Core.Path.{_≡_, refl, ap, _∙_}
 use mathlib.Core.List.{List}
 use Prim.Native.Nat.{ℕ, _-_, _≤_}
@@ -7,9 +7,9 @@ use native.Mathlib.Omega.{arith}
 use borrow.Author.Needs.{needs}
 use lib.ListN.{length, set, replicate, length-set}
 use lib.Seq.{sets}
-use Rattle.parsing.proofs.BufferLaws.{clear-more, clear-end}
-use Rattle.parsing.proofs.clear.Statement.{statement}
-use Rattle.parsing.proofs.clear.Tie as tie
+use Rattle.buffers.proofs.BufferLaws.{clear-more, clear-end}
+use Rattle.buffers.proofs.clear.Statement.{statement}
+use Rattle.buffers.proofs.clear.Tie as tie
 
 abbrev Inv-loop : tie.InvT-loop
 Inv-loop rows₀ from i₀ rows i = (rows ≡ sets rows₀ from (replicate (i - from) 0)) × (from ≤ i) × (i ≤ length rows₀) × (length rows ≡ length rows₀)

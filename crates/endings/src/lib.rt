@@ -1,0 +1,27 @@
+// What a judged document leaves in the rows and the report.
+use paper::ACCEPTED;
+use paper_rules::QueryAnswer;
+use paper_rules::REFUSE_QUERY;
+ghost use mathlib.Core.Path.{_≡_};
+ghost use Prim.Native.Nat.{_≤_};
+ghost use lib.ListN.{length};
+ghost use Rattle.paper.specs.Numbers.{reportSize};
+ghost use Rattle.endings.specs.Endings.{Ended};
+
+// Tells what was said of a document with n rows, and answers its number; a broken rule leaves no rows.
+pub fn tell_judged(q: QueryAnswer, n: u32, rows: &mut [u32], report: &mut [u32]) -> u32
+    requires { ⌜ reportSize ≤ length (now report) ⌝ }
+    ensures { λ r. ⌜ Ended n q (now (rows .entry)) (now (report .entry)) (now (rows .exit)) (now (report .exit)) r ⌝ }
+{
+    match q {
+        QueryAnswer::Fits => {
+            telling::tell(report, ACCEPTED, n);
+            ACCEPTED
+        }
+        QueryAnswer::Breaks { row, rule } => {
+            buffers::clear(rows, 0);
+            telling::tell_five(report, REFUSE_QUERY, row, rule, 0, 0, 0);
+            REFUSE_QUERY
+        }
+    }
+}
