@@ -1,12 +1,11 @@
 // Judges a type table: its framing, its sizes, its schema rules, in this order; and the whole answer to `gw_check_table`.
+use buffers::Sizes;
 use counts::Counted;
 use frames::Framed;
 use index::BOOK_SIZE;
 use paper::REFUSE_BUFFER;
 use paper::REPORT_SIZE;
-use paper::Refusal;
-use paper_types::INPUT_TABLE;
-use paper_types::MOST_TABLE;
+use paper::ROWS_SIZE;
 use paper_types::TableAnswer;
 use possible::BITS_SIZE;
 use usual::is_usual;
@@ -98,16 +97,20 @@ pub fn judge_table(t: &[u8]) -> TableAnswer
     judge_with(t, &mut book)
 }
 
-// What `gw_check_table` answers: the buffers are tested, then the table is judged.
+// What `gw_check_table` answers: the sizes are tested, then the table is judged.
 pub fn answer(table: &[u8], report: &mut [u32]) -> u32
     ensures { λ r. ⌜ Checked (now (table .entry)) (now (report .entry)) (now (report .exit)) r ⌝ }
 {
     if report.len() < REPORT_SIZE {
         return REFUSE_BUFFER;
     }
-    if MOST_TABLE < table.len() {
-        return telling::tell_refusal(report, Refusal::OverLength(INPUT_TABLE));
+    // it has no rows and no document, so these are of a size that is kept to
+    let s = buffers::sizes_met(ROWS_SIZE, 0, table.len());
+    match s {
+        Sizes::Met => {
+            let a = judge_table(table);
+            telling::tell_table(report, a)
+        }
+        Sizes::Unmet(why) => telling::tell_refusal(report, why),
     }
-    let a = judge_table(table);
-    telling::tell_table(report, a)
 }
