@@ -14,7 +14,7 @@ use Rattle.paper_types.specs.Types.{Member, Definition, tableOf, isObject, isIn
 use Rattle.paper_types.specs.Rules.{memberNamed, isField}
 use Rattle.paper_types.proofs.ListsLaws.{find-some}
 use Rattle.paper_rules.proofs.EnclosingLaws.{Composite}
-use Rattle.paper_rules.specs.Enclosing.{typename, member, missing, unknown, definitionAt, compositeOf, fieldOf, isTypename, orMissing, fieldIn, typeIn}
+use Rattle.paper_rules.specs.Enclosing.{FieldIs, typename, member, missing, unknown, definitionAt, compositeOf, fieldOf, isTypename, orMissing, fieldIn, typeIn}
 use Rattle.fields.specs.Fields.{Bounds}
 use Rattle.index.specs.Book.{part, room, countIn}
 use Rattle.members.specs.Members.{fieldsIn, membersIn, memberFrom, Typed, Finds}
@@ -51,6 +51,15 @@ module _ (t : List ℕ) (to : ℕ) where
 
   pub kept-typename : FieldKept t typename fieldTypename to
   kept-typename = record { is = coded-typename; bounds = λ h. absurd (omega arith) }
+
+-- what holds of an unknown field, a missing one, `__typename` and each member holds of every field by its number
+pub by-number : (t : List ℕ) (to : ℕ) (P : ℕ → FieldIs → Type 0)
+    → P fieldUnknown unknown → P fieldMissing missing → P fieldTypename typename → ((at : ℕ) → fieldTypename < at → P at (member (memberFrom t tagField at to)))
+    → (at : ℕ) → P at (fieldCoded t at to)
+by-number t to P a b c e zero = subst (P fieldUnknown) (coded-unknown t to) a
+by-number t to P a b c e (suc zero) = subst (P fieldMissing) (coded-missing t to) b
+by-number t to P a b c e (suc (suc zero)) = subst (P fieldTypename) (coded-typename t to) c
+by-number t to P a b c e (suc (suc (suc k))) = subst (P (suc (suc (suc k)))) (coded-member t to (suc (suc (suc k))) (omega arith)) (e (suc (suc (suc k))) (omega arith))
 
 -- a type is one more than its number
 pub type-some : (c : ℕ) → (c ≡ 0 → ⊥) → typeCoded c ≡ some (c - 1)

@@ -1,4 +1,4 @@
--- The rules 4, 5, 6, 13 and 14, by what a row is.
+-- The rules 5 and 6, by what a row is.
 use mathlib.Core.Path.{_≡_, refl, sym, ap, _∙_}
 use mathlib.Core.Bool.{Bool, true, false, not, _&&_, cond}
 use mathlib.Core.List.{List}
@@ -6,61 +6,20 @@ use Prim.Native.Nat.{ℕ, _<_, _≤_}
 use lib.ListN.{drop}
 use lib.Dec.{eqb}
 use borrow.Author.Tests.{eq-eqb, ne-eqb}
-use Rattle.paper.specs.Numbers.{kindOperation, kindField, kindArgument, kindTypeReference}
+use Rattle.paper.specs.Numbers.{kindField}
 use Rattle.paper.specs.Rows.{Row}
 use Rattle.paper_types.specs.Lists.{anyOf}
 use Rattle.paper_types.specs.References.{found}
-use Rattle.paper_types.specs.Types.{Table, meant}
-use Rattle.paper_types.specs.Rules.{isOutput}
-use Rattle.paper_rules.specs.Constructs.{Doc, isSelection, below, rowOf, kindOf, parentOf, extraOf, nameOf}
-use Rattle.paper_rules.specs.Enclosing.{rootOf, typeIn, fieldAt}
-use Rattle.paper_rules.specs.Rule4Condition.{isFragment, conditionWrong}
+use Rattle.paper_types.specs.Types.{Table}
+use Rattle.paper_rules.specs.Constructs.{Doc, isSelection, below, kindOf}
+use Rattle.paper_rules.specs.Enclosing.{typeIn, fieldAt}
 use Rattle.paper_rules.specs.Rule5Field.{fieldMissing}
 use Rattle.paper_rules.specs.Rule6Leaf.{hasSelections, leafWrong}
-use Rattle.paper_rules.specs.Rule13NoRoot.{noRoot}
-use Rattle.paper_rules.specs.Rule14Argument.{lacks, argumentUnknown}
 use Rattle.composites.specs.Coded.{typeCoded, fieldMissing as numberMissing, fieldTypename, FieldKept}
 use Rattle.typing.proofs.CodedLaws.{coded-misses, leaf-unknown, leaf-known, type-found}
 
 module _ (x : Table) (d : Doc) (i : ℕ) where
-  -- 4
-  pub condition-other : (kindOf d i ≡ kindTypeReference → ⊥) → false ≡ conditionWrong x d i
-  unfolding conditionWrong
-  condition-other k = rw (ne-eqb (kindOf d i) kindTypeReference k)
-
-  module _ (k : kindOf d i ≡ kindTypeReference) where
-    pub condition-elsewhere : isFragment (rowOf d (parentOf d i)) ≡ false → false ≡ conditionWrong x d i
-    unfolding conditionWrong
-    condition-elsewhere f = rw (eq-eqb (kindOf d i) kindTypeReference k, f)
-
-    pub condition-judged : {r : Bool} → isFragment (rowOf d (parentOf d i)) ≡ true → r ≡ isOutput (meant x (nameOf d i)) → not r ≡ conditionWrong x d i
-    unfolding conditionWrong
-    condition-judged f e = rw (eq-eqb (kindOf d i) kindTypeReference k, f) (ap not e)
-
-  -- 13
-  pub root-other : (kindOf d i ≡ kindOperation → ⊥) → false ≡ noRoot x d i
-  unfolding noRoot
-  root-other k = rw (ne-eqb (kindOf d i) kindOperation k)
-
-  pub root-judged : {r : Bool} → kindOf d i ≡ kindOperation → r ≡ found (rootOf x (extraOf d i)) → not r ≡ noRoot x d i
-  unfolding noRoot
-  root-judged k e = rw (eq-eqb (kindOf d i) kindOperation k) (ap not e)
-
-  -- 14
-  pub argument-other : (kindOf d i ≡ kindArgument → ⊥) → false ≡ argumentUnknown x d i
-  unfolding argumentUnknown
-  argument-other k = rw (ne-eqb (kindOf d i) kindArgument k)
-
-  module _ (k : kindOf d i ≡ kindArgument) where
-    pub argument-elsewhere : (kindOf d (parentOf d i) ≡ kindField → ⊥) → false ≡ argumentUnknown x d i
-    unfolding argumentUnknown
-    argument-elsewhere f = rw (eq-eqb (kindOf d i) kindArgument k, ne-eqb (kindOf d (parentOf d i)) kindField f)
-
-    pub argument-judged : {r : Bool} → kindOf d (parentOf d i) ≡ kindField → r ≡ lacks (fieldAt x d (parentOf d i)) (nameOf d i) → r ≡ argumentUnknown x d i
-    unfolding argumentUnknown
-    argument-judged f e = rw (eq-eqb (kindOf d i) kindArgument k, eq-eqb (kindOf d (parentOf d i)) kindField f) e
-
-  -- 5 and 6: of a field by its numbers
+  -- of a field by its numbers
   pub field-other : (kindOf d i ≡ kindField → ⊥) → false ≡ fieldMissing x d i
   unfolding fieldMissing
   field-other k = rw (ne-eqb (kindOf d i) kindField k)

@@ -68,7 +68,7 @@ fn operation_rule(
     if naming::operation_unnamed(rows, n, firstk, nextk, i) {
         return RULE_OPERATION_UNNAMED;
     }
-    rule_if(typing::no_root(t, book, s, rows, n, i), RULE_NO_ROOT)
+    rule_if(rooting::no_root(t, book, s, rows, n, i), RULE_NO_ROOT)
 }
 
 // Rules 3 and 8 at a fragment definition.
@@ -132,7 +132,7 @@ fn argument_rule(
     if siblings::name_twice(s, rows, n, first, next, i) {
         return RULE_NAME_TWICE;
     }
-    let unknown = typing::argument_unknown(t, s, rows, n, inside, at, to, i);
+    let unknown = arguing::argument_unknown(t, s, rows, n, inside, at, to, i);
     rule_if(unknown, RULE_ARGUMENT)
 }
 
@@ -196,7 +196,7 @@ fn rule_at(
         ),
         KIND_VARIABLE_DEFINITION => definition_rule(t, book, s, rows, n, first, next, i),
         KIND_TYPE_REFERENCE => rule_if(
-            typing::condition_wrong(t, book, s, rows, n, i),
+            rooting::condition_wrong(t, book, s, rows, n, i),
             RULE_CONDITION,
         ),
         KIND_VARIABLE => flags[i],

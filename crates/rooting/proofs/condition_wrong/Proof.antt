@@ -11,10 +11,10 @@ use Rattle.paper_rules.specs.Constructs.{rowOf, parentOf, nameOf}
 use Rattle.paper_rules.specs.Rule4Condition.{isFragment}
 use Rattle.constructs.specs.Rowed.{rowIn, docOf}
 use Rattle.constructs.proofs.RowsIn.{rowed-sized, name-within}
-use Rattle.typing.proofs.RuleLaws.{condition-other, condition-elsewhere, condition-judged}
+use Rattle.rooting.proofs.RuleLaws.{condition-other, condition-elsewhere, condition-judged}
 use borrow.Author.Needs.{needs}
-use Rattle.typing.proofs.condition_wrong.Statement.{statement}
-use Rattle.typing.proofs.condition_wrong.Tie as tie
+use Rattle.rooting.proofs.condition_wrong.Statement.{statement}
+use Rattle.rooting.proofs.condition_wrong.Tie as tie
 
 kind : (c : tie.Else1)
     → rowIn (c .before .before .before .before .before .before .args .rows .now) (c .before .before .before .before .before .before .args .n) (c .before .before .before .before .before .before .args .i) .kind ≡ kindTypeReference

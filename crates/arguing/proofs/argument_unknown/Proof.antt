@@ -9,10 +9,10 @@ use Rattle.paper_rules.specs.Rule14Argument.{lacks}
 use Rattle.constructs.specs.Rowed.{rowIn, docOf}
 use Rattle.constructs.proofs.RowsIn.{rowed-sized}
 use Rattle.enclosings.proofs.KindLaws.{field-encloses, encloses-there}
-use Rattle.typing.proofs.RuleLaws.{argument-other, argument-elsewhere, argument-judged}
+use Rattle.arguing.proofs.RuleLaws.{argument-other, argument-elsewhere, argument-judged}
 use borrow.Author.Needs.{needs}
-use Rattle.typing.proofs.argument_unknown.Statement.{statement}
-use Rattle.typing.proofs.argument_unknown.Tie as tie
+use Rattle.arguing.proofs.argument_unknown.Statement.{statement}
+use Rattle.arguing.proofs.argument_unknown.Tie as tie
 
 kind : (c : tie.Else1)
     → rowIn (c .before .before .before .before .before .before .before .before .args .rows .now) (c .before .before .before .before .before .before .before .before .args .n) (c .before .before .before .before .before .before .before .before .args .i) .kind ≡ kindArgument

@@ -6,9 +6,9 @@ use Rattle.paper_types.specs.Types.{tableOf}
 use Rattle.paper_rules.specs.Enclosing.{rootOf}
 use Rattle.constructs.specs.Rowed.{docOf}
 use Rattle.constructs.proofs.RowsIn.{rowed-sized}
-use Rattle.typing.proofs.RuleLaws.{root-other, root-judged}
-use Rattle.typing.proofs.no_root.Statement.{statement}
-use Rattle.typing.proofs.no_root.Tie as tie
+use Rattle.rooting.proofs.RuleLaws.{root-other, root-judged}
+use Rattle.rooting.proofs.no_root.Statement.{statement}
+use Rattle.rooting.proofs.no_root.Tie as tie
 
 kind-of-requires : tie.Need-kind-of-requires
 kind-of-requires c κs = rowed-sized (c .before .before .before .before .pre .1)

@@ -15,10 +15,10 @@ use Rattle.constructs.specs.Rowed.{docOf}
 use Rattle.constructs.proofs.RowsIn.{rowed-sized, name-within}
 use Rattle.constructs.proofs.Rooms.{room-enough}
 use Rattle.composites.specs.Coded.{FieldKept}
-use Rattle.typing.proofs.CodedLaws.{lacks-unknown, lacks-typename, lacks-member}
+use Rattle.arguing.proofs.CodedLaws.{lacks-unknown, lacks-typename, lacks-member}
 use borrow.Author.Needs.{needs}
-use Rattle.typing.proofs.lacks_argument.Statement.{statement}
-use Rattle.typing.proofs.lacks_argument.Tie as tie
+use Rattle.arguing.proofs.lacks_argument.Statement.{statement}
+use Rattle.arguing.proofs.lacks_argument.Tie as tie
 
 field : (c : tie.Start)
     → FieldKept (c .args .t .now) (fieldAt (tableOf (c .args .t .now)) (docOf (c .args .s .now) (c .args .rows .now) (c .args .n)) (c .args .p)) (getD (c .args .at .now) (c .args .p) 0) (getD (c .args .to .now) (c .args .p) 0)

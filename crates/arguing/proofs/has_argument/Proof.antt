@@ -6,8 +6,8 @@ use Rattle.index.specs.Book.{part}
 use Rattle.members.specs.Members.{argumentsIn, FindArgument}
 use Rattle.types.proofs.Objects.{any-found}
 use borrow.Author.Needs.{needs}
-use Rattle.typing.proofs.has_argument.Statement.{statement}
-use Rattle.typing.proofs.has_argument.Tie as tie
+use Rattle.arguing.proofs.has_argument.Statement.{statement}
+use Rattle.arguing.proofs.has_argument.Tie as tie
 
 find-argument-requires : tie.Need-find-argument-requires
 find-argument-requires c κs = search needs

@@ -1,8 +1,8 @@
 -- One of two kinds.
 use mathlib.Core.Path.{refl}
-use Rattle.typing.proofs.KindLaws.{fragment-yes, fragment-rest}
-use Rattle.typing.proofs.is_fragment.Statement.{statement}
-use Rattle.typing.proofs.is_fragment.Tie as tie
+use Rattle.rooting.proofs.RuleLaws.{fragment-yes, fragment-rest}
+use Rattle.rooting.proofs.is_fragment.Statement.{statement}
+use Rattle.rooting.proofs.is_fragment.Tie as tie
 
 returns : tie.Need-returns
 returns c = fragment-yes (c .before .args .kind) (c .if1 .taken)
