@@ -19,7 +19,7 @@ use Rattle.constructs.proofs.Rooms.{room-enough}
 use Rattle.links.specs.Links.{nextWith}
 use Rattle.links.proofs.Nexts.{next-least, next-most, next-passes, next-skips}
 use Rattle.spreading.specs.Spreads.{FirstOf}
-use Rattle.reaching.specs.Marks.{Stamped}
+use Rattle.passing.specs.Marks.{Stamped}
 use Rattle.spreading.proofs.OwnerLaws.{row-within}
 use Rattle.reaching.proofs.MarkLaws.{stamped-up}
 use Rattle.likes.specs.Flags.{noRule, Circled, FlagsBy, FlagsTo, LikenedTo, FragmentsTo}

@@ -18,7 +18,8 @@ use Rattle.constructs.proofs.RowsIn.{rows-count}
 use Rattle.constructs.proofs.Rooms.{room-enough}
 use Rattle.spreading.specs.Owners.{Defines, Owned}
 use Rattle.spreading.proofs.OwnerLaws.{definition-within, operation-defines}
-use Rattle.reaching.proofs.DrawLaws.{reaches-either, draws-defines}
+use Rattle.passing.proofs.DrawLaws.{draws-defines}
+use Rattle.reaching.proofs.DrawLaws.{reaches-either}
 use Rattle.shapes.specs.Shapes.{coded}
 use Rattle.placings.proofs.PlacedLaws.{in-row, placed-at}
 use Rattle.likes.specs.Flags.{verdictOf, Reaching, Said, Unsaid, Alike, Known, Unlinked}

@@ -19,7 +19,7 @@ use Rattle.paper_rules.specs.Rule11VariableType.{declaredBy, differ, Differs}
 use Rattle.constructs.specs.Rowed.{rowsIn, docOf, Rowed, roomOf}
 use Rattle.links.specs.Links.{Family}
 use Rattle.spreading.specs.Owners.{Owned}
-use Rattle.reaching.specs.Marks.{Waits}
+use Rattle.passing.specs.Marks.{Waits}
 use Rattle.placings.specs.Placed.{Placed}
 
 abbrev pub noRule : ℕ

@@ -1,34 +1,23 @@
 -- What a definition reaches, as a graph of definitions: a set that holds what it spreads, and what each member spreads, holds all that it reaches.
-use mathlib.Core.Path.{_≡_, refl, sym, subst, _∙_}
+use mathlib.Core.Path.{_≡_, refl, sym, subst}
 use mathlib.Core.Logic.{_⊎_, inl, inr, ⊎-elim}
-use mathlib.Core.Bool.{Bool, true, false, _||_, true≢false}
+use mathlib.Core.Bool.{Bool, true, false}
 use mathlib.Core.List.{List}
 use Prim.Native.Nat.{ℕ, _<_, _≤_}
 use native.Mathlib.Omega.{arith}
 use lib.ListN.{getD}
-use lib.Dec.{T, eqb}
+use lib.Dec.{eqb}
 use borrow.Author.Tests.{eqb-true, eqb-false}
-use Rattle.paper.specs.Numbers.{kindOperation, kindFragment}
-use Rattle.paper.specs.Rows.{Row}
-use Rattle.paper_rules.specs.Constructs.{Doc, count, noRow, is, rowOf, nameOf, called, fragmentCalled, fragmentNamed}
+use Rattle.paper_rules.specs.Constructs.{Doc, count}
 use Rattle.paper_rules.specs.Reaching.{Within, Spreads, Reaches, Circles}
 use Rattle.paper_rules.specs.Reaching.Reaches.{here, through}
 use Rattle.constructs.specs.Rowed.{Decides}
-use Rattle.links.specs.Links.{nextWith}
-use Rattle.links.proofs.Nexts.{next-all, next-passes}
-use Rattle.links.proofs.Walks.{and-left}
 use Rattle.spreading.specs.Owners.{Defines, Owned}
-use Rattle.reaching.specs.Marks.{Draws, stamp, Reached}
 use Rattle.spreading.proofs.OwnerLaws.{definition-within}
+use Rattle.passing.specs.Marks.{Draws, stamp, Reached}
+use Rattle.passing.proofs.DrawLaws.{draws-here, draws-on, draws-defines}
 
--- a spread in the definition, or in a fragment that it reaches, leads to a fragment that it reaches
-pub draws-here : (d : Doc) (a s f : ℕ) → Within d a s → Spreads d s f → Draws d a f
-draws-here d a s f w p = record { at = s; reaches = here w; spreads = p }
-
-pub draws-on : (d : Doc) (a g s f : ℕ) → Draws d a g → Within d g s → Spreads d s f → Draws d a f
-draws-on d a g s f r w p = record { at = s; reaches = through (r .reaches) (r .spreads) w; spreads = p }
-
--- and nothing else does
+-- nothing else is reached than what its spreads, and those of fragments that it reaches, lead to
 module _ (d : Doc) (a : ℕ) (M : ℕ → Type 0) (start : (s f : ℕ) → Within d a s → Spreads d s f → M f)
     (step : (g s f : ℕ) → M g → Within d g s → Spreads d s f → M f) where
   reaches-closed : {i : ℕ} → Reaches d a i → Within d a i ⊎ ((g : ℕ) × M g × Within d g i)
@@ -42,25 +31,6 @@ module _ (d : Doc) (a : ℕ) (M : ℕ → Type 0) (start : (s f : ℕ) → Withi
 -- what a row stands in tells what reaches it
 pub reaches-either : (d : Doc) (a i : ℕ) → Reaches d a i → Within d a i ⊎ ((f : ℕ) × Draws d a f × Within d f i)
 reaches-either d a i r = reaches-closed d a (Draws d a) (draws-here d a) (draws-on d a) r
-
--- what is spread is a fragment, and so a definition
-pub spread-fragment : (d : Doc) (s f : ℕ) → Spreads d s f → is kindFragment (rowOf d f) ≡ true
-unfolding fragmentNamed
-spread-fragment d s f p =
-    let q : Row → Bool = fragmentCalled d (nameOf d s) in
-    let e : nextWith q (d .rows) 0 ≡ f = next-all q (d .rows) ∙ p .named in
-    and-left (is kindFragment (rowOf d f)) (called d (nameOf d s) (rowOf d f)) (rw e at (next-passes q (d .rows) noRow 0 (omega (arith, e, p .known))))
-
-pub spread-defines : (d : Doc) (s f : ℕ) → Spreads d s f → Defines d f
-spread-defines d s f p = go (is kindOperation (rowOf d f)) (is kindFragment (rowOf d f)) (spread-fragment d s f p)
-  where
-    go : (b c : Bool) → c ≡ true → T (b || c)
-    go true c e = tt
-    go false true e = tt
-    go false false e = absurd (true≢false (sym e))
-
-pub draws-defines : (d : Doc) (a f : ℕ) → Draws d a f → Defines d f
-draws-defines d a f r = spread-defines d (r .at) f (r .spreads)
 
 -- a circle is a fragment that reaches a spread of itself
 pub circles-draws : (d : Doc) (f : ℕ) → Circles d f → Draws d f f

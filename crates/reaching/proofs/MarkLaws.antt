@@ -9,7 +9,7 @@ use Rattle.paper.specs.Numbers.{kindFragment}
 use Rattle.paper_rules.specs.Constructs.{Doc, count, kindOf}
 use Rattle.paper_rules.specs.Rule8Circle.{ReachesItself}
 use Rattle.constructs.specs.Rowed.{Decides, roomOf}
-use Rattle.reaching.specs.Marks.{Stamped, stamp, Reached}
+use Rattle.passing.specs.Marks.{Stamped, stamp, Reached}
 use Rattle.reaching.proofs.DrawLaws.{circles-draws, draws-circles, decides-eq}
 
 pub circle-not : (d : Doc) (i : ℕ) → (kindOf d i ≡ kindFragment → ⊥) → ReachesItself d i → ⊥

@@ -1,6 +1,7 @@
 // Which fragments a definition reaches: by a search over the spreads of each definition.
 use constructs::kind_of;
 use paper::KIND_FRAGMENT;
+use passing::pass;
 ghost use mathlib.Core.Path.{_≡_};
 ghost use Prim.Native.Nat.{_+_, _≤_, _<_};
 ghost use lib.ListN.{length};
@@ -10,50 +11,7 @@ ghost use Rattle.paper_rules.specs.Rule8Circle.{ReachesItself};
 ghost use Rattle.constructs.specs.Rowed.{docOf, Sized, Decides, roomOf};
 ghost use Rattle.spreading.specs.Owners.{Defines, Owned};
 ghost use Rattle.spreading.specs.Spreads.{Graph};
-ghost use Rattle.reaching.specs.Marks.{Stamped, Reached, Noted, Room, Search, Passed};
-
-// Marks the fragment of row f and puts it on the stack, if there is one and it is not marked yet; the stack's new height.
-fn note(n: usize, mark: &mut [u32], stack: &mut [u16], top: usize, stamp: u32, f: usize) -> usize
-    requires { ⌜ Room n stamp (now mark) (now stack) top ⌝ }
-    ensures { λ r. ⌜ Noted n stamp f (now (mark .entry)) (now (stack .entry)) top (now (mark .exit)) (now (stack .exit)) r ⌝ }
-{
-    if n <= f {
-        return top;
-    }
-    if mark[f] == stamp {
-        return top;
-    }
-    mark[f] = stamp;
-    stack[top] = f as u16;
-    top + 1
-}
-
-// Passes over the spreads of the definition of row g, in the search from row a; the stack's new height.
-fn pass(
-    s: &[u8],
-    rows: &[u32],
-    n: usize,
-    target: &[u32],
-    first: &[u32],
-    next: &[u32],
-    mark: &mut [u32],
-    stack: &mut [u16],
-    top: usize,
-    a: usize,
-    g: usize,
-) -> usize
-    requires { ⌜ Graph (docOf (now s) (now rows) n) (now target) (now first) (now next) × Search (docOf (now s) (now rows) n) a (now mark) (now stack) top g 0 ⌝ }
-    ensures { λ r. ⌜ Passed (docOf (now (s .entry)) (now (rows .entry)) n) a (now (mark .entry)) (now (stack .entry)) top g (now (mark .exit)) (now (stack .exit)) r ⌝ }
-{
-    let stamp = a as u32 + 1;
-    let mut height = top;
-    let mut j = first[g] as usize;
-    while j < n {
-        height = note(n, mark, stack, height, stamp, target[j] as usize);
-        j = next[j] as usize;
-    }
-    height
-}
+ghost use Rattle.passing.specs.Marks.{Stamped, Reached};
 
 // Marks the fragments that the definition of row a reaches with a + 1. Marks of earlier searches, from rows before a, may stand.
 pub fn reach(

@@ -28,7 +28,7 @@ ghost use Rattle.paper_rules.specs.Rule10Undefined.{definesIt};
 ghost use Rattle.paper_rules.specs.Rule11VariableType.{differ};
 ghost use Rattle.constructs.specs.Rowed.{rowIn, rowsIn, docOf, Rowed};
 ghost use Rattle.links.specs.Links.{Family};
-ghost use Rattle.reaching.specs.Marks.{Reached};
+ghost use Rattle.passing.specs.Marks.{Reached};
 ghost use Rattle.shapes.specs.Shapes.{coded, Within};
 ghost use Rattle.placings.specs.Placed.{Placed};
 ghost use Rattle.likes.specs.Flags.{verdictOf, Least, Known};

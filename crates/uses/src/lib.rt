@@ -16,7 +16,7 @@ ghost use Rattle.paper_types.specs.Types.{tableOf};
 ghost use Rattle.constructs.specs.Rowed.{rowIn, rowsIn, docOf, Sized, roomOf};
 ghost use Rattle.links.specs.Links.{Kinds};
 ghost use Rattle.spreading.specs.Spreads.{Graph};
-ghost use Rattle.reaching.specs.Marks.{Stamped, Reached};
+ghost use Rattle.passing.specs.Marks.{Stamped, Reached};
 ghost use Rattle.likes.specs.Flags.{Circled, FlagsTo, LikenedTo, FragmentsTo, Known, Flagged};
 
 // Judges every variable that is like none by the operation of row o, after the search from it.

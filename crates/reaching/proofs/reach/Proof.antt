@@ -5,9 +5,8 @@ use Prim.Native.Nat.{_+_, _-_}
 use native.Mathlib.Omega.{arith}
 use Rattle.constructs.specs.Rowed.{docOf}
 use Rattle.constructs.proofs.Rooms.{room-rows}
-use Rattle.reaching.specs.Marks.{stamp, others}
-use Rattle.reaching.proofs.SearchLaws.{search-start, search-most, search-pop, search-end}
-use Rattle.reaching.proofs.PassLaws.{Searching}
+use Rattle.passing.specs.Marks.{stamp, others}
+use Rattle.reaching.proofs.SearchLaws.{search-start, search-most, search-pop, search-end, Searching}
 use Rattle.reaching.proofs.reach.Statement.{statement}
 use Rattle.reaching.proofs.reach.Tie as tie
 

@@ -8,7 +8,7 @@ use Rattle.paper_rules.specs.Constructs.{count}
 use Rattle.constructs.specs.Rowed.{docOf, roomOf}
 use Rattle.constructs.proofs.RowsIn.{rowed-sized, rows-count}
 use Rattle.constructs.proofs.Rooms.{room-rows}
-use Rattle.reaching.specs.Marks.{Stamped}
+use Rattle.passing.specs.Marks.{Stamped}
 use Rattle.reaching.proofs.MarkLaws.{stamped-none}
 use Rattle.likes.proofs.FlagsLaws.{flags-none}
 use Rattle.uses.proofs.FlaggedLaws.{flagged}

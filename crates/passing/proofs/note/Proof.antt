@@ -1,10 +1,10 @@
 -- Two tests, two stores: there is room on the stack as long as a row is not marked.
 use borrow.Author.Needs.{needs}
 use native.Mathlib.Omega.{arith}
-use Rattle.reaching.specs.Marks.Noted.{none, old, new}
-use Rattle.reaching.proofs.SearchLaws.{noted-room}
-use Rattle.reaching.proofs.note.Statement.{statement}
-use Rattle.reaching.proofs.note.Tie as tie
+use Rattle.passing.specs.Marks.Noted.{none, old, new}
+use Rattle.passing.proofs.SearchLaws.{noted-room}
+use Rattle.passing.proofs.note.Statement.{statement}
+use Rattle.passing.proofs.note.Tie as tie
 
 returns : tie.Need-returns
 returns c = none (c .if1 .taken)

@@ -5,9 +5,9 @@ use native.Mathlib.Omega.{arith}
 use Rattle.constructs.specs.Rowed.{docOf}
 use Rattle.constructs.proofs.RowsIn.{rows-count}
 use Rattle.constructs.proofs.Rooms.{room-enough}
-use Rattle.reaching.proofs.PassLaws.{Passing, start-below, passed-below, passing-start, passing-room, passing-less, passing-more, passing-end}
-use Rattle.reaching.proofs.pass.Statement.{statement}
-use Rattle.reaching.proofs.pass.Tie as tie
+use Rattle.passing.proofs.PassLaws.{Passing, start-below, passed-below, passing-start, passing-room, passing-less, passing-more, passing-end}
+use Rattle.passing.proofs.pass.Statement.{statement}
+use Rattle.passing.proofs.pass.Tie as tie
 
 abbrev Inv-loop : tie.InvT-loop
 Inv-loop s rows n target first next mark₀ stack₀ top a g stamp height₀ j₀ mark stack height j = Passing (docOf s rows n) a mark₀ top mark stack height g j

@@ -8,9 +8,9 @@ use Rattle.paper.specs.Numbers.{mostRows}
 use Rattle.paper_rules.specs.Constructs.{Doc, count}
 use Rattle.constructs.proofs.Rooms.{room-enough, room-most}
 use Rattle.spreading.specs.Spreads.{SpreadIn, FirstOf, Graph}
-use Rattle.reaching.specs.Marks.{stamp, others, Noted, Room, Search, Passed}
+use Rattle.passing.specs.Marks.{stamp, others, Noted, Room, Search, Passed}
 use Rattle.spreading.proofs.OwnerLaws.{definition-within}
-use Rattle.reaching.proofs.SearchLaws.{search-defines, search-skip, search-to, search-turn, noted-count}
+use Rattle.passing.proofs.SearchLaws.{search-defines, search-skip, search-to, search-turn, noted-count}
 
 -- amid the spreads of the definition of row g, at the one of row j or at the end; the pass began with `old` and `top`
 pub record Passing (d : Doc) (a : ℕ) (old : List ℕ) (top : ℕ) (mark stack : List ℕ) (height g j : ℕ) : Type 0 where
@@ -65,8 +65,3 @@ module _ {d : Doc} {target first next : List ℕ} (h : Graph d target first next
 
     pub passing-end : (stack₀ : List ℕ) → n ≤ j → Passed d a old stack₀ top g mark stack height
     passing-end stack₀ l = record { search = search-to d a mark stack height g j (x .search) (count d) (omega arith); counted = x .counted }
-
--- between two passes: all that was met is passed, but for what waits
-pub record Searching (d : Doc) (a : ℕ) (mark stack : List ℕ) (top : ℕ) : Type 0 where
-  pub last : ℕ
-  pub search : Search d a mark stack top last (count d)
