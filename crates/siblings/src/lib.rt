@@ -1,4 +1,4 @@
-// The query rules on rows beside each other and right below a row: 9 and 12.
+// Rows beside each other and right below a row; the query rule on them: 12.
 use constructs::is_called;
 use constructs::kind_of;
 use constructs::name_of;
@@ -6,20 +6,12 @@ use constructs::parent_of;
 use constructs::size_of;
 use links::link_of;
 use paper::KIND_ARGUMENT;
-use paper::KIND_BOOLEAN;
-use paper::KIND_DIRECTIVE;
-use paper::KIND_FIELD;
-use paper::KIND_INLINE;
-use paper::KIND_VARIABLE;
 use paper::KIND_VARIABLE_DEFINITION;
 ghost use mathlib.Core.Path.{_≡_};
 ghost use Prim.Native.Nat.{_+_, _≤_, _<_};
 ghost use lib.ListN.{length};
 ghost use Rattle.paper_types.specs.Rules.{earlier};
-ghost use Rattle.paper.specs.Numbers.{kindArgument, kindDirective};
 ghost use Rattle.index.specs.Book.{part};
-ghost use Rattle.paper_rules.specs.Constructs.{isSelection};
-ghost use Rattle.paper_rules.specs.Rule9Directive.{rowsBelow, isIf, onlyIfs, directiveRight, directiveWrong};
 ghost use Rattle.paper_rules.specs.Rule12NameTwice.{nameTwice};
 ghost use Rattle.constructs.specs.Rowed.{rowIn, rowsIn, docOf, Rowed, Sized};
 ghost use Rattle.links.specs.Links.{Family};
@@ -65,7 +57,7 @@ fn first_like(s: &[u8], rows: &[u32], n: usize, first: &[u32], next: &[u32], i: 
 }
 
 // Has an earlier row of its kind beside it the name of row i?
-fn is_repeated(s: &[u8], rows: &[u32], n: usize, first: &[u32], next: &[u32], i: usize) -> bool
+pub fn is_repeated(s: &[u8], rows: &[u32], n: usize, first: &[u32], next: &[u32], i: usize) -> bool
     requires { ⌜ Rowed (now s) (now rows) n × Family (rowsIn (now rows) n) (now first) (now next) × (i < n) ⌝ }
     ensures { λ r. ⌜ r ≡ earlier (isLike (docOf (now (s .entry)) (now (rows .entry)) n) i) i (rowsIn (now (rows .entry)) n) ⌝ }
 {
@@ -88,7 +80,7 @@ pub fn name_twice(s: &[u8], rows: &[u32], n: usize, first: &[u32], next: &[u32],
 }
 
 // The first of kind k from row j on, that row and those beside it; n if there is none.
-fn next_beside(rows: &[u32], n: usize, next: &[u32], k: u32, j: usize) -> usize
+pub fn next_beside(rows: &[u32], n: usize, next: &[u32], k: u32, j: usize) -> usize
     requires { ⌜ Sized (now rows) n × Beside (rowsIn (now rows) n) (now next) × (j ≤ n) ⌝ }
     ensures { λ r. ⌜ r ≡ nextBeside (rowsIn (now (rows .entry)) n) k j ⌝ }
 {
@@ -108,83 +100,4 @@ pub fn first_below(rows: &[u32], n: usize, first: &[u32], next: &[u32], k: u32, 
     ensures { λ r. ⌜ r ≡ firstBelow (rowsIn (now (rows .entry)) n) k p ⌝ }
 {
     next_beside(rows, n, next, k, link_of(first, p))
-}
-
-// Is row i a selection: a field, a spread or an inline fragment?
-fn is_selection(rows: &[u32], n: usize, i: usize) -> bool
-    requires { ⌜ Sized (now rows) n ⌝ }
-    ensures { λ r. ⌜ r ≡ isSelection (rowIn (now (rows .entry)) n i) ⌝ }
-{
-    let k = kind_of(rows, n, i);
-    if k < KIND_FIELD {
-        return false;
-    }
-    k <= KIND_INLINE
-}
-
-// Is the argument of row a an `if`, a boolean or a variable?
-fn is_if(s: &[u8], rows: &[u32], n: usize, first: &[u32], next: &[u32], a: usize) -> bool
-    requires { ⌜ Rowed (now s) (now rows) n × Family (rowsIn (now rows) n) (now first) (now next) × (a < n) ⌝ }
-    ensures { λ r. ⌜ r ≡ isIf (docOf (now (s .entry)) (now (rows .entry)) n) a ⌝ }
-{
-    if !is_called(s, rows, n, a, b"if", 0, 2) {
-        return false;
-    }
-    if first_below(rows, n, first, next, KIND_BOOLEAN, a) < n {
-        return true;
-    }
-    first_below(rows, n, first, next, KIND_VARIABLE, a) < n
-}
-
-// Has row i one argument only, and such?
-fn is_only_if(s: &[u8], rows: &[u32], n: usize, first: &[u32], next: &[u32], i: usize) -> bool
-    requires { ⌜ Rowed (now s) (now rows) n × Family (rowsIn (now rows) n) (now first) (now next) × (i < n) ⌝ }
-    ensures { λ r. ⌜ r ≡ onlyIfs (docOf (now (s .entry)) (now (rows .entry)) n) (rowsBelow (docOf (now (s .entry)) (now (rows .entry)) n) kindArgument i) ⌝ }
-{
-    let a = first_below(rows, n, first, next, KIND_ARGUMENT, i);
-    if n <= a {
-        return false;
-    }
-    if next_beside(rows, n, next, KIND_ARGUMENT, link_of(next, a)) < n {
-        return false;
-    }
-    is_if(s, rows, n, first, next, a)
-}
-
-// Is nothing wrong with the directive of row i?
-fn is_right(s: &[u8], rows: &[u32], n: usize, first: &[u32], next: &[u32], i: usize) -> bool
-    requires { ⌜ Rowed (now s) (now rows) n × Family (rowsIn (now rows) n) (now first) (now next) × (i < n) × (rowIn (now rows) n i .kind ≡ kindDirective) ⌝ }
-    ensures { λ r. ⌜ r ≡ directiveRight (docOf (now (s .entry)) (now (rows .entry)) n) i ⌝ }
-{
-    let at = name_of(rows, n, i) as usize;
-    let l = size_of(rows, n, i) as usize;
-    if !names::is_known_directive(s, at, l) {
-        return false;
-    }
-    let p = parent_of(rows, n, i) as usize;
-    if !is_selection(rows, n, p) {
-        return false;
-    }
-    if is_repeated(s, rows, n, first, next, i) {
-        return false;
-    }
-    is_only_if(s, rows, n, first, next, i)
-}
-
-// Rule 9: is something wrong with this directive?
-pub fn directive_wrong(
-    s: &[u8],
-    rows: &[u32],
-    n: usize,
-    first: &[u32],
-    next: &[u32],
-    i: usize,
-) -> bool
-    requires { ⌜ Rowed (now s) (now rows) n × Family (rowsIn (now rows) n) (now first) (now next) × (i < n) ⌝ }
-    ensures { λ r. ⌜ r ≡ directiveWrong (docOf (now (s .entry)) (now (rows .entry)) n) i ⌝ }
-{
-    if kind_of(rows, n, i) != KIND_DIRECTIVE {
-        return false;
-    }
-    !is_right(s, rows, n, first, next, i)
 }

@@ -191,7 +191,7 @@ fn rule_at(
         ),
         KIND_ARGUMENT => argument_rule(t, s, rows, n, first, next, inside, at, to, i),
         KIND_DIRECTIVE => rule_if(
-            siblings::directive_wrong(s, rows, n, first, next, i),
+            directives::directive_wrong(s, rows, n, first, next, i),
             RULE_DIRECTIVE,
         ),
         KIND_VARIABLE_DEFINITION => definition_rule(t, book, s, rows, n, first, next, i),

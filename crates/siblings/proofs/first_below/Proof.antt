@@ -1,7 +1,7 @@
 -- From the first right below row p on.
 use mathlib.Core.Path.{_∙_}
 use native.Mathlib.Omega.{arith}
-use Rattle.siblings.proofs.DirectiveLaws.{first-within, first-below}
+use Rattle.siblings.proofs.BesideLaws.{first-within, first-below}
 use Rattle.siblings.proofs.first_below.Statement.{statement}
 use Rattle.siblings.proofs.first_below.Tie as tie
 

@@ -4,8 +4,8 @@ use borrow.Author.Tests.{le-leb, lt-leb}
 use borrow.Author.Needs.{needs}
 use Rattle.paper.specs.Numbers.{kindField}
 use Rattle.constructs.specs.Rowed.{rowIn}
-use Rattle.siblings.proofs.is_selection.Statement.{statement}
-use Rattle.siblings.proofs.is_selection.Tie as tie
+use Rattle.directives.proofs.is_selection.Statement.{statement}
+use Rattle.directives.proofs.is_selection.Tie as tie
 
 kind-of-requires : tie.Need-kind-of-requires
 kind-of-requires c κs = search needs

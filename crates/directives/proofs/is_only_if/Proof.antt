@@ -6,9 +6,9 @@ use Rattle.paper_rules.specs.Rule9Directive.{isIf}
 use Rattle.constructs.specs.Rowed.{docOf}
 use Rattle.constructs.proofs.RowsIn.{rows-count, rowed-sized}
 use Rattle.links.proofs.ChainWalks.{family-room}
-use Rattle.siblings.proofs.DirectiveLaws.{second-below, second-within, only-none, only-more, only-one}
-use Rattle.siblings.proofs.is_only_if.Statement.{statement}
-use Rattle.siblings.proofs.is_only_if.Tie as tie
+use Rattle.directives.proofs.DirectiveLaws.{second-below, second-within, only-none, only-more, only-one}
+use Rattle.directives.proofs.is_only_if.Statement.{statement}
+use Rattle.directives.proofs.is_only_if.Tie as tie
 
 first-below-requires : tie.Need-first-below-requires
 first-below-requires c κs =

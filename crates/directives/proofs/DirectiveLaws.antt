@@ -7,7 +7,7 @@ use native.Mathlib.Omega.{arith}
 use lib.ListN.{getD}
 use lib.Dec.{ltb}
 use borrow.Author.Tests.{eq-eqb, ne-eqb, lt-ltb, le-ltb}
-use Rattle.paper.specs.Numbers.{mostRows, kindArgument, kindDirective, kindVariable, kindBoolean}
+use Rattle.paper.specs.Numbers.{kindArgument, kindDirective, kindVariable, kindBoolean}
 use Rattle.paper.specs.Rows.{Row}
 use Rattle.paper.specs.Tokens.{same}
 use Rattle.paper_types.specs.Lists.{bytes, anyOf}
@@ -21,24 +21,17 @@ use Rattle.constructs.proofs.RowsIn.{rows-count}
 use Rattle.links.specs.Links.{nextWith, Family}
 use Rattle.links.proofs.Nexts.{next-passes, next-most}
 use Rattle.links.proofs.Walks.{and-right}
-use Rattle.links.proofs.ChainWalks.{family-first, family-after}
+use Rattle.links.proofs.ChainWalks.{family-after}
 use Rattle.siblings.specs.Alike.{isLike, isBelow, firstBelow, nextBeside}
 use Rattle.siblings.proofs.BesideLaws.{beside-below}
-use Rattle.siblings.proofs.BelowLaws.{numbers-none, numbers-some, any-next, any-either}
+use Rattle.siblings.proofs.BelowLaws.{any-next}
+use Rattle.directives.proofs.NumberLaws.{numbers-none, numbers-some, any-either}
 
 -- the one of kind k right below row i after the first
 abbrev pub secondBelow : List Row → ℕ → ℕ → ℕ
 secondBelow rs k i = nextWith (isBelow k i) rs (suc (firstBelow rs k i))
 
 module _ (rows : List ℕ) (n : ℕ) (first next : List ℕ) (f : Family (rowsIn rows n) first next) (k i : ℕ) where
-  -- from the first right below row i on
-  module _ (j : ℕ) (h : i ≤ mostRows) (e : j ≡ getD first i 0) where
-    pub first-within : j ≤ n
-    first-within = omega (arith, family-first rows n first next f i h e, rows-count rows n, next-most (below i) (rowsIn rows n) 0 (omega arith))
-
-    pub first-below : nextBeside (rowsIn rows n) k j ≡ firstBelow (rowsIn rows n) k i
-    first-below = beside-below rows n k i 0 j (family-first rows n first next f i h e)
-
   -- from what is beside the first of kind k on
   module _ (a j : ℕ) (l : a < n) (q : a ≡ firstBelow (rowsIn rows n) k i) (e : j ≡ getD next a 0) where
     leads : j ≡ nextWith (below i) (rowsIn rows n) (suc a)

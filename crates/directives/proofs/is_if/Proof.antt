@@ -5,9 +5,9 @@ use borrow.Author.Tests.{not-true, not-false}
 use borrow.Author.Needs.{needs}
 use Rattle.constructs.specs.Rowed.{docOf}
 use Rattle.constructs.proofs.RowsIn.{rows-count, rowed-sized}
-use Rattle.siblings.proofs.DirectiveLaws.{if-other, if-boolean, if-variable}
-use Rattle.siblings.proofs.is_if.Statement.{statement}
-use Rattle.siblings.proofs.is_if.Tie as tie
+use Rattle.directives.proofs.DirectiveLaws.{if-other, if-boolean, if-variable}
+use Rattle.directives.proofs.is_if.Statement.{statement}
+use Rattle.directives.proofs.is_if.Tie as tie
 
 slice-aggregate-is-called : tie.Need-slice-aggregate-is-called
 slice-aggregate-is-called c = search needs

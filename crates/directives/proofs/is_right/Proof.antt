@@ -5,9 +5,9 @@ use borrow.Author.Tests.{not-true, not-false}
 use borrow.Author.Needs.{needs}
 use Rattle.constructs.specs.Rowed.{docOf}
 use Rattle.constructs.proofs.RowsIn.{name-within}
-use Rattle.siblings.proofs.DirectiveLaws.{known-name, parent-selection, right-unknown, right-elsewhere, right-repeated, right-once}
-use Rattle.siblings.proofs.is_right.Statement.{statement}
-use Rattle.siblings.proofs.is_right.Tie as tie
+use Rattle.directives.proofs.DirectiveLaws.{known-name, parent-selection, right-unknown, right-elsewhere, right-repeated, right-once}
+use Rattle.directives.proofs.is_right.Statement.{statement}
+use Rattle.directives.proofs.is_right.Tie as tie
 
 name-of-requires : tie.Need-name-of-requires
 name-of-requires c κs = search needs

@@ -2,9 +2,9 @@
 use mathlib.Core.Path.{sym, _∙_}
 use borrow.Author.Needs.{needs}
 use Rattle.constructs.specs.Rowed.{docOf}
-use Rattle.siblings.proofs.DirectiveLaws.{wrong-other, wrong-right}
-use Rattle.siblings.proofs.directive_wrong.Statement.{statement}
-use Rattle.siblings.proofs.directive_wrong.Tie as tie
+use Rattle.directives.proofs.DirectiveLaws.{wrong-other, wrong-right}
+use Rattle.directives.proofs.directive_wrong.Statement.{statement}
+use Rattle.directives.proofs.directive_wrong.Tie as tie
 
 kind-of-requires : tie.Need-kind-of-requires
 kind-of-requires c κs = search needs
