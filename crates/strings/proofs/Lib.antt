@@ -6,4 +6,3 @@ pub mod PartLaws
 pub mod CharacterRuns
 pub mod CharacterScan
 pub mod RunScan
-pub mod StringLaws

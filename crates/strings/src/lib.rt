@@ -1,13 +1,12 @@
-// Strings, comments and words, and what the token reader answers.
+// The parts of strings and comments; words; and what the token reader answers.
 use characters::character;
 ghost use mathlib.Core.Path.{_≡_};
 ghost use Prim.Native.Nat.{_+_, _-_, _≤_, _<_};
-ghost use lib.ListN.{length, take, drop, getD};
+ghost use lib.ListN.{length, take, drop};
 ghost use Rattle.paper.specs.Lexical.{hitsByte, hex, escaped};
 ghost use Rattle.paper.specs.Tokens.{same};
 ghost use Rattle.characters.specs.Characters.{fits, characterSize};
 ghost use Rattle.strings.specs.Head.{wordOf};
-ghost use Rattle.strings.specs.Piece.{tokenHere, ignoredHere};
 ghost use Rattle.strings.specs.Parts.{fourHex, escapedSize, withOne, partSize, Ended};
 
 // What stands at a place: a token, or bytes that start none (also a string or a comment with bad text).
@@ -192,24 +191,6 @@ pub fn string_end(s: &[u8], from: usize) -> usize
     i
 }
 
-// The string whose quote stands at `at`.
-pub fn string(s: &[u8], at: usize) -> TokenRead
-    requires { ⌜ (at < length (now s)) × (getD (now s) at 0 ≡ 34) ⌝ }
-    ensures { λ r. ⌜ r ≡ tokenHere at (drop at (now (s .entry))) ⌝ }
-{
-    let e = string_end(s, at + 1);
-    if e < s.len() {
-        if s[e] == 34 {
-            return TokenRead::Token {
-                kind: TOKEN_STRING,
-                start: at,
-                end: e + 1,
-            };
-        }
-    }
-    TokenRead::Bad(at)
-}
-
 // One past the last of a comment's characters that stand from `from` on.
 pub fn comment_end(s: &[u8], from: usize) -> usize
     requires { ⌜ from ≤ length (now s) ⌝ }
@@ -224,25 +205,6 @@ pub fn comment_end(s: &[u8], from: usize) -> usize
         i += n;
     }
     i
-}
-
-// The size of the comment whose # stands at i, or 0 where it has bad text.
-pub fn comment(s: &[u8], i: usize) -> usize
-    requires { ⌜ (i < length (now s)) × (getD (now s) i 0 ≡ 35) ⌝ }
-    ensures { λ r. ⌜ r ≡ ignoredHere (drop i (now (s .entry))) ⌝ }
-{
-    let e = comment_end(s, i + 1);
-    if s.len() <= e {
-        return e - i;
-    }
-    let after = s[e];
-    if after == 10 {
-        return e - i;
-    }
-    if after == 13 {
-        return e - i;
-    }
-    0
 }
 
 // Whether the bytes of s from `at` on begin with those of w.

@@ -1,8 +1,8 @@
 -- `string`: by what stands where its characters end.
-use Rattle.strings.proofs.StringLaws.{string-found, string-other, string-unended}
+use Rattle.texts.proofs.StringLaws.{string-found, string-other, string-unended}
 use borrow.Author.Needs.{needs}
-use Rattle.strings.proofs.string.Statement.{statement}
-use Rattle.strings.proofs.string.Tie as tie
+use Rattle.texts.proofs.string.Statement.{statement}
+use Rattle.texts.proofs.string.Tie as tie
 
 add-string-end : tie.Need-add-string-end
 add-string-end c = search needs

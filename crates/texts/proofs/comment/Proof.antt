@@ -1,10 +1,10 @@
 -- `comment`: by what stands where its characters end.
 use native.Mathlib.Omega.{arith}
 use Rattle.strings.proofs.CharacterRuns.{run-past}
-use Rattle.strings.proofs.StringLaws.{comment-whole, comment-lf, comment-cr, comment-bad}
+use Rattle.texts.proofs.StringLaws.{comment-whole, comment-lf, comment-cr, comment-bad}
 use borrow.Author.Needs.{needs}
-use Rattle.strings.proofs.comment.Statement.{statement}
-use Rattle.strings.proofs.comment.Tie as tie
+use Rattle.texts.proofs.comment.Statement.{statement}
+use Rattle.texts.proofs.comment.Tie as tie
 
 add-comment-end : tie.Need-add-comment-end
 add-comment-end c = search needs
