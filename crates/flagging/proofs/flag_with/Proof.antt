@@ -1,7 +1,7 @@
 use Rattle.spreading.proofs.LinkLaws.{graph-of}
 use borrow.Author.Needs.{needs}
-use Rattle.queries.proofs.flag_with.Statement.{statement}
-use Rattle.queries.proofs.flag_with.Tie as tie
+use Rattle.flagging.proofs.flag_with.Statement.{statement}
+use Rattle.flagging.proofs.flag_with.Tie as tie
 
 owners-requires : tie.Need-owners-requires
 owners-requires c κs = search needs
