@@ -64,6 +64,16 @@ def wrapped_users():
     return made, largest(lambda n: ' '.join(heads + [fragment('F', uses('v', n))]), MOST_ROWS)
 
 
+def kinds(operations):
+    """Operations that reach uses of their variable at 80 places in turn: more than are remembered as alike."""
+    letters = [chr(ord('a') + i) for i in range(MOST_ARGUMENTS)]
+    fields = ['t', 'u', 'v', 'w', 'x']
+    types = [scalar('I'), object_type('Query', [Member(f, 'I', [Member(a, 'I') for a in letters]) for f in fields])]
+    heads = [f'query {name}($a:I){{...F}}' for name in alike(operations, 2, LETTERS)]
+    asked = [f'{field}({" ".join(f"{a}:$a" for a in letters)})' for field in fields]
+    return types, largest(lambda n: ' '.join(heads + [fragment('F', *(asked[i % len(asked)] for i in range(n)))]), MOST_ROWS)
+
+
 def dag(spreads, last=''):
     """64 fragments, each of which spreads so many of those behind it."""
     names = alike(MOST_FRAGMENTS, 3, LETTERS)
@@ -156,6 +166,8 @@ def worst():
     yield 'w_users_long', 0, 'as w_users, with a name of 7 bytes', PLAIN, users(255, 1, 7)
     yield 'w_users_wrapped', 0, 'as w_users, with a type of 18 bytes and seven wrappers', *wrapped_users()
     yield 'w_users_few', 0, '60 operations that reach 1,803 uses', PLAIN, users(60, 1, 6)
+    yield 'w_kinds', 0, '300 operations that reach uses of their variable at 80 places in turn', *kinds(300)
+    yield 'w_kinds_few', 0, '60 operations that reach uses of their variable at 80 places in turn', *kinds(60)
     yield 'w_users_of_2', 0, '170 operations of 2 variables that reach uses of the second', PLAIN, users(170, 2, 6)
     yield 'w_users_of_8', 0, '56 operations of 8 variables that reach uses of the last', PLAIN, users(56, 8, 6)
     yield 'w_users_of_64', 0, '8 operations of 64 variables that reach uses of the last', PLAIN, users(8, MOST_VARIABLES, 8)
