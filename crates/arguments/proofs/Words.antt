@@ -14,10 +14,11 @@ use Rattle.paper.specs.Tokens.{Text, token, nameClass}
 use Rattle.paper.specs.Sizes.{Counts, opens, closes, overCounts}
 use Rattle.paper.proofs.Lexing.{from}
 use Rattle.paper.proofs.Machine.{fst, step}
-use Rattle.paper.proofs.Theory.{T→eq, and-l, and-r, choose-first, step-by}
-use Rattle.paper.proofs.Test.{all, implies, implies-out, all-at}
+use Rattle.paper.proofs.Bools.{T→eq, and-l, and-r}
+use Rattle.theory.proofs.Theory.{choose-first, step-by}
+use Rattle.theory.proofs.Test.{all, implies, implies-out, all-at}
 use Rattle.paper.proofs.Tables.{graphql, factored, allC, atC}
-use Rattle.paper.proofs.Checked.{fits}
+use Rattle.theory.proofs.Checked.{fits}
 use Rattle.paper.proofs.Going.{Stack, State, st, Out, go, goes}
 use Rattle.strings.specs.Head.{headOf, kindOf, wordOf, wordNumber}
 use Rattle.strings.specs.declared.TokenRead.the-variants.{Token}

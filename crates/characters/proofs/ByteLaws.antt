@@ -11,7 +11,7 @@ use lib.Dec.{T, ltb, leb}
 use lib.ListN.{length, getD, drop}
 use lib.Seq.{drop-cons}
 use Rattle.paper.specs.Lexical.{span, oneOf, hitsByte, letter, letterOrDigit, digit}
-use Rattle.paper.proofs.Theory.{and-l, and-r}
+use Rattle.paper.proofs.Bools.{and-l, and-r}
 
 -- the bytes from i on are the one at i and those from i + 1 on
 pub front : (s : List ℕ) (i : ℕ) → i < length s → drop i s ≡ getD s i 0 ∷ drop (i + 1) s

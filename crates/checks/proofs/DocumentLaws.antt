@@ -12,9 +12,9 @@ use Rattle.paper.specs.Refusals.{numberOf}
 use Rattle.paper.specs.Calls.{filled, tells}
 use Rattle.paper.specs.declared.Refusal.{Refusal}
 use Rattle.paper.proofs.Lexing.{from}
-use Rattle.paper.proofs.TokensLaws.{tokens-are}
-use Rattle.paper.proofs.GoingSaid.{going-halt}
-use Rattle.paper.proofs.CallsGoing.{from-rising}
+use Rattle.theory.proofs.TokensLaws.{tokens-are}
+use Rattle.theory.proofs.GoingSaid.{going-halt}
+use Rattle.theory.proofs.CallsGoing.{from-rising}
 use Rattle.paper_types.specs.Types.{tableOf}
 use Rattle.paper_types.specs.Judging.{judge, tableNumber}
 use Rattle.paper_types.specs.TableCalls.{tellsTable}

@@ -41,10 +41,10 @@ use Rattle.paper_rules.proofs.DocumentCallsOne as document-calls
 use Rattle.paper_types.proofs.TableCallsOne as table-calls
 use Rattle.paper_types.proofs.JudgingLaws as judging
 use Rattle.paper_types.proofs.SubTypesLaws as sub-types
-use Rattle.paper.proofs.TokensLaws as tokens
-use Rattle.paper.proofs.ReadingLaws as reading
-use Rattle.paper.proofs.SaidOne as said
-use Rattle.paper.proofs.CallsOne as calls
+use Rattle.theory.proofs.TokensLaws as tokens
+use Rattle.theory.proofs.ReadingLaws as reading
+use Rattle.theory.proofs.SaidOne as said
+use Rattle.theory.proofs.CallsOne as calls
 use Rattle.documents.specs.Documents.{Ended}
 use Rattle.reader.specs.declared.Cursor.{Cursor}
 use Rattle.reader.specs.declared.Read.the-variants.{Done, Refused}

@@ -17,13 +17,13 @@ use Rattle.paper.specs.declared.Refusal.the-variants.{Buffer, OverLength, NoTok
 use Rattle.paper.specs.Refusals.{numberOf, shownInText}
 use Rattle.paper.specs.Calls.{filled, tells}
 use Rattle.paper.specs.Language.{ConstValue, ConstListValue, ConstValue+, ConstValue*, ConstObjectValue, ConstObjectField+, ConstObjectField*, ConstObjectField, EnumValue, Name}
-use Rattle.paper.proofs.Theory.{and-l, and-r, and-i}
-use Rattle.paper.proofs.Test.{all, all-at, all-mem, implies, implies-out}
+use Rattle.paper.proofs.Bools.{and-l, and-r, and-i}
+use Rattle.theory.proofs.Test.{all, all-at, all-mem, implies, implies-out}
 use Rattle.paper.proofs.Tables.{allN, numN, atN}
 use Rattle.paper.proofs.Lexing.{from}
-use Rattle.paper.proofs.TokensLaws.{tokens-are}
-use Rattle.paper.proofs.GoingSaid.{going-whole, going-halt}
-use Rattle.paper.proofs.CallsGoing.{from-rising}
+use Rattle.theory.proofs.TokensLaws.{tokens-are}
+use Rattle.theory.proofs.GoingSaid.{going-whole, going-halt}
+use Rattle.theory.proofs.CallsGoing.{from-rising}
 use Rattle.documents.specs.Documents.{Ended}
 use Rattle.reader.specs.declared.Cursor.{Cursor}
 use Rattle.reader.specs.declared.Read.the-variants.{Done, Refused}

@@ -13,10 +13,10 @@ use Rattle.paper.specs.Rows.{Row, flat}
 use Rattle.paper.specs.Reading.{rows-are, Said, accepts}
 use Rattle.paper.specs.Calls.{filled}
 use Rattle.paper.proofs.Lexing.{from}
-use Rattle.paper.proofs.TokensLaws.{tokens-are}
-use Rattle.paper.proofs.RowCells.{flat-length}
+use Rattle.theory.proofs.TokensLaws.{tokens-are}
+use Rattle.theory.proofs.RowCells.{flat-length}
 use Rattle.paper.proofs.Going.{State, start, whole, go}
-use Rattle.paper.proofs.GoingSaid.{going-whole}
+use Rattle.theory.proofs.GoingSaid.{going-whole}
 use Rattle.constructs.specs.Rowed.{rowAt, rowsIn, Rowed}
 use Rattle.constructs.proofs.TextRows.{Fine, text-rows}
 use Rattle.constructs.proofs.FlatRows.{flat-at, flat-rows}

@@ -14,7 +14,7 @@ use Rattle.paper.specs.Lexical.{What}
 use Rattle.paper.specs.Tokens.{Tok, Text, Longest, Tokens, ends, starts-none, skips, comments, bad-comment, tokens}
 use Rattle.paper.specs.Rows.{Row, Book, blank, change, top, pop, startOf, stopOf, begun, ofKind, withName, wrapped, stopping, note, taken, rest, book, rowsOf}
 use Rattle.paper.specs.Reading.{tokensOf}
-use Rattle.paper.proofs.RowCells.{change-length}
+use Rattle.theory.proofs.RowCells.{change-length}
 use Rattle.paper_rules.specs.Constructs.{noRow}
 
 -- each token lies within the first l bytes

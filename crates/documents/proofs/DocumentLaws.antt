@@ -15,8 +15,8 @@ use Rattle.paper.specs.declared.Refusal.{Refusal}
 use Rattle.paper.specs.declared.Refusal.the-variants.{NoGoing}
 use Rattle.paper.proofs.Lexing.{from}
 use Rattle.paper.proofs.Machine.{fst, choose, step, enter}
-use Rattle.paper.proofs.Theory.{T→eq}
-use Rattle.paper.proofs.Test.{all, implies, implies-out, all-at}
+use Rattle.paper.proofs.Bools.{T→eq}
+use Rattle.theory.proofs.Test.{all, implies, implies-out, all-at}
 use Rattle.paper.proofs.Tables.{graphql, factored, allC, atC}
 use Rattle.paper.proofs.Going.{Stack, State, st, start, whole, halt, go}
 use Rattle.strings.specs.Head.{headOf, wordNumber}

@@ -16,10 +16,11 @@ use Rattle.paper.specs.Sizes.{Counts, opens, closes, overCounts}
 use Rattle.paper.specs.declared.Refusal.the-variants.{NoGoing, TooManyRows, TooMany}
 use Rattle.paper.proofs.Lexing.{from}
 use Rattle.paper.proofs.Machine.{fst, nul, choose, step}
-use Rattle.paper.proofs.Theory.{T→eq, choose-first, choose-null, step-by, step-none}
-use Rattle.paper.proofs.Test.{all, implies, implies-out, all-at}
+use Rattle.paper.proofs.Bools.{T→eq}
+use Rattle.theory.proofs.Theory.{choose-first, choose-null, step-by, step-none}
+use Rattle.theory.proofs.Test.{all, implies, implies-out, all-at}
 use Rattle.paper.proofs.Tables.{graphql, factored, allC, atC}
-use Rattle.paper.proofs.Checked.{fits}
+use Rattle.theory.proofs.Checked.{fits}
 use Rattle.paper.proofs.Going.{Stack, State, st, halt, go, goes, many}
 use Rattle.strings.specs.Head.{kindOf, wordNumber, wordOf}
 use Rattle.reader.specs.Reader.{Looks}

@@ -1,32 +1,11 @@
--- Laws of the definitions, and the machine by which they are proved. Nothing here need be believed.
+-- The machine by which the definitions are computed, and a few worked examples. Nothing here need be believed.
+-- Crate `theory` has the laws of the definitions, crate `examples` the other examples.
+pub mod Bools
 pub mod Machine
-pub mod Theory
-pub mod Test
 pub mod Longest
-pub mod Same
 pub mod LexTables
-pub mod LexChecked
-pub mod LexSame
 pub mod Lexing
-pub mod FromLaws
-pub mod TokensLaws
 pub mod Tables
-pub mod Checked
-pub mod SameLanguage
-pub mod ReadingLaws
 pub mod Going
-pub mod RowCells
-pub mod GoingRows
-pub mod Marks
-pub mod GoingSums
-pub mod GoingHeed
-pub mod Flaws
-pub mod GoingSaid
-pub mod SaidOne
-pub mod CallsOne
-pub mod CallsGoing
 pub mod Worked
-pub mod Examples
-pub mod ExamplesStops
-pub mod ExamplesText
-pub mod ExamplesSizes
+pub mod Samples

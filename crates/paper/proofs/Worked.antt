@@ -22,6 +22,10 @@ abbrev pub bytes : String → List ℕ
 bytes empty = []
 bytes (c then s) = code c ∷ bytes s
 
+-- what stands between quotation marks, as the value of an argument
+abbrev pub inString : List ℕ → List ℕ
+inString s = bytes "{a(x:\"" ++ s ++ bytes "\")}"
+
 -- the two agree on each of a list
 abbrev pub agree : {A : Type 0} → (A → List ℕ) → (A → List ℕ) → List A → Bool
 agree f g [] = true

@@ -13,8 +13,8 @@ use Rattle.paper.specs.Reading.{Answer, rows-are, refuses, Said}
 use Rattle.paper.specs.Calls.{filled, tells}
 use Rattle.paper.specs.declared.Refusal.{Refusal}
 use Rattle.paper.specs.declared.Refusal.the-variants.{Buffer, OverLength}
-use Rattle.paper.proofs.SaidOne.{said-one}
-use Rattle.paper.proofs.TokensLaws.{tokens-one}
+use Rattle.theory.proofs.SaidOne.{said-one}
+use Rattle.theory.proofs.TokensLaws.{tokens-one}
 use Rattle.paper_types.specs.TableNumbers.{mostTable, inputTable}
 use Rattle.paper_types.specs.Types.{tableOf}
 use Rattle.paper_types.specs.Judging.{judge, tableNumber}

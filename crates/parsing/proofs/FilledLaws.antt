@@ -12,7 +12,7 @@ use Rattle.paper.specs.Calls.{filled}
 use Rattle.paper.specs.declared.Refusal.{Refusal}
 use Rattle.paper.proofs.Lexing.{from}
 use Rattle.paper.proofs.Going.{State, start, whole, go}
-use Rattle.paper.proofs.GoingSaid.{going-whole}
+use Rattle.theory.proofs.GoingSaid.{going-whole}
 use Rattle.documents.specs.Documents.{Ended}
 use Rattle.reader.specs.declared.Cursor.{Cursor}
 use Rattle.reader.specs.declared.Read.{Read}

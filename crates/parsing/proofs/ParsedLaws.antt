@@ -10,7 +10,7 @@ use Rattle.paper.specs.Language.{Document}
 use Rattle.paper.specs.Refusals.{numberOf}
 use Rattle.paper.specs.Calls.{filled, tells, Parsed, short-rows, over-length}
 use Rattle.paper.specs.declared.Refusal.{Refusal}
-use Rattle.paper.proofs.CallsGoing.{parsed-whole, parsed-halt}
+use Rattle.theory.proofs.CallsGoing.{parsed-whole, parsed-halt}
 use Rattle.buffers.specs.Buffers.{Asks, long-document, long-table, Sized}
 use Rattle.buffers.specs.Buffers.{short-rows as asks-rows}
 use Rattle.buffers.specs.declared.Sizes.{Sizes}

@@ -7,7 +7,7 @@ use lib.ListN.{length}
 use Rattle.paper.specs.Numbers.{mostText}
 use Rattle.paper.specs.Tokens.{Tok, Text, over, bad, token}
 use Rattle.paper.proofs.Lexing.{from}
-use Rattle.paper.proofs.FromLaws.{from-token, from-over, from-bad}
+use Rattle.theory.proofs.FromLaws.{from-token, from-over, from-bad}
 use Rattle.strings.specs.Head.{headOf, kindOf}
 use Rattle.strings.specs.declared.TokenRead.{TokenRead}
 use Rattle.strings.specs.declared.TokenRead.the-variants.{Token, Bad}

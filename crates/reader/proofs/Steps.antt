@@ -18,13 +18,14 @@ use Rattle.paper.specs.Sizes.{Counts, opens, closes, overCounts}
 use Rattle.paper.specs.declared.Refusal.{Refusal}
 use Rattle.paper.specs.declared.Refusal.the-variants.{NoGoing, TooDeep, TooManyRows, TooMany}
 use Rattle.paper.proofs.Lexing.{from}
-use Rattle.paper.proofs.FromLaws.{from-token, from-over, from-bad}
+use Rattle.theory.proofs.FromLaws.{from-token, from-over, from-bad}
 use Rattle.paper.proofs.Machine.{fst, nul, choose, step, takeIf, Step, took, refused, over as over-stack}
-use Rattle.paper.proofs.Theory.{T→eq, and-l, and-r, choose-first, choose-null, step-by, step-none}
-use Rattle.paper.proofs.Test.{all, implies, implies-out, all-at}
+use Rattle.paper.proofs.Bools.{T→eq, and-l, and-r}
+use Rattle.theory.proofs.Theory.{choose-first, choose-null, step-by, step-none}
+use Rattle.theory.proofs.Test.{all, implies, implies-out, all-at}
 use Rattle.paper.proofs.Tables.{graphql, factored, allC, atC}
 use Rattle.paper.specs.Language.{numC}
-use Rattle.paper.proofs.Checked.{fits}
+use Rattle.theory.proofs.Checked.{fits}
 use Rattle.paper.proofs.Going.{Stack, State, st, Out, halt, go, goes, heed, deep, many, marked}
 use Rattle.strings.specs.Head.{headOf, kindOf}
 use Rattle.strings.specs.declared.TokenRead.{TokenRead}

@@ -10,10 +10,11 @@ use Rattle.paper.specs.Grammar.{nt, tm, tok}
 use Rattle.paper.specs.Lexical.{Lex, Set, lexical, hitsByte, plain, commented, backslash, escaped, u, hex, lead2, e0, lead3, ed, tail, tailHigh, tailLow}
 use Rattle.paper.specs.Lexical.{Wide, Escape, StringCharacter, CommentCharacter}
 use Rattle.paper.proofs.Machine.{took, step, choose, enter}
-use Rattle.paper.proofs.Theory.{step-by, step-none, choose-first, or-l}
+use Rattle.theory.proofs.Theory.{step-by, step-none, choose-first}
+use Rattle.paper.proofs.Bools.{or-l}
 use Rattle.paper.proofs.Longest.{scan}
 use Rattle.paper.proofs.LexTables.{lexer, lexFactored}
-use Rattle.paper.proofs.LexChecked.{fitsL}
+use Rattle.theory.proofs.LexChecked.{fitsL}
 use Rattle.characters.specs.Characters.{sized, wideSize, characterSize}
 use Rattle.strings.specs.Parts.{escapedSize, withOne, partSize, fourHex}
 use Rattle.strings.proofs.ReadLaws.{Stack}

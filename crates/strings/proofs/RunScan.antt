@@ -13,10 +13,11 @@ use Rattle.paper.specs.Grammar.{nt, tm, act}
 use Rattle.paper.specs.Language.{string}
 use Rattle.paper.specs.Lexical.{Lex, What, span, is, comment, lexical, hitsByte, quote, StringCharacter, StringCharacter*, CommentCharacter, CommentCharacter*}
 use Rattle.paper.proofs.Machine.{step, choose, enter}
-use Rattle.paper.proofs.Theory.{step-by, choose-first, choose-null, or-l, or-cases, and-l, and-r}
+use Rattle.theory.proofs.Theory.{step-by, choose-first, choose-null}
+use Rattle.paper.proofs.Bools.{or-l, or-cases, and-l, and-r}
 use Rattle.paper.proofs.Longest.{scan}
 use Rattle.paper.proofs.LexTables.{lexer, lexFactored}
-use Rattle.paper.proofs.LexChecked.{fitsL}
+use Rattle.theory.proofs.LexChecked.{fitsL}
 use Rattle.characters.specs.Characters.{characterSize}
 use Rattle.strings.specs.Parts.{partSize}
 use Rattle.strings.proofs.ReadLaws.{Stack}

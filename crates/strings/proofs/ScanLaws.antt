@@ -11,7 +11,7 @@ use Rattle.paper.specs.Grammar.{tm, Ev, tok}
 use Rattle.paper.specs.Lexical.{Lex, Set, What, hitsByte}
 use Rattle.paper.specs.Tokens.{whatOf}
 use Rattle.paper.proofs.Machine.{Step, took, emptied, refused, spent, step}
-use Rattle.paper.proofs.Theory.{T→eq}
+use Rattle.paper.proofs.Bools.{T→eq}
 use Rattle.paper.proofs.Longest.{Match, scan, longer, further, here}
 use Rattle.paper.proofs.LexTables.{lexer}
 use Rattle.characters.specs.Characters.{fits, sized}

@@ -15,8 +15,9 @@ use Rattle.paper.specs.Lexical.{What, is, ignored, comment, Piece}
 use Rattle.paper.specs.Tokens.{Text, over, bad, token, nameClass, whatOf, lineEnd}
 use Rattle.paper.proofs.Longest.{Match, scan}
 use Rattle.paper.proofs.LexTables.{lexer}
-use Rattle.paper.proofs.Lexing.{from, found, shown, orBad, piece-byte}
-use Rattle.paper.proofs.FromLaws.{from-token, from-over, from-bad}
+use Rattle.paper.proofs.Lexing.{from, found, shown, orBad}
+use Rattle.theory.proofs.LexingLaws.{piece-byte}
+use Rattle.theory.proofs.FromLaws.{from-token, from-over, from-bad}
 use Rattle.strings.specs.Head.{kindOf, headOf, wordOf}
 use Rattle.strings.specs.Piece.{pieceAt}
 use Rattle.strings.specs.declared.TokenRead.the-variants.{Token, Bad}

@@ -11,8 +11,9 @@ use Rattle.paper.specs.Lexical.{What, is, ignored, comment, Piece}
 use Rattle.paper.specs.Tokens.{whatOf, lineEnd}
 use Rattle.paper.proofs.Longest.{Match, scan}
 use Rattle.paper.proofs.LexTables.{lexer}
-use Rattle.paper.proofs.Lexing.{from, found, shown, orBad, piece-byte}
-use Rattle.paper.proofs.FromLaws.{piece-within}
+use Rattle.paper.proofs.Lexing.{from, found, shown, orBad}
+use Rattle.theory.proofs.LexingLaws.{piece-byte}
+use Rattle.theory.proofs.FromLaws.{piece-within}
 use Rattle.strings.specs.Head.{headOf}
 use Rattle.strings.specs.Piece.{pieceAt, tokenHere, tokenOf, asToken, ignoredHere, ignoredOf, asIgnored}
 use Rattle.strings.specs.declared.TokenRead.the-variants.{Token, Bad}

@@ -10,12 +10,13 @@ use Rattle.paper.specs.Grammar.{Sym, nt, tm, act, Ev, Derives, done, take, note
 use Rattle.paper.specs.Language.{Class, sameC, isName, bang, dollar, parenL, parenR, spread, colon, equals, atSign, bracketL, bracketR, braceL, bar, braceR, n-query, n-mutation, n-subscription, n-fragment, n-on, n-true, n-false, n-null, n-other, int, float, string}
 use Rattle.paper.specs.Lexical.{Lex, Set, What, is, ignored, comment, Piece, lexical, hitsByte}
 use Rattle.paper.specs.Tokens.{orElse, same, nameClass, classed, whatOf}
-use Rattle.paper.proofs.Theory.{and-l, and-r, and-i}
-use Rattle.paper.proofs.Test.{all, all-at, all-mem}
-use Rattle.paper.proofs.Longest.{Match, scan, Best}
+use Rattle.paper.proofs.Bools.{and-l, and-r, and-i}
+use Rattle.theory.proofs.Test.{all, all-at, all-mem}
+use Rattle.paper.proofs.Longest.{Match, scan}
+use Rattle.theory.proofs.LongestLaws.{Best}
 use Rattle.paper.proofs.LexTables.{lexer, lexFactored, allL, numL, atL}
-use Rattle.paper.proofs.LexChecked.{fitsL}
-use Rattle.paper.proofs.Lexing.{piece}
+use Rattle.theory.proofs.LexChecked.{fitsL}
+use Rattle.theory.proofs.LexingLaws.{piece}
 use Rattle.strings.specs.Head.{kindOf}
 
 or-kind : (b : Bool) (c d : Class) → kindOf c ≡ 1 → kindOf d ≡ 1 → kindOf (orElse b c d) ≡ 1

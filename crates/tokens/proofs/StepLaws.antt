@@ -9,9 +9,10 @@ use Rattle.paper.specs.Grammar.{nt, tm, act, tok, mark}
 use Rattle.paper.specs.Language.{n-other, int, float}
 use Rattle.paper.specs.Lexical.{Lex, Set, is, Piece, Name, NameRest*, Digit*, Digit+, Sign?, ExponentPart, ExponentPart?, NumberRest, Whole, digit, letter, letterOrDigit, dot, e, sign, lexical, hitsByte}
 use Rattle.paper.proofs.Machine.{took, emptied, refused, pick, fst, nul, step, enter, choose}
-use Rattle.paper.proofs.Theory.{or-l, pick-none, step-by, step-none, choose-first, choose-null}
+use Rattle.paper.proofs.Bools.{or-l}
+use Rattle.theory.proofs.Theory.{pick-none, step-by, step-none, choose-first, choose-null}
 use Rattle.paper.proofs.LexTables.{lexer, lexFactored}
-use Rattle.paper.proofs.LexChecked.{fitsL}
+use Rattle.theory.proofs.LexChecked.{fitsL}
 use Rattle.strings.proofs.ReadLaws.{Stack, Repeats}
 
 eq→T : (b : Bool) → b ≡ true → T b

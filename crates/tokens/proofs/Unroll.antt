@@ -12,7 +12,8 @@ use Rattle.paper.specs.Lexical.{What, is, ignored, comment, Piece}
 use Rattle.paper.specs.Tokens.{Text, over, whatOf, lineEnd}
 use Rattle.paper.proofs.Longest.{Match, scan}
 use Rattle.paper.proofs.LexTables.{lexer}
-use Rattle.paper.proofs.Lexing.{text, from, found, shown, orBad, piece-byte, rounds}
+use Rattle.paper.proofs.Lexing.{text, from, found, shown, orBad}
+use Rattle.theory.proofs.LexingLaws.{piece-byte, rounds}
 use Rattle.strings.specs.Piece.{pieceAt, ignoredHere, ignoredOf, asIgnored}
 
 pub piece-is : (bs : List ℕ) → scan lexer (nt Piece ∷ []) bs ≡ pieceAt bs

@@ -11,11 +11,13 @@ use Rattle.paper.specs.Language.{int, float}
 use Rattle.paper.specs.Lexical.{Lex, Set, What, is, ignored, comment, Piece, Number, NumberRest, lexical, hitsByte, letter, digit, span}
 use Rattle.paper.specs.Tokens.{whatOf}
 use Rattle.paper.proofs.Machine.{Step, took, emptied, refused, spent, step, enter, choose}
-use Rattle.paper.proofs.Theory.{and-l, and-r, and-i, none≢some, Kept, kept-step}
-use Rattle.paper.proofs.Test.{all, all-at, all-mem, implies, implies-out}
-use Rattle.paper.proofs.Longest.{Match, scan, longer, further, Best, best}
+use Rattle.paper.proofs.Bools.{and-l, and-r, and-i}
+use Rattle.theory.proofs.Theory.{none≢some, Kept, kept-step}
+use Rattle.theory.proofs.Test.{all, all-at, all-mem, implies, implies-out}
+use Rattle.paper.proofs.Longest.{Match, scan, longer, further}
+use Rattle.theory.proofs.LongestLaws.{Best, best}
 use Rattle.paper.proofs.LexTables.{lexer, lexFactored, allL, numL, atL, sameL}
-use Rattle.paper.proofs.LexChecked.{fitsL, followL}
+use Rattle.theory.proofs.LexChecked.{fitsL, followL}
 use Rattle.strings.specs.Piece.{pieceAt, tokenHere, tokenOf, asToken, ignoredHere, ignoredOf, asIgnored}
 use Rattle.tokens.specs.Skip.{punctuatorOf}
 use Rattle.strings.specs.declared.TokenRead.the-variants.{Bad}

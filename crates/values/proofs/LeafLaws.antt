@@ -16,10 +16,10 @@ use Rattle.paper.specs.Rows.{top}
 use Rattle.paper.specs.Sizes.{Counts, kinded, overCounts, opens, closes}
 use Rattle.paper.specs.declared.Refusal.the-variants.{TooManyRows}
 use Rattle.paper.proofs.Lexing.{from}
-use Rattle.paper.proofs.FromLaws.{from-token}
+use Rattle.theory.proofs.FromLaws.{from-token}
 use Rattle.paper.proofs.Machine.{fst, choose}
-use Rattle.paper.proofs.Theory.{and-l}
-use Rattle.paper.proofs.Test.{all, implies, implies-out, all-at}
+use Rattle.paper.proofs.Bools.{and-l}
+use Rattle.theory.proofs.Test.{all, implies, implies-out, all-at}
 use Rattle.paper.proofs.Tables.{graphql, factored, allC, atC}
 use Rattle.paper.proofs.Going.{Stack, st, go, halt}
 use Rattle.strings.specs.Head.{headOf, kindOf, wordOf, wordNumber}

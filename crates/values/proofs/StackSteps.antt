@@ -15,10 +15,11 @@ use Rattle.paper.specs.Sizes.{Counts, opens, closes, overCounts}
 use Rattle.paper.specs.declared.Refusal.the-variants.{TooManyRows}
 use Rattle.paper.proofs.Lexing.{from}
 use Rattle.paper.proofs.Machine.{fst, choose, step}
-use Rattle.paper.proofs.Theory.{T→eq, and-l, and-r, choose-first, choose-null, step-by, step-none}
-use Rattle.paper.proofs.Test.{all, implies}
+use Rattle.paper.proofs.Bools.{T→eq, and-l, and-r}
+use Rattle.theory.proofs.Theory.{choose-first, choose-null, step-by, step-none}
+use Rattle.theory.proofs.Test.{all, implies}
 use Rattle.paper.proofs.Tables.{graphql, factored, allC}
-use Rattle.paper.proofs.Checked.{fits}
+use Rattle.theory.proofs.Checked.{fits}
 use Rattle.paper.proofs.Going.{Stack, State, st, halt, go, goes, ended}
 use Rattle.reader.specs.declared.Cursor.{Cursor}
 use Rattle.reader.specs.Reader.{Looks}

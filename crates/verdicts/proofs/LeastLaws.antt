@@ -6,7 +6,7 @@ use mathlib.Core.List.{List, [], _∷_}
 use Prim.Native.Nat.{ℕ, _≤_, _<_}
 use native.Mathlib.Omega.{arith}
 use lib.Dec.{T, eqb, ltb, eqb→eq, ltb→lt}
-use Rattle.paper.proofs.Theory.{and-l, and-r}
+use Rattle.paper.proofs.Bools.{and-l, and-r}
 use Rattle.paper_types.specs.Types.{Table}
 use Rattle.paper_rules.specs.Constructs.{Doc, kindOf}
 use Rattle.paper_rules.specs.QueryRules.{Broken}

@@ -8,26 +8,26 @@ use native.Mathlib.Nat.{le-refl}
 use native.Mathlib.Omega.{arith}
 use lib.Dec.{T, ltb, nltb→le, not-T}
 use lib.ListN.{length, take}
 use Rattle.paper.specs.Grammar.{nt, Ev, tok, toks, Derives}
 use Rattle.paper.specs.Numbers.{mostRows, rowSize, rowsSize}
 use Rattle.paper.specs.Language.{Class, Terminal, hits, Mark, Part}
 use Rattle.paper.specs.Tokens.{Tok, Text, over, bad, token}
 use Rattle.paper.specs.Rows.{Row, Book, blank, book, taken, rowsOf, flat}
 use Rattle.paper.specs.Sizes.{Sums, nothing, closes, leveled, counted, sums, overLevels, overRows, overCounts}
 use Rattle.paper.specs.Reading.{tokensOf, classesOf, placeOf, Whole, whole-over, whole-token, bad-here, bad-later, offsetOf, NoLater, rows-are, refuses, Said, accepts, refused}
 use Rattle.paper.specs.declared.Refusal.{Refusal}
 use Rattle.paper.specs.declared.Refusal.the-variants.{NoToken, NoGoing, TooDeep, TooManyRows, TooMany}
 use Rattle.paper.proofs.Machine.{Step, took, emptied, refused as refuses-it, spent, step}
-use Rattle.paper.proofs.Theory.{step-sound, Sound, emptied-derives, took≢emptied, took≢refused, took≢spent, refused≢emptied, spent≢emptied}
+use Rattle.theory.proofs.Theory.{step-sound, Sound, emptied-derives, took≢emptied, took≢refused, took≢spent, refused≢emptied, spent≢emptied}
 use Rattle.paper.proofs.Tables.{graphql, factored}
-use Rattle.paper.proofs.Checked.{fits}
-use Rattle.paper.proofs.SameLanguage.{factored→language}
+use Rattle.theory.proofs.Checked.{fits}
+use Rattle.theory.proofs.SameLanguage.{factored→language}
 use Rattle.paper.proofs.Going.{Stack, State, st, start, Out, whole, halt, marked, heed, ended, goes, go}
-use Rattle.paper.proofs.GoingRows.{Holds, holds-marked, holds-ended, holds-taken, holds-blank, book-step, marked-last}
-use Rattle.paper.proofs.Marks.{Sober, derives-sober, sober-later, sober-quiet, Level, derives-level, level-step}
-use Rattle.paper.proofs.GoingSums.{step-last, sums-append, took-before, took-reads, some-word}
-use Rattle.paper.proofs.GoingHeed.{Tracks, tracks-marked, sums-levels, Heeded, over-deep, over-rows, over-counts, well, heeds}
-use Rattle.paper.proofs.Flaws.{Flaw, stray, short, unfit, deeper, rowed, many, onward, flaw-place, flaw-fault, fault-flaw, NotTook, NotEmptied}
+use Rattle.theory.proofs.GoingRows.{Holds, holds-marked, holds-ended, holds-taken, holds-blank, book-step, marked-last}
+use Rattle.theory.proofs.Marks.{Sober, derives-sober, sober-later, sober-quiet, Level, derives-level, level-step}
+use Rattle.theory.proofs.GoingSums.{step-last, sums-append, took-before, took-reads, some-word}
+use Rattle.theory.proofs.GoingHeed.{Tracks, tracks-marked, sums-levels, Heeded, over-deep, over-rows, over-counts, well, heeds}
+use Rattle.theory.proofs.Flaws.{Flaw, stray, short, unfit, deeper, rowed, many, onward, flaw-place, flaw-fault, fault-flaw, NotTook, NotEmptied}
 
 abbrev Evs : Type 0
 Evs = List (Ev Class Mark)

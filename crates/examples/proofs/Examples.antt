@@ -30,25 +30,6 @@ due c = accepted ∷ length (c .1) ∷ flat (c .1)
 
 abbrev given : Part → Case → List ℕ
 given p c = reads p (length (c .1)) (c .0)
-
--- document D of 01
-abbrev pub D : List ℕ
-D = bytes "{ a: machine(id: 4) { tag ...F } ...R a: machine(id: 4) { tag } } fragment F on Fan { rpm } fragment R on Query { fan(no: 3) { rpm } }"
-
-abbrev pub D-rows : List Row
-D-rows =
-    r 1 0 65 2048 0 0 0 ∷ r 3 2 32 0 5 7 0 ∷ r 6 13 18 1 13 2 0 ∷ r 21 17 18 2 0 0 0 ∷ r 3 22 25 1 22 3 0 ∷
-    r 4 26 30 1 29 1 0 ∷ r 4 33 37 0 36 1 0 ∷ r 3 38 63 0 41 7 0 ∷ r 6 49 54 7 49 2 0 ∷ r 21 53 54 8 0 0 0 ∷
-    r 3 58 61 7 58 3 0 ∷ r 2 66 91 2048 75 1 0 ∷ r 9 80 83 11 80 3 0 ∷ r 3 86 89 11 86 3 0 ∷ r 2 92 134 2048 101 1 0 ∷
-    r 9 106 111 14 106 5 0 ∷ r 3 114 132 14 114 3 0 ∷ r 6 118 123 16 118 2 0 ∷ r 21 122 123 17 0 0 0 ∷ r 3 127 130 16 127 3 0 ∷ []
-
-pub D-read : reads Document 20 D ≡ accepted ∷ 20 ∷ flat D-rows
-unfolding from text scan step enter choose lexical lexFactored language factored go flat
-D-read = refl
-
-pub D-derived : rowsBy Document D ≡ D-rows
-unfolding from text scan step enter choose lexical lexFactored language factored run rowsOf book tokensOf
-D-derived = refl
 
 -- most constructs at once; names; selections; values; definitions; directives
 abbrev documents : List Case

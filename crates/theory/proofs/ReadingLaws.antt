@@ -8,14 +8,14 @@ use native.Mathlib.Nat.{le-of-suc-le-suc, not-suc-le-zero}
 use native.Mathlib.Decide.{decLt}
 use native.Mathlib.Omega.{arith}
 use lib.ListN.{length, take, drop, take-append-drop}
 use Rattle.paper.specs.Grammar.{Sym, nt, Ev}
 use Rattle.paper.proofs.Machine.{Answer, accepted, stopped, run, Step, took, emptied, refused, spent, step, ended, went, _▹_}
 use Rattle.paper.specs.Language.{Class, Terminal, Mark, Part}
 use Rattle.paper.specs.Reading.{Reads, Is, NoGoingOn, StopsAt}
 use Rattle.paper.proofs.Tables.{graphql}
-use Rattle.paper.proofs.Theory.{accepted≢stopped, run-sound, run-complete, run-stopped, Refused, Kept}
-use Rattle.paper.proofs.Checked.{fits, words, a-token, follow}
-use Rattle.paper.proofs.SameLanguage.{language→factored, factored→language}
+use Rattle.theory.proofs.Theory.{accepted≢stopped, run-sound, run-complete, run-stopped, Refused, Kept}
+use Rattle.theory.proofs.Checked.{fits, words, a-token, follow}
+use Rattle.theory.proofs.SameLanguage.{language→factored, factored→language}
 
 kept : (n : Part) → Kept graphql follow (nt n ∷ [])
 kept n = (λ t h. absurd h, tt)

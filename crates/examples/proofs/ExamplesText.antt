@@ -5,18 +5,18 @@ use mathlib.Core.List.{List, [], _∷_, _++_, map}
 use Prim.Native.Nat.{ℕ}
 use Prim.Native.String.{String}
 use lib.Dec.{T}
-use Rattle.paper.specs.Numbers.{accepted, refuseNoToken}
+use Rattle.paper.specs.Numbers.{accepted}
 use Rattle.paper.specs.Tokens.{Text, over, bad, token}
 use Rattle.paper.specs.Language.{Class, int, float, spread, n-other, n-on}
 use Rattle.paper.specs.Language.{language}
 use Rattle.paper.specs.Lexical.{lexical}
 use Rattle.paper.proofs.Machine.{step, enter, choose}
 use Rattle.paper.proofs.Longest.{scan}
 use Rattle.paper.proofs.Tables.{factored}
 use Rattle.paper.proofs.LexTables.{lexFactored}
 use Rattle.paper.proofs.Lexing.{text, from}
 use Rattle.paper.proofs.Going.{go}
-use Rattle.paper.proofs.Worked.{bytes, agree, tells}
+use Rattle.paper.proofs.Worked.{bytes, agree, inString, tells}
 
 abbrev tk : Class → ℕ → ℕ → Text → Text
 tk c a e t = token (record { class = c; start = a; stop = e }) t
@@ -78,10 +78,7 @@ numbers-told : T (agree (λ c. tells (inList (c .0))) (λ c. c .1) numbers)
 unfolding from text scan step enter choose lexical lexFactored language factored go
 numbers-told = tt
 
--- what stands between quotation marks, as the value of an argument
-abbrev inString : List ℕ → List ℕ
-inString s = bytes "{a(x:\"" ++ s ++ bytes "\")}"
-
+-- what may stand between quotation marks
 abbrev goodStrings : List (List ℕ)
 goodStrings =
     [] ∷ (bytes "a") ∷ (bytes "\\\"") ∷ (bytes "\\\\") ∷ (bytes "\\/\\b\\f\\n\\r\\t") ∷ (bytes "\\u0041") ∷ (bytes "\\uABCD\\uabcd") ∷
@@ -92,17 +89,3 @@ goodStrings =
 good-strings-told : T (agree (λ s. tells (inString s)) (λ s. accepted ∷ 4 ∷ []) goodStrings)
 unfolding from text scan step enter choose lexical lexFactored language factored go
 good-strings-told = tt
-
--- escapes that are none, ends of line, bytes that are no character up to U+FFFF
-abbrev badStrings : List (List ℕ)
-badStrings =
-    (bytes "\\u00") ∷ (bytes "\\u00G0") ∷ (bytes "\\u") ∷ (bytes "\\U0041") ∷ (bytes "\\x") ∷ (bytes "\\") ∷ (bytes "a\nb") ∷ (bytes "a\rb") ∷
-    ((0x1f ∷ [])) ∷ ((0x00 ∷ [])) ∷ ((0x80 ∷ [])) ∷ ((0xbf ∷ [])) ∷ ((0xc0 ∷ 0x80 ∷ [])) ∷ ((0xc1 ∷ 0xbf ∷ [])) ∷ ((0xc2 ∷ [])) ∷
-    ((0xc2 ∷ []) ++ bytes "A") ∷ ((0xe0 ∷ 0x9f ∷ 0xbf ∷ [])) ∷ ((0xe1 ∷ 0x80 ∷ [])) ∷ ((0xe1 ∷ 0x80 ∷ []) ++ bytes "A") ∷
-    ((0xf0 ∷ 0x90 ∷ 0x80 ∷ 0x80 ∷ [])) ∷ ((0xf4 ∷ 0x8f ∷ 0xbf ∷ 0xbf ∷ [])) ∷ ((0xf5 ∷ 0x80 ∷ 0x80 ∷ 0x80 ∷ [])) ∷ ((0xff ∷ [])) ∷
-    ((0xfe ∷ 0xff ∷ [])) ∷ ((0xe2 ∷ []) ++ bytes "(" ++ (0xa1 ∷ [])) ∷ ((0xf0 ∷ 0x9f ∷ 0x98 ∷ 0x80 ∷ [])) ∷ ((0xed ∷ 0xa0 ∷ 0x80 ∷ [])) ∷
-    (bytes "b\n") ∷ []
-
-bad-strings-told : T (agree (λ s. tells (inString s)) (λ s. refuseNoToken ∷ 5 ∷ []) badStrings)
-unfolding from text scan step enter choose lexical lexFactored language factored go
-bad-strings-told = tt

@@ -6,14 +6,14 @@ use mathlib.Core.Option.{Option, none, some}
 use Prim.Native.Nat.{ℕ, zero, suc, _<_}
 use native.Mathlib.Omega.{arith}
 use lib.ListN.{length, take as takeN}
 use Rattle.paper.specs.Grammar.{Sym, nt, tm, act, Ev, tok, mark, toks, Derives}
 use Rattle.paper.specs.Language.{Class, Terminal, hits, Mark, Part}
 use Rattle.paper.specs.Sizes.{Sums, counted, sums, through}
 use Rattle.paper.proofs.Machine.{Tables, Step, took, emptied, refused, spent, takeIf, _▸_, andThen, choose, over, onward, enter, step}
-use Rattle.paper.proofs.Theory.{Kept, Sound, step-sound, took-derives, took-toks, complete-step, word}
+use Rattle.theory.proofs.Theory.{Kept, Sound, step-sound, took-derives, took-toks, complete-step, word}
 use Rattle.paper.proofs.Tables.{graphql, factored}
 use Rattle.paper.proofs.Going.{Stack}
-use Rattle.paper.proofs.Checked.{fits, follow, a-token, words}
+use Rattle.theory.proofs.Checked.{fits, follow, a-token, words}
 
 abbrev Evs : Type 0
 Evs = List (Ev Class Mark)

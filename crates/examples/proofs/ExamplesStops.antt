@@ -27,10 +27,10 @@ stops =
     ("{a()}", 3) ∷ ("{a(x)}", 4) ∷ ("{a(x:)}", 5) ∷ ("{a(x:1", 6) ∷ ("{a(x:1}", 6) ∷ ("{a(:1)}", 3) ∷ ("{a(1:1)}", 3) ∷ ("{a{}}", 3) ∷ ("{a@}", 3) ∷
     ("{a@d(}", 5) ∷ ("{a@d()}", 5) ∷ ("{...}", 4) ∷ ("{...F", 5) ∷ ("{...on T}", 8) ∷ ("{...on T{}}", 9) ∷ ("{...@d}", 6) ∷ ("{...F{a}}", 5) ∷
     ("{...1}", 4) ∷ ("query{", 6) ∷ ("query A", 7) ∷ ("query A B{a}", 8) ∷ ("query(){a}", 6) ∷ ("query($){a}", 7) ∷ ("query($a){a}", 8) ∷
-    ("query($a:){a}", 9) ∷ ("query($a:Int=){a}", 13) ∷ ("query($a:Int=$b){a}", 13) ∷ ("query($a:Int=[$b]){a}", 14) ∷ ("query($a:Int={b:$c}){a}", 16) ∷
+    ("query($a:){a}", 9) ∷ ("query($a:Int=){a}", 13) ∷
     ("query($a:Int=1 2){a}", 15) ∷ ("query($a:Int!!){a}", 13) ∷ ("query($a:[Int){a}", 13) ∷ ("query($a:[]){a}", 10) ∷ ("query($a:Int]){a}", 12) ∷
     ("query($a Int){a}", 9) ∷ ("query(a:Int){a}", 6) ∷ ("query @d", 8) ∷ ("Query{a}", 0) ∷ ("fragment F", 10) ∷ ("fragment F on", 13) ∷
-    ("fragment F on T", 15) ∷ ("fragment F on T{", 16) ∷ ("fragment F{a}", 10) ∷ ("fragment F on [T]{a}", 14) ∷ ("fragment on on T{a}", 9) ∷
+    ("fragment F on T", 15) ∷ ("fragment F on T{", 16) ∷ ("fragment F{a}", 10) ∷ ("fragment F on [T]{a}", 14) ∷
     ("{a} b", 4) ∷ ("{a} fragment", 12) ∷ ("{a(x:[)}", 6) ∷ ("{a(x:[}", 6) ∷ ("{a(x:{1})}", 6) ∷ ("{a(x:{b})}", 7) ∷ ("{a(x:{b:})}", 8) ∷
     ("{a(x:{b:1)}", 9) ∷ ("{a(x:$)}", 6) ∷ ("{a(x:$1)}", 6) ∷ ("{a(x:@d)}", 5) ∷ ("{a(x:!)}", 5) ∷ ("{|}", 1) ∷ ("{a=b}", 2) ∷ ("{a(x:...)}", 5) ∷ []
 

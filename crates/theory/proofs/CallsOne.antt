@@ -4,16 +4,16 @@ use mathlib.Core.List.{List, [], _∷_}
 use Prim.Native.Nat.{ℕ}
 use native.Mathlib.Omega.{arith}
 use lib.ListN.{length}
 use Rattle.paper.specs.Numbers.{reportSize, rowsSize, accepted}
 use Rattle.paper.specs.Language.{Document}
 use Rattle.paper.specs.Tokens.{Text, Tokens}
 use Rattle.paper.specs.Rows.{Row, flat}
 use Rattle.paper.specs.Refusals.{numberOf}
 use Rattle.paper.specs.Reading.{Answer, rows-are, refuses, Said}
 use Rattle.paper.specs.Calls.{filled, tells, Parsed, short-report, short-rows, over-length, refuses-text, reads}
 use Rattle.paper.specs.declared.Refusal.{Refusal}
-use Rattle.paper.proofs.SaidOne.{said-one}
-use Rattle.paper.proofs.TokensLaws.{tokens-one}
+use Rattle.theory.proofs.SaidOne.{said-one}
+use Rattle.theory.proofs.TokensLaws.{tokens-one}
 
 -- what the text says, for two ways of having its tokens
 said-same : {document : List ℕ} {t t′ : Text} {a a′ : Answer} → Tokens 0 document t → Tokens 0 document t′ → Said Document t a → Said Document t′ a′ → a ≡ a′

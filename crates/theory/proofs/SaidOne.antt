@@ -7,18 +7,18 @@ use Prim.Native.Nat.{ℕ}
 use native.Mathlib.Omega.{arith}
 use lib.Dec.{eqb}
 use lib.ListN.{length, replicate, length-replicate}
 use Rattle.paper.specs.Grammar.{nt}
 use Rattle.paper.specs.Numbers.{refuseNoToken, refuseNoGoing, refuseTooDeep, refuseTooManyRows, rowsSize}
 use Rattle.paper.specs.Language.{Part}
 use Rattle.paper.specs.Tokens.{Text}
 use Rattle.paper.specs.Rows.{rowsOf}
 use Rattle.paper.specs.Reading.{tokensOf, classesOf, Fault, no-token, no-going, no-end, too-deep, too-many-rows, too-many, offsetOf, NoLater, Answer, rows-are, refuses, Said, accepts, refused}
 use Rattle.paper.specs.Refusals.{numberOf}
 use Rattle.paper.specs.declared.Refusal.{Refusal}
 use Rattle.paper.specs.declared.Refusal.the-variants.{NoToken, NoGoing, TooDeep, TooManyRows, TooMany}
-use Rattle.paper.proofs.ReadingLaws.{one-reading}
+use Rattle.theory.proofs.ReadingLaws.{one-reading}
 use Rattle.paper.proofs.Going.{start, Out, whole, halt, go}
-use Rattle.paper.proofs.GoingSaid.{Rising, going-whole, going-halt}
+use Rattle.theory.proofs.GoingSaid.{Rising, going-whole, going-halt}
 
 -- a fault is known by its number and its offset
 numbered : ℕ → ℕ → Refusal

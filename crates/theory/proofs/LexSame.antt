@@ -5,12 +5,12 @@ use mathlib.Core.Bool.{Bool, true, false}
 use mathlib.Core.List.{List, [], _∷_, _++_, List·Memᴰ, List·Memᴰ·head, List·Memᴰ·tail}
 use Prim.Native.Nat.{ℕ}
 use lib.Dec.{T, eqb→eq}
 use Rattle.paper.specs.Grammar.{Sym, nt, tm, act, Ev, tok, mark, Derives, done, take, note, by}
 use Rattle.paper.specs.Language.{int, float}
 use Rattle.paper.specs.Lexical.{Lex, Set, What, is, lexical, hitsByte, quote, zero, nonZero}
 use Rattle.paper.proofs.LexTables.{lexFactored, changedL, look, orThat, sameL, numL, atL, Rules}
 use Rattle.paper.specs.Lexical.{Piece, IntValue, FloatValue, IntegerPart, NegativeSign?, Digit*, FractionalPart, ExponentPart, StringValue, StringCharacter, StringCharacter+, StringCharacter*, Number, NumberRest, ExponentPart?, FloatRest, Whole}
-use Rattle.paper.proofs.Same.{simulate, join, split, replace, by-one, by-two, by-three, first-of, second-of, third-of, bracket-none, bracket-some, bracket-out}
+use Rattle.theory.proofs.Same.{simulate, join, split, replace, by-one, by-two, by-three, first-of, second-of, third-of, bracket-none, bracket-some, bracket-out}
 
 abbrev Syms : Type 0
 Syms = List (Sym Lex Set What)

@@ -1,6 +1,6 @@
 -- The theory of the machine: for a grammar whose tables pass the tests, the machine accepts exactly what fits.
 use mathlib.Core.Path.{_≡_, refl, sym, ap, _∙_, subst}
-use mathlib.Core.Bool.{Bool, true, false, _&&_, _||_, not}
+use mathlib.Core.Bool.{Bool, true, false, _&&_, not}
 use mathlib.Core.List.{List, [], _∷_, _++_, List·Memᴰ, List·Memᴰ·head, List·Memᴰ·tail, append-assoc, append-nil, nil≢cons, cons≢nil, head-eq-of-cons-eq, tail-eq-of-cons-eq}
 use mathlib.Core.Option.{Option, none, some}
 use mathlib.Core.Logic.{_⊎_, inl, inr}
@@ -8,38 +8,10 @@ use Prim.Native.Nat.{ℕ, zero, suc}
 use lib.ListN.{take as takeN, drop}
 use native.Mathlib.Omega.{arith}
 use lib.Dec.{T}
 use Rattle.paper.specs.Grammar.{Sym, nt, tm, act, Ev, tok, mark, toks, Derives, done, take, note, by}
 use Rattle.paper.proofs.Machine.{Tables, Step, took, emptied, refused, spent, Answer, accepted, stopped, pick, pickIf, orElse, takeIf, _▸_, andThen, _▹_}
 use Rattle.paper.proofs.Machine.{takeAt, fst, nul, choose, over, onward, enter, step, ended, went, run}
-
--- tests and facts
-pub and-l : (a b : Bool) → T (a && b) → T a
-and-l true b t = tt
-and-l false b t = t
-
-pub and-r : (a b : Bool) → T (a && b) → T b
-and-r true b t = t
-and-r false b t = absurd t
-
-pub and-i : (a b : Bool) → T a → T b → T (a && b)
-and-i true b s t = t
-and-i false b s t = s
-
-pub or-cases : (a b : Bool) → T (a || b) → T a ⊎ T b
-or-cases true b t = inl tt
-or-cases false b t = inr t
-
-pub or-l : (a b : Bool) → T a → T (a || b)
-or-l true b t = tt
-or-l false b t = absurd t
-
-pub or-r : (a b : Bool) → T b → T (a || b)
-or-r true b t = tt
-or-r false b t = t
-
-pub T→eq : (b : Bool) → T b → b ≡ true
-T→eq true t = refl
-T→eq false t = absurd t
+use Rattle.paper.proofs.Bools.{and-l, and-r, and-i, or-cases, or-l, or-r, T→eq}
 
 IsSomeOf : {X : Type 0} → Option X → Type 0
 IsSomeOf none = ⊥

@@ -11,12 +11,12 @@ use native.Mathlib.Omega.{arith}
 use borrow.Author.Tests.{le-ltb}
 use lib.Dec.{T}
 use lib.ListN.{getElem?}
 use Rattle.paper.specs.Grammar.{Sym, nt, Ev, Derives}
 use Rattle.paper.proofs.Machine.{run, choose, enter, step}
-use Rattle.paper.proofs.Theory.{Fit}
-use Rattle.paper.proofs.Test.{Tested, Far, fit, words-of}
+use Rattle.theory.proofs.Theory.{Fit}
+use Rattle.theory.proofs.Test.{Tested, Far, fit, words-of}
 use Rattle.paper.specs.Lexical.{Lex, Set, What, lexical, hitsByte, oneOf}
 use Rattle.paper.proofs.LexTables.{lexFactored, lexer, allL, numL, atL, followersL, firstsL, sampleL}
 
 abbrev pub followL : Lex → ℕ → Bool
 followL n b = hitsByte (followersL n) b

@@ -9,16 +9,17 @@ use native.Mathlib.Omega.{arith}
 use lib.Dec.{T}
 use lib.ListN.{length, take, drop, length-drop, length-append}
 use lib.Seq.{length-take-le, take-at}
 use Rattle.paper.specs.Grammar.{nt}
 use Rattle.paper.specs.Lexical.{What, is, ignored, comment, Piece}
 use Rattle.paper.specs.Tokens.{Text, bad, token, classed, whatOf, Longest, lineEnd, Tokens, ends, starts-none, skips, comments, bad-comment, tokens}
-use Rattle.paper.proofs.Theory.{derives-null, unique}
+use Rattle.theory.proofs.Theory.{derives-null, unique}
 use Rattle.paper.proofs.Longest.{scan, Match}
 use Rattle.paper.proofs.LexTables.{lexer}
-use Rattle.paper.proofs.LexChecked.{fitsL}
-use Rattle.paper.proofs.LexSame.{lexical→factored}
-use Rattle.paper.proofs.Lexing.{text, from, found, shown, orBad, Found, longest, piece-byte, rounds}
-use Rattle.paper.proofs.FromLaws.{piece-within}
+use Rattle.theory.proofs.LexChecked.{fitsL}
+use Rattle.theory.proofs.LexSame.{lexical→factored}
+use Rattle.paper.proofs.Lexing.{text, from, found, shown, orBad}
+use Rattle.theory.proofs.LexingLaws.{Found, longest, piece-byte, rounds}
+use Rattle.theory.proofs.FromLaws.{piece-within}
 
 -- what the machine finds is the longest piece
 longest-is : (bs : List ℕ) (m : Match ℕ What) → scan lexer (nt Piece ∷ []) bs ≡ some m → Longest bs (take (m .size) bs) (whatOf (m .events))

@@ -4,17 +4,17 @@ use mathlib.Core.List.{List, [], _∷_}
 use Prim.Native.Nat.{ℕ, _*_, _≤_}
 use native.Mathlib.Omega.{arith}
 use lib.ListN.{length, take}
 use Rattle.paper.specs.Grammar.{nt}
 use Rattle.paper.specs.Numbers.{reportSize, rowSize, rowsSize, mostText, accepted}
 use Rattle.paper.specs.Language.{Document}
 use Rattle.paper.specs.Refusals.{numberOf}
 use Rattle.paper.specs.Calls.{filled, tells, Parsed, refuses-text, reads}
 use Rattle.paper.specs.declared.Refusal.{Refusal}
 use Rattle.paper.proofs.Lexing.{from}
-use Rattle.paper.proofs.FromLaws.{places-rise}
-use Rattle.paper.proofs.TokensLaws.{tokens-are}
+use Rattle.theory.proofs.FromLaws.{places-rise}
+use Rattle.theory.proofs.TokensLaws.{tokens-are}
 use Rattle.paper.proofs.Going.{State, start, whole, halt, go}
-use Rattle.paper.proofs.GoingSaid.{Rising, going-whole, going-halt}
+use Rattle.theory.proofs.GoingSaid.{Rising, going-whole, going-halt}
 
 pub from-rising : (s : List ℕ) → Rising (from s 0)
 from-rising s = λ j k h b. places-rise s 0 j k (omega arith) h b

@@ -8,14 +8,15 @@ use native.Mathlib.Nat.{le-of-suc-le-suc, not-suc-le-zero}
 use native.Mathlib.Omega.{arith}
 use lib.ListN.{length, drop, length-drop}
 use lib.Seq.{drop-drop}
 use Rattle.paper.specs.Grammar.{Sym, nt, Ev}
 use Rattle.paper.specs.Lexical.{What, is, ignored, comment, Piece}
 use Rattle.paper.specs.Tokens.{Tok, Text, over, bad, token, whatOf, lineEnd}
 use Rattle.paper.specs.Reading.{tokensOf, placeOf}
 use Rattle.paper.proofs.Machine.{Tables, Step, took, emptied, refused, spent, step}
 use Rattle.paper.proofs.Longest.{scan, Match, here, longer, further}
 use Rattle.paper.proofs.LexTables.{lexer}
-use Rattle.paper.proofs.Lexing.{text, from, found, shown, orBad, piece-byte, rounds}
+use Rattle.paper.proofs.Lexing.{text, from, found, shown, orBad}
+use Rattle.theory.proofs.LexingLaws.{piece-byte, rounds}
 
 -- what is read is within the bytes
 module _ {N P C A : Type 0} (G : Tables N P C A) where

@@ -4,13 +4,13 @@ use mathlib.Core.Logic.{_⊎_, inl, inr}
 use mathlib.Core.Bool.{Bool, true, false}
 use mathlib.Core.List.{List, [], _∷_, _++_, List·Memᴰ, List·Memᴰ·head, List·Memᴰ·tail}
 use lib.Dec.{T, eqb→eq}
 use Rattle.paper.specs.Grammar.{Sym, nt, tm, act, Ev, tok, mark, Derives, take, note, by}
 use Rattle.paper.specs.Numbers.{kindField, kindSpread, kindInline, wrapNonNull}
 use Rattle.paper.specs.Language.{Class, Terminal, the, t, hits, Mark, Part, language, colon, bang, spread, bracketL, bracketR, braceL, braceR, row, kind, named, wrapper, wrap, end}
 use Rattle.paper.specs.Language.{Field, Alias?, Alias, Name, Arguments?, Directives?, SelectionSet?, SelectionSet, AliasRest, Selection, FragmentSpread, InlineFragment, SpreadRest, FragmentName, TypeCondition?}
 use Rattle.paper.specs.Language.{ListValue, Value, Value+, Value*, ObjectValue, ObjectField, ObjectField+, ObjectField*, ConstListValue, ConstValue, ConstValue+, ConstValue*, ConstObjectValue, ConstObjectField, ConstObjectField+, ConstObjectField*, TypeRef, NamedType, ListType, NonNullType, Bang?}
 use Rattle.paper.proofs.Tables.{factored, changed, look, orThat, sameN, numN, atN, Rules}
-use Rattle.paper.proofs.Same.{simulate, join, split, replace, by-one, by-two, first-of, second-of, third-of, bracket-none, bracket-some, bracket-out}
+use Rattle.theory.proofs.Same.{simulate, join, split, replace, by-one, by-two, first-of, second-of, third-of, bracket-none, bracket-some, bracket-out}
 
 abbrev Syms : Type 0
 Syms = List (Sym Part Terminal Mark)

@@ -59,23 +59,6 @@ counts =
 counts-told : T (agree (λ c. tells (c .0)) (λ c. c .1) counts)
 unfolding from text scan step enter choose lexical lexFactored language factored go
 counts-told = tt
-
--- 7 wrappers of a type reference: the eighth mark in the order of the text
-abbrev wrappers : List Case
-wrappers =
-    (bytes "query($a:[[[[[[[I]]]]]]]){a}", 0 ∷ 4 ∷ []) ∷
-    (bytes "query($a:[[[[[[[I]]]]]]],$b:[[[[[[[I]]]]]]]){a}", 0 ∷ 6 ∷ []) ∷
-    (bytes "query($a:[[[[[[[[I]]]]]]]]){a}", 8 ∷ 16 ∷ []) ∷
-    (bytes "query($a:[[[[[[[[){a}", 8 ∷ 16 ∷ []) ∷
-    (bytes "query($a:[[[[I!]!]!]]){a}", 0 ∷ 4 ∷ []) ∷
-    (bytes "query($a:[[[[I!]!]!]!]){a}", 8 ∷ 20 ∷ []) ∷
-    (bytes "query($a:[[[[[[[I!]]]]]]]){a}", 8 ∷ 17 ∷ []) ∷
-    (bytes "query($a:[[[[[[[I]]]]]]]!){a}", 8 ∷ 24 ∷ []) ∷
-    []
-
-wrappers-told : T (agree (λ c. tells (c .0)) (λ c. c .1) wrappers)
-unfolding from text scan step enter choose lexical lexFactored language factored go
-wrappers-told = tt
 
 -- 2,048 rows: the tokens of `{`, n times `a `, and `}`; the operation is a row as well
 abbrev fields : ℕ → ℕ → (ℕ → Text) → Text

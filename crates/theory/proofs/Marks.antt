@@ -8,16 +8,17 @@ use native.Mathlib.Nat.{zero-add}
 use native.Mathlib.Omega.{arith}
 use lib.Dec.{T, eqb, eqb→eq, leb, leb→le, le→leb}
 use lib.ListN.{getElem?}
 use Rattle.paper.specs.Grammar.{Sym, nt, tm, act, Ev, tok, mark, toks, Derives, done, take, note, by}
 use Rattle.paper.specs.Language.{Class, Terminal, hits, the, anyName, nameButOn, nameButLiteral, numC, sameC, oneOf, isName, Mark, Part, language}
 use Rattle.paper.specs.Language.{bang, dollar, parenL, parenR, spread, colon, equals, atSign, bracketL, bracketR, braceL, bar, braceR, n-query, n-mutation, n-subscription, n-fragment, n-on, n-true, n-false, n-null, n-other, int, float, string}
 use Rattle.paper.specs.Sizes.{opens, closes, leveled}
 use Rattle.paper.proofs.Machine.{nul}
-use Rattle.paper.proofs.Theory.{and-l, and-r, derives-null}
-use Rattle.paper.proofs.Test.{all, all-at, all-mem, implies, implies-out}
+use Rattle.paper.proofs.Bools.{and-l, and-r}
+use Rattle.theory.proofs.Theory.{derives-null}
+use Rattle.theory.proofs.Test.{all, all-at, all-mem, implies, implies-out}
 use Rattle.paper.proofs.Tables.{graphql, factored, allN, numN, atN, allC, atC}
-use Rattle.paper.proofs.Checked.{fits}
-use Rattle.paper.proofs.GoingRows.{loud, Quiet}
+use Rattle.theory.proofs.Checked.{fits}
+use Rattle.theory.proofs.GoingRows.{loud, Quiet}
 
 abbrev Syms : Type 0
 Syms = List (Sym Part Terminal Mark)

@@ -8,21 +8,21 @@ use native.Mathlib.Nat.{not-suc-le-zero, le-refl}
 use native.Mathlib.Omega.{arith}
 use lib.Dec.{T}
 use lib.ListN.{length, length-map}
 use Rattle.paper.specs.Grammar.{nt, Ev}
 use Rattle.paper.specs.Language.{Class, Terminal, Mark, Part}
 use Rattle.paper.specs.Tokens.{Tok, Text, over, bad, token}
 use Rattle.paper.specs.Sizes.{Sums, nothing, sums, overLevels, overRows, overCounts}
 use Rattle.paper.specs.Reading.{tokensOf, classesOf, placeOf, Whole, whole-over, whole-token, BadAt, bad-here, bad-later, Summed, Fault, no-token, no-going, no-end, too-deep, too-many-rows, too-many, offsetOf}
 use Rattle.paper.specs.declared.Refusal.{Refusal}
 use Rattle.paper.specs.declared.Refusal.the-variants.{NoToken, NoGoing, TooDeep, TooManyRows, TooMany}
 use Rattle.paper.proofs.Machine.{Step, took, emptied, refused, spent, Answer, accepted, stopped, step, run, ended, went, _▹_}
-use Rattle.paper.proofs.Theory.{Kept, kept-step, accepted≢stopped, took≢emptied, took≢refused, took≢spent, refused≢emptied, spent≢emptied}
+use Rattle.theory.proofs.Theory.{Kept, kept-step, accepted≢stopped, took≢emptied, took≢refused, took≢spent, refused≢emptied, spent≢emptied}
 use Rattle.paper.proofs.Tables.{graphql}
-use Rattle.paper.proofs.Checked.{fits, follow}
-use Rattle.paper.proofs.SameLanguage.{language→factored, factored→language}
-use Rattle.paper.proofs.ReadingLaws.{stops, stops-only}
+use Rattle.theory.proofs.Checked.{fits, follow}
+use Rattle.theory.proofs.SameLanguage.{language→factored, factored→language}
+use Rattle.theory.proofs.ReadingLaws.{stops, stops-only}
 use Rattle.paper.proofs.Going.{Stack}
-use Rattle.paper.proofs.GoingSums.{SummedBy, summed-here, summed-later, summed-first, summed-next}
+use Rattle.theory.proofs.GoingSums.{SummedBy, summed-here, summed-later, summed-first, summed-next}
 
 abbrev Evs : Type 0
 Evs = List (Ev Class Mark)

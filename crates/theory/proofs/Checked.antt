@@ -7,12 +7,12 @@ use mathlib.Core.Option.{Option, none, some}
 use Prim.Native.Nat.{ℕ}
 use lib.Dec.{T, eqb→eq, eqb-refl}
 use lib.ListN.{getElem?}
 use Rattle.paper.specs.Grammar.{Sym, nt, tm, act, Ev, tok, mark, Derives, toks}
 use Rattle.paper.proofs.Machine.{Tables, Answer, accepted, stopped, run, choose, enter, step}
 use Rattle.paper.specs.Language.{Class, Terminal, hits, the, anyName, nameButOn, nameButLiteral, numC, oneOf, n-other, Mark, Part, language}
 use Rattle.paper.proofs.Tables.{graphql, factored, followers, allN, allC, numN, atN, atC, sample}
-use Rattle.paper.proofs.Theory.{Fit, Kept, run-sound, run-complete, unique, run-stopped, Stops, Fits}
-use Rattle.paper.proofs.Test.{Tested, fit, words-of, all}
+use Rattle.theory.proofs.Theory.{Fit, Kept, run-sound, run-complete, unique, run-stopped, Stops, Fits}
+use Rattle.theory.proofs.Test.{Tested, fit, words-of, all}
 
 abbrev pub follow : Part → Class → Bool
 follow n t = oneOf (followers n) t

@@ -8,13 +8,13 @@ use native.Mathlib.Omega.{arith}
 use lib.Dec.{T}
 use lib.ListN.{length, set, getD, length-set}
 use lib.Seq.{sets, length-sets}
 use Rattle.paper.specs.Grammar.{Ev, tok, mark, toks}
 use Rattle.paper.specs.Numbers.{mostRows, rowsSize}
 use Rattle.paper.specs.Language.{Class, Mark, row, kind, named, wrapper, wrap, end}
 use Rattle.paper.specs.Tokens.{Tok, Text, over, token}
 use Rattle.paper.specs.Rows.{Row, Book, blank, change, top, pop, begun, startOf, stopOf, ofKind, withName, stopping, note, taken, book, flat}
 use Rattle.paper.proofs.Going.{State, st, startIn, stopIn, noted, marked}
-use Rattle.paper.proofs.RowCells.{Stand, stand-set, stand-wrap, stand-row, change-change}
+use Rattle.theory.proofs.RowCells.{Stand, stand-set, stand-wrap, stand-row, change-change}
 
 pub record Holds (s : State) (b : Book) : Type 0 where
   pub size : length (s .cells) ≡ rowsSize

@@ -6,10 +6,11 @@ use mathlib.Core.Option.{Option, none, some}
 use Prim.Native.Nat.{ℕ, zero, suc}
 use lib.Dec.{T}
 use lib.ListN.{getElem?}
 use Rattle.paper.specs.Grammar.{Sym, nt, tm, act, Ev, Derives}
 use mathlib.Core.Logic.{_⊎_, inl, inr}
 use Rattle.paper.proofs.Machine.{Tables, Step, Answer, accepted, stopped, fst, nul, pick, choose, over, onward, enter, run}
-use Rattle.paper.proofs.Theory.{and-l, and-r, none≢some, atMostOne, alive, Follows, Fit, run-sound, accepted≢stopped}
+use Rattle.paper.proofs.Bools.{and-l, and-r}
+use Rattle.theory.proofs.Theory.{none≢some, atMostOne, alive, Follows, Fit, run-sound, accepted≢stopped}
 
 abbrev pub all : {X : Type 0} → (X → Bool) → List X → Bool
 all p [] = true

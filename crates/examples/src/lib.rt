@@ -1,0 +1,1 @@
+// No code: `proofs` has worked examples of the definitions of `paper`.

@@ -1,0 +1,23 @@
+-- Laws of the definitions, proved by the machine. Nothing here need be believed.
+pub mod Theory
+pub mod Test
+pub mod LongestLaws
+pub mod Same
+pub mod LexChecked
+pub mod LexSame
+pub mod LexingLaws
+pub mod FromLaws
+pub mod TokensLaws
+pub mod Checked
+pub mod SameLanguage
+pub mod ReadingLaws
+pub mod RowCells
+pub mod GoingRows
+pub mod Marks
+pub mod GoingSums
+pub mod GoingHeed
+pub mod Flaws
+pub mod GoingSaid
+pub mod SaidOne
+pub mod CallsOne
+pub mod CallsGoing

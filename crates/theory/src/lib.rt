@@ -1,0 +1,1 @@
+// No code: `proofs` has the laws of the definitions of `paper`.
