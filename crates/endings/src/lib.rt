@@ -1,12 +1,27 @@
-// What a judged document leaves in the rows and the report.
+// What a document that was read or judged leaves in the rows and the report.
 use paper::ACCEPTED;
 use paper_rules::QueryAnswer;
 use paper_rules::REFUSE_QUERY;
+use reader::Read;
 ghost use mathlib.Core.Path.{_≡_};
 ghost use Prim.Native.Nat.{_≤_};
 ghost use lib.ListN.{length};
 ghost use Rattle.paper.specs.Numbers.{reportSize};
-ghost use Rattle.endings.specs.Endings.{Ended};
+ghost use Rattle.endings.specs.Endings.{Ended, Told};
+
+// Tells what came of reading, and answers its number.
+pub fn tell_read(r: Read, report: &mut [u32]) -> u32
+    requires { ⌜ reportSize ≤ length (now report) ⌝ }
+    ensures { λ n. ⌜ Told r (now (report .entry)) (now (report .exit)) n ⌝ }
+{
+    match r {
+        Read::Done(c) => {
+            telling::tell(report, ACCEPTED, c.rows);
+            ACCEPTED
+        }
+        Read::Refused(why) => telling::tell_refusal(report, why),
+    }
+}
 
 // Tells what was said of a document with n rows, and answers its number; a broken rule leaves no rows.
 pub fn tell_judged(q: QueryAnswer, n: u32, rows: &mut [u32], report: &mut [u32]) -> u32

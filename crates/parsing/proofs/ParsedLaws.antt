@@ -18,7 +18,8 @@ use Rattle.buffers.specs.declared.Sizes.the-variants.{Unmet}
 use Rattle.reader.specs.declared.Cursor.{Cursor}
 use Rattle.reader.specs.declared.Read.{Read}
 use Rattle.reader.specs.declared.Read.the-variants.{Done, Refused}
-use Rattle.parsing.specs.Parsing.{Filled, Told}
+use Rattle.endings.specs.Endings.{Told}
+use Rattle.parsing.specs.Parsing.{Filled}
 use Rattle.parsing.proofs.FilledLaws.{whole-room, whole-size, rows-filled}
 
 -- `gw_parse`, where the rows or the text do not keep to their sizes
@@ -51,12 +52,3 @@ module _ (document rows report rows₁ rows′ report′ : List ℕ) (h : report
   parsed-told (Refused z) n g t =
       subst (λ (y : ℕ). Parsed document rows report rows′ report′ y) (sym (t .0))
       (parsed-halt document rows report rows′ report′ (take rowsSize rows) z h w l (g .0) (e ∙ ap (λ (y : List ℕ). y ++ drop rowsSize rows) (g .1)) (t .1))
-
--- what is told of a reading, by its case
-pub told-done : (r : Read) (d : Cursor) (report report′ : List ℕ) → r ≡ Done d → report′ ≡ filled reportSize (accepted ∷ d .rows ∷ []) report → Told r report report′ accepted
-unfolding Told
-told-done r d report report′ q p = subst (λ (x : Read). Told x report report′ accepted) (sym q) (refl, p)
-
-pub told-refused : (r : Read) (z : Refusal) (report report′ : List ℕ) (n : ℕ) → r ≡ Refused z → (n ≡ numberOf z) × (report′ ≡ tells z report) → Told r report report′ n
-unfolding Told
-told-refused r z report report′ n q t = subst (λ (x : Read). Told x report report′ n) (sym q) t

@@ -5,9 +5,7 @@ use Prim.Native.Nat.{ℕ, _*_}
 use lib.ListN.{replicate}
 use Rattle.paper.specs.Grammar.{nt}
 use Rattle.paper.specs.Language.{Part}
-use Rattle.paper.specs.Numbers.{rowSize, rowsSize, reportSize, accepted}
-use Rattle.paper.specs.Refusals.{numberOf}
-use Rattle.paper.specs.Calls.{filled, tells}
+use Rattle.paper.specs.Numbers.{rowSize, rowsSize}
 use Rattle.paper.proofs.Lexing.{from}
 use Rattle.paper.proofs.Going.{State, start, whole, halt, go}
 use Rattle.buffers.specs.Buffers.{cleared}
@@ -18,8 +16,3 @@ use Rattle.reader.specs.declared.Read.the-variants.{Done, Refused}
 abbrev pub Filled : Part → List ℕ → List ℕ → List ℕ → Read → Type 0
 Filled p s rows rows′ (Done d) = (m : State) × (go (start rows) (nt p ∷ []) (from s 0) ≡ whole m) × (rows′ ≡ cleared (rowSize * m .rows) (m .cells)) × (m .rows ≡ d .rows)
 Filled p s rows rows′ (Refused r) = (go (start rows) (nt p ∷ []) (from s 0) ≡ halt r) × (rows′ ≡ replicate rowsSize 0)
-
--- what is told of it: the count of rows, or the refusal; and the answer's number
-unfoldable pub Told : Read → List ℕ → List ℕ → ℕ → Type 0
-Told (Done d) report report′ n = (n ≡ accepted) × (report′ ≡ filled reportSize (accepted ∷ d .rows ∷ []) report)
-Told (Refused r) report report′ n = (n ≡ numberOf r) × (report′ ≡ tells r report)

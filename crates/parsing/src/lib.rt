@@ -1,6 +1,5 @@
 // Reads a document into rows of the fixed size, and leaves nothing else in them; and the whole answer to `gw_parse`.
 use buffers::Sizes;
-use paper::ACCEPTED;
 use paper::REFUSE_BUFFER;
 use paper::REPORT_SIZE;
 use paper::ROW_SIZE;
@@ -9,10 +8,10 @@ use reader::Read;
 ghost use mathlib.Core.Path.{_≡_};
 ghost use Prim.Native.Nat.{_≤_};
 ghost use lib.ListN.{length};
-ghost use Rattle.paper.specs.Numbers.{mostText, rowsSize, reportSize};
+ghost use Rattle.paper.specs.Numbers.{mostText, rowsSize};
 ghost use Rattle.paper.specs.Language.{Document};
 ghost use Rattle.paper.specs.Calls.{Parsed};
-ghost use Rattle.parsing.specs.Parsing.{Filled, Told};
+ghost use Rattle.parsing.specs.Parsing.{Filled};
 
 // Reads a document into rows of the fixed size, and clears what it does not use.
 pub fn parse(s: &[u8], rows: &mut [u32]) -> Read
@@ -33,20 +32,6 @@ pub fn parse(s: &[u8], rows: &mut [u32]) -> Read
     }
 }
 
-// Tells what came of reading, and answers its number.
-fn tell_read(r: Read, report: &mut [u32]) -> u32
-    requires { ⌜ reportSize ≤ length (now report) ⌝ }
-    ensures { λ n. ⌜ Told r (now (report .entry)) (now (report .exit)) n ⌝ }
-{
-    match r {
-        Read::Done(c) => {
-            telling::tell(report, ACCEPTED, c.rows);
-            ACCEPTED
-        }
-        Read::Refused(why) => telling::tell_refusal(report, why),
-    }
-}
-
 // What `gw_parse` answers: the sizes are tested, then the document is read.
 pub fn answer(document: &[u8], rows: &mut [u32], report: &mut [u32]) -> u32
     ensures { λ r. ⌜ Parsed (now (document .entry)) (now (rows .entry)) (now (report .entry)) (now (rows .exit)) (now (report .exit)) r ⌝ }
@@ -58,7 +43,7 @@ pub fn answer(document: &[u8], rows: &mut [u32], report: &mut [u32]) -> u32
     match s {
         Sizes::Met => {
             let r = parse(document, &mut rows[..ROWS_SIZE]);
-            tell_read(r, report)
+            endings::tell_read(r, report)
         }
         Sizes::Unmet(why) => telling::tell_refusal(report, why),
     }

@@ -1,8 +1,8 @@
--- `parsing::tell_read` meets its contract, case by case.
+-- `endings::tell_read` meets its contract, case by case.
 use borrow.Author.Needs.{needs}
-use Rattle.parsing.proofs.ParsedLaws.{told-done, told-refused}
-use Rattle.parsing.proofs.tell_read.Statement.{statement}
-use Rattle.parsing.proofs.tell_read.Tie as tie
+use Rattle.endings.proofs.EndLaws.{told-done, told-refused}
+use Rattle.endings.proofs.tell_read.Statement.{statement}
+use Rattle.endings.proofs.tell_read.Tie as tie
 
 enum-known-r : tie.Need-enum-known-r
 enum-known-r c = search needs
