@@ -82,7 +82,7 @@ pub fn is_mark(s: &[u8], i: usize) -> bool
     false
 }
 
-// The size of the ignored piece at i, or 0.
+// The size of the ignored piece at i, or 0. Most bytes are above a comma, and of these only a mark is ignored.
 pub fn ignored(s: &[u8], i: usize) -> usize
     requires { ⌜ i < length (now s) ⌝ }
     ensures { λ r. ⌜ r ≡ ignoredHere (drop i (now (s .entry))) ⌝ }
@@ -90,6 +90,14 @@ pub fn ignored(s: &[u8], i: usize) -> usize
     let b = s[i];
     if b == 32 {
         return 1;
+    }
+    if 44 < b {
+        if b == 239 {
+            if is_mark(s, i) {
+                return 3;
+            }
+        }
+        return 0;
     }
     if b == 10 {
         return 1;
@@ -105,11 +113,6 @@ pub fn ignored(s: &[u8], i: usize) -> usize
     }
     if b == 35 {
         return comment(s, i);
-    }
-    if b == 239 {
-        if is_mark(s, i) {
-            return 3;
-        }
     }
     0
 }
