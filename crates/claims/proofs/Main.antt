@@ -71,18 +71,18 @@ use Rattle.members.proofs.find_member.Statement as find-member
 use Rattle.members.proofs.find_member.Met as find-member-met
 use Rattle.members.proofs.find_argument.Statement as find-argument
 use Rattle.members.proofs.find_argument.Met as find-argument-met
-use Rattle.lookups.proofs.kind_at.Statement as kind-at
-use Rattle.lookups.proofs.kind_at.Met as kind-at-met
+use Rattle.meanings.proofs.kind_at.Statement as kind-at
+use Rattle.meanings.proofs.kind_at.Met as kind-at-met
 use Rattle.lookups.proofs.find_member.Statement as look-member
 use Rattle.lookups.proofs.find_member.Met as look-member-met
 use Rattle.lookups.proofs.find_argument.Statement as look-argument
 use Rattle.lookups.proofs.find_argument.Met as look-argument-met
-use Rattle.lookups.proofs.member_type.Statement as member-type
-use Rattle.lookups.proofs.member_type.Met as member-type-met
-use Rattle.lookups.proofs.argument_type.Statement as argument-type
-use Rattle.lookups.proofs.argument_type.Met as argument-type-met
-use Rattle.lookups.proofs.root_meant.Statement as root-meant
-use Rattle.lookups.proofs.root_meant.Met as root-meant-met
+use Rattle.meanings.proofs.member_type.Statement as member-type
+use Rattle.meanings.proofs.member_type.Met as member-type-met
+use Rattle.meanings.proofs.argument_type.Statement as argument-type
+use Rattle.meanings.proofs.argument_type.Met as argument-type-met
+use Rattle.meanings.proofs.root_meant.Statement as root-meant
+use Rattle.meanings.proofs.root_meant.Met as root-meant-met
 use Rattle.naming.proofs.first_called.Statement as first-called
 use Rattle.naming.proofs.first_called.Met as first-called-met
 use Rattle.reaching.proofs.reach.Statement as reach
@@ -435,8 +435,9 @@ definition-members = looked.definition-members
 pub field-arguments : (t : List ℕ) (start stop : ℕ) → argumentsIn t start stop ≡ memberFrom t tagField start stop .arguments
 field-arguments = looked.field-arguments
 
--- `lookups`: of the definition of a number its tag, and its first member of a name; of a member the first argument of a name; their types, with what the
--- base means and the wrappers; what the root of an operation's kind means. Their contracts (`crates/lookups/specs`) speak of `tableOf`.
+-- `lookups`: of the definition of a number its first member of a name; of a member the first argument of a name. `meanings`: the definition's tag; the
+-- types of member and argument, with what the base means and the wrappers; what the root of an operation's kind means. Their contracts
+-- (`crates/lookups/specs`, `crates/meanings/specs`) speak of `tableOf`.
 pub definition-tag-meets : {M : Type 1} → kind-at.statement M
 definition-tag-meets = kind-at-met.met
 

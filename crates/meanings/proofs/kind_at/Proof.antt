@@ -1,8 +1,8 @@
 -- As the book says.
 use native.Mathlib.Omega.{arith}
 use Rattle.types.proofs.Entries.{tag-entered}
-use Rattle.lookups.proofs.kind_at.Statement.{statement}
-use Rattle.lookups.proofs.kind_at.Tie as tie
+use Rattle.meanings.proofs.kind_at.Statement.{statement}
+use Rattle.meanings.proofs.kind_at.Tie as tie
 
 kind-of-requires : tie.Need-kind-of-requires
 kind-of-requires c κs = (c .before .before .pre .0 .indexed .held .cells, omega (arith, c .before .before .pre .1, c .before .before .pre .0 .indexed .held .most))

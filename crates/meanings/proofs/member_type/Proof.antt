@@ -1,8 +1,8 @@
 -- Of the reference that is read.
 use borrow.Author.Needs.{needs}
 use Rattle.members.specs.Members.{memberFrom}
-use Rattle.lookups.proofs.member_type.Statement.{statement}
-use Rattle.lookups.proofs.member_type.Tie as tie
+use Rattle.meanings.proofs.member_type.Statement.{statement}
+use Rattle.meanings.proofs.member_type.Tie as tie
 
 member-type-requires : tie.Need-member-type-requires
 member-type-requires c κs = search needs

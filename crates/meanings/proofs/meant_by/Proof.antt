@@ -5,8 +5,8 @@ use mathlib.Core.List.{List}
 use Prim.Native.Nat.{ℕ}
 use Rattle.paper_types.specs.Types.{tableOf, meaning}
 use Rattle.types.specs.Booked.{spoken}
-use Rattle.lookups.proofs.meant_by.Statement.{statement}
-use Rattle.lookups.proofs.meant_by.Tie as tie
+use Rattle.meanings.proofs.meant_by.Statement.{statement}
+use Rattle.meanings.proofs.meant_by.Tie as tie
 
 meaning-of-requires : tie.Need-meaning-of-requires
 meaning-of-requires c κs = search needs

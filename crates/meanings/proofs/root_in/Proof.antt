@@ -10,10 +10,10 @@ use Rattle.members.specs.Members.{NextTag}
 use Rattle.members.specs.declared.FieldFound.the-variants.{Found}
 use Rattle.members.proofs.TagLaws.{part-slice}
 use Rattle.types.specs.Booked.{spoken}
-use Rattle.lookups.specs.Lookups.{meaningIn}
-use Rattle.lookups.proofs.LookupLaws.{root-none, root-found}
-use Rattle.lookups.proofs.root_in.Statement.{statement}
-use Rattle.lookups.proofs.root_in.Tie as tie
+use Rattle.meanings.specs.Meanings.{meaningIn}
+use Rattle.meanings.proofs.RootLaws.{root-none, root-found}
+use Rattle.meanings.proofs.root_in.Statement.{statement}
+use Rattle.meanings.proofs.root_in.Tie as tie
 
 found : (c : tie.After-from)
     → NextTag (c .before .before .before .before .before .args .t .now) (c .before .before .before .before .before .args .start) (c .before .before .before .before .before .args .end) (c .before .before .before .before .before .args .tag) (Found (c .from .given .0 .0) (c .from .given .0 .1 .0) (c .from .given .0 .1 .1 .0))

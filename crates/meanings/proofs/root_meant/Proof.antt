@@ -10,10 +10,10 @@ use Rattle.index.specs.Book.{countIn}
 use Rattle.types.specs.Booked.{spoken}
 use Rattle.types.proofs.Entries.{bounds-entered, members-entered}
 use Rattle.types.proofs.Objects.{number-room}
-use Rattle.lookups.specs.Lookups.{rootTagged, meaningIn}
-use Rattle.lookups.proofs.LookupLaws.{roots-of, query-root, no-root}
-use Rattle.lookups.proofs.root_meant.Statement.{statement}
-use Rattle.lookups.proofs.root_meant.Tie as tie
+use Rattle.meanings.specs.Meanings.{rootTagged, meaningIn}
+use Rattle.meanings.proofs.RootLaws.{roots-of, query-root, no-root}
+use Rattle.meanings.proofs.root_meant.Statement.{statement}
+use Rattle.meanings.proofs.root_meant.Tie as tie
 
 entry : (c : tie.Then1)
     → c .before .before .first-roots .result < countIn (c .before .before .before .before .before .args .book .now)

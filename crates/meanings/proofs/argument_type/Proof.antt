@@ -1,8 +1,8 @@
 -- Of the reference that is read.
 use borrow.Author.Needs.{needs}
 use Rattle.members.specs.Members.{argumentFrom}
-use Rattle.lookups.proofs.argument_type.Statement.{statement}
-use Rattle.lookups.proofs.argument_type.Tie as tie
+use Rattle.meanings.proofs.argument_type.Statement.{statement}
+use Rattle.meanings.proofs.argument_type.Tie as tie
 
 type-in-requires : tie.Need-type-in-requires
 type-in-requires c κs = search needs

@@ -1,0 +1,3 @@
+-- Laws of this crate; neither uses the other.
+pub mod RootLaws
+pub mod MeantLaws
