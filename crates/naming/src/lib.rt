@@ -1,23 +1,19 @@
-// The query rules on names of operations and fragments: 1, 2, 3 and 7. Each walks only rows of one kind.
+// The first row of a kind and a name; the query rules on names of fragments: 3 and 7. Each walks only rows of one kind.
 use constructs::is_called;
 use constructs::kind_of;
 use constructs::name_of;
 use constructs::size_of;
 use links::link_of;
 use paper::KIND_FRAGMENT;
-use paper::KIND_OPERATION;
 use paper::KIND_SPREAD;
 ghost use mathlib.Core.Path.{_≡_};
-ghost use mathlib.Core.List.{List};
-ghost use Prim.Native.Nat.{ℕ, _+_, _≤_, _<_};
+ghost use Prim.Native.Nat.{_+_, _≤_, _<_};
 ghost use lib.ListN.{length};
 ghost use Rattle.index.specs.Book.{part};
 ghost use Rattle.paper_rules.specs.Constructs.{nameOf, fragmentNamed};
-ghost use Rattle.paper_rules.specs.Rule1OperationRepeated.{operationRepeated};
-ghost use Rattle.paper_rules.specs.Rule2OperationUnnamed.{operationUnnamed};
 ghost use Rattle.paper_rules.specs.Rule3FragmentRepeated.{fragmentRepeated};
 ghost use Rattle.paper_rules.specs.Rule7Spread.{spreadOfNone};
-ghost use Rattle.constructs.specs.Rowed.{rowsIn, docOf, Rowed, Sized};
+ghost use Rattle.constructs.specs.Rowed.{rowsIn, docOf, Rowed};
 ghost use Rattle.links.specs.Links.{kindsSize, Kinds};
 ghost use Rattle.naming.specs.Called.{firstCalled};
 
@@ -44,46 +40,6 @@ pub fn first_called(
         j = link_of(nextk, j);
     }
     j
-}
-
-// Rule 1: has an earlier operation the name of this one?
-pub fn operation_repeated(
-    s: &[u8],
-    rows: &[u32],
-    n: usize,
-    firstk: &[u32],
-    nextk: &[u32],
-    i: usize,
-) -> bool
-    requires { ⌜ Rowed (now s) (now rows) n × Kinds (rowsIn (now rows) n) (now firstk) (now nextk) × (i < n) ⌝ }
-    ensures { λ r. ⌜ r ≡ operationRepeated (docOf (now (s .entry)) (now (rows .entry)) n) i ⌝ }
-{
-    if kind_of(rows, n, i) != KIND_OPERATION {
-        return false;
-    }
-    let l = size_of(rows, n, i) as usize;
-    if l == 0 {
-        return false;
-    }
-    let at = name_of(rows, n, i) as usize;
-    first_called(s, rows, n, firstk, nextk, KIND_OPERATION, s, at, l) < i
-}
-
-// Rule 2: is this operation unnamed and not the only one?
-pub fn operation_unnamed(rows: &[u32], n: usize, firstk: &[u32], nextk: &[u32], i: usize) -> bool
-    requires { ⌜ Sized (now rows) n × Kinds (rowsIn (now rows) n) (now firstk) (now nextk) × (i < n) ⌝ }
-    ensures { λ r. ⌜ ((s : List ℕ) → r ≡ operationUnnamed (docOf s (now (rows .entry)) n) i) ⌝ }
-{
-    if kind_of(rows, n, i) != KIND_OPERATION {
-        return false;
-    }
-    if size_of(rows, n, i) != 0 {
-        return false;
-    }
-    if link_of(firstk, KIND_OPERATION as usize) < i {
-        return true;
-    }
-    link_of(nextk, i) < n
 }
 
 // The first fragment whose name is row i's; n if there is none.

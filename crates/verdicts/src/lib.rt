@@ -62,10 +62,10 @@ fn operation_rule(
     requires { ⌜ Booked (now t) (now book) × Rowed (now s) (now rows) n × Kinds (rowsIn (now rows) n) (now firstk) (now nextk) × (i < n) × (rowIn (now rows) n i .kind ≡ kindOperation) ⌝ }
     ensures { λ r. ⌜ LeastAt (tableOf (now (t .entry))) (docOf (now (s .entry)) (now (rows .entry)) n) i r ⌝ }
 {
-    if naming::operation_repeated(s, rows, n, firstk, nextk, i) {
+    if operations::operation_repeated(s, rows, n, firstk, nextk, i) {
         return RULE_OPERATION_REPEATED;
     }
-    if naming::operation_unnamed(rows, n, firstk, nextk, i) {
+    if operations::operation_unnamed(rows, n, firstk, nextk, i) {
         return RULE_OPERATION_UNNAMED;
     }
     rule_if(rooting::no_root(t, book, s, rows, n, i), RULE_NO_ROOT)

@@ -7,9 +7,9 @@ use Rattle.paper.specs.Numbers.{kindOperation}
 use Rattle.constructs.specs.Rowed.{docOf}
 use Rattle.constructs.proofs.RowsIn.{rows-count}
 use Rattle.links.proofs.ChainWalks.{kinds-first, kinds-after, kinds-room}
-use Rattle.naming.proofs.RuleLaws.{unnamed-other, unnamed-named, unnamed-before, unnamed-after}
-use Rattle.naming.proofs.operation_unnamed.Statement.{statement}
-use Rattle.naming.proofs.operation_unnamed.Tie as tie
+use Rattle.operations.proofs.OperationLaws.{unnamed-other, unnamed-named, unnamed-before, unnamed-after}
+use Rattle.operations.proofs.operation_unnamed.Statement.{statement}
+use Rattle.operations.proofs.operation_unnamed.Tie as tie
 
 kind-of-requires : tie.Need-kind-of-requires
 kind-of-requires c κs = search needs

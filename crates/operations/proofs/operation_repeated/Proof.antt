@@ -4,9 +4,9 @@ use native.Mathlib.Omega.{arith}
 use borrow.Author.Needs.{needs}
 use Rattle.constructs.specs.Rowed.{docOf}
 use Rattle.constructs.proofs.RowsIn.{rows-count, name-within}
-use Rattle.naming.proofs.RuleLaws.{repeated-other, repeated-unnamed, repeated-named}
-use Rattle.naming.proofs.operation_repeated.Statement.{statement}
-use Rattle.naming.proofs.operation_repeated.Tie as tie
+use Rattle.operations.proofs.OperationLaws.{repeated-other, repeated-unnamed, repeated-named}
+use Rattle.operations.proofs.operation_repeated.Statement.{statement}
+use Rattle.operations.proofs.operation_repeated.Tie as tie
 
 kind-of-requires : tie.Need-kind-of-requires
 kind-of-requires c κs = search needs
