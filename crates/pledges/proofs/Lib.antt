@@ -1,3 +1,1 @@
-pub mod Walking
-pub mod ArgumentLaws
 pub mod OwnLaws

@@ -1,24 +1,25 @@
 -- The places of a rule 11 to 15 at one field, by the rule's number.
 use mathlib.Core.Path.{_≡_, sym, ap, _∙_}
-use mathlib.Core.Bool.{Bool, true, false}
+use mathlib.Core.Bool.{true, false}
 use mathlib.Core.List.{List, head?}
 use Prim.Native.Nat.{ℕ}
 use borrow.Author.Tests.{eq-eqb, ne-eqb}
 use Rattle.paper_types.specs.TableNumbers.{noPlace, ruleFieldMissing, ruleFieldType, ruleArgumentExtra}
-use Rattle.paper_types.specs.Lists.{onlyIf}
+use Rattle.paper_types.specs.Lists.{allOf}
 use Rattle.paper_types.specs.Types.{Argument, Member, Table}
-use Rattle.paper_types.specs.Rules.{Place, partArgumentAt, noSubType}
+use Rattle.paper_types.specs.Rules.{Place, noSubType}
 use Rattle.places.specs.Placed.{placed}
 use Rattle.places.specs.declared.PlaceRead.{PlaceRead}
 use Rattle.places.specs.declared.PlaceRead.the-variants.{At, Kept}
-use Rattle.pledges.specs.Asked.{argumentsAsked, ruleAsked}
+use Rattle.members.specs.Members.{memberFrom, argumentsIn, ArgumentsFrom}
+use Rattle.types.specs.Sizes.{slimArgument, slimMember}
+use Rattle.types.proofs.SlimLaws.{slim-arguments}
+use Rattle.pairs.specs.Asked.{argumentsAsked}
+use Rattle.pledges.specs.Asked.{ruleAsked}
 
--- a test's place
-pub only-here : (m p a : ℕ) {r b : Bool} → r ≡ b → r ≡ true → At m p a ≡ placed (head? (onlyIf b (partArgumentAt m p a)))
-only-here m p a e h = rw (← e, h)
-
-pub only-kept : (q : Place) {r b : Bool} → r ≡ b → r ≡ false → Kept ≡ placed (head? (onlyIf b q))
-only-kept q e h = rw (← e, h)
+-- the arguments of a slim member
+pub from-slim : {t : List ℕ} {tag start end r : ℕ} → ArgumentsFrom t tag start end r → slimMember (memberFrom t tag start end) ≡ true → allOf slimArgument (argumentsIn t r end) ≡ true
+from-slim {t = t} {tag = tag} {start = start} {end = end} f h = ap (allOf slimArgument) (f .are) ∙ slim-arguments (memberFrom t tag start end) h
 
 -- by other names of the same arguments
 pub asked-by : (rule m p : ℕ) (xs ys : List Argument) {xs′ ys′ : List Argument} {qs : List Place} {r : PlaceRead}

@@ -10,7 +10,8 @@ use Rattle.paper_types.specs.Lists.{anyOf, find, each, eachFrom, onlyIf}
 use Rattle.paper_types.specs.References.{isNonNull}
 use Rattle.paper_types.specs.Types.{Argument, Member, Definition, Table, isInterface, meant}
 use Rattle.paper_types.specs.Rules.{Place, partAt, partArgumentAt, memberNamed, argumentNamed, Ask, promisedBy, promised, own, ifAny, askField, askType, askArgument, askArgumentType, askExtra, fieldMissing, fieldType, argumentMissing, argumentType, argumentExtra, lacksArgument, ownArgument, differs, isExtra, noSubType}
-use Rattle.pledges.specs.Asked.{failing, ruleAsked}
+use Rattle.pairs.specs.Asked.{failing}
+use Rattle.pledges.specs.Asked.{ruleAsked}
 use Rattle.promises.specs.Asked.{ownAsked, askedOf}
 
 -- the definition's own field, or none, by the rule's number

@@ -1,9 +1,8 @@
 use borrow.Author.Needs.{needs}
 use Rattle.paper_types.specs.Types.{tableOf}
 use Rattle.members.specs.Members.{memberFrom, argumentsIn}
-use Rattle.pledges.proofs.ArgumentLaws.{from-slim}
 use Rattle.members.proofs.PartLaws.{from-bounds}
-use Rattle.pledges.proofs.OwnLaws.{asked-by, own-missing, own-extra, own-other}
+use Rattle.pledges.proofs.OwnLaws.{from-slim, asked-by, own-missing, own-extra, own-other}
 use Rattle.pledges.proofs.own_place.Statement.{statement}
 use Rattle.pledges.proofs.own_place.Tie as tie
 

@@ -10,7 +10,7 @@ use Rattle.members.specs.Members.{membersIn, implementedIn, NextImplemented}
 use Rattle.members.specs.declared.FieldFound.the-variants.{Found}
 use Rattle.types.proofs.SlimLaws.{all-any}
 use Rattle.promises.specs.Asked.{askedOf}
-use Rattle.pledges.proofs.Walking.{Walking, walking-start, walking-none, walking-here, walking-on}
+use Rattle.pairs.proofs.Walking.{Walking, walking-start, walking-none, walking-here, walking-on}
 use Rattle.promises.proofs.first_place.Statement.{statement}
 use Rattle.promises.proofs.first_place.Tie as tie
 

@@ -8,7 +8,7 @@ use Rattle.members.specs.Members.{membersIn, NextMember}
 use Rattle.members.specs.declared.FieldFound.the-variants.{Found}
 use Rattle.types.specs.Sizes.{slimMember}
 use Rattle.promises.specs.Asked.{askedOf}
-use Rattle.pledges.proofs.Walking.{Walking, walking-start, walking-none, walking-pass, walking-here, walking-on}
+use Rattle.pairs.proofs.Walking.{Walking, walking-start, walking-none, walking-pass, walking-here, walking-on}
 use Rattle.promises.proofs.interface_place.Statement.{statement}
 use Rattle.promises.proofs.interface_place.Tie as tie
 

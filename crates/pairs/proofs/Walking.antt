@@ -1,17 +1,24 @@
 -- A numbered walk over a content, which ends at the first element that shows something.
 use mathlib.Core.Path.{_≡_, refl, sym, ap, _∙_}
-use mathlib.Core.Bool.{Bool, true}
+use mathlib.Core.Bool.{Bool, true, false}
 use mathlib.Core.Option.{Option, none, some}
 use mathlib.Core.List.{List, [], _∷_, _++_, head?}
 use Prim.Native.Nat.{ℕ, suc, _+_, _≤_}
 use native.Mathlib.Omega.{arith}
-use Rattle.paper_types.specs.Lists.{allOf, eachFrom}
-use Rattle.paper_types.specs.Rules.{Place}
+use Rattle.paper_types.specs.Lists.{allOf, onlyIf, eachFrom}
+use Rattle.paper_types.specs.Rules.{Place, partArgumentAt}
 use Rattle.paper_types.proofs.ListsLaws.{head-right, eachFrom-nil, eachFrom-cons}
 use Rattle.places.specs.Placed.{placed}
 use Rattle.places.specs.declared.PlaceRead.the-variants.{At, Kept}
 use Rattle.members.specs.Members.{First}
 use Rattle.types.proofs.SlimLaws.{all-head, all-tail}
+
+-- a test's place
+pub only-here : (m p a : ℕ) {r b : Bool} → r ≡ b → r ≡ true → At m p a ≡ placed (head? (onlyIf b (partArgumentAt m p a)))
+only-here m p a e h = rw (← e, h)
+
+pub only-kept : (q : Place) {r b : Bool} → r ≡ b → r ≡ false → Kept ≡ placed (head? (onlyIf b q))
+only-kept q e h = rw (← e, h)
 
 -- at i, before element number k: what is shown from there on is what is shown from `at` on, and all that is left passes the test p
 pub record Walking {A : Type 0} (f : ℕ → A → List Place) (p : A → Bool) (at end i k : ℕ) (all left : List A) : Type 0 where

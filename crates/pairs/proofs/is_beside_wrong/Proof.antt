@@ -1,8 +1,8 @@
-use Rattle.pledges.proofs.ArgumentLaws.{beside-other, beside-wrappers, beside-names}
+use Rattle.pairs.proofs.ArgumentLaws.{beside-other, beside-wrappers, beside-names}
 use Rattle.members.specs.Members.{argumentFrom}
 use borrow.Author.Needs.{needs}
-use Rattle.pledges.proofs.is_beside_wrong.Statement.{statement}
-use Rattle.pledges.proofs.is_beside_wrong.Tie as tie
+use Rattle.pairs.proofs.is_beside_wrong.Statement.{statement}
+use Rattle.pairs.proofs.is_beside_wrong.Tie as tie
 
 returns : tie.Need-returns
 returns c = let a = c .before .before .args in beside-other (a .rule) (argumentFrom (a .t .now) (a .start) (a .end)) (argumentFrom (a .t .now) (a .from) (a .stop)) (c .if1 .taken)

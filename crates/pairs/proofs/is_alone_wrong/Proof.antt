@@ -1,8 +1,8 @@
-use Rattle.pledges.proofs.ArgumentLaws.{alone-missing, alone-other, alone-extra}
+use Rattle.pairs.proofs.ArgumentLaws.{alone-missing, alone-other, alone-extra}
 use Rattle.members.specs.Members.{argumentFrom}
 use borrow.Author.Needs.{needs}
-use Rattle.pledges.proofs.is_alone_wrong.Statement.{statement}
-use Rattle.pledges.proofs.is_alone_wrong.Tie as tie
+use Rattle.pairs.proofs.is_alone_wrong.Statement.{statement}
+use Rattle.pairs.proofs.is_alone_wrong.Tie as tie
 
 returns : tie.Need-returns
 returns c = let a = c .before .before .args in alone-missing (a .rule) (argumentFrom (a .t .now) (a .start) (a .end)) (c .if1 .taken)

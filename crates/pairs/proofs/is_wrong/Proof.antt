@@ -1,6 +1,6 @@
 use Rattle.types.proofs.SlimLaws.{all-found}
 use Rattle.types.specs.Sizes.{slimArgument}
-use Rattle.pledges.specs.Asked.{failing}
+use Rattle.pairs.specs.Asked.{failing}
 use Rattle.members.specs.declared.FieldFound.the-variants.{Found, Nothing}
 use Rattle.members.specs.Members.{argumentsIn, argumentFrom, Finds, FindArgument}
 use Rattle.paper_types.specs.Rules.{argumentNamed}
@@ -8,8 +8,8 @@ use Rattle.paper_types.specs.Lists.{find}
 use native.Mathlib.Omega.{arith}
 use mathlib.Core.Path.{sym, ap, subst, _∙_}
 use borrow.Author.Needs.{needs}
-use Rattle.pledges.proofs.is_wrong.Statement.{statement}
-use Rattle.pledges.proofs.is_wrong.Tie as tie
+use Rattle.pairs.proofs.is_wrong.Statement.{statement}
+use Rattle.pairs.proofs.is_wrong.Tie as tie
 
 -- the name sought is the argument's
 found : (c : tie.After-own)

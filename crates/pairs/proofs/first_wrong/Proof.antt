@@ -1,7 +1,6 @@
-use Rattle.pledges.proofs.OwnLaws.{only-here, only-kept}
-use Rattle.pledges.proofs.Walking.{Walking, walking-start, walking-none, walking-pass, walking-here, walking-on}
+use Rattle.pairs.proofs.Walking.{only-here, only-kept, Walking, walking-start, walking-none, walking-pass, walking-here, walking-on}
 use Rattle.types.specs.Sizes.{slimArgument}
-use Rattle.pledges.specs.Asked.{failing}
+use Rattle.pairs.specs.Asked.{failing}
 use Rattle.members.specs.declared.FieldFound.the-variants.{Found}
 use Rattle.members.specs.Members.{argumentsIn, NextArgument}
 use Rattle.paper_types.specs.Rules.{argumentNamed, partArgumentAt}
@@ -10,8 +9,8 @@ use Prim.Native.Nat.{_-_}
 use borrow.Author.Needs.{needs}
 use native.Mathlib.Omega.{arith}
 use mathlib.Core.Path.{subst}
-use Rattle.pledges.proofs.first_wrong.Statement.{statement}
-use Rattle.pledges.proofs.first_wrong.Tie as tie
+use Rattle.pairs.proofs.first_wrong.Statement.{statement}
+use Rattle.pairs.proofs.first_wrong.Tie as tie
 
 abbrev Inv-loop : tie.InvT-loop
 Inv-loop t rule at end from stop member part i₀ a₀ i a = Walking (λ x y. onlyIf (failing rule y (find (argumentNamed (y .name)) (argumentsIn t from stop))) (partArgumentAt member part x)) slimArgument at end i a (argumentsIn t at end) (argumentsIn t i end)

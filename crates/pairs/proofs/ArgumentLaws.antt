@@ -8,15 +8,14 @@ use lib.Dec.{eqb}
 use borrow.Author.Tests.{eq-eqb, ne-eqb}
 use Rattle.paper.specs.Tokens.{same}
 use Rattle.paper_types.specs.TableNumbers.{ruleArgumentMissing, ruleArgumentType, ruleArgumentExtra}
-use Rattle.paper_types.specs.Lists.{allOf}
 use Rattle.paper_types.specs.Types.{Argument}
 use Rattle.fields.specs.Wrappers.{isMarked}
 use Rattle.index.specs.Book.{part}
-use Rattle.members.specs.Members.{memberFrom, argumentsIn, Typed, ArgumentsFrom}
+use Rattle.members.specs.Members.{Typed}
 use Rattle.members.proofs.TypeLaws.{typed-non-null, typed-same}
-use Rattle.types.specs.Sizes.{slimArgument, slimMember}
-use Rattle.pledges.specs.Asked.{failing}
-use Rattle.types.proofs.SlimLaws.{slim-argument, slim-arguments}
+use Rattle.types.specs.Sizes.{slimArgument}
+use Rattle.pairs.specs.Asked.{failing}
+use Rattle.types.proofs.SlimLaws.{slim-argument}
 
 module _ (rule : ℕ) (x : Argument) where
   pub alone-missing : rule ≡ ruleArgumentMissing → true ≡ failing rule x none
@@ -49,6 +48,3 @@ module _ (rule : ℕ) (x : Argument) where
           go : (b : Bool) → not (b && true) ≡ not b
           go true = refl
           go false = refl
-
-pub from-slim : {t : List ℕ} {tag start end r : ℕ} → ArgumentsFrom t tag start end r → slimMember (memberFrom t tag start end) ≡ true → allOf slimArgument (argumentsIn t r end) ≡ true
-from-slim {t = t} {tag = tag} {start = start} {end = end} f h = ap (allOf slimArgument) (f .are) ∙ slim-arguments (memberFrom t tag start end) h
