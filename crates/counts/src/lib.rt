@@ -1,22 +1,17 @@
-// Which of a table's fields, or of a reference's wrappers, is the first over a size. Nothing is asked of the bytes.
-use fields::BYTE_BANG;
-use fields::BYTE_BRACKET_L;
+// Which of a table's fields, or of its references' wrappers, is the first over a size. Nothing is asked of the bytes.
 use fields::FieldRead;
 use fields::read_field;
 use frames::Holding;
 use frames::content_of;
-use paper::MOST_WRAPPERS;
-use paper_types::MOST_ARGUMENTS;
 use paper_types::MOST_IMPLEMENTED;
-use paper_types::MOST_MEMBERS;
 use paper_types::MOST_RECORDS;
-use paper_types::TAG_ARGUMENT;
-use paper_types::TAG_FIELD;
-use paper_types::TAG_IMPLEMENTS;
 use paper_types::TAG_NAME;
 use paper_types::TAG_ROOTS;
 use paper_types::TAG_SCALAR;
-use paper_types::TAG_SUBSCRIPTION_ROOT;
+use rooms::Counted;
+use rooms::rest_room;
+use rooms::room_of;
+use rooms::wrapper_over;
 ghost use mathlib.Core.Path.{_≡_};
 ghost use mathlib.Core.Bool.{_||_};
 ghost use mathlib.Core.List.{head?};
@@ -24,48 +19,11 @@ ghost use Prim.Native.Nat.{_+_, _≤_};
 ghost use lib.ListN.{length};
 ghost use lib.Seq.{slice};
 ghost use lib.Dec.{eqb};
-ghost use Rattle.paper.specs.Numbers.{mostWrappers};
 ghost use Rattle.paper_types.specs.TableNumbers.{mostTable, tagName};
-ghost use Rattle.paper_types.specs.TableSizes.{wrappersOver, overs, counts};
+ghost use Rattle.paper_types.specs.TableSizes.{overs, counts};
 ghost use Rattle.fields.specs.Fields.{Bounds};
-ghost use Rattle.counts.specs.Counts.{toldOver, wrapsBy, roomFor, restRoom, leafOvers, recordBy};
-
-// Whether a part is within the sizes, or the offset of the first over one.
-pub enum Counted {
-    Within,
-    Over(u32),
-}
-
-// The wrappers that a byte of a reference's text is.
-fn wraps(b: u8) -> u32
-    ensures { λ r. ⌜ r ≡ wrapsBy b ⌝ }
-{
-    if b == BYTE_BRACKET_L {
-        return 1;
-    }
-    if b == BYTE_BANG {
-        return 1;
-    }
-    0
-}
-
-// The wrapper over the most, in a reference's text.
-pub fn wrapper_over(t: &[u8], start: usize, end: usize) -> Counted
-    requires { ⌜ Bounds (now t) start end ⌝ }
-    ensures { λ r. ⌜ r ≡ toldOver (head? (wrappersOver mostWrappers start (slice start end (now (t .entry))))) ⌝ }
-{
-    let mut left = MOST_WRAPPERS;
-    let mut i = start;
-    while i < end {
-        let n = wraps(t[i]);
-        if left < n {
-            return Counted::Over(i as u32);
-        }
-        left -= n;
-        i += 1;
-    }
-    Counted::Within
-}
+ghost use Rattle.rooms.specs.Rooms.{toldOver};
+ghost use Rattle.counts.specs.Counts.{leafOvers, recordBy};
 
 // What is over in a content that is no fields.
 fn leaf_over(t: &[u8], start: usize, end: usize, h: Holding) -> Counted
@@ -83,40 +41,6 @@ fn leaf_over(t: &[u8], start: usize, end: usize, h: Holding) -> Counted
         } => Counted::Within,
         Holding::Nothing => Counted::Within,
     }
-}
-
-// Which of a holder's counts a field is of: 1 the names that a record implements, 2 a record's members or a field's arguments, 0 none.
-pub fn room_of(holder: u8, k: u8) -> u32
-    ensures { λ r. ⌜ r ≡ roomFor holder k ⌝ }
-{
-    if holder <= TAG_ROOTS {
-        if k == TAG_IMPLEMENTS {
-            return 1;
-        }
-        if k < TAG_FIELD {
-            return 0;
-        }
-        if k <= TAG_SUBSCRIPTION_ROOT {
-            return 2;
-        }
-        return 0;
-    }
-    if holder != TAG_FIELD {
-        return 0;
-    }
-    if k == TAG_ARGUMENT {
-        return 2;
-    }
-    0
-}
-
-pub fn rest_room(holder: u8) -> u32
-    ensures { λ r. ⌜ r ≡ restRoom holder ⌝ }
-{
-    if holder <= TAG_ROOTS {
-        return MOST_MEMBERS;
-    }
-    MOST_ARGUMENTS
 }
 
 // Is nothing counted in a field of this tag, fields being so deep in it at most? Most fields are names.

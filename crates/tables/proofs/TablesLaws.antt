@@ -19,9 +19,9 @@ use Rattle.schema.specs.Schema.{Checkable}
 use Rattle.frames.specs.declared.Framed.{Framed}
 use Rattle.frames.specs.declared.Framed.the-variants.{Right, Wrong}
 use Rattle.frames.specs.Framing.{told}
-use Rattle.counts.specs.declared.Counted.{Counted}
-use Rattle.counts.specs.declared.Counted.the-variants.{Within, Over}
-use Rattle.counts.specs.Counts.{toldOver}
+use Rattle.rooms.specs.declared.Counted.{Counted}
+use Rattle.rooms.specs.declared.Counted.the-variants.{Within, Over}
+use Rattle.rooms.specs.Rooms.{toldOver}
 use Rattle.tables.specs.Judges.{Judges}
 
 wrong-some : (o : Option ℕ) (at : ℕ) → Wrong at ≡ told o → o ≡ some at

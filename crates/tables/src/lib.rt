@@ -1,6 +1,5 @@
 // Judges a type table: its framing, its sizes, its schema rules, in this order; and the whole answer to `gw_check_table`.
 use buffers::Sizes;
-use counts::Counted;
 use frames::Framed;
 use index::BOOK_SIZE;
 use paper::REFUSE_BUFFER;
@@ -8,6 +7,7 @@ use paper::REPORT_SIZE;
 use paper::ROWS_SIZE;
 use paper_types::TableAnswer;
 use possible::BITS_SIZE;
+use rooms::Counted;
 use usual::is_usual;
 ghost use mathlib.Core.Path.{_≡_};
 ghost use mathlib.Core.Bool.{true};
@@ -20,7 +20,7 @@ ghost use Rattle.paper_types.specs.TableSizes.{counts};
 ghost use Rattle.paper_types.specs.Judging.{judge};
 ghost use Rattle.paper_types.specs.TableCalls.{Checked};
 ghost use Rattle.frames.specs.Framing.{told};
-ghost use Rattle.counts.specs.Counts.{toldOver};
+ghost use Rattle.rooms.specs.Rooms.{toldOver};
 ghost use Rattle.index.specs.Book.{bookSize};
 ghost use Rattle.possible.specs.Possible.{Blank};
 ghost use Rattle.tables.specs.Judges.{Judges};

@@ -24,9 +24,9 @@ use Rattle.fields.specs.declared.RefRead.the-variants.{Reference}
 use Rattle.fields.specs.Fields.{fieldAt}
 use Rattle.fields.specs.Wrappers.{Refers, RefersRead}
 use Rattle.fields.proofs.FieldLaws.{field-lies, pieces-read, pieces-none}
-use Rattle.counts.specs.declared.Counted.{Counted}
-use Rattle.counts.specs.declared.Counted.the-variants.{Within, Over}
-use Rattle.counts.specs.Counts.{toldOver}
+use Rattle.rooms.specs.declared.Counted.{Counted}
+use Rattle.rooms.specs.declared.Counted.the-variants.{Within, Over}
+use Rattle.rooms.specs.Rooms.{toldOver}
 use Rattle.typed.specs.declared.Typed.{Typed}
 use Rattle.typed.specs.declared.Typed.the-variants.{Ends}
 use Rattle.typed.specs.Fine.{Fine, FewWrappers, Begins, TypedTo}

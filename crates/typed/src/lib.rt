@@ -1,6 +1,4 @@
 // Is a field or an argument of a table right and within the sizes? In one walk, and a yes is sure: after a no it may still be.
-use counts::Counted;
-use counts::wrapper_over;
 use fields::FieldRead;
 use fields::RefRead;
 use fields::is_name;
@@ -11,6 +9,8 @@ use paper_types::MOST_ARGUMENTS;
 use paper_types::TAG_ARGUMENT;
 use paper_types::TAG_NAME;
 use paper_types::TAG_REFERENCE;
+use rooms::Counted;
+use rooms::wrapper_over;
 ghost use mathlib.Core.Path.{_≡_};
 ghost use mathlib.Core.Bool.{true};
 ghost use Prim.Native.Nat.{ℕ, suc, _+_};

@@ -22,8 +22,8 @@ use Rattle.fields.proofs.FieldLaws.{field-lies, pieces-read, pieces-none}
 use Rattle.frames.specs.Holders.{rank, leastAfter, placed, openFrom, Holder}
 use Rattle.frames.specs.Framing.{rootsAfter}
 use Rattle.frames.proofs.OpenLaws.{and-left, and-right, in-open, open-after, open-start}
-use Rattle.counts.specs.Counts.{roomFor, restRoom, roomsOf}
-use Rattle.counts.proofs.CountLaws.{room-over, room-less, room-start, pred-is}
+use Rattle.rooms.specs.Rooms.{roomFor, restRoom, roomsOf}
+use Rattle.rooms.proofs.RoomLaws.{room-over, room-less, room-start, pred-is}
 use Rattle.typed.specs.Fine.{Fine}
 use Rattle.usual.specs.Usual.{Members}
 

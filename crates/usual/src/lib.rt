@@ -1,6 +1,4 @@
 // Is a table's framing right, and is it within the sizes? In one walk, and in one direction only: what is answered with no may be so too.
-use counts::rest_room;
-use counts::room_of;
 use fields::FieldRead;
 use fields::is_name;
 use fields::read_field;
@@ -22,6 +20,8 @@ use paper_types::TAG_NAME;
 use paper_types::TAG_QUERY_ROOT;
 use paper_types::TAG_SUBSCRIPTION_ROOT;
 use paper_types::TAG_UNION_MEMBER;
+use rooms::rest_room;
+use rooms::room_of;
 use typed::is_usual_argument;
 use typed::is_usual_field;
 ghost use mathlib.Core.Path.{_≡_};

@@ -9,7 +9,7 @@ use Rattle.fields.specs.declared.FieldRead.the-variants.{Field}
 use Rattle.fields.specs.Fields.{fieldAt}
 use Rattle.fields.proofs.FieldLaws.{Lies, field-lies}
 use Rattle.frames.specs.Holders.{HoldsAs}
-use Rattle.counts.specs.Counts.{toldOver}
+use Rattle.rooms.specs.Rooms.{toldOver}
 use Rattle.counts.proofs.CountLaws.{over-plain, not-plain, leaf-over, Counting, counting-start, counting-end, counting-torn, counting-names, counting-others, counting-inside, counting-on}
 use Prim.Native.Nat.{ℕ, _<_}
 use borrow.Fn.Kinds.{In}
@@ -19,8 +19,8 @@ use Rattle.counts.proofs.first_over.Kinds as first-over-kinds
 use Rattle.counts.proofs.+first_over.Lts-first_over as first-over-lts
 use Rattle.counts.proofs.is_plain.Reads as is-plain-reads
 use Rattle.counts.proofs.leaf_over.Reads as leaf-over-reads
-use Rattle.counts.proofs.rest_room.Reads as rest-room-reads
-use Rattle.counts.proofs.room_of.Reads as room-of-reads
+use Rattle.rooms.proofs.rest_room.Reads as rest-room-reads
+use Rattle.rooms.proofs.room_of.Reads as room-of-reads
 use Rattle.fields.proofs.read_field.Reads as read-field-reads
 use Rattle.frames.proofs.content_of.Reads as content-of-reads
 use Rattle.counts.proofs.+first_over.{statement}

@@ -2,9 +2,9 @@
 use borrow.Author.Needs.{needs}
 use Prim.Native.Nat.{_-_}
 use native.Mathlib.Omega.{arith}
-use Rattle.counts.proofs.CountLaws.{Wrapping, wrapping-start, wrapping-end, wrapping-over, wrapping-on}
-use Rattle.counts.proofs.wrapper_over.Statement.{statement}
-use Rattle.counts.proofs.wrapper_over.Tie as tie
+use Rattle.rooms.proofs.RoomLaws.{Wrapping, wrapping-start, wrapping-end, wrapping-over, wrapping-on}
+use Rattle.rooms.proofs.wrapper_over.Statement.{statement}
+use Rattle.rooms.proofs.wrapper_over.Tie as tie
 
 abbrev Inv-loop : tie.InvT-loop
 Inv-loop t start end left₀ i₀ left i = Wrapping t start end left i

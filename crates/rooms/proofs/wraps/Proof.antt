@@ -1,8 +1,8 @@
 -- One of two bytes.
 use Prim.Native.Nat.{_-_}
 use borrow.Author.Tests.{eq-eqb, ne-eqb}
-use Rattle.counts.proofs.wraps.Statement.{statement}
-use Rattle.counts.proofs.wraps.Tie as tie
+use Rattle.rooms.proofs.wraps.Statement.{statement}
+use Rattle.rooms.proofs.wraps.Tie as tie
 
 returns : tie.Need-returns
 returns c = rw (eq-eqb (c .before .args .b) 91 (c .if1 .taken))

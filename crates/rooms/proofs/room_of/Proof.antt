@@ -5,8 +5,8 @@ use Prim.Native.Nat.{ℕ, _-_}
 use native.Mathlib.Omega.{arith}
 use lib.Dec.{leb}
 use borrow.Author.Tests.{le-leb, lt-leb, leb-true, eq-eqb, ne-eqb}
-use Rattle.counts.proofs.room_of.Statement.{statement}
-use Rattle.counts.proofs.room_of.Tie as tie
+use Rattle.rooms.proofs.room_of.Statement.{statement}
+use Rattle.rooms.proofs.room_of.Tie as tie
 
 other : (a k : ℕ) → (k ≡ a → ⊥) → (leb a k && leb k a) ≡ false
 other a k n = go (leb a k) refl

@@ -2,8 +2,8 @@
 use Prim.Native.Nat.{_-_}
 use native.Mathlib.Omega.{arith}
 use borrow.Author.Tests.{le-leb, lt-leb}
-use Rattle.counts.proofs.rest_room.Statement.{statement}
-use Rattle.counts.proofs.rest_room.Tie as tie
+use Rattle.rooms.proofs.rest_room.Statement.{statement}
+use Rattle.rooms.proofs.rest_room.Tie as tie
 
 returns : tie.Need-returns
 returns c = rw (le-leb (c .before .args .holder) 8 (omega arith))

@@ -1,0 +1,2 @@
+-- Laws of the readers of a table's rooms.
+pub mod RoomLaws

@@ -1,0 +1,2 @@
+-- What the readers of a table's rooms answer.
+pub mod Rooms
