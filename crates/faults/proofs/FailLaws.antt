@@ -4,11 +4,10 @@ use mathlib.Core.Bool.{false}
 use mathlib.Core.List.{List}
 use Prim.Native.Nat.{ℕ}
 use borrow.Author.Tests.{eq-eqb, ne-eqb}
-use Rattle.paper.specs.Tokens.{same}
-use Rattle.paper_types.specs.TableNumbers.{ruleNameRepeated, ruleReservedMember, ruleEnumValue, ruleNoType, ruleBase, ruleImplementedTwice}
+use Rattle.paper_types.specs.TableNumbers.{ruleNameRepeated, ruleReservedMember, ruleEnumValue, ruleNoType, ruleBase}
 use Rattle.paper_types.specs.Types.{Argument, Member, Table, isUnknown}
-use Rattle.paper_types.specs.Rules.{earlier, isReserved, memberNamed, argumentNamed, isNoEnumValue, baseMeant, memberUnknown, isOutput, memberBaseWrong, memberNoObject, noInterface}
-use Rattle.faults.specs.Faults.{memberFails, argumentFails, implementedFails}
+use Rattle.paper_types.specs.Rules.{earlier, isReserved, memberNamed, argumentNamed, isNoEnumValue, baseMeant, memberUnknown, isOutput, memberBaseWrong, memberNoObject}
+use Rattle.faults.specs.Faults.{memberFails, argumentFails}
 
 module _ (rule : ℕ) (t : Table) (ms : List Member) (m : ℕ) (e : Member) where
   pub member-seven : rule ≡ ruleNoType → memberUnknown t m e ≡ memberFails rule t ms m e
@@ -62,12 +61,3 @@ module _ (rule : ℕ) (t : Table) (xs : List Argument) (a : ℕ) (x : Argument) 
         pub argument-other : (rule ≡ ruleReservedMember → ⊥) → false ≡ argumentFails rule t xs a x
         unfolding argumentFails
         argument-other n5 = sym (rw (ne-eqb rule ruleNoType n7, ne-eqb rule ruleBase n8, ne-eqb rule ruleNameRepeated n4, ne-eqb rule ruleReservedMember n5) refl)
-
-module _ (rule : ℕ) (t : Table) (ns : List (List ℕ)) (m : ℕ) (n : List ℕ) where
-  pub implemented-ten : rule ≡ ruleImplementedTwice → earlier (same n) m ns ≡ implementedFails rule t ns m n
-  unfolding implementedFails
-  implemented-ten k = sym (rw (eq-eqb rule ruleImplementedTwice k) refl)
-
-  pub implemented-other : (rule ≡ ruleImplementedTwice → ⊥) → noInterface t m n ≡ implementedFails rule t ns m n
-  unfolding implementedFails
-  implemented-other k = sym (rw (ne-eqb rule ruleImplementedTwice k) refl)

@@ -1,17 +1,12 @@
 -- The tests of the rules that ask each member, and each argument of a member, by the rule's number.
 -- Assumes nothing.
-use mathlib.Core.Bool.{Bool, false, _&&_, cond}
+use mathlib.Core.Bool.{Bool, false, cond}
 use mathlib.Core.List.{List}
 use Prim.Native.Nat.{ℕ}
-use lib.Dec.{leb, eqb}
-use Rattle.paper.specs.Tokens.{same}
-use Rattle.paper_types.specs.TableNumbers.{tagObject, tagUnion, ruleNameRepeated, ruleReservedMember, ruleEnumValue, ruleNoType, ruleBase, ruleImplementedTwice}
+use lib.Dec.{eqb}
+use Rattle.paper_types.specs.TableNumbers.{ruleNameRepeated, ruleReservedMember, ruleEnumValue, ruleNoType, ruleBase}
 use Rattle.paper_types.specs.Types.{Argument, Member, Table, isUnknown}
-use Rattle.paper_types.specs.Rules.{earlier, isReserved, memberNamed, argumentNamed, isNoEnumValue, baseMeant, memberUnknown, isOutput, memberBaseWrong, memberNoObject, noInterface}
-
--- object, interface or union
-abbrev pub isOutputTag : ℕ → Bool
-isOutputTag k = leb tagObject k && leb k tagUnion
+use Rattle.paper_types.specs.Rules.{earlier, isReserved, memberNamed, argumentNamed, isNoEnumValue, baseMeant, memberUnknown, isOutput, memberBaseWrong, memberNoObject}
 
 -- member m, one of these, breaks the rule of this number: 4 to 8; of any other, its name is no object's
 unfoldable pub memberFails : ℕ → Table → List Member → ℕ → Member → Bool
@@ -29,7 +24,3 @@ argumentFails rule t xs a x =
     (cond (eqb rule ruleBase) (isOutput (baseMeant t (x .type)))
     (cond (eqb rule ruleNameRepeated) (earlier (argumentNamed (x .name)) a xs)
     (cond (eqb rule ruleReservedMember) (isReserved (x .name)) false)))
-
--- implemented name m, one of these, breaks the rule of this number: 10; of any other, it is no interface's
-unfoldable pub implementedFails : ℕ → Table → List (List ℕ) → ℕ → List ℕ → Bool
-implementedFails rule t ns m n = cond (eqb rule ruleImplementedTwice) (earlier (same n) m ns) (noInterface t m n)

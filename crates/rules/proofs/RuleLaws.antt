@@ -10,7 +10,8 @@ use borrow.Author.Tests.{eq-eqb, ne-eqb, eqb-true, le-leb, lt-leb}
 use Rattle.paper_types.specs.Lists.{eachFrom, each, onlyIf}
 use Rattle.paper_types.specs.Types.{Argument, Member, Definition, Table}
 use Rattle.paper_types.specs.Rules.{Place, wholeOf, memberAt, argumentAt, argumentPlaces, memberPlaces, typeKnown, directiveKnown, reservedName, nameKnown, noMembers, nameRepeated, reservedMember, isNoEnumValue, enumValue, noType, wrongBase, memberNoObject, notObjectOrInterface, implementedTwice, rootNotObject, isReserved}
-use Rattle.faults.specs.Faults.{memberFails, argumentFails, implementedFails}
+use Rattle.bases.specs.Meanings.{implementedFails}
+use Rattle.faults.specs.Faults.{memberFails, argumentFails}
 use Rattle.walks.specs.Walks.{membersAt, implementedAt}
 
 module _ {A B : Type 0} where

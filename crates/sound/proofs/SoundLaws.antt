@@ -19,8 +19,8 @@ use Rattle.paper_types.proofs.TextLaws.{same-sound}
 use Rattle.index.specs.Book.{part}
 use Rattle.index.proofs.Texts.{length-part}
 use Rattle.members.specs.Members.{fieldsIn, memberFrom, First}
-use Rattle.faults.specs.Faults.{isOutputTag}
-use Rattle.faults.proofs.TestLaws.{unknown-field, unknown-input, unknown-other, wrong-field, wrong-input, wrong-other}
+use Rattle.bases.specs.Meanings.{isOutputTag}
+use Rattle.bases.proofs.TestLaws.{unknown-field, unknown-input, unknown-other, wrong-field, wrong-input, wrong-other}
 use Rattle.sound.specs.Sound.{EveryFrom, memberName, argumentName, Before, ArgumentSound, BaseSound, MemberSound, Sound, InputTag, cells, long, secondLast, last, tailAt, cellOf, Seen, Noted, Onward, Told}
 
 -- nothing is shown of what is sound

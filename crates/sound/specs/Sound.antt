@@ -11,7 +11,7 @@ use lib.Dec.{eqb, ltb}
 use Rattle.paper.specs.Tokens.{same}
 use Rattle.paper_types.specs.Types.{Argument, Member, Definition, Table, isUnknown}
 use Rattle.paper_types.specs.Rules.{earlier, isReserved, isNoEnumValue, baseMeant, memberUnknown, isOutput, memberBaseWrong, nameRepeated, reservedMember, enumValue, noType, wrongBase}
-use Rattle.faults.specs.Faults.{isOutputTag}
+use Rattle.bases.specs.Meanings.{isOutputTag}
 
 -- each element of a list, with its number, counted from i
 abbrev pub EveryFrom : {A : Type 0} → (ℕ → A → Type 0) → ℕ → List A → Type 0

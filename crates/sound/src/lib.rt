@@ -136,7 +136,7 @@ fn is_input(tag: u32) -> bool
     if tag == NO_TYPE {
         return false;
     }
-    !faults::is_output(tag)
+    !bases::is_output(tag)
 }
 
 // Rules 4, 5, 7 and 8 of the argument from `start` up to `stop`, its number a, of the field from `from` up to `end`.
@@ -161,7 +161,7 @@ fn is_argument_sound(
     if !is_argument_new(t, seen, mark, from, end, a, name.at, name.size) {
         return false;
     }
-    is_input(faults::base_tag(t, book, start, stop))
+    is_input(bases::base_tag(t, book, start, stop))
 }
 
 // The same of all the arguments of the member with this tag and content.
@@ -203,14 +203,14 @@ fn is_base_sound(t: &[u8], book: &[u32], tag: u8, start: usize, end: usize) -> b
     ensures { λ r. ⌜ (r ≡ true → BaseSound (tableOf (now (t .entry))) (memberFrom (now (t .entry)) tag start end)) ⌝ }
 {
     if tag == TAG_FIELD {
-        let base = faults::base_tag(t, book, start, end);
+        let base = bases::base_tag(t, book, start, end);
         if base == NO_TYPE {
             return false;
         }
         return base != INPUT_OBJECT;
     }
     if tag == TAG_ARGUMENT {
-        return is_input(faults::base_tag(t, book, start, end));
+        return is_input(bases::base_tag(t, book, start, end));
     }
     true
 }

@@ -5,7 +5,8 @@ use Prim.Native.Nat.{ℕ}
 use Rattle.paper_types.specs.Lists.{each, onlyIf}
 use Rattle.paper_types.specs.Types.{Member, Table}
 use Rattle.paper_types.specs.Rules.{Place, memberAt, argumentPlaces, memberPlaces}
-use Rattle.faults.specs.Faults.{memberFails, argumentFails, implementedFails}
+use Rattle.bases.specs.Meanings.{implementedFails}
+use Rattle.faults.specs.Faults.{memberFails, argumentFails}
 
 -- of member m the arguments, and the member behind them, one of these members
 abbrev pub argumentsAt : ℕ → Table → ℕ → Member → List Place

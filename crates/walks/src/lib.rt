@@ -125,7 +125,7 @@ pub fn implemented_place(t: &[u8], book: &[u32], rule: u32, from: usize, end: us
         else {
             return PlaceRead::Kept;
         };
-        if faults::is_implemented_broken(t, book, rule, from, end, m, start, stop) {
+        if bases::is_implemented_broken(t, book, rule, from, end, m, start, stop) {
             return PlaceRead::At {
                 member: m,
                 part: NO_PLACE,

@@ -9,7 +9,7 @@ use Rattle.paper_types.specs.Lists.{anyOf}
 use Rattle.paper_types.specs.Types.{tableOf}
 use Rattle.paper_types.specs.Rules.{isReserved, argumentNamed}
 use Rattle.members.specs.Members.{argumentsIn, argumentFrom}
-use Rattle.faults.specs.Faults.{isOutputTag}
+use Rattle.bases.specs.Meanings.{isOutputTag}
 use Rattle.faults.proofs.FailLaws.{argument-seven, argument-eight, argument-four, argument-five, argument-other}
 use Rattle.faults.proofs.is_argument_broken.Statement.{statement}
 use Rattle.faults.proofs.is_argument_broken.Tie as tie

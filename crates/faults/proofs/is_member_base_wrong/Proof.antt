@@ -1,7 +1,7 @@
 -- By the member's tag.
 use borrow.Author.Needs.{needs}
 use mathlib.Core.Path.{_∙_}
-use Rattle.faults.proofs.TestLaws.{wrong-field, wrong-input, wrong-other}
+use Rattle.bases.proofs.TestLaws.{wrong-field, wrong-input, wrong-other}
 use Rattle.faults.proofs.is_member_base_wrong.Statement.{statement}
 use Rattle.faults.proofs.is_member_base_wrong.Tie as tie
 

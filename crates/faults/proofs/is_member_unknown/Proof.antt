@@ -1,6 +1,6 @@
 -- By the member's tag.
 use borrow.Author.Needs.{needs}
-use Rattle.faults.proofs.TestLaws.{unknown-field, unknown-input, unknown-other}
+use Rattle.bases.proofs.TestLaws.{unknown-field, unknown-input, unknown-other}
 use Rattle.faults.proofs.is_member_unknown.Statement.{statement}
 use Rattle.faults.proofs.is_member_unknown.Tie as tie
 

@@ -1,7 +1,7 @@
 -- Two bounds of a tag.
-use Rattle.faults.proofs.TestLaws.{output-low, output-high}
-use Rattle.faults.proofs.is_output.Statement.{statement}
-use Rattle.faults.proofs.is_output.Tie as tie
+use Rattle.bases.proofs.TestLaws.{output-low, output-high}
+use Rattle.bases.proofs.is_output.Statement.{statement}
+use Rattle.bases.proofs.is_output.Tie as tie
 
 returns : tie.Need-returns
 returns c = output-low _ (c .if1 .taken)

@@ -7,9 +7,9 @@ use lib.Dec.{eqb}
 use Rattle.paper_types.specs.Types.{tableOf}
 use Rattle.index.specs.Book.{part}
 use Rattle.members.specs.Members.{implementedIn}
-use Rattle.faults.proofs.FailLaws.{implemented-ten, implemented-other}
-use Rattle.faults.proofs.is_implemented_broken.Statement.{statement}
-use Rattle.faults.proofs.is_implemented_broken.Tie as tie
+use Rattle.bases.proofs.ImplementedLaws.{implemented-ten, implemented-other}
+use Rattle.bases.proofs.is_implemented_broken.Statement.{statement}
+use Rattle.bases.proofs.is_implemented_broken.Tie as tie
 
 sub-is-implemented-before : tie.Need-sub-is-implemented-before
 sub-is-implemented-before c = search needs

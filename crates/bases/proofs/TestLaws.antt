@@ -10,7 +10,7 @@ use Rattle.paper_types.specs.TableNumbers.{tagField, tagArgument}
 use Rattle.paper_types.specs.Types.{tableOf, typeIn, nameOnly}
 use Rattle.paper_types.specs.Rules.{baseMeant, memberUnknown, memberBaseWrong}
 use Rattle.members.specs.Members.{fieldsIn, memberFrom}
-use Rattle.faults.specs.Faults.{isOutputTag}
+use Rattle.bases.specs.Meanings.{isOutputTag}
 
 pub output-low : (k : ℕ) → k < 2 → false ≡ isOutputTag k
 output-low k h = sym (rw (lt-leb 2 k h) refl)

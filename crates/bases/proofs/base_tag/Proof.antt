@@ -4,8 +4,8 @@ use mathlib.Core.Path.{ap, _∙_}
 use mathlib.Core.List.{List}
 use Prim.Native.Nat.{ℕ}
 use Rattle.paper_types.specs.Types.{tableOf, meant}
-use Rattle.faults.proofs.base_tag.Statement.{statement}
-use Rattle.faults.proofs.base_tag.Tie as tie
+use Rattle.bases.proofs.base_tag.Statement.{statement}
+use Rattle.bases.proofs.base_tag.Tie as tie
 
 type-in-requires : tie.Need-type-in-requires
 type-in-requires c κs = search needs
