@@ -11,8 +11,8 @@ use Rattle.paper_types.specs.Rules.{argumentNamed}
 use Rattle.paper_rules.specs.Rule14Argument.{lacks}
 use Rattle.members.specs.Members.{argumentsIn}
 use Rattle.members.proofs.MemberLaws.{field-is}
-use Rattle.composites.specs.Coded.{fieldTypename, fieldCoded}
-use Rattle.composites.proofs.FieldLaws.{by-number}
+use Rattle.belonging.specs.Kept.{fieldTypename, fieldCoded}
+use Rattle.belonging.proofs.FieldLaws.{by-number}
 
 module _ (t : List ℕ) (at to : ℕ) (n : List ℕ) where
   pub lacks-unknown : at < fieldTypename → lacks (fieldCoded t at to) n ≡ false

@@ -1,5 +1,5 @@
 // The query rule 14: what a table says of a field's arguments. It is judged where the field is known.
-use composites::FIELD_TYPENAME;
+use belonging::FIELD_TYPENAME;
 use constructs::kind_of;
 use constructs::name_of;
 use constructs::parent_of;

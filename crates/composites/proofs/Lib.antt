@@ -1,5 +1,2 @@
--- Laws of this crate, in the order in which they use each other.
+-- Laws of this crate.
 pub mod CompositeLaws
-pub mod RootLaws
-pub mod FieldLaws
-pub mod Framed

@@ -22,9 +22,9 @@ use Rattle.members.proofs.MemberLaws.{field-is}
 use Rattle.types.specs.Booked.{startIn, endIn, kindIn, Booked, NumberMeant}
 use Rattle.constructs.specs.Rowed.{rowIn}
 use Rattle.constructs.proofs.RowsIn.{row-none}
-use Rattle.composites.specs.Coded.{fieldTypename, fieldUnknown, fieldMissing, fieldCoded, FieldKept}
+use Rattle.belonging.specs.Kept.{fieldTypename, fieldUnknown, fieldMissing, fieldCoded, FieldKept}
 use Rattle.composites.proofs.CompositeLaws.{kind-is}
-use Rattle.composites.proofs.FieldLaws.{coded-member}
+use Rattle.belonging.proofs.FieldLaws.{coded-member}
 use Rattle.shapes.specs.Shapes.{placeUnknown, placeFirst, coded, Keeps, slimArgument, slimInput, argumentShape, memberShape}
 use Rattle.dues.specs.Dues.{Fitted}
 use Rattle.shapes.specs.declared.Place.{Place}

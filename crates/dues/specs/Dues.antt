@@ -11,7 +11,7 @@ use Rattle.paper_types.specs.TableSizes.{counts}
 use Rattle.paper_types.specs.Types.{tableOf}
 use Rattle.paper_rules.specs.Enclosing.{fieldAt}
 use Rattle.constructs.specs.Rowed.{docOf, rowIn, roomOf}
-use Rattle.composites.specs.Coded.{FieldKept}
+use Rattle.belonging.specs.Kept.{FieldKept}
 
 -- what is asked of a table: framing and sizes are right
 pub record Fitted (t : List ℕ) : Type 0 where

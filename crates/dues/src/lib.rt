@@ -1,5 +1,5 @@
 // The type that is due at one argument, object field or value of a document, given that due at its parent.
-use composites::FIELD_TYPENAME;
+use belonging::FIELD_TYPENAME;
 use constructs::kind_of;
 use constructs::parent_of;
 use links::link_of;

@@ -12,7 +12,8 @@ use Rattle.paper_rules.specs.Enclosing.{inside, fieldAt}
 use Rattle.types.specs.Booked.{Booked}
 use Rattle.constructs.specs.Rowed.{rowIn, rowsIn, docOf, Rowed, roomOf}
 use Rattle.links.specs.Links.{Family}
-use Rattle.composites.specs.Coded.{typeCoded, FieldKept, Fielded}
+use Rattle.composites.specs.Coded.{typeCoded}
+use Rattle.belonging.specs.Kept.{FieldKept, Fielded}
 
 -- the kinds of rows that may have a type inside: operations, fragments, fields, inline fragments
 abbrev pub encloses : ℕ → Bool

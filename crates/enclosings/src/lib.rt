@@ -20,7 +20,8 @@ ghost use Rattle.paper_types.specs.Types.{tableOf};
 ghost use Rattle.paper_rules.specs.Enclosing.{conditionOf, conditioned, insideFrom, enclosing};
 ghost use Rattle.types.specs.Booked.{Booked};
 ghost use Rattle.constructs.specs.Rowed.{rowIn, docOf, Rowed, Sized, roomOf};
-ghost use Rattle.composites.specs.Coded.{typeCoded, Fielded};
+ghost use Rattle.composites.specs.Coded.{typeCoded};
+ghost use Rattle.belonging.specs.Kept.{Fielded};
 ghost use Rattle.enclosings.specs.Enclosed.{encloses, typeKept, Asked, EnclosedTo, Enclosed};
 
 // Has a row of this kind a type inside?
@@ -95,7 +96,7 @@ fn other_type(
 {
     let kind = kind_of(rows, n, i);
     if kind == KIND_OPERATION {
-        return composites::root_type(t, book, extra_of(rows, n, i));
+        return roots::root_type(t, book, extra_of(rows, n, i));
     }
     if kind == KIND_FRAGMENT {
         return condition_type(t, book, s, rows, n, first, next, i, NO_TYPE);
@@ -119,7 +120,7 @@ fn enclose_field(
     requires { ⌜ Booked (now t) (now book) × Fielded (tableOf (now t)) × Rowed (now s) (now rows) n × EnclosedTo (now t) (now s) (now rows) n i (now inside) (now at) (now to) × (i < n) × (rowIn (now rows) n i .kind ≡ kindField) × (enclosing (tableOf (now t)) (docOf (now s) (now rows) n) i ≡ typeCoded above) ⌝ }
     ensures { λ _. ⌜ EnclosedTo (now (t .entry)) (now (s .entry)) (now (rows .entry)) n (suc i) (now (inside .exit)) (now (at .exit)) (now (to .exit)) ⌝ }
 {
-    let f = composites::field_in(
+    let f = belonging::field_in(
         t,
         book,
         above,
@@ -127,7 +128,7 @@ fn enclose_field(
         name_of(rows, n, i) as usize,
         size_of(rows, n, i) as usize,
     );
-    inside[i] = composites::field_type(t, book, f.at, f.to);
+    inside[i] = belonging::field_type(t, book, f.at, f.to);
     at[i] = f.at;
     to[i] = f.to;
 }

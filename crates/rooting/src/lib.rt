@@ -57,5 +57,5 @@ pub fn no_root(t: &[u8], book: &[u32], s: &[u8], rows: &[u32], n: usize, i: usiz
     if kind_of(rows, n, i) != KIND_OPERATION {
         return false;
     }
-    !composites::has_root(t, book, extra_of(rows, n, i))
+    !roots::has_root(t, book, extra_of(rows, n, i))
 }

@@ -14,8 +14,9 @@ use Rattle.paper_rules.specs.Rule5Field.{isMissing}
 use Rattle.paper_rules.specs.Rule6Leaf.{unlike}
 use Rattle.paper_rules.proofs.EnclosingLaws.{composite-found}
 use Rattle.members.specs.Members.{memberFrom}
-use Rattle.composites.specs.Coded.{typeCoded, fieldMissing, fieldTypename, fieldCoded}
-use Rattle.composites.proofs.FieldLaws.{by-number}
+use Rattle.composites.specs.Coded.{typeCoded}
+use Rattle.belonging.specs.Kept.{fieldMissing, fieldTypename, fieldCoded}
+use Rattle.belonging.proofs.FieldLaws.{by-number}
 
 module _ (t : List ℕ) (at to : ℕ) where
   pub coded-misses : isMissing (fieldCoded t at to) ≡ eqb at fieldMissing

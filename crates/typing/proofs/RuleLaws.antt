@@ -15,7 +15,8 @@ use Rattle.paper_rules.specs.Constructs.{Doc, isSelection, below, kindOf}
 use Rattle.paper_rules.specs.Enclosing.{typeIn, fieldAt}
 use Rattle.paper_rules.specs.Rule5Field.{fieldMissing}
 use Rattle.paper_rules.specs.Rule6Leaf.{hasSelections, leafWrong}
-use Rattle.composites.specs.Coded.{typeCoded, fieldMissing as numberMissing, fieldTypename, FieldKept}
+use Rattle.composites.specs.Coded.{typeCoded}
+use Rattle.belonging.specs.Kept.{fieldMissing as numberMissing, fieldTypename, FieldKept}
 use Rattle.typing.proofs.CodedLaws.{coded-misses, leaf-unknown, leaf-known, type-found}
 
 module _ (x : Table) (d : Doc) (i : ℕ) where

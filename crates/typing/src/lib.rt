@@ -1,6 +1,6 @@
 // The query rules 5 and 6: what a table says of fields and their selections. They are judged where the enclosing type is known.
-use composites::FIELD_MISSING;
-use composites::FIELD_TYPENAME;
+use belonging::FIELD_MISSING;
+use belonging::FIELD_TYPENAME;
 use composites::NO_TYPE;
 use constructs::kind_of;
 use links::link_of;

@@ -14,7 +14,7 @@ use Rattle.members.specs.Members.{argumentsIn}
 use Rattle.constructs.specs.Rowed.{docOf}
 use Rattle.constructs.proofs.RowsIn.{rowed-sized, name-within}
 use Rattle.constructs.proofs.Rooms.{room-enough}
-use Rattle.composites.specs.Coded.{FieldKept}
+use Rattle.belonging.specs.Kept.{FieldKept}
 use Rattle.arguing.proofs.CodedLaws.{lacks-unknown, lacks-typename, lacks-member}
 use borrow.Author.Needs.{needs}
 use Rattle.arguing.proofs.lacks_argument.Statement.{statement}

@@ -10,7 +10,7 @@ use Rattle.paper_rules.specs.Enclosing.{fieldAt}
 use Rattle.constructs.specs.Rowed.{docOf, rowIn}
 use Rattle.constructs.proofs.RowsIn.{rowed-sized}
 use Rattle.constructs.proofs.Rooms.{room-enough}
-use Rattle.composites.specs.Coded.{FieldKept}
+use Rattle.belonging.specs.Kept.{FieldKept}
 use Rattle.shapes.proofs.ShapeLaws.{keeps-unknown, keeps-boolean}
 use Rattle.dues.proofs.PlaceCases.{field-there, argument-of-directive, argument-of-other, argument-of-leaf, member-slim, argument-of-member}
 use Rattle.dues.proofs.argument_place.Statement.{statement}

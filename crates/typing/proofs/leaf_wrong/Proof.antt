@@ -8,7 +8,8 @@ use Rattle.paper_rules.specs.Enclosing.{fieldAt, typeIn}
 use Rattle.constructs.specs.Rowed.{rowIn, docOf}
 use Rattle.constructs.proofs.RowsIn.{rowed-sized}
 use Rattle.constructs.proofs.Rooms.{room-enough}
-use Rattle.composites.specs.Coded.{typeCoded, FieldKept}
+use Rattle.composites.specs.Coded.{typeCoded}
+use Rattle.belonging.specs.Kept.{FieldKept}
 use Rattle.enclosings.proofs.KindLaws.{field-encloses}
 use Rattle.enclosings.proofs.EnclosedLaws.{field-inside}
 use Rattle.typing.proofs.RuleLaws.{leaf-other, leaf-nowhere, leaf-selects, leaf-selects-not}

@@ -1,10 +1,10 @@
 -- By what is found.
 use mathlib.Core.Path.{sym, ap, subst}
 use Rattle.paper_types.specs.References.{found}
-use Rattle.composites.specs.Coded.{RootFinds}
+use Rattle.roots.specs.Rooted.{RootFinds}
 use borrow.Author.Needs.{needs}
-use Rattle.composites.proofs.has_root.Statement.{statement}
-use Rattle.composites.proofs.has_root.Tie as tie
+use Rattle.roots.proofs.has_root.Statement.{statement}
+use Rattle.roots.proofs.has_root.Tie as tie
 
 find-root-requires : tie.Need-find-root-requires
 find-root-requires c κs = search needs

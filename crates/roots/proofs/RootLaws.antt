@@ -15,7 +15,7 @@ use Rattle.paper_rules.specs.Enclosing.{then, compositeOf, rootOf}
 use Rattle.index.specs.Book.{countIn}
 use Rattle.members.specs.Members.{membersIn, memberFrom, Finds}
 use Rattle.types.specs.Booked.{startIn, endIn, Booked}
-use Rattle.composites.specs.Coded.{tagged, RootWritten}
+use Rattle.roots.specs.Rooted.{tagged, RootWritten}
 
 find-at : {A : Type 0} (p : A → Bool) (d : A) (xs : List A) → firstAt p xs < length xs → find p xs ≡ some (getD xs (firstAt p xs) d)
 unfolding find firstAt

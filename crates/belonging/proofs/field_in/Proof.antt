@@ -1,10 +1,10 @@
 -- By the type above, then by the name.
 use mathlib.Core.Path.{sym, _∙_}
 use Rattle.index.specs.Book.{part}
-use Rattle.composites.proofs.FieldLaws.{type-some, in-none, in-typename, in-type}
+use Rattle.belonging.proofs.FieldLaws.{type-some, in-none, in-typename, in-type}
 use borrow.Author.Needs.{needs}
-use Rattle.composites.proofs.field_in.Statement.{statement}
-use Rattle.composites.proofs.field_in.Tie as tie
+use Rattle.belonging.proofs.field_in.Statement.{statement}
+use Rattle.belonging.proofs.field_in.Tie as tie
 
 returns : tie.Need-returns
 returns c =

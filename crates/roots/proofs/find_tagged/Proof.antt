@@ -8,10 +8,10 @@ use Rattle.members.specs.Members.{membersIn, NextMember}
 use Rattle.members.specs.declared.FieldFound.the-variants.{Found}
 use Rattle.members.proofs.FindLaws.{Sought, sought-start, find-none, find-found, find-more}
 use Rattle.members.proofs.MemberLaws.{member-tag}
-use Rattle.composites.specs.Coded.{tagged}
+use Rattle.roots.specs.Rooted.{tagged}
 use borrow.Author.Needs.{needs}
-use Rattle.composites.proofs.find_tagged.Statement.{statement}
-use Rattle.composites.proofs.find_tagged.Tie as tie
+use Rattle.roots.proofs.find_tagged.Statement.{statement}
+use Rattle.roots.proofs.find_tagged.Tie as tie
 
 abbrev Inv-loop : tie.InvT-loop
 Inv-loop t from end tag i₀ i = Sought from end i (find (tagged tag) (membersIn t from end)) (find (tagged tag) (membersIn t i end))

@@ -1,11 +1,11 @@
 -- By what is found.
 use mathlib.Core.Path.{refl, subst}
 use Rattle.paper_types.specs.Lists.{bytes}
-use Rattle.composites.specs.Coded.{RootFinds, RootWritten}
-use Rattle.composites.proofs.RootLaws.{root-typed, root-untyped}
+use Rattle.roots.specs.Rooted.{RootFinds, RootWritten}
+use Rattle.roots.proofs.RootLaws.{root-typed, root-untyped}
 use borrow.Author.Needs.{needs}
-use Rattle.composites.proofs.root_type.Statement.{statement}
-use Rattle.composites.proofs.root_type.Tie as tie
+use Rattle.roots.proofs.root_type.Statement.{statement}
+use Rattle.roots.proofs.root_type.Tie as tie
 
 written : (c : tie.After-r)
     → RootWritten (c .before .before .before .before .before .args .t .now) (c .before .before .before .before .before .args .x) (c .r .given .0 .0) (c .r .given .0 .1 .0) (c .r .given .0 .1 .1 .0)

@@ -5,11 +5,11 @@ use native.Mathlib.Omega.{arith}
 use Rattle.paper_types.specs.TableNumbers.{tagQueryRoot}
 use Rattle.index.specs.Book.{countIn}
 use Rattle.types.proofs.Objects.{entry-bounds}
-use Rattle.composites.specs.Coded.{FindTagged}
-use Rattle.composites.proofs.RootLaws.{query-root, no-root, written-root, unwritten-root}
+use Rattle.roots.specs.Rooted.{FindTagged}
+use Rattle.roots.proofs.RootLaws.{query-root, no-root, written-root, unwritten-root}
 use borrow.Author.Needs.{needs}
-use Rattle.composites.proofs.find_root.Statement.{statement}
-use Rattle.composites.proofs.find_root.Tie as tie
+use Rattle.roots.proofs.find_root.Statement.{statement}
+use Rattle.roots.proofs.find_root.Tie as tie
 
 written : (c : tie.Else1)
     → c .before .before .first-roots .result < countIn (c .before .before .before .before .before .args .book .now)

@@ -7,10 +7,10 @@ use Rattle.members.specs.Members.{membersIn, memberFrom, Finds, FindMember}
 use Rattle.types.proofs.Objects.{entry-bounds}
 use Rattle.paper_types.specs.Lists.{find}
 use Rattle.paper_types.specs.Rules.{memberNamed}
-use Rattle.composites.proofs.FieldLaws.{number-below, number-room, union-lacks, field-lacks, found-bounds, field-kept}
+use Rattle.belonging.proofs.FieldLaws.{number-below, number-room, union-lacks, field-lacks, found-bounds, field-kept}
 use borrow.Author.Needs.{needs}
-use Rattle.composites.proofs.find_field.Statement.{statement}
-use Rattle.composites.proofs.find_field.Tie as tie
+use Rattle.belonging.proofs.find_field.Statement.{statement}
+use Rattle.belonging.proofs.find_field.Tie as tie
 
 found : (c : tie.After-start)
     → Finds (c .before .before .before .before .start-of .result) (c .before .before .before .end-of .result) (c .start .given .0 .1 .0) (c .start .given .0 .1 .1 .0) (find (memberNamed (part (c .before .before .before .before .before .before .before .before .before .before .args .s .now) (c .before .before .before .before .before .before .before .before .before .before .args .at) (c .before .before .before .before .before .before .before .before .before .before .args .n))) (membersIn (c .before .before .before .before .before .before .before .before .before .before .args .t .now) (c .before .before .before .before .start-of .result) (c .before .before .before .end-of .result))) (memberFrom (c .before .before .before .before .before .before .before .before .before .before .args .t .now) (c .start .given .0 .0) (c .start .given .0 .1 .0) (c .start .given .0 .1 .1 .0))

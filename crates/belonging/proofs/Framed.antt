@@ -13,7 +13,7 @@ use Rattle.paper_types.specs.Rules.{isField}
 use Rattle.paper_types.proofs.Every.{Every, no-more, one-more}
 use Rattle.paper_types.proofs.FramedLaws.{RightDefinition, a-scalar, an-object, an-interface, a-union, an-enum, an-input-object, a-directive, the-roots}
 use Rattle.paper_types.proofs.FramedTable.{framing-right}
-use Rattle.composites.specs.Coded.{fieldsOnly, Fielded}
+use Rattle.belonging.specs.Kept.{fieldsOnly, Fielded}
 
 all-pass : {A : Type 0} {Q : A → Type 0} (p : A → Bool) → ((x : A) → Q x → p x ≡ true) → {xs : List A} → Every Q xs → allOf p xs ≡ true
 unfolding allOf

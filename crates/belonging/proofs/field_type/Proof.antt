@@ -1,8 +1,8 @@
 -- By the first number.
-use Rattle.composites.proofs.FieldLaws.{leaf-type, member-type}
+use Rattle.belonging.proofs.FieldLaws.{leaf-type, member-type}
 use borrow.Author.Needs.{needs}
-use Rattle.composites.proofs.field_type.Statement.{statement}
-use Rattle.composites.proofs.field_type.Tie as tie
+use Rattle.belonging.proofs.field_type.Statement.{statement}
+use Rattle.belonging.proofs.field_type.Tie as tie
 
 returns : tie.Need-returns
 returns c =

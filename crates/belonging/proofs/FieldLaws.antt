@@ -21,8 +21,9 @@ use Rattle.members.specs.Members.{fieldsIn, membersIn, memberFrom, Typed, Finds
 use Rattle.members.proofs.MemberLaws.{field-is, member-tag}
 use Rattle.types.specs.Booked.{startIn, endIn, Booked}
 use Rattle.types.proofs.Fitting.{all-at}
-use Rattle.composites.specs.Coded.{typeCoded, fieldUnknown, fieldMissing, fieldTypename, fieldCoded, FieldKept, fieldsOnly, Fielded}
+use Rattle.composites.specs.Coded.{typeCoded}
+use Rattle.belonging.specs.Kept.{fieldUnknown, fieldMissing, fieldTypename, fieldCoded, FieldKept, fieldsOnly, Fielded}
 use Rattle.composites.proofs.CompositeLaws.{output-below}
 
 -- by the first number
 module _ (t : List ℕ) (to : ℕ) where

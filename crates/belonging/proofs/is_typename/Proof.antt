@@ -1,8 +1,8 @@
 -- The text `__typename`.
 use Rattle.paper_rules.specs.Enclosing.{isTypename}
 use borrow.Author.Needs.{needs}
-use Rattle.composites.proofs.is_typename.Statement.{statement}
-use Rattle.composites.proofs.is_typename.Tie as tie
+use Rattle.belonging.proofs.is_typename.Statement.{statement}
+use Rattle.belonging.proofs.is_typename.Tie as tie
 
 slice-aggregate-is-text : tie.Need-slice-aggregate-is-text
 slice-aggregate-is-text c = search needs
