@@ -20,9 +20,10 @@ use Rattle.links.specs.Links.{nextWith}
 use Rattle.links.proofs.Nexts.{next-least, next-most, next-passes, next-skips}
 use Rattle.spreading.specs.Spreads.{FirstOf}
 use Rattle.passing.specs.Marks.{Stamped}
-use Rattle.spreading.proofs.OwnerLaws.{row-within}
 use Rattle.reaching.proofs.MarkLaws.{stamped-up}
-use Rattle.likes.specs.Flags.{noRule, Circled, FlagsBy, FlagsTo, LikenedTo, FragmentsTo}
+use Rattle.likeness.specs.Alike.{noRule}
+use Rattle.likeness.proofs.LikeLaws.{variable-within}
+use Rattle.likes.specs.Flags.{Circled, FlagsBy, FlagsTo, LikenedTo, FragmentsTo}
 use Rattle.likes.proofs.LeastLaws.{least-none, least-skip}
 
 -- the first row of kind k from row i on
@@ -125,10 +126,6 @@ pub record VariableLoop (D L : ℕ → Type 0) (d : Doc) (g : ℕ) (flag : List 
   pub most : j ≤ count d
   pub at : j < count d → kindOf d j ≡ kindVariable
   pub flags : FlagsBy (Halves D L j) d g flag
-
--- a variable is a row
-pub variable-within : (d : Doc) (i : ℕ) → kindOf d i ≡ kindVariable → i < count d
-variable-within d i e = row-within d (is kindVariable) i refl (rw e tt)
 
 module _ (D L : ℕ → Type 0) (d : Doc) (g : ℕ) (flag : List ℕ) where
   pub variables-start : (j : ℕ) → FirstKind d kindVariable 0 j → FlagsBy L d g flag → VariableLoop D L d g flag j

@@ -16,7 +16,7 @@ use Rattle.paper_rules.specs.Reaching.{Reaches}
 use Rattle.paper_rules.specs.Rule10Undefined.{defines, Undefined}
 use Rattle.paper_rules.specs.Rule11VariableType.{declaredBy, differ, Differs}
 use Rattle.spreading.proofs.OwnerLaws.{row-within}
-use Rattle.likes.specs.Flags.{noRule, verdictOf, Reaching, Said, Unsaid, Least}
+use Rattle.likeness.specs.Alike.{noRule, verdictOf, Reaching, Said, Unsaid, Least}
 
 -- what is held is true
 pub holds : {b : Bool} → b ≡ true → T b

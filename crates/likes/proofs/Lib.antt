@@ -1,5 +1,4 @@
 -- Laws of this crate, in the order in which they use each other.
 pub mod LeastLaws
 pub mod FlagsLaws
-pub mod LikeLaws
 pub mod LikenLaws

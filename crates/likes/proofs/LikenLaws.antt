@@ -13,9 +13,14 @@ use Rattle.paper_types.specs.Types.{Table}
 use Rattle.paper_rules.specs.Constructs.{Doc, count, kindOf}
 use Rattle.constructs.specs.Rowed.{roomOf}
 use Rattle.constructs.proofs.Rooms.{room-enough}
-use Rattle.likes.specs.Flags.{Least, Like, Judged, likeFirst, FlagsTo, LikenedTo, Models, ModelOf, Likened, ownFlag}
+use Rattle.likeness.specs.Alike.{Least, Unlinked}
+use Rattle.likes.specs.Flags.{Like, Judged, likeFirst, FlagsTo, LikenedTo, Known, Models, ModelOf, Likened, ownFlag}
 use Rattle.likes.specs.Flags.Likened.{copy, model}
 use Rattle.likes.proofs.FlagsLaws.{FirstKind, VariableLoop, variables-start, variables-skip, variables-set, variables-end}
+
+-- comparing asks for no links
+pub unlinked : {t s rows : List ℕ} {n : ℕ} {first next at size wrappers owner : List ℕ} → Known t s rows n first next at size wrappers owner → Unlinked t s rows n at size wrappers owner
+unlinked k = record { rowed = k .rowed; placed = k .placed; owned = k .owned }
 
 module _ (t : Table) (d : Doc) where
   -- a rule is none of the flags that say what a row is like

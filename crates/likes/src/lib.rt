@@ -1,63 +1,23 @@
 // Variables that are like one before them, in name, place and owner: what operations say of the one, they say of the other.
 // So these are not compared with the operations, but get its flag.
-use constructs::same_names;
+use likeness::is_like;
 use links::link_of;
 use paper::KIND_VARIABLE;
 ghost use mathlib.Core.Path.{_≡_};
-ghost use mathlib.Core.Bool.{true};
 ghost use Prim.Native.Nat.{_-_, _≤_, _<_};
 ghost use lib.ListN.{length, getD};
-ghost use lib.Dec.{eqb};
 ghost use Rattle.paper.specs.Numbers.{kindVariable};
 ghost use Rattle.paper_types.specs.Types.{tableOf};
 ghost use Rattle.constructs.specs.Rowed.{rowIn, rowsIn, docOf, Sized, roomOf};
 ghost use Rattle.links.specs.Links.{Kinds};
-ghost use Rattle.likes.specs.Flags.{Alike, likeFirst, FlagsTo, LikenedTo, Unlinked, Models, ModelOf, Likened, ownFlag};
+ghost use Rattle.likeness.specs.Alike.{Unlinked};
+ghost use Rattle.likes.specs.Flags.{likeFirst, FlagsTo, LikenedTo, Models, ModelOf, Likened, ownFlag};
 
 // from here on a flag says which row the variable is like, until it is settled
 pub const LIKE_FIRST: u32 = 4096;
 
 // how many models, the newest, a variable is compared with: a bound on the work
 const MOST_MODELS: usize = 64;
-
-// Is the same number kept for rows i and j?
-fn same_number(kept: &[u32], i: usize, j: usize) -> bool
-    requires { ⌜ (i < length (now kept)) × (j < length (now kept)) ⌝ }
-    ensures { λ r. ⌜ r ≡ eqb (getD (now (kept .entry)) i 0) (getD (now (kept .entry)) j 0) ⌝ }
-{
-    kept[i] == kept[j]
-}
-
-// Is the variable of row i like that of row j: of the same owner, place and name? Numbers are compared first.
-fn is_like(
-    t: &[u8],
-    s: &[u8],
-    rows: &[u32],
-    n: usize,
-    at: &[u32],
-    size: &[u32],
-    wrappers: &[u32],
-    owner: &[u32],
-    i: usize,
-    j: usize,
-) -> bool
-    requires { ⌜ Unlinked (now t) (now s) (now rows) n (now at) (now size) (now wrappers) (now owner) × (rowIn (now rows) n i .kind ≡ kindVariable) × (rowIn (now rows) n j .kind ≡ kindVariable) ⌝ }
-    ensures { λ r. ⌜ (r ≡ true → Alike (tableOf (now (t .entry))) (docOf (now (s .entry)) (now (rows .entry)) n) i j) ⌝ }
-{
-    if !same_number(owner, i, j) {
-        return false;
-    }
-    if !same_number(at, i, j) {
-        return false;
-    }
-    if !same_number(size, i, j) {
-        return false;
-    }
-    if !same_number(wrappers, i, j) {
-        return false;
-    }
-    same_names(s, rows, n, i, j)
-}
 
 // Where the newest of m models begin.
 fn newest(m: usize) -> usize

@@ -25,7 +25,7 @@ use Rattle.shapes.specs.Shapes.{placeUnknown, placeBoolean, placeFirst, coded}
 use Rattle.shapes.specs.declared.Place.{Place}
 use Rattle.shapes.proofs.ShapeLaws.{coded-unknown, coded-boolean, coded-base}
 use Rattle.placings.proofs.DeclaredLaws.{declared-some, declared-none}
-use Rattle.likes.specs.Flags.{noRule, verdictOf}
+use Rattle.likeness.specs.Alike.{noRule, verdictOf}
 
 -- two types: wrappers first
 module _ (q x : Shape) where

@@ -31,7 +31,8 @@ ghost use Rattle.links.specs.Links.{Family};
 ghost use Rattle.passing.specs.Marks.{Reached};
 ghost use Rattle.shapes.specs.Shapes.{coded, Within};
 ghost use Rattle.placings.specs.Placed.{Placed};
-ghost use Rattle.likes.specs.Flags.{verdictOf, Least, Known};
+ghost use Rattle.likeness.specs.Alike.{verdictOf, Least};
+ghost use Rattle.likes.specs.Flags.{Known};
 
 // no rule is broken
 pub const NO_RULE: u32 = 0;

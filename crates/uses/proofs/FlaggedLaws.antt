@@ -14,7 +14,8 @@ use Rattle.paper_rules.specs.Rule10Undefined.{Undefined}
 use Rattle.paper_rules.specs.Rule11VariableType.{Differs}
 use Rattle.spreading.proofs.OwnerLaws.{row-within}
 use Rattle.reaching.proofs.MarkLaws.{circle-not}
-use Rattle.likes.specs.Flags.{noRule, Least, Circled, FlagsTo, Flag, Flagged}
+use Rattle.likeness.specs.Alike.{noRule, Least}
+use Rattle.likes.specs.Flags.{Circled, FlagsTo, Flag, Flagged}
 use Rattle.likes.proofs.LeastLaws.{said-undefined, said-differs, unsaid-undefined, unsaid-differs}
 
 module _ (t : Table) (d : Doc) (i f : ℕ) where

@@ -6,7 +6,7 @@ use Rattle.paper.specs.Numbers.{mostRows}
 use Rattle.constructs.specs.Rowed.{roomOf}
 use Rattle.constructs.proofs.Rooms.{room-most, room-rows}
 use Rattle.likes.specs.Flags.Likened.{copy, model}
-use Rattle.likes.proofs.LikeLaws.{variable-room}
+use Rattle.likeness.proofs.LikeLaws.{variable-room}
 use Rattle.likes.proofs.liken_one.Statement.{statement}
 use Rattle.likes.proofs.liken_one.Tie as tie
 

@@ -4,7 +4,7 @@ use Prim.Native.Nat.{_-_, _≤_, _<_}
 use native.Mathlib.Omega.{arith}
 use Rattle.constructs.specs.Rowed.{roomOf}
 use Rattle.constructs.proofs.Rooms.{room-rows}
-use Rattle.likes.proofs.LikeLaws.{variable-room}
+use Rattle.likeness.proofs.LikeLaws.{variable-room}
 use Rattle.likes.proofs.model_of.Statement.{statement}
 use Rattle.likes.proofs.model_of.Tie as tie
 

@@ -1,7 +1,7 @@
 -- Those that are like others are set apart, and settled at the end.
 use mathlib.Core.Path.{sym, _∙_}
 use Rattle.constructs.proofs.RowsIn.{rowed-sized}
-use Rattle.likes.proofs.LikeLaws.{unlinked}
+use Rattle.likes.proofs.LikenLaws.{unlinked}
 use Rattle.uses.proofs.judge_uses.Statement.{statement}
 use Rattle.uses.proofs.judge_uses.Tie as tie
 

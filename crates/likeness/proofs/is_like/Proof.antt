@@ -10,9 +10,9 @@ use Rattle.paper_types.proofs.TextLaws.{same-sound}
 use Rattle.paper_rules.specs.Constructs.{nameOf}
 use Rattle.constructs.specs.Rowed.{docOf, roomOf}
 use Rattle.constructs.proofs.Rooms.{room-rows}
-use Rattle.likes.proofs.LikeLaws.{variable-room, alike}
-use Rattle.likes.proofs.is_like.Statement.{statement}
-use Rattle.likes.proofs.is_like.Tie as tie
+use Rattle.likeness.proofs.LikeLaws.{variable-room, alike}
+use Rattle.likeness.proofs.is_like.Statement.{statement}
+use Rattle.likeness.proofs.is_like.Tie as tie
 
 equal : (b : Bool) (x y : ℕ) → not b ≡ false → b ≡ eqb x y → x ≡ y
 equal b x y l e = eqb-true x y (sym e ∙ not-false b l)

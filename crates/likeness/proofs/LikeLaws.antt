@@ -1,5 +1,5 @@
 -- Variables that are alike: of the same name, place and owner. What operations say of the one they say of the other.
-use mathlib.Core.Path.{_≡_, sym, ap, subst, _∙_}
+use mathlib.Core.Path.{_≡_, refl, sym, ap, subst, _∙_}
 use mathlib.Core.Logic.{⊎-elim}
 use mathlib.Core.List.{List}
 use Prim.Native.Nat.{ℕ, _<_}
@@ -9,7 +9,7 @@ use lib.Dec.{eqb→eq}
 use Rattle.paper.specs.Numbers.{kindOperation, kindVariable}
 use Rattle.paper_types.specs.Types.{Table, tableOf}
 use Rattle.paper_rules.specs.QueryNumbers.{ruleUndefined, ruleVariableType}
-use Rattle.paper_rules.specs.Constructs.{Doc, count, kindOf, nameOf}
+use Rattle.paper_rules.specs.Constructs.{Doc, count, is, kindOf, nameOf}
 use Rattle.paper_rules.specs.PlaceTypes.{place}
 use Rattle.paper_rules.specs.Reaching.{Within, Reaches}
 use Rattle.paper_rules.specs.Reaching.Reaches.{here, through}
@@ -17,13 +17,12 @@ use Rattle.constructs.specs.Rowed.{docOf, rowIn, roomOf}
 use Rattle.constructs.proofs.RowsIn.{rows-count}
 use Rattle.constructs.proofs.Rooms.{room-enough}
 use Rattle.spreading.specs.Owners.{Defines, Owned}
-use Rattle.spreading.proofs.OwnerLaws.{definition-within, operation-defines}
+use Rattle.spreading.proofs.OwnerLaws.{row-within, definition-within, operation-defines}
 use Rattle.passing.proofs.DrawLaws.{draws-defines}
 use Rattle.reaching.proofs.DrawLaws.{reaches-either}
 use Rattle.shapes.specs.Shapes.{coded}
 use Rattle.placings.proofs.PlacedLaws.{in-row, placed-at}
-use Rattle.likes.specs.Flags.{verdictOf, Reaching, Said, Unsaid, Alike, Known, Unlinked}
-use Rattle.likes.proofs.FlagsLaws.{variable-within}
+use Rattle.likeness.specs.Alike.{verdictOf, Reaching, Said, Unsaid, Alike, Unlinked}
 
 -- what reaches a row is told by its owner
 module _ (d : Doc) (owner : List ℕ) (w : Owned d owner) (i j : ℕ) (l : i < count d) (m : j < count d) (q : getD owner i 0 ≡ getD owner j 0) where
@@ -62,8 +61,9 @@ module _ (t : Table) (d : Doc) (i j : ℕ) (e : nameOf d i ≡ nameOf d j) (p : 
       known = x .known;
     }
 
-pub unlinked : {t s rows : List ℕ} {n : ℕ} {first next at size wrappers owner : List ℕ} → Known t s rows n first next at size wrappers owner → Unlinked t s rows n at size wrappers owner
-unlinked k = record { rowed = k .rowed; placed = k .placed; owned = k .owned }
+-- a variable is a row
+pub variable-within : (d : Doc) (i : ℕ) → kindOf d i ≡ kindVariable → i < count d
+variable-within d i e = row-within d (is kindVariable) i refl (rw e tt)
 
 -- a variable is one of the rows, and in room
 pub variable-room : {t s rows : List ℕ} {n : ℕ} {at size wrappers owner : List ℕ} → Unlinked t s rows n at size wrappers owner → (i : ℕ) → rowIn rows n i .kind ≡ kindVariable → i < roomOf n
