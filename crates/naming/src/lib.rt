@@ -5,14 +5,12 @@ use constructs::name_of;
 use constructs::size_of;
 use links::link_of;
 use paper::KIND_FRAGMENT;
-use paper::KIND_SPREAD;
 ghost use mathlib.Core.Path.{_≡_};
 ghost use Prim.Native.Nat.{_+_, _≤_, _<_};
 ghost use lib.ListN.{length};
 ghost use Rattle.index.specs.Book.{part};
 ghost use Rattle.paper_rules.specs.Constructs.{nameOf, fragmentNamed};
 ghost use Rattle.paper_rules.specs.Rule3FragmentRepeated.{fragmentRepeated};
-ghost use Rattle.paper_rules.specs.Rule7Spread.{spreadOfNone};
 ghost use Rattle.constructs.specs.Rowed.{rowsIn, docOf, Rowed};
 ghost use Rattle.links.specs.Links.{kindsSize, Kinds};
 ghost use Rattle.naming.specs.Called.{firstCalled};
@@ -75,22 +73,4 @@ pub fn fragment_repeated(
         return false;
     }
     fragment_named(s, rows, n, firstk, nextk, i) < i
-}
-
-// Rule 7: does this spread name no fragment?
-pub fn spread_of_none(
-    s: &[u8],
-    rows: &[u32],
-    n: usize,
-    firstk: &[u32],
-    nextk: &[u32],
-    i: usize,
-) -> bool
-    requires { ⌜ Rowed (now s) (now rows) n × Kinds (rowsIn (now rows) n) (now firstk) (now nextk) × (i < n) ⌝ }
-    ensures { λ r. ⌜ r ≡ spreadOfNone (docOf (now (s .entry)) (now (rows .entry)) n) i ⌝ }
-{
-    if kind_of(rows, n, i) != KIND_SPREAD {
-        return false;
-    }
-    n <= fragment_named(s, rows, n, firstk, nextk, i)
 }
