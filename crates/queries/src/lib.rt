@@ -61,7 +61,7 @@ fn judge_placed(
         target,
         flags,
     );
-    verdicts::judge_rows(
+    judging::judge_rows(
         t,
         book,
         s,

@@ -1,4 +1,3 @@
 -- Laws of this crate.
 pub mod LeastLaws
 pub mod RowLaws
-pub mod JudgedLaws

@@ -1,4 +1,4 @@
-// Judges the rows of a document, all made ready: the least rule that each breaks, and the first row that breaks one.
+// Judges one row of a document, all made ready: the least rule that it breaks.
 use constructs::kind_of;
 use paper::KIND_ARGUMENT;
 use paper::KIND_DIRECTIVE;
@@ -9,7 +9,6 @@ use paper::KIND_SPREAD;
 use paper::KIND_TYPE_REFERENCE;
 use paper::KIND_VARIABLE;
 use paper::KIND_VARIABLE_DEFINITION;
-use paper_rules::QueryAnswer;
 use paper_rules::RULE_ARGUMENT;
 use paper_rules::RULE_CONDITION;
 use paper_rules::RULE_DIRECTIVE;
@@ -30,7 +29,6 @@ ghost use Rattle.paper.specs.Numbers.{kindOperation, kindFragment, kindField, k
 ghost use Rattle.paper_types.specs.TableNumbers.{mostTable};
 ghost use Rattle.paper_types.specs.Types.{Table, tableOf};
 ghost use Rattle.types.specs.Booked.{Booked};
-ghost use Rattle.paper_rules.specs.QueryRules.{Judged};
 ghost use Rattle.constructs.specs.Rowed.{rowIn, rowsIn, docOf, Rowed};
 ghost use Rattle.links.specs.Links.{Family, Kinds};
 ghost use Rattle.enclosings.specs.Enclosed.{Enclosed};
@@ -160,7 +158,7 @@ fn definition_rule(
 }
 
 // The least rule that row i breaks, or 0.
-fn rule_at(
+pub fn rule_at(
     t: &[u8],
     book: &[u32],
     s: &[u8],
@@ -202,54 +200,4 @@ fn rule_at(
         KIND_VARIABLE => flags[i],
         _ => 0,
     }
-}
-
-// What is said of a document's rows, all made ready: the first row that breaks a rule, and its least rule.
-pub fn judge_rows(
-    t: &[u8],
-    book: &[u32],
-    s: &[u8],
-    rows: &[u32],
-    n: usize,
-    first: &[u32],
-    next: &[u32],
-    firstk: &[u32],
-    nextk: &[u32],
-    inside: &[u32],
-    at: &[u32],
-    to: &[u32],
-    target: &[u32],
-    flags: &[u32],
-) -> QueryAnswer
-    requires { ⌜ Ready (now t) (now book) (now s) (now rows) n (now first) (now next) (now firstk) (now nextk) (now inside) (now at) (now to) (now target) (now flags) ⌝ }
-    ensures { λ r. ⌜ Judged (tableOf (now (t .entry))) (docOf (now (s .entry)) (now (rows .entry)) n) r ⌝ }
-{
-    let mut i = 0;
-    while i < n {
-        let rule = rule_at(
-            t,
-            book,
-            s,
-            rows,
-            n,
-            first,
-            next,
-            firstk,
-            nextk,
-            inside,
-            at,
-            to,
-            target,
-            flags,
-            i,
-        );
-        if rule != 0 {
-            return QueryAnswer::Breaks {
-                row: i as u32,
-                rule: rule,
-            };
-        }
-        i += 1;
-    }
-    QueryAnswer::Fits
 }

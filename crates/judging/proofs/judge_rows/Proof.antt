@@ -3,9 +3,9 @@ use native.Mathlib.Omega.{arith}
 use Rattle.paper_types.specs.Types.{tableOf}
 use Rattle.constructs.specs.Rowed.{docOf}
 use Rattle.constructs.proofs.RowsIn.{rows-count}
-use Rattle.verdicts.proofs.JudgedLaws.{NoneBefore, none-first, none-more, judged-fits, judged-breaks}
-use Rattle.verdicts.proofs.judge_rows.Statement.{statement}
-use Rattle.verdicts.proofs.judge_rows.Tie as tie
+use Rattle.judging.proofs.JudgedLaws.{NoneBefore, none-first, none-more, judged-fits, judged-breaks}
+use Rattle.judging.proofs.judge_rows.Statement.{statement}
+use Rattle.judging.proofs.judge_rows.Tie as tie
 
 abbrev Inv-loop : tie.InvT-loop
 Inv-loop t book s rows n first next firstk nextk inside at to target flags i₀ i = NoneBefore (tableOf t) (docOf s rows n) i
