@@ -24,9 +24,9 @@ use Rattle.reader.specs.declared.Read.the-variants.{Done, Refused}
 use Rattle.reader.specs.Reader.{Looks, movedTo, at, Ready, Went, Halts, Said}
 use Rattle.reader.proofs.Steps.{first, null, refuse, lacks, opening, closing, too-deep, is, not-is, refuses, refusesEnd}
 use Rattle.reader.proofs.Cells.{row-opens, name-told}
-use Rattle.values.specs.Stacks.{entryStack}
+use Rattle.leaves.specs.Stacks.{entryStack}
 use Rattle.arguments.specs.Arguments.{argumentsStack}
-use Rattle.values.proofs.MovedLaws.{moved-halts, moved-said}
+use Rattle.leaves.proofs.MovedLaws.{moved-halts, moved-said}
 use Rattle.arguments.specs.Passed.{Passed, shut}
 use Rattle.arguments.proofs.Onward.{lies, next, next-at, name-lacks, same, said-went, said-halts}
 

@@ -24,7 +24,7 @@ use Rattle.paper.specs.Language.{language, the, anyName, n-on, row, kind, end, 
 use Rattle.reader.proofs.Steps.{first, refuse, too-many-rows, is, not-is, refuses, refusesEnd}
 use Rattle.reader.proofs.Cells.{put, put-length, row-ends}
 use Rattle.arguments.specs.Arguments.{AtOn, conditionStack}
-use Rattle.values.proofs.MovedLaws.{moved-halts, moved-said}
+use Rattle.leaves.proofs.MovedLaws.{moved-halts, moved-said}
 use Rattle.arguments.proofs.Onward.{Next, lies, has-bytes, next, next-at, name-taken, opened-row, named-row}
 use Rattle.arguments.proofs.Words.{is-on, on-is, word-first, word-taken}
 

@@ -25,7 +25,7 @@ use Rattle.paper.specs.Language.{language, the, atSign, kind, named, end, Name,
 use Rattle.reader.proofs.Steps.{first, null, plain, too-many-rows, is, not-is}
 use Rattle.reader.proofs.Cells.{put, put-length, ends-row}
 use Rattle.arguments.specs.Arguments.{argumentsStack, directiveStack, directivesStack}
-use Rattle.values.proofs.MovedLaws.{moved-halts}
+use Rattle.leaves.proofs.MovedLaws.{moved-halts}
 use Rattle.arguments.specs.Passed.{Passed, shut}
 use Rattle.arguments.proofs.Onward.{Next, lies, has-bytes, next, next-at, name-taken, name-lacks, same, said-went, said-halts, opened-row, named-row}
 

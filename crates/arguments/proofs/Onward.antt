@@ -24,7 +24,7 @@ use Rattle.reader.specs.declared.Cursor.{Cursor}
 use Rattle.reader.specs.declared.Read.{Read}
 use Rattle.reader.specs.declared.Read.the-variants.{Done, Refused}
 use Rattle.reader.specs.Reader.{Looks, movedTo, at, Ready, Went, Halts, Said}
-use Rattle.values.proofs.MovedLaws.{start-in, stop-in, moved-done}
+use Rattle.leaves.proofs.MovedLaws.{start-in, stop-in, moved-done}
 use Rattle.arguments.specs.Passed.{Passed, Passes, shut}
 use Rattle.reader.proofs.ReaderLaws.{token-lies}
 use Rattle.reader.proofs.Cells.{put, row-opens, name-told}

@@ -25,7 +25,7 @@ use Rattle.reader.specs.declared.Cursor.{Cursor}
 use Rattle.reader.specs.declared.Read.{Read}
 use Rattle.reader.specs.declared.Read.the-variants.{Done, Refused}
 use Rattle.reader.proofs.Steps.{is, not-is, tokenOf, Front, a-token, the-end, front, front-token, first, refuse, refuses, refusesEnd}
-use Rattle.values.specs.Stacks.{valueStack}
+use Rattle.leaves.specs.Stacks.{valueStack}
 use Rattle.references.proofs.MovedLaws.{Next, next-of, moved-halts}
 use Rattle.variables.specs.Counted.{Counted, CountedSaid, stays, fragmentsAre, fragmentsBecome}
 use Rattle.documents.specs.Words.{fragmentsAfter}

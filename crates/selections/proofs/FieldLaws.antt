@@ -24,7 +24,7 @@ use Rattle.paper.specs.Language.{language, the, anyName, colon, kind, named, en
 use Rattle.reader.proofs.Steps.{first, null, plain, too-many-rows, is, not-is}
 use Rattle.reader.proofs.Cells.{put-length, ends-row}
 use Rattle.arguments.specs.Arguments.{argumentsStack, directivesStack}
-use Rattle.values.proofs.MovedLaws.{moved-halts}
+use Rattle.leaves.proofs.MovedLaws.{moved-halts}
 use Rattle.arguments.specs.Passed.{Passed, Passes, opened, shut}
 use Rattle.arguments.proofs.Onward.{Next, lies, has-bytes, next, next-at, name-taken, name-lacks, said-went, said-halts, opened-row, named-row}
 use Rattle.selections.specs.Selections.{selectionStack, bodyStack, fieldStack, aliasStack, fieldRestStack, fieldEndStack, fieldBegun, AliasSaid, HeadSaid}

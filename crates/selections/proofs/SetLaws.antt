@@ -24,7 +24,7 @@ use Rattle.reader.specs.Reader.{Looks, movedTo, at, Ready, Went, Halts, Said}
 use Rattle.paper.specs.Language.{language, the, braceL, braceR, end, SelectionSet, Selection+, Selection*, Selection}
 use Rattle.reader.proofs.Steps.{first, null, refuse, lacks, opening, closing, too-deep, is, not-is, not-two, refuses, refusesEnd}
 use Rattle.reader.proofs.Cells.{ends-row}
-use Rattle.values.proofs.MovedLaws.{moved-halts, moved-said}
+use Rattle.leaves.proofs.MovedLaws.{moved-halts, moved-said}
 use Rattle.arguments.specs.Passed.{Passed, opened, shut}
 use Rattle.arguments.proofs.Onward.{lies, has-bytes, next, next-at, same, said-went, said-halts}
 use Rattle.selections.specs.Selections.{selectionSetStack, selectionStack, bodyStack}

@@ -29,7 +29,7 @@ use Rattle.strings.specs.Head.{wordOf}
 use Rattle.reader.proofs.Steps.{first, null, refuse, plain, too-many-rows, is, not-is, not-two, refuses, refusesEnd}
 use Rattle.reader.proofs.Cells.{put, put-length, row-begins, kind-told, ends-row}
 use Rattle.arguments.specs.Arguments.{AtOn, bytesAt, conditionStack, directivesStack}
-use Rattle.values.proofs.MovedLaws.{start-in, moved-halts}
+use Rattle.leaves.proofs.MovedLaws.{start-in, moved-halts}
 use Rattle.arguments.specs.Passed.{Passed, Passes, opened, shut}
 use Rattle.arguments.proofs.Onward.{Next, lies, has-bytes, next, next-at, same, said-went, said-halts, passes-went, passes-halts, named-row}
 use Rattle.arguments.proofs.Words.{is-on, on-is, is-no-on, no-on-is, word-first, word-taken}

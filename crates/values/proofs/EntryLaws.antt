@@ -28,9 +28,9 @@ use Rattle.reader.specs.Reader.{Ready, at, Went, Halts, Said}
 use Rattle.reader.proofs.ReaderLaws.{token-lies}
 use Rattle.reader.proofs.Steps.{is, not-is, first, refuse, lacks, plain, too-many-rows, refuses, refusesEnd}
 use Rattle.reader.proofs.Cells.{put, put-length, row-opens, name-told, ends-row}
-use Rattle.values.specs.Stacks.{valuePart, entryStack, EntryKind}
-use Rattle.values.specs.Marks.{past, Named, SaidNamed}
-use Rattle.values.proofs.MovedLaws.{start-in, stop-in, ready-lies, Moved, moved-done, moved-halts}
+use Rattle.leaves.specs.Stacks.{valuePart, entryStack, EntryKind}
+use Rattle.leaves.specs.Marks.{past, Named, SaidNamed}
+use Rattle.leaves.proofs.MovedLaws.{start-in, stop-in, ready-lies, Moved, moved-done, moved-halts}
 use Rattle.values.proofs.NestParts.{fieldPart}
 use Rattle.values.proofs.VariableLaws.{name-in}
 

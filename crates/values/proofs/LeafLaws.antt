@@ -29,10 +29,10 @@ use Rattle.reader.specs.declared.Read.{Read}
 use Rattle.reader.specs.Reader.{Ready, at, Said, noGoingOf}
 use Rattle.reader.proofs.Steps.{tokenOf, front-token, by-kind, is, refuse, refuses, refusesEnd}
 use Rattle.reader.proofs.Cells.{put, put-length, row-opens, name-told, row-ends}
-use Rattle.values.specs.Stacks.{valuePart}
-use Rattle.values.specs.Marks.{Leaf, full, wrote, SaidScalar}
+use Rattle.leaves.specs.Stacks.{valuePart}
+use Rattle.leaves.specs.Marks.{Leaf, full, wrote, SaidScalar}
 use Rattle.tokens.proofs.HeadLaws.{head-name}
-use Rattle.values.proofs.MovedLaws.{moved-said}
+use Rattle.leaves.proofs.MovedLaws.{moved-said}
 use Rattle.values.proofs.StackSteps.{plainHit, class-first, class-plain, class-rows}
 
 -- the token that c looks at, of class k

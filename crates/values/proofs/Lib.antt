@@ -1,4 +1,3 @@
-pub mod MovedLaws
 pub mod StackSteps
 pub mod LeafLaws
 pub mod VariableLaws

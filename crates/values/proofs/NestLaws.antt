@@ -29,8 +29,8 @@ use Rattle.reader.specs.Reader.{Looks, Ready, at, Went, Halts, Said}
 use Rattle.reader.proofs.ReaderLaws.{token-lies}
 use Rattle.reader.proofs.Steps.{is, not-is, same-bool, first, null, opening, closing, too-deep, too-many-rows-open, refusesEnd}
 use Rattle.reader.proofs.Cells.{put, put-length, row-opens, ends-row}
-use Rattle.values.specs.Marks.{Open, deep, crowded, entered, Close}
-use Rattle.values.proofs.MovedLaws.{start-in, ready-lies, ready-moves, Moved, moved-done, moved-halts, moved-said}
+use Rattle.leaves.specs.Marks.{Open, deep, crowded, entered, Close}
+use Rattle.leaves.proofs.MovedLaws.{start-in, ready-lies, ready-moves, Moved, moved-done, moved-halts, moved-said}
 use Rattle.values.proofs.StackSteps.{inRun, run-more}
 
 -- the production of p that is a row of kind K, and in it a run `star` of items between the marks A and B, whose kinds are suc x and suc y

@@ -7,7 +7,7 @@ use Rattle.paper.specs.Language.{Part, language, bracketL, bracketR, braceL, br
 use Rattle.paper.proofs.Machine.{choose}
 use Rattle.paper.proofs.Tables.{factored}
 use Rattle.reader.proofs.Steps.{refuses, refusesEnd}
-use Rattle.values.specs.Stacks.{valuePart}
+use Rattle.leaves.specs.Stacks.{valuePart}
 use Rattle.values.proofs.NestLaws.{Nest}
 
 abbrev pub listPart : Bool → Part

@@ -26,9 +26,9 @@ use Rattle.reader.specs.Reader.{Ready, at, Said, noGoingOf}
 use Rattle.reader.proofs.ReaderLaws.{token-lies}
 use Rattle.reader.proofs.Steps.{is, not-is, first, refuse, plain, too-many-rows, refuses, refusesEnd, front, Front, a-token, the-end}
 use Rattle.reader.proofs.Cells.{put, put-length, row-opens, name-told, row-ends}
-use Rattle.values.specs.Stacks.{valueStack}
-use Rattle.values.specs.Marks.{past, SaidVariable}
-use Rattle.values.proofs.MovedLaws.{start-in, stop-in, Moved, moved-done, moved-halts, moved-said}
+use Rattle.leaves.specs.Stacks.{valueStack}
+use Rattle.leaves.specs.Marks.{past, SaidVariable}
+use Rattle.leaves.proofs.MovedLaws.{start-in, stop-in, Moved, moved-done, moved-halts, moved-said}
 
 variable-in : List·Memᴰ (act row ∷ act (kind kindVariable 0) ∷ tm (the dollar) ∷ act named ∷ nt Name ∷ act end ∷ []) (factored Value)
 unfolding factored language

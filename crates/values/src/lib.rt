@@ -1,4 +1,7 @@
 // Reads values, and the entries of arguments and objects, and writes their rows.
+use leaves::close;
+use leaves::enter;
+use leaves::leaf;
 use paper::EXTRA_FALSE;
 use paper::EXTRA_TRUE;
 use paper::KIND_BOOLEAN;
@@ -33,35 +36,11 @@ use strings::WORD_NULL;
 use strings::WORD_TRUE;
 ghost use mathlib.Core.Path.{_≡_};
 ghost use mathlib.Core.Logic.{_≢_};
-ghost use Prim.Native.Nat.{_<_};
-ghost use Rattle.paper.specs.Numbers.{mostRows};
 ghost use Rattle.paper.specs.Language.{dollar, bracketL, braceL, n-other};
 ghost use Rattle.strings.specs.Head.{kindOf};
 ghost use Rattle.reader.specs.Reader.{Ready, Said};
-ghost use Rattle.values.specs.Stacks.{valueStack, entryStack, EntryKind};
-ghost use Rattle.values.specs.Marks.{Leaf, Open, Close, SaidScalar, SaidVariable, SaidNamed};
-
-// A value that is one token: its row.
-fn leaf(
-    s: &[u8],
-    rows: &mut [u32],
-    c: Cursor,
-    parent: u32,
-    kind: u32,
-    name: u32,
-    size: u32,
-    extra: u32,
-) -> Read
-    requires { ⌜ Ready (now s) (now rows) c parent ⌝ }
-    ensures { λ r. ⌜ Leaf (now (s .entry)) (now (rows .entry)) (now (rows .exit)) c parent kind name size extra r ⌝ }
-{
-    if c.rows == MOST_ROWS {
-        return Read::Refused(Refusal::TooManyRows(c.start));
-    }
-    let n = c.rows;
-    put_row(rows, n, kind, c.start, c.end, parent, name, size, extra);
-    c.past(s, n + 1)
-}
+ghost use Rattle.leaves.specs.Stacks.{valueStack, entryStack, EntryKind};
+ghost use Rattle.leaves.specs.Marks.{SaidScalar, SaidVariable, SaidNamed};
 
 // A name as a value: true, false, null or an enum value.
 fn word_value(s: &[u8], rows: &mut [u32], c: Cursor, parent: u32) -> Read
@@ -153,32 +132,6 @@ pub fn value(s: &[u8], rows: &mut [u32], c: Cursor, parent: u32, left: u32, cons
         return variable(s, rows, c, parent);
     }
     scalar(s, rows, c, parent)
-}
-
-// The opening mark of a list or an object: its row, and its level.
-fn enter(s: &[u8], rows: &mut [u32], c: Cursor, parent: u32, left: u32, kind: u32) -> Read
-    requires { ⌜ Ready (now s) (now rows) c parent ⌝ }
-    ensures { λ r. ⌜ Open (now (s .entry)) (now (rows .entry)) (now (rows .exit)) c parent left kind r ⌝ }
-{
-    if left == 0 {
-        return Read::Refused(Refusal::TooDeep(c.start));
-    }
-    let n = c.rows;
-    if n == MOST_ROWS {
-        return Read::Refused(Refusal::TooManyRows(c.start));
-    }
-    put_row(rows, n, kind, c.start, 0, parent, 0, 0, 0);
-    c.past(s, n + 1)
-}
-
-// The closing mark of row n, at which the cursor stands.
-fn close(s: &[u8], rows: &mut [u32], c: Cursor, n: u32) -> Read
-    requires { ⌜ Ready (now s) (now rows) c n × (n < mostRows) ⌝ }
-    ensures { λ r. ⌜ Close (now (s .entry)) (now (rows .entry)) (now (rows .exit)) c n r ⌝ }
-{
-    put_end(rows, n, c.end);
-    let m = c.rows;
-    c.past(s, m)
 }
 
 // ListValue, at its [

@@ -18,7 +18,7 @@ use Rattle.reader.specs.declared.Cursor.{Cursor}
 use Rattle.reader.specs.declared.Read.{Read}
 use Rattle.reader.specs.declared.Read.the-variants.{Done, Refused}
 use Rattle.reader.proofs.Steps.{is, not-is, null, first, plain}
-use Rattle.values.specs.Stacks.{valueStack}
+use Rattle.leaves.specs.Stacks.{valueStack}
 use Rattle.references.proofs.MovedLaws.{next-of, moved-halts, ahead}
 use Rattle.variables.proofs.CountedLaws.{next-ready}
 

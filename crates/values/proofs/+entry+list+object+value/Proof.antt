@@ -7,7 +7,7 @@ use lib.ListN.{length}
 use borrow.Author.Needs.{needs}
 use Rattle.paper.specs.Numbers.{kindObjectField}
 use Rattle.paper.specs.Language.{bracketR, braceR}
-use Rattle.values.specs.Stacks.{valueStack, entryStack}
+use Rattle.leaves.specs.Stacks.{valueStack, entryStack}
 use Rattle.values.proofs.VariableLaws.{no-variable}
 use Rattle.values.proofs.NestLaws.{InNest, in-ready, nest-refused, nest-entered, nest-begins, nest-closes, nest-more, nest-less, nest-stops}
 use Rattle.values.proofs.NestParts.{valuesPart, fieldsPart, list-nest, object-nest}
@@ -28,8 +28,8 @@ use Rattle.values.proofs.value.Kinds as value-kinds
 use Rattle.values.proofs.+entry+list+object+value.Lts-value as value-lts
 use Rattle.reader.proofs.no_going.Reads as no-going-reads
 use Rattle.reader.proofs.put_end.Reads as put-end-reads
-use Rattle.values.proofs.close.Reads as close-reads
-use Rattle.values.proofs.enter.Reads as enter-reads
+use Rattle.leaves.proofs.close.Reads as close-reads
+use Rattle.leaves.proofs.enter.Reads as enter-reads
 use Rattle.values.proofs.entry_name.Reads as entry-name-reads
 use Rattle.values.proofs.scalar.Reads as scalar-reads
 use Rattle.values.proofs.variable.Reads as variable-reads

@@ -1,5 +1,5 @@
 -- entry_name: each way it ends by its law.
-use Rattle.values.proofs.MovedLaws.{ready-lies}
+use Rattle.leaves.proofs.MovedLaws.{ready-lies}
 use Rattle.values.proofs.EntryLaws.{entry-no-name, entry-full, entry-bad, colon-lies, entry-no-colon, entry-named}
 use borrow.Author.Needs.{needs}
 use Rattle.values.proofs.entry_name.Statement.{statement}

@@ -1,6 +1,6 @@
 -- variable: each way it ends by its law.
 use mathlib.Core.List.{[]}
-use Rattle.values.proofs.MovedLaws.{ready-lies}
+use Rattle.leaves.proofs.MovedLaws.{ready-lies}
 use Rattle.values.proofs.VariableLaws.{variable-full, variable-bad, variable-no-name, name-lies, variable-said}
 use borrow.Author.Needs.{needs}
 use Rattle.values.proofs.variable.Statement.{statement}

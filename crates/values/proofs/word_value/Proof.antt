@@ -1,6 +1,6 @@
 -- word_value: each word by its law.
 use mathlib.Core.Path.{sym, _∙_}
-use Rattle.values.proofs.MovedLaws.{ready-lies}
+use Rattle.leaves.proofs.MovedLaws.{ready-lies}
 use Rattle.values.proofs.LeafLaws.{true-said, false-said, null-said, name-said}
 use borrow.Author.Needs.{needs}
 use Rattle.values.proofs.word_value.Statement.{statement}

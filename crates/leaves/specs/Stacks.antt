@@ -1,4 +1,4 @@
--- The symbols that each reader of this crate reads.
+-- The symbols that the readers of values and entries read.
 use mathlib.Core.Path.{_≡_}
 use mathlib.Core.Bool.{Bool, true, false}
 use mathlib.Core.Logic.{_⊎_}

@@ -1,11 +1,11 @@
 -- enter: what it writes and answers is put_row and past.
 use mathlib.Core.Path.{refl}
 use native.Mathlib.Omega.{arith}
-use Rattle.values.specs.Marks.{deep, crowded, entered}
-use Rattle.values.proofs.MovedLaws.{ready-lies}
+use Rattle.leaves.specs.Marks.{deep, crowded, entered}
+use Rattle.leaves.proofs.MovedLaws.{ready-lies}
 use borrow.Author.Needs.{needs}
-use Rattle.values.proofs.enter.Statement.{statement}
-use Rattle.values.proofs.enter.Tie as tie
+use Rattle.leaves.proofs.enter.Statement.{statement}
+use Rattle.leaves.proofs.enter.Tie as tie
 
 returns : tie.Need-returns
 returns c = deep (omega (arith, c .if1 .taken)) refl

@@ -1,11 +1,11 @@
 -- leaf: what it writes and answers is put_row and past.
 use mathlib.Core.Path.{refl}
 use native.Mathlib.Omega.{arith}
-use Rattle.values.specs.Marks.{full, wrote}
-use Rattle.values.proofs.MovedLaws.{ready-lies}
+use Rattle.leaves.specs.Marks.{full, wrote}
+use Rattle.leaves.proofs.MovedLaws.{ready-lies}
 use borrow.Author.Needs.{needs}
-use Rattle.values.proofs.leaf.Statement.{statement}
-use Rattle.values.proofs.leaf.Tie as tie
+use Rattle.leaves.proofs.leaf.Statement.{statement}
+use Rattle.leaves.proofs.leaf.Tie as tie
 
 returns : tie.Need-returns
 returns c = full (omega (arith, c .if1 .taken)) refl

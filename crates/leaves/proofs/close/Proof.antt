@@ -1,8 +1,8 @@
 -- close: what it writes and answers is put_end and past.
-use Rattle.values.proofs.MovedLaws.{ready-lies}
+use Rattle.leaves.proofs.MovedLaws.{ready-lies}
 use borrow.Author.Needs.{needs}
-use Rattle.values.proofs.close.Statement.{statement}
-use Rattle.values.proofs.close.Tie as tie
+use Rattle.leaves.proofs.close.Statement.{statement}
+use Rattle.leaves.proofs.close.Tie as tie
 
 put-end-requires : tie.Need-put-end-requires
 put-end-requires c κs = search needs

@@ -19,7 +19,7 @@ use Rattle.reader.specs.declared.Cursor.{Cursor}
 use Rattle.reader.specs.declared.Read.{Read}
 use Rattle.reader.specs.declared.Read.the-variants.{Done, Refused}
 use Rattle.reader.specs.Reader.{Looks, movedTo, at, Halts, Said}
-use Rattle.values.specs.Stacks.{valuePart, valueStack, entryStack}
+use Rattle.leaves.specs.Stacks.{valuePart, valueStack, entryStack}
 
 -- the cursor past c's token, with n rows
 abbrev pub past : List ℕ → Cursor → ℕ → Read
