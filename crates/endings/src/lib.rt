@@ -7,6 +7,7 @@ ghost use mathlib.Core.Path.{_≡_};
 ghost use Prim.Native.Nat.{_≤_};
 ghost use lib.ListN.{length};
 ghost use Rattle.paper.specs.Numbers.{reportSize};
+ghost use Rattle.paper_rules.specs.DocumentCalls.{Lent};
 ghost use Rattle.endings.specs.Endings.{Ended, Told};
 
 // Tells what came of reading, and answers its number.
@@ -25,7 +26,7 @@ pub fn tell_read(r: Read, report: &mut [u32]) -> u32
 
 // Tells what was said of a document with n rows, and answers its number; a broken rule leaves no rows.
 pub fn tell_judged(q: QueryAnswer, n: u32, rows: &mut [u32], report: &mut [u32]) -> u32
-    requires { ⌜ reportSize ≤ length (now report) ⌝ }
+    requires { ⌜ Lent (now rows) (now report) ⌝ }
     ensures { λ r. ⌜ Ended n q (now (rows .entry)) (now (report .entry)) (now (rows .exit)) (now (report .exit)) r ⌝ }
 {
     match q {
