@@ -9,3 +9,5 @@ pub mod JudgedLaws
 pub mod CheckedLaws
 pub mod LookedLaws
 pub mod DocumentsLaws
+pub mod WalksLaws
+pub mod MainWalks

@@ -3,3 +3,4 @@
 pub mod check;
 pub mod check_table;
 pub mod parse;
+pub mod walk;

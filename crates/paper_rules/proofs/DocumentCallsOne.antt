@@ -13,8 +13,6 @@ use Rattle.paper.specs.Reading.{Answer, rows-are, refuses, Said}
 use Rattle.paper.specs.Calls.{filled, tells}
 use Rattle.paper.specs.declared.Refusal.{Refusal}
 use Rattle.paper.specs.declared.Refusal.the-variants.{Buffer, OverLength}
-use Rattle.theory.proofs.SaidOne.{said-one}
-use Rattle.theory.proofs.TokensLaws.{tokens-one}
 use Rattle.paper_types.specs.TableNumbers.{mostTable, inputTable}
 use Rattle.paper_types.specs.Types.{tableOf}
 use Rattle.paper_types.specs.Judging.{judge, tableNumber}
@@ -23,65 +21,18 @@ use Rattle.paper_types.specs.declared.TableAnswer.the-variants.{Accepted}
 use Rattle.paper_rules.specs.QueryNumbers.{refuseQuery}
 use Rattle.paper_rules.specs.QueryRules.{Judged}
 use Rattle.paper_rules.specs.DocumentCalls.{read, CheckedDocument, short-report, short-rows, long-document, long-table, refuses-table, refuses-text, breaks-rule, accepts}
-use Rattle.paper_rules.specs.declared.QueryAnswer.{QueryAnswer}
 use Rattle.paper_rules.specs.declared.QueryAnswer.the-variants.{Fits, Breaks}
-use Rattle.paper_rules.proofs.JudgedOne.{judged-one}
-
--- what a call leaves: its answer, the rows and the report
-data Left : Type 0 where
-  left : ℕ → List ℕ → List ℕ → Left
-
-One : (Left → Type 0) → Type 0
-One P = (x y : Left) → P x → P y → x ≡ y
-
--- a check that fails, or passes and leaves all to what comes after
-data Checks (fails passes : Type 0) (x : Left) (Q : Left → Type 0) (y : Left) : Type 0 where
-  failed : fails → y ≡ x → Checks fails passes x Q y
-  later : passes → Q y → Checks fails passes x Q y
-
-checks-one : {fails passes : Type 0} (z : Left) (Q : Left → Type 0) → (fails → passes → ⊥) → One Q → One (Checks fails passes z Q)
-unfolding One
-checks-one z Q h q x y (failed a e) (failed b f) = e ∙ sym f
-checks-one z Q h q x y (failed a e) (later b g) = absurd (h a b)
-checks-one z Q h q x y (later a g) (failed b f) = absurd (h b a)
-checks-one z Q h q x y (later a g) (later b k) = q x y g k
-
--- what comes of a document: it is refused, or it has rows and is judged
-data Outcome : Type 0 where
-  refused : Refusal → Outcome
-  judged : List Row → QueryAnswer → Outcome
-
-data Comes (table document : List ℕ) : Outcome → Type 0 where
-  stops : {t : Text} {r : Refusal} → Tokens 0 document t → Said Document t (refuses r) → Comes table document (refused r)
-  ends : {t : Text} {rs : List Row} {q : QueryAnswer} → Tokens 0 document t → Said Document t (rows-are rs) → Judged (tableOf table) (read document rs) q → Comes table document (judged rs q)
-
--- what the text says, for two ways of having its tokens
-said-same : {document : List ℕ} {t t′ : Text} {a a′ : Answer} → Tokens 0 document t → Tokens 0 document t′ → Said Document t a → Said Document t′ a′ → a ≡ a′
-said-same {a′} k k′ s s′ = said-one s (subst (λ (z : Text). Said Document z a′) (tokens-one k′ k) s′)
-
-rows-inj : {rs rs′ : List Row} → rows-are rs ≡ rows-are rs′ → rs ≡ rs′
-rows-inj q = cc
-
-refuses≢rows : {r : Refusal} {rs : List Row} → refuses r ≡ rows-are rs → ⊥
-refuses≢rows q = let z : _≡_ {A = ℕ} 0 1 = cc in omega arith
-
-comes-one : {table document : List ℕ} {o o′ : Outcome} → Comes table document o → Comes table document o′ → o ≡ o′
-comes-one (stops k s) (stops k′ s′) = let q = said-same k k′ s s′ in cc
-comes-one (stops k s) (ends k′ s′ j′) = absurd (refuses≢rows (said-same k k′ s s′))
-comes-one (ends k s j) (stops k′ s′) = absurd (refuses≢rows (said-same k′ k s′ s))
-comes-one {table} {document} (ends {rs} {q} k s j) (ends {rs = rs′} {q = q′} k′ s′ j′) =
-    let e : rs′ ≡ rs = rows-inj (said-same k′ k s′ s) in
-    let f : q ≡ q′ = judged-one j (subst (λ (z : List Row). Judged (tableOf table) (read document z) q′) e j′) in
-    cc
+use Rattle.paper_rules.proofs.InOrder.{Left, left, One, Checks, failed, later, checks-one}
+use Rattle.paper_rules.proofs.ReadOne.{Reading, refused, judged, Comes, ends, goes, comes-one}
 
 -- what the call leaves then
-leaves : List ℕ → List ℕ → Outcome → Left
+leaves : List ℕ → List ℕ → Reading → Left
 leaves rows report (refused r) = left (numberOf r) (filled rowsSize [] rows) (tells r report)
 leaves rows report (judged rs Fits) = left accepted (filled rowsSize (flat rs) rows) (filled reportSize (accepted ∷ length rs ∷ []) report)
 leaves rows report (judged rs (Breaks i k)) = left refuseQuery (filled rowsSize [] rows) (filled reportSize (refuseQuery ∷ i ∷ k ∷ []) report)
 
 data Told (table document rows report : List ℕ) (x : Left) : Type 0 where
-  told : {o : Outcome} → Comes table document o → x ≡ leaves rows report o → Told table document rows report x
+  told : {o : Reading} → Comes table document o → x ≡ leaves rows report o → Told table document rows report x
 
 told-one : (table document rows report : List ℕ) → One (Told table document rows report)
 unfolding One
@@ -126,9 +77,9 @@ in-order (short-rows h w e f) = later h (failed w cc)
 in-order (long-document l w e f) = later (l .0) (later (l .1) (failed w cc))
 in-order (long-table l v w e f) = later (l .0) (later (l .1) (later v (failed w cc)))
 in-order (refuses-table l s j n e f) = later (l .0) (later (l .1) (later (s .0) (later (s .1) (failed (λ z. n (sym j ∙ z)) cc))))
-in-order (refuses-text l s j k d e f) = later (l .0) (later (l .1) (later (s .0) (later (s .1) (later j (told (stops k d) cc)))))
-in-order (breaks-rule l s j k d q e f) = later (l .0) (later (l .1) (later (s .0) (later (s .1) (later j (told (ends k d q) cc)))))
-in-order (accepts l s j k d q e f) = later (l .0) (later (l .1) (later (s .0) (later (s .1) (later j (told (ends k d q) cc)))))
+in-order (refuses-text l s j k d e f) = later (l .0) (later (l .1) (later (s .0) (later (s .1) (later j (told (ends k d) cc)))))
+in-order (breaks-rule l s j k d q e f) = later (l .0) (later (l .1) (later (s .0) (later (s .1) (later j (told (goes k d q) cc)))))
+in-order (accepts l s j k d q e f) = later (l .0) (later (l .1) (later (s .0) (later (s .1) (later j (told (goes k d q) cc)))))
 
 pub checked-document-one : {table document rows report rows′ report′ rows″ report″ : List ℕ} {a a′ : ℕ} →
     CheckedDocument table document rows report rows′ report′ a → CheckedDocument table document rows report rows″ report″ a′ →

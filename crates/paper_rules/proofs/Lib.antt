@@ -4,7 +4,11 @@ pub mod EnclosingLaws
 pub mod PlaceLaws
 pub mod BrokenAt
 pub mod JudgedOne
+pub mod InOrder
+pub mod ReadOne
 pub mod DocumentCallsOne
+pub mod OpeningOne
 pub mod WorkedRules
 pub mod ExamplesRules
 pub mod ExamplesReaching
+pub mod ExamplesOpening

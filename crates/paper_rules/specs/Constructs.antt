@@ -9,7 +9,7 @@ use lib.Dec.{eqb, leb}
 use Rattle.paper.specs.Numbers.{noParent, kindFragment, kindField, kindInline, kindVariable, kindObject}
 use Rattle.paper.specs.Tokens.{same}
 use Rattle.paper.specs.Rows.{Row}
-use Rattle.paper_types.specs.Lists.{anyOf, firstAt}
+use Rattle.paper_types.specs.Lists.{anyOf, firstAt, each, onlyIf}
 
 -- a document that was read: its bytes and its rows
 pub record Doc : Type 0 where
@@ -60,6 +60,10 @@ called d n r = same (spelt d r) n
 
 abbrev pub below : ℕ → Row → Bool
 below p r = eqb (r .parent) p
+
+-- the numbers of the rows that pass, in order
+unfoldable pub numbersWhere : (Row → Bool) → Doc → List ℕ
+numbersWhere p d = each (λ i r. onlyIf (p r) i) (d .rows)
 
 -- the first fragment of a name, the count of rows if there is none; there is one
 abbrev pub fragmentCalled : Doc → List ℕ → Row → Bool

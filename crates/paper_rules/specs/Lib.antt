@@ -20,3 +20,4 @@ pub mod Rule13NoRoot
 pub mod Rule14Argument
 pub mod QueryRules
 pub mod DocumentCalls
+pub mod Opening

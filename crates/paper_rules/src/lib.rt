@@ -4,6 +4,8 @@
 // the column "No."
 pub const REFUSE_QUERY: u32 = 10;
 
+pub const REFUSE_NO_OPERATION: u32 = 12;
+
 // the query rules
 pub const RULE_OPERATION_REPEATED: u32 = 1;
 

@@ -16,11 +16,11 @@ ghost use mathlib.Core.List.{[], _∷_};
 ghost use Prim.Native.Nat.{_≤_};
 ghost use lib.ListN.{length};
 ghost use Rattle.paper.specs.Numbers.{reportSize};
-ghost use Rattle.paper.specs.Refusals.{numberOf, shownOf};
+ghost use Rattle.paper.specs.Refusals.{numberOf, shownOf, shownInText};
 ghost use Rattle.paper.specs.Calls.{filled, tells};
 ghost use Rattle.paper_types.specs.Judging.{tableNumber};
 ghost use Rattle.paper_types.specs.TableCalls.{tellsTable};
-ghost use Rattle.telling.specs.Telling.{firstOf};
+ghost use Rattle.telling.specs.Telling.{firstOf, ofText};
 
 // A refusal's number.
 fn number_of(r: Refusal) -> u32
@@ -49,6 +49,21 @@ fn shown_of(r: Refusal) -> u32
         Refusal::TooDeep(at) => at,
         Refusal::TooManyRows(at) => at,
         Refusal::TooMany(at) => at,
+    }
+}
+
+// Does a refusal show the number of its text? 3 to 6 do.
+fn is_of_text(r: Refusal) -> bool
+    ensures { λ b. ⌜ b ≡ ofText r ⌝ }
+{
+    match r {
+        Refusal::Buffer => false,
+        Refusal::OverLength(_) => false,
+        Refusal::NoToken(_) => true,
+        Refusal::NoGoing(_) => true,
+        Refusal::TooDeep(_) => true,
+        Refusal::TooManyRows(_) => true,
+        Refusal::TooMany(_) => false,
     }
 }
 
@@ -94,6 +109,21 @@ pub fn tell_refusal(report: &mut [u32], r: Refusal) -> u32
 {
     let number = number_of(r);
     tell(report, number, shown_of(r));
+    number
+}
+
+// Tells a refusal of the text with this number, and answers its number: 3 to 6 show the text behind the offset.
+pub fn tell_in_text(report: &mut [u32], text: u32, r: Refusal) -> u32
+    requires { ⌜ reportSize ≤ length (now report) ⌝ }
+    ensures { λ n. ⌜ (n ≡ numberOf r) × (now (report .exit) ≡ filled reportSize (numberOf r ∷ shownInText text r) (now (report .entry))) ⌝ }
+{
+    let number = number_of(r);
+    let shown = shown_of(r);
+    if is_of_text(r) {
+        tell_five(report, number, shown, text, 0, 0, 0);
+        return number;
+    }
+    tell(report, number, shown);
     number
 }
 

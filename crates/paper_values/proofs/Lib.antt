@@ -1,0 +1,11 @@
+-- Laws of the definitions, and examples.
+pub mod CharactersLaws
+pub mod CoercionExact
+pub mod CallsExact
+pub mod ExamplesCharacters
+pub mod ExamplesCoercion
+pub mod EncodingLaws
+pub mod RowValuesLaws
+pub mod ValueCallsOne
+pub mod PlacesLaws
+pub mod IntExact

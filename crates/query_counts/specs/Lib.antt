@@ -1,0 +1,2 @@
+-- What is true of each document that was read.
+pub mod FewDefinitions

@@ -1,0 +1,8 @@
+-- Laws of the definitions.
+pub mod ValueLaws
+pub mod ListLaws
+pub mod GivenLaws
+pub mod ObjectLaws
+pub mod HoldingLaws
+pub mod KeptLaws
+pub mod ArgumentLaws

@@ -1,0 +1,2 @@
+pub mod Coercing
+pub mod Holding

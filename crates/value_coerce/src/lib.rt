@@ -1,0 +1,792 @@
+// Coerces the value of a row at a type into the lent buffer, or refuses a row with a reason; and the entries of an object, or the arguments
+// of a field, where they are due. A variable is coerced anew at each of its places: its value stands in the document or in the variables text.
+use members::FieldFound;
+use paper::KIND_LIST;
+use paper::KIND_NULL;
+use paper::KIND_OBJECT_FIELD;
+use paper::KIND_VARIABLE;
+use paper::ROW_SIZE;
+use paper_types::TAG_NAME;
+use paper_values::REASON_MISSING;
+use paper_values::REASON_REPEATED;
+use paper_values::REASON_UNKNOWN;
+use paper_values::TAG_INPUT;
+use paper_values::TAG_LIST;
+use paper_values::TAG_PAIR;
+use value_entries::find_entry;
+use value_entries::first_child;
+use value_entries::first_repeated;
+use value_entries::first_unknown;
+use value_entries::next_child;
+use value_entries::next_due;
+use value_kinds::Coerced;
+use value_kinds::Due;
+use value_kinds::due_of;
+use value_kinds::of_leaf;
+use value_kinds::put_nothing;
+use value_tokens::put_base;
+use value_tokens::takes_fields;
+use value_writing::close;
+use value_writing::place;
+use value_writing::put_field;
+ghost use mathlib.Core.Path.{_≡_};
+ghost use mathlib.Core.Logic.{_⊎_};
+ghost use mathlib.Core.Bool.{true};
+ghost use mathlib.Core.Option.{some};
+ghost use mathlib.Core.List.{List, []};
+ghost use Prim.Native.Nat.{ℕ, _+_, _-_, _*_, _≤_, _<_};
+ghost use lib.ListN.{length};
+ghost use Rattle.paper.specs.Numbers.{rowSize, kindVariable, kindNull};
+ghost use Rattle.paper_types.specs.Lists.{allOf};
+ghost use Rattle.paper_types.specs.References.{Ref};
+ghost use Rattle.paper_rules.specs.Constructs.{nameOf};
+ghost use Rattle.fields.specs.Fields.{Bounds};
+ghost use Rattle.fields.specs.Wrappers.{packOf};
+ghost use Rattle.index.specs.Book.{part};
+ghost use Rattle.members.specs.Members.{memberFrom};
+ghost use Rattle.constructs.specs.Rowed.{cell, rowIn, docOf, Rowed, Sized, Decides};
+ghost use Rattle.paper_values.specs.Kinds.{dueOf};
+ghost use Rattle.paper_values.specs.Values.{Value, Due as Dues, Tree, Pairs, Got, nothing};
+ghost use Rattle.paper_values.specs.Coercion.{heads, repeated, unknown, missing, valueIn};
+ghost use Rattle.paper_values.specs.RowValues.{entriesFrom};
+ghost use Rattle.value_writing.specs.Writing.{Room};
+ghost use Rattle.value_kinds.specs.Dues.{DueIs, Fits, Told, placedAt};
+ghost use Rattle.value_entries.specs.Entered.{Treed, Marks, duesBy};
+ghost use Rattle.value_coerce.specs.Coercing.{Ready, Meant, Vars, slimDue, leavesOut, coerced, listed, oned, stood, objected, stepped, ToldPairs};
+ghost use Rattle.value_coerce.specs.Holding.{Kept, Holds, Holding, Names, Knows, Gives, heldFrom};
+
+// The numbers held of a variable: where its name starts, and its size; the text of its value, and the value's row there; sort, number and
+// wrappers of its type.
+pub const HELD_NAME: usize = 0;
+
+pub const HELD_SIZE: usize = 1;
+
+pub const HELD_TEXT: usize = 2;
+
+pub const HELD_ROW: usize = 3;
+
+pub const HELD_SORT: usize = 4;
+
+pub const HELD_NUMBER: usize = 5;
+
+pub const HELD_WRAPPERS: usize = 6;
+
+// The text that is the document itself; any other number is the variables text.
+pub const TEXT_DOCUMENT: u32 = 0;
+
+// The levels that values can stand in one another, and one.
+pub const ALL_LEVELS: usize = 33;
+
+// Number c of variable j.
+fn cell_of(held: &[u32], many: usize, j: usize, c: usize) -> u32
+    requires { ⌜ (rowSize * many ≤ length (now held)) × (j < many) × (c < rowSize) ⌝ }
+    ensures { λ r. ⌜ r ≡ cell (now (held .entry)) j c ⌝ }
+{
+    held[ROW_SIZE * j + c]
+}
+
+// The type of variable j.
+fn due_held(held: &[u32], many: usize, j: usize) -> Due
+    requires { ⌜ (rowSize * many ≤ length (now held)) × (j < many) ⌝ }
+    ensures { λ r. ⌜ (r .sort ≡ cell (now (held .entry)) j 4) × (r .number ≡ cell (now (held .entry)) j 5) × (r .wrappers ≡ cell (now (held .entry)) j 6) ⌝ }
+{
+    let number = cell_of(held, many, j, HELD_NUMBER) as usize;
+    Due {
+        sort: cell_of(held, many, j, HELD_SORT),
+        number: number,
+        wrappers: cell_of(held, many, j, HELD_WRAPPERS),
+    }
+}
+
+// The first variable whose name is the l bytes of s from `at` on; as many as there are if there is none.
+fn find_held(s: &[u8], held: &[u32], many: usize, at: usize, l: usize) -> usize
+    requires { ⌜ Names (now s) (now held) many × (at + l ≤ length (now s)) ⌝ }
+    ensures { λ r. ⌜ r ≡ heldFrom (now (s .entry)) (now (held .entry)) (part (now (s .entry)) at l) many 0 ⌝ }
+{
+    let mut j = 0;
+    while j < many {
+        let a = cell_of(held, many, j, HELD_NAME) as usize;
+        let size = cell_of(held, many, j, HELD_SIZE) as usize;
+        if index::is_text(s, at, l, s, a, size) {
+            return j;
+        }
+        j += 1;
+    }
+    j
+}
+
+// The variable that row i names; as many as there are if it has no value.
+fn held_at(s: &[u8], rows: &[u32], n: usize, i: usize, held: &[u32], many: usize) -> usize
+    requires { ⌜ Rowed (now s) (now rows) n × Names (now s) (now held) many ⌝ }
+    ensures { λ r. ⌜ r ≡ heldFrom (now (s .entry)) (now (held .entry)) (nameOf (docOf (now (s .entry)) (now (rows .entry)) n) i) many 0 ⌝ }
+{
+    let at = constructs::name_of(rows, n, i) as usize;
+    let l = constructs::size_of(rows, n, i) as usize;
+    find_held(s, held, many, at, l)
+}
+
+// Is the value of row i a variable without a value, which leaves its entry out?
+fn is_left_out(
+    s: &[u8],
+    rows: &[u32],
+    n: usize,
+    i: usize,
+    k: usize,
+    held: &[u32],
+    many: usize,
+) -> bool
+    requires { ⌜ Rowed (now s) (now rows) n × Names (now s) (now held) many ⌝ }
+    ensures { λ r. ⌜ ((vars : Vars) → Knows (now (s .entry)) (now (held .entry)) many vars → r ≡ leavesOut vars (docOf (now (s .entry)) (now (rows .entry)) n) k i) ⌝ }
+{
+    if k == 0 {
+        return false;
+    }
+    if constructs::kind_of(rows, n, i) != KIND_VARIABLE {
+        return false;
+    }
+    many <= held_at(s, rows, n, i, held, many)
+}
+
+// The entry of this kind right below row h whose name is the l bytes of t from `at` on, and that is not left out; n if there is none.
+pub fn given(
+    s: &[u8],
+    rows: &[u32],
+    n: usize,
+    past: &[u32],
+    h: usize,
+    k: usize,
+    kind: u32,
+    held: &[u32],
+    many: usize,
+    t: &[u8],
+    at: usize,
+    l: usize,
+) -> usize
+    requires { ⌜ Treed (now s) (now rows) n (now past) × Names (now s) (now held) many × (at + l ≤ length (now t)) × (h ≤ n) ⌝ }
+    ensures { λ r. ⌜ Gives (now (s .entry)) (now (held .entry)) many (docOf (now (s .entry)) (now (rows .entry)) n) n k kind h (part (now (t .entry)) at l) r ⌝ }
+{
+    if n <= h {
+        return n;
+    }
+    let c = find_entry(s, rows, n, past, h, kind, t, at, l);
+    if n <= c {
+        return n;
+    }
+    if is_left_out(s, rows, n, c + 1, k, held, many) {
+        return n;
+    }
+    c
+}
+
+// The first entry of this kind right below row h whose name an earlier one has; n if there is none. Below a row that is not there stands nothing.
+fn find_again(s: &[u8], rows: &[u32], n: usize, past: &[u32], h: usize, kind: u32) -> usize
+    requires { ⌜ Treed (now s) (now rows) n (now past) × (h ≤ n) ⌝ }
+    ensures { λ r. ⌜ ((text : ℕ) (read : ℕ → Value) → Marks n text (repeated [] (heads (entriesFrom text (docOf (now (s .entry)) (now (rows .entry)) n) read kind h (n - (h + 1)) (h + 1)))) r) ⌝ }
+{
+    if n <= h {
+        return n;
+    }
+    first_repeated(s, rows, n, past, h, kind)
+}
+
+// The first of them whose name nothing has that this content makes due; n if there is none.
+fn find_alien(
+    t: &[u8],
+    start: usize,
+    end: usize,
+    s: &[u8],
+    rows: &[u32],
+    n: usize,
+    past: &[u32],
+    h: usize,
+    kind: u32,
+) -> usize
+    requires { ⌜ Bounds (now t) start end × Treed (now s) (now rows) n (now past) × (h ≤ n) ⌝ }
+    ensures { λ r. ⌜ ((text : ℕ) (read : ℕ → Value) → Marks n text (unknown (duesBy kind (now (t .entry)) start end) (heads (entriesFrom text (docOf (now (s .entry)) (now (rows .entry)) n) read kind h (n - (h + 1)) (h + 1)))) r) ⌝ }
+{
+    if n <= h {
+        return n;
+    }
+    first_unknown(t, start, end, s, rows, n, past, h, kind)
+}
+
+// Nothing is given for what is due in row h.
+pub fn lacking(limit: usize, from: usize, h: usize, wrappers: u32) -> Coerced
+    requires { ⌜ from ≤ limit + 1 ⌝ }
+    ensures { λ c. ⌜ ((text : ℕ) (what : Dues) (p : List ℕ) → packOf (what .type) ≡ wrappers → ToldPairs text limit (missing (placedAt text h) what (Got nothing)) from p p c) ⌝ }
+{
+    if wrappers % 4 == 2 {
+        return Coerced::Refused {
+            row: h,
+            why: REASON_MISSING,
+        };
+    }
+    Coerced::UpTo(from)
+}
+
+// Is the constant of this row no more than null? A variable has no value in a constant.
+fn is_null(rows: &[u32], n: usize, i: usize) -> bool
+    requires { ⌜ Sized (now rows) n ⌝ }
+    ensures { λ r. ⌜ Decides r ((rowIn (now (rows .entry)) n i .kind ≡ kindNull) ⊎ (rowIn (now (rows .entry)) n i .kind ≡ kindVariable)) ⌝ }
+{
+    let kind = constructs::kind_of(rows, n, i);
+    if kind == KIND_NULL {
+        return true;
+    }
+    kind == KIND_VARIABLE
+}
+
+// Writes the value of row i at the type that is due, with k levels left. The variables are coerced already; `many` is 0 where none has a value.
+pub fn value(
+    t: &[u8],
+    book: &[u32],
+    s: &[u8],
+    rows: &[u32],
+    n: usize,
+    past: &[u32],
+    i: usize,
+    k: usize,
+    due: Due,
+    s1: &[u8],
+    rows1: &[u32],
+    n1: usize,
+    past1: &[u32],
+    held: &[u32],
+    many: usize,
+    out: &mut [u8],
+    limit: usize,
+    from: usize,
+) -> Coerced
+    requires { ⌜ Ready (now t) (now book) (now s) (now rows) n (now past) × (i ≤ n) × Fits (now book) (due .sort) (due .number) (due .wrappers) × Room limit from (now out) × Meant (now t) (now book) (due .sort) (due .number) (due .wrappers) × Holding (now t) (now book) (now s) (now rows) n (now s1) (now rows1) n1 (now past1) (now held) many ⌝ }
+    ensures { λ c. ⌜ ((text : ℕ) (r : Ref) (ps : Pairs) → DueIs (now (t .entry)) (now (book .entry)) r (due .sort) (due .number) (due .wrappers) → Holds (now (t .entry)) (now (book .entry)) (now (s .entry)) (now (rows .entry)) n (now (s1 .entry)) (now (rows1 .entry)) n1 (now (held .entry)) 0 many ps →
+        Told text limit (coerced (now (t .entry)) (valueIn ps) text (docOf (now (s .entry)) (now (rows .entry)) n) k i r) from (now (out .entry)) (now (out .exit)) c) ⌝ }
+{
+    let w = due.wrappers;
+    if k == 0 {
+        return put_nothing(out, limit, from, i, w);
+    }
+    let kind = constructs::kind_of(rows, n, i);
+    if kind == KIND_NULL {
+        return put_nothing(out, limit, from, i, w);
+    }
+    if kind == KIND_VARIABLE {
+        return variable(
+            t,
+            book,
+            s,
+            rows,
+            n,
+            past,
+            i,
+            w,
+            s1,
+            rows1,
+            n1,
+            past1,
+            held,
+            many,
+            out,
+            limit,
+            from,
+        );
+    }
+    let inner = Due {
+        sort: due.sort,
+        number: due.number,
+        wrappers: w / 4,
+    };
+    if w % 4 == 2 {
+        return value(
+            t,
+            book,
+            s,
+            rows,
+            n,
+            past,
+            i,
+            k,
+            inner,
+            s1,
+            rows1,
+            n1,
+            past1,
+            held,
+            many,
+            out,
+            limit,
+            from,
+        );
+    }
+    if w % 4 == 1 {
+        if kind == KIND_LIST {
+            return list(
+                t,
+                book,
+                s,
+                rows,
+                n,
+                past,
+                i,
+                k - 1,
+                inner,
+                s1,
+                rows1,
+                n1,
+                past1,
+                held,
+                many,
+                out,
+                limit,
+                from,
+            );
+        }
+        return one(
+            t,
+            book,
+            s,
+            rows,
+            n,
+            past,
+            i,
+            k,
+            inner,
+            s1,
+            rows1,
+            n1,
+            past1,
+            held,
+            many,
+            out,
+            limit,
+            from,
+        );
+    }
+    if takes_fields(kind, due.sort) {
+        let number = due.number;
+        let start = index::start_of(book, number);
+        let end = index::end_of(book, number);
+        return object(
+            t,
+            book,
+            s,
+            rows,
+            n,
+            past,
+            i,
+            k - 1,
+            KIND_OBJECT_FIELD,
+            start,
+            end,
+            s1,
+            rows1,
+            n1,
+            past1,
+            held,
+            many,
+            out,
+            limit,
+            from,
+        );
+    }
+    let leaf = put_base(
+        t,
+        book,
+        s,
+        rows,
+        n,
+        i,
+        due.sort,
+        due.number,
+        out,
+        limit,
+        from,
+    );
+    of_leaf(i, leaf)
+}
+
+// Writes what the variable at row i stands for, at a type with these wrappers.
+fn variable(
+    t: &[u8],
+    book: &[u32],
+    s: &[u8],
+    rows: &[u32],
+    n: usize,
+    past: &[u32],
+    i: usize,
+    wrappers: u32,
+    s1: &[u8],
+    rows1: &[u32],
+    n1: usize,
+    past1: &[u32],
+    held: &[u32],
+    many: usize,
+    out: &mut [u8],
+    limit: usize,
+    from: usize,
+) -> Coerced
+    requires { ⌜ Ready (now t) (now book) (now s) (now rows) n (now past) × Room limit from (now out) × Holding (now t) (now book) (now s) (now rows) n (now s1) (now rows1) n1 (now past1) (now held) many ⌝ }
+    ensures { λ c. ⌜ ((text : ℕ) (r : Ref) (ps : Pairs) → packOf r ≡ wrappers → Holds (now (t .entry)) (now (book .entry)) (now (s .entry)) (now (rows .entry)) n (now (s1 .entry)) (now (rows1 .entry)) n1 (now (held .entry)) 0 many ps →
+        Told text limit (stood (now (t .entry)) (valueIn ps) text i r (valueIn ps (nameOf (docOf (now (s .entry)) (now (rows .entry)) n) i))) from (now (out .entry)) (now (out .exit)) c) ⌝ }
+{
+    let v = held_at(s, rows, n, i, held, many);
+    if many <= v {
+        return put_nothing(out, limit, from, i, wrappers);
+    }
+    let due = due_held(held, many, v);
+    let row = cell_of(held, many, v, HELD_ROW) as usize;
+    if cell_of(held, many, v, HELD_TEXT) == TEXT_DOCUMENT {
+        return put_kept(
+            t,
+            book,
+            s,
+            rows,
+            n,
+            past,
+            row,
+            due,
+            i,
+            wrappers,
+            held,
+            out,
+            limit,
+            from,
+        );
+    }
+    put_kept(
+        t,
+        book,
+        s1,
+        rows1,
+        n1,
+        past1,
+        row,
+        due,
+        i,
+        wrappers,
+        held,
+        out,
+        limit,
+        from,
+    )
+}
+
+// Writes the constant of row `row`, which was coerced at its type, for a variable at row i. Where it is null the type at row i decides, whose
+// wrappers are `outer`; where the output is full already nothing is coerced again.
+fn put_kept(
+    t: &[u8],
+    book: &[u32],
+    s: &[u8],
+    rows: &[u32],
+    n: usize,
+    past: &[u32],
+    row: usize,
+    due: Due,
+    i: usize,
+    outer: u32,
+    held: &[u32],
+    out: &mut [u8],
+    limit: usize,
+    from: usize,
+) -> Coerced
+    requires { ⌜ Ready (now t) (now book) (now s) (now rows) n (now past) × (row ≤ n) × Fits (now book) (due .sort) (due .number) (due .wrappers) × Room limit from (now out) × Meant (now t) (now book) (due .sort) (due .number) (due .wrappers) ⌝ }
+    ensures { λ c. ⌜ ((vars : Vars) (text there : ℕ) (r ref : Ref) (tree : Tree) → packOf r ≡ outer → DueIs (now (t .entry)) (now (book .entry)) ref (due .sort) (due .number) (due .wrappers) →
+        Kept (now (t .entry)) there (docOf (now (s .entry)) (now (rows .entry)) n) n row ref tree → Told text limit (stood (now (t .entry)) vars text i r (some tree)) from (now (out .entry)) (now (out .exit)) c) ⌝ }
+{
+    if is_null(rows, n, row) {
+        return put_nothing(out, limit, from, i, outer);
+    }
+    if limit < from {
+        return Coerced::UpTo(from);
+    }
+    value(
+        t,
+        book,
+        s,
+        rows,
+        n,
+        past,
+        row,
+        ALL_LEVELS,
+        due,
+        s,
+        rows,
+        n,
+        past,
+        held,
+        0,
+        out,
+        limit,
+        from,
+    )
+}
+
+// Writes a list of one: the value of row i at the items' type.
+fn one(
+    t: &[u8],
+    book: &[u32],
+    s: &[u8],
+    rows: &[u32],
+    n: usize,
+    past: &[u32],
+    i: usize,
+    k: usize,
+    due: Due,
+    s1: &[u8],
+    rows1: &[u32],
+    n1: usize,
+    past1: &[u32],
+    held: &[u32],
+    many: usize,
+    out: &mut [u8],
+    limit: usize,
+    from: usize,
+) -> Coerced
+    requires { ⌜ Ready (now t) (now book) (now s) (now rows) n (now past) × (i ≤ n) × Fits (now book) (due .sort) (due .number) (due .wrappers) × Room limit from (now out) × Meant (now t) (now book) (due .sort) (due .number) (due .wrappers) × Holding (now t) (now book) (now s) (now rows) n (now s1) (now rows1) n1 (now past1) (now held) many ⌝ }
+    ensures { λ c. ⌜ ((text : ℕ) (r : Ref) (ps : Pairs) → DueIs (now (t .entry)) (now (book .entry)) r (due .sort) (due .number) (due .wrappers) → Holds (now (t .entry)) (now (book .entry)) (now (s .entry)) (now (rows .entry)) n (now (s1 .entry)) (now (rows1 .entry)) n1 (now (held .entry)) 0 many ps →
+        Told text limit (oned (now (t .entry)) (valueIn ps) text (docOf (now (s .entry)) (now (rows .entry)) n) k i r) from (now (out .entry)) (now (out .exit)) c) ⌝ }
+{
+    let first = place(limit, from, 3);
+    let r = value(
+        t,
+        book,
+        s,
+        rows,
+        n,
+        past,
+        i,
+        k,
+        due,
+        s1,
+        rows1,
+        n1,
+        past1,
+        held,
+        many,
+        out,
+        limit,
+        first,
+    );
+    let Coerced::UpTo(at) = r else {
+        return r;
+    };
+    Coerced::UpTo(close(out, limit, from, TAG_LIST, at))
+}
+
+// Writes the list of row h, whose items are at the type that is due, with k levels left for each.
+fn list(
+    t: &[u8],
+    book: &[u32],
+    s: &[u8],
+    rows: &[u32],
+    n: usize,
+    past: &[u32],
+    h: usize,
+    k: usize,
+    due: Due,
+    s1: &[u8],
+    rows1: &[u32],
+    n1: usize,
+    past1: &[u32],
+    held: &[u32],
+    many: usize,
+    out: &mut [u8],
+    limit: usize,
+    from: usize,
+) -> Coerced
+    requires { ⌜ Ready (now t) (now book) (now s) (now rows) n (now past) × (h < n) × Fits (now book) (due .sort) (due .number) (due .wrappers) × Room limit from (now out) × Meant (now t) (now book) (due .sort) (due .number) (due .wrappers) × Holding (now t) (now book) (now s) (now rows) n (now s1) (now rows1) n1 (now past1) (now held) many ⌝ }
+    ensures { λ c. ⌜ ((text : ℕ) (r : Ref) (ps : Pairs) → DueIs (now (t .entry)) (now (book .entry)) r (due .sort) (due .number) (due .wrappers) → Holds (now (t .entry)) (now (book .entry)) (now (s .entry)) (now (rows .entry)) n (now (s1 .entry)) (now (rows1 .entry)) n1 (now (held .entry)) 0 many ps →
+        Told text limit (listed (now (t .entry)) (valueIn ps) text (docOf (now (s .entry)) (now (rows .entry)) n) n k h r) from (now (out .entry)) (now (out .exit)) c) ⌝ }
+{
+    let mut at = place(limit, from, 3);
+    let mut c = first_child(s, rows, n, past, h);
+    while c < n {
+        let r = value(
+            t,
+            book,
+            s,
+            rows,
+            n,
+            past,
+            c,
+            k,
+            due,
+            s1,
+            rows1,
+            n1,
+            past1,
+            held,
+            many,
+            out,
+            limit,
+            at,
+        );
+        let Coerced::UpTo(next) = r else {
+            return r;
+        };
+        at = next;
+        c = next_child(s, rows, n, past, h, c);
+    }
+    Coerced::UpTo(close(out, limit, from, TAG_LIST, at))
+}
+
+// Writes the entries of this kind of row h as an object of what the content from `start` up to `end` makes due, with k levels left for each
+// value: kind 10 are an object's, kind 6 a field's arguments.
+pub fn object(
+    t: &[u8],
+    book: &[u32],
+    s: &[u8],
+    rows: &[u32],
+    n: usize,
+    past: &[u32],
+    h: usize,
+    k: usize,
+    kind: u32,
+    start: usize,
+    end: usize,
+    s1: &[u8],
+    rows1: &[u32],
+    n1: usize,
+    past1: &[u32],
+    held: &[u32],
+    many: usize,
+    out: &mut [u8],
+    limit: usize,
+    from: usize,
+) -> Coerced
+    requires { ⌜ Ready (now t) (now book) (now s) (now rows) n (now past) × (h ≤ n) × Bounds (now t) start end × (allOf slimDue (duesBy kind (now t) start end) ≡ true) × Room limit from (now out) × Holding (now t) (now book) (now s) (now rows) n (now s1) (now rows1) n1 (now past1) (now held) many ⌝ }
+    ensures { λ c. ⌜ ((text : ℕ) (ps : Pairs) → Holds (now (t .entry)) (now (book .entry)) (now (s .entry)) (now (rows .entry)) n (now (s1 .entry)) (now (rows1 .entry)) n1 (now (held .entry)) 0 many ps →
+        Told text limit (objected (now (t .entry)) (valueIn ps) text (docOf (now (s .entry)) (now (rows .entry)) n) n k kind h (duesBy kind (now (t .entry)) start end)) from (now (out .entry)) (now (out .exit)) c) ⌝ }
+{
+    let again = find_again(s, rows, n, past, h, kind);
+    if again < n {
+        return Coerced::Refused {
+            row: again,
+            why: REASON_REPEATED,
+        };
+    }
+    let alien = find_alien(t, start, end, s, rows, n, past, h, kind);
+    if alien < n {
+        return Coerced::Refused {
+            row: alien,
+            why: REASON_UNKNOWN,
+        };
+    }
+    let mut at = place(limit, from, 3);
+    let mut p = start;
+    loop {
+        let FieldFound::Found {
+            tag,
+            start: a,
+            end: e,
+        } = next_due(t, p, end, kind)
+        else {
+            return Coerced::UpTo(close(out, limit, from, TAG_INPUT, at));
+        };
+        let r = field(
+            t,
+            book,
+            s,
+            rows,
+            n,
+            past,
+            h,
+            k,
+            kind,
+            tag,
+            a,
+            e,
+            s1,
+            rows1,
+            n1,
+            past1,
+            held,
+            many,
+            out,
+            limit,
+            at,
+        );
+        let Coerced::UpTo(next) = r else {
+            return r;
+        };
+        at = next;
+        p = e;
+    }
+}
+
+// Writes the pair of the member or argument with this tag and content, among the entries of this kind of row h, if it is given.
+fn field(
+    t: &[u8],
+    book: &[u32],
+    s: &[u8],
+    rows: &[u32],
+    n: usize,
+    past: &[u32],
+    h: usize,
+    k: usize,
+    kind: u32,
+    tag: u8,
+    start: usize,
+    end: usize,
+    s1: &[u8],
+    rows1: &[u32],
+    n1: usize,
+    past1: &[u32],
+    held: &[u32],
+    many: usize,
+    out: &mut [u8],
+    limit: usize,
+    from: usize,
+) -> Coerced
+    requires { ⌜ Ready (now t) (now book) (now s) (now rows) n (now past) × (h ≤ n) × Bounds (now t) start end × (slimDue (dueOf (memberFrom (now t) tag start end)) ≡ true) × Room limit from (now out) × Holding (now t) (now book) (now s) (now rows) n (now s1) (now rows1) n1 (now past1) (now held) many ⌝ }
+    ensures { λ c. ⌜ ((text : ℕ) (ps : Pairs) → Holds (now (t .entry)) (now (book .entry)) (now (s .entry)) (now (rows .entry)) n (now (s1 .entry)) (now (rows1 .entry)) n1 (now (held .entry)) 0 many ps →
+        ToldPairs text limit (stepped (now (t .entry)) (valueIn ps) text (docOf (now (s .entry)) (now (rows .entry)) n) n k kind h (dueOf (memberFrom (now (t .entry)) tag start end))) from (now (out .entry)) (now (out .exit)) c) ⌝ }
+{
+    let name = members::member_name(t, tag, start, end);
+    let m = members::member_type(t, tag, start, end);
+    let c = given(
+        s,
+        rows,
+        n,
+        past,
+        h,
+        k,
+        kind,
+        held,
+        many,
+        t,
+        name.at,
+        name.size,
+    );
+    if n <= c {
+        return lacking(limit, from, h, m.wrappers);
+    }
+    let due = due_of(t, book, t, m.at, m.size, m.wrappers);
+    let first = place(limit, from, 3);
+    let at = name.at;
+    let stop = at + name.size;
+    let middle = put_field(out, limit, first, TAG_NAME, &t[at..stop]);
+    let r = value(
+        t,
+        book,
+        s,
+        rows,
+        n,
+        past,
+        c + 1,
+        k,
+        due,
+        s1,
+        rows1,
+        n1,
+        past1,
+        held,
+        many,
+        out,
+        limit,
+        middle,
+    );
+    let Coerced::UpTo(e) = r else {
+        return r;
+    };
+    Coerced::UpTo(close(out, limit, from, TAG_PAIR, e))
+}

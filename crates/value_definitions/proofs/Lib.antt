@@ -1,0 +1,4 @@
+-- Laws of the definitions.
+pub mod SeekLaws
+pub mod DeclaredLaws
+pub mod ReadLaws

@@ -1,0 +1,31 @@
+-- By the kind, then the parent.
+use mathlib.Core.Path.{sym, _∙_}
+use Rattle.constructs.specs.Rowed.{rowIn}
+use Rattle.value_definitions.proofs.SeekLaws.{declared-other, declared-is}
+use borrow.Author.Needs.{needs}
+use Rattle.value_definitions.proofs.is_declared.Statement.{statement}
+use Rattle.value_definitions.proofs.is_declared.Tie as tie
+
+kind-of-requires : tie.Need-kind-of-requires
+kind-of-requires c κs = search needs
+
+returns : tie.Need-returns
+returns c =
+    let a = c .before .before .before .args in
+    declared-other (a .v) (rowIn (a .rows .now) (a .n) (a .j)) (λ q. c .if1 .taken (c .before .kind-of .ensures ∙ q))
+
+parent-of-requires : tie.Need-parent-of-requires
+parent-of-requires c κs = search needs
+
+wide-requires : tie.Need-wide-requires
+wide-requires c κs = search needs
+
+returns-2 : tie.Need-returns-2
+returns-2 c =
+    let a = c .before .before .before .before .before .args in
+    rw (c .wide .ensures, c .before .parent-of .ensures)
+    (declared-is (a .v) (rowIn (a .rows .now) (a .n) (a .j)) (sym (c .before .before .before .kind-of .ensures) ∙ c .before .before .if1 .left))
+
+pub is-declared-spec : {M : Type 1} → statement M
+is-declared-spec =
+    tie.close (tie.spec kind-of-requires returns parent-of-requires wide-requires returns-2)

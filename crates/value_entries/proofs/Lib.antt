@@ -1,0 +1,4 @@
+-- Laws of the definitions.
+pub mod EntryLaws
+pub mod ChildLaws
+pub mod DueLaws

@@ -1,0 +1,91 @@
+-- Where a field's arguments stand, by its two numbers; and that each has at most seven wrappers.
+use mathlib.Core.Path.{_≡_, refl, sym, ap, _∙_}
+use mathlib.Core.Bool.{Bool, true, false, cond, true≢false}
+use mathlib.Core.Option.{Option, none, some}
+use mathlib.Core.List.{List, [], _∷_, map}
+use Prim.Native.Nat.{ℕ, _≤_, _<_}
+use native.Mathlib.Decide.{decLt}
+use native.Mathlib.Omega.{arith}
+use lib.ListN.{length, List·getD-eq-default}
+use Rattle.paper_types.specs.TableNumbers.{tagField}
+use Rattle.paper_types.specs.Lists.{allOf, find, gather}
+use Rattle.paper_types.specs.House.{piecesFrom}
+use Rattle.paper_types.specs.Types.{Argument, Member, tableOf, isUnion, blank, tagNothing}
+use Rattle.paper_types.specs.Rules.{memberNamed}
+use Rattle.paper_rules.specs.Constructs.{Doc, nameOf}
+use Rattle.paper_rules.specs.Enclosing.{FieldIs, typename, member, missing, unknown, definitionAt, isTypename, fieldOf, orMissing, fieldIn, enclosing, fieldAt}
+use Rattle.members.specs.Members.{argumentsIn, fieldFrom}
+use Rattle.members.proofs.MemberLaws.{field-is}
+use Rattle.types.specs.Sizes.{slimMember, slimDefinition, Slim}
+use Rattle.types.proofs.SlimLaws.{all-at, all-found, slim-arguments}
+use Rattle.belonging.specs.Kept.{fieldTypename, fieldCoded, FieldKept}
+use Rattle.belonging.proofs.FieldLaws.{coded-member, by-number}
+use Rattle.paper_values.specs.Values.{Due}
+use Rattle.paper_values.specs.Kinds.{dueArgument}
+use Rattle.paper_values.specs.DocumentDues.{argumentDues}
+use Rattle.value_fields.specs.Wants.{Known, Holds}
+
+each-due : (xs : List Argument) → gather (λ a. dueArgument a ∷ []) xs ≡ map dueArgument xs
+unfolding gather
+each-due [] = refl
+each-due (x ∷ xs) = ap (λ (l : List Due). dueArgument x ∷ l) (each-due xs)
+
+-- an empty content has no arguments
+no-arguments : (t : List ℕ) → argumentsIn t 0 0 ≡ []
+unfolding gather piecesFrom
+no-arguments t = refl
+
+-- a field that is known is a member, of few wrappers
+module _ (t : List ℕ) (s : Slim (tableOf t)) where
+  slim-at : (k : ℕ) → allOf slimMember (definitionAt (tableOf t) k .members) ≡ true
+  unfolding allOf
+  slim-at k = go (decLt k (length (tableOf t)))
+    where
+      go : Dec (k < length (tableOf t)) → slimDefinition (definitionAt (tableOf t) k) ≡ true
+      go (yes h) = all-at slimDefinition (tableOf t) k (blank tagNothing) h s
+      go (no h) = ap slimDefinition (List·getD-eq-default (tableOf t) (blank tagNothing) (omega arith))
+
+  found-slim : (k : ℕ) (n : List ℕ) (m : Member) → fieldOf (tableOf t) k n ≡ some m → slimMember m ≡ true
+  unfolding fieldOf
+  found-slim k n m e = go (isUnion (definitionAt (tableOf t) k)) e
+    where
+      go : (b : Bool) → cond b none (find (memberNamed n) (definitionAt (tableOf t) k .members)) ≡ some m → slimMember m ≡ true
+      go true q = let z : _≡_ {A = Option Member} none (some m) = q in let y : true ≡ false = cc in absurd (true≢false y)
+      go false q = all-found slimMember (memberNamed n) (definitionAt (tableOf t) k .members) m q (slim-at k)
+
+  missing-slim : (o : Option Member) (m : Member) → ((x : Member) → o ≡ some x → slimMember x ≡ true) → orMissing o ≡ member m → slimMember m ≡ true
+  missing-slim none m f e = let z : _≡_ {A = FieldIs} missing (member m) = e in let y : true ≡ false = cc in absurd (true≢false y)
+  missing-slim (some x) m f e = let z : x ≡ m = cc in rw (← z) (f x refl)
+
+  member-slim : (above : Option ℕ) (n : List ℕ) (m : Member) → fieldIn (tableOf t) above n ≡ member m → slimMember m ≡ true
+  member-slim none n m e = let z : _≡_ {A = FieldIs} unknown (member m) = e in let y : true ≡ false = cc in absurd (true≢false y)
+  member-slim (some k) n m e = go (isTypename n) e
+    where
+      go : (b : Bool) → cond b typename (orMissing (fieldOf (tableOf t) k n)) ≡ member m → slimMember m ≡ true
+      go true q = let z : _≡_ {A = FieldIs} typename (member m) = q in let y : true ≡ false = cc in absurd (true≢false y)
+      go false q = missing-slim (fieldOf (tableOf t) k n) m (λ x. found-slim k n x) q
+
+-- the field of row i, as it is kept
+module _ (t : List ℕ) (k : Known t) (d : Doc) (i at to : ℕ) (f : FieldKept t (fieldAt (tableOf t) d i) at to) where
+  leaf-dues : at ≤ fieldTypename → argumentDues (fieldCoded t at to) ≡ []
+  leaf-dues = by-number t to (λ x g. x ≤ fieldTypename → argumentDues g ≡ []) (λ h. refl) (λ h. refl) (λ h. refl) (λ x l h. absurd (omega arith)) at
+
+  -- no member: nothing stands in an empty content
+  pub holds-none : at ≤ fieldTypename → Holds t (fieldAt (tableOf t) d i) 0 0
+  unfolding gather allOf
+  holds-none h = record {
+    bounds = record { order = omega arith; within = omega arith; most = k .short };
+    dues = rw (no-arguments t, f .is) (sym (leaf-dues h));
+    slim = rw (no-arguments t) refl;
+  }
+
+  -- a member: its own content
+  pub holds-member : fieldTypename < at → Holds t (fieldAt (tableOf t) d i) at to
+  holds-member h = record {
+    bounds = f .bounds h;
+    dues = each-due (argumentsIn t at to) ∙ ap argumentDues (sym is);
+    slim = slim-arguments (fieldFrom t at to) (member-slim t (k .slim) (enclosing (tableOf t) d i) (nameOf d i) (fieldFrom t at to) is);
+  }
+    where
+      is : fieldAt (tableOf t) d i ≡ member (fieldFrom t at to)
+      is = f .is ∙ sym (coded-member t to at h) ∙ ap member (field-is t tagField at to refl)

@@ -1,0 +1,6 @@
+-- Laws of this crate.
+pub mod AcceptedLaws
+pub mod MeantLaws
+pub mod HoldsLaws
+pub mod ReachLaws
+pub mod WantsLaws

@@ -1,0 +1,72 @@
+-- Links, where spreads lead, one search.
+use mathlib.Core.Path.{sym, _∙_}
+use Rattle.constructs.proofs.Rooms.{room-rows}
+use Rattle.spreading.proofs.LinkLaws.{graph-of}
+use Rattle.value_fields.proofs.ReachLaws.{zeros-stamped}
+use borrow.Author.Needs.{needs}
+use Rattle.value_fields.proofs.search_spreads.Statement.{statement}
+use Rattle.value_fields.proofs.search_spreads.Tie as tie
+
+kinds-requires : tie.Need-kinds-requires
+kinds-requires c κs = search needs
+
+targets-requires : tie.Need-targets-requires
+targets-requires c κs = search needs
+
+spreads-requires : tie.Need-spreads-requires
+spreads-requires c κs = search needs
+
+reach-requires : tie.Need-reach-requires
+reach-requires c κs =
+    let p = c .before .before .before .before .before .before .before .before .before .before .before .before .before .before .before .before .before .before .before .before .before .before .before .before .before .before .before .before .before .before .before .before .before .before .before .pre in
+    let a = c .before .before .before .before .before .before .before .before .before .before .before .before .before .before .before .before .before .before .before .before .before .before .before .before .before .before .before .before .before .before .before .before .before .before .before .args in
+    (graph-of (a .s .now) (a .rows .now) (a .n) (p .0 .few) (c .before .before .before .before .before .before .before .before .before .before .before .before .before .before .targets .ensures) (c .before .before .before .before .before .before .before .before .before .spreads .ensures), p .9, zeros-stamped (a .s .now) (a .rows .now) (a .n) (a .op) (p .7), p .8)
+
+reaches-requires : tie.Need-reaches-requires
+reaches-requires c κs =
+    let p = c .before .before .before .before .before .before .before .before .before .before .before .before .before .before .before .before .before .before .before .before .before .before .before .before .before .before .before .before .before .before .before .before .before .before .before .before .before .before .before .before .before .pre in
+    (p .1, c .before .before .before .before .before .reach .ensures, p .9, p .0 .few, p .10)
+
+same-length : tie.Need-same-length
+same-length c =
+    c .before .before .before .before .before .before .before .before .before .before .before .before .before .before .before .before .before .before .before .before .before .before .before .before .before .before .before .before .before .kinds .ensures .firsts ∙ sym (c .before .before .before .before .before .before .before .before .before .before .before .before .before .before .before .before .before .before .before .before .before .before .before .before .before .before .before .before .before .before .before .before .before .before .before .before .before .before .before .before .before .before .pre .2)
+
+same-length-2 : tie.Need-same-length-2
+same-length-2 c =
+    c .before .before .before .before .before .before .before .before .before .before .before .before .before .before .before .before .before .before .before .before .before .before .before .before .before .before .before .before .before .kinds .ensures .nexts ∙ room-rows _ _ ∙ sym (c .before .before .before .before .before .before .before .before .before .before .before .before .before .before .before .before .before .before .before .before .before .before .before .before .before .before .before .before .before .before .before .before .before .before .before .before .before .before .before .before .before .before .pre .3)
+
+same-length-3 : tie.Need-same-length-3
+same-length-3 c = search needs
+
+same-length-4 : tie.Need-same-length-4
+same-length-4 c = search needs
+
+same-length-5 : tie.Need-same-length-5
+same-length-5 c = search needs
+
+same-length-6 : tie.Need-same-length-6
+same-length-6 c = search needs
+
+same-length-7 : tie.Need-same-length-7
+same-length-7 c = search needs
+
+returns : tie.Need-returns
+returns c = search needs
+
+pub search-spreads-spec : {M : Type 1} → statement M
+search-spreads-spec =
+    tie.close
+    (tie.spec
+    kinds-requires
+    targets-requires
+    spreads-requires
+    reach-requires
+    reaches-requires
+    same-length
+    same-length-2
+    same-length-3
+    same-length-4
+    same-length-5
+    same-length-6
+    same-length-7
+    returns)
