@@ -1,6 +1,8 @@
 /* A document's rows beside a type table. */
 #include "pair.h"
 
+#include <string.h>
+
 /* ---- rows */
 
 uint32_t column(const struct pair *p, uint32_t row, int which) {
@@ -30,7 +32,7 @@ static uint32_t first_held(const struct pair *p, uint32_t holder, uint32_t kind)
     return next_held(p, holder, holder, kind);
 }
 
-static uint32_t first_named(const struct pair *p, uint32_t holder, uint32_t kind, struct words name) {
+uint32_t first_named(const struct pair *p, uint32_t holder, uint32_t kind, struct words name) {
     for (uint32_t i = 0; i < p->count; i++)
         if (parent_of(p, i) == holder && kind_at(p, i) == kind && same_words(name_at(p, i), name))
             return i;
@@ -112,7 +114,32 @@ static struct words member_type(const struct pair *p, struct piece holder, uint3
     return found.tag ? reference_of(p->table, found) : unknown;
 }
 
+struct words declared_type(const struct pair *p, uint32_t definition) {
+    static uint8_t room[GW_MOST_TEXT + 2 * GW_MOST_WRAPPERS];
+    uint32_t reference = first_held(p, definition, GW_KIND_TYPE_REFERENCE), wrappers = column(p, reference, GW_ROW_EXTRA);
+    uint8_t behind[GW_MOST_WRAPPERS];
+    struct words base = name_at(p, reference);
+    size_t length = 0, marks = 0;
+    for (; wrappers && marks < GW_MOST_WRAPPERS; wrappers >>= 2) {
+        behind[marks++] = (wrappers & 3) == GW_WRAP_LIST ? ']' : '!';
+        if (behind[marks - 1] == ']')
+            room[length++] = '[';
+    }
+    memcpy(room + length, base.bytes, base.length);
+    for (length += base.length; marks > 0;)
+        room[length++] = behind[--marks];
+    return (struct words){room, length};
+}
+
+/* The type of a variable that a variables text gives. */
+static struct words due_to_variable(const struct pair *p, uint32_t row) {
+    uint32_t definition = first_named(p->of, p->operation, GW_KIND_VARIABLE_DEFINITION, name_at(p, row));
+    return definition == NO_ROW ? unknown : declared_type(p->of, definition);
+}
+
 static struct words due_in_object(const struct pair *p, uint32_t row) {
+    if (p->of && parent_of(p, row) == 0)
+        return due_to_variable(p, row);
     struct words type = due_at(p, parent_of(p, row));
     struct piece record = type.bytes ? named(p->table, whole(p->table), is_type, base_of(type)) : none;
     return record.tag == GW_TAG_INPUT_OBJECT ? member_type(p, record, row) : unknown;
@@ -120,6 +147,8 @@ static struct words due_in_object(const struct pair *p, uint32_t row) {
 
 struct words due_at(const struct pair *p, uint32_t row) {
     uint32_t up = parent_of(p, row);
+    if (up == NO_ROW)
+        return unknown;
     switch (kind_at(p, row)) {
     case GW_KIND_ARGUMENT:
         return kind_at(p, up) == GW_KIND_DIRECTIVE ? (struct words){(const uint8_t *)"Boolean", 7} : member_type(p, field_at(p, up), row);
@@ -127,6 +156,8 @@ struct words due_at(const struct pair *p, uint32_t row) {
     default:
         if (kind_at(p, up) == GW_KIND_LIST)
             return without(nullable(due_at(p, up)), GW_WRAP_LIST);
+        if (kind_at(p, up) == GW_KIND_VARIABLE_DEFINITION)
+            return declared_type(p, up);
         return kind_at(p, up) == GW_KIND_ARGUMENT || kind_at(p, up) == GW_KIND_OBJECT_FIELD ? due_at(p, up) : unknown;
     }
 }

@@ -10,6 +10,8 @@ struct pair {
     const struct text *table, *document;
     const uint32_t *rows;
     uint32_t count;
+    const struct pair *of; /* of a variables text, which stands in the document's place: the document, and its operation's row */
+    uint32_t operation;
 };
 
 enum { NO_ROW = GW_NO_PARENT };
@@ -28,6 +30,12 @@ uint32_t first_called(const struct pair *p, uint32_t holder, uint32_t kind, uint
 /* The record of the object, interface or union around a selection, and a field's definition in it; tag 0 where none is known. */
 struct piece around(const struct pair *p, uint32_t row);
 struct piece field_at(const struct pair *p, uint32_t row);
+
+/* The first row of a kind in a holder with a name of its own or of another text; NO_ROW for none. */
+uint32_t first_named(const struct pair *p, uint32_t holder, uint32_t kind, struct words name);
+
+/* The type of a variable definition, with nothing ignored in it; it stands until the next one is asked for. */
+struct words declared_type(const struct pair *p, uint32_t definition);
 
 /* The type due at an argument's, an object field's or a value's place; NULL where none is known. */
 struct words due_at(const struct pair *p, uint32_t row);

@@ -155,13 +155,13 @@ static const char *too_many_words(const struct text *text, size_t at) {
     }
 }
 
-static const char *refusal_words(const struct text *text, uint32_t number, size_t at) {
+static void print_refusal_words(const struct text *text, const char *what, uint32_t number, size_t at) {
     switch (number) {
-    case GW_REFUSE_NO_TOKEN: return bad_text_words(text, at);
-    case GW_REFUSE_NO_GOING: return at < text->length ? "no document can go on with this" : "the text ends where no document can end";
-    case GW_REFUSE_TOO_DEEP: return "this opens level 33 of braces, brackets and parentheses";
-    case GW_REFUSE_TOO_MANY_ROWS: return "this would be row 2,049";
-    default: return too_many_words(text, at);
+    case GW_REFUSE_NO_TOKEN: printf("%s", bad_text_words(text, at)); break;
+    case GW_REFUSE_NO_GOING: printf(at < text->length ? "no %s can go on with this" : "the text ends where no %s can end", what); break;
+    case GW_REFUSE_TOO_DEEP: printf("this opens level 33 of braces, brackets and parentheses"); break;
+    case GW_REFUSE_TOO_MANY_ROWS: printf("this would be row 2,049"); break;
+    default: printf("%s", too_many_words(text, at));
     }
 }
 
@@ -215,16 +215,21 @@ void show_caret(const struct text *text, size_t offset) {
     printf("%5s | %*s^\n", "", column + (*dots ? 3 : 0), "");
 }
 
-void show_refusal(const struct text *text, const uint32_t *report) {
+void show_refusal(const struct text *text, const char *what, const uint32_t *report) {
     uint32_t number = report[0];
-    if (number == GW_REFUSE_BUFFER || number == GW_REFUSE_OVER_LENGTH) {
-        printf("%s: refusal %" PRIu32 ": %s\n", text->called, number, number == GW_REFUSE_BUFFER
-               ? "a buffer is shorter than its fixed size" : "the document is over 16,384 bytes");
+    if (number == GW_REFUSE_BUFFER) {
+        printf("%s: refusal %" PRIu32 ": a buffer is shorter than its fixed size\n", text->called, number);
+        return;
+    }
+    if (number == GW_REFUSE_OVER_LENGTH) {
+        printf("%s: refusal %" PRIu32 ": the %s is over 16,384 bytes\n", text->called, number, what);
         return;
     }
     size_t offset = report[1] <= text->length ? report[1] : text->length;
     printf("%s:", text->called);
     print_line_column(text, offset);
-    printf(": refusal %" PRIu32 ", byte %zu: %s\n", number, offset, refusal_words(text, number, offset));
+    printf(": refusal %" PRIu32 ", byte %zu: ", number, offset);
+    print_refusal_words(text, what, number, offset);
+    putchar('\n');
     show_caret(text, caret_offset(text, offset));
 }

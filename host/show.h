@@ -15,8 +15,8 @@ struct text {
 /* The rows of a document, one a line, indented by what holds them. */
 void show_rows(const struct text *text, const uint32_t *rows, uint32_t count);
 
-/* The refusal in words, with the line of the text and a caret under the place. */
-void show_refusal(const struct text *text, const uint32_t *report);
+/* The refusal in words, with the line of the text and a caret under the place; the text is a "document" or "variables text". */
+void show_refusal(const struct text *text, const char *what, const uint32_t *report);
 
 /* A row's kind in words. */
 const char *kind_words(uint32_t kind);

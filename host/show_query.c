@@ -33,7 +33,7 @@ static void print_named(const struct pair *p, const char *what, uint32_t row) {
     print_words(name_at(p, row));
 }
 
-static void print_place_of(const struct pair *p, uint32_t row) {
+void print_place_of(const struct pair *p, uint32_t row) {
     print_line_column(p->document, column(p, row, GW_ROW_START));
 }
 
@@ -42,8 +42,7 @@ static const char *operation_words(const struct pair *p, uint32_t row) {
     return words[column(p, row, GW_ROW_EXTRA) % 3];
 }
 
-/* "query A", or "the query at 1:1" where it has no name. */
-static void print_operation(const struct pair *p, uint32_t row) {
+void print_operation(const struct pair *p, uint32_t row) {
     if (column(p, row, GW_ROW_NAME_LENGTH)) {
         printf("%s", operation_words(p, row));
         print_named(p, " ", row);

@@ -1,10 +1,10 @@
 /* The gateway core's C interface: the calls, the sizes of their buffers, the refusals, the numbers in rows and tables.
-   The names are those of the lib.rt of crates/paper, crates/paper_types and crates/paper_rules with GW_ before them, the
-   rules of the last with GW_QUERY_.
+   The names are those of the lib.rt of crates/paper, crates/paper_types, crates/paper_rules and crates/paper_values with GW_
+   before them, query rules with GW_QUERY_, the tags of coerced values with GW_VALUE_.
 
    Every call is a pure function of its inputs: no heap, no global state, no system call; it may run in any number of
    threads at once. Buffers must be aligned for their type and must not overlap. A buffer of length 0 may be NULL.
-   A length counts elements: bytes of a text, 32-bit numbers of an output. */
+   A length counts elements: bytes of a text, of a name or of a coerced value, 32-bit numbers of any other output. */
 #ifndef GATEWAY_H
 #define GATEWAY_H
 
@@ -15,7 +15,7 @@
 extern "C" {
 #endif
 
-/* Sizes of a document. */
+/* Sizes of a document, and of a variables text, which has its own levels and rows. */
 #define GW_MOST_TEXT 16384    /* bytes */
 #define GW_MOST_LEVELS 32     /* open braces, brackets and parentheses */
 #define GW_MOST_ROWS 2048
@@ -30,19 +30,23 @@ extern "C" {
 #define GW_MOST_IMPLEMENTED 64 /* implemented names per object */
 #define GW_MOST_ARGUMENTS 16   /* per field */
 
-/* Fixed sizes of the outputs, in 32-bit numbers. A longer buffer may be lent; what lies beyond is left alone. */
+/* Fixed sizes of the outputs, in 32-bit numbers, of a coerced value in bytes. A longer buffer may be lent; what lies beyond is left alone. */
 #define GW_ROW_SIZE 7
 #define GW_ROWS_SIZE 14336    /* GW_MOST_ROWS * GW_ROW_SIZE */
 #define GW_REPORT_SIZE 8
+#define GW_MOST_COERCED 8192  /* bytes of a coerced value */
 
 /* Bytes of stack, more than a call takes (measured, not proved: tests/stack.c). */
 #define GW_PARSE_STACK 20480
 #define GW_CHECK_TABLE_STACK 24576
 #define GW_CHECK_STACK 131072
+#define GW_COERCE_VARIABLES_STACK 212992
+#define GW_COERCE_ARGUMENTS_STACK 212992
 
 /* What a call answers, which is also report[0]. Shown: report[1], of refusal 9 report[1] to report[5], of 10 report[1] and
-   report[2]. */
-#define GW_ACCEPTED 0             /* shown: the count of rows, by the calls that write rows */
+   report[2], of 11 report[1] to report[3]. The calls that read a variables text show of 3 to 6 in report[2] whose offset it is
+   (GW_INPUT_DOCUMENT or GW_INPUT_VARIABLES). */
+#define GW_ACCEPTED 0             /* shown: the count of rows, by the calls that write rows; the bytes of a coerced value */
 #define GW_REFUSE_BUFFER 1        /* a buffer is shorter than its fixed size; nothing shown */
 #define GW_REFUSE_OVER_LENGTH 2   /* an input is over its length; shown: which (GW_INPUT_..) */
 #define GW_REFUSE_NO_TOKEN 3      /* bytes that start no token, or bad text in a string or comment; shown: offset of it */
@@ -53,6 +57,10 @@ extern "C" {
 #define GW_REFUSE_TOO_MANY 8      /* another count over its size; shown: offset of the first over it */
 #define GW_REFUSE_SCHEMA 9        /* a table breaks a schema rule; shown: definition, rule, member, part, argument */
 #define GW_REFUSE_QUERY 10        /* a document breaks a query rule; shown: row, rule */
+#define GW_REFUSE_VALUE 11        /* a value cannot be coerced; shown: text (GW_INPUT_..), row, reason (GW_REASON_..) */
+#define GW_REFUSE_NO_OPERATION 12 /* no operation of this name, or no name and not one operation only, or a row that is no
+                                     field that the operation reaches; nothing shown */
+#define GW_REFUSE_TOO_LONG 16     /* a coerced value over GW_MOST_COERCED bytes; nothing shown */
 
 #define GW_INPUT_DOCUMENT 0
 #define GW_INPUT_VARIABLES 1
@@ -243,6 +251,104 @@ uint32_t gw_check(const uint8_t *table, size_t table_len,
                   const uint8_t *document, size_t document_len,
                   uint32_t *rows, size_t rows_len,
                   uint32_t *report, size_t report_len);
+
+/* The tags of a coerced value: house fields again, one in another. */
+#define GW_VALUE_NULL 32        /* no content */
+#define GW_VALUE_INT 33         /* four bytes, high first: a signed number */
+#define GW_VALUE_FLOAT 34       /* the text as written, of an integer with .0 behind it */
+#define GW_VALUE_STRING 35      /* of a String or ID: its characters in UTF-8, escapes resolved; of an integer its text */
+#define GW_VALUE_BOOLEAN 36     /* a byte, 1 for true, 0 for false */
+#define GW_VALUE_ENUM 37        /* the enum value's name */
+#define GW_VALUE_LIST 38        /* the items, values again */
+#define GW_VALUE_OBJECT 39      /* its entries, in the order of their definitions */
+#define GW_VALUE_ENTRY 40       /* GW_TAG_NAME, then the value */
+#define GW_VALUE_OWN_SCALAR 41  /* the token as written, a string with its quotes and escapes */
+
+/* The reasons of refusal 11, each with the row that is shown. */
+#define GW_REASON_KIND 1      /* a token, list or object of another kind than the type takes; the value */
+#define GW_REASON_RANGE 2     /* an integer beyond Int (32 bits), or beyond 2^53 where a Float is due; the value */
+#define GW_REASON_MISSING 3   /* a Non-Null entry, argument or variable is missing; the object, field or variable definition */
+#define GW_REASON_NULL 4      /* null where the type is Non-Null; the null, or the variable that holds it or has no value in a list */
+#define GW_REASON_UNKNOWN 5   /* the input object has no such field; the entry */
+#define GW_REASON_REPEATED 6  /* an entry's name is repeated; the entry, the later one */
+#define GW_REASON_ENUM 7      /* the enum has no such value; the value */
+#define GW_REASON_SURROGATE 8 /* a String or ID with an escaped surrogate, \uD800 to \uDFFF; the value */
+
+/* Coerces the variables of an operation by their types: what is given in the variables text, or the default in the document.
+
+   table      read: any bytes, of any length
+   document   read: any bytes, of any length
+   operation  read: the operation's name, any bytes, of any length; none for the only operation, which may have a name
+   variables  read: any bytes, of any length; those of one constant object value, { name: value, .. }, {} for none
+   value      lent: at least GW_MOST_COERCED bytes
+   report     lent: at least GW_REPORT_SIZE numbers
+
+   Answers GW_ACCEPTED or the first refusal that there is: 1, 2 (of the least input), of table and document (7 to 9, 3 to 6 and 8, 10,
+   as gw_check), 12, of the variables text (3 to 6), 11, 16. What the call leaves:
+
+     answer                       report                          value
+     GW_ACCEPTED                  0, bytes of the value, zeros    the value, then zeros up to GW_MOST_COERCED
+     GW_REFUSE_BUFFER             1, zeros; untouched if it is    untouched
+                                  itself too short
+     GW_REFUSE_OVER_LENGTH        2, GW_INPUT_.., zeros           untouched
+     GW_REFUSE_NO_TOKEN to        its number, offset,             zeros up to GW_MOST_COERCED
+     GW_REFUSE_TOO_MANY_ROWS      GW_INPUT_.., zeros
+     GW_REFUSE_VALUE              11, GW_INPUT_.., row, reason,   zeros up to GW_MOST_COERCED
+                                  zeros
+     GW_REFUSE_NO_OPERATION,      its number, zeros               zeros up to GW_MOST_COERCED
+     GW_REFUSE_TOO_LONG
+     any other                    as that of gw_check             zeros up to GW_MOST_COERCED
+
+   The value is an object with an entry for each variable that has a value or a default, in the order of their definitions. Names
+   that the operation does not define are passed over; of a name that is repeated nothing else is told. A default is judged only
+   where it is taken. Of several values that cannot be coerced the first by definition order is told, of an object first the entries
+   that are repeated, then those that are unknown, then the fields.
+
+   The row of an 11 is that of gw_parse in the document. In the variables text it is counted from 0 over all tokens but } ] and :,
+   so that row 0 is the object, 1 the first entry, 2 its value. */
+uint32_t gw_coerce_variables(const uint8_t *table, size_t table_len,
+                             const uint8_t *document, size_t document_len,
+                             const uint8_t *operation, size_t operation_len,
+                             const uint8_t *variables, size_t variables_len,
+                             uint8_t *value, size_t value_len,
+                             uint32_t *report, size_t report_len);
+
+/* Coerces the arguments of a field, after all variables of the operation.
+
+   row        the field's row, as gw_parse and gw_check number it; any number: one that is no field that the operation reaches, itself
+              or through spreads, is refused by 12, before the variables text is read
+   the others as in gw_coerce_variables
+
+   Answers and leaves what gw_coerce_variables does, but for the value: an object with an entry for each argument that is given, in
+   the order of their definitions, and for 16 this alone is measured. A variable that has no value leaves its entry out, in a list it is
+   null. What is wrong with a variable's value is told in its own text; a variable that holds null, at a place that is Non-Null, is told
+   in the document.
+
+   A worked example, by a table that has type Query { fan(no: Int!, at: [Float]): Int }; the field is row 3 of the document, behind
+   operation, variable definition and type:
+
+     static uint8_t value[GW_MOST_COERCED];
+     uint32_t report[GW_REPORT_SIZE];
+     const uint8_t text[] = "query($no: Int!) { fan(no: $no) }", variables[] = "{ no: -3 }";
+     if (gw_coerce_arguments(table, table_len, text, sizeof text - 1, NULL, 0, variables, sizeof variables - 1, 3,
+                             value, GW_MOST_COERCED, report, GW_REPORT_SIZE) == GW_ACCEPTED)
+         for (const uint8_t *entry = value + 3, *end = value + report[1]; entry < end; entry += 3 + entry[1] * 256 + entry[2]) {
+             const uint8_t *name = entry + 3, *held = name + 3 + name[1] * 256 + name[2];
+             if (held[0] == GW_VALUE_INT)
+                 printf("%.*s is %d\n", name[1] * 256 + name[2], (const char *)name + 3,
+                        (int32_t)((uint32_t)held[3] << 24 | held[4] << 16 | held[5] << 8 | held[6]));
+         }
+
+   prints "no is -3": the value has the 18 bytes 39 0 15, 40 0 12, 16 0 2 'n' 'o', 33 0 4 255 255 255 253. host/value.h has
+   functions that read a value, to copy. With "{ no: 2147483648 }" the answer is 11 and the report 11, 1, 2, 2: in the variables text,
+   row 2 (the number), out of range. */
+uint32_t gw_coerce_arguments(const uint8_t *table, size_t table_len,
+                             const uint8_t *document, size_t document_len,
+                             const uint8_t *operation, size_t operation_len,
+                             const uint8_t *variables, size_t variables_len,
+                             uint32_t row,
+                             uint8_t *value, size_t value_len,
+                             uint32_t *report, size_t report_len);
 
 #ifdef __cplusplus
 }

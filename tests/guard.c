@@ -55,3 +55,7 @@ int is_painted(const void *from, size_t bytes) {
 int is_zero(const uint32_t *from, size_t count) {
     return is_all(from, count * sizeof *from, 0);
 }
+
+int is_zero_bytes(const void *from, size_t bytes) {
+    return is_all(from, bytes, 0);
+}

@@ -22,5 +22,6 @@ void *guard_paint(struct guarded g, size_t bytes, int high);
 
 int is_painted(const void *from, size_t bytes);
 int is_zero(const uint32_t *from, size_t count);
+int is_zero_bytes(const void *from, size_t bytes);
 
 #endif

@@ -1,6 +1,6 @@
 #!/usr/bin/env python3
-"""Holds include/gateway.h to the lib.rt of crates/paper, crates/paper_types and crates/paper_rules: each number of the one is in
-the other, with GW_ before its name, a query rule with GW_QUERY_.
+"""Holds include/gateway.h to the lib.rt of crates/paper, crates/paper_types, crates/paper_rules and crates/paper_values: each number of
+the one is in the other, with GW_ before its name, a query rule with GW_QUERY_, the tag of a coerced value with GW_VALUE_.
 
 The header alone names the columns of a row and the stack of a call.
 """
@@ -10,6 +10,8 @@ import sys
 
 ROOT = pathlib.Path(__file__).resolve().parent.parent
 NUMBER = r'^pub const (\w+): \w+ = (\d+);'
+# tags of coerced values that have other names in the code, where tags of tables stand beside them
+VALUES = {'TAG_ENUM_NAME': 'VALUE_ENUM', 'TAG_INPUT': 'VALUE_OBJECT', 'TAG_PAIR': 'VALUE_ENTRY', 'TAG_OWN': 'VALUE_OWN_SCALAR'}
 COLUMNS = 'ROW_KIND ROW_START ROW_END ROW_PARENT ROW_NAME_START ROW_NAME_LENGTH ROW_EXTRA'.split()
 
 
@@ -23,8 +25,10 @@ def main():
         code.update(numbers(f'crates/{crate}/src/lib.rt', NUMBER))
     for name, number in numbers('crates/paper_rules/src/lib.rt', NUMBER).items():
         code['QUERY_' + name if name.startswith('RULE_') else name] = number
+    for name, number in numbers('crates/paper_values/src/lib.rt', NUMBER).items():
+        code[VALUES.get(name, name.replace('TAG_', 'VALUE_'))] = number
     header = numbers('include/gateway.h', r'^#define GW_(\w+) (\d+)\b')
-    for call in ('PARSE', 'CHECK_TABLE', 'CHECK'):
+    for call in ('PARSE', 'CHECK_TABLE', 'CHECK', 'COERCE_VARIABLES', 'COERCE_ARGUMENTS'):
         header.pop(f'{call}_STACK')
     columns = {name: header.pop(name, None) for name in COLUMNS if name not in code}
     wrong = sorted(name for name in code.keys() | header.keys() if code.get(name) != header.get(name))

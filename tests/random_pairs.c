@@ -2,111 +2,13 @@
    read and breaks one rule or none. */
 #include "random_pairs.h"
 
+#include "tokens.h"
+
 #include <string.h>
 
-enum { MOST_TOKENS = 4000, MOST_COPIED = 600, SMALL = 400 };
-
-struct token {
-    uint32_t at, past;
-};
-
-static struct token tokens[MOST_TOKENS];
-static uint32_t token_count;
-
-static int is_word(uint8_t b) {
-    return b == '_' || (b >= '0' && b <= '9') || (b >= 'A' && b <= 'Z') || (b >= 'a' && b <= 'z');
-}
-
-static int is_ignored(uint8_t b) {
-    return b == ' ' || b == ',' || b == '\n' || b == '\t' || b == '\r';
-}
-
-static size_t past_token(const struct text *t, size_t at) {
-    size_t past = at + 1;
-    uint8_t b = t->bytes[at];
-    if (b == '"')
-        while (past < t->length && t->bytes[past++] != '"')
-            ;
-    else if (b == '.')
-        while (past < t->length && t->bytes[past] == '.')
-            past++;
-    else if (is_word(b) || b == '-')
-        while (past < t->length && is_word(t->bytes[past]))
-            past++;
-    return past;
-}
-
-/* Words, strings, runs of dots and single marks; roughly the draft's tokens. */
-static void find_tokens(const struct text *t) {
-    token_count = 0;
-    for (size_t i = 0; i < t->length && token_count < MOST_TOKENS;) {
-        if (is_ignored(t->bytes[i])) {
-            i++;
-            continue;
-        }
-        size_t past = past_token(t, i);
-        tokens[token_count++] = (struct token){(uint32_t)i, (uint32_t)past};
-        i = past;
-    }
-}
-
-static uint8_t first_byte(const struct text *t, uint32_t token) {
-    return t->bytes[tokens[token].at];
-}
-
-static int opens(uint8_t b) {
-    return b == '{' || b == '[' || b == '(';
-}
-
-static int closes(uint8_t b) {
-    return b == '}' || b == ']' || b == ')';
-}
-
-/* One past the group that token i begins: itself, or up to the mark that closes it. */
-static uint32_t group_past(const struct text *t, uint32_t i) {
-    int depth = 0;
-    for (; i < token_count; i++) {
-        depth += opens(first_byte(t, i)) - closes(first_byte(t, i));
-        if (depth <= 0)
-            return i + 1;
-    }
-    return token_count;
-}
-
-static uint32_t any_token(void) {
-    return random_below(token_count);
-}
-
-/* A word, where a few tries find one. */
-static uint32_t any_word(const struct text *t) {
-    uint32_t i = any_token();
-    for (int tries = 0; tries < 8 && !is_word(first_byte(t, i)); tries++)
-        i = any_token();
-    return i;
-}
-
-/* Puts bytes with a blank on both sides in the place of those from `from` to `to`. */
-static void replace(struct text *t, size_t from, size_t to, const void *with, size_t n) {
-    if (t->length - (to - from) + n + 2 > TEXT_ROOM)
-        return;
-    memmove(t->bytes + from + n + 2, t->bytes + to, t->length - to);
-    t->bytes[from] = ' ';
-    if (n)
-        memcpy(t->bytes + from + 1, with, n);
-    t->bytes[from + n + 1] = ' ';
-    t->length += n + 2 - (to - from);
-}
+enum { SMALL = 400 };
 
 /* ---- the changes */
-
-/* A token or a group of them: from the first byte to one past the last. */
-static struct token any_group(const struct text *t) {
-    uint32_t i = any_token(), past = random_below(3) ? i + 1 : group_past(t, i);
-    struct token group = {tokens[i].at, tokens[past - 1].past};
-    if (group.past - group.at > MOST_COPIED)
-        group.past = tokens[i].past - group.at > MOST_COPIED ? group.at : tokens[i].past;
-    return group;
-}
 
 /* A token or group of the document in the place of another token, or behind it. */
 static void copy_group(struct text *t) {
@@ -168,20 +70,6 @@ static void copy_definition(struct text *t) {
     replace(t, t->length, t->length, copy, n);
 }
 
-static int is_token(const struct text *t, uint32_t i, const char *word) {
-    size_t n = strlen(word);
-    return i < token_count && tokens[i].past - tokens[i].at == n && memcmp(t->bytes + tokens[i].at, word, n) == 0;
-}
-
-/* One that is this word, from a place chosen by chance on; token_count for none. */
-static uint32_t any_like(const struct text *t, const char *word) {
-    uint32_t from = any_token();
-    for (uint32_t k = 0; k < token_count; k++)
-        if (is_token(t, (from + k) % token_count, word))
-            return (from + k) % token_count;
-    return token_count;
-}
-
 /* An argument, a variable definition, an entry of an object or an aliased field once more behind itself. */
 static void repeat_entry(struct text *t) {
     uint8_t copy[MOST_COPIED];
@@ -233,7 +121,7 @@ static void add_piece(struct text *t) {
     replace(t, random_below(3) ? to.past : to.at, to.past, piece, strlen(piece));
 }
 
-static void change(struct text *t, struct some_bytes table) {
+void change_document(struct text *t, struct some_bytes table) {
     find_tokens(t);
     if (!token_count)
         return;
@@ -265,7 +153,7 @@ void random_pair(struct pair *p, const struct given_pairs *given) {
     if (from->document.length)
         memcpy(p->document.bytes, from->document.bytes, from->document.length);
     for (uint32_t changes = random_below(4); changes > 0; changes--)
-        change(&p->document, p->table);
+        change_document(&p->document, p->table);
     if (random_below(50) == 0 && p->document.length)
         p->document.bytes[random_below((uint32_t)p->document.length)] = (uint8_t)random_below(256);
 }

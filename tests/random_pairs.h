@@ -34,4 +34,7 @@ struct pair {
 /* The next pair, after random_start. Its table is one of the given ones. */
 void random_pair(struct pair *p, const struct given_pairs *given);
 
+/* One change in a document's tokens, by words of its own and of the table. */
+void change_document(struct text *t, struct some_bytes table);
+
 #endif

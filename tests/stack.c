@@ -1,7 +1,8 @@
 /* How much stack a call takes: it runs on a stack of its own that was painted, and the paint that is gone is counted, on
-   deep documents and on the documents and tables of the files. It must not be more than the header says.
+   deep documents and on the documents, tables and variables texts of the files. It must not be more than the header says.
 
-     stack FILE..      FILE.table is given to gw_check_table, any other to gw_parse and, by the table before it, to gw_check */
+     stack FILE..      FILE.table is given to gw_check_table, FILE.variables kept, any other given to gw_parse and, by the table before
+                       it, to gw_check; a row in a file's place (or -) has the last three given to gw_coerce_arguments (or _variables) */
 #define _GNU_SOURCE
 #include "gateway.h"
 
@@ -11,12 +12,12 @@
 #include <string.h>
 #include <ucontext.h>
 
-enum { STACK = 256 * 1024, PAINT = 0x5A };
+enum { STACK = 512 * 1024, PAINT = 0x5A };
 
 static uint8_t stack[STACK] __attribute__((aligned(64)));
-static uint8_t document[GW_MOST_TEXT], table[GW_MOST_TABLE];
-static size_t length, table_length;
-static uint32_t rows[GW_ROWS_SIZE], report[GW_REPORT_SIZE];
+static uint8_t document[GW_MOST_TEXT], table[GW_MOST_TABLE], variables[GW_MOST_TEXT], value[GW_MOST_COERCED];
+static size_t length, table_length, variables_length;
+static uint32_t rows[GW_ROWS_SIZE], report[GW_REPORT_SIZE], row;
 static ucontext_t here, there;
 
 static void parse(void) {
@@ -29,6 +30,15 @@ static void check_table(void) {
 
 static void check(void) {
     gw_check(table, table_length, document, length, rows, GW_ROWS_SIZE, report, GW_REPORT_SIZE);
+}
+
+static void coerce_variables(void) {
+    gw_coerce_variables(table, table_length, document, length, NULL, 0, variables, variables_length, value, GW_MOST_COERCED, report, GW_REPORT_SIZE);
+}
+
+static void coerce_arguments(void) {
+    gw_coerce_arguments(table, table_length, document, length, NULL, 0, variables, variables_length, row, value, GW_MOST_COERCED, report,
+                        GW_REPORT_SIZE);
 }
 
 static void nothing(void) {
@@ -54,7 +64,7 @@ static size_t stack_of(void (*call)(void)) {
     return with > without ? with - without : 0;
 }
 
-static size_t most_parse, most_check_table, most_check;
+static size_t most_parse, most_check_table, most_check, most_coerce_variables, most_coerce_arguments;
 
 static void note(size_t *most, void (*call)(void)) {
     size_t taken = stack_of(call);
@@ -112,9 +122,33 @@ static size_t read_file(const char *path, uint8_t *room, size_t size) {
     return n;
 }
 
-static int is_table(const char *path) {
+static int ends_with(const char *path, const char *ending) {
     const char *end = strrchr(path, '.');
-    return end && strcmp(end, ".table") == 0;
+    return end && strcmp(end, ending) == 0;
+}
+
+static int is_row(const char *word) {
+    return strcmp(word, "-") == 0 || word[strspn(word, "0123456789")] == 0;
+}
+
+static void note_coercion(const char *word) {
+    row = (uint32_t)strtoul(word, NULL, 10);
+    if (word[0] == '-')
+        note(&most_coerce_variables, coerce_variables);
+    else
+        note(&most_coerce_arguments, coerce_arguments);
+}
+
+static void note_file(const char *path) {
+    if (ends_with(path, ".table")) {
+        table_length = read_file(path, table, sizeof table);
+        note(&most_check_table, check_table);
+    } else if (ends_with(path, ".variables")) {
+        variables_length = read_file(path, variables, sizeof variables);
+    } else {
+        length = read_file(path, document, sizeof document);
+        note_document();
+    }
 }
 
 static int told(const char *call, size_t most, size_t said) {
@@ -132,15 +166,14 @@ int main(int argc, char **argv) {
     note(&most_check_table, check_table);
     note_deep_ones();
     for (int i = 1; i < argc; i++)
-        if (is_table(argv[i])) {
-            table_length = read_file(argv[i], table, sizeof table);
-            note(&most_check_table, check_table);
-        } else {
-            length = read_file(argv[i], document, sizeof document);
-            note_document();
-        }
+        if (is_row(argv[i]))
+            note_coercion(argv[i]);
+        else
+            note_file(argv[i]);
     int right = told("gw_parse", most_parse, GW_PARSE_STACK);
     right &= told("gw_check_table", most_check_table, GW_CHECK_TABLE_STACK);
     right &= told("gw_check", most_check, GW_CHECK_STACK);
+    right &= told("gw_coerce_variables", most_coerce_variables, GW_COERCE_VARIABLES_STACK);
+    right &= told("gw_coerce_arguments", most_coerce_arguments, GW_COERCE_ARGUMENTS_STACK);
     return right ? 0 : 1;
 }

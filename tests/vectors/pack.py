@@ -1,6 +1,7 @@
 #!/usr/bin/env python3
-# Makes stdin and stdout of crates/vectors_parse, vectors_tables and vectors_check of the cases in parse.jsonl, tables.jsonl and check.jsonl beside it;
-# with --check only says whether they are as it would make them. The form of a case is told in crates/vectors/src/lib.rt.
+# Makes stdin and stdout of crates/vectors_parse, vectors_tables, vectors_check, vectors_walk and vectors_coerce of the cases in parse.jsonl,
+# tables.jsonl, check.jsonl, walk.jsonl and coerce_vars.jsonl with coerce_args.jsonl beside it; with --check only says whether they are as it would
+# make them. The form of a case is told in crates/vectors/src/lib.rt, of a walk's second part and of a coercion in their programs' src/main.rt.
 import json
 import pathlib
 import struct
@@ -39,6 +40,46 @@ def check_cases():
     return cases + wrong_rows(cases[0]) + wrong_report(next(case for case in cases if case[2][0] == 10), 2)
 
 
+def walk_cases():
+    cases = [(case["table"], asked(case).hex(), case["report"], case["out"], "same") for case in read("walk.jsonl")]
+    # a break's rule
+    return cases + wrong_pairs(cases[0]) + wrong_report(next(case for case in cases if case[2][0] == 9), 2)
+
+
+def asked(case):
+    """What is asked of a walk: the plan's numbers that are not 0, the blocks, the variables, the object's record."""
+    plan = [(place, number) for place, number in enumerate(case["plan"]) if number]
+    counts = struct.pack("<HHHL", len(plan), len(case["blocks"]), len(case["vars"]), case["type"])
+    entries = b"".join(struct.pack("<HL", place, number) for place, number in plan)
+    return counts + entries + struct.pack("<%dL" % len(case["blocks"]), *case["blocks"]) + bytes(case["vars"])
+
+
+def wrong_pairs(case):
+    """The last number changed, the last pair left out."""
+    table, walk, report, pairs, _ = case
+    return [(table, walk, report, other, "OTHER") for other in (pairs[:-1] + [pairs[-1] + 1], pairs[:-2])]
+
+
+# A coercion: the call (1 for arguments) and its row, table, document, name, variables text, report, value, and what is to be said.
+
+def coerce_cases():
+    cases = [(int("row" in case), case.get("row", 0), *(case[text] for text in ("table", "doc", "op", "vars")), case["report"], case["out"], "same")
+             for name in ("coerce_vars.jsonl", "coerce_args.jsonl") for case in read(name)]
+    return cases + wrong_values(next(case for case in cases if case[6][1] > 3)) + wrong_reasons(next(case for case in cases if case[6][0] == 11))
+
+
+def wrong_values(case):
+    """The last byte changed, and left out."""
+    *others, value, _ = case
+    return [(*others, other, "OTHER") for other in (value[:-2] + "%02x" % (int(value[-2:], 16) ^ 1), value[:-2])]
+
+
+def wrong_reasons(case):
+    """The reason changed, and the number behind it."""
+    *others, report, value, _ = case
+    return [(*others, other, value, "OTHER") for other in (report[:3] + [report[3] ^ 1] + report[4:], report[:4] + [1] + report[5:])]
+
+
 def wrong_rows(case):
     """The last number changed, the last row left out."""
     table, document, report, rows, _ = case
@@ -61,10 +102,23 @@ def packed(cases):
     return {"stdin": b"".join(stdin), "stdout": "".join(stdout).encode()}
 
 
+def packed_coercions(cases):
+    stdin, stdout = [], []
+    for n, (call, row, *texts, report, value, same) in enumerate(cases, 1):
+        table, document, name, variables = (bytes.fromhex(text) for text in texts)
+        value = bytes.fromhex(value)
+        head = numbers([len(table), len(document), len(value)] + report) + numbers([len(name), len(variables), call]) + struct.pack("<I", row)
+        stdin.append(head + table + document + name + variables + value)
+        stdout.append("%d %d %d %s\n" % (n, report[0], report[1], same))
+    return {"stdin": b"".join(stdin), "stdout": "".join(stdout).encode()}
+
+
 def main(check):
     wrong = 0
-    for crate, cases in (("vectors_parse", parse_cases()), ("vectors_tables", table_cases()), ("vectors_check", check_cases())):
-        for name, data in packed(cases).items():
+    made = {"vectors_parse": packed(parse_cases()), "vectors_tables": packed(table_cases()), "vectors_check": packed(check_cases()),
+            "vectors_walk": packed(walk_cases()), "vectors_coerce": packed_coercions(coerce_cases())}
+    for crate, files in made.items():
+        for name, data in files.items():
             path = CRATES / crate / name
             if not check:
                 path.write_bytes(data)

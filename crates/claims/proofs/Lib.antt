@@ -11,3 +11,11 @@ pub mod LookedLaws
 pub mod DocumentsLaws
 pub mod WalksLaws
 pub mod MainWalks
+pub mod CoercionsWords
+pub mod CoercionsSome
+pub mod CoercionsLaws
+pub mod CoercionsStops
+pub mod CoercedVariables
+pub mod CoercedArguments
+pub mod MainCoercions
+pub mod MainPlans

@@ -3,4 +3,5 @@
 pub mod check;
 pub mod check_table;
 pub mod parse;
+pub mod plan;
 pub mod walk;

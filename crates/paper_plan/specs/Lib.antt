@@ -8,3 +8,4 @@ pub mod PlanNumbers
 pub mod LentPlan
 pub mod WalkNumbers
 pub mod WalkCalls
+pub mod PlanCalls

@@ -9,3 +9,9 @@ pub mod RowValuesLaws
 pub mod ValueCallsOne
 pub mod PlacesLaws
 pub mod IntExact
+pub mod ReasonTables
+pub mod ReasonsExact
+pub mod RowsApart
+pub mod TagInt
+pub mod TrapInt
+pub mod ExamplesTable

@@ -1,0 +1,279 @@
+// Makes the plan of an operation of a document that was opened: links its rows, finds its blocks, fills the table, then writes the plan.
+// What is lent mutably is scratch but the plan. The document's rows stand in the plan's buffer until all is read off them.
+use paper::ROWS_SIZE;
+use plan_keys::number_keys;
+use plan_writing::write_plan;
+ghost use mathlib.Core.Path.{_≡_};
+ghost use mathlib.Core.List.{_∷_};
+ghost use Prim.Native.Nat.{_+_, _*_, _≤_, _<_};
+ghost use lib.ListN.{length, take};
+ghost use Rattle.paper.specs.Numbers.{rowsSize, mostRows};
+ghost use Rattle.paper_types.specs.Types.{tableOf};
+ghost use Rattle.types.specs.Booked.{Booked};
+ghost use Rattle.constructs.specs.Rowed.{rowsIn, docOf, Rowed, fewRows};
+ghost use Rattle.links.specs.Links.{firstsSize, kindsSize, Family, Kinds};
+ghost use Rattle.spreading.specs.Owners.{Defines};
+ghost use Rattle.paper_plan.specs.PlanNumbers.{planSize};
+ghost use Rattle.plan_theory.proofs.Plannable.{Plannable};
+ghost use Rattle.plan_keys.specs.Keyed.{buckets};
+ghost use Rattle.plan_blocks.specs.Blocks.{BlocksTo};
+ghost use Rattle.plan_tests.specs.Right.{TableTo};
+ghost use Rattle.plan_writing.specs.Writing.{Tables, Holders, Writes};
+ghost use Rattle.plan_making.specs.Made.{PlanMade, Asked, Room, Prepared};
+
+// How many rows there may be, up to how many there are few, how many firsts are linked, of a row or of none; how many kinds; a row's numbers in the table.
+const ROWS: usize = 2048;
+
+const FEW_ROWS: usize = 256;
+
+const FIRSTS: usize = 2049;
+
+const KINDS: usize = 32;
+
+const BUCKETS: usize = 2048;
+
+const FEW_CELLS: usize = 4096;
+
+const CELLS: usize = 32768;
+
+// Lists the rows of the blocks behind the operation's, and says how many there are.
+fn find_blocks(
+    s: &[u8],
+    rows: &[u32],
+    n: usize,
+    first: &[u32],
+    next: &[u32],
+    firstk: &[u32],
+    nextk: &[u32],
+    o: usize,
+    owner: &mut [u32],
+    mark: &mut [u32],
+    target: &mut [u32],
+    firsts: &mut [u32],
+    nexts: &mut [u32],
+    stack: &mut [u16],
+    out: &mut [u32],
+) -> usize
+    requires { ⌜ Rowed (now s) (now rows) n × Family (rowsIn (now rows) n) (now first) (now next) × Kinds (rowsIn (now rows) n) (now firstk) (now nextk) × Defines (docOf (now s) (now rows) n) o × Room n (now owner) × Room n (now mark) × Room n (now target) × (length (now firsts) ≡ firstsSize) × Room n (now nexts) × Room n (now stack) × (n ≤ length (now out)) ⌝ }
+    ensures { λ r. ⌜ BlocksTo (docOf (now (s .entry)) (now (rows .entry)) n) o (now (out .exit)) r n ⌝ }
+{
+    links::clear(mark, 0);
+    spreading::owners(s, rows, n, owner);
+    spreading::targets(s, rows, n, firstk, nextk, target);
+    spreading::spreads(s, rows, n, owner, firsts, nexts);
+    reaching::reach(s, rows, n, target, firsts, nexts, mark, stack, o);
+    plan_blocks::list_blocks(s, rows, n, first, next, owner, mark, o, out)
+}
+
+// Fills the table.
+fn fill_cells(
+    t: &[u8],
+    book: &[u32],
+    s: &[u8],
+    rows: &[u32],
+    n: usize,
+    first: &[u32],
+    next: &[u32],
+    firstk: &[u32],
+    nextk: &[u32],
+    o: usize,
+    ranks: &mut [u32],
+    keys: &mut [u32],
+    heads: &mut [u32],
+    nexts: &mut [u32],
+    cells: &mut [u32],
+)
+    requires { ⌜ Asked (now t) (now book) (now s) (now rows) n o × Family (rowsIn (now rows) n) (now first) (now next) × Kinds (rowsIn (now rows) n) (now firstk) (now nextk) × Room n (now ranks) × Room n (now keys) × (length (now heads) ≡ buckets) × Room n (now nexts) × (16 * n ≤ length (now cells)) ⌝ }
+    ensures { λ _. ⌜ TableTo (now (t .entry)) (now (s .entry)) (now (rows .entry)) n o (now (cells .exit)) n ⌝ }
+{
+    plan_rows::rank_fragments(rows, n, ranks);
+    number_keys(s, rows, n, heads, nexts, keys);
+    plan_tests::fill_table(
+        t,
+        book,
+        s,
+        rows,
+        n,
+        first,
+        next,
+        firstk,
+        nextk,
+        ranks,
+        keys,
+        o,
+        cells,
+    );
+}
+
+// Makes all ready that the writing of the plan asks; says how many blocks stand behind the operation's.
+fn ready(
+    t: &[u8],
+    book: &[u32],
+    s: &[u8],
+    rows: &[u32],
+    n: usize,
+    o: usize,
+    first: &mut [u32],
+    next: &mut [u32],
+    firstk: &mut [u32],
+    nextk: &mut [u32],
+    owner: &mut [u32],
+    mark: &mut [u32],
+    target: &mut [u32],
+    firsts: &mut [u32],
+    nexts: &mut [u32],
+    stack: &mut [u16],
+    cells: &mut [u32],
+    out: &mut [u32],
+) -> usize
+    requires { ⌜ Asked (now t) (now book) (now s) (now rows) n o × (length (now first) ≡ firstsSize) × Room n (now next) × (length (now firstk) ≡ kindsSize) × Room n (now nextk) × Room n (now owner) × Room n (now mark) × Room n (now target) × (length (now firsts) ≡ firstsSize) × Room n (now nexts) × Room n (now stack) × (16 * n ≤ length (now cells)) × (n ≤ length (now out)) ⌝ }
+    ensures { λ r. ⌜ Prepared (now (t .entry)) (now (s .entry)) (now (rows .entry)) n o (now (first .exit)) (now (next .exit)) (now (cells .exit)) (now (out .exit)) r ⌝ }
+{
+    links::families(s, rows, n, first, next);
+    links::kinds(rows, n, firstk, nextk);
+    let m = find_blocks(
+        s,
+        rows,
+        n,
+        first,
+        next,
+        firstk,
+        nextk,
+        o,
+        owner,
+        mark,
+        target,
+        firsts,
+        nexts,
+        stack,
+        out,
+    );
+    fill_cells(
+        t,
+        book,
+        s,
+        rows,
+        n,
+        first,
+        next,
+        firstk,
+        nextk,
+        o,
+        owner,
+        mark,
+        &mut firsts[..BUCKETS],
+        nexts,
+        cells,
+    );
+    m
+}
+
+// Clears the plan's buffer and writes the plan; its count of steps, or 4,097 where there are more than 4,096.
+fn write_cleared(
+    cells: &[u32],
+    n: usize,
+    first: &[u32],
+    next: &[u32],
+    o: u32,
+    out: &[u32],
+    m: usize,
+    plan: &mut [u32],
+) -> usize
+    requires { ⌜ Tables (now cells) n (now first) (now next) × Holders o (now out) m × (length (now plan) ≡ planSize) ⌝ }
+    ensures { λ r. ⌜ Writes (now (cells .entry)) n (o ∷ take m (now (out .entry))) (now (plan .exit)) r ⌝ }
+{
+    buffers::clear(plan, 0);
+    write_plan(cells, n, first, next, o, out, m, plan)
+}
+
+// Makes the plan of a document of few rows, in room for few.
+fn make_few(t: &[u8], book: &[u32], s: &[u8], plan: &mut [u32], n: usize, o: usize) -> usize
+    requires { ⌜ Asked (now t) (now book) (now s) (take rowsSize (now plan)) n o × (length (now plan) ≡ planSize) × (n ≤ fewRows) ⌝ }
+    ensures { λ r. ⌜ PlanMade (tableOf (now (t .entry))) (docOf (now (s .entry)) (take rowsSize (now (plan .entry))) n) o (now (plan .exit)) r ⌝ }
+{
+    let mut first = [0u32; FIRSTS];
+    let mut next = [0u32; FEW_ROWS];
+    let mut firstk = [0u32; KINDS];
+    let mut nextk = [0u32; FEW_ROWS];
+    let mut owner = [0u32; FEW_ROWS];
+    let mut mark = [0u32; FEW_ROWS];
+    let mut target = [0u32; FEW_ROWS];
+    let mut firsts = [0u32; FIRSTS];
+    let mut nexts = [0u32; FEW_ROWS];
+    let mut stack = [0u16; FEW_ROWS];
+    let mut cells = [0u32; FEW_CELLS];
+    let mut out = [0u32; FEW_ROWS];
+    let m = ready(
+        t,
+        book,
+        s,
+        &plan[..ROWS_SIZE],
+        n,
+        o,
+        &mut first,
+        &mut next,
+        &mut firstk,
+        &mut nextk,
+        &mut owner,
+        &mut mark,
+        &mut target,
+        &mut firsts,
+        &mut nexts,
+        &mut stack,
+        &mut cells,
+        &mut out,
+    );
+    write_cleared(&cells, n, &first, &next, o as u32, &out, m, plan)
+}
+
+// Makes the plan of a document of more rows than few.
+fn make_many(t: &[u8], book: &[u32], s: &[u8], plan: &mut [u32], n: usize, o: usize) -> usize
+    requires { ⌜ Asked (now t) (now book) (now s) (take rowsSize (now plan)) n o × (length (now plan) ≡ planSize) × (fewRows < n) ⌝ }
+    ensures { λ r. ⌜ PlanMade (tableOf (now (t .entry))) (docOf (now (s .entry)) (take rowsSize (now (plan .entry))) n) o (now (plan .exit)) r ⌝ }
+{
+    let mut first = [0u32; FIRSTS];
+    let mut next = [0u32; ROWS];
+    let mut firstk = [0u32; KINDS];
+    let mut nextk = [0u32; ROWS];
+    let mut owner = [0u32; ROWS];
+    let mut mark = [0u32; ROWS];
+    let mut target = [0u32; ROWS];
+    let mut firsts = [0u32; FIRSTS];
+    let mut nexts = [0u32; ROWS];
+    let mut stack = [0u16; ROWS];
+    let mut cells = [0u32; CELLS];
+    let mut out = [0u32; ROWS];
+    let m = ready(
+        t,
+        book,
+        s,
+        &plan[..ROWS_SIZE],
+        n,
+        o,
+        &mut first,
+        &mut next,
+        &mut firstk,
+        &mut nextk,
+        &mut owner,
+        &mut mark,
+        &mut target,
+        &mut firsts,
+        &mut nexts,
+        &mut stack,
+        &mut cells,
+        &mut out,
+    );
+    write_cleared(&cells, n, &first, &next, o as u32, &out, m, plan)
+}
+
+// Makes the plan of the operation of row o into the plan's buffer, which holds the n rows of the document; its count of steps, or 4,097 where there
+// are more than 4,096.
+pub fn make(t: &[u8], book: &[u32], s: &[u8], plan: &mut [u32], n: usize, o: usize) -> usize
+    requires { ⌜ Asked (now t) (now book) (now s) (take rowsSize (now plan)) n o × (length (now plan) ≡ planSize) ⌝ }
+    ensures { λ r. ⌜ PlanMade (tableOf (now (t .entry))) (docOf (now (s .entry)) (take rowsSize (now (plan .entry))) n) o (now (plan .exit)) r ⌝ }
+{
+    if n <= FEW_ROWS {
+        return make_few(t, book, s, plan, n, o);
+    }
+    make_many(t, book, s, plan, n, o)
+}

@@ -1,0 +1,4 @@
+-- Laws of this crate, in the order in which they use each other.
+pub mod RowLaws
+pub mod RightLaws
+pub mod TableLaws

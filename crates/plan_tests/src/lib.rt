@@ -1,0 +1,374 @@
+// The planner's first pass: what each row of a document is to the plan, and what is tested before it, as sixteen numbers a row.
+// All reading of names, directives, literals, fragments and types is done here, once for each row.
+use constructs::kind_of;
+use constructs::name_of;
+use constructs::parent_of;
+use constructs::size_of;
+use links::link_of;
+use paper::KIND_FIELD;
+use paper::KIND_INLINE;
+use paper::KIND_SPREAD;
+use paper::KIND_TYPE_REFERENCE;
+use plan_conditions::If;
+use siblings::first_below;
+ghost use mathlib.Core.Path.{_≡_};
+ghost use mathlib.Core.Bool.{true, false, _&&_};
+ghost use mathlib.Core.List.{[], _∷_, _++_};
+ghost use Prim.Native.Nat.{_+_, _*_, _≤_, _<_};
+ghost use lib.ListN.{length};
+ghost use lib.Seq.{sets};
+ghost use lib.Dec.{leb};
+ghost use Rattle.paper.specs.Numbers.{mostRows, kindField, kindSpread, kindInline};
+ghost use Rattle.paper_types.specs.Lists.{bytes};
+ghost use Rattle.paper_types.specs.Types.{tableOf};
+ghost use Rattle.paper_rules.specs.Constructs.{is, isSelection, nameOf, fragmentNamed};
+ghost use Rattle.paper_rules.specs.Enclosing.{conditionOf};
+ghost use Rattle.types.specs.Booked.{Booked};
+ghost use Rattle.constructs.specs.Rowed.{rowIn, rowsIn, docOf, Rowed};
+ghost use Rattle.links.specs.Links.{Family};
+ghost use Rattle.paper_plan.specs.Planning.{skipTests, includeTests, dropped};
+ghost use Rattle.paper_plan.specs.Selecting.{typeNumber, typeOn, typeIf, fragmentNumber, ifOf};
+ghost use Rattle.plan_tests.specs.Right.{rowCells, Given, Small, PutIf, skipDropsBy, includeDropsBy, dropsBy, spreadRow, inlineRow, TestsAre, RightRow, TableTo};
+
+// a row's numbers; where they stand: what the row is, its parent, its key or the row whose selections stand behind it, how many tests; the tests
+const ROW_CELLS: usize = 16;
+
+const CELL_WHAT: usize = 0;
+
+const CELL_ABOVE: usize = 1;
+
+const CELL_BEHIND: usize = 2;
+
+const CELL_COUNT: usize = 3;
+
+const CELL_TESTS: usize = 4;
+
+// what a row is: no selection, a field, a spread or an inline fragment, a dropped selection
+const WHAT_NONE: u32 = 0;
+
+const WHAT_FIELD: u32 = 1;
+
+const WHAT_NESTED: u32 = 2;
+
+const WHAT_DROPPED: u32 = 3;
+
+// the kinds of steps that are tests
+const STEP_IF_TRUE: u32 = 1;
+
+const STEP_UNLESS_TRUE: u32 = 2;
+
+const STEP_UNLESS_APPLIES: u32 = 3;
+
+const STEP_IF_MET: u32 = 4;
+
+// Writes what a row is.
+fn put_head(row: &mut [u32], what: u32, above: u32, behind: u32, count: u32)
+    requires { ⌜ length (now row) ≡ rowCells ⌝ }
+    ensures { λ _. ⌜ now (row .exit) ≡ sets (now (row .entry)) 0 (what ∷ above ∷ behind ∷ count ∷ []) ⌝ }
+{
+    row[CELL_WHAT] = what;
+    row[CELL_ABOVE] = above;
+    row[CELL_BEHIND] = behind;
+    row[CELL_COUNT] = count;
+}
+
+// Writes test m of a row.
+fn put_test(row: &mut [u32], m: usize, kind: u32, number: u32)
+    requires { ⌜ (length (now row) ≡ rowCells) × (m < 6) ⌝ }
+    ensures { λ _. ⌜ now (row .exit) ≡ sets (now (row .entry)) (4 + 2 * m) (kind ∷ number ∷ []) ⌝ }
+{
+    row[CELL_TESTS + 2 * m] = kind;
+    row[CELL_TESTS + 2 * m + 1] = number;
+}
+
+// Writes the test of a variable's `if`, of the kind, as test m; how many tests there are then.
+fn put_if(row: &mut [u32], m: usize, kind: u32, given: If) -> usize
+    requires { ⌜ (length (now row) ≡ rowCells) × (m < 6) × Small given ⌝ }
+    ensures { λ r. ⌜ PutIf (now (row .entry)) m kind given (now (row .exit)) r ⌝ }
+{
+    match given {
+        If::Absent => m,
+        If::Literal(_) => m,
+        If::Variable(v) => {
+            put_test(row, m, kind, v as u32);
+            m + 1
+        }
+    }
+}
+
+// Does the `if` of a @skip drop its selection?
+fn skip_drops(given: If) -> bool
+    ensures { λ r. ⌜ r ≡ skipDropsBy given ⌝ }
+{
+    match given {
+        If::Absent => false,
+        If::Literal(b) => b,
+        If::Variable(_) => false,
+    }
+}
+
+// Does the `if` of an @include drop its selection?
+fn include_drops(given: If) -> bool
+    ensures { λ r. ⌜ r ≡ includeDropsBy given ⌝ }
+{
+    match given {
+        If::Absent => false,
+        If::Literal(b) => !b,
+        If::Variable(_) => false,
+    }
+}
+
+// Does one of them?
+fn drops(skip: If, include: If) -> bool
+    ensures { λ r. ⌜ r ≡ dropsBy skip include ⌝ }
+{
+    if skip_drops(skip) {
+        return true;
+    }
+    include_drops(include)
+}
+
+// Is it the kind of a selection?
+fn is_selection(kind: u32) -> bool
+    ensures { λ r. ⌜ r ≡ leb kindField kind && leb kind kindInline ⌝ }
+{
+    if kind < KIND_FIELD {
+        return false;
+    }
+    kind <= KIND_INLINE
+}
+
+// The number of the type that row j names; the count of the table's definitions if it is no object, interface or union.
+fn type_named(t: &[u8], book: &[u32], s: &[u8], rows: &[u32], n: usize, j: usize) -> u32
+    requires { ⌜ Booked (now t) (now book) × Rowed (now s) (now rows) n ⌝ }
+    ensures { λ r. ⌜ r ≡ typeNumber (tableOf (now (t .entry))) (nameOf (docOf (now (s .entry)) (now (rows .entry)) n) j) ⌝ }
+{
+    let at = name_of(rows, n, j) as usize;
+    let l = size_of(rows, n, j) as usize;
+    let c = composites::composite(t, book, s, at, l);
+    if c == composites::NO_TYPE {
+        return index::count_of(book) as u32;
+    }
+    c - 1
+}
+
+// The number of the type of the fragment of row f; the count of definitions if it has no condition.
+fn type_on(
+    t: &[u8],
+    book: &[u32],
+    s: &[u8],
+    rows: &[u32],
+    n: usize,
+    first: &[u32],
+    next: &[u32],
+    f: usize,
+) -> u32
+    requires { ⌜ Booked (now t) (now book) × Rowed (now s) (now rows) n × Family (rowsIn (now rows) n) (now first) (now next) × (f < n) ⌝ }
+    ensures { λ r. ⌜ r ≡ typeOn (tableOf (now (t .entry))) (docOf (now (s .entry)) (now (rows .entry)) n) (conditionOf (docOf (now (s .entry)) (now (rows .entry)) n) f) ⌝ }
+{
+    let j = first_below(rows, n, first, next, KIND_TYPE_REFERENCE, f);
+    if n <= j {
+        return index::count_of(book) as u32;
+    }
+    type_named(t, book, s, rows, n, j)
+}
+
+// The spread of row i, behind m tests: its fragment's mark, then the fragment's type.
+fn fill_spread(
+    t: &[u8],
+    book: &[u32],
+    s: &[u8],
+    rows: &[u32],
+    n: usize,
+    first: &[u32],
+    next: &[u32],
+    firstk: &[u32],
+    nextk: &[u32],
+    ranks: &[u32],
+    keys: &[u32],
+    i: usize,
+    above: u32,
+    m: usize,
+    row: &mut [u32],
+)
+    requires { ⌜ Given (now t) (now book) (now s) (now rows) n (now first) (now next) (now firstk) (now nextk) (now ranks) (now keys) × (i < n) × (is kindSpread (rowIn (now rows) n i) ≡ true) × (m ≤ 2) × (length (now row) ≡ rowCells) ⌝ }
+    ensures { λ _. ⌜ now (row .exit) ≡ spreadRow (now (row .entry)) m above (fragmentNumber (docOf (now (s .entry)) (now (rows .entry)) n) (nameOf (docOf (now (s .entry)) (now (rows .entry)) n) i)) (typeOn (tableOf (now (t .entry))) (docOf (now (s .entry)) (now (rows .entry)) n) (conditionOf (docOf (now (s .entry)) (now (rows .entry)) n) (fragmentNamed (docOf (now (s .entry)) (now (rows .entry)) n) (nameOf (docOf (now (s .entry)) (now (rows .entry)) n) i)))) (fragmentNamed (docOf (now (s .entry)) (now (rows .entry)) n) (nameOf (docOf (now (s .entry)) (now (rows .entry)) n) i)) ⌝ }
+{
+    let f = naming::fragment_named(s, rows, n, firstk, nextk, i);
+    let number = link_of(ranks, f);
+    let type_number = type_on(t, book, s, rows, n, first, next, f);
+    put_test(row, m, STEP_IF_MET, number as u32);
+    put_test(row, m + 1, STEP_UNLESS_APPLIES, type_number);
+    put_head(row, WHAT_NESTED, above, f as u32, (m + 2) as u32);
+}
+
+// The inline fragment of row i, behind m tests: its type, if it is conditioned.
+fn fill_inline(
+    t: &[u8],
+    book: &[u32],
+    s: &[u8],
+    rows: &[u32],
+    n: usize,
+    first: &[u32],
+    next: &[u32],
+    i: usize,
+    above: u32,
+    m: usize,
+    row: &mut [u32],
+)
+    requires { ⌜ Booked (now t) (now book) × Rowed (now s) (now rows) n × Family (rowsIn (now rows) n) (now first) (now next) × (i < n) × (m ≤ 2) × (length (now row) ≡ rowCells) ⌝ }
+    ensures { λ _. ⌜ now (row .exit) ≡ inlineRow (now (row .entry)) m above i (typeIf (tableOf (now (t .entry))) (docOf (now (s .entry)) (now (rows .entry)) n) (conditionOf (docOf (now (s .entry)) (now (rows .entry)) n) i)) ⌝ }
+{
+    let j = first_below(rows, n, first, next, KIND_TYPE_REFERENCE, i);
+    if n <= j {
+        put_head(row, WHAT_NESTED, above, i as u32, m as u32);
+        return;
+    }
+    let type_number = type_named(t, book, s, rows, n, j);
+    put_test(row, m, STEP_UNLESS_APPLIES, type_number);
+    put_head(row, WHAT_NESTED, above, i as u32, (m + 1) as u32);
+}
+
+// The selection of row i, which is not dropped, behind the m tests of its directives.
+fn fill_kept(
+    t: &[u8],
+    book: &[u32],
+    s: &[u8],
+    rows: &[u32],
+    n: usize,
+    first: &[u32],
+    next: &[u32],
+    firstk: &[u32],
+    nextk: &[u32],
+    ranks: &[u32],
+    keys: &[u32],
+    o: usize,
+    i: usize,
+    m: usize,
+    row: &mut [u32],
+)
+    requires { ⌜ Given (now t) (now book) (now s) (now rows) n (now first) (now next) (now firstk) (now nextk) (now ranks) (now keys) × (i < n) × (isSelection (rowIn (now rows) n i) ≡ true) × (m ≤ 2) × TestsAre (now row) m (skipTests (ifOf (docOf (now s) (now rows) n) o (bytes "skip") i) ++ includeTests (ifOf (docOf (now s) (now rows) n) o (bytes "include") i)) × (dropped (ifOf (docOf (now s) (now rows) n) o (bytes "skip") i) (ifOf (docOf (now s) (now rows) n) o (bytes "include") i) ≡ false) ⌝ }
+    ensures { λ _. ⌜ RightRow (now (t .entry)) (now (s .entry)) (now (rows .entry)) n o i (now (row .exit)) ⌝ }
+{
+    let kind = kind_of(rows, n, i);
+    let above = parent_of(rows, n, i);
+    if kind == KIND_FIELD {
+        put_head(row, WHAT_FIELD, above, keys[i], m as u32);
+        return;
+    }
+    if kind == KIND_SPREAD {
+        fill_spread(
+            t,
+            book,
+            s,
+            rows,
+            n,
+            first,
+            next,
+            firstk,
+            nextk,
+            ranks,
+            keys,
+            i,
+            above,
+            m,
+            row,
+        );
+        return;
+    }
+    fill_inline(t, book, s, rows, n, first, next, i, above, m, row);
+}
+
+// Any row.
+fn fill_row(
+    t: &[u8],
+    book: &[u32],
+    s: &[u8],
+    rows: &[u32],
+    n: usize,
+    first: &[u32],
+    next: &[u32],
+    firstk: &[u32],
+    nextk: &[u32],
+    ranks: &[u32],
+    keys: &[u32],
+    o: usize,
+    i: usize,
+    row: &mut [u32],
+)
+    requires { ⌜ Given (now t) (now book) (now s) (now rows) n (now first) (now next) (now firstk) (now nextk) (now ranks) (now keys) × (i < n) × (o ≤ mostRows) × (length (now row) ≡ rowCells) ⌝ }
+    ensures { λ _. ⌜ RightRow (now (t .entry)) (now (s .entry)) (now (rows .entry)) n o i (now (row .exit)) ⌝ }
+{
+    if !is_selection(kind_of(rows, n, i)) {
+        put_head(row, WHAT_NONE, parent_of(rows, n, i), 0, 0);
+        return;
+    }
+    let skip = plan_conditions::condition(s, rows, n, first, next, o, i, b"skip", 0, 4);
+    let include = plan_conditions::condition(s, rows, n, first, next, o, i, b"include", 0, 7);
+    if drops(skip, include) {
+        put_head(row, WHAT_DROPPED, parent_of(rows, n, i), 0, 0);
+        return;
+    }
+    let k = put_if(row, 0, STEP_IF_TRUE, skip);
+    let m = put_if(row, k, STEP_UNLESS_TRUE, include);
+    fill_kept(
+        t,
+        book,
+        s,
+        rows,
+        n,
+        first,
+        next,
+        firstk,
+        nextk,
+        ranks,
+        keys,
+        o,
+        i,
+        m,
+        row,
+    );
+}
+
+// Fills the table, for the operation of row o.
+pub fn fill_table(
+    t: &[u8],
+    book: &[u32],
+    s: &[u8],
+    rows: &[u32],
+    n: usize,
+    first: &[u32],
+    next: &[u32],
+    firstk: &[u32],
+    nextk: &[u32],
+    ranks: &[u32],
+    keys: &[u32],
+    o: usize,
+    cells: &mut [u32],
+)
+    requires { ⌜ Given (now t) (now book) (now s) (now rows) n (now first) (now next) (now firstk) (now nextk) (now ranks) (now keys) × (o ≤ mostRows) × (rowCells * n ≤ length (now cells)) ⌝ }
+    ensures { λ _. ⌜ TableTo (now (t .entry)) (now (s .entry)) (now (rows .entry)) n o (now (cells .exit)) n ⌝ }
+{
+    let mut i = 0;
+    while i < n {
+        let from = ROW_CELLS * i;
+        let to = from + ROW_CELLS;
+        fill_row(
+            t,
+            book,
+            s,
+            rows,
+            n,
+            first,
+            next,
+            firstk,
+            nextk,
+            ranks,
+            keys,
+            o,
+            i,
+            &mut cells[from..to],
+        );
+        i += 1;
+    }
+}
