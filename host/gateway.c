@@ -8,9 +8,19 @@
                                     there, as a tree with their types; or which value cannot be coerced and why. Without a name it is
                                     the only operation, without a file the variables text is {}
 
+     gateway plan TABLE DOCUMENT [--operation NAME] [--dot] [--save FILE]
+                                    prints the plan of an operation, block by block, with --dot as a graph for graphviz; with --save it
+                                    is also written to a file, as bytes in a fixed order (host/plans.h)
+     gateway walk TABLE PLAN|DOCUMENT --type NAME [--operation NAME] [--blocks 0,2] [--true v,w]
+                                    walks a saved plan, or that of a document's operation, for an object type: prints the response keys
+                                    and fields of an object of this type. Without blocks it is block 0; variables that are not named as
+                                    true are not
+
    Each is a file, one of them perhaps - for standard input. Ends with status 0 (accepted), 1 (refused) or 2 (bad usage, or no such file). */
 #include "gateway.h"
+#include "host.h"
 #include "pair.h"
+#include "run_plan.h"
 #include "show.h"
 #include "show_coerce.h"
 #include "show_query.h"
@@ -22,19 +32,16 @@
 #include <stdlib.h>
 #include <string.h>
 
-enum { ACCEPTED = 0, REFUSED = 1, TROUBLE = 2 };
-
 /* One byte more than a text or table may have: the library refuses what is longer. */
 static uint8_t document_bytes[GW_MOST_TEXT + 1], variables_bytes[GW_MOST_TEXT + 1], table_bytes[GW_MOST_TABLE + 1];
 static uint32_t rows[GW_ROWS_SIZE];
 static uint8_t value[GW_MOST_COERCED];
 
-static int is_standard(const char *path) {
+int is_standard(const char *path) {
     return strcmp(path, "-") == 0;
 }
 
-/* Reads the beginning of a file, as far as there is room. */
-static int read_text(const char *path, uint8_t *room, size_t size, struct text *text) {
+int read_text(const char *path, uint8_t *room, size_t size, struct text *text) {
     int standard = is_standard(path);
     FILE *file = standard ? stdin : fopen(path, "rb");
     if (!file) {
@@ -77,8 +84,7 @@ static int run_check_table(char **words) {
     return ACCEPTED;
 }
 
-/* Shows what gw_check refused: first what is told of the lengths and the table, then the text, then its rules. */
-static void show_check_refusal(const struct text *table, const struct text *document, const uint32_t *report) {
+void show_check_refusal(const struct text *table, const struct text *document, const uint32_t *report) {
     uint32_t other[GW_REPORT_SIZE];
     int long_table = report[0] == GW_REFUSE_OVER_LENGTH && report[1] == GW_INPUT_TABLE;
     int long_document = report[0] == GW_REFUSE_OVER_LENGTH && !long_table;
@@ -200,6 +206,8 @@ static const struct command {
     {"check-table", 1, 0, "check-table TABLE", run_check_table},
     {"parse", 1, 0, "parse DOCUMENT", run_parse},
     {"coerce", 2, 1, "coerce TABLE DOCUMENT [--operation NAME] [--variables FILE] [--row N]", run_coerce},
+    {"plan", 2, 1, "plan TABLE DOCUMENT [--operation NAME] [--dot] [--save FILE]", run_plan},
+    {"walk", 2, 1, "walk TABLE PLAN|DOCUMENT --type NAME [--operation NAME] [--blocks 0,2] [--true v,w]", run_walk},
 };
 
 enum { COMMANDS = sizeof commands / sizeof *commands };

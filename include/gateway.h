@@ -1,6 +1,6 @@
 /* The gateway core's C interface: the calls, the sizes of their buffers, the refusals, the numbers in rows and tables.
-   The names are those of the lib.rt of crates/paper, crates/paper_types, crates/paper_rules and crates/paper_values with GW_
-   before them, query rules with GW_QUERY_, the tags of coerced values with GW_VALUE_.
+   The names are those of the lib.rt of crates/paper, crates/paper_types, crates/paper_rules, crates/paper_values and crates/paper_plan
+   with GW_ before them, query rules with GW_QUERY_, the tags of coerced values with GW_VALUE_.
 
    Every call is a pure function of its inputs: no heap, no global state, no system call; it may run in any number of
    threads at once. Buffers must be aligned for their type and must not overlap. A buffer of length 0 may be NULL.
@@ -35,6 +35,15 @@ extern "C" {
 #define GW_ROWS_SIZE 14336    /* GW_MOST_ROWS * GW_ROW_SIZE */
 #define GW_REPORT_SIZE 8
 #define GW_MOST_COERCED 8192  /* bytes of a coerced value */
+#define GW_PLAN_SIZE 14338    /* 2 + GW_MOST_BLOCKS + GW_STEP_SIZE * GW_MOST_STEPS */
+#define GW_PAIRS_SIZE 1024    /* GW_MOST_PAIRS * GW_PAIR_SIZE */
+
+/* Sizes of a plan and of a walk. */
+#define GW_MOST_BLOCKS 2048
+#define GW_MOST_STEPS 4096
+#define GW_MOST_WALKED 64     /* blocks of one walk */
+#define GW_VARIABLES_SIZE 64  /* bytes of the variables of a walk */
+#define GW_MOST_PAIRS 512
 
 /* Bytes of stack, more than a call takes (measured, not proved: tests/stack.c). */
 #define GW_PARSE_STACK 20480
@@ -42,11 +51,14 @@ extern "C" {
 #define GW_CHECK_STACK 131072
 #define GW_COERCE_VARIABLES_STACK 212992
 #define GW_COERCE_ARGUMENTS_STACK 212992
+#define GW_PLAN_STACK 245760
+#define GW_WALK_STACK 32768
 
 /* What a call answers, which is also report[0]. Shown: report[1], of refusal 9 report[1] to report[5], of 10 report[1] and
    report[2], of 11 report[1] to report[3]. The calls that read a variables text show of 3 to 6 in report[2] whose offset it is
    (GW_INPUT_DOCUMENT or GW_INPUT_VARIABLES). */
-#define GW_ACCEPTED 0             /* shown: the count of rows, by the calls that write rows; the bytes of a coerced value */
+#define GW_ACCEPTED 0             /* shown: the count of rows, by the calls that write rows; the bytes of a coerced value; the counts of
+                                     blocks and steps of a plan; the count of pairs */
 #define GW_REFUSE_BUFFER 1        /* a buffer is shorter than its fixed size; nothing shown */
 #define GW_REFUSE_OVER_LENGTH 2   /* an input is over its length; shown: which (GW_INPUT_..) */
 #define GW_REFUSE_NO_TOKEN 3      /* bytes that start no token, or bad text in a string or comment; shown: offset of it */
@@ -60,6 +72,10 @@ extern "C" {
 #define GW_REFUSE_VALUE 11        /* a value cannot be coerced; shown: text (GW_INPUT_..), row, reason (GW_REASON_..) */
 #define GW_REFUSE_NO_OPERATION 12 /* no operation of this name, or no name and not one operation only, or a row that is no
                                      field that the operation reaches; nothing shown */
+#define GW_REFUSE_TOO_MANY_STEPS 13 /* a plan over GW_MOST_STEPS steps; nothing shown */
+#define GW_REFUSE_WALK 14         /* a walk of no well-formed plan, of a block that it does not have, for what is no object's record, of over
+                                     GW_MOST_WALKED blocks, or with fewer than GW_VARIABLES_SIZE variable bytes; nothing shown */
+#define GW_REFUSE_TOO_MANY_PAIRS 15 /* a walk that lists over GW_MOST_PAIRS pairs; nothing shown */
 #define GW_REFUSE_TOO_LONG 16     /* a coerced value over GW_MOST_COERCED bytes; nothing shown */
 
 #define GW_INPUT_DOCUMENT 0
@@ -349,6 +365,123 @@ uint32_t gw_coerce_arguments(const uint8_t *table, size_t table_len,
                              uint32_t row,
                              uint8_t *value, size_t value_len,
                              uint32_t *report, size_t report_len);
+
+/* The numbers of a plan: how many blocks and steps it has, each block's first step, then the steps, three numbers each; unused places
+   are 0. A block ends where the next one begins, the last one with the last step.
+
+     plan[GW_PLAN_BLOCKS], plan[GW_PLAN_STEPS]
+     plan[GW_PLAN_FIRSTS + b]                             the first step of block b
+     plan[GW_PLAN_STEP_0 + GW_STEP_SIZE * s + GW_STEP_..] step s
+
+   A plan may be kept, copied, sent to another machine and walked there: it holds nothing but these numbers. */
+#define GW_PLAN_BLOCKS 0
+#define GW_PLAN_STEPS 1
+#define GW_PLAN_FIRSTS 2
+#define GW_PLAN_STEP_0 2050  /* GW_PLAN_FIRSTS + GW_MOST_BLOCKS */
+#define GW_STEP_SIZE 3
+#define GW_STEP_KIND 0
+#define GW_STEP_FIRST 1      /* of a variable, record or fragment its number; of a field the number of its response key */
+#define GW_STEP_SECOND 2     /* the step to go to, where it leaves; of a field its row */
+
+/* The kinds of steps. The numbers count from 0 in written order: variables among those that the operation defines, records in the table,
+   fragments in the document. The step to go to is counted among all steps of the plan; it is later, and at most the end of the block. */
+#define GW_STEP_IF_TRUE 1        /* leave if this variable is true (skip) */
+#define GW_STEP_UNLESS_TRUE 2    /* leave unless this variable is true (include) */
+#define GW_STEP_UNLESS_APPLIES 3 /* leave unless the object is of this record's type, or one that it can be */
+#define GW_STEP_IF_MET 4         /* leave if this fragment was met in this walk, else mark it as met */
+#define GW_STEP_LIST 5           /* list this response key with this field */
+
+/* Makes the plan of an operation: what a walk needs of the document, before any variable's value is known.
+
+   table      read: any bytes, of any length
+   document   read: any bytes, of any length
+   operation  read: the operation's name, any bytes, of any length; none for the only operation, which may have a name
+   plan       lent: at least GW_PLAN_SIZE numbers
+   report     lent: at least GW_REPORT_SIZE numbers
+
+   Answers GW_ACCEPTED or the first refusal that there is: 1, 2 (of the least input), of table and document (7 to 9, 3 to 6 and 8, 10,
+   as gw_check), 12, 13. What the call leaves:
+
+     answer                       report                          plan
+     GW_ACCEPTED                  0, blocks, steps, zeros         the plan, unused places up to GW_PLAN_SIZE 0
+     GW_REFUSE_BUFFER             1, zeros; untouched if it is    untouched
+                                  itself too short
+     GW_REFUSE_OVER_LENGTH        2, GW_INPUT_DOCUMENT or         untouched
+                                  GW_INPUT_TABLE, zeros
+     GW_REFUSE_NO_OPERATION,      its number, zeros               zeros up to GW_PLAN_SIZE
+     GW_REFUSE_TOO_MANY_STEPS
+     any other                    as that of gw_check             zeros up to GW_PLAN_SIZE
+
+   Block 0 has the operation's selections. Each other block has those of a field, in order of their rows: of each field with selections
+   in the operation, or in a fragment that it spreads, directly or not, also where a condition drops it. A spread gives the fragment's
+   body as often as it is spread. A response key's number is the least row of a field with this key in the document. */
+uint32_t gw_plan(const uint8_t *table, size_t table_len,
+                 const uint8_t *document, size_t document_len,
+                 const uint8_t *operation, size_t operation_len,
+                 uint32_t *plan, size_t plan_len,
+                 uint32_t *report, size_t report_len);
+
+/* A pair of a walk: pairs[GW_PAIR_SIZE * i + GW_PAIR_..]. */
+#define GW_PAIR_SIZE 2
+#define GW_PAIR_KEY 0        /* the number of the response key */
+#define GW_PAIR_ROW 1        /* the field's row */
+
+/* Walks blocks of a plan for an object type: lists the response keys and fields of an object, as the draft's CollectFields gives them for
+   the merged selection sets of these blocks.
+
+   table      read: any bytes, of any length; the one that the plan was made by
+   plan       read: any numbers, of any length; beyond GW_PLAN_SIZE none is read
+   object     the number of the object type's record in the table, from 0; any number
+   blocks     read: any numbers, of any length: the blocks to walk, in this order, repeats too
+   variables  read: any bytes, of any length: of each variable of the operation a byte, in the order of their definitions, 1 for true and
+              any other for what is not true, null or absent; beyond GW_VARIABLES_SIZE none is read, and there must be so many
+   pairs      lent: at least GW_PAIRS_SIZE numbers
+   report     lent: at least GW_REPORT_SIZE numbers
+
+   Answers GW_ACCEPTED or the first refusal that there is: 1, 2, of the table (7, 8, 9, as gw_check_table), 14, 15. What the call leaves:
+
+     answer                       report                          pairs
+     GW_ACCEPTED                  0, count of pairs, zeros        the pairs, then zeros up to GW_PAIRS_SIZE
+     GW_REFUSE_BUFFER             1, zeros; untouched if it is    untouched
+                                  itself too short
+     GW_REFUSE_OVER_LENGTH        2, GW_INPUT_TABLE, zeros        untouched
+     GW_REFUSE_WALK,              its number, zeros               zeros up to GW_PAIRS_SIZE
+     GW_REFUSE_TOO_MANY_PAIRS
+     any other                    as that of gw_check_table       zeros up to GW_PAIRS_SIZE
+
+   Pairs of one key stand together, as they were listed; keys stand in the order in which each was first listed. A fragment that was met
+   in one block is left in the next. A plan from anywhere does no harm: it is well-formed if it has 1 to GW_MOST_BLOCKS blocks and at most
+   GW_MOST_STEPS steps, the first block begins at step 0, no other before the one in front of it or past the count of steps, each kind is
+   one of the five, variables and fragments are below 64, records are those of objects, interfaces or unions, keys and rows are below
+   GW_MOST_ROWS, and each step that leaves goes to a later one, at most to its block's end; all else is refused by 14.
+
+   A worked loop, which lists the fields of the operation's own object, those of block 0. Its type is record 3 of this table; the rows are
+   those of gw_check, of the same document.
+
+     static uint32_t plan[GW_PLAN_SIZE], pairs[GW_PAIRS_SIZE];
+     uint32_t report[GW_REPORT_SIZE], blocks[] = {0};
+     uint8_t variables[GW_VARIABLES_SIZE] = {0};
+     variables[0] = 1; // the first variable that the operation defines is true
+     if (gw_plan(table, table_len, text, text_len, NULL, 0, plan, GW_PLAN_SIZE, report, GW_REPORT_SIZE) != GW_ACCEPTED)
+         return;
+     if (gw_walk(table, table_len, plan, GW_PLAN_SIZE, 3, blocks, 1, variables, GW_VARIABLES_SIZE,
+                 pairs, GW_PAIRS_SIZE, report, GW_REPORT_SIZE) == GW_ACCEPTED)
+         for (uint32_t i = 0; i < report[1]; i++) {
+             uint32_t key = pairs[GW_PAIR_SIZE * i + GW_PAIR_KEY], row = pairs[GW_PAIR_SIZE * i + GW_PAIR_ROW];
+             const uint32_t *field = rows + GW_ROW_SIZE * row;
+             printf("key %u: %.*s\n", key, (int)field[GW_ROW_NAME_LENGTH], (const char *)text + field[GW_ROW_NAME_START]);
+         }
+
+   For each object that comes back under a key, walk the blocks of all fields under this key that have selections, in the order of the
+   pairs, with the record of the object's type. The field at a row has block 1 if it is the first one with selections that the operation
+   reaches, 2 if it is the next one, and so on; host/plans.h has a function that tells the rows of the blocks, to copy. */
+uint32_t gw_walk(const uint8_t *table, size_t table_len,
+                 const uint32_t *plan, size_t plan_len,
+                 uint32_t object,
+                 const uint32_t *blocks, size_t blocks_len,
+                 const uint8_t *variables, size_t variables_len,
+                 uint32_t *pairs, size_t pairs_len,
+                 uint32_t *report, size_t report_len);
 
 #ifdef __cplusplus
 }

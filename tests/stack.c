@@ -2,7 +2,7 @@
    deep documents and on the documents, tables and variables texts of the files. It must not be more than the header says.
 
      stack FILE..      FILE.table is given to gw_check_table, FILE.variables kept, any other given to gw_parse and, by the table before
-                       it, to gw_check; a row in a file's place (or -) has the last three given to gw_coerce_arguments (or _variables) */
+                       it, to gw_check and gw_plan, whose plan is given to gw_walk; a row in a file's place (or -) has the last three given to gw_coerce_arguments (or _variables) */
 #define _GNU_SOURCE
 #include "gateway.h"
 
@@ -17,7 +17,7 @@ enum { STACK = 512 * 1024, PAINT = 0x5A };
 static uint8_t stack[STACK] __attribute__((aligned(64)));
 static uint8_t document[GW_MOST_TEXT], table[GW_MOST_TABLE], variables[GW_MOST_TEXT], value[GW_MOST_COERCED];
 static size_t length, table_length, variables_length;
-static uint32_t rows[GW_ROWS_SIZE], report[GW_REPORT_SIZE], row;
+static uint32_t rows[GW_ROWS_SIZE], report[GW_REPORT_SIZE], plan[GW_PLAN_SIZE], pairs[GW_PAIRS_SIZE], row;
 static ucontext_t here, there;
 
 static void parse(void) {
@@ -39,6 +39,22 @@ static void coerce_variables(void) {
 static void coerce_arguments(void) {
     gw_coerce_arguments(table, table_length, document, length, NULL, 0, variables, variables_length, row, value, GW_MOST_COERCED, report,
                         GW_REPORT_SIZE);
+}
+
+static void make_plan(void) {
+    gw_plan(table, table_length, document, length, NULL, 0, plan, GW_PLAN_SIZE, report, GW_REPORT_SIZE);
+}
+
+/* 64 blocks, as many as there are one after another, for the first object of the table. */
+static void walk(void) {
+    static const uint8_t truths[GW_VARIABLES_SIZE];
+    uint32_t blocks[GW_MOST_WALKED], object = 0;
+    for (uint32_t i = 0; i < GW_MOST_WALKED; i++)
+        blocks[i] = plan[GW_PLAN_BLOCKS] ? i % plan[GW_PLAN_BLOCKS] : 0;
+    for (size_t at = 0; at + 3 <= table_length && table[at] != GW_TAG_OBJECT; object++)
+        at += 3 + (size_t)table[at + 1] * 256 + table[at + 2];
+    gw_walk(table, table_length, plan, GW_PLAN_SIZE, object, blocks, GW_MOST_WALKED, truths, GW_VARIABLES_SIZE, pairs, GW_PAIRS_SIZE, report,
+            GW_REPORT_SIZE);
 }
 
 static void nothing(void) {
@@ -64,7 +80,7 @@ static size_t stack_of(void (*call)(void)) {
     return with > without ? with - without : 0;
 }
 
-static size_t most_parse, most_check_table, most_check, most_coerce_variables, most_coerce_arguments;
+static size_t most_parse, most_check_table, most_check, most_coerce_variables, most_coerce_arguments, most_plan, most_walk;
 
 static void note(size_t *most, void (*call)(void)) {
     size_t taken = stack_of(call);
@@ -75,6 +91,8 @@ static void note(size_t *most, void (*call)(void)) {
 static void note_document(void) {
     note(&most_parse, parse);
     note(&most_check, check);
+    note(&most_plan, make_plan);
+    note(&most_walk, walk);
 }
 
 static void put(const char *s, int times) {
@@ -175,5 +193,7 @@ int main(int argc, char **argv) {
     right &= told("gw_check", most_check, GW_CHECK_STACK);
     right &= told("gw_coerce_variables", most_coerce_variables, GW_COERCE_VARIABLES_STACK);
     right &= told("gw_coerce_arguments", most_coerce_arguments, GW_COERCE_ARGUMENTS_STACK);
+    right &= told("gw_plan", most_plan, GW_PLAN_STACK);
+    right &= told("gw_walk", most_walk, GW_WALK_STACK);
     return right ? 0 : 1;
 }

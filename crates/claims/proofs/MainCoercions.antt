@@ -51,6 +51,19 @@ use Rattle.claims.proofs.CoercionsWords.{VariablesRead, VariablesUnread
 use Rattle.claims.proofs.CoercionsSome as some-results
 use Rattle.claims.proofs.CoercedVariables as variables-call
 use Rattle.claims.proofs.CoercedArguments as arguments-call
+use Rattle.gateway.proofs.coerce_variables.gw_coerce_variables.Statement as gw-coerce-variables
+use Rattle.gateway.proofs.coerce_variables.gw_coerce_variables.Met as gw-coerce-variables-met
+use Rattle.gateway.proofs.coerce_arguments.gw_coerce_arguments.Statement as gw-coerce-arguments
+use Rattle.gateway.proofs.coerce_arguments.gw_coerce_arguments.Met as gw-coerce-arguments-met
+
+-- `gw_coerce_variables` and `gw_coerce_arguments` meet the contracts in `crates/gateway/src/coerce_variables.rt` and `coerce_arguments.rt`, which are
+-- `CoercedVariables` and `CoercedArguments`: for every table, document, operation's name, variables text, row, value buffer and report of any length and
+-- content they say the answer, every byte of the value and every number of the report.
+pub gw-coerce-variables-meets : {M : Type 1} → gw-coerce-variables.statement M
+gw-coerce-variables-meets = gw-coerce-variables-met.met
+
+pub gw-coerce-arguments-meets : {M : Type 1} → gw-coerce-arguments.statement M
+gw-coerce-arguments-meets = gw-coerce-arguments-met.met
 
 -- ---- AN INT
 

@@ -2,6 +2,8 @@
 // A call stands in a file of its own.
 pub mod check;
 pub mod check_table;
+pub mod coerce_arguments;
+pub mod coerce_variables;
 pub mod parse;
 pub mod plan;
 pub mod walk;

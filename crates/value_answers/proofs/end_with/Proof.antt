@@ -1,0 +1,60 @@
+-- `value_answers::end_with` meets its contract: what stops the opening, or what comes of the opened operation.
+use mathlib.Core.Path.{subst}
+use Rattle.opening.specs.Opens.{Opens}
+use Rattle.value_answers.proofs.EndLaws.{not-opened, ready-standing, open-end}
+use borrow.Author.Needs.{needs}
+use Rattle.value_answers.proofs.end_with.Statement.{statement}
+use Rattle.value_answers.proofs.end_with.Tie as tie
+
+open-requires : tie.Need-open-requires
+open-requires c κs = search needs
+
+enum-known-o : tie.Need-enum-known-o
+enum-known-o c = search needs
+
+same-length : tie.Need-same-length
+same-length c = search needs
+
+same-length-2 : tie.Need-same-length-2
+same-length-2 c = search needs
+
+returns : tie.Need-returns
+returns c =
+    let a = c .before .before .before .before .before .before .before .before .before .before .before .before .before .before .before .args in
+    not-opened (a .table .now) (a .document .now) (a .operation .now) (a .variables .now) _ _ (a .call) (c .before .before .before .before .before .«open» .result) (c .match .keys2) (c .before .before .before .before .before .«open» .ensures)
+
+end-open-requires : tie.Need-end-open-requires
+end-open-requires c κs =
+    let a = c .before .before .before .before .before .before .before .before .before .before .before .before .before .before .before .before .before .before .before .before .args in
+    let p = c .before .before .before .before .before .before .before .before .before .before .before .before .before .before .before .before .before .before .before .before .pre in
+    (ready-standing _ _ _ (a .variables .now) _ _ (subst (Opens (a .table .now) (a .document .now) (a .operation .now) _ _) (c .before .before .before .before .o .given .1) (c .before .before .before .before .before .before .before .before .before .before .«open» .ensures)), p .0 .1, p .3)
+
+same-length-3 : tie.Need-same-length-3
+same-length-3 c = search needs
+
+same-length-4 : tie.Need-same-length-4
+same-length-4 c = search needs
+
+same-length-5 : tie.Need-same-length-5
+same-length-5 c = search needs
+
+returns-2 : tie.Need-returns-2
+returns-2 c =
+    let a = c .before .before .before .before .before .before .before .before .before .before .before .before .before .before .before .before .before .before .before .before .before .before .before .args in
+    let r = subst (Opens (a .table .now) (a .document .now) (a .operation .now) _ _) (c .before .before .before .before .before .before .before .o .given .1) (c .before .before .before .before .before .before .before .before .before .before .before .before .before .«open» .ensures) in
+    open-end (r .opened) (a .variables .now) (a .call) _ (c .before .before .end-open .ensures)
+
+pub end-with-spec : {M : Type 1} → statement M
+end-with-spec =
+    tie.close
+    (tie.spec
+    open-requires
+    enum-known-o
+    same-length
+    same-length-2
+    returns
+    end-open-requires
+    same-length-3
+    same-length-4
+    same-length-5
+    returns-2)

@@ -1,0 +1,59 @@
+-- `value_answers::read_with` meets its contract: the text is refused, or its rows are taken.
+use Rattle.constructs.specs.Rowed.{docOf}
+use Rattle.value_answers.proofs.EndLaws.{text-taken, text-unread, text-read}
+use borrow.Author.Needs.{needs}
+use Rattle.value_answers.proofs.read_with.Statement.{statement}
+use Rattle.value_answers.proofs.read_with.Tie as tie
+
+variables-text-requires : tie.Need-variables-text-requires
+variables-text-requires c κs = search needs
+
+enum-known-r : tie.Need-enum-known-r
+enum-known-r c = search needs
+
+cast-n1 : tie.Need-cast-n1
+cast-n1 c = search needs
+
+coerce-requires : tie.Need-coerce-requires
+coerce-requires c κs =
+    let a = c .before .before .before .before .before .before .before .before .before .before .before .before .before .before .before .before .before .args in
+    let p = c .before .before .before .before .before .before .before .before .before .before .before .before .before .before .before .before .before .pre in
+    (p .0, p .1, text-taken (a .t .now) (docOf (a .s .now) (a .rows .now) (a .n)) (a .op) (a .task) (a .s1 .now) (a .rows1 .now) _ _ (c .before .before .before .before .before .before .before .before .variables-text .ensures) _ (p .2) (p .3) (c .before .before .before .before .r .given .1), p .4)
+
+enum-known-r-2 : tie.Need-enum-known-r-2
+enum-known-r-2 c = search needs
+
+same-length : tie.Need-same-length
+same-length c = search needs
+
+same-length-2 : tie.Need-same-length-2
+same-length-2 c = search needs
+
+returns : tie.Need-returns
+returns c =
+    let a = c .before .before .before .before .before .before .before .before .before .before .before .before .before .before .before .before .before .before .before .before .args in
+    let p = c .before .before .before .before .before .before .before .before .before .before .before .before .before .before .before .before .before .before .before .before .pre in
+    text-read (a .t .now) (docOf (a .s .now) (a .rows .now) (a .n)) (a .op) (a .task) (a .s1 .now) _ _ _ _ (text-taken (a .t .now) (docOf (a .s .now) (a .rows .now) (a .n)) (a .op) (a .task) (a .s1 .now) (a .rows1 .now) _ _ (c .before .before .before .before .before .before .before .before .before .before .before .variables-text .ensures) _ (p .2) (p .3) (c .before .before .before .before .before .before .before .r .given .1)) (c .before .before .coerce .ensures)
+
+same-length-3 : tie.Need-same-length-3
+same-length-3 c = search needs
+
+returns-2 : tie.Need-returns-2
+returns-2 c =
+    let a = c .before .before .before .before .before .before .before .before .before .before .before .before .before .before .args in
+    text-unread (a .t .now) (docOf (a .s .now) (a .rows .now) (a .n)) (a .op) (a .task) (a .s1 .now) (a .rows1 .now) _ _ (c .before .before .before .before .before .variables-text .ensures) _ (c .before .r2 .given .1)
+
+pub read-with-spec : {M : Type 1} → statement M
+read-with-spec =
+    tie.close
+    (tie.spec
+    variables-text-requires
+    enum-known-r
+    cast-n1
+    coerce-requires
+    enum-known-r-2
+    same-length
+    same-length-2
+    returns
+    same-length-3
+    returns-2)

@@ -1,0 +1,117 @@
+-- What a call coerces, and how it ends, as the code's functions ask and answer it.
+-- Assumes nothing.
+use mathlib.Core.Path.{_≡_}
+use mathlib.Core.List.{List, []}
+use Prim.Native.Nat.{ℕ, _≤_}
+use lib.ListN.{length}
+use Rattle.paper.specs.Numbers.{mostVariables, kindOperation, inputDocument, inputVariables}
+use Rattle.paper.specs.Language.{Document, VariablesText}
+use Rattle.paper.specs.Tokens.{Text, Tokens}
+use Rattle.paper.specs.Rows.{Row}
+use Rattle.paper.specs.Refusals.{numberOf, shownInText}
+use Rattle.paper.specs.Reading.{rows-are, refuses, Said}
+use Rattle.paper.specs.declared.Refusal.{Refusal}
+use Rattle.paper_types.specs.Types.{tableOf}
+use Rattle.paper_types.specs.Judging.{judge}
+use Rattle.paper_types.specs.declared.TableAnswer.the-variants.{Accepted}
+use Rattle.paper_rules.specs.Constructs.{Doc, count}
+use Rattle.paper_rules.specs.Enclosing.{fieldAt}
+use Rattle.paper_rules.specs.DocumentCalls.{read}
+use Rattle.paper_rules.specs.Opening.{refuseNoOperation}
+use Rattle.types.specs.Booked.{Booked}
+use Rattle.constructs.specs.Rowed.{rowIn}
+use Rattle.constructs.proofs.ReadRows.{Taken}
+use Rattle.paper_values.specs.ValueNumbers.{mostCoerced}
+use Rattle.paper_values.specs.Values.{Tree, Pairs, Out, andThen}
+use Rattle.paper_values.specs.Coercion.{heads, inObject, givens, valueIn, orDefault, variablesOf}
+use Rattle.paper_values.specs.RowValues.{placed, argumentsAt}
+use Rattle.paper_values.specs.DocumentDues.{definitionsOf, variableDues, givenIn, argumentDues, ReachedField}
+use Rattle.paper_values.specs.ValueCalls.{Ending, ends, ended, asObject, VariablesEnd, ArgumentsEnd}
+use Rattle.value_coerce.specs.Coercing.{kindsIn}
+use Rattle.value_fields.specs.Wants.{Holds}
+use Rattle.value_endings.specs.Endings.{endingOf, Leaves}
+use Rattle.value_endings.specs.declared.Ended.{Ended}
+use Rattle.value_answers.specs.declared.Call.{Call}
+use Rattle.value_answers.specs.declared.Call.the-variants.{Variables, Arguments}
+use Rattle.value_answers.specs.declared.Task.{Task}
+use Rattle.value_answers.specs.declared.Task.the-variants.{OfOperation, OfField}
+
+-- ---- results
+
+-- the numbers that are kept of variables
+abbrev pub heldRoom : ℕ
+heldRoom = 448
+
+-- an operation's variables, from what the variables text gives
+abbrev pub coercedVariables : List ℕ → Doc → ℕ → Doc → Out Pairs
+coercedVariables t d op d1 = variablesOf (kindsIn t) (givenIn d1) (variableDues d op)
+
+-- the arguments of the field at a row, where these variables have values
+abbrev pub argued : List ℕ → Doc → ℕ → Pairs → Out Tree
+argued t d row ps =
+    inObject (λ δ rest. orDefault (kindsIn t) (placed inputDocument d row) δ (δ .default) rest) (heads (argumentsAt inputDocument d row))
+    (givens (kindsIn t) (valueIn ps) (argumentsAt inputDocument d row)) (argumentDues (fieldAt (tableOf t) d row))
+
+abbrev pub resultOf : List ℕ → Doc → ℕ → Doc → Task → Out Tree
+resultOf t d op d1 OfOperation = asObject (coercedVariables t d op d1)
+resultOf t d op d1 (OfField row start end) = andThen (coercedVariables t d op d1) (argued t d row)
+
+-- the code ends as this result does, where these bytes stand in the output
+pub record Gives (o : Out Tree) (v : List ℕ) (r : Ended) : Type 0 where
+  pub same : ended o ≡ endingOf r v
+
+-- ---- what is asked
+
+-- few variables, and room for what is kept of them and for the value
+pub record Few (d : Doc) (op : ℕ) (held out : List ℕ) : Type 0 where
+  pub few : length (definitionsOf d op) ≤ mostVariables
+  pub held-size : length held ≡ heldRoom
+  pub out-size : length out ≡ mostCoerced
+
+-- an accepted table and its book, a document's rows, and the row of one of its operations
+pub record Stands (t book s rows : List ℕ) (n : ℕ) : Type 0 where
+  pub accepted : judge t ≡ Accepted
+  pub booked : Booked t book
+  pub taken : Taken Document s rows n
+
+pub record Standing (t book s rows : List ℕ) (n op : ℕ) : Type 0 where
+  pub stands : Stands t book s rows n
+  pub operation : rowIn rows n op .kind ≡ kindOperation
+
+-- the row is one of the document's, and there stand the definitions of its field's arguments
+pub record FieldServes (t : List ℕ) (d : Doc) (row start end : ℕ) : Type 0 where
+  pub there : row ≤ count d
+  pub holds : Holds t (fieldAt (tableOf t) d row) start end
+
+abbrev pub Serves : List ℕ → Doc → Task → Type 0
+Serves t d OfOperation = Unit
+Serves t d (OfField row start end) = FieldServes t d row start end
+
+-- ---- how a call ends
+
+-- where its task is known: the variables text is refused, or there is a result
+pub data ReadEnd (t : List ℕ) (d : Doc) (op : ℕ) (task : Task) (variables : List ℕ) : Ending → Type 0 where
+  unread : {k : Text} {r : Refusal} → Tokens 0 variables k → Said VariablesText k (refuses r) → ReadEnd t d op task variables (ends (numberOf r) (shownInText inputVariables r))
+  done : {k : Text} {vs : List Row} → Tokens 0 variables k → Said VariablesText k (rows-are vs) → ReadEnd t d op task variables (ended (resultOf t d op (read variables vs) task))
+
+-- where an operation is opened: the field is not reached, or its task is known
+pub data FieldEnd (t : List ℕ) (d : Doc) (op row : ℕ) (variables : List ℕ) : Ending → Type 0 where
+  unreached : (ReachedField d op row → ⊥) → FieldEnd t d op row variables (ends refuseNoOperation [])
+  reached : {start end : ℕ} {e : Ending} → ReachedField d op row → ReadEnd t d op (OfField row start end) variables e → FieldEnd t d op row variables e
+
+abbrev pub OpenEnd : List ℕ → Doc → ℕ → Call → List ℕ → Ending → Type 0
+OpenEnd t d op Variables variables = ReadEnd t d op OfOperation variables
+OpenEnd t d op (Arguments row) variables = FieldEnd t d op row variables
+
+-- in whole
+abbrev pub EndFor : Call → List ℕ → List ℕ → List ℕ → List ℕ → Ending → Type 0
+EndFor Variables table document name variables = VariablesEnd table document name variables
+EndFor (Arguments row) table document name variables = ArgumentsEnd table document name variables row
+
+-- some ending is told, in a value of the fixed size
+pub record Ends (End : Ending → Type 0) (report value′ report′ : List ℕ) (n : ℕ) : Type 0 where
+  pub ending : Ending
+  pub ends-so : End ending
+  pub before : List ℕ
+  pub size : length before ≡ mostCoerced
+  pub leaves : Leaves ending before report value′ report′ n

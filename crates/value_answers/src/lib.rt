@@ -1,0 +1,641 @@
+// The whole answers to `gw_coerce_variables` and `gw_coerce_arguments`: the sizes are tested, an operation is opened, the variables text is
+// read, and the operation's variables are coerced, or the arguments of one of its fields.
+// Each large array is made in a function of its own, so that the rows of the variables text take no room while the document is judged.
+use buffers::Sizes;
+use index::BOOK_SIZE;
+use opening::Start;
+use paper::INPUT_DOCUMENT;
+use paper::KIND_ARGUMENT;
+use paper::REFUSE_BUFFER;
+use paper::REPORT_SIZE;
+use paper::ROWS_SIZE;
+use paper_values::MOST_COERCED;
+use paper_values::TAG_INPUT;
+use reader::Read;
+use value_coerce::ALL_LEVELS;
+use value_coerce::object;
+use value_endings::Ended;
+use value_fields::Wanted;
+use value_fields::find_wanted;
+use value_kinds::Coerced;
+use value_variables::HELD_ROOM;
+use value_variables::Variables;
+use value_variables::coerce_variables;
+use value_writing::close;
+use value_writing::place;
+ghost use mathlib.Core.Path.{_≡_};
+ghost use Prim.Native.Nat.{_≤_};
+ghost use lib.ListN.{length};
+ghost use Rattle.paper.specs.Numbers.{mostText, mostRows, rowsSize, reportSize};
+ghost use Rattle.paper.specs.Language.{VariablesText};
+ghost use Rattle.index.specs.Book.{bookSize};
+ghost use Rattle.constructs.specs.Rowed.{docOf, roomOf};
+ghost use Rattle.constructs.proofs.ReadRows.{Taken};
+ghost use Rattle.paper_values.specs.ValueNumbers.{mostCoerced};
+ghost use Rattle.paper_values.specs.Values.{Pairs, andThen};
+ghost use Rattle.paper_values.specs.ValueCalls.{asObject, Short, Coerced as CoercedBy, CoercedVariables, CoercedArguments};
+ghost use Rattle.value_coerce.specs.Coercing.{Ready};
+ghost use Rattle.value_coerce.specs.Holding.{Holds, Holding};
+ghost use Rattle.value_endings.specs.Endings.{endingOf};
+ghost use Rattle.value_endings.specs.declared.Ended.the-variants.{Refused};
+ghost use Rattle.value_variables.specs.Variables.{Asked};
+ghost use Rattle.value_answers.specs.Answers.{heldRoom, Few, EndFor, argued, coercedVariables, resultOf, Gives, ReadEnd, OpenEnd, Stands, Standing, Serves, FieldServes, Ends};
+
+// Up to how many rows there are few; how many there may be.
+const FEW_ROWS: usize = 256;
+
+const ROWS: usize = 2048;
+
+// What a call coerces: an operation's variables, or the arguments of the field of a row.
+enum Call {
+    Variables,
+    Arguments(u32),
+}
+
+// The same, where that field is found: the content that its arguments' definitions are in.
+enum Task {
+    OfOperation,
+    OfField {
+        row: usize,
+        start: usize,
+        end: usize,
+    },
+}
+
+// How many numbers are lent that hold one for each of n rows.
+fn room_of(n: usize) -> usize
+    ensures { λ r. ⌜ r ≡ roomOf n ⌝ }
+{
+    if n <= FEW_ROWS {
+        return FEW_ROWS;
+    }
+    ROWS
+}
+
+// A refused value.
+fn refused(text: u32, row: usize, why: u32) -> Ended
+    requires { ⌜ row ≤ mostRows ⌝ }
+    ensures { λ r. ⌜ r ≡ Refused text row why ⌝ }
+{
+    Ended::Refused {
+        text: text,
+        row: row as u32,
+        why: why,
+    }
+}
+
+// Coerces the variables of the operation of row op as one object.
+fn put_variables(
+    t: &[u8],
+    book: &[u32],
+    s: &[u8],
+    rows: &[u32],
+    n: usize,
+    past: &[u32],
+    op: usize,
+    s1: &[u8],
+    rows1: &[u32],
+    n1: usize,
+    past1: &[u32],
+    held: &mut [u32],
+    out: &mut [u8],
+) -> Ended
+    requires { ⌜ Asked (now t) (now book) (now s) (now rows) n (now past) (now s1) (now rows1) n1 (now past1) × Few (docOf (now s) (now rows) n) op (now held) (now out) ⌝ }
+    ensures { λ r. ⌜ Gives (asObject (coercedVariables (now (t .entry)) (docOf (now (s .entry)) (now (rows .entry)) n) op (docOf (now (s1 .entry)) (now (rows1 .entry)) n1))) (now (out .exit)) r ⌝ }
+{
+    let from = place(MOST_COERCED, 0, 3);
+    let r = coerce_variables(
+        t,
+        book,
+        s,
+        rows,
+        n,
+        past,
+        op,
+        s1,
+        rows1,
+        n1,
+        past1,
+        held,
+        out,
+        MOST_COERCED,
+        from,
+    );
+    match r {
+        Variables::Done { at, .. } => Ended::UpTo(close(out, MOST_COERCED, 0, TAG_INPUT, at)),
+        Variables::Refused { text, row, why } => refused(text, row, why),
+    }
+}
+
+// Coerces the arguments of the field of row i, whose definitions stand from `start` up to `end`, where `many` variables have the values held.
+fn put_held(
+    t: &[u8],
+    book: &[u32],
+    s: &[u8],
+    rows: &[u32],
+    n: usize,
+    past: &[u32],
+    i: usize,
+    start: usize,
+    end: usize,
+    s1: &[u8],
+    rows1: &[u32],
+    n1: usize,
+    past1: &[u32],
+    held: &[u32],
+    many: usize,
+    out: &mut [u8],
+) -> Ended
+    requires { ⌜ Ready (now t) (now book) (now s) (now rows) n (now past) × FieldServes (now t) (docOf (now s) (now rows) n) i start end × Holding (now t) (now book) (now s) (now rows) n (now s1) (now rows1) n1 (now past1) (now held) many × (length (now out) ≡ mostCoerced) ⌝ }
+    ensures { λ r. ⌜ ((ps : Pairs) → Holds (now (t .entry)) (now (book .entry)) (now (s .entry)) (now (rows .entry)) n (now (s1 .entry)) (now (rows1 .entry)) n1 (now (held .entry)) 0 many ps →
+        Gives (argued (now (t .entry)) (docOf (now (s .entry)) (now (rows .entry)) n) i ps) (now (out .exit)) r) ⌝ }
+{
+    let c = object(
+        t,
+        book,
+        s,
+        rows,
+        n,
+        past,
+        i,
+        ALL_LEVELS,
+        KIND_ARGUMENT,
+        start,
+        end,
+        s1,
+        rows1,
+        n1,
+        past1,
+        held,
+        many,
+        out,
+        MOST_COERCED,
+        0,
+    );
+    match c {
+        Coerced::UpTo(e) => Ended::UpTo(e),
+        Coerced::Refused { row, why } => refused(INPUT_DOCUMENT, row, why),
+    }
+}
+
+// Coerces the variables of the operation of row op, writing none of them, and then the arguments of the field of row i.
+fn put_arguments(
+    t: &[u8],
+    book: &[u32],
+    s: &[u8],
+    rows: &[u32],
+    n: usize,
+    past: &[u32],
+    op: usize,
+    i: usize,
+    start: usize,
+    end: usize,
+    s1: &[u8],
+    rows1: &[u32],
+    n1: usize,
+    past1: &[u32],
+    held: &mut [u32],
+    out: &mut [u8],
+) -> Ended
+    requires { ⌜ Asked (now t) (now book) (now s) (now rows) n (now past) (now s1) (now rows1) n1 (now past1) × Few (docOf (now s) (now rows) n) op (now held) (now out) × FieldServes (now t) (docOf (now s) (now rows) n) i start end ⌝ }
+    ensures { λ r. ⌜ Gives (andThen (coercedVariables (now (t .entry)) (docOf (now (s .entry)) (now (rows .entry)) n) op (docOf (now (s1 .entry)) (now (rows1 .entry)) n1)) (argued (now (t .entry)) (docOf (now (s .entry)) (now (rows .entry)) n) i)) (now (out .exit)) r ⌝ }
+{
+    let r = coerce_variables(
+        t,
+        book,
+        s,
+        rows,
+        n,
+        past,
+        op,
+        s1,
+        rows1,
+        n1,
+        past1,
+        held,
+        out,
+        MOST_COERCED,
+        MOST_COERCED + 1,
+    );
+    match r {
+        Variables::Done { many, .. } => put_held(
+            t,
+            book,
+            s,
+            rows,
+            n,
+            past,
+            i,
+            start,
+            end,
+            s1,
+            rows1,
+            n1,
+            past1,
+            held,
+            many,
+            out,
+        ),
+        Variables::Refused { text, row, why } => refused(text, row, why),
+    }
+}
+
+// Does the task, where the row past each row's subtree is known in both texts.
+fn put_task(
+    t: &[u8],
+    book: &[u32],
+    s: &[u8],
+    rows: &[u32],
+    n: usize,
+    past: &[u32],
+    op: usize,
+    task: Task,
+    s1: &[u8],
+    rows1: &[u32],
+    n1: usize,
+    past1: &[u32],
+    held: &mut [u32],
+    out: &mut [u8],
+) -> Ended
+    requires { ⌜ Asked (now t) (now book) (now s) (now rows) n (now past) (now s1) (now rows1) n1 (now past1) × Few (docOf (now s) (now rows) n) op (now held) (now out) × Serves (now t) (docOf (now s) (now rows) n) task ⌝ }
+    ensures { λ r. ⌜ Gives (resultOf (now (t .entry)) (docOf (now (s .entry)) (now (rows .entry)) n) op (docOf (now (s1 .entry)) (now (rows1 .entry)) n1) task) (now (out .exit)) r ⌝ }
+{
+    match task {
+        Task::OfOperation => put_variables(
+            t,
+            book,
+            s,
+            rows,
+            n,
+            past,
+            op,
+            s1,
+            rows1,
+            n1,
+            past1,
+            held,
+            out,
+        ),
+        Task::OfField { row, start, end } => put_arguments(
+            t,
+            book,
+            s,
+            rows,
+            n,
+            past,
+            op,
+            row,
+            start,
+            end,
+            s1,
+            rows1,
+            n1,
+            past1,
+            held,
+            out,
+        ),
+    }
+}
+
+// The same, where they are yet to be found: in lists lent with room for one number of each row.
+fn fill_and_put(
+    t: &[u8],
+    book: &[u32],
+    s: &[u8],
+    rows: &[u32],
+    n: usize,
+    past: &mut [u32],
+    op: usize,
+    task: Task,
+    s1: &[u8],
+    rows1: &[u32],
+    n1: usize,
+    past1: &mut [u32],
+    held: &mut [u32],
+    out: &mut [u8],
+) -> Ended
+    requires { ⌜ Stands (now t) (now book) (now s) (now rows) n × Serves (now t) (docOf (now s) (now rows) n) task × Taken VariablesText (now s1) (now rows1) n1 × (length (now past) ≡ roomOf n) × (length (now past1) ≡ roomOf n1) × (length (now held) ≡ heldRoom) × (length (now out) ≡ mostCoerced) ⌝ }
+    ensures { λ r. ⌜ Gives (resultOf (now (t .entry)) (docOf (now (s .entry)) (now (rows .entry)) n) op (docOf (now (s1 .entry)) (now (rows1 .entry)) n1) task) (now (out .exit)) r ⌝ }
+{
+    query_subtrees::fill_pasts(rows, n, past);
+    query_subtrees::fill_pasts(rows1, n1, past1);
+    put_task(
+        t,
+        book,
+        s,
+        rows,
+        n,
+        past,
+        op,
+        task,
+        s1,
+        rows1,
+        n1,
+        past1,
+        held,
+        out,
+    )
+}
+
+// The same with lists that have room for the most rows: less of them is used where there are few.
+fn coerce_with(
+    t: &[u8],
+    book: &[u32],
+    s: &[u8],
+    rows: &[u32],
+    n: usize,
+    past: &mut [u32],
+    op: usize,
+    task: Task,
+    s1: &[u8],
+    rows1: &[u32],
+    n1: usize,
+    past1: &mut [u32],
+    held: &mut [u32],
+    out: &mut [u8],
+) -> Ended
+    requires { ⌜ Stands (now t) (now book) (now s) (now rows) n × Serves (now t) (docOf (now s) (now rows) n) task × Taken VariablesText (now s1) (now rows1) n1 × (length (now past) ≡ mostRows) × (length (now past1) ≡ mostRows) × (length (now held) ≡ heldRoom) × (length (now out) ≡ mostCoerced) ⌝ }
+    ensures { λ r. ⌜ Gives (resultOf (now (t .entry)) (docOf (now (s .entry)) (now (rows .entry)) n) op (docOf (now (s1 .entry)) (now (rows1 .entry)) n1) task) (now (out .exit)) r ⌝ }
+{
+    let room = room_of(n);
+    let room1 = room_of(n1);
+    fill_and_put(
+        t,
+        book,
+        s,
+        rows,
+        n,
+        &mut past[..room],
+        op,
+        task,
+        s1,
+        rows1,
+        n1,
+        &mut past1[..room1],
+        held,
+        out,
+    )
+}
+
+// The same with lists of its own.
+fn coerce(
+    t: &[u8],
+    book: &[u32],
+    s: &[u8],
+    rows: &[u32],
+    n: usize,
+    op: usize,
+    task: Task,
+    s1: &[u8],
+    rows1: &[u32],
+    n1: usize,
+    out: &mut [u8],
+) -> Ended
+    requires { ⌜ Stands (now t) (now book) (now s) (now rows) n × Serves (now t) (docOf (now s) (now rows) n) task × Taken VariablesText (now s1) (now rows1) n1 × (length (now out) ≡ mostCoerced) ⌝ }
+    ensures { λ r. ⌜ Gives (resultOf (now (t .entry)) (docOf (now (s .entry)) (now (rows .entry)) n) op (docOf (now (s1 .entry)) (now (rows1 .entry)) n1) task) (now (out .exit)) r ⌝ }
+{
+    let mut past = [0u32; ROWS];
+    let mut past1 = [0u32; ROWS];
+    let mut held = [0u32; HELD_ROOM];
+    coerce_with(
+        t,
+        book,
+        s,
+        rows,
+        n,
+        &mut past,
+        op,
+        task,
+        s1,
+        rows1,
+        n1,
+        &mut past1,
+        &mut held,
+        out,
+    )
+}
+
+// Reads the variables text into the lent rows, and does the task.
+fn read_with(
+    t: &[u8],
+    book: &[u32],
+    s: &[u8],
+    rows: &[u32],
+    n: usize,
+    op: usize,
+    task: Task,
+    s1: &[u8],
+    rows1: &mut [u32],
+    out: &mut [u8],
+) -> Ended
+    requires { ⌜ Stands (now t) (now book) (now s) (now rows) n × Serves (now t) (docOf (now s) (now rows) n) task × (length (now s1) ≤ mostText) × (length (now rows1) ≡ rowsSize) × (length (now out) ≡ mostCoerced) ⌝ }
+    ensures { λ r. ⌜ ReadEnd (now (t .entry)) (docOf (now (s .entry)) (now (rows .entry)) n) op task (now (s1 .entry)) (endingOf r (now (out .exit))) ⌝ }
+{
+    let r = documents::variables_text(s1, rows1);
+    match r {
+        Read::Done(c) => {
+            let n1 = c.rows as usize;
+            coerce(t, book, s, rows, n, op, task, s1, rows1, n1, out)
+        }
+        Read::Refused(why) => Ended::BadText(why),
+    }
+}
+
+// The same with rows of its own.
+fn read_text(
+    t: &[u8],
+    book: &[u32],
+    s: &[u8],
+    rows: &[u32],
+    n: usize,
+    op: usize,
+    task: Task,
+    s1: &[u8],
+    out: &mut [u8],
+) -> Ended
+    requires { ⌜ Stands (now t) (now book) (now s) (now rows) n × Serves (now t) (docOf (now s) (now rows) n) task × (length (now s1) ≤ mostText) × (length (now out) ≡ mostCoerced) ⌝ }
+    ensures { λ r. ⌜ ReadEnd (now (t .entry)) (docOf (now (s .entry)) (now (rows .entry)) n) op task (now (s1 .entry)) (endingOf r (now (out .exit))) ⌝ }
+{
+    let mut rows1 = [0u32; ROWS_SIZE];
+    read_with(t, book, s, rows, n, op, task, s1, &mut rows1, out)
+}
+
+// How a call on the opened operation of row op ends: a field that is not reached is told before the variables text is read.
+fn end_open(
+    table: &[u8],
+    book: &[u32],
+    document: &[u8],
+    rows: &[u32],
+    n: usize,
+    op: usize,
+    variables: &[u8],
+    call: Call,
+    out: &mut [u8],
+) -> Ended
+    requires { ⌜ Standing (now table) (now book) (now document) (now rows) n op × (length (now variables) ≤ mostText) × (length (now out) ≡ mostCoerced) ⌝ }
+    ensures { λ r. ⌜ OpenEnd (now (table .entry)) (docOf (now (document .entry)) (now (rows .entry)) n) op call (now (variables .entry)) (endingOf r (now (out .exit))) ⌝ }
+{
+    let Call::Arguments(row) = call else {
+        return read_text(
+            table,
+            book,
+            document,
+            rows,
+            n,
+            op,
+            Task::OfOperation,
+            variables,
+            out,
+        );
+    };
+    let i = row as usize;
+    let w = find_wanted(table, book, document, rows, n, op, i);
+    let Wanted::Field { start, end } = w else {
+        return Ended::NotReached;
+    };
+    let task = Task::OfField {
+        row: i,
+        start: start,
+        end: end,
+    };
+    read_text(table, book, document, rows, n, op, task, variables, out)
+}
+
+// How a call ends, where the book and the rows are lent.
+fn end_with(
+    table: &[u8],
+    book: &mut [u32],
+    document: &[u8],
+    operation: &[u8],
+    rows: &mut [u32],
+    variables: &[u8],
+    call: Call,
+    out: &mut [u8],
+) -> Ended
+    requires { ⌜ Short (now table) (now document) (now variables) × (length (now book) ≡ bookSize) × (length (now rows) ≡ rowsSize) × (length (now out) ≡ mostCoerced) ⌝ }
+    ensures { λ r. ⌜ EndFor call (now (table .entry)) (now (document .entry)) (now (operation .entry)) (now (variables .entry)) (endingOf r (now (out .exit))) ⌝ }
+{
+    let o = opening::open(table, book, document, operation, rows);
+    let Start::Open(n, op) = o else {
+        return Ended::NotOpened(o);
+    };
+    end_open(table, book, document, rows, n, op, variables, call, out)
+}
+
+// How a call ends.
+fn end_call(
+    table: &[u8],
+    document: &[u8],
+    operation: &[u8],
+    variables: &[u8],
+    call: Call,
+    out: &mut [u8],
+) -> Ended
+    requires { ⌜ Short (now table) (now document) (now variables) × (length (now out) ≡ mostCoerced) ⌝ }
+    ensures { λ r. ⌜ EndFor call (now (table .entry)) (now (document .entry)) (now (operation .entry)) (now (variables .entry)) (endingOf r (now (out .exit))) ⌝ }
+{
+    let mut book = [0u32; BOOK_SIZE];
+    let mut rows = [0u32; ROWS_SIZE];
+    end_with(
+        table,
+        &mut book,
+        document,
+        operation,
+        &mut rows,
+        variables,
+        call,
+        out,
+    )
+}
+
+// Tells how a call ends. The value is of its fixed size.
+fn tell_call(
+    table: &[u8],
+    document: &[u8],
+    operation: &[u8],
+    variables: &[u8],
+    call: Call,
+    value: &mut [u8],
+    report: &mut [u32],
+) -> u32
+    requires { ⌜ Short (now table) (now document) (now variables) × (reportSize ≤ length (now report)) × (length (now value) ≡ mostCoerced) ⌝ }
+    ensures { λ r. ⌜ Ends (EndFor call (now (table .entry)) (now (document .entry)) (now (operation .entry)) (now (variables .entry))) (now (report .entry)) (now (value .exit)) (now (report .exit)) r ⌝ }
+{
+    let e = end_call(table, document, operation, variables, call, value);
+    value_endings::tell(value, report, e)
+}
+
+// What a call answers: the sizes are tested, and what comes of it is told.
+fn answer(
+    table: &[u8],
+    document: &[u8],
+    operation: &[u8],
+    variables: &[u8],
+    call: Call,
+    value: &mut [u8],
+    report: &mut [u32],
+) -> u32
+    ensures { λ r. ⌜ CoercedBy (EndFor call (now (table .entry)) (now (document .entry)) (now (operation .entry)) (now (variables .entry))) (now (table .entry)) (now (document .entry)) (now (variables .entry)) (now (value .entry)) (now (report .entry)) (now (value .exit)) (now (report .exit)) r ⌝ }
+{
+    if report.len() < REPORT_SIZE {
+        return REFUSE_BUFFER;
+    }
+    let s = value_endings::sizes_met(value.len(), document.len(), variables.len(), table.len());
+    match s {
+        Sizes::Met => tell_call(
+            table,
+            document,
+            operation,
+            variables,
+            call,
+            &mut value[..MOST_COERCED],
+            report,
+        ),
+        Sizes::Unmet(why) => telling::tell_refusal(report, why),
+    }
+}
+
+// What `gw_coerce_variables` answers.
+pub fn answer_variables(
+    table: &[u8],
+    document: &[u8],
+    operation: &[u8],
+    variables: &[u8],
+    value: &mut [u8],
+    report: &mut [u32],
+) -> u32
+    ensures { λ r. ⌜ CoercedVariables (now (table .entry)) (now (document .entry)) (now (operation .entry)) (now (variables .entry)) (now (value .entry)) (now (report .entry)) (now (value .exit)) (now (report .exit)) r ⌝ }
+{
+    answer(
+        table,
+        document,
+        operation,
+        variables,
+        Call::Variables,
+        value,
+        report,
+    )
+}
+
+// What `gw_coerce_arguments` answers.
+pub fn answer_arguments(
+    table: &[u8],
+    document: &[u8],
+    operation: &[u8],
+    variables: &[u8],
+    row: u32,
+    value: &mut [u8],
+    report: &mut [u32],
+) -> u32
+    ensures { λ r. ⌜ CoercedArguments (now (table .entry)) (now (document .entry)) (now (operation .entry)) (now (variables .entry)) row (now (value .entry)) (now (report .entry)) (now (value .exit)) (now (report .exit)) r ⌝ }
+{
+    answer(
+        table,
+        document,
+        operation,
+        variables,
+        Call::Arguments(row),
+        value,
+        report,
+    )
+}
