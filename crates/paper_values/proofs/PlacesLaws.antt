@@ -279,6 +279,10 @@ module _ (P : At → Type 0) where
         kept-unless (repeated [] (heads es)) 6 (variablesFrom kinds (givens kinds (λ n. none) es) vs) (kept-repeated es [] p)
         (kept-variables (givens kinds (λ n. none) es) (givens-kept kinds (λ n. none) es p) vs q)
 
+    -- an object's entries, or a field's arguments, where these are due
+    pub object-kept : (vars : Name → Option Tree) (i : At) → P i → (es : Entries) → PlacedEntries es → (ds : List Due) → Kept (inObject (missing i) (heads es) (givens kinds vars es) ds)
+    object-kept vars i p es q ds = kept-input (missing i) (λ d rest h. kept-missing i d rest p h) es q (givens kinds vars es) (givens-kept kinds vars es q) ds
+
 -- ---- rows
 
 -- the row of a place is at most m
