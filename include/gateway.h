@@ -49,9 +49,9 @@ extern "C" {
 #define GW_PARSE_STACK 20480
 #define GW_CHECK_TABLE_STACK 24576
 #define GW_CHECK_STACK 131072
-#define GW_COERCE_VARIABLES_STACK 393216
-#define GW_COERCE_ARGUMENTS_STACK 540672
-#define GW_PLAN_STACK 655360
+#define GW_COERCE_VARIABLES_STACK 425984
+#define GW_COERCE_ARGUMENTS_STACK 589824
+#define GW_PLAN_STACK 720896
 #define GW_WALK_STACK 32768
 
 /* What a call answers, which is also report[0]. Shown: report[1], of refusal 9 report[1] to report[5], of 10 report[1] and
