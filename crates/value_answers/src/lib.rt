@@ -24,12 +24,12 @@ use value_variables::coerce_variables;
 use value_writing::close;
 use value_writing::place;
 ghost use mathlib.Core.Path.{_≡_};
-ghost use Prim.Native.Nat.{_≤_};
+ghost use Prim.Native.Nat.{_≤_, _<_};
 ghost use lib.ListN.{length};
 ghost use Rattle.paper.specs.Numbers.{mostText, mostRows, rowsSize, reportSize};
 ghost use Rattle.paper.specs.Language.{VariablesText};
 ghost use Rattle.index.specs.Book.{bookSize};
-ghost use Rattle.constructs.specs.Rowed.{docOf, roomOf};
+ghost use Rattle.constructs.specs.Rowed.{docOf, fewRows, roomOf};
 ghost use Rattle.constructs.proofs.ReadRows.{Taken};
 ghost use Rattle.paper_values.specs.ValueNumbers.{mostCoerced};
 ghost use Rattle.paper_values.specs.Values.{Pairs, andThen};
@@ -60,16 +60,6 @@ enum Task {
         start: usize,
         end: usize,
     },
-}
-
-// How many numbers are lent that hold one for each of n rows.
-fn room_of(n: usize) -> usize
-    ensures { λ r. ⌜ r ≡ roomOf n ⌝ }
-{
-    if n <= FEW_ROWS {
-        return FEW_ROWS;
-    }
-    ROWS
 }
 
 // A refused value.
@@ -297,8 +287,8 @@ fn put_task(
     }
 }
 
-// The same, where they are yet to be found: in lists lent with room for one number of each row.
-fn fill_and_put(
+// The same, where they are yet to be found: in lists that are lent.
+fn coerce_with(
     t: &[u8],
     book: &[u32],
     s: &[u8],
@@ -337,8 +327,8 @@ fn fill_and_put(
     )
 }
 
-// The same with lists that have room for the most rows: less of them is used where there are few.
-fn coerce_with(
+// The same with lists of its own, for few rows of the variables text: less is cleared then.
+fn coerce_few(
     t: &[u8],
     book: &[u32],
     s: &[u8],
@@ -350,40 +340,39 @@ fn coerce_with(
     s1: &[u8],
     rows1: &[u32],
     n1: usize,
-    past1: &mut [u32],
-    held: &mut [u32],
     out: &mut [u8],
 ) -> Ended
-    requires { ⌜ Stands (now t) (now book) (now s) (now rows) n × Serves (now t) (docOf (now s) (now rows) n) task × Taken VariablesText (now s1) (now rows1) n1 × (length (now past) ≡ mostRows) × (length (now past1) ≡ mostRows) × (length (now held) ≡ heldRoom) × (length (now out) ≡ mostCoerced) ⌝ }
+    requires { ⌜ Stands (now t) (now book) (now s) (now rows) n × Serves (now t) (docOf (now s) (now rows) n) task × Taken VariablesText (now s1) (now rows1) n1 × (length (now past) ≡ roomOf n) × (length (now out) ≡ mostCoerced) × (n1 ≤ fewRows) ⌝ }
     ensures { λ r. ⌜ Gives (resultOf (now (t .entry)) (docOf (now (s .entry)) (now (rows .entry)) n) op (docOf (now (s1 .entry)) (now (rows1 .entry)) n1) task) (now (out .exit)) r ⌝ }
 {
-    let room = room_of(n);
-    let room1 = room_of(n1);
-    fill_and_put(
+    let mut past1 = [0u32; FEW_ROWS];
+    let mut held = [0u32; HELD_ROOM];
+    coerce_with(
         t,
         book,
         s,
         rows,
         n,
-        &mut past[..room],
+        past,
         op,
         task,
         s1,
         rows1,
         n1,
-        &mut past1[..room1],
-        held,
+        &mut past1,
+        &mut held,
         out,
     )
 }
 
-// The same with lists of its own.
-fn coerce(
+// The same for more rows than few.
+fn coerce_many(
     t: &[u8],
     book: &[u32],
     s: &[u8],
     rows: &[u32],
     n: usize,
+    past: &mut [u32],
     op: usize,
     task: Task,
     s1: &[u8],
@@ -391,10 +380,9 @@ fn coerce(
     n1: usize,
     out: &mut [u8],
 ) -> Ended
-    requires { ⌜ Stands (now t) (now book) (now s) (now rows) n × Serves (now t) (docOf (now s) (now rows) n) task × Taken VariablesText (now s1) (now rows1) n1 × (length (now out) ≡ mostCoerced) ⌝ }
+    requires { ⌜ Stands (now t) (now book) (now s) (now rows) n × Serves (now t) (docOf (now s) (now rows) n) task × Taken VariablesText (now s1) (now rows1) n1 × (length (now past) ≡ roomOf n) × (length (now out) ≡ mostCoerced) × (fewRows < n1) ⌝ }
     ensures { λ r. ⌜ Gives (resultOf (now (t .entry)) (docOf (now (s .entry)) (now (rows .entry)) n) op (docOf (now (s1 .entry)) (now (rows1 .entry)) n1) task) (now (out .exit)) r ⌝ }
 {
-    let mut past = [0u32; ROWS];
     let mut past1 = [0u32; ROWS];
     let mut held = [0u32; HELD_ROOM];
     coerce_with(
@@ -403,7 +391,7 @@ fn coerce(
         s,
         rows,
         n,
-        &mut past,
+        past,
         op,
         task,
         s1,
@@ -422,20 +410,24 @@ fn read_with(
     s: &[u8],
     rows: &[u32],
     n: usize,
+    past: &mut [u32],
     op: usize,
     task: Task,
     s1: &[u8],
     rows1: &mut [u32],
     out: &mut [u8],
 ) -> Ended
-    requires { ⌜ Stands (now t) (now book) (now s) (now rows) n × Serves (now t) (docOf (now s) (now rows) n) task × (length (now s1) ≤ mostText) × (length (now rows1) ≡ rowsSize) × (length (now out) ≡ mostCoerced) ⌝ }
+    requires { ⌜ Stands (now t) (now book) (now s) (now rows) n × Serves (now t) (docOf (now s) (now rows) n) task × (length (now past) ≡ roomOf n) × (length (now s1) ≤ mostText) × (length (now rows1) ≡ rowsSize) × (length (now out) ≡ mostCoerced) ⌝ }
     ensures { λ r. ⌜ ReadEnd (now (t .entry)) (docOf (now (s .entry)) (now (rows .entry)) n) op task (now (s1 .entry)) (endingOf r (now (out .exit))) ⌝ }
 {
     let r = documents::variables_text(s1, rows1);
     match r {
         Read::Done(c) => {
             let n1 = c.rows as usize;
-            coerce(t, book, s, rows, n, op, task, s1, rows1, n1, out)
+            if n1 <= FEW_ROWS {
+                return coerce_few(t, book, s, rows, n, past, op, task, s1, rows1, n1, out);
+            }
+            coerce_many(t, book, s, rows, n, past, op, task, s1, rows1, n1, out)
         }
         Read::Refused(why) => Ended::BadText(why),
     }
@@ -448,20 +440,22 @@ fn read_text(
     s: &[u8],
     rows: &[u32],
     n: usize,
+    past: &mut [u32],
     op: usize,
     task: Task,
     s1: &[u8],
     out: &mut [u8],
 ) -> Ended
-    requires { ⌜ Stands (now t) (now book) (now s) (now rows) n × Serves (now t) (docOf (now s) (now rows) n) task × (length (now s1) ≤ mostText) × (length (now out) ≡ mostCoerced) ⌝ }
+    requires { ⌜ Stands (now t) (now book) (now s) (now rows) n × Serves (now t) (docOf (now s) (now rows) n) task × (length (now past) ≡ roomOf n) × (length (now s1) ≤ mostText) × (length (now out) ≡ mostCoerced) ⌝ }
     ensures { λ r. ⌜ ReadEnd (now (t .entry)) (docOf (now (s .entry)) (now (rows .entry)) n) op task (now (s1 .entry)) (endingOf r (now (out .exit))) ⌝ }
 {
     let mut rows1 = [0u32; ROWS_SIZE];
-    read_with(t, book, s, rows, n, op, task, s1, &mut rows1, out)
+    read_with(t, book, s, rows, n, past, op, task, s1, &mut rows1, out)
 }
 
-// How a call on the opened operation of row op ends: a field that is not reached is told before the variables text is read.
-fn end_open(
+// How a call on the opened operation of row op ends, for few rows of the document: a field that is not reached is told before the variables
+// text is read. A list for each count, and not one lent to both: so the search for the field has a frame of its own, gone when the text is read.
+fn end_few(
     table: &[u8],
     book: &[u32],
     document: &[u8],
@@ -472,18 +466,21 @@ fn end_open(
     call: Call,
     out: &mut [u8],
 ) -> Ended
-    requires { ⌜ Standing (now table) (now book) (now document) (now rows) n op × (length (now variables) ≤ mostText) × (length (now out) ≡ mostCoerced) ⌝ }
+    requires { ⌜ Standing (now table) (now book) (now document) (now rows) n op × (length (now variables) ≤ mostText) × (length (now out) ≡ mostCoerced) × (n ≤ fewRows) ⌝ }
     ensures { λ r. ⌜ OpenEnd (now (table .entry)) (docOf (now (document .entry)) (now (rows .entry)) n) op call (now (variables .entry)) (endingOf r (now (out .exit))) ⌝ }
 {
+    let mut past = [0u32; FEW_ROWS];
     let Call::Arguments(row) = call else {
+        let task = Task::OfOperation;
         return read_text(
             table,
             book,
             document,
             rows,
             n,
+            &mut past,
             op,
-            Task::OfOperation,
+            task,
             variables,
             out,
         );
@@ -498,7 +495,73 @@ fn end_open(
         start: start,
         end: end,
     };
-    read_text(table, book, document, rows, n, op, task, variables, out)
+    read_text(
+        table,
+        book,
+        document,
+        rows,
+        n,
+        &mut past,
+        op,
+        task,
+        variables,
+        out,
+    )
+}
+
+// The same for more rows than few.
+fn end_many(
+    table: &[u8],
+    book: &[u32],
+    document: &[u8],
+    rows: &[u32],
+    n: usize,
+    op: usize,
+    variables: &[u8],
+    call: Call,
+    out: &mut [u8],
+) -> Ended
+    requires { ⌜ Standing (now table) (now book) (now document) (now rows) n op × (length (now variables) ≤ mostText) × (length (now out) ≡ mostCoerced) × (fewRows < n) ⌝ }
+    ensures { λ r. ⌜ OpenEnd (now (table .entry)) (docOf (now (document .entry)) (now (rows .entry)) n) op call (now (variables .entry)) (endingOf r (now (out .exit))) ⌝ }
+{
+    let mut past = [0u32; ROWS];
+    let Call::Arguments(row) = call else {
+        let task = Task::OfOperation;
+        return read_text(
+            table,
+            book,
+            document,
+            rows,
+            n,
+            &mut past,
+            op,
+            task,
+            variables,
+            out,
+        );
+    };
+    let i = row as usize;
+    let w = find_wanted(table, book, document, rows, n, op, i);
+    let Wanted::Field { start, end } = w else {
+        return Ended::NotReached;
+    };
+    let task = Task::OfField {
+        row: i,
+        start: start,
+        end: end,
+    };
+    read_text(
+        table,
+        book,
+        document,
+        rows,
+        n,
+        &mut past,
+        op,
+        task,
+        variables,
+        out,
+    )
 }
 
 // How a call ends, where the book and the rows are lent.
@@ -519,7 +582,10 @@ fn end_with(
     let Start::Open(n, op) = o else {
         return Ended::NotOpened(o);
     };
-    end_open(table, book, document, rows, n, op, variables, call, out)
+    if n <= FEW_ROWS {
+        return end_few(table, book, document, rows, n, op, variables, call, out);
+    }
+    end_many(table, book, document, rows, n, op, variables, call, out)
 }
 
 // How a call ends.

@@ -23,11 +23,11 @@ returns c =
     let a = c .before .before .before .before .before .before .before .before .before .before .before .before .before .before .before .args in
     not-opened (a .table .now) (a .document .now) (a .operation .now) (a .variables .now) _ _ (a .call) (c .before .before .before .before .before .«open» .result) (c .match .keys2) (c .before .before .before .before .before .«open» .ensures)
 
-end-open-requires : tie.Need-end-open-requires
-end-open-requires c κs =
-    let a = c .before .before .before .before .before .before .before .before .before .before .before .before .before .before .before .before .before .before .before .before .args in
-    let p = c .before .before .before .before .before .before .before .before .before .before .before .before .before .before .before .before .before .before .before .before .pre in
-    (ready-standing _ _ _ (a .variables .now) _ _ (subst (Opens (a .table .now) (a .document .now) (a .operation .now) _ _) (c .before .before .before .before .o .given .1) (c .before .before .before .before .before .before .before .before .before .before .«open» .ensures)), p .0 .1, p .3)
+end-few-requires : tie.Need-end-few-requires
+end-few-requires c κs =
+    let a = c .before .before .before .before .before .before .before .before .before .before .before .before .before .before .before .before .before .before .before .before .before .args in
+    let p = c .before .before .before .before .before .before .before .before .before .before .before .before .before .before .before .before .before .before .before .before .before .pre in
+    (ready-standing _ _ _ (a .variables .now) _ _ (subst (Opens (a .table .now) (a .document .now) (a .operation .now) _ _) (c .before .before .before .before .before .o .given .1) (c .before .before .before .before .before .before .before .before .before .before .before .«open» .ensures)), p .0 .1, p .3, c .before .before .before .if1 .taken)
 
 same-length-3 : tie.Need-same-length-3
 same-length-3 c = search needs
@@ -40,9 +40,30 @@ same-length-5 c = search needs
 
 returns-2 : tie.Need-returns-2
 returns-2 c =
-    let a = c .before .before .before .before .before .before .before .before .before .before .before .before .before .before .before .before .before .before .before .before .before .before .before .args in
-    let r = subst (Opens (a .table .now) (a .document .now) (a .operation .now) _ _) (c .before .before .before .before .before .before .before .o .given .1) (c .before .before .before .before .before .before .before .before .before .before .before .before .before .«open» .ensures) in
-    open-end (r .opened) (a .variables .now) (a .call) _ (c .before .before .end-open .ensures)
+    let a = c .before .before .before .before .before .before .before .before .before .before .before .before .before .before .before .before .before .before .before .before .before .before .before .before .args in
+    let r = subst (Opens (a .table .now) (a .document .now) (a .operation .now) _ _) (c .before .before .before .before .before .before .before .before .o .given .1) (c .before .before .before .before .before .before .before .before .before .before .before .before .before .before .«open» .ensures) in
+    open-end (r .opened) (a .variables .now) (a .call) _ (c .before .before .end-few .ensures)
+
+end-many-requires : tie.Need-end-many-requires
+end-many-requires c κs =
+    let a = c .before .before .before .before .before .before .before .before .before .before .before .before .before .before .before .before .before .before .before .before .before .args in
+    let p = c .before .before .before .before .before .before .before .before .before .before .before .before .before .before .before .before .before .before .before .before .before .pre in
+    (ready-standing _ _ _ (a .variables .now) _ _ (subst (Opens (a .table .now) (a .document .now) (a .operation .now) _ _) (c .before .before .before .before .before .o .given .1) (c .before .before .before .before .before .before .before .before .before .before .before .«open» .ensures)), p .0 .1, p .3, c .before .before .before .if1 .left)
+
+same-length-6 : tie.Need-same-length-6
+same-length-6 c = search needs
+
+same-length-7 : tie.Need-same-length-7
+same-length-7 c = search needs
+
+same-length-8 : tie.Need-same-length-8
+same-length-8 c = search needs
+
+returns-3 : tie.Need-returns-3
+returns-3 c =
+    let a = c .before .before .before .before .before .before .before .before .before .before .before .before .before .before .before .before .before .before .before .before .before .before .before .before .args in
+    let r = subst (Opens (a .table .now) (a .document .now) (a .operation .now) _ _) (c .before .before .before .before .before .before .before .before .o .given .1) (c .before .before .before .before .before .before .before .before .before .before .before .before .before .before .«open» .ensures) in
+    open-end (r .opened) (a .variables .now) (a .call) _ (c .before .before .end-many .ensures)
 
 pub end-with-spec : {M : Type 1} → statement M
 end-with-spec =
@@ -53,8 +74,13 @@ end-with-spec =
     same-length
     same-length-2
     returns
-    end-open-requires
+    end-few-requires
     same-length-3
     same-length-4
     same-length-5
-    returns-2)
+    returns-2
+    end-many-requires
+    same-length-6
+    same-length-7
+    same-length-8
+    returns-3)
