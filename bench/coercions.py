@@ -215,12 +215,12 @@ def literal_entries(length):
 
 
 def deepest():
-    """Objects in objects as deep as both texts can be, each of them lists of one at seven depths."""
+    """Objects in objects as deep as both texts can be, each of them lists of one at seven depths, and a string in the innermost."""
     type = '[[[[[[[In]]]]]]]'
     inside = MOST_LEVELS - 2      # in braces and parentheses
-    made = [input_object('In', [Member('i', type)]), query('x', type)]
+    made = [input_object('In', [Member('i', type), Member('s', 'String')]), query('x', type)]
     document = f'query($v: {type}) {{ f(x: {"{i: " * inside}$v{"}" * inside}) }}'
-    return made, document, '{v: ' + '{i: ' * (MOST_LEVELS - 2) + '{}' + '}' * (MOST_LEVELS - 2) + '}', 3
+    return made, document, '{v: ' + '{i: ' * (MOST_LEVELS - 2) + f'{{s: "{ESCAPES}"}}' + '}' * (MOST_LEVELS - 2) + '}', 3
 
 
 def reaching():

@@ -24,7 +24,7 @@ def anagrams(count):
 
 
 def bucket(name, seed=0):
-    """Where crates/index looks a name up, of 256 places, by a seed. It takes another seed where names crowd one place."""
+    """Where crates/table_book looks a name up, of 256 places, by a seed. It takes another seed where names crowd one place."""
     multiplier = (1640531527 + 1013904226 * seed) % 2**31
     h = 0
     for byte in name.encode():

@@ -2,6 +2,7 @@
    bytes are shown by number. */
 #include "cells.h"
 
+#include <stdio.h>
 #include <string.h>
 
 struct range {
@@ -61,23 +62,7 @@ struct cell cell_at(const uint8_t *bytes, size_t length, size_t at, int column) 
     return cell;
 }
 
-void print_cell(FILE *out, const struct cell *cell) {
-    if (cell->shown[0])
-        fputs(cell->shown, out);
-    else
-        fprintf(out, "%*s", cell->width, "");
-}
-
-void print_piece(FILE *out, const uint8_t *bytes, size_t length, int most) {
-    int column = 0;
-    for (size_t at = 0; at < length;) {
-        struct cell cell = cell_at(bytes, length, at, column);
-        if (column + cell.width > most) {
-            fputs("...", out);
-            return;
-        }
-        print_cell(out, &cell);
-        column += cell.width;
-        at += cell.bytes;
-    }
+size_t character_at(const uint8_t *bytes, size_t length, size_t at) {
+    uint32_t c;
+    return character(bytes + at, length - at, &c);
 }

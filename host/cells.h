@@ -4,7 +4,6 @@
 
 #include <stddef.h>
 #include <stdint.h>
-#include <stdio.h>
 
 enum { TAB_STOP = 4 };
 
@@ -17,9 +16,7 @@ struct cell {
 /* The cell at `at`; `column` is where it begins on the terminal. There is a byte at `at`. */
 struct cell cell_at(const uint8_t *bytes, size_t length, size_t at, int column);
 
-void print_cell(FILE *out, const struct cell *cell);
-
-/* Prints at most `most` columns of a piece of text, with ... where it is cut. */
-void print_piece(FILE *out, const uint8_t *bytes, size_t length, int most);
+/* The bytes of the character at `at`; 0 if it is no good UTF-8. */
+size_t character_at(const uint8_t *bytes, size_t length, size_t at);
 
 #endif

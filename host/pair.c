@@ -115,7 +115,7 @@ static struct words member_type(const struct pair *p, struct piece holder, uint3
 }
 
 struct words declared_type(const struct pair *p, uint32_t definition) {
-    static uint8_t room[GW_MOST_TEXT + 2 * GW_MOST_WRAPPERS];
+    static _Thread_local uint8_t room[GW_MOST_TEXT + 2 * GW_MOST_WRAPPERS];
     uint32_t reference = first_held(p, definition, GW_KIND_TYPE_REFERENCE), wrappers = column(p, reference, GW_ROW_EXTRA);
     uint8_t behind[GW_MOST_WRAPPERS];
     struct words base = name_at(p, reference);

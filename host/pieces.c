@@ -1,13 +1,7 @@
 /* The house fields of a type table, found and named for messages. */
 #include "pieces.h"
 
-#include "cells.h"
 #include "gateway.h"
-
-#include <stdio.h>
-#include <string.h>
-
-enum { PIECE = 60 }; /* columns of a name or type */
 
 /* The field at `at` in a holder that ends at `end`; none if it is cut short. */
 struct piece piece_at(const struct text *t, size_t at, size_t end) {
@@ -83,14 +77,6 @@ struct words text_of(const struct text *t, struct piece p) {
     return (struct words){t->bytes + p.start, p.end - p.start};
 }
 
-int same_words(struct words a, struct words b) {
-    return a.length == b.length && memcmp(a.bytes, b.bytes, a.length) == 0;
-}
-
-int is_word(struct words a, const char *word) {
-    return same_words(a, (struct words){(const uint8_t *)word, strlen(word)});
-}
-
 /* The first field of a sort with this name; tag 0 for none. */
 struct piece named(const struct text *t, struct piece holder, sort *wanted, struct words name) {
     for (uint32_t n = 0;; n++) {
@@ -159,22 +145,14 @@ const char *meaning_words(const struct text *t, struct words name) {
     }
 }
 
-void print_words(struct words w) {
-    print_piece(stdout, w.bytes, w.length, PIECE);
-}
-
-void print_text(const struct text *t, struct piece p) {
-    print_words(text_of(t, p));
-}
-
-void print_name(const struct text *t, struct piece p) {
-    print_text(t, name_of(t, p));
+void say_name(struct out *o, const struct text *t, struct piece p) {
+    say_words(o, text_of(t, name_of(t, p)));
 }
 
 /* "object Fan", "argument id": what it is and its name. In an input object 19 is an input field. */
-void print_called(const struct text *t, struct piece p, int in) {
-    printf("%s%s", p.tag == GW_TAG_ARGUMENT && in == GW_TAG_INPUT_OBJECT ? "input field" : tag_words(p.tag),
-           p.tag == GW_TAG_ROOTS ? "" : p.tag == GW_TAG_DIRECTIVE ? " @" : " ");
+void say_called(struct out *o, const struct text *t, struct piece p, int in) {
+    say(o, "%s%s", p.tag == GW_TAG_ARGUMENT && in == GW_TAG_INPUT_OBJECT ? "input field" : tag_words(p.tag),
+        p.tag == GW_TAG_ROOTS ? "" : p.tag == GW_TAG_DIRECTIVE ? " @" : " ");
     if (p.tag != GW_TAG_ROOTS)
-        print_name(t, p);
+        say_name(o, t, p);
 }

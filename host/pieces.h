@@ -2,7 +2,7 @@
 #ifndef PIECES_H
 #define PIECES_H
 
-#include "show.h"
+#include "say.h"
 
 /* A field: its tag byte's offset, its tag and where its content lies; tag 0 for none. */
 struct piece {
@@ -16,15 +16,7 @@ struct piece piece_at(const struct text *t, size_t at, size_t end);
 /* The table as what holds the records. */
 struct piece whole(const struct text *t);
 
-/* Some bytes, of a table or of a document; NULL for none. */
-struct words {
-    const uint8_t *bytes;
-    size_t length;
-};
-
 struct words text_of(const struct text *t, struct piece p);
-int same_words(struct words a, struct words b);
-int is_word(struct words a, const char *word);
 
 /* Sorts of fields, by their tags. A member is a field, argument, union member, enum value or root. */
 typedef int sort(int tag);
@@ -51,11 +43,9 @@ struct words base_of(struct words reference);
 const char *meaning_words(const struct text *t, struct words name);
 
 const char *tag_words(int tag);
-void print_words(struct words w);
-void print_text(const struct text *t, struct piece p);
-void print_name(const struct text *t, struct piece p);
+void say_name(struct out *o, const struct text *t, struct piece p);
 
 /* "object Fan", "argument id": what it is and its name. In an input object 19 is an input field. */
-void print_called(const struct text *t, struct piece p, int in);
+void say_called(struct out *o, const struct text *t, struct piece p, int in);
 
 #endif

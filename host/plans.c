@@ -3,6 +3,20 @@
 
 #include <string.h>
 
+/* ---- numbers */
+
+const uint32_t *step_at(const uint32_t *plan, uint32_t step) {
+    return plan + GW_PLAN_STEP_0 + GW_STEP_SIZE * step;
+}
+
+uint32_t first_step(const uint32_t *plan, uint32_t block) {
+    return plan[GW_PLAN_FIRSTS + block];
+}
+
+uint32_t past_steps(const uint32_t *plan, uint32_t block) {
+    return block + 1 < plan[GW_PLAN_BLOCKS] ? first_step(plan, block + 1) : plan[GW_PLAN_STEPS];
+}
+
 /* ---- names */
 
 uint32_t operation_row(const struct pair *p, struct words name) {
@@ -47,10 +61,6 @@ uint32_t block_rows(const struct pair *p, uint32_t operation, uint32_t rows[GW_M
             rows[count++] = i;
     }
     return count;
-}
-
-static int is_name_byte(uint8_t b) {
-    return b == '_' || (b >= '0' && b <= '9') || (b >= 'A' && b <= 'Z') || (b >= 'a' && b <= 'z');
 }
 
 struct words key_at(const struct pair *p, uint32_t row) {

@@ -24,6 +24,11 @@ struct plan_names {
     } fields[GW_MOST_ROWS];
 };
 
+/* The numbers of a plan's step; a block's first step, and the one past its last. */
+const uint32_t *step_at(const uint32_t *plan, uint32_t step);
+uint32_t first_step(const uint32_t *plan, uint32_t block);
+uint32_t past_steps(const uint32_t *plan, uint32_t block);
+
 /* The operation of a name, or the only one for no name; NO_ROW for none. */
 uint32_t operation_row(const struct pair *p, struct words name);
 

@@ -1,4 +1,4 @@
-/* How the host shows a plan, the pairs of a walk, and why one of them is refused. */
+/* How the host shows a plan and the pairs of a walk. */
 #ifndef SHOW_PLAN_H
 #define SHOW_PLAN_H
 
@@ -21,15 +21,8 @@ void show_dot(const struct made_plan *m);
 /* The pairs, a line each, with the names of key and field and the block of the field's selections. */
 void show_pairs(const uint32_t *pairs, uint32_t count, const struct plan_names *names);
 
-/* What a walk was asked for. */
-struct walk {
-    const struct text *table, *from; /* from: the document or the saved plan */
-    const uint32_t *plan, *blocks;
-    uint32_t block_count, object;
-    const char *type;
-};
-
-/* Refusals 14 and 15 in words. */
-void show_walk_refusal(const struct walk *w, uint32_t number);
+/* The same as members of a JSON object. */
+void json_plan(const uint32_t *plan, const struct plan_names *names);
+void json_pairs(const uint32_t *pairs, uint32_t count, const struct plan_names *names);
 
 #endif

@@ -9,10 +9,6 @@ struct token {
     size_t start, end;
 };
 
-static int is_name_byte(uint8_t b) {
-    return b == '_' || (b >= '0' && b <= '9') || (b >= 'A' && b <= 'Z') || (b >= 'a' && b <= 'z');
-}
-
 static int is_digit(const struct text *t, size_t at) {
     return at < t->length && t->bytes[at] >= '0' && t->bytes[at] <= '9';
 }

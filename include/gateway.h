@@ -1,5 +1,5 @@
 /* The gateway core's C interface: the calls, the sizes of their buffers, the refusals, the numbers in rows and tables.
-   The names are those of the lib.rt of crates/paper, crates/paper_types, crates/paper_rules, crates/paper_values and crates/paper_plan
+   The names are those of the lib.rt of crates/paper, crates/paper_table, crates/paper_query, crates/paper_values and crates/paper_plan
    with GW_ before them, query rules with GW_QUERY_, the tags of coerced values with GW_VALUE_.
 
    Every call is a pure function of its inputs: no heap, no global state, no system call; it may run in any number of
@@ -49,9 +49,9 @@ extern "C" {
 #define GW_PARSE_STACK 20480
 #define GW_CHECK_TABLE_STACK 24576
 #define GW_CHECK_STACK 131072
-#define GW_COERCE_VARIABLES_STACK 425984
-#define GW_COERCE_ARGUMENTS_STACK 589824
-#define GW_PLAN_STACK 720896
+#define GW_COERCE_VARIABLES_STACK 212992
+#define GW_COERCE_ARGUMENTS_STACK 212992
+#define GW_PLAN_STACK 270336
 #define GW_WALK_STACK 32768
 
 /* What a call answers, which is also report[0]. Shown: report[1], of refusal 9 report[1] to report[5], of 10 report[1] and

@@ -1,5 +1,5 @@
 #!/usr/bin/env python3
-"""Holds include/gateway.h to the lib.rt of crates/paper, crates/paper_types, crates/paper_rules, crates/paper_values and
+"""Holds include/gateway.h to the lib.rt of crates/paper, crates/paper_table, crates/paper_query, crates/paper_values and
 crates/paper_plan: each number of the one is in the other, with GW_ before its name, a query rule with GW_QUERY_, the tag of a coerced
 value with GW_VALUE_.
 
@@ -26,13 +26,15 @@ def numbers(path, pattern):
 
 def main():
     code = {}
-    for crate in ('paper', 'paper_types'):
+    for crate in ('paper', 'paper_table'):
         code.update(numbers(f'crates/{crate}/src/lib.rt', NUMBER))
-    for name, number in numbers('crates/paper_rules/src/lib.rt', NUMBER).items():
+    for name, number in numbers('crates/paper_query/src/lib.rt', NUMBER).items():
         code['QUERY_' + name if name.startswith('RULE_') else name] = number
     for name, number in numbers('crates/paper_values/src/lib.rt', NUMBER).items():
         code[VALUES.get(name, name.replace('TAG_', 'VALUE_'))] = number
     code.update(numbers('crates/paper_plan/src/lib.rt', NUMBER))
+    # the records' tags as 32-bit numbers are the tags
+    code = {name: number for name, number in code.items() if not (name.startswith('RECORD_') and code[name.replace('RECORD_', 'TAG_')] == number)}
     header = numbers('include/gateway.h', r'^#define GW_(\w+) (\d+)\b')
     code.update({name: number for name, number in PLANS.items() if name not in code})
     for call in ('PARSE', 'CHECK_TABLE', 'CHECK', 'COERCE_VARIABLES', 'COERCE_ARGUMENTS', 'PLAN', 'WALK'):

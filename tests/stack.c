@@ -129,6 +129,26 @@ static void note_deep_ones(void) {
     }
 }
 
+/* Fragments one in the other, as many as there may be, each so many inline fragments deep: as many levels as a plan goes. */
+static void note_deep_fragments(void) {
+    enum { FRAGMENTS = 64, INLINE = 28 };
+    char text[32];
+    length = 0;
+    put("{...F0}", 1);
+    for (int f = 0; f < FRAGMENTS; f++) {
+        snprintf(text, sizeof text, "fragment F%d on Query{", f);
+        put(text, 1);
+        put("...{", INLINE);
+        if (f + 1 < FRAGMENTS)
+            snprintf(text, sizeof text, "...F%d", f + 1);
+        else
+            snprintf(text, sizeof text, "a");
+        put(text, 1);
+        put("}", INLINE + 1);
+    }
+    note_document();
+}
+
 static size_t read_file(const char *path, uint8_t *room, size_t size) {
     FILE *file = fopen(path, "rb");
     if (!file) {
@@ -183,6 +203,7 @@ int main(int argc, char **argv) {
     memcpy(table, small_table, table_length);
     note(&most_check_table, check_table);
     note_deep_ones();
+    note_deep_fragments();
     for (int i = 1; i < argc; i++)
         if (is_row(argv[i]))
             note_coercion(argv[i]);

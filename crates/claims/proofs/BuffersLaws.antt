@@ -17,12 +17,12 @@ use Rattle.paper.specs.Calls.{filled, Parsed, short-report, short-rows, over-le
 use Rattle.paper.specs.declared.Refusal.{Refusal}
 use Rattle.paper.specs.declared.Refusal.the-variants.{Buffer, OverLength, NoToken, NoGoing, TooDeep, TooManyRows, TooMany}
 use Rattle.paper.proofs.Lexing.{from}
-use Rattle.theory.proofs.TokensLaws.{tokens-from}
-use Rattle.theory.proofs.RowCells.{flat-length}
+use Rattle.paper_theory.proofs.TokensLaws.{tokens-from}
+use Rattle.paper_theory.proofs.RowCells.{flat-length}
 use Rattle.paper.proofs.Going.{start, Out, whole, halt, go}
-use Rattle.theory.proofs.GoingSaid.{going-whole, going-halt}
-use Rattle.theory.proofs.CallsGoing.{from-rising}
-use Rattle.theory.proofs.SaidOne.{said-one}
+use Rattle.paper_theory.proofs.GoingSaid.{going-whole, going-halt}
+use Rattle.paper_theory.proofs.CallsGoing.{from-rising}
+use Rattle.paper_theory.proofs.SaidOne.{said-one}
 
 -- rows fit their buffer
 rows-inj : {rs rs′ : List Row} → rows-are rs ≡ rows-are rs′ → rs ≡ rs′

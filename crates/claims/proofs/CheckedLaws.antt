@@ -10,11 +10,11 @@ use Rattle.paper.specs.Numbers.{reportSize}
 use Rattle.paper.specs.Refusals.{numberOf}
 use Rattle.paper.specs.Calls.{tells}
 use Rattle.paper.specs.declared.Refusal.the-variants.{Buffer, OverLength}
-use Rattle.paper_types.specs.TableNumbers.{mostTable, inputTable}
-use Rattle.paper_types.specs.Judging.{judge, tableNumber, tableShown}
-use Rattle.paper_types.specs.TableCalls.{tellsTable, Checked, short-report, over-length, judges}
-use Rattle.paper_types.specs.declared.TableAnswer.{TableAnswer}
-use Rattle.paper_types.specs.declared.TableAnswer.the-variants.{Accepted, Framing, TooMany, Breaks}
+use Rattle.paper_table.specs.TableNumbers.{mostTable, inputTable}
+use Rattle.paper_table.specs.Judging.{judge, tableNumber, tableShown}
+use Rattle.paper_table.specs.TableCalls.{tellsTable, Checked, short-report, over-length, judges}
+use Rattle.paper_table.specs.declared.TableAnswer.{TableAnswer}
+use Rattle.paper_table.specs.declared.TableAnswer.the-variants.{Accepted, Framing, TooMany, Breaks}
 use Rattle.claims.proofs.BuffersLaws.{filled-kept}
 
 -- some result is as `Checked` says

@@ -11,8 +11,8 @@ use Rattle.paper.specs.Refusals.{numberOf, shownInText}
 use Rattle.paper.specs.Calls.{filled, tells}
 use Rattle.paper.specs.declared.Refusal.{Refusal}
 use Rattle.paper.specs.declared.Refusal.the-variants.{OverLength}
-use Rattle.paper_types.specs.TableNumbers.{mostTable, inputTable}
-use Rattle.paper_rules.specs.Opening.{stops, opens, Opened, no-operation}
+use Rattle.paper_table.specs.TableNumbers.{mostTable, inputTable}
+use Rattle.paper_query.specs.Opening.{stops, opens, Opened, no-operation}
 use Rattle.paper_values.specs.ValueNumbers.{mostCoerced}
 use Rattle.paper_values.specs.Encoding.{encode}
 use Rattle.paper_values.specs.ValueCalls as calls
@@ -20,7 +20,7 @@ use Rattle.claims.proofs.BuffersLaws.{said-number}
 use Rattle.claims.proofs.CoercionsLaws as coerced
 use Rattle.claims.proofs.CoercionsLaws.{Ends, stopped, unread, wrong, long, fits, Stopped}
 use Rattle.claims.proofs.CoercionsStops.{opening-stops, Unnamed, unnamed-if, ended-long, ended-fits, by-length}
-use Rattle.paper_rules.specs.DocumentCalls.{read}
+use Rattle.paper_query.specs.DocumentCalls.{read}
 use Rattle.paper_values.specs.Values.{At, Tree, Out, Got, No}
 use Rattle.paper_values.specs.DocumentDues.{ReachedField}
 use Rattle.paper_values.specs.ValueCalls.{Ending, ends, yields, ended, ArgumentsEnd, Lent, Short, CoercedArguments}

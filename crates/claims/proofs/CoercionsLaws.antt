@@ -10,7 +10,7 @@ use Rattle.paper.specs.Refusals.{numberOf, shownInText}
 use Rattle.paper.specs.Calls.{filled, tells}
 use Rattle.paper.specs.declared.Refusal.{Refusal}
 use Rattle.paper.specs.declared.Refusal.the-variants.{Buffer, OverLength, NoToken, NoGoing, TooDeep, TooManyRows, TooMany}
-use Rattle.paper_types.specs.TableNumbers.{mostTable, inputTable}
+use Rattle.paper_table.specs.TableNumbers.{mostTable, inputTable}
 use Rattle.paper_values.specs.ValueNumbers.{refuseValue, refuseTooLong, mostCoerced}
 use Rattle.paper_values.specs.Values.{At, Tree}
 use Rattle.paper_values.specs.Encoding.{encode}

@@ -13,17 +13,17 @@ use Rattle.paper.specs.Language.{Document, VariablesText}
 use Rattle.paper.specs.Tokens.{Text, Tokens}
 use Rattle.paper.specs.Rows.{Row}
 use Rattle.paper.specs.Reading.{Answer, rows-are, refuses, Said}
-use Rattle.paper_types.specs.TableNumbers.{mostTable}
-use Rattle.paper_types.specs.Types.{Table, tableOf}
-use Rattle.paper_types.specs.Judging.{judge}
-use Rattle.paper_types.specs.declared.TableAnswer.{TableAnswer}
-use Rattle.paper_types.specs.declared.TableAnswer.the-variants.{Accepted, Framing, TooMany, Breaks as TableBreaks}
-use Rattle.paper_rules.specs.Constructs.{Doc}
-use Rattle.paper_rules.specs.QueryRules.{Broken, NotAfter, Judged, no-break, least-break}
-use Rattle.paper_rules.specs.DocumentCalls.{read}
-use Rattle.paper_rules.specs.Opening.{AcceptedDocument, operationMeant, Outcome, stops, opens, Opened, table-refused, text-refused, rule-broken, no-operation, opened}
-use Rattle.paper_rules.specs.declared.QueryAnswer.{QueryAnswer}
-use Rattle.paper_rules.specs.declared.QueryAnswer.the-variants.{Fits, Breaks}
+use Rattle.paper_table.specs.TableNumbers.{mostTable}
+use Rattle.paper_table.specs.Types.{Table, tableOf}
+use Rattle.paper_table.specs.Judging.{judge}
+use Rattle.paper_table.specs.declared.TableAnswer.{TableAnswer}
+use Rattle.paper_table.specs.declared.TableAnswer.the-variants.{Accepted, Framing, TooMany, Breaks as TableBreaks}
+use Rattle.paper_query.specs.Constructs.{Doc}
+use Rattle.paper_query.specs.QueryRules.{Broken, NotAfter, Judged, no-break, least-break}
+use Rattle.paper_query.specs.DocumentCalls.{read}
+use Rattle.paper_query.specs.Opening.{AcceptedDocument, operationMeant, Outcome, stops, opens, Opened, table-refused, text-refused, rule-broken, no-operation, opened}
+use Rattle.paper_query.specs.declared.QueryAnswer.{QueryAnswer}
+use Rattle.paper_query.specs.declared.QueryAnswer.the-variants.{Fits, Breaks}
 use Rattle.paper_values.specs.ValueNumbers.{mostCoerced}
 use Rattle.paper_values.specs.Kinds.{kindOfType}
 use Rattle.paper_values.specs.DocumentDues.{ReachedField}
@@ -55,12 +55,12 @@ module _ (t : Table) (d : Doc) (h : (a : QueryAnswer) → Judged t d a → ⊥) 
   none-before zero j l z b = omega (arith, z)
   none-before (suc i) j l z b = none-in-row j (λ x y w. none-before i x y (omega (arith, z, w))) (suc l) l (omega arith) b
 
-  unjudged : ⊥
+  pub unjudged : ⊥
   unjudged = h Fits (no-break (λ i k b. none-before (suc i) i k (omega arith) b))
 
 -- ---- opening
 
-accepts-or-not : (a : TableAnswer) → Dec (a ≡ Accepted)
+pub accepts-or-not : (a : TableAnswer) → Dec (a ≡ Accepted)
 accepts-or-not Accepted = yes refl
 accepts-or-not (Framing at) = no (λ e. let z : _≡_ {A = ℕ} 0 1 = cc in omega arith)
 accepts-or-not (TooMany at) = no (λ e. let z : _≡_ {A = ℕ} 0 1 = cc in omega arith)
@@ -83,7 +83,7 @@ module _ (table document name : List ℕ) (h : (o : Outcome) → Opened table do
   of-table (yes j) = let t = tokens-some document in let s = said-of Document (t .1) in of-text j (t .0) (t .1) (s .0) (s .1)
   of-table (no n) = h _ (table-refused refl n)
 
-  unopened : ⊥
+  pub unopened : ⊥
   unopened = of-table (accepts-or-not (judge table))
 
 -- ---- how the calls end

@@ -12,11 +12,11 @@ use Rattle.paper.specs.Rows.{Row}
 use Rattle.paper.specs.Refusals.{numberOf, shownOf}
 use Rattle.paper.specs.declared.Refusal.{Refusal}
 use Rattle.paper.specs.declared.Refusal.the-variants.{Buffer, OverLength, NoToken, NoGoing, TooDeep, TooManyRows, TooMany}
-use Rattle.paper_types.specs.Judging.{tableNumber, tableShown}
-use Rattle.paper_types.specs.declared.TableAnswer.{TableAnswer}
-use Rattle.paper_types.specs.declared.TableAnswer.the-variants as answers
-use Rattle.paper_rules.specs.DocumentCalls.{read}
-use Rattle.paper_rules.specs.Opening.{AcceptedDocument, operationMeant, Outcome, stops, opens, Opened, table-refused, text-refused, rule-broken, no-operation, opened}
+use Rattle.paper_table.specs.Judging.{tableNumber, tableShown}
+use Rattle.paper_table.specs.declared.TableAnswer.{TableAnswer}
+use Rattle.paper_table.specs.declared.TableAnswer.the-variants as answers
+use Rattle.paper_query.specs.DocumentCalls.{read}
+use Rattle.paper_query.specs.Opening.{AcceptedDocument, operationMeant, Outcome, stops, opens, Opened, table-refused, text-refused, rule-broken, no-operation, opened}
 use Rattle.paper_values.specs.ValueNumbers.{mostCoerced}
 use Rattle.paper_values.specs.Values.{At, Tree, Got}
 use Rattle.paper_values.specs.Encoding.{encode}

@@ -1,4 +1,4 @@
--- Words that the promises of the coercing calls are said with: abbreviations of what `crates/paper_values/specs` and `crates/paper_rules/specs` define, no more.
+-- Words that the promises of the coercing calls are said with: abbreviations of what `crates/paper_values/specs` and `crates/paper_query/specs` define, no more.
 -- Assumes nothing.
 use mathlib.Core.List.{List, [], _∷_}
 use Prim.Native.Nat.{ℕ}
@@ -10,10 +10,10 @@ use Rattle.paper.specs.Rows.{Row}
 use Rattle.paper.specs.Reading.{rows-are, refuses, Said}
 use Rattle.paper.specs.Calls.{filled}
 use Rattle.paper.specs.declared.Refusal.{Refusal}
-use Rattle.paper_types.specs.Types.{tableOf}
-use Rattle.paper_rules.specs.Enclosing.{fieldAt}
-use Rattle.paper_rules.specs.DocumentCalls.{read}
-use Rattle.paper_rules.specs.Opening.{opens, Opened}
+use Rattle.paper_table.specs.Types.{tableOf}
+use Rattle.paper_query.specs.Enclosing.{fieldAt}
+use Rattle.paper_query.specs.DocumentCalls.{read}
+use Rattle.paper_query.specs.Opening.{opens, Opened}
 use Rattle.paper_values.specs.ValueNumbers.{mostCoerced}
 use Rattle.paper_values.specs.Values.{Tree, Pairs, Out}
 use Rattle.paper_values.specs.Kinds.{kindOfType}

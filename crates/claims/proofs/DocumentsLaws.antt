@@ -14,18 +14,18 @@ use Rattle.paper.specs.Reading.{Fault, no-token, no-going, no-end, too-deep, to
 use Rattle.paper.specs.Calls.{tells, Parsed, reads}
 use Rattle.paper.specs.declared.Refusal.{Refusal}
 use Rattle.paper.specs.declared.Refusal.the-variants.{Buffer, OverLength}
-use Rattle.paper_types.specs.TableNumbers.{inputTable}
-use Rattle.paper_types.specs.Types.{Table, tableOf}
-use Rattle.paper_types.specs.Judging.{judge, tableNumber, tableShown}
-use Rattle.paper_types.specs.declared.TableAnswer.{TableAnswer}
-use Rattle.paper_types.specs.TableCalls.{tellsTable}
-use Rattle.paper_types.specs.declared.TableAnswer.the-variants.{Accepted, Framing, TooMany, Breaks as TableBreaks}
-use Rattle.paper_rules.specs.QueryNumbers.{refuseQuery}
-use Rattle.paper_rules.specs.Constructs.{Doc}
-use Rattle.paper_rules.specs.QueryRules.{Broken, NotAfter, Judged, no-break, least-break}
-use Rattle.paper_rules.specs.DocumentCalls.{read, Lent, Short, CheckedDocument, short-report, short-rows, long-document, long-table, refuses-table, refuses-text, breaks-rule, accepts}
-use Rattle.paper_rules.specs.declared.QueryAnswer.the-variants.{Fits, Breaks}
-use Rattle.paper_rules.proofs.DocumentCallsOne.{checked-document-one}
+use Rattle.paper_table.specs.TableNumbers.{inputTable}
+use Rattle.paper_table.specs.Types.{Table, tableOf}
+use Rattle.paper_table.specs.Judging.{judge, tableNumber, tableShown}
+use Rattle.paper_table.specs.declared.TableAnswer.{TableAnswer}
+use Rattle.paper_table.specs.TableCalls.{tellsTable}
+use Rattle.paper_table.specs.declared.TableAnswer.the-variants.{Accepted, Framing, TooMany, Breaks as TableBreaks}
+use Rattle.paper_query.specs.QueryNumbers.{refuseQuery}
+use Rattle.paper_query.specs.Constructs.{Doc}
+use Rattle.paper_query.specs.QueryRules.{Broken, NotAfter, Judged, no-break, least-break}
+use Rattle.paper_query.specs.DocumentCalls.{read, Lent, Short, CheckedDocument, short-report, short-rows, long-document, long-table, refuses-table, refuses-text, breaks-rule, accepts}
+use Rattle.paper_query.specs.declared.QueryAnswer.the-variants.{Fits, Breaks}
+use Rattle.paper_query.proofs.DocumentCallsOne.{checked-document-one}
 use Rattle.claims.proofs.BuffersLaws.{filled-kept, filled-head, flat-fits, tells-fits, said-number}
 use Rattle.claims.proofs.CheckedLaws.{told-fits}
 
@@ -98,7 +98,7 @@ module _ {table document rows report rows′ report′ : List ℕ} where
   accepted-exactly c = (to-accepted c, λ h. checked-document-one c (accepts (h .0) (h .1) (h .2) (h .3 .1 .1) (h .3 .1 .2) (no-break (h .3 .2)) refl refl) .0)
 
   -- 10: all is kept to but a rule, and the report shows the least row and its least rule
-  to-broken : {a : ℕ} → CheckedDocument table document rows report rows′ report′ a → a ≡ 10 →
+  pub to-broken : {a : ℕ} → CheckedDocument table document rows report rows′ report′ a → a ≡ 10 →
       Lent rows report × Short table document × (judge table ≡ Accepted) × ((rs : List Row) × (i : ℕ) × (k : ℕ) × Rows document rs × LeastBreak (tableOf table) (read document rs) i k × (take 3 report′ ≡ 10 ∷ i ∷ k ∷ []))
   to-broken (short-report h e f) l = let z : ⊥ = omega arith in absurd z
   to-broken (short-rows h w e f) l = let z : ⊥ = omega arith in absurd z

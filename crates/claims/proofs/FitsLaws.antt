@@ -18,13 +18,13 @@ use Rattle.paper.specs.Reading.{tokensOf, classesOf, placeOf, Whole, whole-toke
 use Rattle.paper.specs.declared.Refusal.{Refusal}
 use Rattle.paper.specs.declared.Refusal.the-variants.{TooDeep, TooManyRows, TooMany}
 use Rattle.paper.proofs.Machine.{took, step}
-use Rattle.theory.proofs.Theory.{Kept, kept-step, accepted≢stopped}
+use Rattle.paper_theory.proofs.Theory.{Kept, kept-step, accepted≢stopped}
 use Rattle.paper.proofs.Tables.{graphql}
-use Rattle.theory.proofs.Checked.{fits, follow}
-use Rattle.theory.proofs.SameLanguage.{language→factored}
-use Rattle.theory.proofs.ReadingLaws.{accepted-only, stops-only}
+use Rattle.paper_theory.proofs.Checked.{fits, follow}
+use Rattle.paper_theory.proofs.SameLanguage.{language→factored}
+use Rattle.paper_theory.proofs.ReadingLaws.{accepted-only, stops-only}
 use Rattle.paper.proofs.Going.{Stack}
-use Rattle.theory.proofs.GoingSums.{SummedBy, summed-first, summed-next}
+use Rattle.paper_theory.proofs.GoingSums.{SummedBy, summed-first, summed-next}
 
 abbrev Evs : Type 0
 Evs = List (Ev Class Mark)

@@ -9,19 +9,20 @@ use native.Mathlib.Omega.{arith}
 use lib.Dec.{leb}
 use lib.ListN.{getD}
 use borrow.Author.Tests.{leb-true, leb-false}
-use Rattle.paper_types.specs.House.{pieces, tableWrongs, mostDeep, smaller, smallest, framing}
-use Rattle.paper_types.specs.TableSizes.{roomInTable, oversIn, overs, counts}
-use Rattle.paper_types.specs.Types.{tableOf}
-use Rattle.paper_types.specs.References.{Ref}
-use Rattle.paper_types.specs.SubTypes.{SubType, subTest}
-use Rattle.paper_types.specs.Judging.{Break, breaks, numbersOf, before, leastBreak, answer, judge, tableShown}
-use Rattle.paper_types.specs.declared.TableAnswer.{TableAnswer}
-use Rattle.paper_types.specs.declared.TableAnswer.the-variants.{Accepted, Framing, TooMany, Breaks}
-use Rattle.paper_types.proofs.Before.{Before, empty, less, same, before-complete, before-sound}
-use Rattle.paper_types.proofs.LeastLaws.{least-member, least-least, least-none}
-use Rattle.paper_types.proofs.BreaksLaws.{breaks-sound, breaks-complete, breaks-none, breaks-nil}
-use Rattle.paper_types.proofs.JudgingLaws.{judge-framing, judge-too-many, judge-accepted, judge-breaks}
-use Rattle.paper_types.proofs.SubTypesLaws.{subTest-sound, subTest-complete}
+use Rattle.paper_table.specs.House.{pieces, tableWrongs, mostDeep, smaller, smallest, framing}
+use Rattle.paper_table.specs.TableSizes.{roomInTable, oversIn, overs, counts}
+use Rattle.paper_table.specs.Types.{tableOf}
+use Rattle.paper_table.specs.References.{Ref, refOf}
+use Rattle.paper_table.specs.SubTypes.{SubType, subTest}
+use Rattle.paper_table.specs.Judging.{Break, breaks, numbersOf, before, leastBreak, answer, judge, tableShown}
+use Rattle.paper_table.specs.declared.TableAnswer.{TableAnswer}
+use Rattle.paper_table.specs.declared.TableAnswer.the-variants.{Accepted, Framing, TooMany, Breaks}
+use Rattle.paper_table.proofs.Before.{Before, empty, less, same, before-complete, before-sound}
+use Rattle.paper_table.proofs.LeastLaws.{least-member, least-least, least-none}
+use Rattle.paper_table.proofs.BreaksLaws.{breaks-sound, breaks-complete, breaks-none, breaks-nil}
+use Rattle.paper_table.proofs.JudgingLaws.{judge-framing, judge-too-many, judge-accepted, judge-breaks}
+use Rattle.paper_table.proofs.SubTypesLaws.{subTest-sound, subTest-complete}
+use Rattle.paper_table.proofs.ReferenceTexts.{refText, Written, refOf-sound, refOf-complete}
 
 none≢some : {A : Type 0} {x : A} → _≡_ {A = Option A} none (some x) → ⊥
 none≢some e = true≢false cc
@@ -149,3 +150,10 @@ breaks-shown s i k m p a = (to, from)
 -- the sub-type test, exactly
 pub sub-type-exactly : (can : List ℕ → List ℕ → Bool) (r q : Ref) → (subTest can r q ≡ true) ↔ SubType can r q
 sub-type-exactly can r q = (subTest-sound can r q, subTest-complete can)
+
+-- a type reference is read from its own text alone
+reference-read : (s : List ℕ) (r : Ref) → Written r × (refText r ≡ s) → refOf s ≡ some r
+reference-read s r (w, e) = subst (λ (z : List ℕ). refOf z ≡ some r) e (refOf-complete r w)
+
+pub reference-exactly : (s : List ℕ) (r : Ref) → (refOf s ≡ some r) ↔ (Written r × (refText r ≡ s))
+reference-exactly s r = (refOf-sound s r, reference-read s r)

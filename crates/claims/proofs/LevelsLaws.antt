@@ -73,12 +73,12 @@ opened c p h o = go (opens c) (closes c) o
     go false true l = let z : ⊥ = omega arith in absurd z
     go false false l = let z : ⊥ = omega arith in absurd z
 
--- the first sums whose levels are over
-levels-before : (n : Part) (ts : List Class) (k : ℕ) (m : Sums) (s : Summed n ts k m) → ((j : ℕ) (m′ : Sums) → j < k → Summed n ts j m′ → overLevels m′ ≡ false) →
-    sums (through k (s .events)) nothing .levels ≤ mostLevels
+-- a test of the sums that no token before fails, is not failed just before the token
+pub test-before : (test : Sums → Bool) → test nothing ≡ false → (n : Part) (ts : List Class) (k : ℕ) (m : Sums) (s : Summed n ts k m) → ((j : ℕ) (m′ : Sums) → j < k → Summed n ts j m′ → test m′ ≡ false) →
+    test (sums (through k (s .events)) nothing) ≡ false
 unfolding through sums
-levels-before n ts zero m s f = omega arith
-levels-before n ts (suc j) m s f = ltb-false mostLevels (sums (through (suc j) (s .events)) nothing .levels) (f j (sums (through (suc j) (s .events)) nothing) (omega arith) (summed-before n ts j m s))
+test-before test z n ts zero m s f = z
+test-before test z n ts (suc j) m s f = f j (sums (through (suc j) (s .events)) nothing) (omega arith) (summed-before n ts j m s)
 
 module _ (n : Part) (ts : List Class) (k : ℕ) (m : Sums) (s : Summed n ts k m) (o : T (overLevels m)) where
   pub opens-33 : ((j : ℕ) (m′ : Sums) → j < k → Summed n ts j m′ → overLevels m′ ≡ false) → (m .levels ≡ suc mostLevels) × ((c : Class) × (r : List Class) × (drop k ts ≡ c ∷ r) × T (opens c))
@@ -87,5 +87,5 @@ module _ (n : Part) (ts : List Class) (k : ℕ) (m : Sums) (s : Summed n ts k m)
       let e : drop k (toks (s .events)) ≡ a .0 ∷ s .later = ap (drop k) (s .reads .1) ∙ place-in-front ts k (a .0) (a .1) (s .later) (a .2) in
       let q : sums (through (suc k) (s .events)) nothing .levels ≡ leveled (a .0) (sums (through k (s .events)) nothing .levels) = through-levels (s .events) k nothing (a .0) (s .later) e in
       let v : m .levels ≡ leveled (a .0) (sums (through k (s .events)) nothing .levels) = ap (λ (z : Sums). z .levels) (sym (s .are)) ∙ q in
-      let p = opened (a .0) (sums (through k (s .events)) nothing .levels) (levels-before n ts k m s f) (subst (λ (z : ℕ). mostLevels < z) v (ltb→lt mostLevels (m .levels) o)) in
+      let p = opened (a .0) (sums (through k (s .events)) nothing .levels) (ltb-false mostLevels (sums (through k (s .events)) nothing .levels) (test-before overLevels refl n ts k m s f)) (subst (λ (z : ℕ). mostLevels < z) v (ltb→lt mostLevels (m .levels) o)) in
       (v ∙ p .0, (a .0, a .1, a .2, p .1))

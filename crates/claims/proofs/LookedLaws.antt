@@ -2,12 +2,12 @@
 use mathlib.Core.Path.{_≡_, refl, sym, ap}
 use mathlib.Core.List.{List}
 use Prim.Native.Nat.{ℕ, _<_}
-use Rattle.paper_types.specs.TableNumbers.{tagField}
-use Rattle.paper_types.specs.Types.{Argument, Member, Definition}
-use Rattle.index.specs.Book.{countIn}
-use Rattle.members.specs.Members.{membersIn, argumentsIn, memberFrom}
-use Rattle.members.proofs.MemberLaws.{field-is}
-use Rattle.types.specs.Booked.{Booked, startIn, endIn, definitionOn}
+use Rattle.paper_table.specs.TableNumbers.{tagField}
+use Rattle.paper_table.specs.Types.{Argument, Member, Definition}
+use Rattle.table_book.specs.Book.{countIn}
+use Rattle.table_members.specs.Members.{membersIn, argumentsIn, memberFrom}
+use Rattle.table_members.proofs.MemberLaws.{field-is}
+use Rattle.table_types.specs.Booked.{Booked, startIn, endIn, definitionOn}
 
 pub definition-members : (t book : List ℕ) → Booked t book → (i : ℕ) → i < countIn book → membersIn t (startIn book i) (endIn book i) ≡ definitionOn t i .members
 definition-members t book b i h = sym (ap (λ (d : Definition). d .members) (b .entered i h .is))

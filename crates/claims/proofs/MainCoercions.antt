@@ -15,21 +15,21 @@ use Rattle.paper.specs.Refusals.{numberOf, shownInText}
 use Rattle.paper.specs.Calls.{filled, tells}
 use Rattle.paper.specs.declared.Refusal.{Refusal}
 use Rattle.paper.specs.declared.Refusal.the-variants.{OverLength}
-use Rattle.paper_types.specs.Lists.{bytes}
-use Rattle.paper_types.specs.TableNumbers.{mostTable, inputTable, tagScalar, tagEnum, tagInputObject, tagArgument, tagEnumValue}
-use Rattle.paper_types.specs.References.{Ref, named, listOf, nonNull, isNonNull}
-use Rattle.paper_types.specs.Types.{Table}
-use Rattle.paper_rules.specs.Constructs.{Doc}
-use Rattle.paper_rules.specs.DocumentCalls.{read}
-use Rattle.paper_rules.specs.Opening.{AcceptedDocument, operationMeant, stops, opens, Opened}
+use Rattle.paper_table.specs.Lists.{bytes}
+use Rattle.paper_table.specs.TableNumbers.{mostTable, inputTable, tagScalar, tagEnum, tagInputObject, tagArgument, tagEnumValue}
+use Rattle.paper_table.specs.References.{Ref, named, listOf, nonNull, isNonNull}
+use Rattle.paper_table.specs.Types.{Table}
+use Rattle.paper_query.specs.Constructs.{Doc}
+use Rattle.paper_query.specs.DocumentCalls.{read}
+use Rattle.paper_query.specs.Opening.{AcceptedDocument, operationMeant, stops, opens, Opened}
 use Rattle.paper_values.specs.ValueNumbers.{mostCoerced, reasonKind, reasonRange, reasonMissing, reasonNull, reasonUnknown, reasonRepeated, reasonEnum, reasonSurrogate}
 use Rattle.paper_values.specs.Written.{fourBytes}
 use Rattle.paper_values.specs.Characters.{charactersOf}
 use Rattle.paper_values.specs.NumberTokens.{intOf}
 use Rattle.paper_values.specs.Signed.{numberWritten, numberHeld, isInt}
-use Rattle.paper_values.specs.Values.{Name, At, Value, variable, integer, string, null, object, Entries, close, entry, Due, Tree, Null, Bits, Fields, Pairs, nothing, pair, Out, Got, No}
+use Rattle.paper_values.specs.Values.{Name, At, Value, Values, variable, integer, string, null, object, Entries, close, entry, Due, Tree, Null, Bits, Fields, Pairs, nothing, pair, Out, Got, No}
 use Rattle.paper_values.specs.Kinds.{Kind, Int, kindOfType}
-use Rattle.paper_values.specs.Coercion.{heads, repeated, unknown, coerce, variablesOf, argumentsOf}
+use Rattle.paper_values.specs.Coercion.{Given, heads, repeated, unknown, coerce, coerceAll, variablesOf, argumentsOf}
 use Rattle.paper_values.specs.CoercionRules.{plain, one, asInput, Coerces}
 use Rattle.paper_values.specs.CallRules.{CoercesVariables, CoercesArguments}
 use Rattle.paper_values.specs.Encoding.{encode}
@@ -44,6 +44,7 @@ use Rattle.paper_values.proofs.CallsExact as calls-exact
 use Rattle.paper_values.proofs.ValueCallsOne as calls-one
 use Rattle.paper_values.proofs.TagInt as tag-int
 use Rattle.paper_values.proofs.TrapInt as trap
+use Rattle.paper_values.proofs.TrapOrder as order
 use Rattle.paper_values.proofs.ReasonsExact as reasons
 use Rattle.paper_values.proofs.RowsApart as rows-apart
 use Rattle.paper_values.proofs.ExamplesCoercion as examples
@@ -85,6 +86,19 @@ int-held = tag-int.int-held
 -- 01's trap: a test that narrows the number to 32 bits before it compares takes 4294967297 for 1, which `intOf` refuses. So it is another test.
 pub narrowing-differs : ((s : List ℕ) → narrowedIntOf s ≡ intOf s) → ⊥
 narrowing-differs = trap.narrowing-differs
+
+-- ---- WRONG PROGRAMS, each refuted on a worked example
+
+-- An object's refusals are told in definition order: not as its entries are written, and not by the least row.
+pub written-order-differs : ((gs : List Given) (ds : List Due) → order.writtenFirst (order.right gs ds) gs ds ≡ order.right gs ds) → ⊥
+written-order-differs = order.written-differs
+
+pub least-row-differs : ((gs : List Given) (ds : List Due) → order.leastRow (record { text = 0; row = 0 }) gs ds ≡ order.right gs ds) → ⊥
+least-row-differs = order.least-differs
+
+-- An absent variable in a list is null; it is not left out.
+pub item-left-out-differs : ((vs : Values) (r : Ref) → order.itemsLeft vs r ≡ coerceAll order.kinds order.unset vs r) → ⊥
+item-left-out-differs = order.leaving-differs
 
 -- ---- ONE RESULT OR REFUSAL
 
@@ -180,7 +194,7 @@ row-apart = rows-apart.row-apart
 -- ---- 01'S EXAMPLES
 
 -- input In {a: String, b: Int!}, scalar S, enum E {A}
-abbrev types : Table
+abbrev pub types : Table
 types =
     record {
       tag = tagInputObject;
@@ -194,10 +208,10 @@ types =
     []
 
 -- row i of the document; what a value is at a type, where no variable is set
-abbrev here : ℕ → At
+abbrev pub here : ℕ → At
 here i = record { text = 0; row = i }
 
-abbrev give : Ref → Value → Out Tree
+abbrev pub give : Ref → Value → Out Tree
 give r v = coerce (kindOfType types) (λ n. none) v r
 
 -- (1) to (7), over one list.

@@ -2,36 +2,46 @@
 -- What the words mean, and is to be believed, stands in `crates/paper_plan/specs`, and in the specs that `Main` names.
 -- Assumes nothing.
 use mathlib.Core.Path.{_≡_}
-use mathlib.Core.Bool.{true}
+use mathlib.Core.Bool.{Bool, true}
 use mathlib.Core.List.{List, _∷_, [], _++_, map}
 use mathlib.Core.Logic.{_⊎_, _↔_}
 use Prim.Native.Nat.{ℕ, _-_, _*_, _≤_, _<_}
+use Prim.Native.String.{String}
 use lib.Dec.{eqb}
 use lib.ListN.{length, getD, take, drop, replicate}
 use Rattle.paper.specs.Numbers.{reportSize}
 use Rattle.paper.specs.Rows.{Row}
 use Rattle.paper.specs.Calls.{filled}
-use Rattle.paper_types.specs.TableNumbers.{mostTable}
-use Rattle.paper_types.specs.Types.{tableOf, isObject}
-use Rattle.paper_types.specs.Judging.{judge, tableNumber}
-use Rattle.paper_types.specs.TableCalls.{tellsTable}
-use Rattle.paper_types.specs.declared.TableAnswer.the-variants.{Accepted}
-use Rattle.paper_rules.specs.Enclosing.{definitionAt}
-use Rattle.paper_rules.specs.DocumentCalls.{read}
-use Rattle.paper_rules.specs.Opening.{AcceptedDocument}
-use Rattle.paper_plan.specs.Collecting.{Grouped, elem}
+use Rattle.paper_table.specs.Lists.{bytes}
+use Rattle.paper_table.specs.TableNumbers.{mostTable}
+use Rattle.paper_table.specs.Types.{tableOf, isObject}
+use Rattle.paper_table.specs.Judging.{judge, tableNumber}
+use Rattle.paper_table.specs.TableCalls.{tellsTable}
+use Rattle.paper_table.specs.declared.TableAnswer.the-variants.{Accepted}
+use Rattle.paper_query.specs.Enclosing.{definitionAt}
+use Rattle.paper_query.specs.DocumentCalls.{read}
+use Rattle.paper_query.specs.Opening.{AcceptedDocument}
+use Rattle.paper_query.proofs.WorkedRules.{tableT}
+use Rattle.paper_plan.specs.Keys.{keyAt}
+use Rattle.paper_plan.specs.Applies.{applies}
+use Rattle.paper_plan.specs.Collecting.{Grouped, elem, Pair}
+use Rattle.paper_plan.specs.Planning.{answer}
 use Rattle.paper_plan.specs.PlanNumbers.{planSize, planNumbers, WellFormed}
 use Rattle.paper_plan.specs.Selecting.{Name, Collects, pairsOf, blockIn, planFor}
 use Rattle.paper_plan.specs.LentPlan.{isOne, flat}
 use Rattle.paper_plan.specs.WalkNumbers.{mostPairs, mostWalked, pairsSize, variablesSize}
 use Rattle.paper_plan.specs.WalkCalls.{CanWalk, listed, Lent, Right, Walked}
+use Rattle.paper_plan.proofs.ExamplesPlans.{D, planD, unset, walked}
+use Rattle.paper_plan.proofs.TrapsPlans.{freshly}
+use Rattle.paper_plan.proofs.TrapsPlans as traps
 use Rattle.paper_plan.proofs.WalkCallsOne as walk-calls
 use Rattle.gateway.proofs.walk.gw_walk.Statement as gw-walk
 use Rattle.gateway.proofs.walk.gw_walk.Met as gw-walk-met
-use Rattle.plan_walking.proofs.SomeLaws as some
-use Rattle.plan_walking.proofs.CollectsLaws as collects
-use Rattle.plan_walking.proofs.FirstLaws as first
+use Rattle.plan_walk_answer.proofs.SomeLaws as some
+use Rattle.plan_walk_answer.proofs.CollectsLaws as collects
+use Rattle.plan_walk_answer.proofs.FirstLaws as first
 use Rattle.claims.proofs.WalksLaws as walks
+use Rattle.claims.proofs.PlansExampleLaws as examples
 
 -- `gw_walk` meets the contract in `crates/gateway/src/walk.rt`, which is `Walked`: for every table, plan, object, blocks, variables, pairs buffer and report of any
 -- length and content it says the answer and every number of both buffers. So it ends and harms nothing on every ill-formed plan.
@@ -124,3 +134,25 @@ walk-pairs-tail = walks.pairs-tail
 pub walk-report-tail : {table plan : List ℕ} {object : ℕ} {blocks variables pairs report pairs′ report′ : List ℕ} {a : ℕ} →
     Walked table plan object blocks variables pairs report pairs′ report′ a → (length report′ ≡ length report) × (drop reportSize report′ ≡ drop reportSize report)
 walk-report-tail = walks.report-tail
+
+-- ---- 01'S EXAMPLES (9) AND (10), ON 01'S TABLE T AND DOCUMENT D (whose plan `example-8` of `MainPlans` has)
+
+-- a pair, its response key by name
+abbrev named : Pair → Name × ℕ
+named p = (keyAt D (p .0), p .1)
+
+-- D's blocks 1 and 2 merged for Fan, T's record 1: tag 4, tag 10, rpm 13. This is what the draft collects for Fan of the selection sets of the rows 1 and 7.
+pub example-9 : (answer unset (λ k. applies (tableOf tableT) k 1) planD (1 ∷ 2 ∷ []) ≡ (4, 4) ∷ (4, 10) ∷ (13, 13) ∷ [])
+    × (map named ((4, 4) ∷ (4, 10) ∷ (13, 13) ∷ []) ≡ (bytes "tag", 4) ∷ (bytes "tag", 10) ∷ (bytes "rpm", 13) ∷ [])
+    × ((g : Grouped Name) × Collects (tableOf tableT) D 0 unset 1 (1 ∷ 7 ∷ []) g × (pairsOf D g ≡ (4, 4) ∷ (4, 10) ∷ (13, 13) ∷ []))
+example-9 = examples.nine
+
+-- For Pump, record 2: tag 4, tag 10.
+pub example-10 : (answer unset (λ k. applies (tableOf tableT) k 2) planD (1 ∷ 2 ∷ []) ≡ (4, 4) ∷ (4, 10) ∷ [])
+    × (map named ((4, 4) ∷ (4, 10) ∷ []) ≡ (bytes "tag", 4) ∷ (bytes "tag", 10) ∷ [])
+    × ((g : Grouped Name) × Collects (tableOf tableT) D 0 unset 2 (1 ∷ 7 ∷ []) g × (pairsOf D g ≡ (4, 4) ∷ (4, 10) ∷ []))
+example-10 = examples.ten
+
+-- 01's trap: a walk with fresh marks for each merged block lists other pairs.
+pub fresh-marks-differ : ((s : String) (vars : ℕ → Bool) (bs : List ℕ) → freshly s vars bs ≡ walked s vars bs) → ⊥
+fresh-marks-differ = traps.fresh-marks-differ

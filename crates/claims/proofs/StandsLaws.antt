@@ -20,11 +20,11 @@ use Rattle.paper.specs.declared.Refusal.the-variants.{NoToken, NoGoing, TooDeep
 use Rattle.paper.proofs.Machine as machine
 use Rattle.paper.proofs.Tables.{graphql}
 use Rattle.paper.proofs.Lexing.{from}
-use Rattle.theory.proofs.TokensLaws.{tokens-are, tokens-from}
-use Rattle.theory.proofs.ReadingLaws.{accepts, stops, bound, stops-only}
-use Rattle.theory.proofs.GoingSaid.{Rising}
-use Rattle.theory.proofs.CallsGoing.{from-rising}
-use Rattle.theory.proofs.SaidOne.{said-some}
+use Rattle.paper_theory.proofs.TokensLaws.{tokens-are, tokens-from}
+use Rattle.paper_theory.proofs.ReadingLaws.{accepts, stops, bound, stops-only}
+use Rattle.paper_theory.proofs.GoingSaid.{Rising}
+use Rattle.paper_theory.proofs.CallsGoing.{from-rising}
+use Rattle.paper_theory.proofs.SaidOne.{said-some}
 use Rattle.claims.proofs.FitsLaws.{not-over}
 use Rattle.claims.proofs.LevelsLaws.{opens-33}
 

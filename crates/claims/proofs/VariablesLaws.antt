@@ -18,15 +18,15 @@ use Rattle.paper.specs.Refusals.{numberOf, shownInText}
 use Rattle.paper.specs.Calls.{filled, tells}
 use Rattle.paper.specs.Language.{ConstValue, ConstListValue, ConstValue+, ConstValue*, ConstObjectValue, ConstObjectField+, ConstObjectField*, ConstObjectField, EnumValue, Name}
 use Rattle.paper.proofs.Bools.{and-l, and-r, and-i}
-use Rattle.theory.proofs.Test.{all, all-at, all-mem, implies, implies-out}
+use Rattle.paper_theory.proofs.Test.{all, all-at, all-mem, implies, implies-out}
 use Rattle.paper.proofs.Tables.{allN, numN, atN}
 use Rattle.paper.proofs.Lexing.{from}
-use Rattle.theory.proofs.TokensLaws.{tokens-are}
-use Rattle.theory.proofs.GoingSaid.{going-whole, going-halt}
-use Rattle.theory.proofs.CallsGoing.{from-rising}
-use Rattle.documents.specs.Documents.{Ended}
-use Rattle.reader.specs.declared.Cursor.{Cursor}
-use Rattle.reader.specs.declared.Read.the-variants.{Done, Refused}
+use Rattle.paper_theory.proofs.TokensLaws.{tokens-are}
+use Rattle.paper_theory.proofs.GoingSaid.{going-whole, going-halt}
+use Rattle.paper_theory.proofs.CallsGoing.{from-rising}
+use Rattle.text_documents.specs.Documents.{Ended}
+use Rattle.text_cursor.specs.declared.Cursor.{Cursor}
+use Rattle.text_cursor.specs.declared.Read.the-variants.{Done, Refused}
 
 -- the rows of the text and their count
 pub variables-read : (s rows rows′ : List ℕ) (d : Cursor) → length rows ≡ rowsSize → Ended VariablesText s rows rows′ (Done d) →

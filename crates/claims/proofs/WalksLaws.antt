@@ -11,19 +11,19 @@ use Rattle.paper.specs.Numbers.{reportSize}
 use Rattle.paper.specs.Refusals.{numberOf}
 use Rattle.paper.specs.Calls.{tells}
 use Rattle.paper.specs.declared.Refusal.the-variants.{Buffer, OverLength}
-use Rattle.paper_types.specs.TableNumbers.{mostTable, inputTable}
-use Rattle.paper_types.specs.Types.{tableOf}
-use Rattle.paper_types.specs.Judging.{judge, tableNumber, tableShown}
-use Rattle.paper_types.specs.TableCalls.{tellsTable}
-use Rattle.paper_types.specs.declared.TableAnswer.{TableAnswer}
-use Rattle.paper_types.specs.declared.TableAnswer.the-variants.{Accepted, Framing, TooMany, Breaks}
+use Rattle.paper_table.specs.TableNumbers.{mostTable, inputTable}
+use Rattle.paper_table.specs.Types.{tableOf}
+use Rattle.paper_table.specs.Judging.{judge, tableNumber, tableShown}
+use Rattle.paper_table.specs.TableCalls.{tellsTable}
+use Rattle.paper_table.specs.declared.TableAnswer.{TableAnswer}
+use Rattle.paper_table.specs.declared.TableAnswer.the-variants.{Accepted, Framing, TooMany, Breaks}
 use Rattle.paper_plan.specs.Collecting.{Pair, elem}
 use Rattle.paper_plan.specs.LentPlan.{flat}
 use Rattle.paper_plan.specs.WalkNumbers.{mostPairs, pairsSize, refuseWalk, refuseTooManyPairs}
 use Rattle.paper_plan.specs.WalkCalls.{CanWalk, listed, Lent, Right, Walked, short-report, short-pairs, long-table, refuses-table, refuses-walk, too-many-pairs, lists}
 use Rattle.paper_plan.proofs.WalkCallsOne.{walked-one}
 use Rattle.plan_theory.proofs.Document.{Among}
-use Rattle.plan_walking.proofs.WalkedLaws.{flat-length}
+use Rattle.plan_walk_answer.proofs.WalkedLaws.{flat-length}
 use Rattle.claims.proofs.BuffersLaws.{filled-kept, filled-head, tells-fits}
 use Rattle.claims.proofs.CheckedLaws.{told-fits}
 

@@ -1,5 +1,5 @@
 // `gw_check`: judges a document by a type table.
-ghost use Rattle.paper_rules.specs.DocumentCalls.{CheckedDocument};
+ghost use Rattle.paper_query.specs.DocumentCalls.{CheckedDocument};
 
 // C: uint32_t gw_check(const uint8_t *table, size_t table_len, const uint8_t *document, size_t document_len,
 //                      uint32_t *rows, size_t rows_len, uint32_t *report, size_t report_len);
@@ -17,5 +17,5 @@ pub extern "C" fn gw_check(
 ) -> u32
     ensures { λ r. ⌜ CheckedDocument (now (table .entry)) (now (document .entry)) (now (rows .entry)) (now (report .entry)) (now (rows .exit)) (now (report .exit)) r ⌝ }
 {
-    checks::answer(table, document, rows, report)
+    query_answer::answer(table, document, rows, report)
 }

@@ -1,5 +1,5 @@
 // `gw_check_table`: judges a type table.
-ghost use Rattle.paper_types.specs.TableCalls.{Checked};
+ghost use Rattle.paper_table.specs.TableCalls.{Checked};
 
 // C: uint32_t gw_check_table(const uint8_t *table, size_t table_len, uint32_t *report, size_t report_len);
 //   table    read, of any length and content
@@ -9,5 +9,5 @@ ghost use Rattle.paper_types.specs.TableCalls.{Checked};
 pub extern "C" fn gw_check_table(table: &[u8], report: &mut [u32]) -> u32
     ensures { λ r. ⌜ Checked (now (table .entry)) (now (report .entry)) (now (report .exit)) r ⌝ }
 {
-    tables::answer(table, report)
+    table_answer::answer(table, report)
 }

@@ -11,5 +11,5 @@ ghost use Rattle.paper.specs.Calls.{Parsed};
 pub extern "C" fn gw_parse(document: &[u8], rows: &mut [u32], report: &mut [u32]) -> u32
     ensures { λ r. ⌜ Parsed (now (document .entry)) (now (rows .entry)) (now (report .entry)) (now (rows .exit)) (now (report .exit)) r ⌝ }
 {
-    parsing::answer(document, rows, report)
+    text_answer::answer(document, rows, report)
 }

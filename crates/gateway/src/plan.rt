@@ -20,5 +20,5 @@ pub extern "C" fn gw_plan(
 ) -> u32
     ensures { λ r. ⌜ Planned (now (table .entry)) (now (document .entry)) (now (operation .entry)) (now (plan .entry)) (now (report .entry)) (now (plan .exit)) (now (report .exit)) r ⌝ }
 {
-    plan_planning::answer(table, document, operation, plan, report)
+    plan_answer::answer(table, document, operation, plan, report)
 }

@@ -24,5 +24,5 @@ pub extern "C" fn gw_walk(
 ) -> u32
     ensures { λ r. ⌜ Walked (now (table .entry)) (now (plan .entry)) object (now (blocks .entry)) (now (variables .entry)) (now (pairs .entry)) (now (report .entry)) (now (pairs .exit)) (now (report .exit)) r ⌝ }
 {
-    plan_walking::answer(table, plan, object, blocks, variables, pairs, report)
+    plan_walk_answer::answer(table, plan, object, blocks, variables, pairs, report)
 }

@@ -1,5 +1,5 @@
 -- The reader's machine: the grammar's machine over a text, which writes the rows into lent numbers and heeds the sizes as it goes.
--- Every reader's contract is an equation of `go`; `GoingSaid` of crate `theory` shows that what it answers is what `Reading` says.
+-- Every reader's contract is an equation of `go`; `GoingSaid` of crate `paper_theory` shows that what it answers is what `Reading` says.
 use mathlib.Core.Path.{_≡_, refl}
 use mathlib.Core.Bool.{Bool, true, false}
 use mathlib.Core.List.{List, [], _∷_, _++_}

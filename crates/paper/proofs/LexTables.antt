@@ -1,4 +1,4 @@
--- The lexical language left-factored for the machine (four parts differ), and the machine's tables. Tested in `LexChecked` of crate `theory`, trusted for nothing.
+-- The lexical language left-factored for the machine (four parts differ), and the machine's tables. Tested in `LexChecked` of crate `paper_theory`, trusted for nothing.
 use mathlib.Core.Bool.{Bool, true, false}
 use mathlib.Core.Path.{_≡_, refl}
 use mathlib.Core.Option.{some}

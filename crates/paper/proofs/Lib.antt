@@ -1,5 +1,5 @@
 -- The machine by which the definitions are computed, and a few worked examples. Nothing here need be believed.
--- Crate `theory` has the laws of the definitions, crate `examples` the other examples.
+-- Crate `paper_theory` has the laws of the definitions, crate `paper_samples` the other examples.
 pub mod Bools
 pub mod Machine
 pub mod Longest

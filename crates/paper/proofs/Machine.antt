@@ -8,7 +8,7 @@ use Rattle.paper.specs.Grammar.{Sym, nt, tm, act, Ev, tok, mark}
 infixr 40 _▸_
 infixr 40 _▹_
 -- a grammar with the tables of its machine: which classes can begin what a nonterminal derives, and whether it can derive no token.
--- The tables are trusted for nothing: crate `theory` tests them
+-- The tables are trusted for nothing: crate `paper_theory` tests them
 pub record Tables (N P C A : Type 0) : Type 0 where
   pub prods : N → List (List (Sym N P A))
   pub hits : P → C → Bool

@@ -1,5 +1,5 @@
 -- A few worked examples, computed: the rows of document D of 01, and what the must-fail edits of the definitions would change.
--- Crate `examples` has the others. The answers are those of document 01 and of its readings; none was taken from what is computed here.
+-- Crate `paper_samples` has the others. The answers are those of document 01 and of its readings; none was taken from what is computed here.
 use mathlib.Core.Path.{_≡_, refl}
 use mathlib.Core.List.{List, [], _∷_, _++_}
 use Prim.Native.Nat.{ℕ}

@@ -1,5 +1,5 @@
 -- The same language, left-factored for the machine (seven parts differ from the draft's), and the machine's tables.
--- They are tested in `Checked` of crate `theory` and trusted for nothing.
+-- They are tested in `Checked` of crate `paper_theory` and trusted for nothing.
 use mathlib.Core.Bool.{Bool, true, false, _||_}
 use mathlib.Core.List.{List, [], _∷_}
 use mathlib.Core.Path.{_≡_, refl}

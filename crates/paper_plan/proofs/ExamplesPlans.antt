@@ -16,24 +16,24 @@ use Rattle.paper.proofs.Tables.{factored}
 use Rattle.paper.proofs.LexTables.{lexFactored}
 use Rattle.paper.proofs.Lexing.{text, from}
 use Rattle.paper.proofs.Worked.{r, rowsBy}
-use Rattle.paper_types.specs.Lists.{bytes, anyOf, allOf, firstAt, find, gather, eachFrom}
-use Rattle.paper_types.specs.References.{isName, marked, closed, readName, refFrom, wholeRef, refOf}
-use Rattle.paper_types.specs.House.{piecesFrom}
-use Rattle.paper_types.specs.Types.{textOf, memberOf, definitionOf, tableOf, builtIns, meaning, canBe}
-use Rattle.paper_rules.specs.Constructs.{Doc, fragmentNamed}
-use Rattle.paper_rules.specs.Enclosing.{compositeOf, conditionOf}
-use Rattle.paper_rules.specs.DocumentCalls.{read}
+use Rattle.paper_table.specs.Lists.{bytes, anyOf, allOf, firstAt, find, gather, eachFrom}
+use Rattle.paper_table.specs.References.{isName, marked, closed, readName, refFrom, wholeRef, refOf}
+use Rattle.paper_table.specs.House.{piecesFrom}
+use Rattle.paper_table.specs.Types.{textOf, memberOf, definitionOf, tableOf, builtIns, meaning, canBe}
+use Rattle.paper_query.specs.Constructs.{Doc, fragmentNamed}
+use Rattle.paper_query.specs.Enclosing.{compositeOf, conditionOf}
+use Rattle.paper_query.specs.DocumentCalls.{read}
 use Prim.Native.String.{String}
-use Rattle.paper_rules.proofs.WorkedRules.{tableT, tableS, document}
+use Rattle.paper_query.proofs.WorkedRules.{tableT, tableS, document}
 use Rattle.paper_plan.specs.PlanNumbers.{stepNumbers}
 use Rattle.paper_plan.specs.Keys.{nameFront, keyNumber}
 use Rattle.paper_plan.specs.Applies.{applies}
 use Rattle.paper_plan.specs.Collecting.{Pair}
 use Rattle.paper_plan.specs.Planning.{if-true, unless-true, unless-applies, if-met, leave, list, plan, program, firsts, Plan, walk, blocks, answer}
-use Rattle.paper_rules.specs.Constructs.{numbersWhere}
+use Rattle.paper_query.specs.Constructs.{numbersWhere}
 use Rattle.paper_plan.specs.Selecting.{rowsWhere, ifOf, blockIn, planFor}
 
-abbrev D : Doc
+abbrev pub D : Doc
 D =
     read (bytes "{ a: machine(id: 4) { tag ...F } ...R a: machine(id: 4) { tag } } fragment F on Fan { rpm } fragment R on Query { fan(no: 3) { rpm } }") (
     r 1 0 65 2048 0 0 0 ∷ r 3 2 32 0 5 7 0 ∷ r 6 13 18 1 13 2 0 ∷ r 21 17 18 2 0 0 0 ∷ r 3 22 25 1 22 3 0 ∷ r 4 26 30 1 29 1 0 ∷
@@ -42,53 +42,53 @@ D =
     r 6 118 123 16 118 2 0 ∷ r 21 122 123 17 0 0 0 ∷ r 3 127 130 16 127 3 0 ∷ [])
 
 -- (8): 20 rows
-rows-of-D : rowsBy Document (D .bytes) ≡ D .rows
+pub rows-of-D : rowsBy Document (D .bytes) ≡ D .rows
 unfolding from text scan step enter choose lexical lexFactored language factored run rowsOf book tokensOf
 rows-of-D = refl
 
 -- the blocks' rows of its operation
-abbrev blocksD : List ℕ
+abbrev pub blocksD : List ℕ
 blocksD = 0 ∷ 1 ∷ 7 ∷ 16 ∷ []
 
-abbrev planD : Plan
+abbrev pub planD : Plan
 planD = planFor (tableOf tableT) D 0 blocksD
 
 -- 4 blocks and 11 steps
-first-steps : planD .first ≡ 0 ∷ 5 ∷ 9 ∷ 10 ∷ []
+pub first-steps : planD .first ≡ 0 ∷ 5 ∷ 9 ∷ 10 ∷ []
 unfolding anyOf allOf firstAt find gather eachFrom isName marked closed readName refFrom wholeRef refOf piecesFrom textOf memberOf definitionOf tableOf builtIns meaning fragmentNamed compositeOf conditionOf canBe nameFront keyNumber applies numbersWhere rowsWhere ifOf plan firsts
 first-steps = refl
 
-steps-of-D : planD .steps ≡
+pub steps-of-D : planD .steps ≡
     list 1 1 ∷ leave (if-met 1) 4 ∷ leave (unless-applies 3) 4 ∷ list 16 16 ∷ list 1 7 ∷
     list 4 4 ∷ leave (if-met 0) 9 ∷ leave (unless-applies 1) 9 ∷ list 13 13 ∷
     list 4 10 ∷ list 13 19 ∷ []
 unfolding anyOf allOf firstAt find gather eachFrom isName marked closed readName refFrom wholeRef refOf piecesFrom textOf memberOf definitionOf tableOf builtIns meaning fragmentNamed compositeOf conditionOf canBe nameFront keyNumber applies numbersWhere rowsWhere ifOf plan program
 steps-of-D = refl
 
-abbrev unset : ℕ → Bool
+abbrev pub unset : ℕ → Bool
 unset v = false
 
-abbrev answered : ℕ → List ℕ → List Pair
+abbrev pub answered : ℕ → List ℕ → List Pair
 answered o holders = answer unset (λ k. applies (tableOf tableT) k o) planD (map (blockIn blocksD) holders)
 
 -- (9): blocks 1 and 2 merged for Fan; (10): for Pump; READINGS 94: block 0 for Query
-for-fan : answered 1 (1 ∷ 7 ∷ []) ≡ (4, 4) ∷ (4, 10) ∷ (13, 13) ∷ []
+pub for-fan : answered 1 (1 ∷ 7 ∷ []) ≡ (4, 4) ∷ (4, 10) ∷ (13, 13) ∷ []
 unfolding anyOf allOf firstAt find gather eachFrom isName marked closed readName refFrom wholeRef refOf piecesFrom textOf memberOf definitionOf tableOf builtIns meaning fragmentNamed compositeOf conditionOf canBe nameFront keyNumber applies numbersWhere rowsWhere ifOf plan program firsts walk blocks
 for-fan = refl
 
-for-pump : answered 2 (1 ∷ 7 ∷ []) ≡ (4, 4) ∷ (4, 10) ∷ []
+pub for-pump : answered 2 (1 ∷ 7 ∷ []) ≡ (4, 4) ∷ (4, 10) ∷ []
 unfolding anyOf allOf firstAt find gather eachFrom isName marked closed readName refFrom wholeRef refOf piecesFrom textOf memberOf definitionOf tableOf builtIns meaning fragmentNamed compositeOf conditionOf canBe nameFront keyNumber applies numbersWhere rowsWhere ifOf plan program firsts walk blocks
 for-pump = refl
 
-for-query : answered 3 (0 ∷ []) ≡ (1, 1) ∷ (1, 7) ∷ (16, 16) ∷ []
+pub for-query : answered 3 (0 ∷ []) ≡ (1, 1) ∷ (1, 7) ∷ (16, 16) ∷ []
 unfolding anyOf allOf firstAt find gather eachFrom isName marked closed readName refFrom wholeRef refOf piecesFrom textOf memberOf definitionOf tableOf builtIns meaning fragmentNamed compositeOf conditionOf canBe nameFront keyNumber applies numbersWhere rowsWhere ifOf plan program firsts walk blocks
 for-query = refl
 
 -- READINGS 95 to 102, on the readings' table S (Query 0, O 1): a document's steps, its operation and the rows of its blocks given
-abbrev steps : String → ℕ → List ℕ → List ℕ
+abbrev pub steps : String → ℕ → List ℕ → List ℕ
 steps s op rows = gather stepNumbers (planFor (tableOf tableS) (document (bytes s)) op rows .steps)
 
-abbrev walked : String → (ℕ → Bool) → List ℕ → List Pair
+abbrev pub walked : String → (ℕ → Bool) → List ℕ → List Pair
 walked s vars bs = answer vars (λ k. applies (tableOf tableS) k 0) (planFor (tableOf tableS) (document (bytes s)) 0 (0 ∷ [])) bs
 
 pub record Readings : Type 0 where

@@ -8,12 +8,12 @@ use Rattle.paper.specs.Numbers.{reportSize, accepted}
 use Rattle.paper.specs.Refusals.{numberOf}
 use Rattle.paper.specs.Calls.{filled, tells}
 use Rattle.paper.specs.declared.Refusal.the-variants.{Buffer, OverLength}
-use Rattle.paper_types.specs.TableNumbers.{mostTable, inputTable}
-use Rattle.paper_types.specs.Types.{tableOf}
-use Rattle.paper_types.specs.Judging.{judge, tableNumber}
-use Rattle.paper_types.specs.TableCalls.{tellsTable}
-use Rattle.paper_types.specs.declared.TableAnswer.the-variants.{Accepted}
-use Rattle.paper_rules.proofs.InOrder.{Left, left, One, Checks, failed, later, checks-one}
+use Rattle.paper_table.specs.TableNumbers.{mostTable, inputTable}
+use Rattle.paper_table.specs.Types.{tableOf}
+use Rattle.paper_table.specs.Judging.{judge, tableNumber}
+use Rattle.paper_table.specs.TableCalls.{tellsTable}
+use Rattle.paper_table.specs.declared.TableAnswer.the-variants.{Accepted}
+use Rattle.paper_query.proofs.InOrder.{Left, left, One, Checks, failed, later, checks-one}
 use Rattle.paper_plan.specs.LentPlan.{flat}
 use Rattle.paper_plan.specs.WalkNumbers.{mostPairs, pairsSize, refuseWalk, refuseTooManyPairs}
 use Rattle.paper_plan.specs.WalkCalls.{CanWalk, listed, Walked, short-report, short-pairs, long-table, refuses-table, refuses-walk, too-many-pairs, lists}

@@ -11,10 +11,10 @@ use Rattle.paper.specs.Rows.{Row}
 use Rattle.paper.specs.Refusals.{numberOf}
 use Rattle.paper.specs.Calls.{filled, tells}
 use Rattle.paper.specs.declared.Refusal.the-variants.{Buffer, OverLength}
-use Rattle.paper_types.specs.TableNumbers.{mostTable, inputTable}
-use Rattle.paper_types.specs.Types.{tableOf}
-use Rattle.paper_rules.specs.DocumentCalls.{read, Short}
-use Rattle.paper_rules.specs.Opening.{stops, opens, Opened}
+use Rattle.paper_table.specs.TableNumbers.{mostTable, inputTable}
+use Rattle.paper_table.specs.Types.{tableOf}
+use Rattle.paper_query.specs.DocumentCalls.{read, Short}
+use Rattle.paper_query.specs.Opening.{stops, opens, Opened}
 use Rattle.paper_plan.specs.Planning.{Plan}
 use Rattle.paper_plan.specs.Selecting.{BlockRows, planFor}
 use Rattle.paper_plan.specs.PlanNumbers.{planSize, mostSteps, planNumbers}

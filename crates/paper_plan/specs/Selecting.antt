@@ -12,11 +12,11 @@ use lib.Dec.{eqb, ltb}
 use Rattle.paper.specs.Numbers.{kindFragment, kindField, kindSpread, kindArgument, kindDirective, kindVariableDefinition, kindBoolean, extraTrue}
 use Rattle.paper.specs.Tokens.{same}
 use Rattle.paper.specs.Rows.{Row}
-use Rattle.paper_types.specs.Lists.{bytes, firstAt, find, gather, onlyIf}
-use Rattle.paper_types.specs.Types.{Table}
-use Rattle.paper_rules.specs.Constructs.{Doc, count, rowOf, nameOf, spelt, is, isSelection, isValue, called, below, fragmentNamed, numbersWhere}
-use Rattle.paper_rules.specs.Enclosing.{compositeOf, conditionOf}
-use Rattle.paper_rules.specs.Reaching.{Reaches}
+use Rattle.paper_table.specs.Lists.{bytes, firstAt, find, gather, onlyIf}
+use Rattle.paper_table.specs.Types.{Table}
+use Rattle.paper_query.specs.Constructs.{Doc, count, rowOf, nameOf, spelt, is, isSelection, isValue, called, below, fragmentNamed, numbersWhere}
+use Rattle.paper_query.specs.Enclosing.{compositeOf, conditionOf}
+use Rattle.paper_query.specs.Reaching.{Reaches}
 use Rattle.paper_plan.specs.Keys.{keyAt, keyNumber}
 use Rattle.paper_plan.specs.Applies.{applies}
 use Rattle.paper_plan.specs.Collecting.{Cond, absent, literal, variable, Sort, field, spread, inline, View, Grouped, elem, Collect, Pair, withKey}

@@ -10,13 +10,13 @@ use Rattle.paper.specs.Numbers.{reportSize, accepted}
 use Rattle.paper.specs.Refusals.{numberOf}
 use Rattle.paper.specs.Calls.{filled, tells}
 use Rattle.paper.specs.declared.Refusal.the-variants.{Buffer, OverLength}
-use Rattle.paper_types.specs.TableNumbers.{mostTable, inputTable}
-use Rattle.paper_types.specs.Types.{Table, tableOf, isObject}
-use Rattle.paper_types.specs.Judging.{judge, tableNumber}
-use Rattle.paper_types.specs.TableCalls.{tellsTable}
-use Rattle.paper_types.specs.declared.TableAnswer.{TableAnswer}
-use Rattle.paper_types.specs.declared.TableAnswer.the-variants.{Accepted}
-use Rattle.paper_rules.specs.Enclosing.{definitionAt}
+use Rattle.paper_table.specs.TableNumbers.{mostTable, inputTable}
+use Rattle.paper_table.specs.Types.{Table, tableOf, isObject}
+use Rattle.paper_table.specs.Judging.{judge, tableNumber}
+use Rattle.paper_table.specs.TableCalls.{tellsTable}
+use Rattle.paper_table.specs.declared.TableAnswer.{TableAnswer}
+use Rattle.paper_table.specs.declared.TableAnswer.the-variants.{Accepted}
+use Rattle.paper_query.specs.Enclosing.{definitionAt}
 use Rattle.paper_plan.specs.Applies.{applies}
 use Rattle.paper_plan.specs.Collecting.{Pair}
 use Rattle.paper_plan.specs.Planning.{answer}

@@ -5,7 +5,7 @@ use mathlib.Core.Bool.{Bool, true, false, cond}
 use mathlib.Core.Option.{Option, none, some}
 use mathlib.Core.List.{List, [], _∷_}
 use Rattle.paper.specs.Tokens.{same}
-use Rattle.paper_types.specs.References.{Ref, named, listOf, nonNull, isNonNull}
+use Rattle.paper_table.specs.References.{Ref, named, listOf, nonNull, isNonNull}
 use Rattle.paper_values.specs.ValueNumbers.{reasonKind, reasonMissing, reasonNull, reasonUnknown, reasonRepeated}
 use Rattle.paper_values.specs.Values.{Name, At, Value, variable, integer, float, string, boolean, null, enum, list, object, Values, end, item, Entries, close, entry, Due, Tree, Null, Bits, Decimal, Text, Truth, Member, Many, Fields, Token, Trees, no-more, also, Pairs, nothing, pair, Out, Got, No, andThen}
 use Rattle.paper_values.specs.Kinds.{Kind, Int, Float, String, Boolean, ID, Own, Other, Enum, Input}

@@ -5,10 +5,10 @@ use mathlib.Core.Bool.{true, false}
 use mathlib.Core.Option.{none, some}
 use mathlib.Core.List.{List, [], _∷_, _++_, map}
 use Prim.Native.Nat.{ℕ}
-use Rattle.paper_types.specs.Lists.{bytes, anyOf, firstAt, gather}
-use Rattle.paper_types.specs.TableNumbers.{tagScalar, tagEnum, tagInputObject, tagArgument, tagEnumValue}
-use Rattle.paper_types.specs.References.{Ref, named, listOf, nonNull}
-use Rattle.paper_types.specs.Types.{Table, builtIns, meaning}
+use Rattle.paper_table.specs.Lists.{bytes, anyOf, firstAt, gather}
+use Rattle.paper_table.specs.TableNumbers.{tagScalar, tagEnum, tagInputObject, tagArgument, tagEnumValue}
+use Rattle.paper_table.specs.References.{Ref, named, listOf, nonNull}
+use Rattle.paper_table.specs.Types.{Table, builtIns, meaning}
 use Rattle.paper_values.specs.NumberTokens.{valueFrom, intOf, floatContent}
 use Rattle.paper_values.specs.Values.{At, Value, integer, float, string, boolean, null, enum, list, object, end, item, close, entry, Tree, Null, Bits, Decimal, Text, Truth, Member, Many, Fields, Token, no-more, also, nothing, pair, Out, Got, No}
 use Rattle.paper_values.specs.Kinds.{kindOfType}

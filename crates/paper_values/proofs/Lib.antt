@@ -14,4 +14,5 @@ pub mod ReasonsExact
 pub mod RowsApart
 pub mod TagInt
 pub mod TrapInt
+pub mod TrapOrder
 pub mod ExamplesTable

@@ -7,9 +7,9 @@ use Prim.Native.Nat.{ℕ, zero, suc, _+_, _-_, _≤_, _<_}
 use native.Mathlib.Omega.{arith}
 use lib.Dec.{eqb}
 use Rattle.paper.specs.Tokens.{same}
-use Rattle.paper_types.specs.Lists.{anyOf}
-use Rattle.paper_types.specs.References.{Ref, named, listOf, nonNull, isNonNull}
-use Rattle.paper_rules.specs.Constructs.{Doc, count, kindOf, parentOf, nameOf}
+use Rattle.paper_table.specs.Lists.{anyOf}
+use Rattle.paper_table.specs.References.{Ref, named, listOf, nonNull, isNonNull}
+use Rattle.paper_query.specs.Constructs.{Doc, count, kindOf, parentOf, nameOf}
 use Rattle.paper_values.specs.Values.{Name, At, Value, variable, integer, float, string, boolean, null, enum, list, object, Values, end, item, Entries, close, entry, Due, Tree, Null, Bits, Decimal, Text, Truth, Member, Many, Fields, Token, Trees, Pairs, nothing, pair, Out, Got, No, andThen}
 use Rattle.paper_values.specs.Kinds.{Kind, Int, Float, String, Boolean, ID, Own, Other, Enum, Input}
 use Rattle.paper_values.specs.Coercion.{nullAt, inRange, textAt, memberAt, integerAt, floatAt, stringAt, booleanAt, enumAt, objectAt, Head, Given, heads, repeated, unknown, entryOf, first, missing, field, fields, unless, inObject, single, several, held, leftOut, coerce, coerceAll, givens, constant, orDefault, variablesFrom, variablesOf, argumentsOf, valueIn}

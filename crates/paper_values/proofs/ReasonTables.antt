@@ -9,7 +9,7 @@ use Prim.Native.Nat.{ℕ, _<_}
 use native.Mathlib.Omega.{arith}
 use lib.Dec.{leb}
 use Rattle.paper.specs.Tokens.{same}
-use Rattle.paper_types.specs.Lists.{anyOf}
+use Rattle.paper_table.specs.Lists.{anyOf}
 use Rattle.paper_values.specs.ValueNumbers.{reasonKind, reasonRange, reasonEnum, reasonSurrogate}
 use Rattle.paper_values.specs.NumberTokens.{valueOf, digitsOf, intOf, floatContent}
 use Rattle.paper_values.specs.Signed.{numberWritten, isInt}

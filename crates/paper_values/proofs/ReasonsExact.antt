@@ -7,7 +7,7 @@ use mathlib.Core.List.{List, [], _∷_}
 use mathlib.Core.Logic.{_↔_}
 use Prim.Native.Nat.{ℕ}
 use native.Mathlib.Omega.{arith}
-use Rattle.paper_types.specs.References.{Ref, named, listOf, nonNull, isNonNull}
+use Rattle.paper_table.specs.References.{Ref, named, listOf, nonNull, isNonNull}
 use Rattle.paper_values.specs.ValueNumbers.{reasonKind, reasonRange, reasonMissing, reasonNull, reasonUnknown, reasonRepeated, reasonEnum, reasonSurrogate}
 use Rattle.paper_values.specs.Values.{Name, At, Value, variable, integer, float, string, boolean, null, enum, list, object, Entries, Due, Tree, Null, Bits, Decimal, Text, Truth, Member, Many, Fields, Token, no-more, also, Pairs, pair, Out, Got, No, andThen}
 use Rattle.paper_values.specs.Kinds.{Kind, Int, Float, String, Boolean, ID, Own, Other, Enum, Input}

@@ -5,10 +5,10 @@ use Prim.Native.Nat.{ℕ, zero, suc, _+_, _-_, _*_, _/_, _%_, _≤_}
 use native.Mathlib.Omega.{arith}
 use borrow.Author.Tests.{eq-eqb, ne-eqb}
 use Rattle.paper.specs.Rows.{Row}
-use Rattle.paper_types.specs.Lists.{bytes}
-use Rattle.paper_types.specs.References.{Ref, named, listOf, nonNull, baseOf}
-use Rattle.paper_rules.specs.Constructs.{Doc, kindOf, parentOf, nameOf}
-use Rattle.paper_rules.specs.PlaceTypes.{wrappersOf}
+use Rattle.paper_table.specs.Lists.{bytes}
+use Rattle.paper_table.specs.References.{Ref, named, listOf, nonNull, baseOf}
+use Rattle.paper_query.specs.Constructs.{Doc, kindOf, parentOf, nameOf}
+use Rattle.paper_query.specs.PlaceTypes.{wrappersOf}
 use Rattle.paper_values.specs.Characters.{utf8, unicodeEscape, escape, written, charactersFrom, charactersOf}
 use Rattle.paper_values.specs.Values.{Value, integer, string, list, object, end, item, close, entry}
 use Rattle.paper_values.specs.RowValues.{refFrom, placed, itemsFrom, entriesFrom, valueBy, valueAt, argumentsAt}

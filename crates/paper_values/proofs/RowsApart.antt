@@ -8,7 +8,7 @@ use native.Mathlib.Omega.{arith}
 use lib.Dec.{eqb}
 use Rattle.paper.specs.Numbers.{kindVariable, kindInteger, kindFloat, kindString, kindBoolean, kindNull, kindEnum, kindList, kindObjectField}
 use Rattle.paper.specs.Tokens.{same}
-use Rattle.paper_rules.specs.Constructs.{Doc, count, kindOf, parentOf, nameOf}
+use Rattle.paper_query.specs.Constructs.{Doc, count, kindOf, parentOf, nameOf}
 use Rattle.paper_values.specs.Values.{Name, At, Value, Values, item, Entries, close, entry, Tree}
 use Rattle.paper_values.specs.Kinds.{Kind}
 use Rattle.paper_values.specs.Coercion.{leftOut}

@@ -7,7 +7,7 @@ use mathlib.Core.List.{List, _∷_}
 use mathlib.Core.Logic.{_↔_}
 use Prim.Native.Nat.{ℕ}
 use native.Mathlib.Omega.{arith}
-use Rattle.paper_types.specs.References.{named}
+use Rattle.paper_table.specs.References.{named}
 use Rattle.paper_values.specs.ValueNumbers.{reasonRange}
 use Rattle.paper_values.specs.Written.{fourBytes}
 use Rattle.paper_values.specs.NumberTokens.{intOf}

@@ -7,7 +7,7 @@ use mathlib.Core.List.{List, [], _∷_}
 use Prim.Native.Nat.{ℕ, _-_, _%_}
 use native.Mathlib.Omega.{arith}
 use lib.Dec.{eqb, leb}
-use Rattle.paper_types.specs.Lists.{bytes}
+use Rattle.paper_table.specs.Lists.{bytes}
 use Rattle.paper_values.specs.NumberTokens.{valueFrom, valueOf, intOf}
 
 -- the low 32 bits of a number

@@ -13,14 +13,14 @@ use Rattle.paper.specs.Reading.{rows-are, refuses, Said}
 use Rattle.paper.specs.Calls.{filled, tells}
 use Rattle.paper.specs.declared.Refusal.{Refusal}
 use Rattle.paper.specs.declared.Refusal.the-variants.{Buffer, OverLength}
-use Rattle.paper_types.specs.TableNumbers.{mostTable, inputTable}
-use Rattle.paper_types.specs.Types.{tableOf}
-use Rattle.paper_rules.specs.Enclosing.{fieldAt}
-use Rattle.paper_rules.specs.DocumentCalls.{read}
-use Rattle.paper_rules.specs.Opening.{refuseNoOperation, Outcome, stops, opens, Opened}
-use Rattle.paper_rules.proofs.InOrder.{Left, left, One, Checks, failed, later, checks-one}
-use Rattle.paper_rules.proofs.ReadOne.{said-same, rows-inj, refuses≢rows}
-use Rattle.paper_rules.proofs.OpeningOne.{opened-one}
+use Rattle.paper_table.specs.TableNumbers.{mostTable, inputTable}
+use Rattle.paper_table.specs.Types.{tableOf}
+use Rattle.paper_query.specs.Enclosing.{fieldAt}
+use Rattle.paper_query.specs.DocumentCalls.{read}
+use Rattle.paper_query.specs.Opening.{refuseNoOperation, Outcome, stops, opens, Opened}
+use Rattle.paper_query.proofs.InOrder.{Left, left, One, Checks, failed, later, checks-one}
+use Rattle.paper_query.proofs.ReadOne.{said-same, rows-inj, refuses≢rows}
+use Rattle.paper_query.proofs.OpeningOne.{opened-one}
 use Rattle.paper_values.specs.ValueNumbers.{mostCoerced}
 use Rattle.paper_values.specs.Values.{Tree, Pairs, Out}
 use Rattle.paper_values.specs.Kinds.{kindOfType}

@@ -8,7 +8,7 @@ use mathlib.Core.Bool.{true, false}
 use mathlib.Core.Option.{Option, none, some}
 use mathlib.Core.List.{List, [], _∷_, map}
 use Prim.Native.Nat.{ℕ}
-use Rattle.paper_types.specs.References.{isNonNull}
+use Rattle.paper_table.specs.References.{isNonNull}
 use Rattle.paper_values.specs.ValueNumbers.{reasonMissing, reasonUnknown, reasonRepeated}
 use Rattle.paper_values.specs.Values.{Name, At, Value, Entries, Due, Tree, Fields, Pairs, nothing, pair, Out, Got, No, andThen}
 use Rattle.paper_values.specs.Kinds.{Kind}

@@ -8,15 +8,15 @@ use mathlib.Core.List.{List, [], map}
 use Prim.Native.Nat.{ℕ, _-_}
 use lib.Dec.{T}
 use Rattle.paper.specs.Numbers.{kindField, kindVariableDefinition, kindObjectField, inputDocument, inputVariables}
-use Rattle.paper_types.specs.Lists.{firstAt}
-use Rattle.paper_types.specs.References.{Ref, named}
-use Rattle.paper_types.specs.Types.{Argument}
-use Rattle.paper_rules.specs.Constructs.{Doc, count, rowOf, nameOf, is, isValue, below, numbersWhere}
-use Rattle.paper_rules.specs.Enclosing.{FieldIs, typename, member, missing, unknown}
-use Rattle.paper_rules.specs.PlaceTypes.{Shape}
-use Rattle.paper_rules.specs.Reaching.{Reaches}
-use Rattle.paper_rules.specs.Rule11VariableType.{declared}
-use Rattle.paper_rules.specs.Opening.{ifBelow}
+use Rattle.paper_table.specs.Lists.{firstAt}
+use Rattle.paper_table.specs.References.{Ref, named}
+use Rattle.paper_table.specs.Types.{Argument}
+use Rattle.paper_query.specs.Constructs.{Doc, count, rowOf, nameOf, is, isValue, below, numbersWhere}
+use Rattle.paper_query.specs.Enclosing.{FieldIs, typename, member, missing, unknown}
+use Rattle.paper_query.specs.PlaceTypes.{Shape}
+use Rattle.paper_query.specs.Reaching.{Reaches}
+use Rattle.paper_query.specs.Rule11VariableType.{declared}
+use Rattle.paper_query.specs.Opening.{ifBelow}
 use Rattle.paper_values.specs.Values.{At, Value, Entries, Due}
 use Rattle.paper_values.specs.Kinds.{dueArgument}
 use Rattle.paper_values.specs.RowValues.{refIn, placed, valueOfRow, entriesFrom}

@@ -7,9 +7,9 @@ use Prim.Native.Nat.{ℕ, zero, suc, _+_, _-_, _/_, _%_}
 use lib.ListN.{take, drop}
 use lib.Dec.{eqb}
 use Rattle.paper.specs.Numbers.{kindArgument, kindObjectField, kindVariable, kindInteger, kindFloat, kindString, kindBoolean, kindNull, kindEnum, kindList, extraTrue, wrapList, mostLevels, mostWrappers}
-use Rattle.paper_types.specs.References.{Ref, named, listOf, nonNull}
-use Rattle.paper_rules.specs.Constructs.{Doc, count, rowOf, kindOf, parentOf, extraOf, nameOf}
-use Rattle.paper_rules.specs.PlaceTypes.{Shape}
+use Rattle.paper_table.specs.References.{Ref, named, listOf, nonNull}
+use Rattle.paper_query.specs.Constructs.{Doc, count, rowOf, kindOf, parentOf, extraOf, nameOf}
+use Rattle.paper_query.specs.PlaceTypes.{Shape}
 use Rattle.paper_values.specs.Characters.{charactersOf}
 use Rattle.paper_values.specs.Values.{At, Value, variable, integer, float, string, boolean, null, enum, list, object, Values, end, item, Entries, close, entry}
 

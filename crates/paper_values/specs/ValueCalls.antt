@@ -17,12 +17,12 @@ use Rattle.paper.specs.Reading.{rows-are, refuses, Said}
 use Rattle.paper.specs.Calls.{filled, tells}
 use Rattle.paper.specs.declared.Refusal.{Refusal}
 use Rattle.paper.specs.declared.Refusal.the-variants.{Buffer, OverLength}
-use Rattle.paper_types.specs.TableNumbers.{mostTable, inputTable}
-use Rattle.paper_types.specs.Types.{tableOf}
-use Rattle.paper_rules.specs.Constructs.{Doc}
-use Rattle.paper_rules.specs.Enclosing.{fieldAt}
-use Rattle.paper_rules.specs.DocumentCalls.{read}
-use Rattle.paper_rules.specs.Opening.{refuseNoOperation, stops, opens, Opened}
+use Rattle.paper_table.specs.TableNumbers.{mostTable, inputTable}
+use Rattle.paper_table.specs.Types.{tableOf}
+use Rattle.paper_query.specs.Constructs.{Doc}
+use Rattle.paper_query.specs.Enclosing.{fieldAt}
+use Rattle.paper_query.specs.DocumentCalls.{read}
+use Rattle.paper_query.specs.Opening.{refuseNoOperation, stops, opens, Opened}
 use Rattle.paper_values.specs.ValueNumbers.{refuseValue, refuseTooLong, mostCoerced}
 use Rattle.paper_values.specs.Values.{Tree, Fields, Pairs, Out, Got, No, andThen}
 use Rattle.paper_values.specs.Kinds.{kindOfType}

@@ -13,15 +13,15 @@ use lib.Dec.{eqb}
 use borrow.Author.Tests.{eqb-true, eq-eqb, ltb-true}
 use Rattle.paper.specs.Numbers.{kindField}
 use Rattle.paper.specs.Rows.{Row}
-use Rattle.paper_types.specs.Lists.{anyOf, firstAt}
-use Rattle.paper_types.proofs.ListsLaws.{any-first}
-use Rattle.paper_rules.specs.Constructs.{Doc, count, rowOf, noRow, is, isSelection, below}
-use Rattle.paper_rules.specs.Reaching.{Reaches}
-use Rattle.paper_rules.specs.Rule6Leaf.{hasSelections}
-use Rattle.constructs.specs.Rowed.{Decides}
-use Rattle.links.proofs.Nexts.{next-passes, next-all}
+use Rattle.paper_table.specs.Lists.{anyOf, firstAt}
+use Rattle.paper_table.proofs.ListsLaws.{any-first}
+use Rattle.paper_query.specs.Constructs.{Doc, count, rowOf, noRow, is, isSelection, below}
+use Rattle.paper_query.specs.Reaching.{Reaches}
+use Rattle.paper_query.specs.Rule6Leaf.{hasSelections}
+use Rattle.query_rows.specs.Rowed.{Decides}
+use Rattle.query_links.proofs.Nexts.{next-passes, next-all}
 use Rattle.paper_plan.specs.Collecting.{elem}
-use Rattle.paper_rules.specs.Constructs.{numbersWhere}
+use Rattle.paper_query.specs.Constructs.{numbersWhere}
 use Rattle.paper_plan.specs.Selecting.{setOf, IsBlock, Above, Rising, BlockRows}
 use Rattle.plan_theory.proofs.Same.{clash, and-l, and-r}
 use Rattle.plan_theory.proofs.NumbersOf.{where-kept, where-keeps, or-l, or-r, or-case}

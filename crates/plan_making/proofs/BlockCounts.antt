@@ -10,7 +10,7 @@ use lib.Seq.{getD-take, length-take-le}
 use lib.Dec.{eqb}
 use borrow.Author.Tests.{eq-eqb, eqb-true}
 use Rattle.paper.specs.Numbers.{kindOperation, kindField}
-use Rattle.paper_rules.specs.Constructs.{Doc, count, rowOf, is}
+use Rattle.paper_query.specs.Constructs.{Doc, count, rowOf, is}
 use Rattle.paper_plan.specs.Collecting.{elem}
 use Rattle.paper_plan.specs.Selecting.{IsBlock, Above, Rising}
 use Rattle.plan_theory.proofs.NumbersOf.{or-l, or-r}
@@ -33,7 +33,7 @@ rising-most (x ∷ xs) low n h r f =
     omega (arith, m, w .0)
 
 -- one number from low on is none of them
-rising-but : (xs : List ℕ) (low n o : ℕ) → low ≤ o → o < n → Rising xs → ((x : ℕ) → elem eqb x xs ≡ true → (low ≤ x) × (x < n)) → (elem eqb o xs ≡ true → ⊥) → length xs + low < n
+pub rising-but : (xs : List ℕ) (low n o : ℕ) → low ≤ o → o < n → Rising xs → ((x : ℕ) → elem eqb x xs ≡ true → (low ≤ x) × (x < n)) → (elem eqb o xs ≡ true → ⊥) → length xs + low < n
 rising-but [] low n o h l r f g = omega arith
 rising-but (x ∷ xs) low n o h l r f g = go (decLt x o) (λ (u : x < o). rising-but xs (suc x) n o u l (r .1) rest (λ e. g (or-r (eqb o x) e)))
   where

@@ -9,11 +9,11 @@ use lib.ListN.{length, getD, take, replicate}
 use lib.Seq.{length-take-le}
 use lib.Dec.{T}
 use Rattle.paper.specs.Numbers.{mostRows, kindOperation, kindFragment, kindSpread}
-use Rattle.paper_types.specs.Types.{Table, tableOf}
-use Rattle.paper_rules.specs.Constructs.{Doc, count, rowOf, is, nameOf, fragmentNamed}
-use Rattle.constructs.specs.Rowed.{rowIn, rowsIn, docOf, Rowed}
-use Rattle.constructs.proofs.RowsIn.{rows-count}
-use Rattle.spreading.specs.Owners.{Defines}
+use Rattle.paper_table.specs.Types.{Table, tableOf}
+use Rattle.paper_query.specs.Constructs.{Doc, count, rowOf, is, nameOf, fragmentNamed}
+use Rattle.query_rows.specs.Rowed.{rowIn, rowsIn, docOf, Rowed}
+use Rattle.query_rows.proofs.RowsIn.{rows-count}
+use Rattle.query_spreads.specs.Owners.{Defines}
 use Rattle.paper_plan.specs.Planning.{Plan, planOf}
 use Rattle.paper_plan.specs.Selecting.{BlockRows, byNumbers, setOf, planFor}
 use Rattle.paper_plan.specs.PlanNumbers.{planSize, mostSteps, mostBlocks, planNumbers}
@@ -62,7 +62,7 @@ module _ (t book s rows : List ℕ) (n o : ℕ) (a : Asked t book s rows n o) wh
           held = λ b h. let l = block-low d o (a .operation) out m n (rows-count rows n) (w .outs) (w .blocks) b h in omega (arith, l, a .rowed .few);
         }
 
-    kinds : (r j : ℕ) → r < n → j < getD cells (16 * r + 3) 0 → (1 ≤ getD cells (16 * r + 4 + 2 * j) 0) × (getD cells (16 * r + 4 + 2 * j) 0 ≤ 4)
+    kinds : (r j : ℕ) → r < n → j < getD cells (12 * r + 3) 0 → (1 ≤ getD cells (12 * r + 4 + 2 * j) 0) × (getD cells (12 * r + 4 + 2 * j) 0 ≤ 4)
     kinds r j l h = table-kinds t s rows n o cells (w .table) r j l h
 
     made-is : planOf (byNumbers (tableOf t) d o) (suc n) (map (setOf d) (o ∷ take m out)) ≡ planFor (tableOf t) d o (o ∷ take m out)

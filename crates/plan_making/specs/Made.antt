@@ -7,11 +7,11 @@ use mathlib.Core.Logic.{_⊎_}
 use Prim.Native.Nat.{ℕ, suc, _*_, _-_, _≤_, _<_}
 use lib.ListN.{length, replicate}
 use Rattle.paper.specs.Numbers.{kindOperation}
-use Rattle.paper_types.specs.Types.{Table}
-use Rattle.paper_rules.specs.Constructs.{Doc, rowOf, is}
-use Rattle.types.specs.Booked.{Booked}
-use Rattle.constructs.specs.Rowed.{rowsIn, docOf, Rowed, roomOf}
-use Rattle.links.specs.Links.{firstsSize, Family}
+use Rattle.paper_table.specs.Types.{Table}
+use Rattle.paper_query.specs.Constructs.{Doc, rowOf, is}
+use Rattle.table_types.specs.Booked.{Booked}
+use Rattle.query_rows.specs.Rowed.{rowsIn, docOf, Rowed, roomOf}
+use Rattle.query_links.specs.Links.{firstsSize, Family}
 use Rattle.paper_plan.specs.Selecting.{BlockRows, planFor}
 use Rattle.paper_plan.specs.PlanNumbers.{planSize, mostSteps, planNumbers}
 use Rattle.plan_theory.proofs.Plannable.{Plannable}
@@ -47,7 +47,7 @@ Room n l = length l ≡ roomOf n
 -- the links, the table and the blocks' rows
 pub record Prepared (t s rows : List ℕ) (n o : ℕ) (first next cells out : List ℕ) (m : ℕ) : Type 0 where
   pub family : Family (rowsIn rows n) first next
-  pub long : 16 * n ≤ length cells
+  pub long : 12 * n ≤ length cells
   pub table : TableTo t s rows n o cells n
   pub outs : n ≤ length out
   pub blocks : BlocksTo (docOf s rows n) o out m n

@@ -8,11 +8,11 @@ ghost use mathlib.Core.List.{_∷_};
 ghost use Prim.Native.Nat.{_+_, _*_, _≤_, _<_};
 ghost use lib.ListN.{length, take};
 ghost use Rattle.paper.specs.Numbers.{rowsSize, mostRows};
-ghost use Rattle.paper_types.specs.Types.{tableOf};
-ghost use Rattle.types.specs.Booked.{Booked};
-ghost use Rattle.constructs.specs.Rowed.{rowsIn, docOf, Rowed, fewRows};
-ghost use Rattle.links.specs.Links.{firstsSize, kindsSize, Family, Kinds};
-ghost use Rattle.spreading.specs.Owners.{Defines};
+ghost use Rattle.paper_table.specs.Types.{tableOf};
+ghost use Rattle.table_types.specs.Booked.{Booked};
+ghost use Rattle.query_rows.specs.Rowed.{rowsIn, docOf, Rowed, fewRows};
+ghost use Rattle.query_links.specs.Links.{firstsSize, kindsSize, Family, Kinds};
+ghost use Rattle.query_spreads.specs.Owners.{Defines};
 ghost use Rattle.paper_plan.specs.PlanNumbers.{planSize};
 ghost use Rattle.plan_theory.proofs.Plannable.{Plannable};
 ghost use Rattle.plan_keys.specs.Keyed.{buckets};
@@ -32,11 +32,11 @@ const KINDS: usize = 32;
 
 const BUCKETS: usize = 2048;
 
-const FEW_CELLS: usize = 4096;
+const FEW_CELLS: usize = 3072;
 
-const CELLS: usize = 32768;
+const CELLS: usize = 24576;
 
-// Lists the rows of the blocks behind the operation's, and says how many there are.
+// Lists the rows of the blocks behind the operation's in `target`, and says how many there are.
 fn find_blocks(
     s: &[u8],
     rows: &[u32],
@@ -52,17 +52,16 @@ fn find_blocks(
     firsts: &mut [u32],
     nexts: &mut [u32],
     stack: &mut [u16],
-    out: &mut [u32],
 ) -> usize
-    requires { ⌜ Rowed (now s) (now rows) n × Family (rowsIn (now rows) n) (now first) (now next) × Kinds (rowsIn (now rows) n) (now firstk) (now nextk) × Defines (docOf (now s) (now rows) n) o × Room n (now owner) × Room n (now mark) × Room n (now target) × (length (now firsts) ≡ firstsSize) × Room n (now nexts) × Room n (now stack) × (n ≤ length (now out)) ⌝ }
-    ensures { λ r. ⌜ BlocksTo (docOf (now (s .entry)) (now (rows .entry)) n) o (now (out .exit)) r n ⌝ }
+    requires { ⌜ Rowed (now s) (now rows) n × Family (rowsIn (now rows) n) (now first) (now next) × Kinds (rowsIn (now rows) n) (now firstk) (now nextk) × Defines (docOf (now s) (now rows) n) o × Room n (now owner) × Room n (now mark) × Room n (now target) × (length (now firsts) ≡ firstsSize) × Room n (now nexts) × Room n (now stack) ⌝ }
+    ensures { λ r. ⌜ BlocksTo (docOf (now (s .entry)) (now (rows .entry)) n) o (now (target .exit)) r n ⌝ }
 {
-    links::clear(mark, 0);
-    spreading::owners(s, rows, n, owner);
-    spreading::targets(s, rows, n, firstk, nextk, target);
-    spreading::spreads(s, rows, n, owner, firsts, nexts);
-    reaching::reach(s, rows, n, target, firsts, nexts, mark, stack, o);
-    plan_blocks::list_blocks(s, rows, n, first, next, owner, mark, o, out)
+    query_links::clear(mark, 0);
+    query_spreads::owners(s, rows, n, owner);
+    query_spreads::targets(s, rows, n, firstk, nextk, target);
+    query_spreads::spreads(s, rows, n, owner, firsts, nexts);
+    query_reach::reach(s, rows, n, target, firsts, nexts, mark, stack, o);
+    plan_blocks::list_blocks(s, rows, n, first, next, owner, mark, o, target)
 }
 
 // Fills the table.
@@ -81,9 +80,9 @@ fn fill_cells(
     keys: &mut [u32],
     heads: &mut [u32],
     nexts: &mut [u32],
-    cells: &mut [u32],
+    cells: &mut [u16],
 )
-    requires { ⌜ Asked (now t) (now book) (now s) (now rows) n o × Family (rowsIn (now rows) n) (now first) (now next) × Kinds (rowsIn (now rows) n) (now firstk) (now nextk) × Room n (now ranks) × Room n (now keys) × (length (now heads) ≡ buckets) × Room n (now nexts) × (16 * n ≤ length (now cells)) ⌝ }
+    requires { ⌜ Asked (now t) (now book) (now s) (now rows) n o × Family (rowsIn (now rows) n) (now first) (now next) × Kinds (rowsIn (now rows) n) (now firstk) (now nextk) × Room n (now ranks) × Room n (now keys) × (length (now heads) ≡ buckets) × Room n (now nexts) × (12 * n ≤ length (now cells)) ⌝ }
     ensures { λ _. ⌜ TableTo (now (t .entry)) (now (s .entry)) (now (rows .entry)) n o (now (cells .exit)) n ⌝ }
 {
     plan_rows::rank_fragments(rows, n, ranks);
@@ -123,14 +122,13 @@ fn ready(
     firsts: &mut [u32],
     nexts: &mut [u32],
     stack: &mut [u16],
-    cells: &mut [u32],
-    out: &mut [u32],
+    cells: &mut [u16],
 ) -> usize
-    requires { ⌜ Asked (now t) (now book) (now s) (now rows) n o × (length (now first) ≡ firstsSize) × Room n (now next) × (length (now firstk) ≡ kindsSize) × Room n (now nextk) × Room n (now owner) × Room n (now mark) × Room n (now target) × (length (now firsts) ≡ firstsSize) × Room n (now nexts) × Room n (now stack) × (16 * n ≤ length (now cells)) × (n ≤ length (now out)) ⌝ }
-    ensures { λ r. ⌜ Prepared (now (t .entry)) (now (s .entry)) (now (rows .entry)) n o (now (first .exit)) (now (next .exit)) (now (cells .exit)) (now (out .exit)) r ⌝ }
+    requires { ⌜ Asked (now t) (now book) (now s) (now rows) n o × (length (now first) ≡ firstsSize) × Room n (now next) × (length (now firstk) ≡ kindsSize) × Room n (now nextk) × Room n (now owner) × Room n (now mark) × Room n (now target) × (length (now firsts) ≡ firstsSize) × Room n (now nexts) × Room n (now stack) × (12 * n ≤ length (now cells)) ⌝ }
+    ensures { λ r. ⌜ Prepared (now (t .entry)) (now (s .entry)) (now (rows .entry)) n o (now (first .exit)) (now (next .exit)) (now (cells .exit)) (now (target .exit)) r ⌝ }
 {
-    links::families(s, rows, n, first, next);
-    links::kinds(rows, n, firstk, nextk);
+    query_links::families(s, rows, n, first, next);
+    query_links::kinds(rows, n, firstk, nextk);
     let m = find_blocks(
         s,
         rows,
@@ -146,7 +144,6 @@ fn ready(
         firsts,
         nexts,
         stack,
-        out,
     );
     fill_cells(
         t,
@@ -170,20 +167,22 @@ fn ready(
 
 // Clears the plan's buffer and writes the plan; its count of steps, or 4,097 where there are more than 4,096.
 fn write_cleared(
-    cells: &[u32],
+    cells: &[u16],
     n: usize,
     first: &[u32],
     next: &[u32],
     o: u32,
     out: &[u32],
     m: usize,
+    opened: &mut [u32],
+    begun: &mut [u32],
     plan: &mut [u32],
 ) -> usize
-    requires { ⌜ Tables (now cells) n (now first) (now next) × Holders o (now out) m × (length (now plan) ≡ planSize) ⌝ }
+    requires { ⌜ Tables (now cells) n (now first) (now next) × Holders o (now out) m × (length (now plan) ≡ planSize) × (n ≤ length (now opened)) × (n ≤ length (now begun)) ⌝ }
     ensures { λ r. ⌜ Writes (now (cells .entry)) n (o ∷ take m (now (out .entry))) (now (plan .exit)) r ⌝ }
 {
-    buffers::clear(plan, 0);
-    write_plan(cells, n, first, next, o, out, m, plan)
+    call_buffers::clear(plan, 0);
+    write_plan(cells, n, first, next, o, out, m, opened, begun, plan)
 }
 
 // Makes the plan of a document of few rows, in room for few.
@@ -201,8 +200,7 @@ fn make_few(t: &[u8], book: &[u32], s: &[u8], plan: &mut [u32], n: usize, o: usi
     let mut firsts = [0u32; FIRSTS];
     let mut nexts = [0u32; FEW_ROWS];
     let mut stack = [0u16; FEW_ROWS];
-    let mut cells = [0u32; FEW_CELLS];
-    let mut out = [0u32; FEW_ROWS];
+    let mut cells = [0u16; FEW_CELLS];
     let m = ready(
         t,
         book,
@@ -221,9 +219,19 @@ fn make_few(t: &[u8], book: &[u32], s: &[u8], plan: &mut [u32], n: usize, o: usi
         &mut nexts,
         &mut stack,
         &mut cells,
-        &mut out,
     );
-    write_cleared(&cells, n, &first, &next, o as u32, &out, m, plan)
+    write_cleared(
+        &cells,
+        n,
+        &first,
+        &next,
+        o as u32,
+        &target,
+        m,
+        &mut owner,
+        &mut mark,
+        plan,
+    )
 }
 
 // Makes the plan of a document of more rows than few.
@@ -241,8 +249,7 @@ fn make_many(t: &[u8], book: &[u32], s: &[u8], plan: &mut [u32], n: usize, o: us
     let mut firsts = [0u32; FIRSTS];
     let mut nexts = [0u32; ROWS];
     let mut stack = [0u16; ROWS];
-    let mut cells = [0u32; CELLS];
-    let mut out = [0u32; ROWS];
+    let mut cells = [0u16; CELLS];
     let m = ready(
         t,
         book,
@@ -261,9 +268,19 @@ fn make_many(t: &[u8], book: &[u32], s: &[u8], plan: &mut [u32], n: usize, o: us
         &mut nexts,
         &mut stack,
         &mut cells,
-        &mut out,
     );
-    write_cleared(&cells, n, &first, &next, o as u32, &out, m, plan)
+    write_cleared(
+        &cells,
+        n,
+        &first,
+        &next,
+        o as u32,
+        &target,
+        m,
+        &mut owner,
+        &mut mark,
+        plan,
+    )
 }
 
 // Makes the plan of the operation of row o into the plan's buffer, which holds the n rows of the document; its count of steps, or 4,097 where there

@@ -2,3 +2,4 @@
 pub mod RowLaws
 pub mod RightLaws
 pub mod TableLaws
+pub mod FewLaws

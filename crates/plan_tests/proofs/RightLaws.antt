@@ -12,7 +12,7 @@ use borrow.Author.Tests.{eq-eqb, ne-eqb, lt-leb, le-leb}
 use Rattle.paper.specs.Numbers.{mostRows, kindField, kindInline}
 use Rattle.paper_plan.specs.Collecting.{Cond, absent, literal, variable, Sort, field, spread, inline, View}
 use Rattle.paper_plan.specs.Planning.{Test, if-true, unless-true, unless-applies, if-met, Step, skipTests, includeTests, conditionTests, dropped, tests, sortTests, content}
-use Rattle.plan_walk.specs.Numbers.{testOf}
+use Rattle.plan_walk_steps.specs.Numbers.{testOf}
 use Rattle.plan_steps.specs.Table.{testsFrom}
 use Rattle.plan_conditions.specs.declared.If.{If}
 use Rattle.plan_conditions.specs.declared.If.the-variants.{Absent, Literal, Variable}
@@ -97,19 +97,19 @@ drops-coded (variable u) (literal b) = refl
 drops-coded (variable u) (variable v) = refl
 
 -- what a condition writes
-put-skip : (a : Cond) (row row′ : List ℕ) (m k : ℕ) (ts : List Test) → TestsAre row m ts → m < 6 → PutIf row m 1 (coded a) row′ k → TestsAre row′ k (ts ++ skipTests a) × (k ≤ m + 1)
+put-skip : (a : Cond) (row row′ : List ℕ) (m k : ℕ) (ts : List Test) → TestsAre row m ts → m < 4 → PutIf row m 1 (coded a) row′ k → TestsAre row′ k (ts ++ skipTests a) × (k ≤ m + 1)
 put-skip absent row row′ m k ts w h p = (subst (λ (l : List ℕ). TestsAre l k (ts ++ [])) (sym (p .0)) (subst (λ (n : ℕ). TestsAre row n (ts ++ [])) (sym (p .1)) (subst (TestsAre row m) (sym (append-nil ts)) w)), omega (arith, p .1))
 put-skip (literal b) row row′ m k ts w h p = (subst (λ (l : List ℕ). TestsAre l k (ts ++ [])) (sym (p .0)) (subst (λ (n : ℕ). TestsAre row n (ts ++ [])) (sym (p .1)) (subst (TestsAre row m) (sym (append-nil ts)) w)), omega (arith, p .1))
 put-skip (variable v) row row′ m k ts w h p =
     (subst (λ (n : ℕ). TestsAre row′ n (ts ++ (if-true v ∷ []))) (sym (p .1)) (subst (λ (t : Test). TestsAre row′ (m + 1) (ts ++ (t ∷ []))) (test-1 v) (tests-put row m ts w row′ 1 v h (omega arith) (omega arith) (p .0))), omega (arith, p .1))
 
-put-include : (a : Cond) (row row′ : List ℕ) (m k : ℕ) (ts : List Test) → TestsAre row m ts → m < 6 → PutIf row m 2 (coded a) row′ k → TestsAre row′ k (ts ++ includeTests a) × (k ≤ m + 1)
+put-include : (a : Cond) (row row′ : List ℕ) (m k : ℕ) (ts : List Test) → TestsAre row m ts → m < 4 → PutIf row m 2 (coded a) row′ k → TestsAre row′ k (ts ++ includeTests a) × (k ≤ m + 1)
 put-include absent row row′ m k ts w h p = (subst (λ (l : List ℕ). TestsAre l k (ts ++ [])) (sym (p .0)) (subst (λ (n : ℕ). TestsAre row n (ts ++ [])) (sym (p .1)) (subst (TestsAre row m) (sym (append-nil ts)) w)), omega (arith, p .1))
 put-include (literal b) row row′ m k ts w h p = (subst (λ (l : List ℕ). TestsAre l k (ts ++ [])) (sym (p .0)) (subst (λ (n : ℕ). TestsAre row n (ts ++ [])) (sym (p .1)) (subst (TestsAre row m) (sym (append-nil ts)) w)), omega (arith, p .1))
 put-include (variable v) row row′ m k ts w h p =
     (subst (λ (n : ℕ). TestsAre row′ n (ts ++ (unless-true v ∷ []))) (sym (p .1)) (subst (λ (t : Test). TestsAre row′ (m + 1) (ts ++ (t ∷ []))) (test-2 v) (tests-put row m ts w row′ 2 v h (omega arith) (omega arith) (p .0))), omega (arith, p .1))
 
-put-size : (a : If) (row row′ : List ℕ) (m k x : ℕ) → PutIf row m x a row′ k → m < 6 → length row ≡ rowCells → (length row′ ≡ rowCells) × (k ≤ m + 1)
+put-size : (a : If) (row row′ : List ℕ) (m k x : ℕ) → PutIf row m x a row′ k → m < 4 → length row ≡ rowCells → (length row′ ≡ rowCells) × (k ≤ m + 1)
 put-size Absent row row′ m k x p h e = (ap length (p .0) ∙ e, omega (arith, p .1))
 put-size (Literal b) row row′ m k x p h e = (ap length (p .0) ∙ e, omega (arith, p .1))
 put-size (Variable v) row row′ m k x p h e = (ap length (p .0) ∙ lib.Seq.length-sets row (4 + 2 * m) (x ∷ v ∷ []) ∙ e, omega (arith, p .1))

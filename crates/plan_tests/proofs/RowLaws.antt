@@ -1,4 +1,4 @@
--- Tests written into the sixteen numbers of a row, one behind the other; and its first four numbers.
+-- Tests written into the twelve numbers of a row, one behind the other; and its first four numbers.
 use mathlib.Core.Path.{_≡_, refl, sym, ap, _∙_, subst}
 use mathlib.Core.List.{List, [], _∷_, _++_}
 use Prim.Native.Nat.{ℕ, zero, suc, _+_, _*_, _≤_, _<_}
@@ -7,7 +7,7 @@ use native.Mathlib.Omega.{arith}
 use lib.ListN.{length, getD, set, length-set}
 use lib.Seq.{sets, length-sets, getD-set-same, getD-set-other}
 use Rattle.paper_plan.specs.Planning.{Test}
-use Rattle.plan_walk.specs.Numbers.{testOf}
+use Rattle.plan_walk_steps.specs.Numbers.{testOf}
 use Rattle.plan_steps.specs.Table.{testsFrom}
 use Rattle.plan_tests.specs.Right.{rowCells, TestsAre}
 
@@ -43,7 +43,7 @@ tests-start row e = record { size = e; are = refl; kinds = λ j h. absurd (omega
 
 -- one test more
 module _ (row : List ℕ) (m : ℕ) (ts : List Test) (w : TestsAre row m ts) where
-  pub tests-put : (row′ : List ℕ) (k x : ℕ) → m < 6 → 1 ≤ k → k ≤ 4 → row′ ≡ sets row (4 + 2 * m) (k ∷ x ∷ []) → TestsAre row′ (m + 1) (ts ++ (testOf k x ∷ []))
+  pub tests-put : (row′ : List ℕ) (k x : ℕ) → m < 4 → 1 ≤ k → k ≤ 4 → row′ ≡ sets row (4 + 2 * m) (k ∷ x ∷ []) → TestsAre row′ (m + 1) (ts ++ (testOf k x ∷ []))
   tests-put row′ k x few least low e = record {
     size = ap length e ∙ length-sets row (4 + 2 * m) (k ∷ x ∷ []) ∙ w .size;
     are = let one : m + 1 ≡ suc m = omega arith in

@@ -13,17 +13,17 @@ use borrow.Author.Tests.{eq-eqb, ne-eqb}
 use borrow.Rule.Slice.PartMut.{putMid, post-is}
 use Rattle.paper.specs.Numbers.{mostRows, kindField, kindSpread, kindInline, kindFragment, kindTypeReference, kindBoolean}
 use Rattle.paper.specs.Rows.{Row}
-use Rattle.paper_types.specs.Lists.{bytes, firstAt, find, eachFrom, onlyIf}
-use Rattle.paper_types.specs.Types.{Table, tableOf}
-use Rattle.paper_types.proofs.ListsLaws.{firstAt-most}
-use Rattle.paper_rules.specs.Constructs.{Doc, count, rowOf, noRow, is, isSelection, isValue, below, called, spelt, nameOf, numbersWhere, fragmentNamed}
-use Rattle.paper_rules.specs.Enclosing.{compositeOf, conditionOf}
-use Rattle.index.specs.Book.{part}
-use Rattle.constructs.specs.Rowed.{rowIn, rowsIn, docOf, Rowed}
-use Rattle.constructs.proofs.RowsIn.{rows-count}
-use Rattle.links.proofs.Nexts.{find-yes, find-no}
-use Rattle.siblings.specs.Alike.{isBelow, firstBelow}
-use Rattle.composites.specs.Coded.{typeCoded}
+use Rattle.paper_table.specs.Lists.{bytes, firstAt, find, eachFrom, onlyIf}
+use Rattle.paper_table.specs.Types.{Table, tableOf}
+use Rattle.paper_table.proofs.ListsLaws.{firstAt-most}
+use Rattle.paper_query.specs.Constructs.{Doc, count, rowOf, noRow, is, isSelection, isValue, below, called, spelt, nameOf, numbersWhere, fragmentNamed}
+use Rattle.paper_query.specs.Enclosing.{compositeOf, conditionOf}
+use Rattle.table_book.specs.Book.{part}
+use Rattle.query_rows.specs.Rowed.{rowIn, rowsIn, docOf, Rowed}
+use Rattle.query_rows.proofs.RowsIn.{rows-count}
+use Rattle.query_links.proofs.Nexts.{find-yes, find-no}
+use Rattle.query_siblings.specs.Alike.{isBelow, firstBelow}
+use Rattle.query_types.specs.Coded.{typeCoded}
 use Rattle.paper_plan.specs.Keys.{keyAt, keyNumber}
 use Rattle.paper_plan.specs.Collecting.{Cond, absent, literal, variable, Sort, field, spread, inline, View}
 use Rattle.paper_plan.specs.Planning.{Step, tests, content, dropped, skipTests, includeTests}
@@ -246,15 +246,15 @@ module _ (t s rows : List ℕ) (n o : ℕ) (cells : List ℕ) (w : TableTo t s r
   pub table-above : (r : ℕ) → r < n → above cells r ≡ rowIn rows n r .parent
   table-above r h = sym (cell r 1 (omega arith)) ∙ w r h .its-above
 
-  pub table-few : (r : ℕ) → r < n → testCount cells r ≤ 6
+  pub table-few : (r : ℕ) → r < n → testCount cells r ≤ 4
   table-few r h = omega (arith, cell r 3 (omega arith), w r h .few)
 
   pub table-held : (r : ℕ) → r < n → arg cells r ≤ 2048
   table-held r h = omega (arith, cell r 2 (omega arith), w r h .held)
 
-  pub table-kinds : (r j : ℕ) → r < n → j < testCount cells r → (1 ≤ getD cells (16 * r + 4 + 2 * j) 0) × (getD cells (16 * r + 4 + 2 * j) 0 ≤ 4)
+  pub table-kinds : (r j : ℕ) → r < n → j < testCount cells r → (1 ≤ getD cells (12 * r + 4 + 2 * j) 0) × (getD cells (12 * r + 4 + 2 * j) 0 ≤ 4)
   table-kinds r j l m =
-      let z : rowCells * r + (4 + 2 * j) ≡ 16 * r + 4 + 2 * j = omega arith in
+      let z : rowCells * r + (4 + 2 * j) ≡ 12 * r + 4 + 2 * j = omega arith in
       let q = ap (λ (x : ℕ). getD cells x 0) z in
       let e = cell r (4 + 2 * j) (omega (arith, cell r 3 (omega arith), w r l .few)) in
       let k = w r l .kinds j (omega (arith, cell r 3 (omega arith))) in
@@ -310,9 +310,9 @@ module _ (t s rows : List ℕ) (n o : ℕ) (cells : List ℕ) (w : TableTo t s r
       one : (r h : ℕ) → r < n → belongs cells h r ≡ true → RowOf cells n (byNumbers (tableOf t) d o) r
       one r h l e = record {
         drops = ap (λ (x : ℕ). eqb x 3) (sym (first-cell r)) ∙ w r l .drops sel;
-        kinds = λ j m. let z : rowCells * r + (4 + 2 * j) ≡ 16 * r + 4 + 2 * j = omega arith in
+        kinds = λ j m. let z : rowCells * r + (4 + 2 * j) ≡ 12 * r + 4 + 2 * j = omega arith in
             omega (arith, ap (λ (x : ℕ). getD cells x 0) z, cell r (4 + 2 * j) (omega (arith, cell r 3 (omega arith), w r l .few)), w r l .kinds j (omega (arith, cell r 3 (omega arith))) .1);
-        its-tests = λ z. tests-frame cells (cellsOf cells r) (16 * r + 4) 4 (testCount cells r) (λ k m. let y : 16 * r + 4 + k ≡ rowCells * r + (4 + k) = omega arith in
+        its-tests = λ z. tests-frame cells (cellsOf cells r) (12 * r + 4) 4 (testCount cells r) (λ k m. let y : 12 * r + 4 + k ≡ rowCells * r + (4 + k) = omega arith in
             ap (λ (x : ℕ). getD cells x 0) y ∙ sym (cell r (4 + k) (omega (arith, cell r 3 (omega arith), w r l .few)))) ∙ ap (testsFrom (cellsOf cells r) 4) (sym (cell r 3 (omega arith))) ∙ w r l .its-tests sel (λ y. z (sym (first-cell r) ∙ y));
         a-field = λ z. w r l .a-field sel (first-cell r ∙ z) ∙ ap field (cell r 2 (omega arith));
         nested = λ z y at inner. w r l .nested sel (λ x. z (sym (first-cell r) ∙ x)) (λ x. y (sym (first-cell r) ∙ x)) at inner ∙ ap (λ (x : ℕ). inner at (setOf d x)) (cell r 2 (omega arith)) ∙ ap (inner at) (sym (table-set (arg cells r)));

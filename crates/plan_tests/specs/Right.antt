@@ -1,4 +1,4 @@
--- The planner's first pass: a table of sixteen numbers a row (plan_steps has their meaning), and what it is made from.
+-- The planner's first pass: a table of twelve numbers a row (plan_steps has their meaning), and what it is made from.
 -- Assumes nothing.
 use mathlib.Core.Path.{_≡_}
 use mathlib.Core.Bool.{Bool, true, false, not, _||_}
@@ -9,11 +9,11 @@ use lib.ListN.{length, getD, take, drop}
 use lib.Seq.{sets}
 use lib.Dec.{eqb}
 use Rattle.paper.specs.Numbers.{mostRows, kindSpread}
-use Rattle.paper_types.specs.Types.{tableOf}
-use Rattle.paper_rules.specs.Constructs.{is, isSelection, nameOf, fragmentNamed}
-use Rattle.types.specs.Booked.{Booked}
-use Rattle.constructs.specs.Rowed.{rowIn, rowsIn, docOf, Rowed}
-use Rattle.links.specs.Links.{Family, Kinds}
+use Rattle.paper_table.specs.Types.{tableOf}
+use Rattle.paper_query.specs.Constructs.{is, isSelection, nameOf, fragmentNamed}
+use Rattle.table_types.specs.Booked.{Booked}
+use Rattle.query_rows.specs.Rowed.{rowIn, rowsIn, docOf, Rowed}
+use Rattle.query_links.specs.Links.{Family, Kinds}
 use Rattle.paper_plan.specs.Collecting.{Sort, field, View}
 use Rattle.paper_plan.specs.Planning.{Test, Step, tests, content, dropped}
 use Rattle.paper_plan.specs.Selecting.{byNumbers, setOf}
@@ -26,7 +26,7 @@ use Rattle.plan_steps.specs.Table.{testsFrom}
 
 -- a row's numbers, and what a row is
 abbrev pub rowCells : ℕ
-rowCells = 16
+rowCells = 12
 
 abbrev pub whatNone : ℕ
 whatNone = 0
@@ -92,11 +92,11 @@ pub record TestsAre (row : List ℕ) (m : ℕ) (ts : List Test) : Type 0 where
   pub are : testsFrom row 4 m ≡ ts
   pub kinds : (j : ℕ) → j < m → (1 ≤ getD row (4 + 2 * j) 0) × (getD row (4 + 2 * j) 0 ≤ 4)
 
--- the sixteen numbers of row r, by the view v of the document, its parent, and whether it is a selection; `set` gives a row's selections
+-- the twelve numbers of row r, by the view v of the document, its parent, and whether it is a selection; `set` gives a row's selections
 pub record Right (v : View ℕ) (set : ℕ → List ℕ) (r above : ℕ) (selects : Bool) (row : List ℕ) : Type 0 where
   pub size : length row ≡ rowCells
   pub its-above : getD row 1 0 ≡ above
-  pub few : getD row 3 0 ≤ 6
+  pub few : getD row 3 0 ≤ 4
   pub held : getD row 2 0 ≤ mostRows
   pub no-selection : selects ≡ false → getD row 0 0 ≡ 0
   pub selection : selects ≡ true → getD row 0 0 ≡ 0 → ⊥

@@ -1,16 +1,16 @@
-// The planner's first pass: what each row of a document is to the plan, and what is tested before it, as sixteen numbers a row.
+// The planner's first pass: what each row of a document is to the plan, and what is tested before it, as twelve numbers a row.
 // All reading of names, directives, literals, fragments and types is done here, once for each row.
-use constructs::kind_of;
-use constructs::name_of;
-use constructs::parent_of;
-use constructs::size_of;
-use links::link_of;
 use paper::KIND_FIELD;
 use paper::KIND_INLINE;
 use paper::KIND_SPREAD;
 use paper::KIND_TYPE_REFERENCE;
 use plan_conditions::If;
-use siblings::first_below;
+use query_links::link_of;
+use query_rows::kind_of;
+use query_rows::name_of;
+use query_rows::parent_of;
+use query_rows::size_of;
+use query_siblings::first_below;
 ghost use mathlib.Core.Path.{_≡_};
 ghost use mathlib.Core.Bool.{true, false, _&&_};
 ghost use mathlib.Core.List.{[], _∷_, _++_};
@@ -19,19 +19,19 @@ ghost use lib.ListN.{length};
 ghost use lib.Seq.{sets};
 ghost use lib.Dec.{leb};
 ghost use Rattle.paper.specs.Numbers.{mostRows, kindField, kindSpread, kindInline};
-ghost use Rattle.paper_types.specs.Lists.{bytes};
-ghost use Rattle.paper_types.specs.Types.{tableOf};
-ghost use Rattle.paper_rules.specs.Constructs.{is, isSelection, nameOf, fragmentNamed};
-ghost use Rattle.paper_rules.specs.Enclosing.{conditionOf};
-ghost use Rattle.types.specs.Booked.{Booked};
-ghost use Rattle.constructs.specs.Rowed.{rowIn, rowsIn, docOf, Rowed};
-ghost use Rattle.links.specs.Links.{Family};
+ghost use Rattle.paper_table.specs.Lists.{bytes};
+ghost use Rattle.paper_table.specs.Types.{tableOf};
+ghost use Rattle.paper_query.specs.Constructs.{is, isSelection, nameOf, fragmentNamed};
+ghost use Rattle.paper_query.specs.Enclosing.{conditionOf};
+ghost use Rattle.table_types.specs.Booked.{Booked};
+ghost use Rattle.query_rows.specs.Rowed.{rowIn, rowsIn, docOf, Rowed};
+ghost use Rattle.query_links.specs.Links.{Family};
 ghost use Rattle.paper_plan.specs.Planning.{skipTests, includeTests, dropped};
 ghost use Rattle.paper_plan.specs.Selecting.{typeNumber, typeOn, typeIf, fragmentNumber, ifOf};
 ghost use Rattle.plan_tests.specs.Right.{rowCells, Given, Small, PutIf, skipDropsBy, includeDropsBy, dropsBy, spreadRow, inlineRow, TestsAre, RightRow, TableTo};
 
 // a row's numbers; where they stand: what the row is, its parent, its key or the row whose selections stand behind it, how many tests; the tests
-const ROW_CELLS: usize = 16;
+const ROW_CELLS: usize = 12;
 
 const CELL_WHAT: usize = 0;
 
@@ -44,46 +44,46 @@ const CELL_COUNT: usize = 3;
 const CELL_TESTS: usize = 4;
 
 // what a row is: no selection, a field, a spread or an inline fragment, a dropped selection
-const WHAT_NONE: u32 = 0;
+const WHAT_NONE: u16 = 0;
 
-const WHAT_FIELD: u32 = 1;
+const WHAT_FIELD: u16 = 1;
 
-const WHAT_NESTED: u32 = 2;
+const WHAT_NESTED: u16 = 2;
 
-const WHAT_DROPPED: u32 = 3;
+const WHAT_DROPPED: u16 = 3;
 
 // the kinds of steps that are tests
-const STEP_IF_TRUE: u32 = 1;
+const STEP_IF_TRUE: u16 = 1;
 
-const STEP_UNLESS_TRUE: u32 = 2;
+const STEP_UNLESS_TRUE: u16 = 2;
 
-const STEP_UNLESS_APPLIES: u32 = 3;
+const STEP_UNLESS_APPLIES: u16 = 3;
 
-const STEP_IF_MET: u32 = 4;
+const STEP_IF_MET: u16 = 4;
 
 // Writes what a row is.
-fn put_head(row: &mut [u32], what: u32, above: u32, behind: u32, count: u32)
-    requires { ⌜ length (now row) ≡ rowCells ⌝ }
+fn put_head(row: &mut [u16], what: u16, above: u32, behind: u32, count: u32)
+    requires { ⌜ (length (now row) ≡ rowCells) × (above ≤ mostRows) × (behind ≤ mostRows) × (count ≤ mostRows) ⌝ }
     ensures { λ _. ⌜ now (row .exit) ≡ sets (now (row .entry)) 0 (what ∷ above ∷ behind ∷ count ∷ []) ⌝ }
 {
     row[CELL_WHAT] = what;
-    row[CELL_ABOVE] = above;
-    row[CELL_BEHIND] = behind;
-    row[CELL_COUNT] = count;
+    row[CELL_ABOVE] = above as u16;
+    row[CELL_BEHIND] = behind as u16;
+    row[CELL_COUNT] = count as u16;
 }
 
 // Writes test m of a row.
-fn put_test(row: &mut [u32], m: usize, kind: u32, number: u32)
-    requires { ⌜ (length (now row) ≡ rowCells) × (m < 6) ⌝ }
+fn put_test(row: &mut [u16], m: usize, kind: u16, number: u32)
+    requires { ⌜ (length (now row) ≡ rowCells) × (m < 4) × (number ≤ mostRows) ⌝ }
     ensures { λ _. ⌜ now (row .exit) ≡ sets (now (row .entry)) (4 + 2 * m) (kind ∷ number ∷ []) ⌝ }
 {
     row[CELL_TESTS + 2 * m] = kind;
-    row[CELL_TESTS + 2 * m + 1] = number;
+    row[CELL_TESTS + 2 * m + 1] = number as u16;
 }
 
 // Writes the test of a variable's `if`, of the kind, as test m; how many tests there are then.
-fn put_if(row: &mut [u32], m: usize, kind: u32, given: If) -> usize
-    requires { ⌜ (length (now row) ≡ rowCells) × (m < 6) × Small given ⌝ }
+fn put_if(row: &mut [u16], m: usize, kind: u16, given: If) -> usize
+    requires { ⌜ (length (now row) ≡ rowCells) × (m < 4) × Small given ⌝ }
     ensures { λ r. ⌜ PutIf (now (row .entry)) m kind given (now (row .exit)) r ⌝ }
 {
     match given {
@@ -145,9 +145,9 @@ fn type_named(t: &[u8], book: &[u32], s: &[u8], rows: &[u32], n: usize, j: usize
 {
     let at = name_of(rows, n, j) as usize;
     let l = size_of(rows, n, j) as usize;
-    let c = composites::composite(t, book, s, at, l);
-    if c == composites::NO_TYPE {
-        return index::count_of(book) as u32;
+    let c = query_types::composite(t, book, s, at, l);
+    if c == query_types::NO_TYPE {
+        return table_book::count_of(book) as u32;
     }
     c - 1
 }
@@ -168,7 +168,7 @@ fn type_on(
 {
     let j = first_below(rows, n, first, next, KIND_TYPE_REFERENCE, f);
     if n <= j {
-        return index::count_of(book) as u32;
+        return table_book::count_of(book) as u32;
     }
     type_named(t, book, s, rows, n, j)
 }
@@ -189,12 +189,12 @@ fn fill_spread(
     i: usize,
     above: u32,
     m: usize,
-    row: &mut [u32],
+    row: &mut [u16],
 )
-    requires { ⌜ Given (now t) (now book) (now s) (now rows) n (now first) (now next) (now firstk) (now nextk) (now ranks) (now keys) × (i < n) × (is kindSpread (rowIn (now rows) n i) ≡ true) × (m ≤ 2) × (length (now row) ≡ rowCells) ⌝ }
+    requires { ⌜ Given (now t) (now book) (now s) (now rows) n (now first) (now next) (now firstk) (now nextk) (now ranks) (now keys) × (i < n) × (is kindSpread (rowIn (now rows) n i) ≡ true) × (m ≤ 2) × (above ≤ mostRows) × (length (now row) ≡ rowCells) ⌝ }
     ensures { λ _. ⌜ now (row .exit) ≡ spreadRow (now (row .entry)) m above (fragmentNumber (docOf (now (s .entry)) (now (rows .entry)) n) (nameOf (docOf (now (s .entry)) (now (rows .entry)) n) i)) (typeOn (tableOf (now (t .entry))) (docOf (now (s .entry)) (now (rows .entry)) n) (conditionOf (docOf (now (s .entry)) (now (rows .entry)) n) (fragmentNamed (docOf (now (s .entry)) (now (rows .entry)) n) (nameOf (docOf (now (s .entry)) (now (rows .entry)) n) i)))) (fragmentNamed (docOf (now (s .entry)) (now (rows .entry)) n) (nameOf (docOf (now (s .entry)) (now (rows .entry)) n) i)) ⌝ }
 {
-    let f = naming::fragment_named(s, rows, n, firstk, nextk, i);
+    let f = query_rule_3::fragment_named(s, rows, n, firstk, nextk, i);
     let number = link_of(ranks, f);
     let type_number = type_on(t, book, s, rows, n, first, next, f);
     put_test(row, m, STEP_IF_MET, number as u32);
@@ -214,9 +214,9 @@ fn fill_inline(
     i: usize,
     above: u32,
     m: usize,
-    row: &mut [u32],
+    row: &mut [u16],
 )
-    requires { ⌜ Booked (now t) (now book) × Rowed (now s) (now rows) n × Family (rowsIn (now rows) n) (now first) (now next) × (i < n) × (m ≤ 2) × (length (now row) ≡ rowCells) ⌝ }
+    requires { ⌜ Booked (now t) (now book) × Rowed (now s) (now rows) n × Family (rowsIn (now rows) n) (now first) (now next) × (i < n) × (m ≤ 2) × (above ≤ mostRows) × (length (now row) ≡ rowCells) ⌝ }
     ensures { λ _. ⌜ now (row .exit) ≡ inlineRow (now (row .entry)) m above i (typeIf (tableOf (now (t .entry))) (docOf (now (s .entry)) (now (rows .entry)) n) (conditionOf (docOf (now (s .entry)) (now (rows .entry)) n) i)) ⌝ }
 {
     let j = first_below(rows, n, first, next, KIND_TYPE_REFERENCE, i);
@@ -245,7 +245,7 @@ fn fill_kept(
     o: usize,
     i: usize,
     m: usize,
-    row: &mut [u32],
+    row: &mut [u16],
 )
     requires { ⌜ Given (now t) (now book) (now s) (now rows) n (now first) (now next) (now firstk) (now nextk) (now ranks) (now keys) × (i < n) × (isSelection (rowIn (now rows) n i) ≡ true) × (m ≤ 2) × TestsAre (now row) m (skipTests (ifOf (docOf (now s) (now rows) n) o (bytes "skip") i) ++ includeTests (ifOf (docOf (now s) (now rows) n) o (bytes "include") i)) × (dropped (ifOf (docOf (now s) (now rows) n) o (bytes "skip") i) (ifOf (docOf (now s) (now rows) n) o (bytes "include") i) ≡ false) ⌝ }
     ensures { λ _. ⌜ RightRow (now (t .entry)) (now (s .entry)) (now (rows .entry)) n o i (now (row .exit)) ⌝ }
@@ -294,7 +294,7 @@ fn fill_row(
     keys: &[u32],
     o: usize,
     i: usize,
-    row: &mut [u32],
+    row: &mut [u16],
 )
     requires { ⌜ Given (now t) (now book) (now s) (now rows) n (now first) (now next) (now firstk) (now nextk) (now ranks) (now keys) × (i < n) × (o ≤ mostRows) × (length (now row) ≡ rowCells) ⌝ }
     ensures { λ _. ⌜ RightRow (now (t .entry)) (now (s .entry)) (now (rows .entry)) n o i (now (row .exit)) ⌝ }
@@ -344,7 +344,7 @@ pub fn fill_table(
     ranks: &[u32],
     keys: &[u32],
     o: usize,
-    cells: &mut [u32],
+    cells: &mut [u16],
 )
     requires { ⌜ Given (now t) (now book) (now s) (now rows) n (now first) (now next) (now firstk) (now nextk) (now ranks) (now keys) × (o ≤ mostRows) × (rowCells * n ≤ length (now cells)) ⌝ }
     ensures { λ _. ⌜ TableTo (now (t .entry)) (now (s .entry)) (now (rows .entry)) n o (now (cells .exit)) n ⌝ }

@@ -14,15 +14,15 @@ use Rattle.paper.specs.Reading.{Answer, rows-are, refuses, Said, accepts}
 use Rattle.paper.specs.declared.Refusal.{Refusal}
 use Rattle.paper.proofs.Lexing.{from}
 use Rattle.paper.proofs.Going.{State, Out, start, whole, halt, go}
-use Rattle.theory.proofs.TokensLaws.{tokens-from}
-use Rattle.theory.proofs.CallsGoing.{from-rising}
-use Rattle.theory.proofs.GoingSaid.{going-whole, going-halt}
-use Rattle.theory.proofs.SaidOne.{said-one}
-use Rattle.paper_types.specs.Types.{tableOf}
-use Rattle.paper_rules.specs.Constructs.{Doc, count, parentOf, noRow}
-use Rattle.paper_rules.specs.DocumentCalls.{read}
-use Rattle.constructs.proofs.TextRows.{text-rows}
-use Rattle.paper_rules.specs.Opening.{AcceptedDocument}
+use Rattle.paper_theory.proofs.TokensLaws.{tokens-from}
+use Rattle.paper_theory.proofs.CallsGoing.{from-rising}
+use Rattle.paper_theory.proofs.GoingSaid.{going-whole, going-halt}
+use Rattle.paper_theory.proofs.SaidOne.{said-one}
+use Rattle.paper_table.specs.Types.{tableOf}
+use Rattle.paper_query.specs.Constructs.{Doc, count, parentOf, noRow}
+use Rattle.paper_query.specs.DocumentCalls.{read}
+use Rattle.query_rows.proofs.TextRows.{text-rows}
+use Rattle.paper_query.specs.Opening.{AcceptedDocument}
 use Rattle.plan_theory.proofs.Plannable.{Plannable, judged-plannable}
 
 -- a text that has rows has at most 2,048

@@ -11,13 +11,13 @@ use lib.Dec.{T, eqb, leb}
 use borrow.Author.Tests.{eqb-true, leb-true, lt-leb, ne-eqb}
 use Rattle.paper.specs.Numbers.{mostRows, noParent, kindOperation, kindFragment, kindField, kindSpread, kindInline}
 use Rattle.paper.specs.Rows.{Row}
-use Rattle.paper_types.specs.Types.{Table}
-use Rattle.paper_rules.specs.Constructs.{Doc, count, rowOf, parentOf, nameOf, is, isSelection, below, fragmentNamed}
-use Rattle.paper_rules.specs.Enclosing.{conditionOf}
-use Rattle.paper_rules.specs.Reaching.{isDefinition, Within, itself, deeper, Spreads, Reaches, here, through as reached}
+use Rattle.paper_table.specs.Types.{Table}
+use Rattle.paper_query.specs.Constructs.{Doc, count, rowOf, parentOf, nameOf, is, isSelection, below, fragmentNamed}
+use Rattle.paper_query.specs.Enclosing.{conditionOf}
+use Rattle.paper_query.specs.Reaching.{isDefinition, Within, itself, deeper, Spreads, Reaches, here, through as reached}
 use Rattle.paper_plan.specs.Keys.{keyAt}
 use Rattle.paper_plan.specs.Collecting.{Sort, field, spread, inline, View, elem}
-use Rattle.paper_rules.specs.Constructs.{numbersWhere}
+use Rattle.paper_query.specs.Constructs.{numbersWhere}
 use Rattle.paper_plan.specs.Selecting.{Name, setOf, typeIf, sortOf, byNames}
 use Rattle.plan_theory.proofs.Depth.{behind, From, among, through, Acyclic, deep}
 use Rattle.plan_theory.proofs.Same.{clash, and-l, and-r}

@@ -4,13 +4,13 @@ use mathlib.Core.Bool.{Bool}
 use mathlib.Core.List.{List, map}
 use Prim.Native.Nat.{ℕ}
 use Rattle.paper.specs.Rows.{Row}
-use Rattle.paper_types.specs.Types.{tableOf}
-use Rattle.paper_rules.specs.DocumentCalls.{read}
+use Rattle.paper_table.specs.Types.{tableOf}
+use Rattle.paper_query.specs.DocumentCalls.{read}
 use Rattle.paper_plan.specs.Applies.{applies}
 use Rattle.paper_plan.specs.Collecting.{Grouped}
 use Rattle.paper_plan.specs.Planning.{answer}
 use Rattle.paper_plan.specs.Selecting.{Name, Collects, pairsOf, blockIn, planFor}
-use Rattle.paper_rules.specs.Opening.{Opened, opens, opened, AcceptedDocument}
+use Rattle.paper_query.specs.Opening.{Opened, opens, opened, AcceptedDocument}
 use Rattle.plan_theory.proofs.Document.{Among, walk-collects, collects-some}
 use Rattle.plan_theory.proofs.Ones.{collects-one}
 use Rattle.plan_theory.proofs.Accepted.{accepted-plannable}

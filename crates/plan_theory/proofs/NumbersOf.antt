@@ -10,10 +10,10 @@ use lib.ListN.{length, getD}
 use lib.Dec.{eqb}
 use borrow.Author.Tests.{eqb-true, eq-eqb}
 use Rattle.paper.specs.Rows.{Row}
-use Rattle.paper_types.specs.Lists.{firstAt, gather, eachFrom, each, onlyIf}
-use Rattle.paper_rules.specs.Constructs.{Doc, count, rowOf, noRow}
+use Rattle.paper_table.specs.Lists.{firstAt, gather, eachFrom, each, onlyIf}
+use Rattle.paper_query.specs.Constructs.{Doc, count, rowOf, noRow}
 use Rattle.paper_plan.specs.Collecting.{elem}
-use Rattle.paper_rules.specs.Constructs.{numbersWhere}
+use Rattle.paper_query.specs.Constructs.{numbersWhere}
 use Rattle.paper_plan.specs.Selecting.{rowsWhere}
 use Rattle.plan_theory.proofs.Same.{clash}
 

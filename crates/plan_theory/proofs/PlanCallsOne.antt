@@ -9,12 +9,12 @@ use Rattle.paper.specs.Rows.{Row}
 use Rattle.paper.specs.Refusals.{numberOf}
 use Rattle.paper.specs.Calls.{filled, tells}
 use Rattle.paper.specs.declared.Refusal.the-variants.{Buffer, OverLength}
-use Rattle.paper_types.specs.TableNumbers.{mostTable, inputTable}
-use Rattle.paper_types.specs.Types.{tableOf}
-use Rattle.paper_rules.specs.DocumentCalls.{read}
-use Rattle.paper_rules.specs.Opening.{Outcome, stops, opens, Opened}
-use Rattle.paper_rules.proofs.InOrder.{Left, left, One, Checks, failed, later, checks-one}
-use Rattle.paper_rules.proofs.OpeningOne.{opened-one}
+use Rattle.paper_table.specs.TableNumbers.{mostTable, inputTable}
+use Rattle.paper_table.specs.Types.{tableOf}
+use Rattle.paper_query.specs.DocumentCalls.{read}
+use Rattle.paper_query.specs.Opening.{Outcome, stops, opens, Opened}
+use Rattle.paper_query.proofs.InOrder.{Left, left, One, Checks, failed, later, checks-one}
+use Rattle.paper_query.proofs.OpeningOne.{opened-one}
 use Rattle.paper_plan.specs.Planning.{Plan}
 use Rattle.paper_plan.specs.Selecting.{BlockRows, planFor}
 use Rattle.paper_plan.specs.PlanNumbers.{planSize, mostSteps, planNumbers}

@@ -6,12 +6,12 @@ use Prim.Native.Nat.{ℕ, zero, suc, _+_, _*_, _-_, _≤_, _<_}
 use native.Mathlib.Omega.{arith}
 use lib.ListN.{length, getD, replicate, length-map, length-append, length-replicate}
 use lib.Dec.{eqb}
-use Rattle.paper_types.specs.Lists.{gather}
+use Rattle.paper_table.specs.Lists.{gather}
 use Rattle.paper_plan.specs.Collecting.{View}
 use Rattle.paper_plan.specs.Planning.{Step, Plan, plan, program, firsts, planOf}
 use Rattle.paper_plan.specs.PlanNumbers.{planSize, mostSteps, mostBlocks, stepNumbers, planNumbers}
 use Rattle.paper.specs.Calls.{filled}
-use Rattle.plan_walk.specs.Numbers.{testOf, stepOf}
+use Rattle.plan_walk_steps.specs.Numbers.{testOf, stepOf}
 use Rattle.plan_steps.specs.Table.{Raw, flatRaw, what, arg, rawTests, shut, one, belongs, over, upFrom, expandOf, decode, tableSet, Tabled}
 use Rattle.plan_steps.specs.Table.{count as testCount}
 use Rattle.plan_steps.proofs.Bridge.{expanded-is-plan}
@@ -45,7 +45,7 @@ numbers-flat [] a = refl
 numbers-flat (x ∷ xs) a = ap (λ (l : List ℕ). l ++ gather stepNumbers (map decode xs)) (numbers-back (x .0) (x .1) (x .2) (a .0 .0) (a .0 .1)) ∙ ap (λ (l : List ℕ). x .0 ∷ x .1 ∷ x .2 ∷ l) (numbers-flat xs (a .1))
 
 -- all kinds of the table's tests are known
-module _ (t : List ℕ) (n : ℕ) (kinds : (r j : ℕ) → r < n → j < testCount t r → (1 ≤ getD t (16 * r + 4 + 2 * j) 0) × (getD t (16 * r + 4 + 2 * j) 0 ≤ 4)) where
+module _ (t : List ℕ) (n : ℕ) (kinds : (r j : ℕ) → r < n → j < testCount t r → (1 ≤ getD t (12 * r + 4 + 2 * j) 0) × (getD t (12 * r + 4 + 2 * j) 0 ≤ 4)) where
   tests-known : (i m e : ℕ) → ((j : ℕ) → j < m → (1 ≤ getD t (i + 2 * j) 0) × (getD t (i + 2 * j) 0 ≤ 4)) → AllKnown (rawTests t i m e)
   unfolding rawTests
   tests-known i zero e h = tt
@@ -55,7 +55,7 @@ module _ (t : List ℕ) (n : ℕ) (kinds : (r j : ℕ) → r < n → j < testCou
       ((k .0, omega (arith, k .1)), tests-known (i + 2) m e (λ j l. let y : i + 2 * (j + 1) ≡ i + 2 + 2 * j = omega arith in subst (λ (x : ℕ). (1 ≤ getD t x 0) × (getD t x 0 ≤ 4)) y (h (j + 1) (omega arith))))
 
   shut-known : (at r : ℕ) (b : List Raw) → r < n → AllKnown b → AllKnown (shut t at r b)
-  shut-known at r b l a = all-both (rawTests t (16 * r + 4) (testCount t r) (at + testCount t r + length b)) b (tests-known (16 * r + 4) (testCount t r) (at + testCount t r + length b) (λ j h. kinds r j l h)) a
+  shut-known at r b l a = all-both (rawTests t (12 * r + 4) (testCount t r) (at + testCount t r + length b)) b (tests-known (12 * r + 4) (testCount t r) (at + testCount t r + length b) (λ j h. kinds r j l h)) a
 
   module _ (inner : ℕ → ℕ → List Raw) (known : (at h : ℕ) → AllKnown (inner at h)) where
     one-known : (at r : ℕ) → r < n → AllKnown (one t inner at r)

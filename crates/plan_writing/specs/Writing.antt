@@ -23,9 +23,9 @@ module _ (t : List ℕ) (n : ℕ) where
 
 -- what is asked of the table and the chains of its rows
 pub record Tables (t : List ℕ) (n : ℕ) (first next : List ℕ) : Type 0 where
-  pub table : 16 * n ≤ length t
+  pub table : 12 * n ≤ length t
   pub rows : n ≤ mostRows
-  pub few : (r : ℕ) → r < n → testCount t r ≤ 6
+  pub few : (r : ℕ) → r < n → testCount t r ≤ 4
   pub held : (r : ℕ) → r < n → arg t r ≤ mostRows
   pub chained : Chained t n first next
 

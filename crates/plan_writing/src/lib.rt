@@ -24,17 +24,20 @@ fn block_row(o: u32, out: &[u32], b: usize) -> u32
 }
 
 // Writes the blocks of row o and of the m rows of the list into a plan of zeros, and returns the count of steps; or 4,097 where there are more than 4,096.
+// What `expand` keeps of open rows is scratch.
 fn write_blocks(
-    cells: &[u32],
+    cells: &[u16],
     n: usize,
     first: &[u32],
     next: &[u32],
     o: u32,
     out: &[u32],
     m: usize,
+    opened: &mut [u32],
+    begun: &mut [u32],
     plan: &mut [u32],
 ) -> usize
-    requires { ⌜ Tables (now cells) n (now first) (now next) × Holders o (now out) m × (now plan ≡ replicate planSize 0) ⌝ }
+    requires { ⌜ Tables (now cells) n (now first) (now next) × Holders o (now out) m × (now plan ≡ replicate planSize 0) × (n ≤ length (now opened)) × (n ≤ length (now begun)) ⌝ }
     ensures { λ r. ⌜ Blocks (now (cells .entry)) n (o ∷ take m (now (out .entry))) (now (plan .exit)) r ⌝ }
 {
     let mut at = 0;
@@ -42,7 +45,18 @@ fn write_blocks(
     while b <= m {
         let holder = block_row(o, out, b);
         plan[FIRSTS + b] = at as u32;
-        at = expand(cells, n, first, next, holder, n + 1, at, plan);
+        at = expand(
+            cells,
+            n,
+            first,
+            next,
+            holder,
+            n + 1,
+            at,
+            opened,
+            begun,
+            plan,
+        );
         if at == TOO_MANY_STEPS {
             return at;
         }
@@ -53,19 +67,21 @@ fn write_blocks(
 
 // Writes the plan, and returns the count of its steps; or 4,097 where there are more than 4,096.
 pub fn write_plan(
-    cells: &[u32],
+    cells: &[u16],
     n: usize,
     first: &[u32],
     next: &[u32],
     o: u32,
     out: &[u32],
     m: usize,
+    opened: &mut [u32],
+    begun: &mut [u32],
     plan: &mut [u32],
 ) -> usize
-    requires { ⌜ Tables (now cells) n (now first) (now next) × Holders o (now out) m × (now plan ≡ replicate planSize 0) ⌝ }
+    requires { ⌜ Tables (now cells) n (now first) (now next) × Holders o (now out) m × (now plan ≡ replicate planSize 0) × (n ≤ length (now opened)) × (n ≤ length (now begun)) ⌝ }
     ensures { λ r. ⌜ Writes (now (cells .entry)) n (o ∷ take m (now (out .entry))) (now (plan .exit)) r ⌝ }
 {
-    let steps = write_blocks(cells, n, first, next, o, out, m, plan);
+    let steps = write_blocks(cells, n, first, next, o, out, m, opened, begun, plan);
     if steps == TOO_MANY_STEPS {
         return steps;
     }

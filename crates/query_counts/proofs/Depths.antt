@@ -12,7 +12,7 @@ use Rattle.paper.specs.Language.{Class, Terminal, hits, Mark, row, kind, named,
 use Rattle.paper.specs.Language.{Document, Definition+, Definition*, Definition, OperationDefinition, OperationType, VariableDefinitions?, VariableDefinitions, VariableDefinition+, VariableDefinition*, VariableDefinition, SpreadRest}
 use Rattle.paper.proofs.Bools.{and-l, and-r, and-i}
 use Rattle.paper.proofs.Tables.{allN, numN, atN}
-use Rattle.theory.proofs.Test.{all, all-at, all-mem, implies, implies-out}
+use Rattle.paper_theory.proofs.Test.{all, all-at, all-mem, implies, implies-out}
 
 abbrev Syms : Type 0
 Syms = List (Sym Part Terminal Mark)

@@ -9,12 +9,12 @@ use Rattle.paper.specs.Language.{Document}
 use Rattle.paper.specs.Tokens.{Text}
 use Rattle.paper.specs.Rows.{Row}
 use Rattle.paper.specs.Reading.{rows-are, Said}
-use Rattle.paper_types.specs.Lists.{anyOf, firstAt, gather, onlyIf}
-use Rattle.paper_rules.specs.Constructs.{Doc, is, below, called, hasFragment}
-use Rattle.paper_rules.specs.Rule10Undefined.{defines}
-use Rattle.paper_rules.specs.DocumentCalls.{read}
-use Rattle.constructs.specs.Rowed.{docOf}
-use Rattle.constructs.proofs.ReadRows.{Taken}
+use Rattle.paper_table.specs.Lists.{anyOf, firstAt, gather, onlyIf}
+use Rattle.paper_query.specs.Constructs.{Doc, is, below, called, hasFragment}
+use Rattle.paper_query.specs.Rule10Undefined.{defines}
+use Rattle.paper_query.specs.DocumentCalls.{read}
+use Rattle.query_rows.specs.Rowed.{docOf}
+use Rattle.query_rows.proofs.ReadRows.{Taken}
 use Rattle.paper_plan.specs.Selecting.{Name, rowsWhere, fragmentNumber, variableNumber}
 use Rattle.query_counts.specs.FewDefinitions.{FewDefinitions}
 use Rattle.query_counts.proofs.Tallies.{one, tally, numbers-tally}

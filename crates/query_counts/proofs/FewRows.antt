@@ -13,10 +13,10 @@ use Rattle.paper.specs.Tokens.{Tok, Text}
 use Rattle.paper.specs.Rows.{Row, Book, blank, change, top, startOf, stopOf, withName, wrapped, stopping, note, taken, rest, book, rowsOf}
 use Rattle.paper.specs.Sizes.{Sums, nothing, counted}
 use Rattle.paper.specs.Reading.{rows-are, Said, accepts, tokensOf}
-use Rattle.paper_rules.specs.Constructs.{Doc, is, below, numbersWhere}
-use Rattle.paper_rules.specs.DocumentCalls.{read}
-use Rattle.constructs.specs.Rowed.{docOf}
-use Rattle.constructs.proofs.ReadRows.{Taken}
+use Rattle.paper_query.specs.Constructs.{Doc, is, below, numbersWhere}
+use Rattle.paper_query.specs.DocumentCalls.{read}
+use Rattle.query_rows.specs.Rowed.{docOf}
+use Rattle.query_rows.proofs.ReadRows.{Taken}
 use Rattle.query_counts.specs.FewDefinitions.{FewDefinitions}
 use Rattle.query_counts.proofs.Depths.{Evs, token, Deep, document-deep}
 use Rattle.query_counts.proofs.Tallies.{tally, numbers-tally}

@@ -13,8 +13,8 @@ use lib.Seq.{getD-append-seam}
 use Rattle.paper.specs.Numbers.{mostVariables, kindOperation, kindFragment, kindVariableDefinition}
 use Rattle.paper.specs.Rows.{Row, change, top, pop, begun, ofKind}
 use Rattle.paper.specs.Sizes.{Counts, kinded}
-use Rattle.paper_rules.specs.Constructs.{noRow, is, below}
-use Rattle.theory.proofs.RowCells.{change-length}
+use Rattle.paper_query.specs.Constructs.{noRow, is, below}
+use Rattle.paper_theory.proofs.RowCells.{change-length}
 use Rattle.query_counts.proofs.Depths.{Suits}
 use Rattle.query_counts.proofs.Tallies.{at, one, tally, tally-change, tally-same, tally-append, parent-same}
 use Rattle.query_counts.proofs.FewSums.{Few}

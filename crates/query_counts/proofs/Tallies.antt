@@ -6,8 +6,8 @@ use Prim.Native.Nat.{ℕ, zero, suc, _+_, _≤_}
 use native.Mathlib.Omega.{arith}
 use lib.ListN.{length, getD}
 use Rattle.paper.specs.Rows.{Row, change}
-use Rattle.paper_types.specs.Lists.{eachFrom, onlyIf}
-use Rattle.paper_rules.specs.Constructs.{Doc, noRow, numbersWhere}
+use Rattle.paper_table.specs.Lists.{eachFrom, onlyIf}
+use Rattle.paper_query.specs.Constructs.{Doc, noRow, numbersWhere}
 
 abbrev pub at : List Row → ℕ → Row
 at rs i = getD rs i noRow

@@ -5,7 +5,7 @@ use mathlib.Core.Bool.{_&&_}
 use Prim.Native.Nat.{ℕ, _≤_}
 use lib.ListN.{length}
 use Rattle.paper.specs.Numbers.{mostFragments, mostVariables, kindFragment, kindVariableDefinition}
-use Rattle.paper_rules.specs.Constructs.{Doc, is, below, numbersWhere}
+use Rattle.paper_query.specs.Constructs.{Doc, is, below, numbersWhere}
 
 pub record FewDefinitions (d : Doc) : Type 0 where
   -- an operation's row has at most 64 variable definitions right below it; so has any other row

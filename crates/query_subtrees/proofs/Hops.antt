@@ -12,12 +12,12 @@ use lib.Dec.{leb, ltb}
 use borrow.Author.Tests.{lt-ltb, le-ltb, le-leb, lt-leb, ltb-true, ltb-false, leb-true, leb-false}
 use Rattle.paper.specs.Numbers.{mostRows, noParent}
 use Rattle.paper.specs.Rows.{Row}
-use Rattle.paper_rules.specs.Constructs.{noRow}
-use Rattle.constructs.specs.Rowed.{rowsIn, rowIn, roomOf}
-use Rattle.constructs.proofs.RowsIn.{rows-count}
-use Rattle.constructs.proofs.Rooms.{room-enough, room-rows}
-use Rattle.links.specs.Links.{nextWith}
-use Rattle.links.proofs.Nexts.{next-here, next-step, next-end, next-least, next-most, next-jump}
+use Rattle.paper_query.specs.Constructs.{noRow}
+use Rattle.query_rows.specs.Rowed.{rowsIn, rowIn, roomOf}
+use Rattle.query_rows.proofs.RowsIn.{rows-count}
+use Rattle.query_rows.proofs.Rooms.{room-enough, room-rows}
+use Rattle.query_links.specs.Links.{nextWith}
+use Rattle.query_links.proofs.Nexts.{next-here, next-step, next-end, next-least, next-most, next-jump}
 use Rattle.query_subtrees.specs.Past.{leaves, pastOf, Pasts, PastsFrom}
 
 pub leaves-before : (i : ℕ) (r : Row) → r .parent < i → true ≡ leaves i r

@@ -13,9 +13,9 @@ use Rattle.paper.specs.Language.{Class, Mark, Part, row, kind, named, wrapper, 
 use Rattle.paper.specs.Tokens.{Tok, Text}
 use Rattle.paper.specs.Rows.{Row, Book, blank, change, top, pop, startOf, stopOf, begun, ofKind, withName, wrapped, stopping, note, taken, rest, book, rowsOf}
 use Rattle.paper.specs.Reading.{rows-are, Said, accepts, tokensOf}
-use Rattle.paper_rules.specs.Constructs.{noRow}
-use Rattle.constructs.specs.Rowed.{rowsIn}
-use Rattle.constructs.proofs.ReadRows.{Taken}
+use Rattle.paper_query.specs.Constructs.{noRow}
+use Rattle.query_rows.specs.Rowed.{rowsIn}
+use Rattle.query_rows.proofs.ReadRows.{Taken}
 use Rattle.query_subtrees.specs.Past.{parentIn, Nested}
 
 -- the parents of rows

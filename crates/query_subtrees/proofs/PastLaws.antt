@@ -10,9 +10,9 @@ use lib.Dec.{leb, ltb}
 use borrow.Author.Tests.{leb-true, leb-false, lt-leb}
 use Rattle.paper.specs.Numbers.{mostRows, noParent}
 use Rattle.paper.specs.Rows.{Row}
-use Rattle.paper_rules.specs.Constructs.{noRow}
-use Rattle.links.specs.Links.{nextWith}
-use Rattle.links.proofs.Nexts.{next-least, next-most, next-passes, next-skips}
+use Rattle.paper_query.specs.Constructs.{noRow}
+use Rattle.query_links.specs.Links.{nextWith}
+use Rattle.query_links.proofs.Nexts.{next-least, next-most, next-passes, next-skips}
 use Rattle.query_subtrees.specs.Past.{parentIn, leaves, pastOf, Nested, Parented, Under, itself, deeper}
 use Rattle.query_subtrees.proofs.Hops.{leaves-before, leaves-not}
 

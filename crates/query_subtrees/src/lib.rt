@@ -1,10 +1,10 @@
 // The row past each row's subtree, found once for a document: so that what stands in a row is scanned without the rest, and its children one by one.
-use constructs::parent_of;
 use paper::NO_PARENT;
+use query_rows::parent_of;
 ghost use mathlib.Core.Path.{_≡_};
 ghost use Prim.Native.Nat.{_+_, _≤_, _<_};
 ghost use lib.ListN.{length, getD};
-ghost use Rattle.constructs.specs.Rowed.{rowIn, rowsIn, Sized, roomOf};
+ghost use Rattle.query_rows.specs.Rowed.{rowIn, rowsIn, Sized, roomOf};
 ghost use Rattle.query_subtrees.specs.Past.{leaves, pastOf, Pasts, PastsFrom};
 
 fn wide(x: u32) -> usize

@@ -14,25 +14,25 @@ use Rattle.paper.specs.Rows.{Row}
 use Rattle.paper.specs.Refusals.{numberOf, shownInText}
 use Rattle.paper.specs.declared.Refusal.{Refusal}
 use Rattle.paper.proofs.Lexing.{from}
-use Rattle.theory.proofs.TokensLaws.{tokens-are}
-use Rattle.theory.proofs.GoingSaid.{going-halt}
-use Rattle.theory.proofs.CallsGoing.{from-rising}
-use Rattle.paper_types.specs.Types.{tableOf}
-use Rattle.paper_rules.specs.Constructs.{Doc, count, rowOf, is}
-use Rattle.paper_rules.specs.Enclosing.{fieldAt}
-use Rattle.paper_rules.specs.DocumentCalls.{read}
-use Rattle.paper_rules.specs.Opening.{stops, opens, Opened}
-use Rattle.reader.specs.declared.Cursor.{Cursor}
-use Rattle.reader.specs.declared.Read.{Read}
-use Rattle.reader.specs.declared.Read.the-variants.{Done, Refused}
-use Rattle.documents.specs.Documents.{Ended as TextEnded}
-use Rattle.constructs.specs.Rowed.{rowsIn, docOf}
-use Rattle.constructs.proofs.ReadRows.{Taken, ended-taken}
-use Rattle.opening.proofs.Start.{the-type}
-use Rattle.spreading.proofs.OwnerLaws.{row-within}
-use Rattle.opening.specs.Opens.{Ready, Opens, stopNumber, stopShown}
-use Rattle.opening.specs.declared.Start.{Start}
-use Rattle.opening.specs.declared.Start.the-variants.{BadTable, BadText as BadDocument, Broken, NoOperation, Open}
+use Rattle.paper_theory.proofs.TokensLaws.{tokens-are}
+use Rattle.paper_theory.proofs.GoingSaid.{going-halt}
+use Rattle.paper_theory.proofs.CallsGoing.{from-rising}
+use Rattle.paper_table.specs.Types.{tableOf}
+use Rattle.paper_query.specs.Constructs.{Doc, count, rowOf, is}
+use Rattle.paper_query.specs.Enclosing.{fieldAt}
+use Rattle.paper_query.specs.DocumentCalls.{read}
+use Rattle.paper_query.specs.Opening.{stops, opens, Opened}
+use Rattle.text_cursor.specs.declared.Cursor.{Cursor}
+use Rattle.text_cursor.specs.declared.Read.{Read}
+use Rattle.text_cursor.specs.declared.Read.the-variants.{Done, Refused}
+use Rattle.text_documents.specs.Documents.{Ended as TextEnded}
+use Rattle.query_rows.specs.Rowed.{rowsIn, docOf}
+use Rattle.query_rows.proofs.ReadRows.{Taken, ended-taken}
+use Rattle.query_opening.proofs.Start.{the-type}
+use Rattle.query_spreads.proofs.OwnerLaws.{row-within}
+use Rattle.query_opening.specs.Opens.{Ready, Opens, stopNumber, stopShown}
+use Rattle.query_opening.specs.declared.Start.{Start}
+use Rattle.query_opening.specs.declared.Start.the-variants.{BadTable, BadText as BadDocument, Broken, NoOperation, Open}
 use Rattle.query_subtrees.specs.Past.{Pasts}
 use Rattle.query_counts.proofs.FewRows.{taken-variables}
 use Rattle.paper_values.specs.ValueNumbers.{mostCoerced}

@@ -10,10 +10,10 @@ use lib.Dec.{ltb}
 use borrow.Author.Tests.{ltb-true}
 use Rattle.paper.specs.Numbers.{mostRows, mostLevels, kindVariableDefinition, kindArgument, kindObjectField, inputDocument, inputVariables}
 use Rattle.paper.specs.Rows.{Row}
-use Rattle.paper_types.specs.Lists.{eachFrom, onlyIf}
-use Rattle.paper_types.specs.References.{Ref, isNonNull}
-use Rattle.paper_rules.specs.Constructs.{Doc, count, is, below, numbersWhere}
-use Rattle.paper_rules.specs.Opening.{ifBelow}
+use Rattle.paper_table.specs.Lists.{eachFrom, onlyIf}
+use Rattle.paper_table.specs.References.{Ref, isNonNull}
+use Rattle.paper_query.specs.Constructs.{Doc, count, is, below, numbersWhere}
+use Rattle.paper_query.specs.Opening.{ifBelow}
 use Rattle.paper_values.specs.ValueNumbers.{reasonMissing, reasonRepeated}
 use Rattle.paper_values.specs.Values.{Name, At, Value, Due, Tree, Pairs, nothing, pair, Out, Got, No}
 use Rattle.paper_values.specs.Kinds.{Kind}

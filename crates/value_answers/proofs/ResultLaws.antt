@@ -9,13 +9,13 @@ use lib.Seq.{sets-eq, take-at}
 use lib.Dec.{leb}
 use borrow.Author.Tests.{le-leb, lt-leb, leb-true, leb-false}
 use Rattle.paper.specs.Numbers.{mostRows, mostVariables, kindArgument, inputDocument}
-use Rattle.paper_types.specs.Lists.{allOf}
-use Rattle.paper_types.specs.Types.{tableOf}
-use Rattle.paper_rules.specs.Constructs.{Doc, count}
-use Rattle.paper_rules.specs.Enclosing.{fieldAt}
-use Rattle.members.specs.Members.{argumentsIn}
-use Rattle.constructs.specs.Rowed.{docOf}
-use Rattle.constructs.proofs.RowsIn.{rows-count}
+use Rattle.paper_table.specs.Lists.{allOf}
+use Rattle.paper_table.specs.Types.{tableOf}
+use Rattle.paper_query.specs.Constructs.{Doc, count}
+use Rattle.paper_query.specs.Enclosing.{fieldAt}
+use Rattle.table_members.specs.Members.{argumentsIn}
+use Rattle.query_rows.specs.Rowed.{docOf}
+use Rattle.query_rows.proofs.RowsIn.{rows-count}
 use Rattle.paper_values.specs.ValueNumbers.{refuseValue, refuseTooLong, mostCoerced, tagInput}
 use Rattle.paper_values.specs.Values.{At, Tree, Fields, Pairs, Out, Got, No, andThen}
 use Rattle.paper_values.specs.Kinds.{dueArgument}

@@ -8,9 +8,9 @@ use Rattle.paper.specs.Numbers.{reportSize, mostText}
 use Rattle.paper.specs.Refusals.{numberOf}
 use Rattle.paper.specs.Calls.{filled, tells}
 use Rattle.paper.specs.declared.Refusal.{Refusal}
-use Rattle.paper_types.specs.TableNumbers.{mostTable}
-use Rattle.buffers.specs.declared.Sizes.{Sizes}
-use Rattle.buffers.specs.declared.Sizes.the-variants.{Met, Unmet}
+use Rattle.paper_table.specs.TableNumbers.{mostTable}
+use Rattle.call_buffers.specs.declared.Sizes.{Sizes}
+use Rattle.call_buffers.specs.declared.Sizes.the-variants.{Met, Unmet}
 use Rattle.paper_values.specs.ValueNumbers.{mostCoerced}
 use Rattle.paper_values.specs.ValueCalls.{Ending, ends, yields, Lent, Short, Coerced, short-value, long-document, long-variables, long-table, refused, answered}
 use Rattle.value_endings.specs.Endings.{Asks, Sized, Leaves}

@@ -11,16 +11,16 @@ use Rattle.paper.specs.Rows.{Row}
 use Rattle.paper.specs.Refusals.{numberOf, shownInText}
 use Rattle.paper.specs.Reading.{rows-are, refuses, Said}
 use Rattle.paper.specs.declared.Refusal.{Refusal}
-use Rattle.paper_types.specs.Types.{tableOf}
-use Rattle.paper_types.specs.Judging.{judge}
-use Rattle.paper_types.specs.declared.TableAnswer.the-variants.{Accepted}
-use Rattle.paper_rules.specs.Constructs.{Doc, count}
-use Rattle.paper_rules.specs.Enclosing.{fieldAt}
-use Rattle.paper_rules.specs.DocumentCalls.{read}
-use Rattle.paper_rules.specs.Opening.{refuseNoOperation}
-use Rattle.types.specs.Booked.{Booked}
-use Rattle.constructs.specs.Rowed.{rowIn}
-use Rattle.constructs.proofs.ReadRows.{Taken}
+use Rattle.paper_table.specs.Types.{tableOf}
+use Rattle.paper_table.specs.Judging.{judge}
+use Rattle.paper_table.specs.declared.TableAnswer.the-variants.{Accepted}
+use Rattle.paper_query.specs.Constructs.{Doc, count}
+use Rattle.paper_query.specs.Enclosing.{fieldAt}
+use Rattle.paper_query.specs.DocumentCalls.{read}
+use Rattle.paper_query.specs.Opening.{refuseNoOperation}
+use Rattle.table_types.specs.Booked.{Booked}
+use Rattle.query_rows.specs.Rowed.{rowIn}
+use Rattle.query_rows.proofs.ReadRows.{Taken}
 use Rattle.paper_values.specs.ValueNumbers.{mostCoerced}
 use Rattle.paper_values.specs.Values.{Tree, Pairs, Out, andThen}
 use Rattle.paper_values.specs.Coercion.{heads, inObject, givens, valueIn, orDefault, variablesOf}

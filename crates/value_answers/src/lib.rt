@@ -1,9 +1,7 @@
 // The whole answers to `gw_coerce_variables` and `gw_coerce_arguments`: the sizes are tested, an operation is opened, the variables text is
 // read, and the operation's variables are coerced, or the arguments of one of its fields.
 // Each large array is made in a function of its own, so that the rows of the variables text take no room while the document is judged.
-use buffers::Sizes;
-use index::BOOK_SIZE;
-use opening::Start;
+use call_buffers::Sizes;
 use paper::INPUT_DOCUMENT;
 use paper::KIND_ARGUMENT;
 use paper::REFUSE_BUFFER;
@@ -11,7 +9,9 @@ use paper::REPORT_SIZE;
 use paper::ROWS_SIZE;
 use paper_values::MOST_COERCED;
 use paper_values::TAG_INPUT;
-use reader::Read;
+use query_opening::Start;
+use table_book::BOOK_SIZE;
+use text_cursor::Read;
 use value_coerce::ALL_LEVELS;
 use value_coerce::object;
 use value_endings::Ended;
@@ -28,9 +28,9 @@ ghost use Prim.Native.Nat.{_≤_, _<_};
 ghost use lib.ListN.{length};
 ghost use Rattle.paper.specs.Numbers.{mostText, mostRows, rowsSize, reportSize};
 ghost use Rattle.paper.specs.Language.{VariablesText};
-ghost use Rattle.index.specs.Book.{bookSize};
-ghost use Rattle.constructs.specs.Rowed.{docOf, fewRows, roomOf};
-ghost use Rattle.constructs.proofs.ReadRows.{Taken};
+ghost use Rattle.table_book.specs.Book.{bookSize};
+ghost use Rattle.query_rows.specs.Rowed.{docOf, fewRows, roomOf};
+ghost use Rattle.query_rows.proofs.ReadRows.{Taken};
 ghost use Rattle.paper_values.specs.ValueNumbers.{mostCoerced};
 ghost use Rattle.paper_values.specs.Values.{Pairs, andThen};
 ghost use Rattle.paper_values.specs.ValueCalls.{asObject, Short, Coerced as CoercedBy, CoercedVariables, CoercedArguments};
@@ -420,7 +420,7 @@ fn read_with(
     requires { ⌜ Stands (now t) (now book) (now s) (now rows) n × Serves (now t) (docOf (now s) (now rows) n) task × (length (now past) ≡ roomOf n) × (length (now s1) ≤ mostText) × (length (now rows1) ≡ rowsSize) × (length (now out) ≡ mostCoerced) ⌝ }
     ensures { λ r. ⌜ ReadEnd (now (t .entry)) (docOf (now (s .entry)) (now (rows .entry)) n) op task (now (s1 .entry)) (endingOf r (now (out .exit))) ⌝ }
 {
-    let r = documents::variables_text(s1, rows1);
+    let r = text_documents::variables_text(s1, rows1);
     match r {
         Read::Done(c) => {
             let n1 = c.rows as usize;
@@ -578,7 +578,7 @@ fn end_with(
     requires { ⌜ Short (now table) (now document) (now variables) × (length (now book) ≡ bookSize) × (length (now rows) ≡ rowsSize) × (length (now out) ≡ mostCoerced) ⌝ }
     ensures { λ r. ⌜ EndFor call (now (table .entry)) (now (document .entry)) (now (operation .entry)) (now (variables .entry)) (endingOf r (now (out .exit))) ⌝ }
 {
-    let o = opening::open(table, book, document, operation, rows);
+    let o = query_opening::open(table, book, document, operation, rows);
     let Start::Open(n, op) = o else {
         return Ended::NotOpened(o);
     };
@@ -657,7 +657,7 @@ fn answer(
             &mut value[..MOST_COERCED],
             report,
         ),
-        Sizes::Unmet(why) => telling::tell_refusal(report, why),
+        Sizes::Unmet(why) => call_report::tell_refusal(report, why),
     }
 }
 

@@ -4,11 +4,11 @@ use mathlib.Core.Bool.{true}
 use mathlib.Core.List.{List, [], _∷_, map}
 use Prim.Native.Nat.{ℕ}
 use Rattle.paper.specs.Numbers.{kindArgument}
-use Rattle.paper_types.specs.Lists.{allOf, gather}
-use Rattle.paper_types.specs.Types.{Argument}
-use Rattle.members.specs.Members.{argumentsIn}
-use Rattle.types.specs.Sizes.{slimArgument}
-use Rattle.types.proofs.SlimLaws.{all-head, all-tail}
+use Rattle.paper_table.specs.Lists.{allOf, gather}
+use Rattle.paper_table.specs.Types.{Argument}
+use Rattle.table_members.specs.Members.{argumentsIn}
+use Rattle.table_types.specs.Sizes.{slimArgument}
+use Rattle.table_types.proofs.SlimLaws.{all-head, all-tail}
 use Rattle.paper_values.specs.ValueNumbers.{reasonRepeated, reasonUnknown}
 use Rattle.paper_values.specs.Values.{Name, At, Due, Fields, Pairs, Out, Got, andThen}
 use Rattle.paper_values.specs.Kinds.{Kind, dueArgument}

@@ -8,7 +8,7 @@ use native.Mathlib.Omega.{arith}
 use lib.Dec.{eqb}
 use borrow.Author.Tests.{eqb-true, eqb-false, eq-eqb, ne-eqb}
 use Rattle.paper.specs.Numbers.{kindVariable}
-use Rattle.paper_rules.specs.Constructs.{Doc, kindOf, nameOf}
+use Rattle.paper_query.specs.Constructs.{Doc, kindOf, nameOf}
 use Rattle.paper_values.specs.Values.{Name, Value, Entries, close, Due, Tree}
 use Rattle.paper_values.specs.Kinds.{Kind}
 use Rattle.paper_values.specs.Coercion.{heads, repeated, unknown, entryOf, gone, leftOut}

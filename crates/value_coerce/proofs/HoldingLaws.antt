@@ -10,8 +10,8 @@ use lib.ListN.{length}
 use lib.Dec.{leb}
 use borrow.Author.Tests.{le-leb, lt-leb}
 use Rattle.paper.specs.Tokens.{same}
-use Rattle.index.specs.Book.{part}
-use Rattle.constructs.specs.Rowed.{cell, docOf}
+use Rattle.table_book.specs.Book.{part}
+use Rattle.query_rows.specs.Rowed.{cell, docOf}
 use Rattle.paper_values.specs.Values.{Name, Tree, Pairs, nothing, pair}
 use Rattle.paper_values.specs.Coercion.{valueIn}
 use Rattle.value_kinds.specs.declared.Due.{Due}

@@ -11,10 +11,10 @@ use lib.Dec.{eqb}
 use borrow.Author.Tests.{lt-leb, eqb-true, eqb-false}
 use Rattle.paper.specs.Numbers.{kindVariable, kindNull}
 use Rattle.paper.specs.Tokens.{same}
-use Rattle.paper_types.specs.Lists.{anyOf}
-use Rattle.paper_types.specs.References.{Ref, named, listOf, nonNull}
-use Rattle.paper_rules.specs.Constructs.{Doc, kindOf}
-use Rattle.constructs.specs.Rowed.{Decides}
+use Rattle.paper_table.specs.Lists.{anyOf}
+use Rattle.paper_table.specs.References.{Ref, named, listOf, nonNull}
+use Rattle.paper_query.specs.Constructs.{Doc, kindOf}
+use Rattle.query_rows.specs.Rowed.{Decides}
 use Rattle.paper_values.specs.ValueNumbers.{reasonEnum, reasonRepeated, reasonUnknown}
 use Rattle.paper_values.specs.NumberTokens.{intOf, floatContent}
 use Rattle.paper_values.specs.Values.{Name, At, Value, variable, integer, float, string, boolean, null, enum, list, object, Due, Tree, Null, Bits, Decimal, Text, Truth, Member, Many, Fields, Token, Trees, no-more, also, Pairs, Out, Got, No, andThen}

@@ -1,11 +1,11 @@
--- The loop over a list's items, a list of one, and what a value's answer says.
+-- The loop over a list's items, and what a value's answer says.
 use mathlib.Core.Path.{_≡_, refl, sym, ap, subst, _∙_}
 use mathlib.Core.List.{List}
 use Prim.Native.Nat.{ℕ, _+_, _-_, _≤_, _<_}
 use native.Mathlib.Omega.{arith}
 use lib.ListN.{length}
-use Rattle.paper_types.specs.References.{Ref}
-use Rattle.paper_rules.specs.Constructs.{Doc, parentOf}
+use Rattle.paper_table.specs.References.{Ref}
+use Rattle.paper_query.specs.Constructs.{Doc, parentOf}
 use Rattle.paper_values.specs.ValueNumbers.{tagList}
 use Rattle.paper_values.specs.Values.{Name, At, Value, null, Values, end, item, Tree, Many, Trees, no-more, also, Out, Got, No, andThen}
 use Rattle.paper_values.specs.Kinds.{Kind}
@@ -15,14 +15,14 @@ use Rattle.paper_values.proofs.EncodingLaws.{behind}
 use Rattle.paper_values.specs.RowValues.{itemsFrom, valueAt}
 use Rattle.paper_values.proofs.RowValuesLaws.{items-more}
 use Rattle.value_writing.specs.Writing.{placeOf, Put, Room, Closed, Behind}
-use Rattle.value_writing.proofs.PlaceLaws.{place-least, put-place, room-after, behind-order}
+use Rattle.value_writing.proofs.PlaceLaws.{place-least, room-after, behind-order}
 use Rattle.value_writing.proofs.EncodedLaws.{no-items-put, item-put, list-put}
 use Rattle.value_kinds.specs.declared.Coerced.{Coerced}
 use Rattle.value_kinds.specs.declared.Coerced.the-variants.{UpTo, Refused}
 use Rattle.value_kinds.specs.Dues.{Told}
 use Rattle.value_entries.specs.Entered.{childAt}
 use Rattle.value_entries.proofs.EntryLaws.{one-less, Next, child-next}
-use Rattle.value_coerce.specs.Coercing.{Vars, kindsIn, coerced, oned, itemsAt, listed}
+use Rattle.value_coerce.specs.Coercing.{Vars, kindsIn, coerced, itemsAt, listed}
 
 -- ---- what an answer says
 
@@ -147,29 +147,6 @@ module _ (t : List ℕ) (vars : Vars) (text : ℕ) (d : Doc) (n k h : ℕ) (r : 
 
     pub list-behind : Room limit at p → Behind limit from at p
     list-behind w = record { least = w .least; end = w .place; order = λ l. behind-order limit (encodeAll (g .done)) from (placeOf limit (from + 3)) at p₀ p refl (g .put) l; size = w .size }
-
--- ---- a list of one
-
-module _ (t : List ℕ) (vars : Vars) (text : ℕ) (d : Doc) (k i : ℕ) (r : Ref) (limit from first : ℕ) (p p₁ : List ℕ) (x : Coerced) (f : first ≡ placeOf limit (from + 3)) (g : Told text limit (coerced t vars text d k i r) first p p₁ x) where
-  pub one-stop : (row why : ℕ) → x ≡ Refused row why → Told text limit (oned t vars text d k i r) from p p₁ x
-  one-stop row why u =
-      let z = told-no text limit first p p₁ x (coerced t vars text d k i r) row why g u in
-      subst (λ (o : Out Tree). Told text limit o from p p₁ x) (sym (ap (λ (o : Out Tree). andThen o (λ (x : Tree). Got (Many (also x no-more)))) (z .2))) (z .3, z .4)
-
-  module _ (e : ℕ) (u : x ≡ UpTo e) where
-    one-item : (y : Tree) → Put limit (encode y) first p p₁ e → Put limit (encodeAll (also y no-more)) first p p₁ e
-    one-item y m = item-put limit no-more y first first e p p p₁ (no-items-put limit first p (place-least limit (from + 3) first f)) m
-
-    pub one-end : (p₂ : List ℕ) (a : ℕ) → Closed limit from tagList e p₁ p₂ a → Told text limit (oned t vars text d k i r) from p p₂ (UpTo a)
-    one-end p₂ a m =
-        let z = told-up text limit first p p₁ x (coerced t vars text d k i r) e g u in
-        subst (λ (o : Out Tree). Told text limit o from p p₂ (UpTo a)) (sym (ap (λ (o : Out Tree). andThen o (λ (x : Tree). Got (Many (also x no-more)))) (z .1)))
-        (a, refl, list-put limit (also (z .0) no-more) from first e a p p₁ p₂ f (one-item (z .0) (z .2)) m)
-
-    pub one-behind : Room limit first p → length p₁ ≡ length p → Behind limit from e p₁
-    one-behind w l =
-        let z = told-up text limit first p p₁ x (coerced t vars text d k i r) e g u in
-        record { least = w .least; end = put-place limit (encode (z .0)) first p p₁ e (z .2); order = λ h. behind-order limit (encode (z .0)) from first e p p₁ f (z .2) h; size = l ∙ w .size }
 
 pub child-more : (d : Doc) (n h c c′ : ℕ) → c′ ≡ childAt d h (n - (c + 1)) (c + 1) → c < c′
 child-more d n h c c′ e = let f : Next d h 0 (λ (x : ℕ). null (record { text = 0; row = 0 })) (n - (c + 1)) (c + 1) c′ = found 0 d (λ (x : ℕ). null (record { text = 0; row = 0 })) n h (c + 1) c′ e in let m : c + 1 ≤ c′ = f .least in omega (arith, m)

@@ -8,21 +8,21 @@ use native.Mathlib.Omega.{arith}
 use lib.ListN.{length, take, drop}
 use borrow.Author.Tests.{leb-true}
 use Rattle.paper.specs.Numbers.{mostWrappers}
-use Rattle.paper_types.specs.TableNumbers.{tagName}
-use Rattle.paper_types.specs.Lists.{gather, allOf}
-use Rattle.paper_types.specs.References.{Ref, named, listOf, nonNull, isNonNull}
-use Rattle.paper_types.specs.Types.{Member, Definition, tableOf}
-use Rattle.paper_types.proofs.ReferenceSizes.{wrappers as wrapperCount}
-use Rattle.paper_rules.specs.Constructs.{Doc}
-use Rattle.fields.specs.Wrappers.{packOf, packLimit}
-use Rattle.fields.proofs.PackLaws.{pack-fits}
-use Rattle.index.specs.Book.{part, countIn}
-use Rattle.members.specs.Members.{membersIn, Typed}
-use Rattle.members.specs.declared.FieldFound.{FieldFound}
-use Rattle.members.specs.declared.FieldFound.the-variants.{Found, Nothing}
-use Rattle.types.specs.Sizes.{slimArgument, slimMember, Slim}
-use Rattle.types.proofs.SlimLaws.{and-left, all-head, all-tail, entry-slim}
-use Rattle.types.specs.Booked.{Booked, startIn, endIn, definitionOn}
+use Rattle.paper_table.specs.TableNumbers.{tagName}
+use Rattle.paper_table.specs.Lists.{gather, allOf}
+use Rattle.paper_table.specs.References.{Ref, named, listOf, nonNull, isNonNull}
+use Rattle.paper_table.specs.Types.{Member, Definition, tableOf}
+use Rattle.paper_table.proofs.ReferenceSizes.{wrappers as wrapperCount}
+use Rattle.paper_query.specs.Constructs.{Doc}
+use Rattle.table_fields.specs.Wrappers.{packOf, packLimit}
+use Rattle.table_fields.proofs.PackLaws.{pack-fits}
+use Rattle.table_book.specs.Book.{part, countIn}
+use Rattle.table_members.specs.Members.{membersIn, Typed}
+use Rattle.table_members.specs.declared.FieldFound.{FieldFound}
+use Rattle.table_members.specs.declared.FieldFound.the-variants.{Found, Nothing}
+use Rattle.table_types.specs.Sizes.{slimArgument, slimMember, Slim}
+use Rattle.table_types.proofs.SlimLaws.{and-left, all-head, all-tail, entry-slim}
+use Rattle.table_types.specs.Booked.{Booked, startIn, endIn, definitionOn}
 use Rattle.paper_values.specs.ValueNumbers.{tagInput, tagPair, reasonMissing, reasonRepeated, reasonUnknown}
 use Rattle.paper_values.specs.Written.{fieldOf}
 use Rattle.paper_values.specs.Values.{Name, At, Due, Tree, Fields, Pairs, nothing, pair, Out, Got, No, andThen}

@@ -2,20 +2,21 @@
 use mathlib.Core.Path.{_≡_, refl, sym, ap, subst, _∙_}
 use mathlib.Core.Bool.{Bool, true, false, _&&_, not, cond}
 use mathlib.Core.List.{List}
-use Prim.Native.Nat.{ℕ, zero, suc, _+_, _-_, _/_, _%_, _≤_, _<_}
+use Prim.Native.Nat.{ℕ, zero, suc, _+_, _-_, _*_, _/_, _%_, _≤_, _<_}
 use native.Mathlib.Omega.{arith}
 use native.Mathlib.Decide.{decLt}
 use lib.Dec.{eqb}
 use borrow.Author.Tests.{ne-eqb, eqb-true}
 use Rattle.paper.specs.Numbers.{kindVariable, kindInteger, kindFloat, kindString, kindBoolean, kindNull, kindEnum, kindList, kindObjectField}
-use Rattle.paper_types.specs.References.{Ref, named, listOf, nonNull, baseOf}
-use Rattle.paper_rules.specs.Constructs.{Doc, count, kindOf, nameOf}
-use Rattle.fields.specs.Wrappers.{packOf}
-use Rattle.types.specs.Booked.{definitionOn}
+use Rattle.paper_table.specs.References.{Ref, named, listOf, nonNull, baseOf}
+use Rattle.paper_query.specs.Constructs.{Doc, count, kindOf, nameOf}
+use Rattle.table_fields.specs.Wrappers.{packOf}
+use Rattle.table_types.specs.Booked.{definitionOn}
 use Rattle.paper.specs.Rows.{Row}
-use Rattle.constructs.specs.Rowed.{rowIn}
-use Rattle.constructs.proofs.RowsIn.{row-none}
-use Rattle.paper_values.specs.Values.{Name, At, Value, variable, integer, float, string, boolean, null, enum, list, object, Values, Entries, Due, Tree, Many, no-more, also, Out, Got, andThen}
+use Rattle.query_rows.specs.Rowed.{rowIn}
+use Rattle.query_rows.proofs.RowsIn.{row-none}
+use Rattle.paper_values.specs.ValueNumbers.{reasonKind}
+use Rattle.paper_values.specs.Values.{Name, At, Value, variable, integer, float, string, boolean, null, enum, list, object, Values, Entries, Due, Tree, Many, no-more, also, Out, Got, No, andThen}
 use Rattle.paper_values.specs.Kinds.{Kind, Input}
 use Rattle.paper_values.specs.Coercion.{nullAt, objectAt, inObject, missing, heads, leftOut, coerce, coerceAll, givens}
 use Rattle.paper_values.specs.CoercionRules.{plain, one as alone}
@@ -23,6 +24,7 @@ use Rattle.paper_values.specs.RowValues.{placed, itemsFrom, entriesFrom, valueB
 use Rattle.value_leaves.specs.Leaves.{sortOf}
 use Rattle.value_leaves.specs.declared.Wrote.{Wrote}
 use Rattle.value_kinds.specs.declared.Coerced.{Coerced}
+use Rattle.value_kinds.specs.declared.Coerced.the-variants.{Refused}
 use Rattle.value_writing.specs.Writing.{placeOf, Room}
 use Rattle.value_writing.proofs.PlaceLaws.{place-least}
 use Rattle.value_kinds.specs.Dues.{Sorted, Fits, DueIs, told, Told, placedAt}
@@ -30,7 +32,18 @@ use Rattle.value_kinds.proofs.KindLaws.{sort-input}
 use Rattle.value_entries.specs.Entered.{duesOf}
 use Rattle.value_tokens.specs.Spans.{isObjectKind, takesFields}
 use Rattle.value_tokens.proofs.TokenLaws.{value-variable, value-null, value-list, value-object}
-use Rattle.value_coerce.specs.Coercing.{Meant, Vars, kindsIn, coerced, oned, listed, stood, objected}
+use Rattle.value_coerce.specs.Coercing.{Meant, listsOf, nullableOf, ones, Vars, kindsIn, coerced, listed, stood, objected}
+
+alone-plain : (v : Value) → alone v ≡ true → plain v ≡ true
+alone-plain (variable i n) e = e
+alone-plain (integer i s) e = refl
+alone-plain (float i s) e = refl
+alone-plain (string i s cs) e = refl
+alone-plain (boolean i b) e = refl
+alone-plain (null i) e = e
+alone-plain (enum i n) e = refl
+alone-plain (list i vs) e = refl
+alone-plain (object i es) e = refl
 
 module _ (kinds : Name → Kind) (vars : Vars) where
   at-non-null : (v : Value) (r : Ref) → plain v ≡ true → coerce kinds vars v (nonNull r) ≡ coerce kinds vars v r
@@ -56,6 +69,23 @@ module _ (kinds : Name → Kind) (vars : Vars) where
   at-one (enum i n) r e = refl
   at-one (list i vs) r e = absurd (let z : _≡_ {A = ℕ} 0 1 = cc in omega arith)
   at-one (object i es) r e = refl
+
+module _ (kinds : Name → Kind) (vars : Vars) (v : Value) where
+  -- Non-Null outside says nothing of what is not null
+  plain-nullable : plain v ≡ true → (r : Ref) → coerce kinds vars v r ≡ coerce kinds vars v (nullableOf r)
+  plain-nullable e (named n) = refl
+  plain-nullable e (listOf r) = refl
+  plain-nullable e (nonNull r) = at-non-null kinds vars v r e ∙ plain-nullable e r
+
+  -- what is no list, at a type: the value at its base, in as many lists of one as the type has
+  single-ones : alone v ≡ true → (r : Ref) → coerce kinds vars v r ≡ ones (listsOf r) (coerce kinds vars v (named (baseOf r)))
+  single-ones e (named n) = refl
+  single-ones e (listOf r) = at-one kinds vars v r e ∙ ap (λ (o : Out Tree). andThen o (λ x. Got (Many (also x no-more)))) (single-ones e r)
+  single-ones e (nonNull r) = at-non-null kinds vars v r (alone-plain v e) ∙ single-ones e r
+
+no-list-at : (kinds : Name → Kind) (vars : Vars) (i : At) (vs : Values) (m : Name) → coerce kinds vars (list i vs) (named m) ≡ No i reasonKind
+unfolding coerce
+no-list-at kinds vars i vs m = refl
 
 list-at : (kinds : Name → Kind) (vars : Vars) (i : At) (vs : Values) (s : Ref) → coerce kinds vars (list i vs) (listOf s) ≡ andThen (coerceAll kinds vars vs s) (λ ts. Got (Many ts))
 unfolding coerce
@@ -113,12 +143,6 @@ at-none text d (suc k) i q = absurd (omega (arith, q))
 
 -- ---- wrappers
 
-pub pack-non-null : (r : Ref) → packOf r % 4 ≡ 2 → (q : Ref) × (r ≡ nonNull q) × (packOf q ≡ packOf r / 4) × (baseOf q ≡ baseOf r)
-unfolding packOf
-pack-non-null (named n) e = absurd (omega (arith, e))
-pack-non-null (listOf r) e = absurd (omega (arith, e))
-pack-non-null (nonNull r) e = (r, refl, omega arith, refl)
-
 pub pack-list : (r : Ref) → packOf r % 4 ≡ 1 → (q : Ref) × (r ≡ listOf q) × (packOf q ≡ packOf r / 4) × (baseOf q ≡ baseOf r)
 unfolding packOf
 pack-list (named n) e = absurd (omega (arith, e))
@@ -130,6 +154,40 @@ unfolding packOf
 pack-named (named n) a b = refl
 pack-named (listOf r) a b = absurd (b (omega arith))
 pack-named (nonNull r) a b = absurd (a (omega arith))
+
+-- one wrapper less
+pub pack-less : (r : Ref) → 0 < packOf r → (q : Ref) × (packOf q ≡ packOf r / 4) × (packOf r % 2 + listsOf q ≡ listsOf r)
+unfolding packOf
+pack-less (named n) l = absurd (omega (arith, l))
+pack-less (listOf r) l = (r, omega arith, (let z : (4 * packOf r + 1) % 2 ≡ 1 = omega arith in omega (arith, z)))
+pack-less (nonNull r) l = (r, omega arith, (let z : (4 * packOf r + 2) % 2 ≡ 0 = omega arith in omega (arith, z)))
+
+pub pack-none : (r : Ref) → packOf r ≡ 0 → listsOf r ≡ 0
+unfolding packOf
+pack-none (named n) e = refl
+pack-none (listOf r) e = absurd (omega (arith, e))
+pack-none (nonNull r) e = absurd (omega (arith, e))
+
+pub pack-marked : (r : Ref) → packOf r % 4 ≡ 2 → (q : Ref) × (packOf q ≡ packOf r / 4) × (nullableOf q ≡ nullableOf r)
+unfolding packOf
+pack-marked (named n) e = absurd (omega (arith, e))
+pack-marked (listOf r) e = absurd (omega (arith, e))
+pack-marked (nonNull r) e = (r, omega arith, refl)
+
+pub pack-bare : (r : Ref) → (packOf r % 4 ≡ 2 → ⊥) → nullableOf r ≡ r
+unfolding packOf
+pack-bare (named n) a = refl
+pack-bare (listOf r) a = refl
+pack-bare (nonNull r) a = absurd (a (omega arith))
+
+base-nullable : (r : Ref) → baseOf (nullableOf r) ≡ baseOf r
+base-nullable (named n) = refl
+base-nullable (listOf r) = refl
+base-nullable (nonNull r) = base-nullable r
+
+-- the same base in other wrappers
+same-base : (t book : List ℕ) (r q : Ref) (sort number w v : ℕ) → baseOf q ≡ baseOf r → packOf q ≡ v → DueIs t book r sort number w → DueIs t book q sort number v
+same-base t book r q sort number w v b e δ = record { sorted = subst (λ (x : List ℕ). Sorted t book x sort number) (sym b) (δ .sorted); packs = e }
 
 -- ---- what is told, by the ways the code takes
 
@@ -153,30 +211,30 @@ module _ (t book : List ℕ) (vars : Vars) (text : ℕ) (d : Doc) (k i sort numb
   unfolding coerce
   told-variable q e f = by-out (stood t vars text i r (vars (nameOf d i))) (ap (λ (v : Value). coerce (kindsIn t) vars v r) (at-level text d k i q ∙ value-variable text d (valueAt text d (k - 1)) i e)) f
 
-  inner : (q : Ref) → packOf q ≡ packOf r / 4 → baseOf q ≡ baseOf r → DueIs t book q sort number (w / 4)
-  inner q e b = record { sorted = subst (λ (x : List ℕ). Sorted t book x sort number) (sym b) (δ .sorted); packs = e ∙ ap (λ (x : ℕ). x / 4) (δ .packs) }
-
   module _ (q : k ≡ 0 → ⊥) (nn : kindOf d i ≡ kindNull → ⊥) (nv : kindOf d i ≡ kindVariable → ⊥) where
     is-plain : plain (valueAt text d k i) ≡ true
     is-plain = ap plain (at-level text d k i q) ∙ row-plain text d (valueAt text d (k - 1)) i nv nn
 
-    pub told-inner : w % 4 ≡ 2 → ((s : Ref) → DueIs t book s sort number (w / 4) → Told text limit (coerced t vars text d k i s) from p p′ c) → Goal
-    told-inner e f =
-        let z = pack-non-null r (ap (λ (x : ℕ). x % 4) (δ .packs) ∙ e) in
-        by-out (coerced t vars text d k i (z .0)) (ap (λ (s : Ref). coerced t vars text d k i s) (z .1) ∙ at-non-null (kindsIn t) vars (valueAt text d k i) (z .0) is-plain) (f (z .0) (inner (z .0) (z .2) (z .3)))
+    -- the list of a type that is none is refused
+    pub told-kind : (u : ℕ) → packOf (nullableOf r) ≡ u → (u % 4 ≡ 2 → ⊥) → (u % 4 ≡ 1 → ⊥) → kindOf d i ≡ kindList → c ≡ Refused i reasonKind → Goal
+    told-kind u e a b l x =
+        let z : nullableOf r ≡ named (baseOf (nullableOf r)) = pack-named (nullableOf r) (λ (y : packOf (nullableOf r) % 4 ≡ 2). a (ap (λ (v : ℕ). v % 4) (sym e) ∙ y)) (λ (y : packOf (nullableOf r) % 4 ≡ 1). b (ap (λ (v : ℕ). v % 4) (sym e) ∙ y)) in
+        by-out (No (placedAt text i) reasonKind) (plain-nullable (kindsIn t) vars (valueAt text d k i) is-plain r ∙ ap (λ (s : Ref). coerced t vars text d k i s) z
+        ∙ ap (λ (v : Value). coerce (kindsIn t) vars v (named (baseOf (nullableOf r)))) (at-level text d k i q ∙ value-list text d (valueAt text d (k - 1)) i l)
+        ∙ no-list-at (kindsIn t) vars (placed text d i) (itemsFrom text d (valueAt text d (k - 1)) i (count d - (i + 1)) (i + 1)) (baseOf (nullableOf r))) (refl, x)
 
-    pub told-one : w % 4 ≡ 1 → (kindOf d i ≡ kindList → ⊥) → ((s : Ref) → DueIs t book s sort number (w / 4) → Told text limit (oned t vars text d k i s) from p p′ c) → Goal
-    told-one e nl f =
-        let z = pack-list r (ap (λ (x : ℕ). x % 4) (δ .packs) ∙ e) in
-        by-out (oned t vars text d k i (z .0)) (ap (λ (s : Ref). coerced t vars text d k i s) (z .1)
-        ∙ at-one (kindsIn t) vars (valueAt text d k i) (z .0) (ap alone (at-level text d k i q) ∙ row-alone text d (valueAt text d (k - 1)) i nv nn nl)) (f (z .0) (inner (z .0) (z .2) (z .3)))
+    -- a value of another kind is a list of one at each depth
+    pub told-single : (kindOf d i ≡ kindList → ⊥) → (m : ℕ) → m ≡ listsOf r → Told text limit (ones m (coerced t vars text d k i (named (baseOf r)))) from p p′ c → Goal
+    told-single nl m e f =
+        by-out (ones m (coerced t vars text d k i (named (baseOf r)))) (single-ones (kindsIn t) vars (valueAt text d k i) (ap alone (at-level text d k i q) ∙ row-alone text d (valueAt text d (k - 1)) i nv nn nl) r
+        ∙ ap (λ (x : ℕ). ones x (coerced t vars text d k i (named (baseOf r)))) (sym e)) f
 
-    pub told-list : (n : ℕ) → count d ≡ n → w % 4 ≡ 1 → kindOf d i ≡ kindList → ((s : Ref) → DueIs t book s sort number (w / 4) → Told text limit (listed t vars text d n (k - 1) i s) from p p′ c) → Goal
-    told-list n m e l f =
-        let z = pack-list r (ap (λ (x : ℕ). x % 4) (δ .packs) ∙ e) in
-        by-out (listed t vars text d n (k - 1) i (z .0)) (ap (λ (s : Ref). coerced t vars text d k i s) (z .1)
+    pub told-list : (n u : ℕ) → count d ≡ n → packOf (nullableOf r) ≡ u → u % 4 ≡ 1 → kindOf d i ≡ kindList → ((s : Ref) → DueIs t book s sort number (u / 4) → Told text limit (listed t vars text d n (k - 1) i s) from p p′ c) → Goal
+    told-list n u m e y l f =
+        let z = pack-list (nullableOf r) (ap (λ (x : ℕ). x % 4) e ∙ y) in
+        by-out (listed t vars text d n (k - 1) i (z .0)) (plain-nullable (kindsIn t) vars (valueAt text d k i) is-plain r ∙ ap (λ (s : Ref). coerced t vars text d k i s) (z .1)
         ∙ ap (λ (v : Value). coerce (kindsIn t) vars v (listOf (z .0))) (at-level text d k i q ∙ value-list text d (valueAt text d (k - 1)) i l ∙ ap (λ (x : ℕ). list (placed text d i) (itemsFrom text d (valueAt text d (k - 1)) i (x - (i + 1)) (i + 1))) m)
-        ∙ list-at (kindsIn t) vars (placed text d i) (itemsFrom text d (valueAt text d (k - 1)) i (n - (i + 1)) (i + 1)) (z .0)) (f (z .0) (inner (z .0) (z .2) (z .3)))
+        ∙ list-at (kindsIn t) vars (placed text d i) (itemsFrom text d (valueAt text d (k - 1)) i (n - (i + 1)) (i + 1)) (z .0)) (f (z .0) (same-base t book r (z .0) sort number w (u / 4) (z .3 ∙ base-nullable r) (z .2 ∙ ap (λ (x : ℕ). x / 4) e) δ))
 
     module _ (a : w % 4 ≡ 2 → ⊥) (b : w % 4 ≡ 1 → ⊥) where
       is-named : r ≡ named (baseOf r)
@@ -207,18 +265,19 @@ module _ (t book : List ℕ) (vars : Vars) (text : ℕ) (d : Doc) (k i sort numb
 
 -- ---- what the calls ask
 
-pub meant-non-null : (t book : List ℕ) (sort number w : ℕ) → Meant t book sort number w → w % 4 ≡ 2 → Meant t book sort number (w / 4)
-meant-non-null t book sort number w m e =
-    let z = pack-non-null (m .ref) (ap (λ (x : ℕ). x % 4) (m .is .packs) ∙ e) in
-    record { ref = z .0; is = record { sorted = subst (λ (x : List ℕ). Sorted t book x sort number) (sym (z .3)) (m .is .sorted); packs = z .2 ∙ ap (λ (x : ℕ). x / 4) (m .is .packs) } }
+-- of the items of a list, whose type without Non-Null outside has the wrappers u
+pub meant-items : (t book : List ℕ) (sort number w u : ℕ) → Meant t book sort number w → ((r : Ref) → packOf r ≡ w → packOf (nullableOf r) ≡ u) → u % 4 ≡ 1 → Meant t book sort number (u / 4)
+meant-items t book sort number w u m f y =
+    let e : packOf (nullableOf (m .ref)) ≡ u = f (m .ref) (m .is .packs) in let z = pack-list (nullableOf (m .ref)) (ap (λ (x : ℕ). x % 4) e ∙ y) in
+    record { ref = z .0; is = same-base t book (m .ref) (z .0) sort number w (u / 4) (z .3 ∙ base-nullable (m .ref)) (z .2 ∙ ap (λ (x : ℕ). x / 4) e) (m .is) }
 
-pub meant-list : (t book : List ℕ) (sort number w : ℕ) → Meant t book sort number w → w % 4 ≡ 1 → Meant t book sort number (w / 4)
-meant-list t book sort number w m e =
-    let z = pack-list (m .ref) (ap (λ (x : ℕ). x % 4) (m .is .packs) ∙ e) in
-    record { ref = z .0; is = record { sorted = subst (λ (x : List ℕ). Sorted t book x sort number) (sym (z .3)) (m .is .sorted); packs = z .2 ∙ ap (λ (x : ℕ). x / 4) (m .is .packs) } }
+pub fits-items : (book : List ℕ) (sort number w u : ℕ) → Fits book sort number w → u ≤ w → Fits book sort number (u / 4)
+fits-items book sort number w u f l = record { there = f .there; few = (let z = f .few in omega (arith, z, l)) }
 
-pub fits-inner : (book : List ℕ) (sort number w : ℕ) → Fits book sort number w → Fits book sort number (w / 4)
-fits-inner book sort number w f = record { there = f .there; few = (let z = f .few in omega (arith, z)) }
+-- of the type without its wrappers
+pub due-base : (t book : List ℕ) (r : Ref) (sort number w : ℕ) → DueIs t book r sort number w → DueIs t book (named (baseOf r)) sort number 0
+unfolding packOf
+due-base t book r sort number w δ = same-base t book r (named (baseOf r)) sort number w 0 refl refl δ
 
 pub takes-input : (kind sort : ℕ) → takesFields kind sort ≡ true → sort ≡ 8
 takes-input kind sort e = eqb-true sort 8 (first (eqb sort 8) (isObjectKind kind) e)
@@ -232,6 +291,9 @@ takes-by kind row sort b x p q e = rw (← p) (sym q ∙ e)
 
 pub room-first : (limit from first : ℕ) (p : List ℕ) → Room limit from p → first ≡ placeOf limit (from + 3) → Room limit first p
 room-first limit from first p r e = record { least = r .least; place = place-least limit (from + 3) first e; size = r .size }
+
+pub room-at : (limit from x first : ℕ) (p : List ℕ) → Room limit from p → first ≡ placeOf limit x → Room limit first p
+room-at limit from x first p r e = record { least = r .least; place = place-least limit x first e; size = r .size }
 
 -- a row that is a list is there
 pub list-there : (rows : List ℕ) (n i : ℕ) → rowIn rows n i .kind ≡ kindList → i < n

@@ -4,21 +4,23 @@ use mathlib.Core.Path.{_≡_}
 use mathlib.Core.Bool.{Bool, true, false, _&&_}
 use mathlib.Core.Option.{Option, none, some}
 use mathlib.Core.List.{List}
-use Prim.Native.Nat.{ℕ, zero, suc, _+_, _-_}
+use Prim.Native.Nat.{ℕ, zero, suc, _+_, _-_, _*_, _≤_, _<_}
+use lib.ListN.{length}
 use lib.Dec.{eqb, leb}
-use Rattle.paper.specs.Numbers.{kindVariable, mostWrappers}
-use Rattle.paper_types.specs.References.{Ref}
-use Rattle.paper_types.specs.Types.{tableOf}
-use Rattle.paper_types.proofs.ReferenceSizes.{wrappers as wrapperCount}
-use Rattle.paper_rules.specs.Constructs.{Doc, kindOf, nameOf}
-use Rattle.types.specs.Booked.{Booked}
-use Rattle.types.specs.Sizes.{Slim}
+use Rattle.paper.specs.Numbers.{kindVariable, kindNull, kindList, mostWrappers}
+use Rattle.paper_table.specs.References.{Ref, named, listOf, nonNull}
+use Rattle.paper_table.specs.Types.{tableOf}
+use Rattle.paper_table.proofs.ReferenceSizes.{wrappers as wrapperCount}
+use Rattle.paper_query.specs.Constructs.{Doc, kindOf, nameOf}
+use Rattle.table_fields.specs.Wrappers.{packLimit}
+use Rattle.table_types.specs.Booked.{Booked}
+use Rattle.table_types.specs.Sizes.{Slim}
 use Rattle.paper_values.specs.Values.{Name, Entries, Due, Tree, Many, Trees, no-more, also, Pairs, nothing, Out, Got, No, andThen}
 use Rattle.paper_values.specs.Kinds.{Kind, kindOfType}
 use Rattle.paper_values.specs.Coercion.{Given, heads, missing, field, entryOf, inObject, held, coerce, coerceAll, givens}
 use Rattle.paper_values.specs.Encoding.{encodePairs}
 use Rattle.paper_values.specs.RowValues.{itemsFrom, entriesFrom, valueAt}
-use Rattle.value_writing.specs.Writing.{Put}
+use Rattle.value_writing.specs.Writing.{mostLimit, Put}
 use Rattle.value_kinds.specs.Dues.{placedAt, DueIs}
 use Rattle.value_kinds.specs.declared.Coerced.{Coerced}
 use Rattle.value_kinds.specs.declared.Coerced.the-variants.{UpTo, Refused}
@@ -36,6 +38,38 @@ pub record Ready (t book s rows : List ℕ) (n : ℕ) (past : List ℕ) : Type 0
 pub record Meant (t book : List ℕ) (sort number wrappers : ℕ) : Type 0 where
   pub ref : Ref
   pub is : DueIs t book ref sort number wrappers
+
+-- a row of this kind, with k levels left, is read, and is no null, no variable and no list
+pub record Alone (kind k : ℕ) : Type 0 where
+  pub level : k ≡ 0 → ⊥
+  pub no-null : kind ≡ kindNull → ⊥
+  pub no-variable : kind ≡ kindVariable → ⊥
+  pub no-list : kind ≡ kindList → ⊥
+
+-- the lists among a type's wrappers; the type without Non-Null outside
+abbrev pub listsOf : Ref → ℕ
+listsOf (named n) = 0
+listsOf (listOf r) = suc (listsOf r)
+listsOf (nonNull r) = listsOf r
+
+abbrev pub nullableOf : Ref → Ref
+nullableOf (named n) = named n
+nullableOf (listOf r) = listOf r
+nullableOf (nonNull r) = nullableOf r
+
+-- a value in m lists of one, each in the other
+abbrev pub ones : ℕ → Out Tree → Out Tree
+ones zero o = o
+ones (suc m) o = andThen (ones m o) (λ x. Got (Many (also x no-more)))
+
+-- the heads of m lists may be put, three bytes each from `from` on, before content that stands behind them, up to `at`
+pub record Inside (limit from m at : ℕ) (d : List ℕ) : Type 0 where
+  pub least : limit ≤ mostLimit
+  pub place : from ≤ limit + 1
+  pub few : m < packLimit
+  pub end : at ≤ limit + 1
+  pub order : at ≤ limit → from + 3 * m ≤ at
+  pub size : length d ≡ limit
 
 -- what is due has at most seven wrappers
 abbrev pub slimDue : Due → Bool
@@ -59,12 +93,9 @@ leavesOut vars d (suc k) i = eqb (kindOf d i) kindVariable && isNone (vars (name
 abbrev pub kindsIn : List ℕ → Name → Kind
 kindsIn t = kindOfType (tableOf t)
 
--- row i's value at the type r, with k levels left; the same as a list of one; the list of row h, with k levels left for each item
+-- row i's value at the type r, with k levels left; the list of row h, with k levels left for each item
 abbrev pub coerced : List ℕ → Vars → ℕ → Doc → ℕ → ℕ → Ref → Out Tree
 coerced t vars text d k i r = coerce (kindsIn t) vars (valueAt text d k i) r
-
-abbrev pub oned : List ℕ → Vars → ℕ → Doc → ℕ → ℕ → Ref → Out Tree
-oned t vars text d k i r = andThen (coerced t vars text d k i r) (λ x. Got (Many (also x no-more)))
 
 abbrev pub itemsAt : List ℕ → Vars → ℕ → Doc → ℕ → ℕ → ℕ → ℕ → Ref → Out Trees
 itemsAt t vars text d n k h c r = coerceAll (kindsIn t) vars (itemsFrom text d (valueAt text d k) h (n - c) c) r

@@ -11,10 +11,10 @@ use lib.ListN.{length}
 use lib.Dec.{leb}
 use Rattle.paper.specs.Numbers.{rowSize}
 use Rattle.paper.specs.Tokens.{same}
-use Rattle.paper_types.specs.References.{Ref}
-use Rattle.paper_rules.specs.Constructs.{Doc}
-use Rattle.index.specs.Book.{part}
-use Rattle.constructs.specs.Rowed.{cell, docOf}
+use Rattle.paper_table.specs.References.{Ref}
+use Rattle.paper_query.specs.Constructs.{Doc}
+use Rattle.table_book.specs.Book.{part}
+use Rattle.query_rows.specs.Rowed.{cell, docOf}
 use Rattle.paper_values.specs.Values.{Name, Tree, Pairs, nothing, pair, Got}
 use Rattle.paper_values.specs.Coercion.{entryOf, constant}
 use Rattle.paper_values.specs.RowValues.{valueOfRow}

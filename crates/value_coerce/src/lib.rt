@@ -1,18 +1,19 @@
 // Coerces the value of a row at a type into the lent buffer, or refuses a row with a reason; and the entries of an object, or the arguments
 // of a field, where they are due. A variable is coerced anew at each of its places: its value stands in the document or in the variables text.
-use members::FieldFound;
 use paper::KIND_LIST;
 use paper::KIND_NULL;
 use paper::KIND_OBJECT_FIELD;
 use paper::KIND_VARIABLE;
 use paper::ROW_SIZE;
-use paper_types::TAG_NAME;
+use paper_table::TAG_NAME;
+use paper_values::REASON_KIND;
 use paper_values::REASON_MISSING;
 use paper_values::REASON_REPEATED;
 use paper_values::REASON_UNKNOWN;
 use paper_values::TAG_INPUT;
 use paper_values::TAG_LIST;
 use paper_values::TAG_PAIR;
+use table_members::FieldFound;
 use value_entries::find_entry;
 use value_entries::first_child;
 use value_entries::first_repeated;
@@ -34,25 +35,27 @@ ghost use mathlib.Core.Logic.{_⊎_};
 ghost use mathlib.Core.Bool.{true};
 ghost use mathlib.Core.Option.{some};
 ghost use mathlib.Core.List.{List, []};
-ghost use Prim.Native.Nat.{ℕ, _+_, _-_, _*_, _≤_, _<_};
+ghost use Prim.Native.Nat.{ℕ, _+_, _-_, _*_, _%_, _≤_, _<_};
 ghost use lib.ListN.{length};
 ghost use Rattle.paper.specs.Numbers.{rowSize, kindVariable, kindNull};
-ghost use Rattle.paper_types.specs.Lists.{allOf};
-ghost use Rattle.paper_types.specs.References.{Ref};
-ghost use Rattle.paper_rules.specs.Constructs.{nameOf};
-ghost use Rattle.fields.specs.Fields.{Bounds};
-ghost use Rattle.fields.specs.Wrappers.{packOf};
-ghost use Rattle.index.specs.Book.{part};
-ghost use Rattle.members.specs.Members.{memberFrom};
-ghost use Rattle.constructs.specs.Rowed.{cell, rowIn, docOf, Rowed, Sized, Decides};
+ghost use Rattle.paper_table.specs.Lists.{allOf};
+ghost use Rattle.paper_table.specs.References.{Ref};
+ghost use Rattle.paper_query.specs.Constructs.{nameOf};
+ghost use Rattle.table_fields.specs.Fields.{Bounds};
+ghost use Rattle.table_fields.specs.Wrappers.{packOf, packLimit};
+ghost use Rattle.table_book.specs.Book.{part};
+ghost use Rattle.table_members.specs.Members.{memberFrom};
+ghost use Rattle.query_rows.specs.Rowed.{cell, rowIn, docOf, Rowed, Sized, Decides};
 ghost use Rattle.paper_values.specs.Kinds.{dueOf};
-ghost use Rattle.paper_values.specs.Values.{Value, Due as Dues, Tree, Pairs, Got, nothing};
+ghost use Rattle.paper_values.specs.Values.{Value, Due as Dues, Tree, Out, Pairs, Got, nothing};
 ghost use Rattle.paper_values.specs.Coercion.{heads, repeated, unknown, missing, valueIn};
 ghost use Rattle.paper_values.specs.RowValues.{entriesFrom};
-ghost use Rattle.value_writing.specs.Writing.{Room};
+ghost use Rattle.value_writing.specs.Writing.{placeOf, Room};
 ghost use Rattle.value_kinds.specs.Dues.{DueIs, Fits, Told, placedAt};
+ghost use Rattle.value_kinds.specs.declared.Coerced.the-variants.{UpTo};
+ghost use Rattle.value_tokens.specs.Spans.{takesFields};
 ghost use Rattle.value_entries.specs.Entered.{Treed, Marks, duesBy};
-ghost use Rattle.value_coerce.specs.Coercing.{Ready, Meant, Vars, slimDue, leavesOut, coerced, listed, oned, stood, objected, stepped, ToldPairs};
+ghost use Rattle.value_coerce.specs.Coercing.{Ready, Meant, Alone, Inside, Vars, slimDue, leavesOut, listsOf, nullableOf, coerced, listed, ones, stood, objected, stepped, ToldPairs};
 ghost use Rattle.value_coerce.specs.Holding.{Kept, Holds, Holding, Names, Knows, Gives, heldFrom};
 
 // The numbers held of a variable: where its name starts, and its size; the text of its value, and the value's row there; sort, number and
@@ -107,7 +110,7 @@ fn find_held(s: &[u8], held: &[u32], many: usize, at: usize, l: usize) -> usize
     while j < many {
         let a = cell_of(held, many, j, HELD_NAME) as usize;
         let size = cell_of(held, many, j, HELD_SIZE) as usize;
-        if index::is_text(s, at, l, s, a, size) {
+        if table_book::is_text(s, at, l, s, a, size) {
             return j;
         }
         j += 1;
@@ -120,8 +123,8 @@ fn held_at(s: &[u8], rows: &[u32], n: usize, i: usize, held: &[u32], many: usize
     requires { ⌜ Rowed (now s) (now rows) n × Names (now s) (now held) many ⌝ }
     ensures { λ r. ⌜ r ≡ heldFrom (now (s .entry)) (now (held .entry)) (nameOf (docOf (now (s .entry)) (now (rows .entry)) n) i) many 0 ⌝ }
 {
-    let at = constructs::name_of(rows, n, i) as usize;
-    let l = constructs::size_of(rows, n, i) as usize;
+    let at = query_rows::name_of(rows, n, i) as usize;
+    let l = query_rows::size_of(rows, n, i) as usize;
     find_held(s, held, many, at, l)
 }
 
@@ -131,17 +134,17 @@ fn is_left_out(
     rows: &[u32],
     n: usize,
     i: usize,
-    k: usize,
+    levels: usize,
     held: &[u32],
     many: usize,
 ) -> bool
     requires { ⌜ Rowed (now s) (now rows) n × Names (now s) (now held) many ⌝ }
-    ensures { λ r. ⌜ ((vars : Vars) → Knows (now (s .entry)) (now (held .entry)) many vars → r ≡ leavesOut vars (docOf (now (s .entry)) (now (rows .entry)) n) k i) ⌝ }
+    ensures { λ r. ⌜ ((vars : Vars) → Knows (now (s .entry)) (now (held .entry)) many vars → r ≡ leavesOut vars (docOf (now (s .entry)) (now (rows .entry)) n) levels i) ⌝ }
 {
-    if k == 0 {
+    if levels == 0 {
         return false;
     }
-    if constructs::kind_of(rows, n, i) != KIND_VARIABLE {
+    if query_rows::kind_of(rows, n, i) != KIND_VARIABLE {
         return false;
     }
     many <= held_at(s, rows, n, i, held, many)
@@ -229,11 +232,51 @@ fn is_null(rows: &[u32], n: usize, i: usize) -> bool
     requires { ⌜ Sized (now rows) n ⌝ }
     ensures { λ r. ⌜ Decides r ((rowIn (now (rows .entry)) n i .kind ≡ kindNull) ⊎ (rowIn (now (rows .entry)) n i .kind ≡ kindVariable)) ⌝ }
 {
-    let kind = constructs::kind_of(rows, n, i);
+    let kind = query_rows::kind_of(rows, n, i);
     if kind == KIND_NULL {
         return true;
     }
     kind == KIND_VARIABLE
+}
+
+// How many of these wrappers are lists.
+fn lists_in(wrappers: u32) -> usize
+    requires { ⌜ wrappers < packLimit ⌝ }
+    ensures { λ m. ⌜ (m < packLimit) × ((r : Ref) → packOf r ≡ wrappers → m ≡ listsOf r) ⌝ }
+{
+    let mut m = 0;
+    let mut w = wrappers;
+    while 0 < w {
+        m += (w % 2) as usize;
+        w = w / 4;
+    }
+    m
+}
+
+// These wrappers without Non-Null outside.
+fn nullable(wrappers: u32) -> u32
+    ensures { λ w. ⌜ (w ≤ wrappers) × (w % 4 ≡ 2 → ⊥) × ((r : Ref) → packOf r ≡ wrappers → packOf (nullableOf r) ≡ w) ⌝ }
+{
+    let mut rest = wrappers;
+    while rest % 4 == 2 {
+        rest = rest / 4;
+    }
+    rest
+}
+
+// Puts the heads of m lists of one, each in the other, before what was written behind their bytes from `from` on, up to `at`.
+fn close_ones(out: &mut [u8], limit: usize, from: usize, m: usize, at: usize) -> usize
+    requires { ⌜ Inside limit from m at (now out) ⌝ }
+    ensures { λ e. ⌜ ((text : ℕ) (o : Out Tree) (p : List ℕ) → Told text limit o (placeOf limit (from + 3 * m)) p (now (out .entry)) (UpTo at) → Told text limit (ones m o) from p (now (out .exit)) (UpTo e)) ⌝ }
+{
+    let mut e = at;
+    let mut j = m;
+    while 0 < j {
+        j -= 1;
+        let head = place(limit, from, 3 * j);
+        e = close(out, limit, head, TAG_LIST, e);
+    }
+    e
 }
 
 // Writes the value of row i at the type that is due, with k levels left. The variables are coerced already; `many` is 0 where none has a value.
@@ -265,7 +308,7 @@ pub fn value(
     if k == 0 {
         return put_nothing(out, limit, from, i, w);
     }
-    let kind = constructs::kind_of(rows, n, i);
+    let kind = query_rows::kind_of(rows, n, i);
     if kind == KIND_NULL {
         return put_nothing(out, limit, from, i, w);
     }
@@ -290,118 +333,60 @@ pub fn value(
             from,
         );
     }
-    let inner = Due {
+    if kind != KIND_LIST {
+        return single(
+            t,
+            book,
+            s,
+            rows,
+            n,
+            past,
+            i,
+            k,
+            due,
+            s1,
+            rows1,
+            n1,
+            past1,
+            held,
+            many,
+            out,
+            limit,
+            from,
+        );
+    }
+    let inside = nullable(w);
+    if inside % 4 != 1 {
+        return Coerced::Refused {
+            row: i,
+            why: REASON_KIND,
+        };
+    }
+    let items = Due {
         sort: due.sort,
         number: due.number,
-        wrappers: w / 4,
+        wrappers: inside / 4,
     };
-    if w % 4 == 2 {
-        return value(
-            t,
-            book,
-            s,
-            rows,
-            n,
-            past,
-            i,
-            k,
-            inner,
-            s1,
-            rows1,
-            n1,
-            past1,
-            held,
-            many,
-            out,
-            limit,
-            from,
-        );
-    }
-    if w % 4 == 1 {
-        if kind == KIND_LIST {
-            return list(
-                t,
-                book,
-                s,
-                rows,
-                n,
-                past,
-                i,
-                k - 1,
-                inner,
-                s1,
-                rows1,
-                n1,
-                past1,
-                held,
-                many,
-                out,
-                limit,
-                from,
-            );
-        }
-        return one(
-            t,
-            book,
-            s,
-            rows,
-            n,
-            past,
-            i,
-            k,
-            inner,
-            s1,
-            rows1,
-            n1,
-            past1,
-            held,
-            many,
-            out,
-            limit,
-            from,
-        );
-    }
-    if takes_fields(kind, due.sort) {
-        let number = due.number;
-        let start = index::start_of(book, number);
-        let end = index::end_of(book, number);
-        return object(
-            t,
-            book,
-            s,
-            rows,
-            n,
-            past,
-            i,
-            k - 1,
-            KIND_OBJECT_FIELD,
-            start,
-            end,
-            s1,
-            rows1,
-            n1,
-            past1,
-            held,
-            many,
-            out,
-            limit,
-            from,
-        );
-    }
-    let leaf = put_base(
+    list(
         t,
         book,
         s,
         rows,
         n,
+        past,
         i,
-        due.sort,
-        due.number,
+        k - 1,
+        items,
+        s1,
+        rows1,
+        n1,
+        past1,
+        held,
+        many,
         out,
         limit,
         from,
-    );
-    of_leaf(i, leaf)
+    )
 }
 
 // Writes what the variable at row i stands for, at a type with these wrappers.
@@ -520,8 +505,9 @@ fn put_kept(
     )
 }
 
-// Writes a list of one: the value of row i at the items' type.
-fn one(
+// Writes the value of row i, which is no null, no variable and no list, as a list of one at each depth of the type: the heads' bytes are kept
+// free, and the heads put when the value is written, from the inside out.
+fn single(
     t: &[u8],
     book: &[u32],
     s: &[u8],
@@ -541,12 +527,13 @@ fn one(
     limit: usize,
     from: usize,
 ) -> Coerced
-    requires { ⌜ Ready (now t) (now book) (now s) (now rows) n (now past) × (i ≤ n) × Fits (now book) (due .sort) (due .number) (due .wrappers) × Room limit from (now out) × Meant (now t) (now book) (due .sort) (due .number) (due .wrappers) × Holding (now t) (now book) (now s) (now rows) n (now s1) (now rows1) n1 (now past1) (now held) many ⌝ }
+    requires { ⌜ Ready (now t) (now book) (now s) (now rows) n (now past) × (i ≤ n) × Fits (now book) (due .sort) (due .number) (due .wrappers) × Room limit from (now out) × Meant (now t) (now book) (due .sort) (due .number) (due .wrappers) × Holding (now t) (now book) (now s) (now rows) n (now s1) (now rows1) n1 (now past1) (now held) many × Alone (rowIn (now rows) n i .kind) k ⌝ }
     ensures { λ c. ⌜ ((text : ℕ) (r : Ref) (ps : Pairs) → DueIs (now (t .entry)) (now (book .entry)) r (due .sort) (due .number) (due .wrappers) → Holds (now (t .entry)) (now (book .entry)) (now (s .entry)) (now (rows .entry)) n (now (s1 .entry)) (now (rows1 .entry)) n1 (now (held .entry)) 0 many ps →
-        Told text limit (oned (now (t .entry)) (valueIn ps) text (docOf (now (s .entry)) (now (rows .entry)) n) k i r) from (now (out .entry)) (now (out .exit)) c) ⌝ }
+        Told text limit (coerced (now (t .entry)) (valueIn ps) text (docOf (now (s .entry)) (now (rows .entry)) n) k i r) from (now (out .entry)) (now (out .exit)) c) ⌝ }
 {
-    let first = place(limit, from, 3);
-    let r = value(
+    let m = lists_in(due.wrappers);
+    let first = place(limit, from, 3 * m);
+    let r = bare(
         t,
         book,
         s,
@@ -569,7 +556,123 @@ fn one(
     let Coerced::UpTo(at) = r else {
         return r;
     };
-    Coerced::UpTo(close(out, limit, from, TAG_LIST, at))
+    Coerced::UpTo(close_ones(out, limit, from, m, at))
+}
+
+// Writes such a value at the type without its wrappers.
+fn bare(
+    t: &[u8],
+    book: &[u32],
+    s: &[u8],
+    rows: &[u32],
+    n: usize,
+    past: &[u32],
+    i: usize,
+    k: usize,
+    due: Due,
+    s1: &[u8],
+    rows1: &[u32],
+    n1: usize,
+    past1: &[u32],
+    held: &[u32],
+    many: usize,
+    out: &mut [u8],
+    limit: usize,
+    from: usize,
+) -> Coerced
+    requires { ⌜ Ready (now t) (now book) (now s) (now rows) n (now past) × (i ≤ n) × Fits (now book) (due .sort) (due .number) (due .wrappers) × Room limit from (now out) × Holding (now t) (now book) (now s) (now rows) n (now s1) (now rows1) n1 (now past1) (now held) many × Alone (rowIn (now rows) n i .kind) k ⌝ }
+    ensures { λ c. ⌜ ((text : ℕ) (r : Ref) (ps : Pairs) → DueIs (now (t .entry)) (now (book .entry)) r (due .sort) (due .number) 0 → Holds (now (t .entry)) (now (book .entry)) (now (s .entry)) (now (rows .entry)) n (now (s1 .entry)) (now (rows1 .entry)) n1 (now (held .entry)) 0 many ps →
+        Told text limit (coerced (now (t .entry)) (valueIn ps) text (docOf (now (s .entry)) (now (rows .entry)) n) k i r) from (now (out .entry)) (now (out .exit)) c) ⌝ }
+{
+    let kind = query_rows::kind_of(rows, n, i);
+    if takes_fields(kind, due.sort) {
+        return input(
+            t,
+            book,
+            s,
+            rows,
+            n,
+            past,
+            i,
+            k,
+            due,
+            s1,
+            rows1,
+            n1,
+            past1,
+            held,
+            many,
+            out,
+            limit,
+            from,
+        );
+    }
+    let leaf = put_base(
+        t,
+        book,
+        s,
+        rows,
+        n,
+        i,
+        due.sort,
+        due.number,
+        out,
+        limit,
+        from,
+    );
+    of_leaf(i, leaf)
+}
+
+// Writes such a value, which is an object, where an input object is due. Apart from the above, so that nothing is handed on for other values.
+fn input(
+    t: &[u8],
+    book: &[u32],
+    s: &[u8],
+    rows: &[u32],
+    n: usize,
+    past: &[u32],
+    i: usize,
+    k: usize,
+    due: Due,
+    s1: &[u8],
+    rows1: &[u32],
+    n1: usize,
+    past1: &[u32],
+    held: &[u32],
+    many: usize,
+    out: &mut [u8],
+    limit: usize,
+    from: usize,
+) -> Coerced
+    requires { ⌜ Ready (now t) (now book) (now s) (now rows) n (now past) × (i ≤ n) × Fits (now book) (due .sort) (due .number) (due .wrappers) × Room limit from (now out) × Holding (now t) (now book) (now s) (now rows) n (now s1) (now rows1) n1 (now past1) (now held) many × Alone (rowIn (now rows) n i .kind) k × (takesFields (rowIn (now rows) n i .kind) (due .sort) ≡ true) ⌝ }
+    ensures { λ c. ⌜ ((text : ℕ) (r : Ref) (ps : Pairs) → DueIs (now (t .entry)) (now (book .entry)) r (due .sort) (due .number) 0 → Holds (now (t .entry)) (now (book .entry)) (now (s .entry)) (now (rows .entry)) n (now (s1 .entry)) (now (rows1 .entry)) n1 (now (held .entry)) 0 many ps →
+        Told text limit (coerced (now (t .entry)) (valueIn ps) text (docOf (now (s .entry)) (now (rows .entry)) n) k i r) from (now (out .entry)) (now (out .exit)) c) ⌝ }
+{
+    let number = due.number;
+    let start = table_book::start_of(book, number);
+    let end = table_book::end_of(book, number);
+    object(
+        t,
+        book,
+        s,
+        rows,
+        n,
+        past,
+        i,
+        k - 1,
+        KIND_OBJECT_FIELD,
+        start,
+        end,
+        s1,
+        rows1,
+        n1,
+        past1,
+        held,
+        many,
+        out,
+        limit,
+        from,
+    )
 }
 
 // Writes the list of row h, whose items are at the type that is due, with k levels left for each.
@@ -741,8 +844,8 @@ fn field(
     ensures { λ c. ⌜ ((text : ℕ) (ps : Pairs) → Holds (now (t .entry)) (now (book .entry)) (now (s .entry)) (now (rows .entry)) n (now (s1 .entry)) (now (rows1 .entry)) n1 (now (held .entry)) 0 many ps →
         ToldPairs text limit (stepped (now (t .entry)) (valueIn ps) text (docOf (now (s .entry)) (now (rows .entry)) n) n k kind h (dueOf (memberFrom (now (t .entry)) tag start end))) from (now (out .entry)) (now (out .exit)) c) ⌝ }
 {
-    let name = members::member_name(t, tag, start, end);
-    let m = members::member_type(t, tag, start, end);
+    let name = table_members::member_name(t, tag, start, end);
+    let m = table_members::member_type(t, tag, start, end);
     let c = given(
         s,
         rows,

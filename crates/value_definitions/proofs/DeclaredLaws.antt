@@ -8,19 +8,19 @@ use native.Mathlib.Omega.{arith}
 use Rattle.paper.specs.Numbers.{mostWrappers}
 use Rattle.paper.specs.Rows.{Row}
 use Rattle.paper.specs.Language.{Document}
-use Rattle.paper_types.specs.Lists.{firstAt}
-use Rattle.paper_types.specs.References.{Ref, named, listOf, nonNull, baseOf}
-use Rattle.paper_rules.specs.Constructs.{noRow, spelt}
-use Rattle.paper_rules.specs.Enclosing.{then}
-use Rattle.paper_rules.specs.PlaceTypes.{shapeIn, wrappersOf}
-use Rattle.paper_rules.specs.Rule11VariableType.{declared}
-use Rattle.fields.specs.Wrappers.{packOf, packLimit}
-use Rattle.index.specs.Book.{part}
-use Rattle.constructs.specs.Rowed.{rowsIn, rowIn, docOf}
-use Rattle.constructs.proofs.RowsIn.{rows-count, row-none}
-use Rattle.constructs.proofs.ReadRows.{Taken}
-use Rattle.links.specs.Links.{nextWith}
-use Rattle.links.proofs.Nexts.{next-all, find-yes, find-no}
+use Rattle.paper_table.specs.Lists.{firstAt}
+use Rattle.paper_table.specs.References.{Ref, named, listOf, nonNull, baseOf}
+use Rattle.paper_query.specs.Constructs.{noRow, spelt}
+use Rattle.paper_query.specs.Enclosing.{then}
+use Rattle.paper_query.specs.PlaceTypes.{shapeIn, wrappersOf}
+use Rattle.paper_query.specs.Rule11VariableType.{declared}
+use Rattle.table_fields.specs.Wrappers.{packOf, packLimit}
+use Rattle.table_book.specs.Book.{part}
+use Rattle.query_rows.specs.Rowed.{rowsIn, rowIn, docOf}
+use Rattle.query_rows.proofs.RowsIn.{rows-count, row-none}
+use Rattle.query_rows.proofs.ReadRows.{Taken}
+use Rattle.query_links.specs.Links.{nextWith}
+use Rattle.query_links.proofs.Nexts.{next-all, find-yes, find-no}
 use Rattle.paper_values.specs.RowValues.{refFrom}
 use Rattle.paper_values.specs.DocumentDues.{refOr, declaredRef}
 use Rattle.paper_values.proofs.RowValuesLaws.{depth, ref-back}

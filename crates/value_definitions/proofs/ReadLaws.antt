@@ -8,10 +8,10 @@ use lib.ListN.{length}
 use borrow.Author.Tests.{eq-eqb}
 use Rattle.paper.specs.Language.{Part, Document}
 use Rattle.paper.specs.Numbers.{kindTypeReference, kindVariableDefinition}
-use Rattle.paper_types.specs.Lists.{firstAt}
-use Rattle.constructs.specs.Rowed.{rowsIn, rowIn}
-use Rattle.constructs.proofs.RowsIn.{rows-count}
-use Rattle.constructs.proofs.ReadRows.{Taken}
+use Rattle.paper_table.specs.Lists.{firstAt}
+use Rattle.query_rows.specs.Rowed.{rowsIn, rowIn}
+use Rattle.query_rows.proofs.RowsIn.{rows-count}
+use Rattle.query_rows.proofs.ReadRows.{Taken}
 use Rattle.query_subtrees.specs.Past.{Pasts}
 use Rattle.query_subtrees.proofs.Nesting.{taken-nested}
 use Rattle.value_entries.specs.Entered.{Treed}

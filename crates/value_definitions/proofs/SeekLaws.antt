@@ -10,12 +10,12 @@ use lib.Dec.{eqb}
 use borrow.Author.Tests.{eqb-true, lt-ltb, le-ltb, eq-eqb, ne-eqb, lt-leb, le-leb}
 use Rattle.paper.specs.Numbers.{noParent, kindTypeReference, kindVariable, kindObject}
 use Rattle.paper.specs.Rows.{Row}
-use Rattle.paper_types.specs.Lists.{firstAt}
-use Rattle.paper_rules.specs.Constructs.{noRow, below, is, isValue}
-use Rattle.constructs.specs.Rowed.{rowsIn, rowIn, docOf, Rowed}
-use Rattle.constructs.proofs.RowsIn.{rows-count, parent-before}
-use Rattle.links.specs.Links.{nextWith}
-use Rattle.links.proofs.Nexts.{next-here, next-step, next-least, next-most, next-passes, next-all, next-jump}
+use Rattle.paper_table.specs.Lists.{firstAt}
+use Rattle.paper_query.specs.Constructs.{noRow, below, is, isValue}
+use Rattle.query_rows.specs.Rowed.{rowsIn, rowIn, docOf, Rowed}
+use Rattle.query_rows.proofs.RowsIn.{rows-count, parent-before}
+use Rattle.query_links.specs.Links.{nextWith}
+use Rattle.query_links.proofs.Nexts.{next-here, next-step, next-least, next-most, next-passes, next-all, next-jump}
 use Rattle.paper_values.specs.DocumentDues.{defaultRow}
 use Rattle.query_subtrees.specs.Past.{leaves, pastOf, Nested}
 use Rattle.query_subtrees.proofs.Hops.{leaves-before}

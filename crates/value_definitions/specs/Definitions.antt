@@ -5,7 +5,7 @@ use mathlib.Core.Option.{Option, none, some}
 use Prim.Native.Nat.{ℕ}
 use Rattle.paper.specs.Numbers.{kindTypeReference}
 use Rattle.paper.specs.Rows.{Row}
-use Rattle.paper_rules.specs.Constructs.{is, below, isValue}
+use Rattle.paper_query.specs.Constructs.{is, below, isValue}
 use Rattle.value_definitions.specs.declared.Default.{Default}
 use Rattle.value_definitions.specs.declared.Default.the-variants.{Row as At, Nothing}
 

@@ -10,7 +10,7 @@ use lib.Dec.{leb}
 use borrow.Author.Tests.{le-leb, lt-leb}
 use Rattle.paper.specs.Numbers.{reportSize, accepted}
 use Rattle.paper.specs.Calls.{filled}
-use Rattle.buffers.specs.Buffers.{cleared}
+use Rattle.call_buffers.specs.Buffers.{cleared}
 use Rattle.paper_values.specs.ValueNumbers.{mostCoerced}
 use Rattle.paper_values.specs.ValueCalls.{Ending, ends, yields}
 use Rattle.value_endings.specs.Endings.{writtenOf, endNumber, endShown, endingOf, Leaves}

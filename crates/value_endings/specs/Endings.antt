@@ -11,13 +11,13 @@ use Rattle.paper.specs.Refusals.{numberOf, shownInText}
 use Rattle.paper.specs.Calls.{filled}
 use Rattle.paper.specs.declared.Refusal.{Refusal}
 use Rattle.paper.specs.declared.Refusal.the-variants.{Buffer, OverLength}
-use Rattle.paper_types.specs.TableNumbers.{mostTable, inputTable}
-use Rattle.paper_rules.specs.Opening.{refuseNoOperation}
-use Rattle.buffers.specs.declared.Sizes.{Sizes}
-use Rattle.buffers.specs.declared.Sizes.the-variants.{Met, Unmet}
+use Rattle.paper_table.specs.TableNumbers.{mostTable, inputTable}
+use Rattle.paper_query.specs.Opening.{refuseNoOperation}
+use Rattle.call_buffers.specs.declared.Sizes.{Sizes}
+use Rattle.call_buffers.specs.declared.Sizes.the-variants.{Met, Unmet}
 use Rattle.paper_values.specs.ValueNumbers.{refuseValue, refuseTooLong, mostCoerced}
 use Rattle.paper_values.specs.ValueCalls.{Ending, ends, yields}
-use Rattle.opening.specs.Opens.{stopNumber, stopShown}
+use Rattle.query_opening.specs.Opens.{stopNumber, stopShown}
 use Rattle.value_endings.specs.declared.Ended.{Ended}
 use Rattle.value_endings.specs.declared.Ended.the-variants.{NotOpened, NotReached, BadText, Refused, UpTo}
 

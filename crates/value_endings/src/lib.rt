@@ -1,17 +1,17 @@
 // How a coercing call begins and ends: whether its buffers and inputs keep to their sizes, and what is told and left of each way to end.
-use buffers::Sizes;
-use opening::Start;
+use call_buffers::Sizes;
 use paper::ACCEPTED;
 use paper::INPUT_DOCUMENT;
 use paper::INPUT_VARIABLES;
 use paper::MOST_TEXT;
 use paper::Refusal;
-use paper_rules::REFUSE_NO_OPERATION;
-use paper_types::INPUT_TABLE;
-use paper_types::MOST_TABLE;
+use paper_query::REFUSE_NO_OPERATION;
+use paper_table::INPUT_TABLE;
+use paper_table::MOST_TABLE;
 use paper_values::MOST_COERCED;
 use paper_values::REFUSE_TOO_LONG;
 use paper_values::REFUSE_VALUE;
+use query_opening::Start;
 ghost use mathlib.Core.Path.{_≡_};
 ghost use mathlib.Core.List.{_∷_};
 ghost use Prim.Native.Nat.{_≤_};
@@ -19,7 +19,7 @@ ghost use lib.ListN.{length};
 ghost use Rattle.paper.specs.Numbers.{reportSize};
 ghost use Rattle.paper.specs.Calls.{filled};
 ghost use Rattle.paper_values.specs.ValueNumbers.{mostCoerced};
-ghost use Rattle.buffers.specs.Buffers.{cleared};
+ghost use Rattle.call_buffers.specs.Buffers.{cleared};
 ghost use Rattle.value_endings.specs.Endings.{Sized, writtenOf, endNumber, endShown, endingOf, Leaves};
 
 // How a coercing call ends.
@@ -81,18 +81,18 @@ fn tell_refused(report: &mut [u32], e: Ended) -> u32
     ensures { λ n. ⌜ (n ≡ endNumber e) × (now (report .exit) ≡ filled reportSize (endNumber e ∷ endShown e) (now (report .entry))) ⌝ }
 {
     match e {
-        Ended::NotOpened(o) => opening::tell_stop(report, o),
+        Ended::NotOpened(o) => query_opening::tell_stop(report, o),
         Ended::NotReached => {
-            telling::tell(report, REFUSE_NO_OPERATION, 0);
+            call_report::tell(report, REFUSE_NO_OPERATION, 0);
             REFUSE_NO_OPERATION
         }
-        Ended::BadText(r) => telling::tell_in_text(report, INPUT_VARIABLES, r),
+        Ended::BadText(r) => call_report::tell_in_text(report, INPUT_VARIABLES, r),
         Ended::Refused { text, row, why } => {
-            telling::tell_five(report, REFUSE_VALUE, text, row, why, 0, 0);
+            call_report::tell_five(report, REFUSE_VALUE, text, row, why, 0, 0);
             REFUSE_VALUE
         }
         Ended::UpTo(_) => {
-            telling::tell(report, REFUSE_TOO_LONG, 0);
+            call_report::tell(report, REFUSE_TOO_LONG, 0);
             REFUSE_TOO_LONG
         }
     }
@@ -106,7 +106,7 @@ pub fn tell(value: &mut [u8], report: &mut [u32], e: Ended) -> u32
     let at = written(e);
     if at <= MOST_COERCED {
         clear(value, at);
-        telling::tell(report, ACCEPTED, at as u32);
+        call_report::tell(report, ACCEPTED, at as u32);
         return ACCEPTED;
     }
     clear(value, 0);

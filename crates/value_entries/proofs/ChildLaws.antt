@@ -11,10 +11,10 @@ use lib.ListN.{length}
 use borrow.Author.Tests.{ne-eqb}
 use Rattle.paper.specs.Numbers.{noParent}
 use Rattle.paper.specs.Tokens.{same}
-use Rattle.paper_types.specs.Lists.{anyOf}
-use Rattle.paper_rules.specs.Constructs.{Doc, parentOf, nameOf}
-use Rattle.constructs.specs.Rowed.{rowIn, rowsIn, docOf}
-use Rattle.constructs.proofs.RowsIn.{rows-count, parent-before}
+use Rattle.paper_table.specs.Lists.{anyOf}
+use Rattle.paper_query.specs.Constructs.{Doc, parentOf, nameOf}
+use Rattle.query_rows.specs.Rowed.{rowIn, rowsIn, docOf}
+use Rattle.query_rows.proofs.RowsIn.{rows-count, parent-before}
 use Rattle.query_subtrees.specs.Past.{pastOf, Parented}
 use Rattle.query_subtrees.proofs.PastLaws.{past-after, past-most, past-parents, past-child, past-hop, past-first}
 use Rattle.paper_values.specs.Values.{Name, Value, Due}

@@ -5,14 +5,14 @@ use mathlib.Core.List.{List, [], _∷_}
 use Prim.Native.Nat.{ℕ}
 use borrow.Author.Tests.{eq-eqb, ne-eqb}
 use Rattle.paper.specs.Numbers.{kindArgument}
-use Rattle.paper_types.specs.TableNumbers.{tagArgument}
-use Rattle.paper_types.specs.Lists.{anyOf, gather}
-use Rattle.paper_types.specs.Types.{Argument, Member}
-use Rattle.paper_types.specs.Rules.{memberNamed, argumentNamed}
-use Rattle.members.specs.Members.{First, membersIn, argumentsIn, memberFrom, argumentFrom, NextMember}
-use Rattle.members.specs.declared.FieldFound.{FieldFound}
-use Rattle.members.specs.declared.FieldFound.the-variants.{Found, Nothing}
-use Rattle.index.specs.Book.{part}
+use Rattle.paper_table.specs.TableNumbers.{tagArgument}
+use Rattle.paper_table.specs.Lists.{anyOf, gather}
+use Rattle.paper_table.specs.Types.{Argument, Member}
+use Rattle.paper_table.specs.Rules.{memberNamed, argumentNamed}
+use Rattle.table_members.specs.Members.{First, membersIn, argumentsIn, memberFrom, argumentFrom, NextMember}
+use Rattle.table_members.specs.declared.FieldFound.{FieldFound}
+use Rattle.table_members.specs.declared.FieldFound.the-variants.{Found, Nothing}
+use Rattle.table_book.specs.Book.{part}
 use Rattle.paper_values.specs.Values.{Name, Due}
 use Rattle.paper_values.specs.Kinds.{dueOf, dueArgument}
 use Rattle.value_kinds.proofs.KindLaws.{same-sym}

@@ -8,9 +8,9 @@ use native.Mathlib.Omega.{arith}
 use lib.Dec.{eqb}
 use borrow.Author.Tests.{eqb-true, eqb-false, eq-eqb, ne-eqb}
 use Rattle.paper.specs.Tokens.{same}
-use Rattle.paper_types.specs.Lists.{anyOf}
-use Rattle.paper_types.specs.References.{Ref}
-use Rattle.paper_rules.specs.Constructs.{Doc, parentOf, nameOf}
+use Rattle.paper_table.specs.Lists.{anyOf}
+use Rattle.paper_table.specs.References.{Ref}
+use Rattle.paper_query.specs.Constructs.{Doc, parentOf, nameOf}
 use Rattle.paper_values.specs.Values.{Name, At, Value, Due, entry, Tree, Out}
 use Rattle.paper_values.specs.Kinds.{Kind}
 use Rattle.paper_values.specs.Coercion.{heads, repeated, unknown, entryOf, leftOut, coerce, givens}

@@ -8,13 +8,13 @@ use Prim.Native.Nat.{ℕ, zero, suc, _+_, _<_}
 use lib.Dec.{eqb}
 use Rattle.paper.specs.Numbers.{kindArgument}
 use Rattle.paper.specs.Tokens.{same}
-use Rattle.paper_types.specs.Lists.{gather}
-use Rattle.paper_types.specs.Types.{Member}
-use Rattle.paper_rules.specs.Constructs.{Doc, kindOf, parentOf, nameOf}
-use Rattle.members.specs.declared.FieldFound.{FieldFound}
-use Rattle.members.specs.declared.FieldFound.the-variants.{Found, Nothing}
-use Rattle.members.specs.Members.{First, membersIn, argumentsIn, memberFrom}
-use Rattle.constructs.specs.Rowed.{rowsIn, Rowed}
+use Rattle.paper_table.specs.Lists.{gather}
+use Rattle.paper_table.specs.Types.{Member}
+use Rattle.paper_query.specs.Constructs.{Doc, kindOf, parentOf, nameOf}
+use Rattle.table_members.specs.declared.FieldFound.{FieldFound}
+use Rattle.table_members.specs.declared.FieldFound.the-variants.{Found, Nothing}
+use Rattle.table_members.specs.Members.{First, membersIn, argumentsIn, memberFrom}
+use Rattle.query_rows.specs.Rowed.{rowsIn, Rowed}
 use Rattle.query_subtrees.specs.Past.{Pasts, Nested}
 use Rattle.paper_values.specs.Values.{Name, At, Due}
 use Rattle.paper_values.specs.Kinds.{dueOf, dueArgument}

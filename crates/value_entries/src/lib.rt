@@ -1,22 +1,22 @@
 // The rows right below an object's, a list's or a field's: the first and the next of them, the first entry whose name an earlier one has,
 // the first of a name that nothing due has, the entry of a name; and what a content makes due, one by one.
-use members::FieldFound;
 use paper::KIND_ARGUMENT;
-use paper_types::TAG_ARGUMENT;
+use paper_table::TAG_ARGUMENT;
 use query_subtrees::past_of;
+use table_members::FieldFound;
 ghost use mathlib.Core.Path.{_≡_};
 ghost use mathlib.Core.Bool.{_&&_, not};
 ghost use mathlib.Core.List.{[]};
 ghost use Prim.Native.Nat.{ℕ, _+_, _-_, _≤_, _<_};
 ghost use lib.ListN.{length};
 ghost use Rattle.paper.specs.Tokens.{same};
-ghost use Rattle.paper_types.specs.Lists.{anyOf};
-ghost use Rattle.paper_types.specs.Rules.{argumentNamed};
-ghost use Rattle.paper_rules.specs.Constructs.{nameOf};
-ghost use Rattle.fields.specs.Fields.{Bounds};
-ghost use Rattle.index.specs.Book.{part};
-ghost use Rattle.members.specs.Members.{argumentsIn};
-ghost use Rattle.constructs.specs.Rowed.{rowIn, docOf, Rowed};
+ghost use Rattle.paper_table.specs.Lists.{anyOf};
+ghost use Rattle.paper_table.specs.Rules.{argumentNamed};
+ghost use Rattle.paper_query.specs.Constructs.{nameOf};
+ghost use Rattle.table_fields.specs.Fields.{Bounds};
+ghost use Rattle.table_book.specs.Book.{part};
+ghost use Rattle.table_members.specs.Members.{argumentsIn};
+ghost use Rattle.query_rows.specs.Rowed.{rowIn, docOf, Rowed};
 ghost use Rattle.paper_values.specs.Values.{Value};
 ghost use Rattle.paper_values.specs.Coercion.{heads, repeated, unknown};
 ghost use Rattle.paper_values.specs.RowValues.{entriesFrom};
@@ -51,10 +51,10 @@ fn is_entry(s: &[u8], rows: &[u32], n: usize, h: usize, kind: u32, c: usize) -> 
     requires { ⌜ Rowed (now s) (now rows) n ⌝ }
     ensures { λ r. ⌜ r ≡ isEntry (docOf (now (s .entry)) (now (rows .entry)) n) kind h c ⌝ }
 {
-    if constructs::parent_of(rows, n, c) as usize != h {
+    if query_rows::parent_of(rows, n, c) as usize != h {
         return false;
     }
-    constructs::kind_of(rows, n, c) == kind
+    query_rows::kind_of(rows, n, c) == kind
 }
 
 // Is row j such an entry, with the name of row c?
@@ -65,7 +65,7 @@ fn is_twin(s: &[u8], rows: &[u32], n: usize, h: usize, kind: u32, c: usize, j: u
     if !is_entry(s, rows, n, h, kind, j) {
         return false;
     }
-    constructs::same_names(s, rows, n, c, j)
+    query_rows::same_names(s, rows, n, c, j)
 }
 
 // Has an entry before row c its name?
@@ -126,7 +126,7 @@ fn has_argument(t: &[u8], start: usize, end: usize, s: &[u8], at: usize, l: usiz
         tag: _,
         start: _,
         end: _,
-    } = members::find_argument(t, start, end, s, at, l)
+    } = table_members::find_argument(t, start, end, s, at, l)
     else {
         return false;
     };
@@ -141,7 +141,7 @@ fn has_due(t: &[u8], start: usize, end: usize, kind: u32, s: &[u8], at: usize, l
     if kind == KIND_ARGUMENT {
         return has_argument(t, start, end, s, at, l);
     }
-    types::has_member(t, start, end, s, at, l)
+    table_types::has_member(t, start, end, s, at, l)
 }
 
 // The next that this content makes due, from `at` on, for entries of this kind: an argument, or a member.
@@ -150,13 +150,13 @@ pub fn next_due(t: &[u8], at: usize, end: usize, kind: u32) -> FieldFound
     ensures { λ r. ⌜ NextDue kind (now (t .entry)) at end r ⌝ }
 {
     if kind != KIND_ARGUMENT {
-        return members::next_member(t, at, end);
+        return table_members::next_member(t, at, end);
     }
     let FieldFound::Found {
         tag: _,
         start: from,
         end: to,
-    } = members::next_argument(t, at, end)
+    } = table_members::next_argument(t, at, end)
     else {
         return FieldFound::Nothing;
     };
@@ -185,8 +185,8 @@ fn is_unknown(
     if !is_entry(s, rows, n, h, kind, c) {
         return false;
     }
-    let at = constructs::name_of(rows, n, c) as usize;
-    let l = constructs::size_of(rows, n, c) as usize;
+    let at = query_rows::name_of(rows, n, c) as usize;
+    let l = query_rows::size_of(rows, n, c) as usize;
     if has_due(t, start, end, kind, s, at, l) {
         return false;
     }
@@ -236,7 +236,7 @@ fn is_named(
     if !is_entry(s, rows, n, h, kind, c) {
         return false;
     }
-    constructs::is_called(s, rows, n, c, t, at, l)
+    query_rows::is_called(s, rows, n, c, t, at, l)
 }
 
 // The first entry whose name is the l bytes of t from `at` on; n if there is none.

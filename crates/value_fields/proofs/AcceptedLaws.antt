@@ -2,15 +2,15 @@
 use mathlib.Core.Path.{_≡_}
 use mathlib.Core.List.{List}
 use Prim.Native.Nat.{ℕ}
-use Rattle.paper_types.specs.Types.{tableOf}
-use Rattle.paper_types.specs.Judging.{judge}
-use Rattle.paper_types.specs.declared.TableAnswer.the-variants.{Accepted}
-use Rattle.paper_types.proofs.JudgingLaws.{judge-accepted}
-use Rattle.types.specs.Booked.{Booked}
-use Rattle.types.specs.Sizes.{Slim}
-use Rattle.types.proofs.Fitting.{references-slim}
-use Rattle.belonging.specs.Kept.{Fielded}
-use Rattle.belonging.proofs.Framed.{fielded}
+use Rattle.paper_table.specs.Types.{tableOf}
+use Rattle.paper_table.specs.Judging.{judge}
+use Rattle.paper_table.specs.declared.TableAnswer.the-variants.{Accepted}
+use Rattle.paper_table.proofs.JudgingLaws.{judge-accepted}
+use Rattle.table_types.specs.Booked.{Booked}
+use Rattle.table_types.specs.Sizes.{Slim}
+use Rattle.table_types.proofs.Fitting.{references-slim}
+use Rattle.query_fields.specs.Kept.{Fielded}
+use Rattle.query_fields.proofs.Framed.{fielded}
 use Rattle.value_fields.specs.Wants.{Known}
 
 module _ (t : List ℕ) (e : judge t ≡ Accepted) where

@@ -7,19 +7,19 @@ use Prim.Native.Nat.{ℕ, _≤_, _<_}
 use native.Mathlib.Decide.{decLt}
 use native.Mathlib.Omega.{arith}
 use lib.ListN.{length, List·getD-eq-default}
-use Rattle.paper_types.specs.TableNumbers.{tagField}
-use Rattle.paper_types.specs.Lists.{allOf, find, gather}
-use Rattle.paper_types.specs.House.{piecesFrom}
-use Rattle.paper_types.specs.Types.{Argument, Member, tableOf, isUnion, blank, tagNothing}
-use Rattle.paper_types.specs.Rules.{memberNamed}
-use Rattle.paper_rules.specs.Constructs.{Doc, nameOf}
-use Rattle.paper_rules.specs.Enclosing.{FieldIs, typename, member, missing, unknown, definitionAt, isTypename, fieldOf, orMissing, fieldIn, enclosing, fieldAt}
-use Rattle.members.specs.Members.{argumentsIn, fieldFrom}
-use Rattle.members.proofs.MemberLaws.{field-is}
-use Rattle.types.specs.Sizes.{slimMember, slimDefinition, Slim}
-use Rattle.types.proofs.SlimLaws.{all-at, all-found, slim-arguments}
-use Rattle.belonging.specs.Kept.{fieldTypename, fieldCoded, FieldKept}
-use Rattle.belonging.proofs.FieldLaws.{coded-member, by-number}
+use Rattle.paper_table.specs.TableNumbers.{tagField}
+use Rattle.paper_table.specs.Lists.{allOf, find, gather}
+use Rattle.paper_table.specs.House.{piecesFrom}
+use Rattle.paper_table.specs.Types.{Argument, Member, tableOf, isUnion, blank, tagNothing}
+use Rattle.paper_table.specs.Rules.{memberNamed}
+use Rattle.paper_query.specs.Constructs.{Doc, nameOf}
+use Rattle.paper_query.specs.Enclosing.{FieldIs, typename, member, missing, unknown, definitionAt, isTypename, fieldOf, orMissing, fieldIn, enclosing, fieldAt}
+use Rattle.table_members.specs.Members.{argumentsIn, fieldFrom}
+use Rattle.table_members.proofs.MemberLaws.{field-is}
+use Rattle.table_types.specs.Sizes.{slimMember, slimDefinition, Slim}
+use Rattle.table_types.proofs.SlimLaws.{all-at, all-found, slim-arguments}
+use Rattle.query_fields.specs.Kept.{fieldTypename, fieldCoded, FieldKept}
+use Rattle.query_fields.proofs.FieldLaws.{coded-member, by-number}
 use Rattle.paper_values.specs.Values.{Due}
 use Rattle.paper_values.specs.Kinds.{dueArgument}
 use Rattle.paper_values.specs.DocumentDues.{argumentDues}

@@ -10,13 +10,13 @@ use lib.Dec.{ltb}
 use borrow.Author.Tests.{ltb-true, eqb-true}
 use Rattle.paper.specs.Numbers.{kindOperation}
 use Rattle.paper.specs.Rows.{Row}
-use Rattle.paper_types.specs.Lists.{firstAt, eachFrom, onlyIf}
-use Rattle.paper_rules.specs.Constructs.{Doc, noRow, is, called, kindOf, rowOf, numbersWhere}
-use Rattle.paper_rules.specs.DocumentCalls.{read}
-use Rattle.paper_rules.specs.Opening.{onlyOne, ifBelow, operationMeant, opens, Opened}
-use Rattle.paper_rules.specs.Opening.Opened.{opened}
-use Rattle.links.proofs.Nexts.{next-passes, next-all}
-use Rattle.links.proofs.Walks.{and-left}
+use Rattle.paper_table.specs.Lists.{firstAt, eachFrom, onlyIf}
+use Rattle.paper_query.specs.Constructs.{Doc, noRow, is, called, kindOf, rowOf, numbersWhere}
+use Rattle.paper_query.specs.DocumentCalls.{read}
+use Rattle.paper_query.specs.Opening.{onlyOne, ifBelow, operationMeant, opens, Opened}
+use Rattle.paper_query.specs.Opening.Opened.{opened}
+use Rattle.query_links.proofs.Nexts.{next-passes, next-all}
+use Rattle.query_links.proofs.Walks.{and-left}
 
 clash : {A : Type 0} (op : ℕ) → _≡_ {A = Option ℕ} none (some op) → A
 clash op e = let z : _≡_ {A = ℕ} 0 1 = cc in absurd (omega arith)

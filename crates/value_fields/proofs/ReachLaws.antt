@@ -4,16 +4,16 @@ use mathlib.Core.List.{List}
 use Prim.Native.Nat.{ℕ, _<_}
 use native.Mathlib.Omega.{arith}
 use lib.ListN.{getD, replicate}
-use Rattle.paper_rules.specs.Constructs.{count}
-use Rattle.paper_rules.specs.Reaching.{Within, Reaches}
-use Rattle.paper_rules.specs.Reaching.Reaches.{here}
-use Rattle.constructs.specs.Rowed.{docOf, roomOf}
-use Rattle.constructs.proofs.RowsIn.{rows-count}
-use Rattle.constructs.proofs.Rooms.{room-rows}
-use Rattle.spreading.specs.Owners.{Defines, Owned}
-use Rattle.spreading.proofs.OwnerLaws.{definition-within}
-use Rattle.passing.specs.Marks.{Stamped}
-use Rattle.reaching.proofs.MarkLaws.{stamped-none}
+use Rattle.paper_query.specs.Constructs.{count}
+use Rattle.paper_query.specs.Reaching.{Within, Reaches}
+use Rattle.paper_query.specs.Reaching.Reaches.{here}
+use Rattle.query_rows.specs.Rowed.{docOf, roomOf}
+use Rattle.query_rows.proofs.RowsIn.{rows-count}
+use Rattle.query_rows.proofs.Rooms.{room-rows}
+use Rattle.query_spreads.specs.Owners.{Defines, Owned}
+use Rattle.query_spreads.proofs.OwnerLaws.{definition-within}
+use Rattle.query_reach_pass.specs.Marks.{Stamped}
+use Rattle.query_reach.proofs.MarkLaws.{stamped-none}
 
 module _ (s rows : List ℕ) (n op : ℕ) where
   -- zeros are marks of no search

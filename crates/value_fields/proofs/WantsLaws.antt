@@ -7,13 +7,13 @@ use native.Mathlib.Omega.{arith}
 use lib.Dec.{T, eqb}
 use borrow.Author.Tests.{eqb-true, eq-eqb}
 use Rattle.paper.specs.Numbers.{kindField}
-use Rattle.paper_types.specs.Types.{tableOf}
-use Rattle.paper_rules.specs.Constructs.{Doc, is, kindOf}
-use Rattle.paper_rules.specs.Enclosing.{fieldAt}
-use Rattle.paper_rules.specs.Reaching.{Reaches}
-use Rattle.constructs.specs.Rowed.{rowIn, docOf, Decides}
-use Rattle.constructs.proofs.RowsIn.{rows-count}
-use Rattle.spreading.proofs.OwnerLaws.{row-within}
+use Rattle.paper_table.specs.Types.{tableOf}
+use Rattle.paper_query.specs.Constructs.{Doc, is, kindOf}
+use Rattle.paper_query.specs.Enclosing.{fieldAt}
+use Rattle.paper_query.specs.Reaching.{Reaches}
+use Rattle.query_rows.specs.Rowed.{rowIn, docOf, Decides}
+use Rattle.query_rows.proofs.RowsIn.{rows-count}
+use Rattle.query_spreads.proofs.OwnerLaws.{row-within}
 use Rattle.value_fields.specs.Wants.{Holds, Wants}
 use Rattle.value_fields.specs.declared.Wanted.the-variants.{Field, NotReached}
 

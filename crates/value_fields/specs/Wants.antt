@@ -7,19 +7,19 @@ use mathlib.Core.List.{List, [], _∷_}
 use Prim.Native.Nat.{ℕ, _≤_}
 use lib.ListN.{length}
 use Rattle.paper.specs.Numbers.{kindOperation}
-use Rattle.paper_types.specs.TableNumbers.{mostTable}
-use Rattle.paper_types.specs.Lists.{allOf, gather}
-use Rattle.paper_types.specs.Types.{tableOf}
-use Rattle.paper_types.specs.Judging.{judge}
-use Rattle.paper_types.specs.declared.TableAnswer.the-variants.{Accepted}
-use Rattle.paper_rules.specs.Constructs.{Doc}
-use Rattle.paper_rules.specs.Enclosing.{FieldIs, fieldAt}
-use Rattle.fields.specs.Fields.{Bounds}
-use Rattle.members.specs.Members.{argumentsIn}
-use Rattle.types.specs.Booked.{Booked}
-use Rattle.types.specs.Sizes.{slimArgument, Slim}
-use Rattle.constructs.specs.Rowed.{rowIn, Rowed}
-use Rattle.belonging.specs.Kept.{Fielded}
+use Rattle.paper_table.specs.TableNumbers.{mostTable}
+use Rattle.paper_table.specs.Lists.{allOf, gather}
+use Rattle.paper_table.specs.Types.{tableOf}
+use Rattle.paper_table.specs.Judging.{judge}
+use Rattle.paper_table.specs.declared.TableAnswer.the-variants.{Accepted}
+use Rattle.paper_query.specs.Constructs.{Doc}
+use Rattle.paper_query.specs.Enclosing.{FieldIs, fieldAt}
+use Rattle.table_fields.specs.Fields.{Bounds}
+use Rattle.table_members.specs.Members.{argumentsIn}
+use Rattle.table_types.specs.Booked.{Booked}
+use Rattle.table_types.specs.Sizes.{slimArgument, Slim}
+use Rattle.query_rows.specs.Rowed.{rowIn, Rowed}
+use Rattle.query_fields.specs.Kept.{Fielded}
 use Rattle.paper_values.specs.Kinds.{dueArgument}
 use Rattle.paper_values.specs.DocumentDues.{argumentDues, ReachedField}
 use Rattle.value_fields.specs.declared.Wanted.{Wanted}

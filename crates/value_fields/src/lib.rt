@@ -1,21 +1,21 @@
 // Whether a row is a field that an operation reaches, and where that field's arguments stand in the table.
 // A row in the operation itself is told by its owner alone; spreads are searched only for the others.
 // All of it is scratch, made with room for few rows where there are few: less is cleared then.
-use belonging::FIELD_TYPENAME;
-use constructs::kind_of;
 use paper::KIND_FIELD;
+use query_fields::FIELD_TYPENAME;
+use query_rows::kind_of;
 ghost use mathlib.Core.Path.{_≡_};
 ghost use Prim.Native.Nat.{_≤_, _<_};
 ghost use lib.ListN.{length, replicate};
 ghost use Rattle.paper.specs.Numbers.{kindField};
-ghost use Rattle.paper_types.specs.Types.{tableOf};
-ghost use Rattle.paper_rules.specs.Enclosing.{fieldAt};
-ghost use Rattle.paper_rules.specs.Reaching.{Reaches};
-ghost use Rattle.types.specs.Booked.{Booked};
-ghost use Rattle.constructs.specs.Rowed.{rowIn, docOf, Rowed, Decides, fewRows, roomOf};
-ghost use Rattle.links.specs.Links.{firstsSize, kindsSize};
-ghost use Rattle.spreading.specs.Owners.{Defines, Owned};
-ghost use Rattle.enclosings.specs.Enclosed.{Enclosed};
+ghost use Rattle.paper_table.specs.Types.{tableOf};
+ghost use Rattle.paper_query.specs.Enclosing.{fieldAt};
+ghost use Rattle.paper_query.specs.Reaching.{Reaches};
+ghost use Rattle.table_types.specs.Booked.{Booked};
+ghost use Rattle.query_rows.specs.Rowed.{rowIn, docOf, Rowed, Decides, fewRows, roomOf};
+ghost use Rattle.query_links.specs.Links.{firstsSize, kindsSize};
+ghost use Rattle.query_spreads.specs.Owners.{Defines, Owned};
+ghost use Rattle.query_inside.specs.Enclosed.{Enclosed};
 ghost use Rattle.value_fields.specs.Wants.{Known, Holds, Prepared, Wants};
 
 // How many rows there may be, up to how many there are few, how many firsts are linked, of a row or of none; how many kinds.
@@ -58,11 +58,11 @@ fn search_spreads(
     requires { ⌜ Rowed (now s) (now rows) n × Owned (docOf (now s) (now rows) n) (now owner) × (length (now firstk) ≡ kindsSize) × (length (now nextk) ≡ roomOf n) × (length (now target) ≡ roomOf n) × (length (now first) ≡ firstsSize) × (length (now next) ≡ roomOf n) × (now mark ≡ replicate (roomOf n) 0) × (length (now stack) ≡ roomOf n) × Defines (docOf (now s) (now rows) n) op × (i < n) ⌝ }
     ensures { λ r. ⌜ Decides r (Reaches (docOf (now (s .entry)) (now (rows .entry)) n) op i) ⌝ }
 {
-    links::kinds(rows, n, firstk, nextk);
-    spreading::targets(s, rows, n, firstk, nextk, target);
-    spreading::spreads(s, rows, n, owner, first, next);
-    reaching::reach(s, rows, n, target, first, next, mark, stack, op);
-    reaching::reaches(s, rows, n, owner, mark, op, i)
+    query_links::kinds(rows, n, firstk, nextk);
+    query_spreads::targets(s, rows, n, firstk, nextk, target);
+    query_spreads::spreads(s, rows, n, owner, first, next);
+    query_reach::reach(s, rows, n, target, first, next, mark, stack, op);
+    query_reach::reaches(s, rows, n, owner, mark, op, i)
 }
 
 // The same: most often the row stands in the operation itself, and nothing is searched.
@@ -84,8 +84,8 @@ fn reach_with(
     requires { ⌜ Rowed (now s) (now rows) n × (length (now owner) ≡ roomOf n) × (length (now firstk) ≡ kindsSize) × (length (now nextk) ≡ roomOf n) × (length (now target) ≡ roomOf n) × (length (now first) ≡ firstsSize) × (length (now next) ≡ roomOf n) × (now mark ≡ replicate (roomOf n) 0) × (length (now stack) ≡ roomOf n) × Defines (docOf (now s) (now rows) n) op × (i < n) ⌝ }
     ensures { λ r. ⌜ Decides r (Reaches (docOf (now (s .entry)) (now (rows .entry)) n) op i) ⌝ }
 {
-    spreading::owners(s, rows, n, owner);
-    if links::link_of(owner, i) == op {
+    query_spreads::owners(s, rows, n, owner);
+    if query_links::link_of(owner, i) == op {
         return true;
     }
     search_spreads(
@@ -217,8 +217,8 @@ fn content_with(
     requires { ⌜ Known (now t) × Booked (now t) (now book) × Rowed (now s) (now rows) n × (length (now first) ≡ firstsSize) × (length (now next) ≡ roomOf n) × (length (now inside) ≡ roomOf n) × (length (now at) ≡ roomOf n) × (length (now to) ≡ roomOf n) × (i < n) × (rowIn (now rows) n i .kind ≡ kindField) ⌝ }
     ensures { λ r. ⌜ Holds (now (t .entry)) (fieldAt (tableOf (now (t .entry))) (docOf (now (s .entry)) (now (rows .entry)) n) i) (r .start) (r .end) ⌝ }
 {
-    links::families(s, rows, n, first, next);
-    enclosings::enclose(t, book, s, rows, n, first, next, inside, at, to);
+    query_links::families(s, rows, n, first, next);
+    query_inside::enclose(t, book, s, rows, n, first, next, inside, at, to);
     content_at(t, s, rows, n, inside, at, to, i)
 }
 

@@ -5,7 +5,7 @@ use Prim.Native.Nat.{ℕ, zero, suc, _<_, _≤_}
 use native.Mathlib.Omega.{arith}
 use lib.ListN.{length, getD}
 use Rattle.paper.specs.Rows.{Row, change}
-use Rattle.paper_rules.specs.Constructs.{noRow}
+use Rattle.paper_query.specs.Constructs.{noRow}
 
 abbrev pub at : List Row → ℕ → Row
 at rs i = getD rs i noRow

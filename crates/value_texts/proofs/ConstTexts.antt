@@ -14,9 +14,9 @@ use Rattle.paper.specs.Rows.{Row, Book, blank, change, top, startOf, stopOf, be
 use Rattle.paper.specs.Reading.{rows-are, Said, accepts, tokensOf}
 use Rattle.paper.proofs.Bools.{and-l, and-r, and-i}
 use Rattle.paper.proofs.Tables.{allN, numN, atN}
-use Rattle.theory.proofs.Test.{all, all-at, all-mem, implies, implies-out}
-use Rattle.constructs.specs.Rowed.{rowIn}
-use Rattle.constructs.proofs.ReadRows.{Taken}
+use Rattle.paper_theory.proofs.Test.{all, all-at, all-mem, implies, implies-out}
+use Rattle.query_rows.specs.Rowed.{rowIn}
+use Rattle.query_rows.proofs.ReadRows.{Taken}
 use Rattle.value_texts.proofs.Changes.{at}
 use Rattle.value_texts.proofs.Phases.{Syms, isAmong}
 

@@ -16,12 +16,12 @@ use Rattle.paper.specs.Rows.{Row, Book, blank, rowsOf, change, top, pop, startO
 use Rattle.paper.specs.Reading.{rows-are, Said, accepts, tokensOf}
 use Rattle.paper.proofs.Bools.{and-l, and-r, and-i}
 use Rattle.paper.proofs.Tables.{allN, numN, atN}
-use Rattle.theory.proofs.Test.{all, all-at, all-mem, implies, implies-out}
-use Rattle.theory.proofs.RowCells.{change-length}
-use Rattle.theory.proofs.TokensLaws.{tokens-are}
-use Rattle.paper_rules.specs.Constructs.{noRow, isValue}
-use Rattle.constructs.specs.Rowed.{rowIn, rowsIn}
-use Rattle.constructs.proofs.ReadRows.{Taken}
+use Rattle.paper_theory.proofs.Test.{all, all-at, all-mem, implies, implies-out}
+use Rattle.paper_theory.proofs.RowCells.{change-length}
+use Rattle.paper_theory.proofs.TokensLaws.{tokens-are}
+use Rattle.paper_query.specs.Constructs.{noRow, isValue}
+use Rattle.query_rows.specs.Rowed.{rowIn, rowsIn}
+use Rattle.query_rows.proofs.ReadRows.{Taken}
 use Rattle.value_texts.proofs.Changes.{at, change-here, change-else}
 use Rattle.value_texts.proofs.Phases.{Syms}
 use Rattle.value_texts.proofs.Spanning.{Grows, Down, Going, going-by, going-token, going-mark, going-left, going-kind}

@@ -13,7 +13,7 @@ use Rattle.paper.specs.Language.{Class, sameC, int, float, string, Terminal, th
 use Rattle.paper.specs.Language.{OperationType, SelectionSet, Alias?, Alias, ListValue, ObjectValue, ConstListValue, ConstObjectValue, EnumValue, TypeRef, NamedType, ListType, NonNullType, Name, SpreadRest}
 use Rattle.paper.proofs.Bools.{and-l, and-r, and-i}
 use Rattle.paper.proofs.Tables.{allN, numN, atN}
-use Rattle.theory.proofs.Test.{all, all-at, all-mem, implies, implies-out}
+use Rattle.paper_theory.proofs.Test.{all, all-at, all-mem, implies, implies-out}
 
 abbrev pub Syms : Type 0
 Syms = List (Sym Part Terminal Mark)

@@ -11,8 +11,8 @@ use lib.Seq.{getD-append-seam}
 use Rattle.paper.specs.Numbers.{noParent, kindTypeReference, kindVariable, kindObject}
 use Rattle.paper.specs.Language.{row, kind, named, wrapper, wrap, end}
 use Rattle.paper.specs.Rows.{Row, change, top, pop, begun, ofKind}
-use Rattle.theory.proofs.RowCells.{change-length}
-use Rattle.paper_rules.specs.Constructs.{noRow, isValue}
+use Rattle.paper_theory.proofs.RowCells.{change-length}
+use Rattle.paper_query.specs.Constructs.{noRow, isValue}
 use Rattle.value_texts.proofs.Changes.{at, change-here}
 use Rattle.value_texts.proofs.Phases.{Syms}
 use Rattle.value_texts.proofs.Spanning.{Down}

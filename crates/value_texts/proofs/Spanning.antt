@@ -17,8 +17,8 @@ use Rattle.paper.specs.Language.{Class, numC, sameC, Terminal, hits, the, anyNa
 use Rattle.paper.specs.Tokens.{Tok}
 use Rattle.paper.specs.Rows.{Row, Book, blank, change, top, pop, startOf, stopOf, begun, ofKind, withName, wrapped, stopping, note, taken, book}
 use Rattle.paper.proofs.Tables.{allC, atC}
-use Rattle.theory.proofs.RowCells.{change-length}
-use Rattle.paper_rules.specs.Constructs.{noRow}
+use Rattle.paper_theory.proofs.RowCells.{change-length}
+use Rattle.paper_query.specs.Constructs.{noRow}
 use Rattle.value_texts.proofs.Changes.{at, change-here, change-else}
 use Rattle.value_texts.proofs.Phases.{Syms, isLiteral, literalClass, isThe, Phase, settled, fresh, bare, waiting, wrong, literal, spelt, ofToken, ofMark, run, isSettled, isNew, settled-is, run-by, ends, ends-by, not-wrong}
 

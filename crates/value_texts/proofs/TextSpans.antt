@@ -14,11 +14,11 @@ use Rattle.paper.specs.Tokens.{Text, Longest, Tokens}
 use Rattle.paper.specs.Rows.{Row, blank, book, rowsOf}
 use Rattle.paper.specs.Reading.{rows-are, Said, accepts, tokensOf}
 use Rattle.paper.proofs.Bools.{and-l, and-r}
-use Rattle.theory.proofs.TokensLaws.{tokens-are}
-use Rattle.theory.proofs.Same.{by-one}
-use Rattle.constructs.specs.Rowed.{cell, rowAt, rowIn}
-use Rattle.constructs.proofs.RowsIn.{row-at, rowed-sized}
-use Rattle.constructs.proofs.ReadRows.{Taken}
+use Rattle.paper_theory.proofs.TokensLaws.{tokens-are}
+use Rattle.paper_theory.proofs.Same.{by-one}
+use Rattle.query_rows.specs.Rowed.{cell, rowAt, rowIn}
+use Rattle.query_rows.proofs.RowsIn.{row-at, rowed-sized}
+use Rattle.query_rows.proofs.ReadRows.{Taken}
 use Rattle.value_strings.proofs.TokenSpells.{StringToken}
 use Rattle.value_strings.proofs.TokenString.{longest-string}
 use Rattle.value_tokens.specs.Spans.{Spanned}

@@ -12,7 +12,7 @@ use Rattle.paper.specs.Language.{Class, sameC, isName, n-query, n-mutation, n-s
 use Rattle.paper.specs.Lexical.{Lex, Set, What, is, lexical, hitsByte, quote, StringValue, StringCharacter+}
 use Rattle.paper.specs.Tokens.{Tok, Text, same, orElse, nameClass, classed, Longest, Tokens, ends, starts-none, skips, comments, bad-comment, tokens}
 use Rattle.paper.specs.Reading.{tokensOf}
-use Rattle.theory.proofs.Same.{by-two}
+use Rattle.paper_theory.proofs.Same.{by-two}
 use mathlib.Core.Logic.{_⊎_, inl, inr}
 use Rattle.value_strings.proofs.TokenSpells.{StringToken}
 use Rattle.value_texts.proofs.Spanning.{Rise}

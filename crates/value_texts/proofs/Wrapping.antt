@@ -17,12 +17,12 @@ use Rattle.paper.specs.Sizes.{Counts, Sums, nothing, counted, sums, through, ov
 use Rattle.paper.specs.Reading.{rows-are, Said, accepts, tokensOf, classesOf, placeOf, too-many}
 use Rattle.paper.specs.declared.Refusal.the-variants.{TooMany}
 use Rattle.paper.proofs.Bools.{or-r}
-use Rattle.paper_types.specs.References.{Ref, named as ref-named, listOf, nonNull}
-use Rattle.paper_rules.specs.Constructs.{noRow}
-use Rattle.paper_rules.specs.PlaceTypes.{wrappersOf}
+use Rattle.paper_table.specs.References.{Ref, named as ref-named, listOf, nonNull}
+use Rattle.paper_query.specs.Constructs.{noRow}
+use Rattle.paper_query.specs.PlaceTypes.{wrappersOf}
 use Rattle.paper_values.proofs.RowValuesLaws.{depth}
-use Rattle.constructs.specs.Rowed.{rowIn}
-use Rattle.constructs.proofs.ReadRows.{Taken}
+use Rattle.query_rows.specs.Rowed.{rowIn}
+use Rattle.query_rows.proofs.ReadRows.{Taken}
 use Rattle.value_texts.proofs.Changes.{at, change-here, change-else, change-out}
 use Rattle.value_texts.proofs.Phases.{Syms}
 use Rattle.value_texts.proofs.Turns.{Turn, ofToken, ofKindMark, ofMark, run, isDone, not-wrong, run-by, outside, wrong, inside, due}

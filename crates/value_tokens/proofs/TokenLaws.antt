@@ -10,14 +10,14 @@ use lib.ListN.{length, getD, take, drop}
 use lib.Dec.{eqb, ltb, leb}
 use borrow.Author.Tests.{eq-eqb, ne-eqb, eqb-true, eqb-false, lt-ltb, le-ltb, ltb-true, ltb-false}
 use Rattle.paper.specs.Numbers.{rowSize, kindVariable, kindInteger, kindFloat, kindString, kindBoolean, kindNull, kindEnum, kindList, kindObjectField, extraTrue}
-use Rattle.paper_types.specs.References.{Ref, named}
+use Rattle.paper_table.specs.References.{Ref, named}
 use Rattle.paper.specs.Tokens.{same}
-use Rattle.paper_types.specs.Lists.{anyOf}
-use Rattle.paper_types.specs.Types.{tableOf}
-use Rattle.paper_rules.specs.Constructs.{Doc, noRow, count, rowOf, kindOf, extraOf, nameOf}
-use Rattle.index.specs.Book.{part}
-use Rattle.constructs.specs.Rowed.{cell, rowIn, docOf, Sized}
-use Rattle.constructs.proofs.RowsIn.{row-at, row-none}
+use Rattle.paper_table.specs.Lists.{anyOf}
+use Rattle.paper_table.specs.Types.{tableOf}
+use Rattle.paper_query.specs.Constructs.{Doc, noRow, count, rowOf, kindOf, extraOf, nameOf}
+use Rattle.table_book.specs.Book.{part}
+use Rattle.query_rows.specs.Rowed.{cell, rowIn, docOf, Sized}
+use Rattle.query_rows.proofs.RowsIn.{row-at, row-none}
 use Rattle.paper.specs.Rows.{Row}
 use Rattle.paper_values.specs.ValueNumbers.{reasonKind, reasonEnum}
 use Rattle.paper_values.specs.Characters.{charactersOf}

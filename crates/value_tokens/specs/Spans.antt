@@ -7,8 +7,8 @@ use Prim.Native.Nat.{ℕ, _+_, _≤_, _<_}
 use lib.ListN.{length}
 use lib.Dec.{eqb, ltb}
 use Rattle.paper.specs.Numbers.{kindVariable, kindInteger, kindFloat, kindString, kindList, mostText}
-use Rattle.paper_rules.specs.Constructs.{Doc, kindOf}
-use Rattle.constructs.specs.Rowed.{cell, rowIn, Sized}
+use Rattle.paper_query.specs.Constructs.{Doc, kindOf}
+use Rattle.query_rows.specs.Rowed.{cell, rowIn, Sized}
 use Rattle.paper_values.specs.ValueNumbers.{reasonKind}
 use Rattle.paper_values.specs.Characters.{charactersOf}
 use Rattle.paper_values.specs.Values.{At}

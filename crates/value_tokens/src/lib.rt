@@ -23,11 +23,11 @@ ghost use mathlib.Core.List.{List};
 ghost use Prim.Native.Nat.{ℕ, _+_, _≤_, _<_};
 ghost use lib.ListN.{length};
 ghost use Rattle.paper.specs.Numbers.{kindVariable, kindNull};
-ghost use Rattle.paper_types.specs.References.{named};
-ghost use Rattle.paper_types.specs.Types.{tableOf};
-ghost use Rattle.index.specs.Book.{countIn};
-ghost use Rattle.types.specs.Booked.{Booked};
-ghost use Rattle.constructs.specs.Rowed.{rowIn, docOf, Rowed, Sized};
+ghost use Rattle.paper_table.specs.References.{named};
+ghost use Rattle.paper_table.specs.Types.{tableOf};
+ghost use Rattle.table_book.specs.Book.{countIn};
+ghost use Rattle.table_types.specs.Booked.{Booked};
+ghost use Rattle.query_rows.specs.Rowed.{rowIn, docOf, Rowed, Sized};
 ghost use Rattle.paper_values.specs.Values.{Name, Value, Tree};
 ghost use Rattle.paper_values.specs.Kinds.{kindOfType};
 ghost use Rattle.paper_values.specs.Coercion.{coerce};
@@ -89,7 +89,7 @@ fn put_token(
     requires { ⌜ Spanned (now s) (now rows) n × Room limit from (now out) ⌝ }
     ensures { λ r. ⌜ Tokened (docOf (now (s .entry)) (now (rows .entry)) n) i sort limit from (now (out .entry)) (now (out .exit)) r ⌝ }
 {
-    let kind = constructs::kind_of(rows, n, i);
+    let kind = query_rows::kind_of(rows, n, i);
     let start = start_of(rows, n, i) as usize;
     let stop = stop_of(rows, n, i) as usize;
     if kind == KIND_INTEGER {
@@ -123,14 +123,14 @@ pub fn put_base(
     ensures { λ r. ⌜ ((vars : Name → Option Tree) (text : ℕ) (read : ℕ → Value) (name : Name) → Sorted (now (t .entry)) (now (book .entry)) name sort number →
         Told text limit (coerce (kindOfType (tableOf (now (t .entry)))) vars (valueBy text (docOf (now (s .entry)) (now (rows .entry)) n) read i) (named name)) from (now (out .entry)) (now (out .exit)) (told i r)) ⌝ }
 {
-    let kind = constructs::kind_of(rows, n, i);
+    let kind = query_rows::kind_of(rows, n, i);
     if kind == KIND_BOOLEAN {
-        let extra = constructs::extra_of(rows, n, i);
+        let extra = query_rows::extra_of(rows, n, i);
         return put_truth(out, limit, from, sort, extra == EXTRA_TRUE);
     }
     if kind == KIND_ENUM {
-        let at = constructs::name_of(rows, n, i) as usize;
-        let l = constructs::size_of(rows, n, i) as usize;
+        let at = query_rows::name_of(rows, n, i) as usize;
+        let l = query_rows::size_of(rows, n, i) as usize;
         return put_enum(t, book, s, at, l, sort, number, out, limit, from);
     }
     put_token(s, rows, n, i, sort, out, limit, from)

@@ -7,8 +7,8 @@ use native.Mathlib.Omega.{arith}
 use lib.ListN.{length, drop, getD, drop-of-length-le}
 use lib.Seq.{drop-cons}
 use Rattle.paper.specs.Rows.{Row}
-use Rattle.paper_types.specs.Lists.{eachFrom, onlyIf}
-use Rattle.paper_rules.specs.Constructs.{Doc, count, rowOf, noRow, numbersWhere}
+use Rattle.paper_table.specs.Lists.{eachFrom, onlyIf}
+use Rattle.paper_query.specs.Constructs.{Doc, count, rowOf, noRow, numbersWhere}
 use Rattle.paper_values.specs.DocumentDues.{definitionsOf}
 use Rattle.value_variables.specs.Variables.{isDefinition, definitionsFrom}
 

@@ -8,11 +8,11 @@ use lib.ListN.{length, getD, set, length-set}
 use lib.Seq.{sets, getD-set-same, getD-set-other}
 use borrow.Author.Tests.{le-leb}
 use Rattle.paper.specs.Numbers.{rowSize, mostRows}
-use Rattle.paper_types.specs.References.{Ref}
-use Rattle.index.specs.Book.{part, countIn}
-use Rattle.types.specs.Booked.{Booked, definitionOn}
+use Rattle.paper_table.specs.References.{Ref}
+use Rattle.table_book.specs.Book.{part, countIn}
+use Rattle.table_types.specs.Booked.{Booked, definitionOn}
 use Rattle.paper_values.specs.Kinds.{kindOf}
-use Rattle.constructs.specs.Rowed.{cell, docOf}
+use Rattle.query_rows.specs.Rowed.{cell, docOf}
 use Rattle.paper_values.specs.Values.{Name, Tree, Pairs, nothing, pair}
 use Rattle.value_kinds.specs.Dues.{Sorted, DueIs, Fits}
 use Rattle.value_coerce.specs.Holding.{Kept, HeldAt, Holds}

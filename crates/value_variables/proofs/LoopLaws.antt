@@ -7,10 +7,10 @@ use Prim.Native.Nat.{ℕ, suc, _+_, _-_, _*_, _≤_, _<_}
 use native.Mathlib.Omega.{arith}
 use lib.ListN.{length}
 use Rattle.paper.specs.Numbers.{rowSize, mostVariables, kindObjectField, inputDocument, inputVariables}
-use Rattle.paper_types.specs.References.{Ref, isNonNull}
-use Rattle.paper_rules.specs.Constructs.{Doc, count, rowOf}
-use Rattle.constructs.specs.Rowed.{rowIn, docOf}
-use Rattle.constructs.proofs.RowsIn.{rows-count}
+use Rattle.paper_table.specs.References.{Ref, isNonNull}
+use Rattle.paper_query.specs.Constructs.{Doc, count, rowOf}
+use Rattle.query_rows.specs.Rowed.{rowIn, docOf}
+use Rattle.query_rows.proofs.RowsIn.{rows-count}
 use Rattle.paper_values.specs.ValueNumbers.{reasonMissing, reasonRepeated}
 use Rattle.paper_values.specs.Values.{Name, At, Value, Due, Tree, Pairs, nothing, pair, Out, Got, No, andThen}
 use Rattle.paper_values.specs.Coercion.{Given, heads, repeated, unless, first, field, missing, orDefault, entryOf, constant, variablesFrom, variablesOf}

@@ -6,8 +6,8 @@ use mathlib.Core.List.{List, [], _∷_, _++_}
 use Prim.Native.Nat.{ℕ, _+_, _-_, _≤_, _<_}
 use native.Mathlib.Omega.{arith}
 use lib.ListN.{length}
-use Rattle.paper_types.specs.TableNumbers.{tagName}
-use Rattle.paper_types.specs.References.{Ref, isNonNull}
+use Rattle.paper_table.specs.TableNumbers.{tagName}
+use Rattle.paper_table.specs.References.{Ref, isNonNull}
 use Rattle.paper_values.specs.ValueNumbers.{tagPair, reasonMissing}
 use Rattle.paper_values.specs.Written.{fieldOf}
 use Rattle.paper_values.specs.Values.{Name, At, Value, Due, Tree, Pairs, nothing, pair, Out, Got, No, andThen}

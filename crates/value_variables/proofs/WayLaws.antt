@@ -10,13 +10,13 @@ use lib.Seq.{sets}
 use lib.Dec.{ltb}
 use borrow.Author.Tests.{ltb-true}
 use Rattle.paper.specs.Numbers.{rowSize, kindObjectField, inputDocument, inputVariables}
-use Rattle.paper_types.specs.References.{Ref}
-use Rattle.paper_rules.specs.Constructs.{Doc, count, nameOf}
-use Rattle.paper_rules.specs.Opening.{ifBelow}
-use Rattle.fields.specs.Wrappers.{packOf}
-use Rattle.index.specs.Book.{part}
-use Rattle.constructs.specs.Rowed.{rowIn, docOf}
-use Rattle.constructs.proofs.RowsIn.{rows-count, name-within}
+use Rattle.paper_table.specs.References.{Ref}
+use Rattle.paper_query.specs.Constructs.{Doc, count, nameOf}
+use Rattle.paper_query.specs.Opening.{ifBelow}
+use Rattle.table_fields.specs.Wrappers.{packOf}
+use Rattle.table_book.specs.Book.{part}
+use Rattle.query_rows.specs.Rowed.{rowIn, docOf}
+use Rattle.query_rows.proofs.RowsIn.{rows-count, name-within}
 use Rattle.paper_values.specs.Values.{Name, At, Value, Due, Tree, Pairs, nothing, Out, Got, No}
 use Rattle.paper_values.specs.Coercion.{Given, first, missing, entryOf, constant, givens}
 use Rattle.paper_values.specs.RowValues.{placed, valueOfRow, entriesFrom}

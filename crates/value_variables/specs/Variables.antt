@@ -10,10 +10,10 @@ use lib.Dec.{leb}
 use Rattle.paper.specs.Numbers.{rowSize, mostRows, kindVariableDefinition, inputDocument}
 use Rattle.paper.specs.Language.{Document}
 use Rattle.paper.specs.Rows.{Row}
-use Rattle.paper_types.specs.Lists.{eachFrom, onlyIf}
-use Rattle.paper_rules.specs.Constructs.{Doc, is, below}
-use Rattle.constructs.specs.Rowed.{cell}
-use Rattle.constructs.proofs.ReadRows.{Taken}
+use Rattle.paper_table.specs.Lists.{eachFrom, onlyIf}
+use Rattle.paper_query.specs.Constructs.{Doc, is, below}
+use Rattle.query_rows.specs.Rowed.{cell}
+use Rattle.query_rows.proofs.ReadRows.{Taken}
 use Rattle.paper_values.specs.Values.{At, Due, Tree, Pairs, nothing, Out, Got, No}
 use Rattle.paper_values.specs.Coercion.{Given, entryOf, field, orDefault, givens}
 use Rattle.paper_values.specs.Encoding.{encodePairs}

@@ -1,17 +1,17 @@
 // Coerces the variables of an operation, in definition order, from the variables text and the definitions' defaults; and keeps, of each that
 // has a value, where this stands and at which type, so that a field's arguments can be coerced.
-use constructs::kind_of;
-use constructs::name_of;
-use constructs::parent_of;
-use constructs::size_of;
 use paper::INPUT_DOCUMENT;
 use paper::INPUT_VARIABLES;
 use paper::KIND_OBJECT_FIELD;
 use paper::KIND_VARIABLE_DEFINITION;
 use paper::ROW_SIZE;
-use paper_types::TAG_NAME;
+use paper_table::TAG_NAME;
 use paper_values::REASON_REPEATED;
 use paper_values::TAG_PAIR;
+use query_rows::kind_of;
+use query_rows::name_of;
+use query_rows::parent_of;
+use query_rows::size_of;
 use value_coerce::ALL_LEVELS;
 use value_coerce::HELD_NUMBER;
 use value_coerce::HELD_ROW;
@@ -37,9 +37,9 @@ ghost use Prim.Native.Nat.{ℕ, _+_, _*_, _≤_, _<_};
 ghost use lib.ListN.{length};
 ghost use lib.Seq.{sets};
 ghost use Rattle.paper.specs.Numbers.{rowSize, mostVariables};
-ghost use Rattle.paper_types.specs.References.{Ref};
-ghost use Rattle.index.specs.Book.{part};
-ghost use Rattle.constructs.specs.Rowed.{rowIn, docOf, Sized};
+ghost use Rattle.paper_table.specs.References.{Ref};
+ghost use Rattle.table_book.specs.Book.{part};
+ghost use Rattle.query_rows.specs.Rowed.{rowIn, docOf, Sized};
 ghost use Rattle.paper_values.specs.Values.{Got, nothing};
 ghost use Rattle.paper_values.specs.Coercion.{first, constant, variablesFrom, variablesOf};
 ghost use Rattle.paper_values.specs.RowValues.{valueOfRow};
@@ -87,7 +87,7 @@ fn keep(held: &mut [u32], many: usize, at: u32, size: u32, text: u32, row: u32, 
     held[from + HELD_WRAPPERS] = due.wrappers;
 }
 
-// Writes the pair of a name, the l bytes of `names` from `at` on, and the constant of row i at its type.
+// Writes the pair of a name, the l bytes of `table_names` from `at` on, and the constant of row i at its type.
 fn put_pair(
     t: &[u8],
     book: &[u32],

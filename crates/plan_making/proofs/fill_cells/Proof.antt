@@ -2,8 +2,8 @@ use mathlib.Core.Path.{_≡_, refl, sym, ap, _∙_, subst}
 use mathlib.Core.List.{List, [], _∷_}
 use Prim.Native.Nat.{ℕ, suc, _+_, _*_, _-_, _≤_, _<_}
 use native.Mathlib.Omega.{arith}
-use Rattle.constructs.proofs.RowsIn.{rowed-sized}
-use Rattle.constructs.proofs.Rooms.{room-enough}
+use Rattle.query_rows.proofs.RowsIn.{rowed-sized}
+use Rattle.query_rows.proofs.Rooms.{room-enough}
 use Rattle.plan_making.proofs.MadeLaws.{spreads-known, operation-low}
 use borrow.Author.Needs.{needs}
 use Rattle.plan_making.proofs.fill_cells.Statement.{statement}

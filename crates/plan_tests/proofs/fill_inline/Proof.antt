@@ -4,12 +4,14 @@ use Prim.Native.Nat.{ℕ, suc, _+_, _*_, _-_, _≤_, _<_}
 use native.Mathlib.Omega.{arith}
 use mathlib.Core.Option.{Option}
 use Rattle.paper.specs.Rows.{Row}
-use Rattle.paper_types.specs.Types.{tableOf}
-use Rattle.constructs.specs.Rowed.{docOf}
+use Rattle.paper_table.specs.Types.{tableOf}
+use Rattle.query_rows.specs.Rowed.{docOf}
 use Rattle.paper_plan.specs.Selecting.{typeIf}
 use Rattle.plan_tests.specs.Right.{inlineRow}
 use Rattle.plan_tests.proofs.RightLaws.{inline-written}
 use Rattle.plan_tests.proofs.TableLaws.{condition-none, condition-some}
+use Rattle.paper_query.specs.Constructs.{nameOf}
+use Rattle.plan_tests.proofs.FewLaws.{type-few}
 use borrow.Author.Needs.{needs}
 use Rattle.plan_tests.proofs.fill_inline.Statement.{statement}
 use Rattle.plan_tests.proofs.fill_inline.Tie as tie
@@ -24,7 +26,7 @@ cast-put-head-2 : tie.Need-cast-put-head-2
 cast-put-head-2 c = search needs
 
 put-head-requires : tie.Need-put-head-requires
-put-head-requires c κs = search needs
+put-head-requires c κs = (c .before .before .before .before .before .before .before .before .before .before .pre .6, c .before .before .before .before .before .before .before .before .before .before .pre .5, omega (arith, c .before .before .before .before .before .before .before .before .before .before .pre .3, c .before .before .before .before .before .before .before .before .before .before .pre .1 .few), omega (arith, c .before .before .before .before .before .before .before .before .before .before .pre .4))
 
 same-length : tie.Need-same-length
 same-length c = search needs
@@ -36,7 +38,7 @@ type-named-requires : tie.Need-type-named-requires
 type-named-requires c κs = search needs
 
 put-test-requires : tie.Need-put-test-requires
-put-test-requires c κs = search needs
+put-test-requires c κs = (c .before .before .before .before .before .before .before .before .before .before .before .pre .6, omega (arith, c .before .before .before .before .before .before .before .before .before .before .before .pre .4), omega (arith, c .before .type-named .ensures, type-few (c .before .before .before .before .before .before .before .before .before .before .before .args .t .now) (c .before .before .before .before .before .before .before .before .before .before .before .args .book .now) (c .before .before .before .before .before .before .before .before .before .before .before .pre .0) (nameOf (docOf (c .before .before .before .before .before .before .before .before .before .before .before .args .s .now) (c .before .before .before .before .before .before .before .before .before .before .before .args .rows .now) (c .before .before .before .before .before .before .before .before .before .before .before .args .n)) (c .before .before .before .first-below .result))))
 
 cast-put-head-3 : tie.Need-cast-put-head-3
 cast-put-head-3 c = search needs
@@ -48,7 +50,7 @@ cast-put-head-4 : tie.Need-cast-put-head-4
 cast-put-head-4 c = search needs
 
 put-head-requires-2 : tie.Need-put-head-requires-2
-put-head-requires-2 c κs = search needs
+put-head-requires-2 c κs = (omega (arith, c .before .before .row2 .given, c .before .before .before .before .before .before .before .before .before .before .before .before .before .before .before .pre .6), c .before .before .before .before .before .before .before .before .before .before .before .before .before .before .before .pre .5, omega (arith, c .before .before .before .before .before .before .before .before .before .before .before .before .before .before .before .pre .3, c .before .before .before .before .before .before .before .before .before .before .before .before .before .before .before .pre .1 .few), omega (arith, c .before .before .before .before .before .before .before .before .before .before .before .before .before .before .before .pre .4))
 
 same-length-2 : tie.Need-same-length-2
 same-length-2 c = search needs

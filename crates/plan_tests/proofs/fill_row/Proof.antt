@@ -7,13 +7,14 @@ use mathlib.Core.List.{[], _∷_}
 use lib.Dec.{leb}
 use lib.Seq.{sets}
 use Rattle.paper.specs.Numbers.{kindField, kindInline}
-use Rattle.paper_types.specs.Lists.{bytes}
-use Rattle.paper_types.specs.Types.{tableOf}
-use Rattle.constructs.specs.Rowed.{docOf}
-use Rattle.constructs.proofs.RowsIn.{rows-count, rowed-sized}
+use Rattle.paper_table.specs.Lists.{bytes}
+use Rattle.paper_table.specs.Types.{tableOf}
+use Rattle.query_rows.specs.Rowed.{docOf}
+use Rattle.query_rows.proofs.RowsIn.{rows-count, rowed-sized}
 use Rattle.paper_plan.specs.Selecting.{ifOf, byNumbers, setOf}
 use Rattle.plan_tests.proofs.RightLaws.{not-true, not-false, right-none, right-dropped, drops-coded, dropped-by, once-size, both-tests}
 use Rattle.plan_tests.proofs.TableLaws.{small-coded}
+use Rattle.plan_tests.proofs.FewLaws.{parent-few}
 use borrow.Author.Needs.{needs}
 use Rattle.plan_tests.proofs.fill_row.Statement.{statement}
 use Rattle.plan_tests.proofs.fill_row.Tie as tie
@@ -28,7 +29,7 @@ parent-of-requires : tie.Need-parent-of-requires
 parent-of-requires c κs = rowed-sized (c .before .before .before .before .before .before .before .before .before .before .before .before .before .before .before .pre .0 .rowed)
 
 put-head-requires : tie.Need-put-head-requires
-put-head-requires c κs = c .before .before .before .before .before .before .before .before .before .before .before .before .before .before .before .before .pre .3
+put-head-requires c κs = (c .before .before .before .before .before .before .before .before .before .before .before .before .before .before .before .before .pre .3, omega (arith, c .parent-of .ensures, parent-few (c .before .before .before .before .before .before .before .before .before .before .before .before .before .before .before .before .args .s .now) (c .before .before .before .before .before .before .before .before .before .before .before .before .before .before .before .before .args .rows .now) (c .before .before .before .before .before .before .before .before .before .before .before .before .before .before .before .before .args .n) (c .before .before .before .before .before .before .before .before .before .before .before .before .before .before .before .before .args .i) (c .before .before .before .before .before .before .before .before .before .before .before .before .before .before .before .before .pre .0 .rowed) (c .before .before .before .before .before .before .before .before .before .before .before .before .before .before .before .before .pre .1)), omega arith, omega arith)
 
 same-length : tie.Need-same-length
 same-length c = search needs
@@ -55,7 +56,7 @@ parent-of-requires-2 : tie.Need-parent-of-requires-2
 parent-of-requires-2 c κs = rowed-sized (c .before .before .before .before .before .before .before .before .before .before .before .before .before .before .before .before .before .before .before .before .before .pre .0 .rowed)
 
 put-head-requires-2 : tie.Need-put-head-requires-2
-put-head-requires-2 c κs = c .before .before .before .before .before .before .before .before .before .before .before .before .before .before .before .before .before .before .before .before .before .before .pre .3
+put-head-requires-2 c κs = (c .before .before .before .before .before .before .before .before .before .before .before .before .before .before .before .before .before .before .before .before .before .before .pre .3, omega (arith, c .parent-of2 .ensures, parent-few (c .before .before .before .before .before .before .before .before .before .before .before .before .before .before .before .before .before .before .before .before .before .before .args .s .now) (c .before .before .before .before .before .before .before .before .before .before .before .before .before .before .before .before .before .before .before .before .before .before .args .rows .now) (c .before .before .before .before .before .before .before .before .before .before .before .before .before .before .before .before .before .before .before .before .before .before .args .n) (c .before .before .before .before .before .before .before .before .before .before .before .before .before .before .before .before .before .before .before .before .before .before .args .i) (c .before .before .before .before .before .before .before .before .before .before .before .before .before .before .before .before .before .before .before .before .before .before .pre .0 .rowed) (c .before .before .before .before .before .before .before .before .before .before .before .before .before .before .before .before .before .before .before .before .before .before .pre .1)), omega arith, omega arith)
 
 same-length-2 : tie.Need-same-length-2
 same-length-2 c = search needs

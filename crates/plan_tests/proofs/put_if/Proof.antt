@@ -20,7 +20,7 @@ cast-put-test : tie.Need-cast-put-test
 cast-put-test c = let h = small-variable (c .before .before .before .before .before .args .given) _ (c .before .before .before .before .before .pre .2) (c .before .before .given .given .1) in omega (arith, h)
 
 put-test-requires : tie.Need-put-test-requires
-put-test-requires c κs = search needs
+put-test-requires c κs = (c .before .before .before .before .before .pre .0, c .before .before .before .before .before .pre .1, small-variable (c .before .before .before .before .before .args .given) _ (c .before .before .before .before .before .pre .2) (c .before .before .given .given .1))
 
 add-result : tie.Need-add-result
 add-result c = search needs

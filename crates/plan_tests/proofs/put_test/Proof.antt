@@ -20,6 +20,9 @@ mul-row-2 c = search needs
 slice-write-row : tie.Need-slice-write-row
 slice-write-row c = search needs
 
+cast-row : tie.Need-cast-row
+cast-row c = search needs
+
 mul-row-3 : tie.Need-mul-row-3
 mul-row-3 c = search needs
 
@@ -42,4 +45,4 @@ returns : tie.Need-returns
 returns c = test-is (c .args .row .now) (c .args .m) (c .args .kind) (c .args .number)
 
 pub put-test-spec : {M : Type 1} → statement M
-put-test-spec = tie.close (tie.spec mul-row add-row mul-row-2 slice-write-row mul-row-3 add-row-2 add-row-3 mul-row-4 slice-write-row-2 same-length returns)
+put-test-spec = tie.close (tie.spec mul-row add-row mul-row-2 slice-write-row cast-row mul-row-3 add-row-2 add-row-3 mul-row-4 slice-write-row-2 same-length returns)

@@ -2,11 +2,11 @@ use mathlib.Core.Path.{_≡_, refl, sym, ap, _∙_, subst}
 use mathlib.Core.Bool.{true, false}
 use Prim.Native.Nat.{ℕ, suc, _+_, _*_, _-_, _≤_, _<_}
 use native.Mathlib.Omega.{arith}
-use Rattle.paper_types.specs.Types.{tableOf}
-use Rattle.paper_rules.specs.Constructs.{nameOf}
-use Rattle.paper_rules.specs.Enclosing.{compositeOf}
-use Rattle.constructs.specs.Rowed.{docOf}
-use Rattle.constructs.proofs.RowsIn.{name-within}
+use Rattle.paper_table.specs.Types.{tableOf}
+use Rattle.paper_query.specs.Constructs.{nameOf}
+use Rattle.paper_query.specs.Enclosing.{compositeOf}
+use Rattle.query_rows.specs.Rowed.{docOf}
+use Rattle.query_rows.proofs.RowsIn.{name-within}
 use Rattle.plan_tests.proofs.TableLaws.{type-none, type-some, named}
 use borrow.Author.Needs.{needs}
 use Rattle.plan_tests.proofs.type_named.Statement.{statement}

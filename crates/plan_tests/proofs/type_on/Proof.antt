@@ -2,8 +2,8 @@ use mathlib.Core.Path.{_≡_, refl, sym, ap, _∙_, subst}
 use mathlib.Core.Bool.{true, false}
 use Prim.Native.Nat.{ℕ, suc, _+_, _*_, _-_, _≤_, _<_}
 use native.Mathlib.Omega.{arith}
-use Rattle.paper_types.specs.Types.{tableOf}
-use Rattle.constructs.specs.Rowed.{docOf}
+use Rattle.paper_table.specs.Types.{tableOf}
+use Rattle.query_rows.specs.Rowed.{docOf}
 use Rattle.paper_plan.specs.Selecting.{typeOn}
 use Rattle.plan_tests.proofs.TableLaws.{condition-none, condition-some}
 use borrow.Author.Needs.{needs}

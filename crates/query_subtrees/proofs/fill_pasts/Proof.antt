@@ -2,9 +2,9 @@
 use mathlib.Core.Path.{refl, sym, _∙_}
 use Prim.Native.Nat.{_-_}
 use native.Mathlib.Omega.{arith}
-use Rattle.constructs.specs.Rowed.{rowsIn}
-use Rattle.constructs.proofs.RowsIn.{rows-count}
-use Rattle.constructs.proofs.Rooms.{room-rows}
+use Rattle.query_rows.specs.Rowed.{rowsIn}
+use Rattle.query_rows.proofs.RowsIn.{rows-count}
+use Rattle.query_rows.proofs.Rooms.{room-rows}
 use Rattle.query_subtrees.specs.Past.{PastsFrom}
 use Rattle.query_subtrees.proofs.Hops.{pasts-none, pasts-low, pasts-room, pasts-behind, pasts-more, pasts-all}
 use borrow.Author.Needs.{needs}

@@ -2,9 +2,9 @@
 use mathlib.Core.Path.{sym, _∙_}
 use Prim.Native.Nat.{_+_, _-_}
 use native.Mathlib.Omega.{arith}
-use Rattle.constructs.specs.Rowed.{rowsIn}
-use Rattle.constructs.proofs.RowsIn.{rows-count}
-use Rattle.constructs.proofs.Rooms.{room-rows, room-enough}
+use Rattle.query_rows.specs.Rowed.{rowsIn}
+use Rattle.query_rows.proofs.RowsIn.{rows-count}
+use Rattle.query_rows.proofs.Rooms.{room-rows, room-enough}
 use Rattle.query_subtrees.proofs.Hops.{Hops, hops-start, hops-here, hops-next, hops-less, hops-end}
 use borrow.Author.Needs.{needs}
 use Rattle.query_subtrees.proofs.find_past.Statement.{statement}

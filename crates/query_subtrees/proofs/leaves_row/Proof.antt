@@ -1,14 +1,14 @@
 -- By the parent.
 use mathlib.Core.Path.{_∙_}
 use native.Mathlib.Omega.{arith}
-use Rattle.constructs.specs.Rowed.{rowIn}
+use Rattle.query_rows.specs.Rowed.{rowIn}
 use Rattle.query_subtrees.proofs.Hops.{leaves-before, leaves-not}
 use borrow.Author.Needs.{needs}
 use Rattle.query_subtrees.proofs.leaves_row.Statement.{statement}
 use Rattle.query_subtrees.proofs.leaves_row.Tie as tie
 use Rattle.query_subtrees.proofs.leaves_row.Reads as reads
 use Rattle.query_subtrees.proofs.leaves_row.Lts as lts
-use Rattle.constructs.proofs.parent_of.Reads as parent-of-reads
+use Rattle.query_rows.proofs.parent_of.Reads as parent-of-reads
 use Rattle.query_subtrees.proofs.wide.Reads as wide-reads
 
 -- src/lib.rt:21:18

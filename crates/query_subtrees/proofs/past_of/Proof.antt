@@ -3,9 +3,9 @@ use mathlib.Core.Path.{_∙_}
 use Prim.Native.Nat.{_<_}
 use native.Mathlib.Omega.{arith}
 use lib.ListN.{length}
-use Rattle.constructs.specs.Rowed.{rowsIn}
-use Rattle.constructs.proofs.RowsIn.{rows-count}
-use Rattle.constructs.proofs.Rooms.{room-rows, room-enough}
+use Rattle.query_rows.specs.Rowed.{rowsIn}
+use Rattle.query_rows.proofs.RowsIn.{rows-count}
+use Rattle.query_rows.proofs.Rooms.{room-rows, room-enough}
 use Rattle.query_subtrees.proofs.PastLaws.{past-after, past-most}
 use borrow.Author.Needs.{needs}
 use Rattle.query_subtrees.proofs.past_of.Statement.{statement}

@@ -1,6 +1,6 @@
 -- `value_answers::coerce_many` meets its contract: the room is that of more rows.
 use mathlib.Core.Path.{refl, sym}
-use Rattle.constructs.proofs.Rooms.{room-many}
+use Rattle.query_rows.proofs.Rooms.{room-many}
 use Rattle.value_answers.specs.Answers.{heldRoom}
 use borrow.Author.Needs.{needs}
 use Rattle.value_answers.proofs.coerce_many.Statement.{statement}

@@ -1,7 +1,7 @@
 -- `value_answers::end_many` meets its contract, by what the call asks and whether the field is reached.
 use mathlib.Core.Path.{sym, subst}
-use Rattle.constructs.specs.Rowed.{docOf}
-use Rattle.constructs.proofs.Rooms.{room-many}
+use Rattle.query_rows.specs.Rowed.{docOf}
+use Rattle.query_rows.proofs.Rooms.{room-many}
 use Rattle.value_fields.specs.Wants.{Wants}
 use Rattle.value_answers.specs.Answers.{unreached, reached}
 use Rattle.value_answers.proofs.EndLaws.{stands-prepared, field-serves, by-call}

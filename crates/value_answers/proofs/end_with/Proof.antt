@@ -1,6 +1,6 @@
 -- `value_answers::end_with` meets its contract: what stops the opening, or what comes of the opened operation.
 use mathlib.Core.Path.{subst}
-use Rattle.opening.specs.Opens.{Opens}
+use Rattle.query_opening.specs.Opens.{Opens}
 use Rattle.value_answers.proofs.EndLaws.{not-opened, ready-standing, open-end}
 use borrow.Author.Needs.{needs}
 use Rattle.value_answers.proofs.end_with.Statement.{statement}

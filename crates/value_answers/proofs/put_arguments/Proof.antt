@@ -3,8 +3,8 @@ use mathlib.Core.Path.{_∙_}
 use Prim.Native.Nat.{_+_}
 use native.Mathlib.Omega.{arith}
 use Rattle.paper_values.specs.ValueNumbers.{mostCoerced}
-use Rattle.constructs.specs.Rowed.{docOf}
-use Rattle.constructs.proofs.RowsIn.{rows-count}
+use Rattle.query_rows.specs.Rowed.{docOf}
+use Rattle.query_rows.proofs.RowsIn.{rows-count}
 use Rattle.value_answers.specs.Answers.{coercedVariables, argued}
 use Rattle.value_answers.proofs.RefusedLaws.{variables-rows}
 use Rattle.value_answers.proofs.ResultLaws.{told-valued, told-refused, told-row, valued-then, valued-holding, by-answer}

@@ -1,6 +1,6 @@
 -- `value_answers::put_task` meets its contract, by the task.
 use mathlib.Core.Path.{subst}
-use Rattle.constructs.specs.Rowed.{docOf}
+use Rattle.query_rows.specs.Rowed.{docOf}
 use Rattle.value_answers.specs.Answers.{Serves}
 use Rattle.value_answers.proofs.ResultLaws.{by-task}
 use borrow.Author.Needs.{needs}

@@ -1,5 +1,5 @@
 -- `value_answers::read_with` meets its contract: the text is refused, or its rows are taken.
-use Rattle.constructs.specs.Rowed.{docOf}
+use Rattle.query_rows.specs.Rowed.{docOf}
 use Rattle.value_answers.proofs.EndLaws.{text-taken, text-unread, text-read}
 use borrow.Author.Needs.{needs}
 use Rattle.value_answers.proofs.read_with.Statement.{statement}

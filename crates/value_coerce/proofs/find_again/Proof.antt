@@ -1,6 +1,6 @@
 -- Nothing, or the first.
 use native.Mathlib.Omega.{arith}
-use Rattle.constructs.specs.Rowed.{docOf}
+use Rattle.query_rows.specs.Rowed.{docOf}
 use Rattle.value_coerce.proofs.GivenLaws.{repeated-past}
 use borrow.Author.Needs.{needs}
 use Rattle.value_coerce.proofs.find_again.Statement.{statement}

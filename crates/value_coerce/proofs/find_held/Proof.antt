@@ -2,7 +2,7 @@
 use mathlib.Core.Path.{_≡_, sym, ap, _∙_}
 use Prim.Native.Nat.{ℕ, _-_}
 use native.Mathlib.Omega.{arith}
-use Rattle.index.specs.Book.{part}
+use Rattle.table_book.specs.Book.{part}
 use Rattle.value_coerce.specs.Holding.{heldFrom}
 use Rattle.value_coerce.proofs.HoldingLaws.{held-here, held-next, held-end}
 use borrow.Author.Needs.{needs}

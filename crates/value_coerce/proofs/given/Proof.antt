@@ -2,8 +2,8 @@
 use mathlib.Core.Path.{refl, sym, _∙_}
 use Prim.Native.Nat.{_+_, _-_}
 use native.Mathlib.Omega.{arith}
-use Rattle.index.specs.Book.{part}
-use Rattle.constructs.specs.Rowed.{docOf}
+use Rattle.table_book.specs.Book.{part}
+use Rattle.query_rows.specs.Rowed.{docOf}
 use Rattle.value_entries.specs.Entered.{entryAt}
 use Rattle.value_coerce.proofs.GivenLaws.{gives-past, gives-none, gives-out, gives-here}
 use Rattle.value_coerce.proofs.given.Statement.{statement}

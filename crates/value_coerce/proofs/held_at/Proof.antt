@@ -1,5 +1,5 @@
 -- The bytes of the name of row i.
-use Rattle.constructs.proofs.RowsIn.{rowed-sized, name-within}
+use Rattle.query_rows.proofs.RowsIn.{rowed-sized, name-within}
 use borrow.Author.Needs.{needs}
 use Rattle.value_coerce.proofs.held_at.Statement.{statement}
 use Rattle.value_coerce.proofs.held_at.Tie as tie

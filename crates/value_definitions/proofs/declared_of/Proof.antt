@@ -2,7 +2,7 @@
 use mathlib.Core.Path.{_∙_}
 use native.Mathlib.Omega.{arith}
 use Rattle.paper.specs.Language.{Document}
-use Rattle.constructs.proofs.RowsIn.{rowed-sized, name-within}
+use Rattle.query_rows.proofs.RowsIn.{rowed-sized, name-within}
 use Rattle.value_definitions.proofs.DeclaredLaws.{declared-due}
 use Rattle.value_definitions.proofs.ReadLaws.{taken-treed}
 use borrow.Author.Needs.{needs}

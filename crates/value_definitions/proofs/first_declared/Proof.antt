@@ -2,8 +2,8 @@
 use mathlib.Core.Path.{sym, _∙_}
 use Prim.Native.Nat.{_-_}
 use native.Mathlib.Omega.{arith}
-use Rattle.constructs.specs.Rowed.{rowsIn}
-use Rattle.constructs.proofs.RowsIn.{rowed-sized}
+use Rattle.query_rows.specs.Rowed.{rowsIn}
+use Rattle.query_rows.proofs.RowsIn.{rowed-sized}
 use Rattle.value_definitions.specs.Definitions.{isDeclared}
 use Rattle.value_definitions.proofs.SeekLaws.{Seeks, seeks-start, seeks-here, seeks-next, seeks-end, declared-below}
 use borrow.Author.Needs.{needs}

@@ -1,6 +1,6 @@
 -- By the kind, then the parent.
 use mathlib.Core.Path.{sym, _∙_}
-use Rattle.constructs.specs.Rowed.{rowIn}
+use Rattle.query_rows.specs.Rowed.{rowIn}
 use Rattle.value_definitions.proofs.SeekLaws.{declared-other, declared-is}
 use borrow.Author.Needs.{needs}
 use Rattle.value_definitions.proofs.is_declared.Statement.{statement}

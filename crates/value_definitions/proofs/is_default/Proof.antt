@@ -1,7 +1,7 @@
 -- By the kind, then the parent.
 use mathlib.Core.Path.{_∙_}
 use native.Mathlib.Omega.{arith}
-use Rattle.constructs.specs.Rowed.{rowIn}
+use Rattle.query_rows.specs.Rowed.{rowIn}
 use Rattle.value_definitions.proofs.SeekLaws.{default-less, default-more, default-is}
 use borrow.Author.Needs.{needs}
 use Rattle.value_definitions.proofs.is_default.Statement.{statement}

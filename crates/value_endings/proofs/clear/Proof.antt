@@ -7,7 +7,7 @@ use native.Mathlib.Omega.{arith}
 use borrow.Author.Needs.{needs}
 use lib.ListN.{length, set, replicate, length-set}
 use lib.Seq.{sets}
-use Rattle.buffers.proofs.BufferLaws.{clear-more, clear-end}
+use Rattle.call_buffers.proofs.BufferLaws.{clear-more, clear-end}
 use Rattle.value_endings.proofs.clear.Statement.{statement}
 use Rattle.value_endings.proofs.clear.Tie as tie
 

@@ -2,8 +2,8 @@
 use mathlib.Core.Path.{_≡_, sym, _∙_}
 use Prim.Native.Nat.{_-_, _+_}
 use native.Mathlib.Omega.{arith}
-use Rattle.index.specs.Book.{part}
-use Rattle.constructs.specs.Rowed.{docOf}
+use Rattle.table_book.specs.Book.{part}
+use Rattle.query_rows.specs.Rowed.{docOf}
 use Rattle.value_entries.specs.Entered.{entryAt}
 use Rattle.value_entries.proofs.EntryLaws.{entry-here, entry-end}
 use Rattle.value_entries.proofs.ChildLaws.{Stands, stands, stands-later, entry-hop, entry-next}

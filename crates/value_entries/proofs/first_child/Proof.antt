@@ -1,6 +1,6 @@
 -- The row behind it, if that stands in it.
 use native.Mathlib.Omega.{arith}
-use Rattle.constructs.proofs.RowsIn.{rowed-sized}
+use Rattle.query_rows.proofs.RowsIn.{rowed-sized}
 use Rattle.value_entries.proofs.ChildLaws.{first-here, first-none}
 use borrow.Author.Needs.{needs}
 use Rattle.value_entries.proofs.first_child.Statement.{statement}

@@ -3,7 +3,7 @@ use mathlib.Core.Path.{_≡_, sym, _∙_}
 use mathlib.Core.List.{[]}
 use Prim.Native.Nat.{ℕ, _-_, _+_}
 use native.Mathlib.Omega.{arith}
-use Rattle.constructs.specs.Rowed.{docOf}
+use Rattle.query_rows.specs.Rowed.{docOf}
 use Rattle.paper_values.specs.Values.{Value}
 use Rattle.paper_values.specs.Coercion.{heads, repeated}
 use Rattle.paper_values.specs.RowValues.{entriesFrom}

@@ -2,7 +2,7 @@
 use mathlib.Core.Path.{_≡_, refl, sym, _∙_}
 use Prim.Native.Nat.{ℕ, _-_, _+_}
 use native.Mathlib.Omega.{arith}
-use Rattle.constructs.specs.Rowed.{docOf}
+use Rattle.query_rows.specs.Rowed.{docOf}
 use Rattle.paper_values.specs.Values.{Value}
 use Rattle.paper_values.specs.Coercion.{heads, unknown}
 use Rattle.paper_values.specs.RowValues.{entriesFrom}

@@ -1,10 +1,10 @@
 -- One is there if and only if one is found.
 use mathlib.Core.Path.{sym, ap, subst, _∙_}
-use Rattle.paper_types.specs.Rules.{argumentNamed}
-use Rattle.paper_types.specs.References.{found}
-use Rattle.index.specs.Book.{part}
-use Rattle.members.specs.Members.{argumentsIn, FindArgument}
-use Rattle.types.proofs.Objects.{any-found}
+use Rattle.paper_table.specs.Rules.{argumentNamed}
+use Rattle.paper_table.specs.References.{found}
+use Rattle.table_book.specs.Book.{part}
+use Rattle.table_members.specs.Members.{argumentsIn, FindArgument}
+use Rattle.table_types.proofs.Objects.{any-found}
 use borrow.Author.Needs.{needs}
 use Rattle.value_entries.proofs.has_argument.Statement.{statement}
 use Rattle.value_entries.proofs.has_argument.Tie as tie

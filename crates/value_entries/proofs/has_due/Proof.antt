@@ -1,6 +1,6 @@
 -- By the kind of the entries.
 use mathlib.Core.Path.{_∙_}
-use Rattle.index.specs.Book.{part}
+use Rattle.table_book.specs.Book.{part}
 use Rattle.value_entries.proofs.DueLaws.{due-argument, due-member}
 use borrow.Author.Needs.{needs}
 use Rattle.value_entries.proofs.has_due.Statement.{statement}

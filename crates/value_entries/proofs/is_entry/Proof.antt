@@ -2,8 +2,8 @@
 use mathlib.Core.Path.{sym, ap, _∙_}
 use lib.Dec.{eqb}
 use borrow.Author.Tests.{eq-eqb, ne-eqb}
-use Rattle.paper_rules.specs.Constructs.{kindOf, parentOf}
-use Rattle.constructs.specs.Rowed.{docOf}
+use Rattle.paper_query.specs.Constructs.{kindOf, parentOf}
+use Rattle.query_rows.specs.Rowed.{docOf}
 use Rattle.value_entries.proofs.EntryLaws.{and-off, and-on}
 use borrow.Author.Needs.{needs}
 use Rattle.value_entries.proofs.is_entry.Statement.{statement}

@@ -4,9 +4,9 @@ use mathlib.Core.Bool.{false}
 use Prim.Native.Nat.{_-_, _+_}
 use native.Mathlib.Omega.{arith}
 use Rattle.paper.specs.Tokens.{same}
-use Rattle.paper_types.specs.Lists.{anyOf}
-use Rattle.paper_rules.specs.Constructs.{nameOf}
-use Rattle.constructs.specs.Rowed.{docOf}
+use Rattle.paper_table.specs.Lists.{anyOf}
+use Rattle.paper_query.specs.Constructs.{nameOf}
+use Rattle.query_rows.specs.Rowed.{docOf}
 use Rattle.value_entries.specs.Entered.{namesBefore}
 use Rattle.value_entries.proofs.ChildLaws.{Stands, stands, stands-later, seen-first, seen-next, seen-yes, seen-no}
 use Rattle.value_entries.proofs.is_seen.Statement.{statement}

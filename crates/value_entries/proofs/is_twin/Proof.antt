@@ -2,8 +2,8 @@
 use mathlib.Core.Path.{sym, _∙_}
 use borrow.Author.Tests.{not-true, not-false}
 use Rattle.paper.specs.Tokens.{same}
-use Rattle.paper_rules.specs.Constructs.{nameOf}
-use Rattle.constructs.specs.Rowed.{docOf}
+use Rattle.paper_query.specs.Constructs.{nameOf}
+use Rattle.query_rows.specs.Rowed.{docOf}
 use Rattle.value_entries.specs.Entered.{isEntry}
 use Rattle.value_entries.proofs.EntryLaws.{and-off, and-on}
 use borrow.Author.Needs.{needs}

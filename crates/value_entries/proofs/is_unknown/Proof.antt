@@ -3,10 +3,10 @@ use mathlib.Core.Path.{sym, _∙_}
 use mathlib.Core.Bool.{not}
 use native.Mathlib.Omega.{arith}
 use borrow.Author.Tests.{not-true, not-false}
-use Rattle.paper_types.specs.Lists.{anyOf}
-use Rattle.paper_rules.specs.Constructs.{nameOf}
-use Rattle.constructs.specs.Rowed.{docOf}
-use Rattle.constructs.proofs.RowsIn.{name-within}
+use Rattle.paper_table.specs.Lists.{anyOf}
+use Rattle.paper_query.specs.Constructs.{nameOf}
+use Rattle.query_rows.specs.Rowed.{docOf}
+use Rattle.query_rows.proofs.RowsIn.{name-within}
 use Rattle.value_entries.specs.Entered.{isEntry, dueNamed, duesBy}
 use Rattle.value_entries.proofs.EntryLaws.{and-off, not-known, not-unknown}
 use Rattle.value_entries.proofs.DueLaws.{due-here}

@@ -1,7 +1,7 @@
 -- The row past the child, if that stands in the parent too.
 use mathlib.Core.Path.{_∙_}
 use native.Mathlib.Omega.{arith}
-use Rattle.constructs.proofs.RowsIn.{rowed-sized}
+use Rattle.query_rows.proofs.RowsIn.{rowed-sized}
 use Rattle.value_entries.proofs.ChildLaws.{next-here, next-none}
 use Rattle.value_entries.proofs.next_child.Statement.{statement}
 use Rattle.value_entries.proofs.next_child.Tie as tie

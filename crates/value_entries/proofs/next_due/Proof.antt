@@ -1,6 +1,6 @@
 -- The next argument or member.
 use mathlib.Core.Path.{subst}
-use Rattle.members.specs.Members.{NextArgument}
+use Rattle.table_members.specs.Members.{NextArgument}
 use Rattle.value_entries.proofs.DueLaws.{next-member, no-argument, next-argument}
 use borrow.Author.Needs.{needs}
 use Rattle.value_entries.proofs.next_due.Statement.{statement}

@@ -1,11 +1,11 @@
 -- By the first of the field's two numbers.
 use native.Mathlib.Omega.{arith}
 use lib.ListN.{getD}
-use Rattle.paper_types.specs.Types.{tableOf}
-use Rattle.paper_rules.specs.Enclosing.{fieldAt}
-use Rattle.constructs.specs.Rowed.{docOf}
-use Rattle.constructs.proofs.Rooms.{room-enough}
-use Rattle.belonging.specs.Kept.{FieldKept}
+use Rattle.paper_table.specs.Types.{tableOf}
+use Rattle.paper_query.specs.Enclosing.{fieldAt}
+use Rattle.query_rows.specs.Rowed.{docOf}
+use Rattle.query_rows.proofs.Rooms.{room-enough}
+use Rattle.query_fields.specs.Kept.{FieldKept}
 use Rattle.value_fields.proofs.HoldsLaws.{holds-none, holds-member}
 use borrow.Author.Needs.{needs}
 use Rattle.value_fields.proofs.content_at.Statement.{statement}

@@ -1,7 +1,7 @@
 -- Room for few is the room of few rows.
 use mathlib.Core.Path.{refl, sym}
-use Rattle.constructs.proofs.Rooms.{room-few}
-use Rattle.links.specs.Links.{firstsSize}
+use Rattle.query_rows.proofs.Rooms.{room-few}
+use Rattle.query_links.specs.Links.{firstsSize}
 use borrow.Author.Needs.{needs}
 use Rattle.value_fields.proofs.content_few.Statement.{statement}
 use Rattle.value_fields.proofs.content_few.Tie as tie

@@ -1,7 +1,7 @@
 -- All room is the room of many rows.
 use mathlib.Core.Path.{refl, sym}
-use Rattle.constructs.proofs.Rooms.{room-many}
-use Rattle.links.specs.Links.{firstsSize}
+use Rattle.query_rows.proofs.Rooms.{room-many}
+use Rattle.query_links.specs.Links.{firstsSize}
 use borrow.Author.Needs.{needs}
 use Rattle.value_fields.proofs.content_many.Statement.{statement}
 use Rattle.value_fields.proofs.content_many.Tie as tie

@@ -1,8 +1,8 @@
 -- By the row's kind, whether it is reached, and where its arguments stand.
 use mathlib.Core.Path.{sym, _∙_}
 use borrow.Author.Tests.{not-true, not-false}
-use Rattle.spreading.proofs.OwnerLaws.{operation-defines}
-use Rattle.constructs.specs.Rowed.{docOf}
+use Rattle.query_spreads.proofs.OwnerLaws.{operation-defines}
+use Rattle.query_rows.specs.Rowed.{docOf}
 use Rattle.value_fields.proofs.AcceptedLaws.{accepted-known}
 use Rattle.value_fields.proofs.WantsLaws.{field-there, wants-no-field, wants-unreached, wants-reached}
 use borrow.Author.Needs.{needs}

@@ -1,6 +1,6 @@
 -- The row's owner is the operation, or the search tells.
 use mathlib.Core.Path.{sym, _∙_}
-use Rattle.constructs.proofs.Rooms.{room-at}
+use Rattle.query_rows.proofs.Rooms.{room-at}
 use Rattle.value_fields.proofs.ReachLaws.{owner-reaches}
 use borrow.Author.Needs.{needs}
 use Rattle.value_fields.proofs.reach_with.Statement.{statement}

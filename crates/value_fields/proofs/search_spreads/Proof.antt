@@ -1,7 +1,7 @@
 -- Links, where spreads lead, one search.
 use mathlib.Core.Path.{sym, _∙_}
-use Rattle.constructs.proofs.Rooms.{room-rows}
-use Rattle.spreading.proofs.LinkLaws.{graph-of}
+use Rattle.query_rows.proofs.Rooms.{room-rows}
+use Rattle.query_spreads.proofs.LinkLaws.{graph-of}
 use Rattle.value_fields.proofs.ReachLaws.{zeros-stamped}
 use borrow.Author.Needs.{needs}
 use Rattle.value_fields.proofs.search_spreads.Statement.{statement}

@@ -6,19 +6,19 @@ use native.Mathlib.Omega.{arith}
 use lib.Dec.{eqb}
 use lib.ListN.{take, drop}
 use Rattle.paper.specs.Numbers.{extraTrue}
-use Rattle.index.specs.Book.{part}
-use Rattle.constructs.specs.Rowed.{docOf}
-use Rattle.constructs.proofs.RowsIn.{name-within}
+use Rattle.table_book.specs.Book.{part}
+use Rattle.query_rows.specs.Rowed.{docOf}
+use Rattle.query_rows.proofs.RowsIn.{name-within}
 use Rattle.value_tokens.proofs.TokenLaws.{base-boolean, base-enum, base-token, name-is}
 use borrow.Author.Needs.{needs}
 use Rattle.value_tokens.proofs.put_base.Statement.{statement}
 use Rattle.value_tokens.proofs.put_base.Tie as tie
 use Rattle.value_tokens.proofs.put_base.Reads as reads
 use Rattle.value_tokens.proofs.put_base.Lts as lts
-use Rattle.constructs.proofs.extra_of.Reads as extra-of-reads
-use Rattle.constructs.proofs.kind_of.Reads as kind-of-reads
-use Rattle.constructs.proofs.name_of.Reads as name-of-reads
-use Rattle.constructs.proofs.size_of.Reads as size-of-reads
+use Rattle.query_rows.proofs.extra_of.Reads as extra-of-reads
+use Rattle.query_rows.proofs.kind_of.Reads as kind-of-reads
+use Rattle.query_rows.proofs.name_of.Reads as name-of-reads
+use Rattle.query_rows.proofs.size_of.Reads as size-of-reads
 use Rattle.value_kinds.proofs.put_enum.Reads as put-enum-reads
 use Rattle.value_leaves.proofs.put_truth.Reads as put-truth-reads
 use Rattle.value_tokens.proofs.put_token.Reads as put-token-reads

@@ -5,7 +5,7 @@ use native.Mathlib.Omega.{arith}
 use lib.ListN.{length}
 use borrow.Author.Needs.{needs}
 use borrow.Author.Tests.{not-true, not-false}
-use Rattle.constructs.proofs.RowsIn.{rowed-sized}
+use Rattle.query_rows.proofs.RowsIn.{rowed-sized}
 use Rattle.value_variables.proofs.LoopLaws.{Going, going-start, going-on, going-held, going-many, going-step, going-stop, going-end}
 use Rattle.value_variables.proofs.in_order.Statement.{statement}
 use Rattle.value_variables.proofs.in_order.Tie as tie

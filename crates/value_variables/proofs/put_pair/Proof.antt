@@ -2,11 +2,11 @@
 use mathlib.Core.Path.{refl}
 use Prim.Native.Nat.{_+_}
 use native.Mathlib.Omega.{arith}
-use Rattle.paper_types.specs.TableNumbers.{tagName}
+use Rattle.paper_table.specs.TableNumbers.{tagName}
 use Rattle.paper_values.specs.Written.{fieldOf}
 use Rattle.paper_values.specs.Values.{nothing}
-use Rattle.index.specs.Book.{part}
-use Rattle.constructs.specs.Rowed.{docOf}
+use Rattle.table_book.specs.Book.{part}
+use Rattle.query_rows.specs.Rowed.{docOf}
 use Rattle.paper_values.specs.Coercion.{constant}
 use Rattle.paper_values.specs.RowValues.{valueOfRow}
 use Rattle.value_coerce.specs.Coercing.{kindsIn}

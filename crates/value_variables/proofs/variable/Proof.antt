@@ -1,7 +1,7 @@
 -- `value_variables::variable` meets its contract: an entry, a default, or nothing.
 use native.Mathlib.Omega.{arith}
-use Rattle.constructs.specs.Rowed.{docOf}
-use Rattle.constructs.proofs.RowsIn.{rowed-sized, name-within}
+use Rattle.query_rows.specs.Rowed.{docOf}
+use Rattle.query_rows.proofs.RowsIn.{rowed-sized, name-within}
 use Rattle.paper_values.specs.DocumentDues.{dueVariable}
 use Rattle.value_variables.proofs.WayLaws.{no-names, default-some, default-none, default-there, way-given, way-default, way-nothing}
 use borrow.Author.Needs.{needs}

@@ -1,0 +1,65 @@
+-- Demand 3, over `gw_plan` and `gw_walk` together, in the manner of `Main`: each theorem is stated in full, and its proof is one name.
+-- What the words mean, and is to be believed, stands in `crates/paper_plan/specs`, and in the specs that `Main` names.
+-- Assumes nothing.
+use mathlib.Core.Path.{_≡_}
+use mathlib.Core.Bool.{true}
+use mathlib.Core.List.{List, [], _∷_, map}
+use mathlib.Core.Logic.{_⊎_}
+use Prim.Native.Nat.{ℕ, _≤_, _<_}
+use lib.Dec.{eqb}
+use lib.ListN.{length, getD}
+use Rattle.paper.specs.Numbers.{reportSize}
+use Rattle.paper.specs.Rows.{Row}
+use Rattle.paper.specs.Calls.{filled}
+use Rattle.paper_table.specs.Types.{tableOf, isObject}
+use Rattle.paper_query.specs.Enclosing.{definitionAt}
+use Rattle.paper_query.specs.DocumentCalls.{read}
+use Rattle.paper_query.specs.Opening.{Opened, opens}
+use Rattle.paper_plan.specs.Collecting.{Grouped, elem}
+use Rattle.paper_plan.specs.PlanNumbers.{blocksIn, WellFormed}
+use Rattle.paper_plan.specs.PlanCalls.{Planned}
+use Rattle.paper_plan.specs.Selecting.{Name, Collects, pairsOf, BlockRows, blockIn}
+use Rattle.paper_plan.specs.LentPlan.{isOne, flat}
+use Rattle.paper_plan.specs.WalkNumbers.{mostPairs, mostWalked, pairsSize, variablesSize}
+use Rattle.paper_plan.specs.WalkCalls.{Lent, Walked}
+use Rattle.claims.proofs.Demand3Laws as demand
+
+-- Every plan that `gw_plan` makes is well-formed.
+pub plan-is-well-formed : {table document name plan report plan′ report′ : List ℕ} → Planned table document name plan report plan′ report′ 0 → WellFormed (tableOf table) plan′
+plan-is-well-formed = demand.plan-formed
+
+-- It is the plan of the operation that the name means in a document that is accepted; its blocks are the operation and the fields with selections that it reaches.
+pub plan-has-blocks : {table document name plan report plan′ report′ : List ℕ} → Planned table document name plan report plan′ report′ 0 →
+    (rs : List Row) × (op : ℕ) × (rows : List ℕ) × Opened table document name (opens rs op) × BlockRows (read document rs) op rows × (blocksIn plan′ ≡ length rows)
+plan-has-blocks = demand.plan-opened
+
+-- There is one such operation, and one such list of blocks.
+pub plan-blocks-one : {table document name : List ℕ} {rs rs′ : List Row} {op op′ : ℕ} {rows rows′ : List ℕ} → Opened table document name (opens rs op) → Opened table document name (opens rs′ op′) →
+    BlockRows (read document rs) op rows → BlockRows (read document rs′) op′ rows′ → (rs ≡ rs′) × (op ≡ op′) × (rows ≡ rows′)
+plan-blocks-one = demand.opened-blocks-one
+
+-- Demand 3. Of the plan that `gw_plan` made, for every object type, at most 64 of its blocks (repeats too) and all variable values, `gw_walk` leaves the response keys and fields
+-- that the draft's field collection gives for the blocks' merged selection sets, in the same order, if there are at most 512, and answers 15 otherwise. The draft's collection gives one thing.
+pub demand-3 : {table document name plan report plan′ report′ : List ℕ} → Planned table document name plan report plan′ report′ 0 →
+    (rs : List Row) (op : ℕ) (rows : List ℕ) → Opened table document name (opens rs op) → BlockRows (read document rs) op rows →
+    (object : ℕ) (blocks variables : List ℕ) → isObject (definitionAt (tableOf table) object) ≡ true → length blocks ≤ mostWalked → ((j : ℕ) → j < length blocks → getD blocks j 0 < blocksIn plan′) →
+    variablesSize ≤ length variables → (pairs walked pairs′ walked′ : List ℕ) (a : ℕ) → Lent pairs walked → Walked table plan′ object blocks variables pairs walked pairs′ walked′ a →
+    (g : Grouped Name) × Collects (tableOf table) (read document rs) op (isOne variables) object (map (λ b. getD rows b 0) blocks) g
+    × ((h : Grouped Name) → Collects (tableOf table) (read document rs) op (isOne variables) object (map (λ b. getD rows b 0) blocks) h → g ≡ h)
+    × (((length (pairsOf (read document rs) g) ≤ mostPairs) × (a ≡ 0) × (pairs′ ≡ filled pairsSize (flat (pairsOf (read document rs) g)) pairs)
+    × (walked′ ≡ filled reportSize (0 ∷ length (pairsOf (read document rs) g) ∷ []) walked))
+    ⊎ ((mostPairs < length (pairsOf (read document rs) g)) × (a ≡ 15) × (pairs′ ≡ filled pairsSize [] pairs) × (walked′ ≡ filled reportSize (15 ∷ []) walked)))
+demand-3 = demand.by-blocks
+
+-- The same by rows: of the operation or fields whose blocks are walked.
+pub demand-3-rows : {table document name plan report plan′ report′ : List ℕ} → Planned table document name plan report plan′ report′ 0 →
+    (rs : List Row) (op : ℕ) (rows : List ℕ) → Opened table document name (opens rs op) → BlockRows (read document rs) op rows →
+    (object : ℕ) (holders variables : List ℕ) → isObject (definitionAt (tableOf table) object) ≡ true → length holders ≤ mostWalked →
+    ((j : ℕ) → j < length holders → elem eqb (getD holders j 0) rows ≡ true) →
+    variablesSize ≤ length variables → (pairs walked pairs′ walked′ : List ℕ) (a : ℕ) → Lent pairs walked → Walked table plan′ object (map (blockIn rows) holders) variables pairs walked pairs′ walked′ a →
+    (g : Grouped Name) × Collects (tableOf table) (read document rs) op (isOne variables) object holders g
+    × ((h : Grouped Name) → Collects (tableOf table) (read document rs) op (isOne variables) object holders h → g ≡ h)
+    × (((length (pairsOf (read document rs) g) ≤ mostPairs) × (a ≡ 0) × (pairs′ ≡ filled pairsSize (flat (pairsOf (read document rs) g)) pairs)
+    × (walked′ ≡ filled reportSize (0 ∷ length (pairsOf (read document rs) g) ∷ []) walked))
+    ⊎ ((mostPairs < length (pairsOf (read document rs) g)) × (a ≡ 15) × (pairs′ ≡ filled pairsSize [] pairs) × (walked′ ≡ filled reportSize (15 ∷ []) walked)))
+demand-3-rows = demand.by-rows

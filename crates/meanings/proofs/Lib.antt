@@ -1,3 +1,0 @@
--- Laws of this crate; neither uses the other.
-pub mod RootLaws
-pub mod MeantLaws

@@ -1,0 +1,153 @@
+// Whether the numbers of a lent plan are well-formed.
+use query_types::is_output;
+ghost use mathlib.Core.Path.{_≡_};
+ghost use Prim.Native.Nat.{_+_, _≤_, _<_};
+ghost use lib.ListN.{length, getD};
+ghost use Rattle.paper_table.specs.Types.{tableOf};
+ghost use Rattle.table_types.specs.Booked.{Booked};
+ghost use Rattle.query_rows.specs.Rowed.{Decides};
+ghost use Rattle.paper_plan.specs.PlanNumbers.{planSize, mostSteps, blocksIn, stepsIn, firstIn, endIn, Formed, WellFormed};
+ghost use Rattle.plan_walk_formed.specs.Blocks.{StepsFormed, BlockFormed, Headed, BlocksFormed};
+
+// how many numbers a plan has; the most of its blocks and steps
+pub const PLAN_SIZE: usize = 14338;
+
+pub const MOST_BLOCKS: u32 = 2048;
+
+pub const MOST_STEPS: u32 = 4096;
+
+fn wide(x: u32) -> usize
+    ensures { λ r. ⌜ r ≡ x ⌝ }
+{
+    x as usize
+}
+
+// A number of the plan.
+pub fn number_at(p: &[u32], i: usize) -> usize
+    requires { ⌜ i < length (now p) ⌝ }
+    ensures { λ r. ⌜ r ≡ getD (now (p .entry)) i 0 ⌝ }
+{
+    wide(p[i])
+}
+
+// Is step i well-formed, in a block that ends at step `end`?
+fn step_formed(t: &[u8], book: &[u32], p: &[u32], end: usize, i: usize) -> bool
+    requires { ⌜ Booked (now t) (now book) × (planSize ≤ length (now p)) × (i < mostSteps) ⌝ }
+    ensures { λ r. ⌜ Decides r (Formed (tableOf (now (t .entry))) (now (p .entry)) end i) ⌝ }
+{
+    let kind = number_at(p, 2050 + 3 * i);
+    let one = number_at(p, 2051 + 3 * i);
+    let two = number_at(p, 2052 + 3 * i);
+    if kind == 5 {
+        if one < 2048 {
+            return two < 2048;
+        }
+        return false;
+    }
+    if 5 < kind {
+        return false;
+    }
+    if two <= i {
+        return false;
+    }
+    if end < two {
+        return false;
+    }
+    if kind == 3 {
+        return is_output(table_types::kind_in(book, one));
+    }
+    if kind == 0 {
+        return false;
+    }
+    one < 64
+}
+
+// Is each step from `from` up to `end`?
+fn steps_formed(t: &[u8], book: &[u32], p: &[u32], from: usize, end: usize) -> bool
+    requires { ⌜ Booked (now t) (now book) × (planSize ≤ length (now p)) × (end ≤ mostSteps) ⌝ }
+    ensures { λ r. ⌜ Decides r (StepsFormed (tableOf (now (t .entry))) (now (p .entry)) from end) ⌝ }
+{
+    let mut i = from;
+    while i < end {
+        if step_formed(t, book, p, end, i) {
+            i += 1;
+            continue;
+        }
+        return false;
+    }
+    true
+}
+
+// Where block b ends.
+pub fn end_of(p: &[u32], b: usize) -> usize
+    requires { ⌜ (planSize ≤ length (now p)) × (b < 2048) ⌝ }
+    ensures { λ r. ⌜ r ≡ endIn (now (p .entry)) b ⌝ }
+{
+    if b + 1 < number_at(p, 0) {
+        return number_at(p, 3 + b);
+    }
+    number_at(p, 1)
+}
+
+// Is block b well-formed?
+fn block_formed(t: &[u8], book: &[u32], p: &[u32], b: usize) -> bool
+    requires { ⌜ Booked (now t) (now book) × (planSize ≤ length (now p)) × (b < 2048) × (stepsIn (now p) ≤ mostSteps) ⌝ }
+    ensures { λ r. ⌜ Decides r (BlockFormed (tableOf (now (t .entry))) (now (p .entry)) b) ⌝ }
+{
+    let from = number_at(p, 2 + b);
+    let end = end_of(p, b);
+    if end < from {
+        return false;
+    }
+    if number_at(p, 1) < end {
+        return false;
+    }
+    steps_formed(t, book, p, from, end)
+}
+
+// Is each block?
+fn blocks_formed(t: &[u8], book: &[u32], p: &[u32]) -> bool
+    requires { ⌜ Booked (now t) (now book) × Headed (now p) ⌝ }
+    ensures { λ r. ⌜ Decides r (BlocksFormed (tableOf (now (t .entry))) (now (p .entry))) ⌝ }
+{
+    let n = number_at(p, 0);
+    let mut b = 0;
+    while b < n {
+        if block_formed(t, book, p, b) {
+            b += 1;
+            continue;
+        }
+        return false;
+    }
+    true
+}
+
+// Is the count of blocks and of steps in its bounds, and the first block at the start?
+fn is_headed(p: &[u32]) -> bool
+    ensures { λ r. ⌜ Decides r (Headed (now (p .entry))) ⌝ }
+{
+    if p.len() < PLAN_SIZE {
+        return false;
+    }
+    if p[0] == 0 {
+        return false;
+    }
+    if MOST_BLOCKS < p[0] {
+        return false;
+    }
+    if MOST_STEPS < p[1] {
+        return false;
+    }
+    p[2] == 0
+}
+
+// Is a lent plan well-formed?
+pub fn is_formed(t: &[u8], book: &[u32], p: &[u32]) -> bool
+    requires { ⌜ Booked (now t) (now book) ⌝ }
+    ensures { λ r. ⌜ Decides r (WellFormed (tableOf (now (t .entry))) (now (p .entry))) ⌝ }
+{
+    if is_headed(p) {
+        return blocks_formed(t, book, p);
+    }
+    false
+}

@@ -1,0 +1,2 @@
+-- What is true of each accepted document.
+pub mod Sane

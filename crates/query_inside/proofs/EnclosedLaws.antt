@@ -1,0 +1,155 @@
+-- What is kept of the rows, one row after the other; and that what is kept of rows of other kinds does not matter.
+use mathlib.Core.Path.{_≡_, refl, sym, ap, subst, _∙_}
+use mathlib.Core.Logic.{_⊎_, ⊎-elim, inl, inr}
+use mathlib.Core.Bool.{Bool, true, false, cond, true≢false}
+use mathlib.Core.List.{List}
+use Prim.Native.Nat.{ℕ, suc, _<_, _≤_}
+use native.Mathlib.Decide.{decLt}
+use native.Mathlib.Omega.{arith}
+use lib.ListN.{length, getD, set, length-set}
+use lib.Seq.{getD-set-same, getD-set-other}
+use Rattle.paper.specs.Numbers.{kindField}
+use Rattle.paper_table.specs.Types.{tableOf}
+use Rattle.paper_query.specs.Constructs.{nameOf}
+use Rattle.paper_query.specs.Enclosing.{inside, insideFrom, enclosing, fieldIn, typeIn, fieldAt}
+use Rattle.paper_query.proofs.Climbing.{ParentsBefore}
+use Rattle.paper_query.proofs.EnclosingLaws.{inside-step, inside-is, from-other, from-field}
+use Rattle.query_rows.specs.Rowed.{rowIn, docOf, Rowed, roomOf}
+use Rattle.query_rows.proofs.RowsIn.{rows-count, parent-before}
+use Rattle.query_rows.proofs.Rooms.{room-enough}
+use Rattle.query_types.specs.Coded.{typeCoded, TypeKnown}
+use Rattle.query_fields.specs.Kept.{fieldCoded, FieldKept}
+use Rattle.query_inside.specs.Enclosed.{encloses, typeKept, EnclosedTo, Enclosed}
+use Rattle.query_inside.proofs.KindLaws.{encloses-there, no-operation, no-fragment, no-field, no-inline}
+
+-- parents stand before their rows
+pub rowed-before : (s rows : List ℕ) (n : ℕ) → Rowed s rows n → ParentsBefore (docOf s rows n)
+rowed-before s rows n r i h =
+    ⊎-elim (λ l. inl l) (λ e. inr (omega (arith, e, r .few, rows-count rows n))) (parent-before s rows n r i (omega (arith, h, rows-count rows n)))
+
+module _ (t s rows : List ℕ) (n : ℕ) (r : Rowed s rows n) where
+  step : (i : ℕ) → inside (tableOf t) (docOf s rows n) i ≡ insideFrom (tableOf t) (docOf s rows n) i (enclosing (tableOf t) (docOf s rows n) i)
+  step i = inside-step (tableOf t) (docOf s rows n) (rowed-before s rows n r) i
+
+  module _ {m : ℕ} {inner at to : List ℕ} (e : EnclosedTo t s rows n m inner at to) where
+    -- the type inside a row that is behind, or is not there
+    pub kept-inside : (p : ℕ) → (p < m) ⊎ (n ≤ p) → inside (tableOf t) (docOf s rows n) p ≡ typeCoded (typeKept rows n inner p)
+    kept-inside p h = go (encloses (rowIn rows n p .kind)) refl
+      where
+        go : (b : Bool) → encloses (rowIn rows n p .kind) ≡ b → inside (tableOf t) (docOf s rows n) p ≡ typeCoded (cond b (getD inner p 0) 0)
+        go true q = e .types p (⊎-elim (λ l. l) (λ l. let z = encloses-there rows n p q in absurd (omega arith)) h) q
+        go false q =
+            let k = rowIn rows n p .kind in
+            step p ∙ from-other (tableOf t) (docOf s rows n) p (enclosing (tableOf t) (docOf s rows n) p) (no-operation k q) (no-fragment k q) (no-inline k q) (no-field k q)
+
+    -- the type above a row, by its parent's number
+    pub kept-above : (i p : ℕ) → i < n → i ≤ m → p ≡ rowIn rows n i .parent → enclosing (tableOf t) (docOf s rows n) i ≡ typeCoded (typeKept rows n inner p)
+    kept-above i p h l q =
+        rw q (kept-inside (rowIn rows n i .parent) (⊎-elim (λ b. inl (omega arith)) (λ z. inr (omega (arith, z, r .few))) (parent-before s rows n r i h)))
+
+  -- the type inside a field is that of its selections
+  pub field-inside : (i : ℕ) → rowIn rows n i .kind ≡ kindField → inside (tableOf t) (docOf s rows n) i ≡ typeIn (tableOf t) (fieldAt (tableOf t) (docOf s rows n) i)
+  field-inside i k = step i ∙ from-field (tableOf t) (docOf s rows n) i (enclosing (tableOf t) (docOf s rows n) i) k
+
+  -- the type above is an object, interface or union
+  pub above-known : (i above : ℕ) → enclosing (tableOf t) (docOf s rows n) i ≡ typeCoded above → TypeKnown (tableOf t) above
+  above-known i above e k q = inside-is (tableOf t) (docOf s rows n) (rowIn rows n i .parent) k (e ∙ q)
+
+  pub enclosed-begin : {inner at to : List ℕ} → length inner ≡ roomOf n → length at ≡ roomOf n → length to ≡ roomOf n → EnclosedTo t s rows n 0 inner at to
+  enclosed-begin a b c = record {
+    inners = a;
+    ats = b;
+    tos = c;
+    types = λ i h. absurd (omega arith);
+    fields = λ i h. absurd (omega arith);
+  }
+
+  module _ (i : ℕ) (l : i < n) (inner at to : List ℕ) (e : EnclosedTo t s rows n i inner at to) where
+    room : i < roomOf n
+    room = omega (arith, room-enough n (r .few))
+
+    -- what holds of each row before i, and of i
+    upTo : {P : ℕ → Type 0} → ((j : ℕ) → j < i → P j) → P i → (j : ℕ) → j < suc i → P j
+    upTo {P = P} f x j h = go (decLt j i)
+      where
+        go : Dec (j < i) → P j
+        go (yes k) = f j k
+        go (no k) = let z : i ≡ j = omega arith in subst P z x
+
+    kept-before : (xs : List ℕ) (x j : ℕ) → j < i → getD xs j 0 ≡ getD (set xs i x) j 0
+    kept-before xs x j h = sym (getD-set-other xs i j x 0 (λ z. omega arith))
+
+    kept-here : (xs : List ℕ) (x : ℕ) → length xs ≡ roomOf n → x ≡ getD (set xs i x) i 0
+    kept-here xs x h = sym (getD-set-same xs i x 0 (omega (arith, room)))
+
+    pub enclosed-skip : encloses (rowIn rows n i .kind) ≡ false → EnclosedTo t s rows n (suc i) inner at to
+    enclosed-skip q = record {
+      inners = e .inners;
+      ats = e .ats;
+      tos = e .tos;
+      types = upTo (e .types) (λ z. absurd (true≢false (sym z ∙ q)));
+      fields = upTo (e .fields) (λ z. absurd (no-field (rowIn rows n i .kind) q z));
+    }
+
+    types-kept : (c : ℕ) → inside (tableOf t) (docOf s rows n) i ≡ typeCoded c
+        → (j : ℕ) → j < suc i → encloses (rowIn rows n j .kind) ≡ true → inside (tableOf t) (docOf s rows n) j ≡ typeCoded (getD (set inner i c) j 0)
+    types-kept c q =
+        upTo {P = λ j. encloses (rowIn rows n j .kind) ≡ true → inside (tableOf t) (docOf s rows n) j ≡ typeCoded (getD (set inner i c) j 0)}
+        (λ j h k. e .types j h k ∙ ap typeCoded (kept-before inner c j h)) (λ k. q ∙ ap typeCoded (kept-here inner c (e .inners)))
+
+    pub enclosed-type : (c above : ℕ) → (rowIn rows n i .kind ≡ kindField → ⊥) → enclosing (tableOf t) (docOf s rows n) i ≡ typeCoded above
+        → typeCoded c ≡ insideFrom (tableOf t) (docOf s rows n) i (typeCoded above) → EnclosedTo t s rows n (suc i) (set inner i c) at to
+    enclosed-type c above k a q = record {
+      inners = length-set inner i c ∙ e .inners;
+      ats = e .ats;
+      tos = e .tos;
+      types = types-kept c (step i ∙ rw a (sym q));
+      fields = upTo (e .fields) (λ z. absurd (k z));
+    }
+
+    pub enclosed-field : (c a b above : ℕ) → rowIn rows n i .kind ≡ kindField → enclosing (tableOf t) (docOf s rows n) i ≡ typeCoded above
+        → FieldKept t (fieldIn (tableOf t) (typeCoded above) (nameOf (docOf s rows n) i)) a b → typeCoded c ≡ typeIn (tableOf t) (fieldCoded t a b)
+        → EnclosedTo t s rows n (suc i) (set inner i c) (set at i a) (set to i b)
+    enclosed-field c a b above k u f q = record {
+      inners = length-set inner i c ∙ e .inners;
+      ats = length-set at i a ∙ e .ats;
+      tos = length-set to i b ∙ e .tos;
+      types = types-kept c (field-inside i k ∙ rw (u, f .is) (sym q));
+      fields =
+          upTo {P = λ j. rowIn rows n j .kind ≡ kindField → FieldKept t (fieldAt (tableOf t) (docOf s rows n) j) (getD (set at i a) j 0) (getD (set to i b) j 0)}
+          (λ j h z. rw (← kept-before at a j h, ← kept-before to b j h) (e .fields j h z))
+          (λ z. rw (← kept-here at a (e .ats), ← kept-here to b (e .tos), u) f);
+    }
+
+-- what is kept of a row of another kind may be anything
+module _ {t s rows : List ℕ} {n : ℕ} {inner at to : List ℕ} (e : Enclosed t s rows n inner at to) (j x : ℕ) where
+  pub enclosed-other-inside : encloses (rowIn rows n j .kind) ≡ false → Enclosed t s rows n (set inner j x) at to
+  enclosed-other-inside q = record {
+    inners = length-set inner j x ∙ e .inners;
+    ats = e .ats;
+    tos = e .tos;
+    types = λ i h k. e .types i h k ∙ ap typeCoded (sym (getD-set-other inner j i x 0 (λ z. true≢false (sym k ∙ ap (λ (y : ℕ). encloses (rowIn rows n y .kind)) z ∙ q))));
+    fields = e .fields;
+  }
+
+  module _ (q : rowIn rows n j .kind ≡ kindField → ⊥) where
+    elsewhere : (xs : List ℕ) (i : ℕ) → rowIn rows n i .kind ≡ kindField → getD xs i 0 ≡ getD (set xs j x) i 0
+    elsewhere xs i k = sym (getD-set-other xs j i x 0 (λ z. q (ap (λ (y : ℕ). rowIn rows n y .kind) (sym z) ∙ k)))
+
+    pub enclosed-other-at : Enclosed t s rows n inner (set at j x) to
+    enclosed-other-at = record {
+      inners = e .inners;
+      ats = length-set at j x ∙ e .ats;
+      tos = e .tos;
+      types = e .types;
+      fields = λ i h k. rw (← elsewhere at i k) (e .fields i h k);
+    }
+
+    pub enclosed-other-to : Enclosed t s rows n inner at (set to j x)
+    enclosed-other-to = record {
+      inners = e .inners;
+      ats = e .ats;
+      tos = length-set to j x ∙ e .tos;
+      types = e .types;
+      fields = λ i h k. rw (← elsewhere to i k) (e .fields i h k);
+    }

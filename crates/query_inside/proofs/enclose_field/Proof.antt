@@ -1,0 +1,89 @@
+-- Three stores for one row.
+use native.Mathlib.Omega.{arith}
+use Rattle.query_rows.proofs.RowsIn.{rowed-sized, name-within}
+use Rattle.query_rows.proofs.Rooms.{room-enough}
+use Rattle.query_inside.proofs.EnclosedLaws.{above-known, enclosed-field}
+use borrow.Author.Needs.{needs}
+use Rattle.query_inside.proofs.enclose_field.Statement.{statement}
+use Rattle.query_inside.proofs.enclose_field.Tie as tie
+
+name-of-requires : tie.Need-name-of-requires
+name-of-requires c κs = rowed-sized (c .before .before .before .before .before .before .before .pre .2)
+
+cast-field-in : tie.Need-cast-field-in
+cast-field-in c = search needs
+
+size-of-requires : tie.Need-size-of-requires
+size-of-requires c κs = rowed-sized (c .before .before .before .before .before .before .before .before .pre .2)
+
+cast-field-in-2 : tie.Need-cast-field-in-2
+cast-field-in-2 c = search needs
+
+field-in-requires : tie.Need-field-in-requires
+field-in-requires c κs =
+    let a = c .before .before .before .before .before .before .before .before .before .args in
+    let g = c .before .before .before .before .before .before .before .before .before .pre in
+    (g .0, g .1, above-known (a .t .now) (a .s .now) (a .rows .now) (a .n) (g .2) (a .i) (a .above) (g .6), rw (c .before .name-of .ensures, c .size-of .ensures) (name-within (a .s .now) (a .rows .now) (a .n) (g .2) (a .i)))
+
+field-type-requires : tie.Need-field-type-requires
+field-type-requires c κs = (c .before .before .before .before .before .before .before .before .before .before .pre .0, c .field-in .ensures .bounds)
+
+mul-inside : tie.Need-mul-inside
+mul-inside c = search needs
+
+slice-write-inside : tie.Need-slice-write-inside
+slice-write-inside c =
+    let g = c .before .before .before .before .before .before .before .before .before .before .before .pre in
+    omega (arith, g .3 .inners, g .4, room-enough _ (g .2 .few))
+
+mul-at : tie.Need-mul-at
+mul-at c = search needs
+
+slice-write-at : tie.Need-slice-write-at
+slice-write-at c =
+    let g = c .before .before .before .before .before .before .before .before .before .before .before .pre in
+    omega (arith, g .3 .ats, g .4, room-enough _ (g .2 .few))
+
+mul-to : tie.Need-mul-to
+mul-to c = search needs
+
+slice-write-to : tie.Need-slice-write-to
+slice-write-to c =
+    let g = c .before .before .before .before .before .before .before .before .before .before .before .pre in
+    omega (arith, g .3 .tos, g .4, room-enough _ (g .2 .few))
+
+same-length : tie.Need-same-length
+same-length c = search needs
+
+same-length-2 : tie.Need-same-length-2
+same-length-2 c = search needs
+
+same-length-3 : tie.Need-same-length-3
+same-length-3 c = search needs
+
+returns : tie.Need-returns
+returns c =
+    let a = c .before .before .before .before .before .before .before .before .before .before .before .args in
+    let g = c .before .before .before .before .before .before .before .before .before .before .before .pre in
+    enclosed-field (a .t .now) (a .s .now) (a .rows .now) (a .n) (g .2) (a .i) (g .4) (a .inside .now) (a .at .now) (a .to .now) (g .3) _ _ _ (a .above) (g .5) (g .6) (rw (← c .before .before .before .name-of .ensures, ← c .before .before .size-of .ensures) (c .before .field-in .ensures)) (c .field-type .ensures)
+
+pub enclose-field-spec : {M : Type 1} → statement M
+enclose-field-spec =
+    tie.close
+    (tie.spec
+    name-of-requires
+    cast-field-in
+    size-of-requires
+    cast-field-in-2
+    field-in-requires
+    field-type-requires
+    mul-inside
+    slice-write-inside
+    mul-at
+    slice-write-at
+    mul-to
+    slice-write-to
+    same-length
+    same-length-2
+    same-length-3
+    returns)

@@ -1,0 +1,110 @@
+-- By the row's kind.
+use mathlib.Core.Path.{_≡_, sym, ap, _∙_}
+use native.Mathlib.Omega.{arith}
+use borrow.Author.Tests.{not-true, not-false}
+use Rattle.paper_table.specs.Types.{tableOf}
+use Rattle.paper_query.specs.Enclosing.{enclosing}
+use Rattle.query_rows.specs.Rowed.{rowIn, docOf}
+use Rattle.query_rows.proofs.RowsIn.{rowed-sized}
+use Rattle.query_rows.proofs.Rooms.{room-enough}
+use Rattle.query_types.specs.Coded.{typeCoded}
+use Rattle.query_inside.specs.Enclosed.{encloses}
+use Rattle.query_inside.proofs.EnclosedLaws.{kept-above, enclosed-skip, enclosed-type}
+use borrow.Author.Needs.{needs}
+use Rattle.query_inside.proofs.enclose_row.Statement.{statement}
+use Rattle.query_inside.proofs.enclose_row.Tie as tie
+
+tested : (c : tie.After-encloses)
+    → c .encloses .result ≡ encloses (rowIn (c .before .before .before .before .before .before .before .before .before .before .before .args .rows .now) (c .before .before .before .before .before .before .before .before .before .before .before .args .n) (c .before .before .before .before .before .before .before .before .before .before .before .args .i) .kind)
+tested c =
+    c .encloses .ensures ∙ ap encloses (c .before .kind-of .ensures)
+
+above : (c : tie.After-type-inside)
+    → enclosing (tableOf (c .before .before .before .before .before .before .before .before .before .before .before .before .before .before .before .args .t .now)) (docOf (c .before .before .before .before .before .before .before .before .before .before .before .before .before .before .before .args .s .now) (c .before .before .before .before .before .before .before .before .before .before .before .before .before .before .before .args .rows .now) (c .before .before .before .before .before .before .before .before .before .before .before .before .before .before .before .args .n)) (c .before .before .before .before .before .before .before .before .before .before .before .before .before .before .before .args .i) ≡ typeCoded (c .type-inside .result)
+above c =
+    let a = c .before .before .before .before .before .before .before .before .before .before .before .before .before .before .before .args in
+    let g = c .before .before .before .before .before .before .before .before .before .before .before .before .before .before .before .pre in
+    kept-above (a .t .now) (a .s .now) (a .rows .now) (a .n) (g .0 .rowed) (g .1) (a .i) _ (g .2) (omega arith) (c .before .parent-of .ensures) ∙ ap typeCoded (sym (c .type-inside .ensures))
+
+kind-of-requires : tie.Need-kind-of-requires
+kind-of-requires c κs = rowed-sized (c .before .before .before .before .before .before .before .before .before .pre .0 .rowed)
+
+encloses-requires : tie.Need-encloses-requires
+encloses-requires c κs = search needs
+
+returns : tie.Need-returns
+returns c =
+    let a = c .before .before .before .before .before .before .before .before .before .before .before .before .args in
+    let g = c .before .before .before .before .before .before .before .before .before .before .before .before .pre in
+    enclosed-skip (a .t .now) (a .s .now) (a .rows .now) (a .n) (g .0 .rowed) (a .i) (g .2) (a .inside .now) (a .at .now) (a .to .now) (g .1) (sym (tested (c .before)) ∙ not-true _ (c .if1 .taken))
+
+parent-of-requires : tie.Need-parent-of-requires
+parent-of-requires c κs = rowed-sized (c .before .before .before .before .before .before .before .before .before .before .before .before .before .pre .0 .rowed)
+
+cast-type-inside : tie.Need-cast-type-inside
+cast-type-inside c = search needs
+
+type-inside-requires : tie.Need-type-inside-requires
+type-inside-requires c κs =
+    let g = c .before .before .before .before .before .before .before .before .before .before .before .before .before .before .pre in
+    (rowed-sized (g .0 .rowed), g .1 .inners)
+
+enclose-field-requires : tie.Need-enclose-field-requires
+enclose-field-requires c κs =
+    let g = c .before .before .before .before .before .before .before .before .before .before .before .before .before .before .before .before .before .before .before .pre in
+    (g .0 .booked, g .0 .fielded, g .0 .rowed, g .1, g .2, sym (c .before .before .before .before .before .before .before .before .before .kind-of .ensures) ∙ c .before .before .before .if2 .taken, above (c .before .before .before .before))
+
+same-length : tie.Need-same-length
+same-length c = search needs
+
+same-length-2 : tie.Need-same-length-2
+same-length-2 c = search needs
+
+same-length-3 : tie.Need-same-length-3
+same-length-3 c = search needs
+
+returns-2 : tie.Need-returns-2
+returns-2 c = search needs
+
+other-type-requires : tie.Need-other-type-requires
+other-type-requires c κs =
+    let g = c .before .before .before .before .before .before .before .before .before .before .before .before .before .before .before .before .pre in
+    (g .0, g .2, sym (tested (c .before .before .before .before .before)) ∙ not-false _ (c .before .before .before .before .if1 .left), λ z. c .if2 .left (c .before .before .before .before .before .before .kind-of .ensures ∙ z))
+
+mul-inside : tie.Need-mul-inside
+mul-inside c = search needs
+
+slice-write-inside : tie.Need-slice-write-inside
+slice-write-inside c =
+    let g = c .before .before .before .before .before .before .before .before .before .before .before .before .before .before .before .before .before .pre in
+    omega (arith, g .1 .inners, g .2, room-enough _ (g .0 .rowed .few))
+
+same-length-4 : tie.Need-same-length-4
+same-length-4 c = search needs
+
+returns-3 : tie.Need-returns-3
+returns-3 c =
+    let a = c .before .before .before .before .before .before .before .before .before .before .before .before .before .before .before .before .before .args in
+    let g = c .before .before .before .before .before .before .before .before .before .before .before .before .before .before .before .before .before .pre in
+    enclosed-type (a .t .now) (a .s .now) (a .rows .now) (a .n) (g .0 .rowed) (a .i) (g .2) (a .inside .now) (a .at .now) (a .to .now) (g .1) (c .other-type .result) (c .before .before .type-inside .result) (λ z. c .before .if2 .left (c .before .before .before .before .before .before .before .kind-of .ensures ∙ z)) (above (c .before .before)) (c .other-type .ensures)
+
+pub enclose-row-spec : {M : Type 1} → statement M
+enclose-row-spec =
+    tie.close
+    (tie.spec
+    kind-of-requires
+    encloses-requires
+    returns
+    parent-of-requires
+    cast-type-inside
+    type-inside-requires
+    enclose-field-requires
+    same-length
+    same-length-2
+    same-length-3
+    returns-2
+    other-type-requires
+    mul-inside
+    slice-write-inside
+    same-length-4
+    returns-3)

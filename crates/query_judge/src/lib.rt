@@ -1,0 +1,199 @@
+// Judges a document that was read against an accepted table: makes all ready that the rules ask of it, then judges its rows.
+// What is lent mutably is scratch. It is made at once, with room for few rows where there are few: less is cleared then.
+use paper_query::QueryAnswer;
+ghost use mathlib.Core.Path.{_≡_};
+ghost use Prim.Native.Nat.{_≤_, _<_};
+ghost use lib.ListN.{length};
+ghost use Rattle.paper_table.specs.TableNumbers.{mostTable};
+ghost use Rattle.paper_table.specs.Types.{tableOf};
+ghost use Rattle.paper_table.specs.Judging.{judge};
+ghost use Rattle.paper_table.specs.declared.TableAnswer.the-variants.{Accepted};
+ghost use Rattle.table_types.specs.Booked.{Booked};
+ghost use Rattle.paper_query.specs.QueryRules.{Judged};
+ghost use Rattle.query_rows.specs.Rowed.{rowsIn, docOf, Rowed, fewRows, roomOf};
+ghost use Rattle.query_links.specs.Links.{Kinds};
+ghost use Rattle.query_inside.specs.Enclosed.{Asked};
+ghost use Rattle.query_due_types.specs.Dues.{Fitted};
+ghost use Rattle.query_places.specs.Placed.{Placed};
+
+// How many rows there may be, up to how many there are few, how many firsts are linked, of a row or of none; how many kinds.
+const ROWS: usize = 2048;
+
+const FEW_ROWS: usize = 256;
+
+const FIRSTS: usize = 2049;
+
+const KINDS: usize = 32;
+
+// Finds where spreads lead, flags what breaks the rules that speak of paths, and judges the rows.
+fn judge_placed(
+    t: &[u8],
+    book: &[u32],
+    s: &[u8],
+    rows: &[u32],
+    n: usize,
+    first: &[u32],
+    next: &[u32],
+    firstk: &[u32],
+    nextk: &[u32],
+    inside: &[u32],
+    at: &[u32],
+    to: &[u32],
+    target: &mut [u32],
+    flags: &mut [u32],
+) -> QueryAnswer
+    requires { ⌜ (length (now t) ≤ mostTable) × Asked (now t) (now book) (now s) (now rows) n (now first) (now next) × Kinds (rowsIn (now rows) n) (now firstk) (now nextk) × Placed (now t) (now s) (now rows) n (now at) (now to) (now inside) n × (length (now target) ≡ roomOf n) × (length (now flags) ≡ roomOf n) ⌝ }
+    ensures { λ r. ⌜ Judged (tableOf (now (t .entry))) (docOf (now (s .entry)) (now (rows .entry)) n) r ⌝ }
+{
+    query_spreads::targets(s, rows, n, firstk, nextk, target);
+    query_path_flags::flags(
+        t,
+        s,
+        rows,
+        n,
+        first,
+        next,
+        firstk,
+        nextk,
+        at,
+        to,
+        inside,
+        target,
+        flags,
+    );
+    query_first_break::judge_rows(
+        t,
+        book,
+        s,
+        rows,
+        n,
+        first,
+        next,
+        firstk,
+        nextk,
+        inside,
+        at,
+        to,
+        target,
+        flags,
+    )
+}
+
+// Finds the types inside rows and the types due at places, and judges the rows.
+fn judge_linked(
+    t: &[u8],
+    book: &[u32],
+    s: &[u8],
+    rows: &[u32],
+    n: usize,
+    first: &[u32],
+    next: &[u32],
+    firstk: &[u32],
+    nextk: &[u32],
+    inside: &mut [u32],
+    at: &mut [u32],
+    to: &mut [u32],
+    target: &mut [u32],
+    flags: &mut [u32],
+) -> QueryAnswer
+    requires { ⌜ (length (now t) ≤ mostTable) × Fitted (now t) × Asked (now t) (now book) (now s) (now rows) n (now first) (now next) × Kinds (rowsIn (now rows) n) (now firstk) (now nextk) × (length (now inside) ≡ roomOf n) × (length (now at) ≡ roomOf n) × (length (now to) ≡ roomOf n) × (length (now target) ≡ roomOf n) × (length (now flags) ≡ roomOf n) ⌝ }
+    ensures { λ r. ⌜ Judged (tableOf (now (t .entry))) (docOf (now (s .entry)) (now (rows .entry)) n) r ⌝ }
+{
+    query_inside::enclose(t, book, s, rows, n, first, next, inside, at, to);
+    query_places::places(t, book, s, rows, n, at, to, inside);
+    judge_placed(
+        t,
+        book,
+        s,
+        rows,
+        n,
+        first,
+        next,
+        firstk,
+        nextk,
+        inside,
+        at,
+        to,
+        target,
+        flags,
+    )
+}
+
+// Links and judges few rows, in room for few.
+fn judge_few(t: &[u8], book: &[u32], s: &[u8], rows: &[u32], n: usize) -> QueryAnswer
+    requires { ⌜ (length (now t) ≤ mostTable) × Fitted (now t) × Booked (now t) (now book) × Rowed (now s) (now rows) n × (n ≤ fewRows) ⌝ }
+    ensures { λ r. ⌜ Judged (tableOf (now (t .entry))) (docOf (now (s .entry)) (now (rows .entry)) n) r ⌝ }
+{
+    let mut first = [0u32; FIRSTS];
+    let mut next = [0u32; FEW_ROWS];
+    let mut firstk = [0u32; KINDS];
+    let mut nextk = [0u32; FEW_ROWS];
+    let mut inside = [0u32; FEW_ROWS];
+    let mut at = [0u32; FEW_ROWS];
+    let mut to = [0u32; FEW_ROWS];
+    let mut target = [0u32; FEW_ROWS];
+    let mut flags = [0u32; FEW_ROWS];
+    query_links::families(s, rows, n, &mut first, &mut next);
+    query_links::kinds(rows, n, &mut firstk, &mut nextk);
+    judge_linked(
+        t,
+        book,
+        s,
+        rows,
+        n,
+        &first,
+        &next,
+        &firstk,
+        &nextk,
+        &mut inside,
+        &mut at,
+        &mut to,
+        &mut target,
+        &mut flags,
+    )
+}
+
+// Links and judges more rows than few.
+fn judge_many(t: &[u8], book: &[u32], s: &[u8], rows: &[u32], n: usize) -> QueryAnswer
+    requires { ⌜ (length (now t) ≤ mostTable) × Fitted (now t) × Booked (now t) (now book) × Rowed (now s) (now rows) n × (fewRows < n) ⌝ }
+    ensures { λ r. ⌜ Judged (tableOf (now (t .entry))) (docOf (now (s .entry)) (now (rows .entry)) n) r ⌝ }
+{
+    let mut first = [0u32; FIRSTS];
+    let mut next = [0u32; ROWS];
+    let mut firstk = [0u32; KINDS];
+    let mut nextk = [0u32; ROWS];
+    let mut inside = [0u32; ROWS];
+    let mut at = [0u32; ROWS];
+    let mut to = [0u32; ROWS];
+    let mut target = [0u32; ROWS];
+    let mut flags = [0u32; ROWS];
+    query_links::families(s, rows, n, &mut first, &mut next);
+    query_links::kinds(rows, n, &mut firstk, &mut nextk);
+    judge_linked(
+        t,
+        book,
+        s,
+        rows,
+        n,
+        &first,
+        &next,
+        &firstk,
+        &nextk,
+        &mut inside,
+        &mut at,
+        &mut to,
+        &mut target,
+        &mut flags,
+    )
+}
+
+// What is said of a document that was read, against an accepted table.
+pub fn first_break(t: &[u8], book: &[u32], s: &[u8], rows: &[u32], n: usize) -> QueryAnswer
+    requires { ⌜ (length (now t) ≤ mostTable) × (judge (now t) ≡ Accepted) × Booked (now t) (now book) × Rowed (now s) (now rows) n ⌝ }
+    ensures { λ r. ⌜ Judged (tableOf (now (t .entry))) (docOf (now (s .entry)) (now (rows .entry)) n) r ⌝ }
+{
+    if n <= FEW_ROWS {
+        return judge_few(t, book, s, rows, n);
+    }
+    judge_many(t, book, s, rows, n)
+}

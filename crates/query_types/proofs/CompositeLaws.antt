@@ -1,0 +1,77 @@
+-- Objects, interfaces and unions, by the book of a table.
+use mathlib.Core.Path.{_≡_, refl, sym, ap, _∙_}
+use mathlib.Core.Bool.{Bool, true, false, _&&_, true≢false}
+use mathlib.Core.Option.{Option, none}
+use mathlib.Core.List.{List}
+use Prim.Native.Nat.{ℕ, _+_, _≤_, _<_}
+use native.Mathlib.Numerals.{add-one}
+use native.Mathlib.Decide.{decLt}
+use native.Mathlib.Omega.{arith}
+use lib.ListN.{List·getD-eq-default}
+use lib.Dec.{leb}
+use borrow.Author.Tests.{le-leb, lt-leb, lt-ltb, le-ltb}
+use Rattle.paper_table.specs.TableNumbers.{tagObject, tagUnion}
+use Rattle.paper_table.specs.Types.{Definition, Meaning, builtIn, nothing, definition, meaning, tableOf, blank, tagNothing}
+use Rattle.paper_table.specs.Rules.{isComposite}
+use Rattle.paper_query.specs.Enclosing.{definitionAt, ifComposite, compositeOf}
+use Rattle.table_book.specs.Book.{countIn, room}
+use Rattle.table_types.specs.Booked.{Booked, spoken, kindIn}
+use Rattle.query_types.specs.Coded.{typeCoded}
+
+-- the tag of an object, interface or union
+pub output-low : (tag : ℕ) → tag < tagObject → false ≡ leb tagObject tag && leb tag tagUnion
+output-low tag h = rw (lt-leb tagObject tag h)
+
+pub output-high : (tag : ℕ) {r : Bool} → tagObject ≤ tag → r ≡ leb tag tagUnion → r ≡ leb tagObject tag && leb tag tagUnion
+output-high tag h e = rw (le-leb tagObject tag h) e
+
+module _ (t book : List ℕ) (b : Booked t book) where
+  -- definition k's tag; none behind the last
+  pub kind-is : (k : ℕ) → kindIn book k ≡ definitionAt (tableOf t) k .tag
+  kind-is k = go (decLt k (countIn book))
+    where
+      go : Dec (k < countIn book) → kindIn book k ≡ definitionAt (tableOf t) k .tag
+      go (yes h) = rw (lt-ltb k (countIn book) h) (sym (ap (λ (d : Definition). d .tag) (b .entered k h .is)))
+      go (no h) =
+          let n : countIn book ≤ k = omega arith in
+          rw (le-ltb k (countIn book) n) (sym (ap (λ (d : Definition). d .tag) (List·getD-eq-default (tableOf t) (blank tagNothing) (omega (arith, b .count)))))
+
+  -- an object, interface or union is a definition of the table
+  pub output-below : (k : ℕ) → isComposite (definitionAt (tableOf t) k) ≡ true → k < countIn book
+  output-below k e = go (decLt k (countIn book))
+    where
+      go : Dec (k < countIn book) → k < countIn book
+      go (yes h) = h
+      go (no h) =
+          let q : definitionAt (tableOf t) k ≡ blank tagNothing = List·getD-eq-default (tableOf t) (blank tagNothing) (omega (arith, b .count)) in
+          absurd (true≢false (sym e ∙ ap isComposite q))
+
+  module _ (k : ℕ) {r : Bool} (e : r ≡ leb tagObject (kindIn book k) && leb (kindIn book k) tagUnion) where
+    is-output : r ≡ isComposite (definitionAt (tableOf t) k)
+    is-output = e ∙ ap (λ (x : ℕ). leb tagObject x && leb x tagUnion) (kind-is k)
+
+    pub kind-few : r ≡ true → k < room
+    kind-few q = let h = output-below k (sym is-output ∙ q) in omega (arith, h, b .indexed .held .most)
+
+    pub composite-yes : r ≡ true → typeCoded (k + 1) ≡ ifComposite (tableOf t) (definition k)
+    composite-yes q = rw (add-one k, sym is-output ∙ q)
+
+    pub composite-no : r ≡ false → none ≡ ifComposite (tableOf t) (definition k)
+    composite-no q = rw (sym is-output ∙ q)
+
+-- by what a name means
+module _ (t n : List ℕ) where
+  means : (m k : Meaning) → spoken k ≡ spoken m → m ≡ k
+  means builtIn builtIn e = refl
+  means builtIn nothing e = absurd (true≢false cc)
+  means builtIn (definition k) e = absurd (true≢false cc)
+  means nothing builtIn e = absurd (true≢false cc)
+  means nothing nothing e = refl
+  means nothing (definition k) e = absurd (true≢false cc)
+  means (definition i) builtIn e = absurd (true≢false cc)
+  means (definition i) nothing e = absurd (true≢false cc)
+  means (definition i) (definition k) e = let z : i ≡ k = cc in ap definition z
+
+  pub composite-by : (k : Meaning) {r : Option ℕ} → spoken k ≡ spoken (meaning (tableOf t) n) → r ≡ ifComposite (tableOf t) k → r ≡ compositeOf (tableOf t) n
+  unfolding compositeOf
+  composite-by k e f = f ∙ ap (ifComposite (tableOf t)) (sym (means (meaning (tableOf t) n) k e))

@@ -1,0 +1,52 @@
+-- What the tests of members and arguments say, case by case.
+use mathlib.Core.Path.{_≡_, refl, sym, ap, _∙_}
+use mathlib.Core.Bool.{Bool, true, false, _||_}
+use mathlib.Core.List.{List}
+use Prim.Native.Nat.{ℕ, _≤_, _<_}
+use lib.Seq.{slice}
+use lib.Dec.{leb, eqb}
+use borrow.Author.Tests.{eq-eqb, ne-eqb, le-leb, lt-leb}
+use Rattle.paper_table.specs.TableNumbers.{tagField, tagArgument}
+use Rattle.paper_table.specs.Types.{tableOf, typeIn, nameOnly}
+use Rattle.paper_table.specs.Rules.{baseMeant, memberUnknown, memberBaseWrong}
+use Rattle.table_members.specs.Members.{fieldsIn, memberFrom}
+use Rattle.table_bases.specs.Meanings.{isOutputTag}
+
+pub output-low : (k : ℕ) → k < 2 → false ≡ isOutputTag k
+output-low k h = sym (rw (lt-leb 2 k h) refl)
+
+pub output-high : (k : ℕ) → 2 ≤ k → leb k 4 ≡ isOutputTag k
+output-high k h = sym (rw (le-leb 2 k h) refl)
+
+-- rules 7 and 8, by the member's tag
+module _ (t : List ℕ) (tag start end b : ℕ) (e : b ≡ baseMeant (tableOf t) (typeIn (fieldsIn t start end)) .tag) where
+  pub unknown-field : tag ≡ tagField → eqb b 0 ≡ memberUnknown (tableOf t) 0 (memberFrom t tag start end)
+  unfolding memberFrom
+  unknown-field k = sym (rw (eq-eqb tag tagField k, ← e) refl)
+
+  pub unknown-input : (tag ≡ tagField → ⊥) → tag ≡ tagArgument → eqb b 0 ≡ memberUnknown (tableOf t) 0 (memberFrom t tag start end)
+  unfolding memberFrom
+  unknown-input n k = sym (rw (ne-eqb tag tagField n, eq-eqb tag tagArgument k, ← e) refl)
+
+  pub wrong-field : tag ≡ tagField → eqb b 6 ≡ memberBaseWrong (tableOf t) 0 (memberFrom t tag start end)
+  unfolding memberFrom
+  wrong-field k = sym (rw (eq-eqb tag tagField k, ← e) (or-none (eqb b 6)))
+    where
+      or-none : (q : Bool) → (q || false) ≡ q
+      or-none true = refl
+      or-none false = refl
+
+  pub wrong-input : (tag ≡ tagField → ⊥) → tag ≡ tagArgument → isOutputTag b ≡ memberBaseWrong (tableOf t) 0 (memberFrom t tag start end)
+  unfolding memberFrom
+  wrong-input n k = sym (rw (ne-eqb tag tagField n, eq-eqb tag tagArgument k, ← e) refl)
+
+module _ (t : List ℕ) (tag start end : ℕ) (f : tag ≡ tagField → ⊥) (g : tag ≡ tagArgument → ⊥) where
+  named-only : memberFrom t tag start end ≡ nameOnly tag (slice start end t)
+  unfolding memberFrom
+  named-only = rw (ne-eqb tag tagField f, ne-eqb tag tagArgument g) refl
+
+  pub unknown-other : false ≡ memberUnknown (tableOf t) 0 (memberFrom t tag start end)
+  unknown-other = sym (ap (memberUnknown (tableOf t) 0) named-only ∙ rw (ne-eqb tag tagField f, ne-eqb tag tagArgument g) refl)
+
+  pub wrong-other : false ≡ memberBaseWrong (tableOf t) 0 (memberFrom t tag start end)
+  wrong-other = sym (ap (memberBaseWrong (tableOf t) 0) named-only ∙ rw (ne-eqb tag tagField f, ne-eqb tag tagArgument g) refl)

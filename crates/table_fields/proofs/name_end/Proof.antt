@@ -1,0 +1,60 @@
+-- From each byte on the name's bytes end at one place.
+use borrow.Author.Needs.{needs}
+use mathlib.Core.Path.{_≡_, refl, sym, ap, _∙_}
+use mathlib.Core.Bool.{Bool, not}
+use Prim.Native.Nat.{ℕ, _+_, _-_, _≤_}
+use native.Mathlib.Omega.{arith}
+use lib.Seq.{slice}
+use Rattle.paper.specs.Lexical.{letterOrDigit, oneOf}
+use Rattle.paper_table.specs.References.{nameSize}
+use Rattle.table_fields.proofs.NameLaws.{run-more, run-stop, run-end}
+use Rattle.table_fields.proofs.name_end.Statement.{statement}
+use Rattle.table_fields.proofs.name_end.Tie as tie
+
+abbrev Inv-loop : tie.InvT-loop
+Inv-loop t start end i₀ i = (i + nameSize (slice i end t) ≡ start + nameSize (slice start end t)) × (start ≤ i) × (i ≤ end)
+
+abbrev μ-loop : tie.MeasureT-loop
+μ-loop t start end i₀ i = end - i
+
+abbrev noName : ℕ → Bool
+noName b = not (oneOf letterOrDigit b)
+
+loop-holds : tie.Need-loop-holds Inv-loop μ-loop
+loop-holds c = (refl, omega arith, c .before .pre .order)
+
+shared-slice-read-is-name-byte : tie.Need-shared-slice-read-is-name-byte Inv-loop μ-loop
+shared-slice-read-is-name-byte c = search needs
+
+is-name-byte-requires : tie.Need-is-name-byte-requires Inv-loop μ-loop
+is-name-byte-requires c κs = search needs
+
+returns : tie.Need-returns Inv-loop μ-loop
+returns c = run-stop noName (c .before .before .before .before .before .before .args .t .now) (c .before .before .before .before .loop .i) (c .before .before .before .before .before .before .args .end) (c .before .before .before .before .before .before .pre .within) (c .before .before .before .loop-test .taken) (ap not (sym (c .before .is-name-byte .ensures)) ∙ c .if1 .taken) ∙ c .before .before .before .before .loop .inv .0
+
+add-i : tie.Need-add-i Inv-loop μ-loop
+add-i c = search needs
+
+loop-less : tie.Need-loop-less Inv-loop μ-loop
+loop-less c = search needs
+
+loop-again : tie.Need-loop-again Inv-loop μ-loop
+loop-again c = (run-more noName (c .before .before .before .before .before .before .args .t .now) (c .before .before .before .before .loop .i) (c .before .before .before .before .before .before .args .end) (c .before .before .before .before .before .before .pre .within) (c .before .before .before .loop-test .taken) (ap not (sym (c .before .is-name-byte .ensures)) ∙ c .if1 .left) ∙ c .before .before .before .before .loop .inv .0, omega arith, omega arith)
+
+returns-2 : tie.Need-returns-2 Inv-loop μ-loop
+returns-2 c = run-end noName (c .before .before .before .args .t .now) (c .before .loop .i) (c .before .before .before .args .end) (c .before .before .before .pre .within) (c .loop-test .left) ∙ c .before .loop .inv .0
+
+pub name-end-spec : {M : Type 1} → statement M
+name-end-spec =
+    tie.close
+    (tie.spec
+    Inv-loop
+    μ-loop
+    loop-holds
+    shared-slice-read-is-name-byte
+    is-name-byte-requires
+    returns
+    add-i
+    loop-less
+    loop-again
+    returns-2)

@@ -1,0 +1,96 @@
+-- One record more at each turn, and what comes decides.
+use borrow.Author.Needs.{needs}
+use mathlib.Core.Path.{_≡_, sym, _∙_}
+use Prim.Native.Nat.{_-_}
+use native.Mathlib.Omega.{arith}
+use native.Mathlib.Nat.{le-refl}
+use lib.ListN.{length}
+use Rattle.table_fields.specs.declared.FieldRead.the-variants.{Field}
+use Rattle.table_fields.specs.Fields.{fieldAt}
+use Rattle.table_fields.proofs.FieldLaws.{Lies, field-lies}
+use Rattle.table_sizes.proofs.CountLaws.{Recording, recording-start, recording-end, recording-torn, recording-over, recording-inside, recording-on}
+use Rattle.table_sizes.proofs.over.Statement.{statement}
+use Rattle.table_sizes.proofs.over.Tie as tie
+
+abbrev Inv-loop : tie.InvT-loop
+Inv-loop t left₀ i₀ left i = Recording t left i
+
+abbrev μ-loop : tie.MeasureT-loop
+μ-loop t left₀ i₀ left i = length t - i
+
+read : (c : tie.After-k Inv-loop μ-loop)
+    → fieldAt (c .before .before .before .before .before .before .args .t .now) (c .before .before .before .before .loop .i) (length (c .before .before .before .before .before .before .args .t .now)) ≡ Field (c .k .given .0 .0) (c .k .given .0 .1 .0) (c .k .given .0 .1 .1 .0)
+read c =
+    sym (c .before .before .read-field .ensures) ∙ c .k .given .1
+
+lies : (c : tie.After-k Inv-loop μ-loop)
+    → Lies (c .before .before .before .before .loop .i) (length (c .before .before .before .before .before .before .args .t .now)) (c .k .given .0 .1 .0) (c .k .given .0 .1 .1 .0)
+lies c =
+    field-lies (c .before .before .before .before .before .before .args .t .now) (c .before .before .before .before .loop .i) (length (c .before .before .before .before .before .before .args .t .now)) _ _ _ (c .before .before .before .before .loop .inv .order) (read c)
+
+loop-holds : tie.Need-loop-holds Inv-loop μ-loop
+loop-holds c = recording-start (c .before .args .t .now)
+
+read-field-requires : tie.Need-read-field-requires Inv-loop μ-loop
+read-field-requires c κs = record { order = c .before .loop .inv .order; within = le-refl (length (c .before .before .before .args .t .now)); most = c .before .before .before .pre }
+
+enum-known-k : tie.Need-enum-known-k Inv-loop μ-loop
+enum-known-k c = search needs
+
+enum-told : tie.Need-enum-told Inv-loop μ-loop
+enum-told c = search needs
+
+returns : tie.Need-returns Inv-loop μ-loop
+returns c = recording-torn (c .before .before .before .before .before .before .args .t .now) _ (c .before .before .before .before .loop .i) (c .before .before .before .before .loop .inv) (c .before .before .before .loop-test .taken) (sym (c .before .before .read-field .ensures) ∙ c .enum-told .given .1)
+
+is-record-requires : tie.Need-is-record-requires Inv-loop μ-loop
+is-record-requires c κs = search needs
+
+cast-t11 : tie.Need-cast-t11 Inv-loop μ-loop
+cast-t11 c = omega (arith, c .before .before .before .before .before .before .before .loop .inv .order, c .before .before .before .before .before .before .before .before .before .pre)
+
+returns-2 : tie.Need-returns-2 Inv-loop μ-loop
+returns-2 c = recording-over (c .before .before .before .before .before .before .before .before .before .args .t .now) _ (c .before .before .before .before .before .before .before .loop .i) (c .before .before .before .before .before .before .before .loop .inv) (c .before .before .before .before .before .before .loop-test .taken) _ _ _ (read ((c .before .before .before))) _ (c .before .is-record .ensures) (c .if1 .taken)
+
+first-over-requires : tie.Need-first-over-requires Inv-loop μ-loop
+first-over-requires c κs = let l = lies ((c .before .before .before)) in record { order = omega (arith, l .begins, l .order); within = l .within; most = c .before .before .before .before .before .before .before .before .before .pre }
+
+enum-told-2 : tie.Need-enum-told-2 Inv-loop μ-loop
+enum-told-2 c = search needs
+
+enum-told-3 : tie.Need-enum-told-3 Inv-loop μ-loop
+enum-told-3 c = search needs
+
+returns-3 : tie.Need-returns-3 Inv-loop μ-loop
+returns-3 c = recording-inside (c .before .before .before .before .before .before .before .before .before .before .before .before .args .t .now) _ (c .before .before .before .before .before .before .before .before .before .before .loop .i) (c .before .before .before .before .before .before .before .before .before .before .loop .inv) (c .before .before .before .before .before .before .before .before .before .loop-test .taken) _ _ _ (read ((c .before .before .before .before .before .before))) _ (c .before .before .before .before .is-record .ensures) (c .before .before .before .if1 .left) _ _ (c .before .before .first-over .ensures) (c .enum-told3 .given .1)
+
+loop-less : tie.Need-loop-less Inv-loop μ-loop
+loop-less c = let l = lies ((c .before .before .before .before .before .before)) in omega (arith, l .begins, l .order, l .within, c .before .before .before .before .before .before .before .before .before .loop-test .taken)
+
+loop-again : tie.Need-loop-again Inv-loop μ-loop
+loop-again c = recording-on (c .before .before .before .before .before .before .before .before .before .before .before .before .args .t .now) _ (c .before .before .before .before .before .before .before .before .before .before .loop .i) (c .before .before .before .before .before .before .before .before .before .before .loop .inv) (c .before .before .before .before .before .before .before .before .before .loop-test .taken) _ _ _ (read ((c .before .before .before .before .before .before))) _ (c .before .before .before .before .is-record .ensures) (c .before .before .before .if1 .left) _ (c .before .before .first-over .ensures) (c .enum-told2 .given .1)
+
+returns-4 : tie.Need-returns-4 Inv-loop μ-loop
+returns-4 c = recording-end (c .before .before .before .args .t .now) _ (c .before .loop .i) (c .before .loop .inv) (c .loop-test .left)
+
+pub over-spec : {M : Type 1} → statement M
+over-spec =
+    tie.close
+    (tie.spec
+    Inv-loop
+    μ-loop
+    loop-holds
+    read-field-requires
+    enum-known-k
+    enum-told
+    returns
+    is-record-requires
+    cast-t11
+    returns-2
+    first-over-requires
+    enum-told-2
+    enum-told-3
+    returns-3
+    loop-less
+    loop-again
+    returns-4)

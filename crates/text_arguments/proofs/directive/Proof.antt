@@ -1,0 +1,108 @@
+-- `directive` is the machine at Directive.
+use mathlib.Core.Path.{_∙_}
+use Rattle.text_arguments.proofs.Onward.{ready-past, next-order, next-past}
+use Rattle.text_arguments.proofs.DirectivesLaws.{directive-full, directive-room, directive-bad, directive-name, directive-nameless, directive-bad-behind, directive-ready, directive-stops, directive-read, directive-ends}
+use borrow.Author.Needs.{needs}
+use Rattle.text_arguments.proofs.directive.Statement.{statement}
+use Rattle.text_arguments.proofs.directive.Tie as tie
+
+returns : tie.Need-returns
+returns c = directive-full _ _ _ _ _ (c .before .before .before .pre .0) (c .before .before .before .pre .1) (c .if1 .taken)
+
+add-past : tie.Need-add-past
+add-past c = search needs
+
+past-requires : tie.Need-past-requires
+past-requires c κs = ready-past _ _ _ _ (c .before .before .before .pre .0)
+
+enum-known-r : tie.Need-enum-known-r
+enum-known-r c = search needs
+
+enum-told : tie.Need-enum-told
+enum-told c = search needs
+
+returns-2 : tie.Need-returns-2
+returns-2 c = rw (c .enum-told .given .1) (directive-bad _ _ _ _ _ (c .before .before .before .before .before .before .pre .0) (c .before .before .before .before .before .before .pre .1) (c .before .before .before .if1 .left) _ (c .before .before .past .ensures) _ (c .enum-told .given .1))
+
+no-going-requires : tie.Need-no-going-requires
+no-going-requires c κs = search needs
+
+returns-3 : tie.Need-returns-3
+returns-3 c = rw (c .no-going .ensures) (directive-nameless _ _ _ _ _ (c .before .before .before .before .before .before .before .before .before .before .pre .0) (c .before .before .before .before .before .before .before .before .before .before .pre .1) (c .before .before .before .before .before .before .before .if1 .left) _ (c .before .before .before .before .before .before .past .ensures) _ (c .before .before .before .before .r .given .1) (c .before .if2 .taken))
+
+sub-put-row : tie.Need-sub-put-row
+sub-put-row c = next-order _ _ _ _ (directive-name _ _ _ _ 0 (c .before .before .before .before .before .before .before .before .before .before .before .pre .0) (c .before .before .before .before .before .before .before .before .before .before .before .pre .1) (c .before .before .before .before .before .before .before .before .if1 .left) _ (c .before .before .before .before .before .before .before .past .ensures) _ (c .before .before .before .before .before .r .given .1))
+
+put-row-requires : tie.Need-put-row-requires
+put-row-requires c κs = search needs
+
+add-past-2 : tie.Need-add-past-2
+add-past-2 c = search needs
+
+past-requires-2 : tie.Need-past-requires-2
+past-requires-2 c κs = (c .before .before .before .before .before .before .before .before .before .before .before .before .before .before .pre .0 .short, next-past _ _ _ _ (directive-name _ _ _ _ 0 (c .before .before .before .before .before .before .before .before .before .before .before .before .before .before .pre .0) (c .before .before .before .before .before .before .before .before .before .before .before .before .before .before .pre .1) (c .before .before .before .before .before .before .before .before .before .before .before .if1 .left) _ (c .before .before .before .before .before .before .before .before .before .before .past .ensures) _ (c .before .before .before .before .before .before .before .before .r .given .1)))
+
+enum-known-t : tie.Need-enum-known-t
+enum-known-t c = search needs
+
+enum-told-2 : tie.Need-enum-told-2
+enum-told-2 c = search needs
+
+same-length : tie.Need-same-length
+same-length c = c .before .before .before .before .before .put-row .kept .0
+
+returns-4 : tie.Need-returns-4
+returns-4 c = rw (c .enum-told2 .given .1) (directive-bad-behind _ _ _ _ _ (c .before .before .before .before .before .before .before .before .before .before .before .before .before .before .before .before .before .pre .0) (c .before .before .before .before .before .before .before .before .before .before .before .before .before .before .before .before .before .pre .1) (c .before .before .before .before .before .before .before .before .before .before .before .before .before .before .if1 .left) _ (c .before .before .before .before .before .before .before .before .before .before .before .before .before .past .ensures) _ (c .before .before .before .before .before .before .before .before .before .before .before .r .given .1) (c .before .before .before .before .before .before .before .before .if2 .left) _ (c .before .before .before .before .before .put-row .ensures) _ (c .before .before .past2 .ensures) _ (c .enum-told2 .given .1))
+
+arguments-if-requires : tie.Need-arguments-if-requires
+arguments-if-requires c κs = directive-ready _ _ _ _ 0 (c .before .before .before .before .before .before .before .before .before .before .before .before .before .before .before .before .before .before .before .pre .0) (c .before .before .before .before .before .before .before .before .before .before .before .before .before .before .before .before .before .before .before .pre .1) (c .before .before .before .before .before .before .before .before .before .before .before .before .before .before .before .before .if1 .left) _ (c .before .before .before .before .before .before .before .before .before .before .before .before .before .before .before .past .ensures) _ (c .before .before .before .before .before .before .before .before .before .before .before .before .before .r .given .1) (c .before .before .before .before .before .before .before .before .before .before .if2 .left) _ (c .before .before .before .before .before .before .before .put-row .ensures) _ (c .before .before .before .before .past2 .ensures) _ (c .before .before .t .given .1)
+
+enum-known-u : tie.Need-enum-known-u
+enum-known-u c = search needs
+
+enum-told-3 : tie.Need-enum-told-3
+enum-told-3 c = search needs
+
+same-length-2 : tie.Need-same-length-2
+same-length-2 c = c .before .before .before .before .arguments-if .kept .1 .0 ∙ c .before .before .before .before .before .before .before .before .before .before .before .before .put-row .kept .0
+
+returns-5 : tie.Need-returns-5
+returns-5 c = rw (c .enum-told3 .given .1) (directive-stops _ _ _ _ _ (c .before .before .before .before .before .before .before .before .before .before .before .before .before .before .before .before .before .before .before .before .before .before .before .before .pre .0) (c .before .before .before .before .before .before .before .before .before .before .before .before .before .before .before .before .before .before .before .before .before .before .before .before .pre .1) (c .before .before .before .before .before .before .before .before .before .before .before .before .before .before .before .before .before .before .before .before .before .if1 .left) _ (c .before .before .before .before .before .before .before .before .before .before .before .before .before .before .before .before .before .before .before .before .past .ensures) _ (c .before .before .before .before .before .before .before .before .before .before .before .before .before .before .before .before .before .before .r .given .1) (c .before .before .before .before .before .before .before .before .before .before .before .before .before .before .before .if2 .left) _ (c .before .before .before .before .before .before .before .before .before .before .before .before .put-row .ensures) _ (c .before .before .before .before .before .before .before .before .before .past2 .ensures) _ (c .before .before .before .before .before .before .before .t .given .1) _ _ (c .before .before .before .before .arguments-if .ensures) _ (c .enum-told3 .given .1))
+
+put-end-requires : tie.Need-put-end-requires
+put-end-requires c κs = (directive-room _ _ _ _ 0 (c .before .before .before .before .before .before .before .before .before .before .before .before .before .before .before .before .before .before .before .before .before .before .before .before .before .before .pre .0) (c .before .before .before .before .before .before .before .before .before .before .before .before .before .before .before .before .before .before .before .before .before .before .before .before .before .before .pre .1) (c .before .before .before .before .before .before .before .before .before .before .before .before .before .before .before .before .before .before .before .before .before .before .before .if1 .left), directive-read _ _ _ _ _ (c .before .before .before .before .before .before .before .before .before .before .before .before .before .before .before .before .before .before .before .before .before .before .before .before .before .before .pre .0) (c .before .before .before .before .before .before .before .before .before .before .before .before .before .before .before .before .before .before .before .before .before .before .before .before .before .before .pre .1) (c .before .before .before .before .before .before .before .before .before .before .before .before .before .before .before .before .before .before .before .before .before .before .before .if1 .left) _ (c .before .before .before .before .before .before .before .before .before .before .before .before .before .before .before .before .before .before .before .before .before .before .past .ensures) _ (c .before .before .before .before .before .before .before .before .before .before .before .before .before .before .before .before .before .before .before .before .r .given .1) (c .before .before .before .before .before .before .before .before .before .before .before .before .before .before .before .before .before .if2 .left) _ (c .before .before .before .before .before .before .before .before .before .before .before .before .before .before .put-row .ensures) _ (c .before .before .before .before .before .before .before .before .before .before .before .past2 .ensures) _ (c .before .before .before .before .before .before .before .before .before .t .given .1) _ _ (c .before .before .before .before .before .before .arguments-if .ensures) _ (c .before .before .u .given .1) .size)
+
+same-length-3 : tie.Need-same-length-3
+same-length-3 c = c .before .before .put-end .kept .0 ∙ c .before .before .before .before .before .before .before .before .before .arguments-if .kept .1 .0 ∙ c .before .before .before .before .before .before .before .before .before .before .before .before .before .before .before .before .before .put-row .kept .0
+
+returns-6 : tie.Need-returns-6
+returns-6 c = directive-ends _ _ _ _ _ (c .before .before .before .before .before .before .before .before .before .before .before .before .before .before .before .before .before .before .before .before .before .before .before .before .before .before .before .before .before .pre .0) (c .before .before .before .before .before .before .before .before .before .before .before .before .before .before .before .before .before .before .before .before .before .before .before .before .before .before .before .before .before .pre .1) (c .before .before .before .before .before .before .before .before .before .before .before .before .before .before .before .before .before .before .before .before .before .before .before .before .before .before .if1 .left) _ (c .before .before .before .before .before .before .before .before .before .before .before .before .before .before .before .before .before .before .before .before .before .before .before .before .before .past .ensures) _ (c .before .before .before .before .before .before .before .before .before .before .before .before .before .before .before .before .before .before .before .before .before .before .before .r .given .1) (c .before .before .before .before .before .before .before .before .before .before .before .before .before .before .before .before .before .before .before .before .if2 .left) _ (c .before .before .before .before .before .before .before .before .before .before .before .before .before .before .before .before .before .put-row .ensures) _ (c .before .before .before .before .before .before .before .before .before .before .before .before .before .before .past2 .ensures) _ (c .before .before .before .before .before .before .before .before .before .before .before .before .t .given .1) _ _ (c .before .before .before .before .before .before .before .before .before .arguments-if .ensures) _ (c .before .before .before .before .before .u .given .1) _ (c .before .before .put-end .ensures)
+
+pub directive-spec : {M : Type 1} → statement M
+directive-spec =
+    tie.close
+    (tie.spec
+    returns
+    add-past
+    past-requires
+    enum-known-r
+    enum-told
+    returns-2
+    no-going-requires
+    returns-3
+    sub-put-row
+    put-row-requires
+    add-past-2
+    past-requires-2
+    enum-known-t
+    enum-told-2
+    same-length
+    returns-4
+    arguments-if-requires
+    enum-known-u
+    enum-told-3
+    same-length-2
+    returns-5
+    put-end-requires
+    same-length-3
+    returns-6)

@@ -1,0 +1,59 @@
+-- `inline_head` is the machine at an inline fragment, from behind its dots to its selection set.
+use mathlib.Core.Path.{_∙_}
+use Rattle.text_selections.proofs.SpreadLaws.{inline-ready, inline-on, inline-stops, inline-ready-behind, inline-said, inline-plain}
+use borrow.Author.Needs.{needs}
+use Rattle.text_selections.proofs.inline_head.Statement.{statement}
+use Rattle.text_selections.proofs.inline_head.Tie as tie
+
+put-row-requires : tie.Need-put-row-requires
+put-row-requires c κs = search needs
+
+condition-requires : tie.Need-condition-requires
+condition-requires c κs = (inline-ready _ _ _ _ 0 _ _ (c .before .before .before .before .before .before .before .before .before .pre .0) (c .before .before .before .before .before .before .before .before .before .pre .1) _ (c .before .before .before .before .before .put-row .ensures), inline-on _ _ _ _ 0 _ _ (c .before .before .before .before .before .before .before .before .before .pre .0) (c .before .before .before .before .before .before .before .before .before .pre .1) _ (c .before .before .before .before .before .put-row .ensures) (c .before .if1 .taken))
+
+enum-known-r : tie.Need-enum-known-r
+enum-known-r c = search needs
+
+enum-told : tie.Need-enum-told
+enum-told c = search needs
+
+same-length : tie.Need-same-length
+same-length c = c .before .before .before .before .condition .kept .1 .0 ∙ c .before .before .before .before .before .before .before .before .before .before .put-row .kept .0
+
+returns : tie.Need-returns
+returns c = rw (c .enum-told .given .1) (inline-stops _ _ _ _ _ _ _ (c .before .before .before .before .before .before .before .before .before .before .before .before .before .before .pre .0) (c .before .before .before .before .before .before .before .before .before .before .before .before .before .before .pre .1) _ (c .before .before .before .before .before .before .before .before .before .before .put-row .ensures) (c .before .before .before .before .before .before .if1 .taken) _ _ (c .before .before .before .before .condition .ensures) _ (c .enum-told .given .1) (c .before .before .before .before .before .before .before .before .before .before .before .before .before .before .args .rows .now))
+
+directives-if-requires : tie.Need-directives-if-requires
+directives-if-requires c κs = inline-ready-behind _ _ _ _ _ _ _ (c .before .before .before .before .before .before .before .before .before .before .before .before .before .before .before .before .pre .0) (c .before .before .before .before .before .before .before .before .before .before .before .before .before .before .before .before .pre .1) _ (c .before .before .before .before .before .before .before .before .before .before .before .before .put-row .ensures) (c .before .before .before .before .before .before .before .before .if1 .taken) _ _ (c .before .before .before .before .before .before .condition .ensures) _ (c .before .before .r .given .1)
+
+same-length-2 : tie.Need-same-length-2
+same-length-2 c = c .before .before .directives-if .kept .1 .0 ∙ c .before .before .before .before .before .before .before .before .before .condition .kept .1 .0 ∙ c .before .before .before .before .before .before .before .before .before .before .before .before .before .before .before .put-row .kept .0
+
+returns-2 : tie.Need-returns-2
+returns-2 c = inline-said _ _ _ _ _ _ _ (c .before .before .before .before .before .before .before .before .before .before .before .before .before .before .before .before .before .before .before .pre .0) (c .before .before .before .before .before .before .before .before .before .before .before .before .before .before .before .before .before .before .before .pre .1) _ (c .before .before .before .before .before .before .before .before .before .before .before .before .before .before .before .put-row .ensures) (c .before .before .before .before .before .before .before .before .before .before .before .if1 .taken) _ _ (c .before .before .before .before .before .before .before .before .before .condition .ensures) _ (c .before .before .before .before .before .r .given .1) _ (c .before .before .directives-if .result) (c .before .before .directives-if .ensures)
+
+directives-if-requires-2 : tie.Need-directives-if-requires-2
+directives-if-requires-2 c κs = inline-ready _ _ _ _ 0 _ _ (c .before .before .before .before .before .before .before .before .before .pre .0) (c .before .before .before .before .before .before .before .before .before .pre .1) _ (c .before .before .before .before .before .put-row .ensures)
+
+same-length-3 : tie.Need-same-length-3
+same-length-3 c = c .before .before .directives-if2 .kept .1 .0 ∙ c .before .before .before .before .before .before .before .before .put-row .kept .0
+
+returns-3 : tie.Need-returns-3
+returns-3 c = inline-plain _ _ _ _ (c .before .before .before .before .before .before .before .before .before .before .before .before .args .left) _ _ (c .before .before .before .before .before .before .before .before .before .before .before .before .pre .0) (c .before .before .before .before .before .before .before .before .before .before .before .before .pre .1) _ (c .before .before .before .before .before .before .before .before .put-row .ensures) (c .before .before .before .before .if1 .left) _ (c .before .before .directives-if2 .result) (c .before .before .directives-if2 .ensures)
+
+pub inline-head-spec : {M : Type 1} → statement M
+inline-head-spec =
+    tie.close
+    (tie.spec
+    put-row-requires
+    condition-requires
+    enum-known-r
+    enum-told
+    same-length
+    returns
+    directives-if-requires
+    same-length-2
+    returns-2
+    directives-if-requires-2
+    same-length-3
+    returns-3)

@@ -1,0 +1,371 @@
+// Reads one token of a text at a time, by longest match.
+use text_scan::TOKEN_AT;
+use text_scan::TOKEN_BANG;
+use text_scan::TOKEN_BAR;
+use text_scan::TOKEN_BRACE_CLOSE;
+use text_scan::TOKEN_BRACE_OPEN;
+use text_scan::TOKEN_BRACKET_CLOSE;
+use text_scan::TOKEN_BRACKET_OPEN;
+use text_scan::TOKEN_COLON;
+use text_scan::TOKEN_DOLLAR;
+use text_scan::TOKEN_END;
+use text_scan::TOKEN_EQUALS;
+use text_scan::TOKEN_FLOAT;
+use text_scan::TOKEN_INT;
+use text_scan::TOKEN_NAME;
+use text_scan::TOKEN_PAREN_CLOSE;
+use text_scan::TOKEN_PAREN_OPEN;
+use text_scan::TOKEN_SPREAD;
+use text_scan::TokenRead;
+use text_strings::comment;
+use text_strings::string;
+ghost use mathlib.Core.Path.{_≡_};
+ghost use Prim.Native.Nat.{_+_, _-_, _≤_, _<_};
+ghost use mathlib.Core.Bool.{cond};
+ghost use lib.ListN.{length, take, drop, getD};
+ghost use Rattle.paper.specs.Lexical.{hitsByte, letter, letterOrDigit, digit};
+ghost use Rattle.paper.proofs.Lexing.{from};
+ghost use Rattle.text_scan.specs.Head.{headOf};
+ghost use Rattle.text_scan.specs.Piece.{tokenHere, ignoredHere};
+ghost use Rattle.text_scan.specs.Run.{runOf, startsWith, fractionSize, signSize, exponentSize, wholeSize};
+ghost use Rattle.text_tokens.specs.Skip.{Skipped, Numeric, punctuatorOf};
+
+// Whether a byte may start a name: A to Z, a to z, _ (draft 2.1.9). The most frequent come first.
+pub fn starts_name(b: u8) -> bool
+    ensures { λ r. ⌜ r ≡ hitsByte letter b ⌝ }
+{
+    if b'`' < b {
+        return b < b'{';
+    }
+    if b'Z' < b {
+        return b == b'_';
+    }
+    b'@' < b
+}
+
+pub fn is_digit(b: u8) -> bool
+    ensures { λ r. ⌜ r ≡ hitsByte digit b ⌝ }
+{
+    if b < b'0' {
+        return false;
+    }
+    b < b':'
+}
+
+// Whether a byte may go on with a name.
+pub fn in_name(b: u8) -> bool
+    ensures { λ r. ⌜ r ≡ hitsByte letterOrDigit b ⌝ }
+{
+    if b'`' < b {
+        return b < b'{';
+    }
+    if b < b':' {
+        return b'/' < b;
+    }
+    if b'Z' < b {
+        return b == b'_';
+    }
+    b'@' < b
+}
+
+// Whether the byte order mark stands at i.
+pub fn is_mark(s: &[u8], i: usize) -> bool
+    requires { ⌜ (i < length (now s)) × (getD (now s) i 0 ≡ 239) ⌝ }
+    ensures { λ r. ⌜ cond r 3 0 ≡ ignoredHere (drop i (now (s .entry))) ⌝ }
+{
+    if s.len() - i < 3 {
+        return false;
+    }
+    if s[i + 1] == 187 {
+        return s[i + 2] == 191;
+    }
+    false
+}
+
+// The size of the ignored piece at i, or 0. Most bytes are above a comma, and of these only a mark is ignored.
+pub fn ignored(s: &[u8], i: usize) -> usize
+    requires { ⌜ i < length (now s) ⌝ }
+    ensures { λ r. ⌜ r ≡ ignoredHere (drop i (now (s .entry))) ⌝ }
+{
+    let b = s[i];
+    if b == b' ' {
+        return 1;
+    }
+    if b',' < b {
+        if b == 239 {
+            if is_mark(s, i) {
+                return 3;
+            }
+        }
+        return 0;
+    }
+    if b == 10 {
+        return 1;
+    }
+    if b == b',' {
+        return 1;
+    }
+    if b == 13 {
+        return 1;
+    }
+    if b == 9 {
+        return 1;
+    }
+    if b == b'#' {
+        return comment(s, i);
+    }
+    0
+}
+
+// The first place at or after `from` that is not ignored.
+pub fn skip(s: &[u8], from: usize) -> usize
+    requires { ⌜ from ≤ length (now s) ⌝ }
+    ensures { λ r. ⌜ Skipped (now (s .entry)) from r ⌝ }
+{
+    let mut i = from;
+    while i < s.len() {
+        let n = ignored(s, i);
+        if n == 0 {
+            return i;
+        }
+        i += n;
+    }
+    i
+}
+
+// One past the last of the name's characters that stand from `from` on.
+pub fn name_end(s: &[u8], from: usize) -> usize
+    requires { ⌜ from ≤ length (now s) ⌝ }
+    ensures { λ r. ⌜ r ≡ from + runOf letterOrDigit (drop from (now (s .entry))) ⌝ }
+{
+    let mut i = from;
+    while i < s.len() {
+        if in_name(s[i]) {
+            i += 1;
+        } else {
+            return i;
+        }
+    }
+    i
+}
+
+// One past the last of the digits that stand from `from` on.
+pub fn digits_end(s: &[u8], from: usize) -> usize
+    requires { ⌜ from ≤ length (now s) ⌝ }
+    ensures { λ r. ⌜ r ≡ from + runOf digit (drop from (now (s .entry))) ⌝ }
+{
+    let mut i = from;
+    while i < s.len() {
+        if is_digit(s[i]) {
+            i += 1;
+        } else {
+            return i;
+        }
+    }
+    i
+}
+
+// Whether a digit stands at i.
+pub fn digit_at(s: &[u8], i: usize) -> bool
+    ensures { λ r. ⌜ r ≡ startsWith digit (drop i (now (s .entry))) ⌝ }
+{
+    if i < s.len() {
+        return is_digit(s[i]);
+    }
+    false
+}
+
+// One past the fraction at i, or i where there is none.
+pub fn fraction_end(s: &[u8], i: usize) -> usize
+    requires { ⌜ i ≤ length (now s) ⌝ }
+    ensures { λ r. ⌜ r ≡ i + fractionSize (drop i (now (s .entry))) ⌝ }
+{
+    if i < s.len() {
+        if s[i] == b'.' {
+            if digit_at(s, i + 1) {
+                return digits_end(s, i + 2);
+            }
+        }
+    }
+    i
+}
+
+// One past the sign at i, or i where there is none.
+pub fn sign_end(s: &[u8], i: usize) -> usize
+    requires { ⌜ i ≤ length (now s) ⌝ }
+    ensures { λ r. ⌜ r ≡ i + signSize (drop i (now (s .entry))) ⌝ }
+{
+    if i < s.len() {
+        let b = s[i];
+        if b == b'+' {
+            return i + 1;
+        }
+        if b == b'-' {
+            return i + 1;
+        }
+    }
+    i
+}
+
+// One past the exponent at i, or i where there is none.
+pub fn exponent_end(s: &[u8], i: usize) -> usize
+    requires { ⌜ i ≤ length (now s) ⌝ }
+    ensures { λ r. ⌜ r ≡ i + exponentSize (drop i (now (s .entry))) ⌝ }
+{
+    if s.len() <= i {
+        return i;
+    }
+    let b = s[i];
+    if b != b'E' {
+        if b != b'e' {
+            return i;
+        }
+    }
+    let d = sign_end(s, i + 1);
+    if digit_at(s, d) {
+        return digits_end(s, d + 1);
+    }
+    i
+}
+
+// One past the integer part whose first digit stands at i.
+pub fn whole_end(s: &[u8], i: usize) -> usize
+    requires { ⌜ i < length (now s) ⌝ }
+    ensures { λ r. ⌜ r ≡ i + wholeSize (drop i (now (s .entry))) ⌝ }
+{
+    if s[i] == b'0' {
+        return i + 1;
+    }
+    digits_end(s, i + 1)
+}
+
+// The number at `at`, where no name, punctuator or string stands.
+pub fn number(s: &[u8], at: usize) -> TokenRead
+    requires { ⌜ Numeric (now s) at ⌝ }
+    ensures { λ r. ⌜ r ≡ tokenHere at (drop at (now (s .entry))) ⌝ }
+{
+    let mut d = at;
+    if s[at] == b'-' {
+        d = at + 1;
+    }
+    if digit_at(s, d) {
+        let w = whole_end(s, d);
+        let f = fraction_end(s, w);
+        let e = exponent_end(s, f);
+        if e == w {
+            return TokenRead::Token {
+                kind: TOKEN_INT,
+                start: at,
+                end: e,
+            };
+        }
+        return TokenRead::Token {
+            kind: TOKEN_FLOAT,
+            start: at,
+            end: e,
+        };
+    }
+    TokenRead::Bad(at)
+}
+
+// The three dots at `at`.
+pub fn spread(s: &[u8], at: usize) -> TokenRead
+    requires { ⌜ (at < length (now s)) × (getD (now s) at 0 ≡ 46) ⌝ }
+    ensures { λ r. ⌜ r ≡ tokenHere at (drop at (now (s .entry))) ⌝ }
+{
+    if s.len() - at < 3 {
+        return TokenRead::Bad(at);
+    }
+    if s[at + 1] == b'.' {
+        if s[at + 2] == b'.' {
+            return TokenRead::Token {
+                kind: TOKEN_SPREAD,
+                start: at,
+                end: at + 3,
+            };
+        }
+    }
+    TokenRead::Bad(at)
+}
+
+// The kind of a punctuator of one byte, or TOKEN_END.
+pub fn punctuator(b: u8) -> u32
+    ensures { λ r. ⌜ r ≡ punctuatorOf b ⌝ }
+{
+    if b == b'{' {
+        return TOKEN_BRACE_OPEN;
+    }
+    if b == b'}' {
+        return TOKEN_BRACE_CLOSE;
+    }
+    if b == b'(' {
+        return TOKEN_PAREN_OPEN;
+    }
+    if b == b')' {
+        return TOKEN_PAREN_CLOSE;
+    }
+    if b == b':' {
+        return TOKEN_COLON;
+    }
+    if b == b'$' {
+        return TOKEN_DOLLAR;
+    }
+    if b == b'@' {
+        return TOKEN_AT;
+    }
+    if b == b'[' {
+        return TOKEN_BRACKET_OPEN;
+    }
+    if b == b']' {
+        return TOKEN_BRACKET_CLOSE;
+    }
+    if b == b'!' {
+        return TOKEN_BANG;
+    }
+    if b == b'=' {
+        return TOKEN_EQUALS;
+    }
+    if b == b'|' {
+        return TOKEN_BAR;
+    }
+    TOKEN_END
+}
+
+// The token at or after `from`.
+pub fn next(s: &[u8], from: usize) -> TokenRead
+    requires { ⌜ from ≤ length (now s) ⌝ }
+    ensures { λ r. ⌜ r ≡ headOf (Rattle.paper.proofs.Lexing.from (now (s .entry)) from) ⌝ }
+{
+    let at = skip(s, from);
+    if s.len() <= at {
+        return TokenRead::Token {
+            kind: TOKEN_END,
+            start: at,
+            end: at,
+        };
+    }
+    let b = s[at];
+    if starts_name(b) {
+        let e = name_end(s, at + 1);
+        return TokenRead::Token {
+            kind: TOKEN_NAME,
+            start: at,
+            end: e,
+        };
+    }
+    let k = punctuator(b);
+    if k != TOKEN_END {
+        return TokenRead::Token {
+            kind: k,
+            start: at,
+            end: at + 1,
+        };
+    }
+    if b == b'"' {
+        return string(s, at);
+    }
+    if b == b'.' {
+        return spread(s, at);
+    }
+    number(s, at)
+}
