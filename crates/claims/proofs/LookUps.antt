@@ -23,10 +23,6 @@ use Rattle.table_members.proofs.find_member.Statement as find-member
 use Rattle.table_members.proofs.find_member.Met as find-member-met
 use Rattle.table_members.proofs.find_argument.Statement as find-argument
 use Rattle.table_members.proofs.find_argument.Met as find-argument-met
-use Rattle.table_lookups.proofs.find_member.Statement as look-member
-use Rattle.table_lookups.proofs.find_member.Met as look-member-met
-use Rattle.table_lookups.proofs.find_argument.Statement as look-argument
-use Rattle.table_lookups.proofs.find_argument.Met as look-argument-met
 use Rattle.query_rule_3.proofs.first_called.Statement as first-called
 use Rattle.query_rule_3.proofs.first_called.Met as first-called-met
 use Rattle.query_reach.proofs.reach.Statement as reach
@@ -78,14 +74,6 @@ definition-members = looked.definition-members
 
 pub field-arguments : (t : List ℕ) (start stop : ℕ) → argumentsIn t start stop ≡ memberFrom t tagField start stop .arguments
 field-arguments = looked.field-arguments
-
--- `table_lookups`: of the definition of a number its first member of a name; of a member the first argument of a name. Their contracts
--- (`crates/table_lookups/specs`) speak of `tableOf`.
-pub definition-member-meets : {M : Type 1} → look-member.statement M
-definition-member-meets = look-member-met.met
-
-pub member-argument-meets : {M : Type 1} → look-argument.statement M
-member-argument-meets = look-argument-met.met
 
 -- ---- LOOKING UP IN A DOCUMENT: what coercion and planning stand on. Their contracts speak of `docOf` the lent rows (`crates/query_rows/specs`).
 

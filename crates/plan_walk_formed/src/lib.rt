@@ -1,5 +1,5 @@
 // Whether the numbers of a lent plan are well-formed.
-use query_types::is_output;
+use table_types::is_composite;
 ghost use mathlib.Core.Path.{_≡_};
 ghost use Prim.Native.Nat.{_+_, _≤_, _<_};
 ghost use lib.ListN.{length, getD};
@@ -54,7 +54,7 @@ fn step_formed(t: &[u8], book: &[u32], p: &[u32], end: usize, i: usize) -> bool
         return false;
     }
     if kind == 3 {
-        return is_output(table_types::kind_in(book, one));
+        return is_composite(table_types::kind_in(book, one));
     }
     if kind == 0 {
         return false;

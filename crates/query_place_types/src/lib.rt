@@ -153,5 +153,5 @@ pub fn is_input(tag: u32) -> bool
     if tag == TAG_NOTHING {
         return false;
     }
-    !query_types::is_output(tag)
+    !table_types::is_composite(tag)
 }

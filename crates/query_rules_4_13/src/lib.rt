@@ -46,7 +46,7 @@ pub fn condition_wrong(t: &[u8], book: &[u32], s: &[u8], rows: &[u32], n: usize,
         name_of(rows, n, i) as usize,
         size_of(rows, n, i) as usize,
     );
-    !query_types::is_output(tag)
+    !table_types::is_composite(tag)
 }
 
 // 13: row i is an operation of a kind without a root.

@@ -1,6 +1,6 @@
 -- Objects, interfaces and unions, by the book of a table.
 use mathlib.Core.Path.{_≡_, refl, sym, ap, _∙_}
-use mathlib.Core.Bool.{Bool, true, false, _&&_, true≢false}
+use mathlib.Core.Bool.{Bool, true, false, true≢false}
 use mathlib.Core.Option.{Option, none}
 use mathlib.Core.List.{List}
 use Prim.Native.Nat.{ℕ, _+_, _≤_, _<_}
@@ -8,22 +8,13 @@ use native.Mathlib.Numerals.{add-one}
 use native.Mathlib.Decide.{decLt}
 use native.Mathlib.Omega.{arith}
 use lib.ListN.{List·getD-eq-default}
-use lib.Dec.{leb}
-use borrow.Author.Tests.{le-leb, lt-leb, lt-ltb, le-ltb}
-use Rattle.paper_table.specs.TableNumbers.{tagObject, tagUnion}
+use borrow.Author.Tests.{lt-ltb, le-ltb}
 use Rattle.paper_table.specs.Types.{Definition, Meaning, builtIn, nothing, definition, meaning, tableOf, blank, tagNothing}
 use Rattle.paper_table.specs.Rules.{isComposite}
 use Rattle.paper_query.specs.Enclosing.{definitionAt, ifComposite, compositeOf}
 use Rattle.table_book.specs.Book.{countIn, room}
-use Rattle.table_types.specs.Booked.{Booked, spoken, kindIn}
+use Rattle.table_types.specs.Booked.{Booked, spoken, kindIn, isCompositeTag}
 use Rattle.query_types.specs.Coded.{typeCoded}
-
--- the tag of an object, interface or union
-pub output-low : (tag : ℕ) → tag < tagObject → false ≡ leb tagObject tag && leb tag tagUnion
-output-low tag h = rw (lt-leb tagObject tag h)
-
-pub output-high : (tag : ℕ) {r : Bool} → tagObject ≤ tag → r ≡ leb tag tagUnion → r ≡ leb tagObject tag && leb tag tagUnion
-output-high tag h e = rw (le-leb tagObject tag h) e
 
 module _ (t book : List ℕ) (b : Booked t book) where
   -- definition k's tag; none behind the last
@@ -46,9 +37,9 @@ module _ (t book : List ℕ) (b : Booked t book) where
           let q : definitionAt (tableOf t) k ≡ blank tagNothing = List·getD-eq-default (tableOf t) (blank tagNothing) (omega (arith, b .count)) in
           absurd (true≢false (sym e ∙ ap isComposite q))
 
-  module _ (k : ℕ) {r : Bool} (e : r ≡ leb tagObject (kindIn book k) && leb (kindIn book k) tagUnion) where
+  module _ (k : ℕ) {r : Bool} (e : r ≡ isCompositeTag (kindIn book k)) where
     is-output : r ≡ isComposite (definitionAt (tableOf t) k)
-    is-output = e ∙ ap (λ (x : ℕ). leb tagObject x && leb x tagUnion) (kind-is k)
+    is-output = e ∙ ap isCompositeTag (kind-is k)
 
     pub kind-few : r ≡ true → k < room
     kind-few q = let h = output-below k (sym is-output ∙ q) in omega (arith, h, b .indexed .held .most)

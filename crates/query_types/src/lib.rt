@@ -1,14 +1,9 @@
 // Types with selections, by a table: whether a definition is one, and the one that a name means.
 // A type is coded as one number, so that it can be kept for a document's rows. Of the table nothing is asked but its sizes.
-use paper_table::TAG_OBJECT;
-use paper_table::TAG_UNION;
 use table_types::Meant;
 ghost use mathlib.Core.Path.{_≡_};
-ghost use mathlib.Core.Bool.{_&&_};
 ghost use Prim.Native.Nat.{_+_, _≤_};
 ghost use lib.ListN.{length};
-ghost use lib.Dec.{leb};
-ghost use Rattle.paper_table.specs.TableNumbers.{tagObject, tagUnion};
 ghost use Rattle.paper_table.specs.Types.{definition, tableOf};
 ghost use Rattle.paper_query.specs.Enclosing.{ifComposite, compositeOf};
 ghost use Rattle.table_book.specs.Book.{part};
@@ -18,22 +13,12 @@ ghost use Rattle.query_types.specs.Coded.{typeCoded};
 // no type
 pub const NO_TYPE: u32 = 0;
 
-// Is it the tag of an object, interface or union?
-pub fn is_output(tag: u32) -> bool
-    ensures { λ r. ⌜ r ≡ leb tagObject tag && leb tag tagUnion ⌝ }
-{
-    if tag < TAG_OBJECT as u32 {
-        return false;
-    }
-    tag <= TAG_UNION as u32
-}
-
 // The type that is definition k, if it is an object, interface or union.
 fn if_composite(t: &[u8], book: &[u32], k: usize) -> u32
     requires { ⌜ Booked (now t) (now book) ⌝ }
     ensures { λ r. ⌜ typeCoded r ≡ ifComposite (tableOf (now (t .entry))) (definition k) ⌝ }
 {
-    if is_output(table_types::kind_in(book, k)) {
+    if table_types::is_composite(table_types::kind_in(book, k)) {
         return k as u32 + 1;
     }
     NO_TYPE

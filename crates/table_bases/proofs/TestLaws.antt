@@ -2,21 +2,15 @@
 use mathlib.Core.Path.{_≡_, refl, sym, ap, _∙_}
 use mathlib.Core.Bool.{Bool, true, false, _||_}
 use mathlib.Core.List.{List}
-use Prim.Native.Nat.{ℕ, _≤_, _<_}
+use Prim.Native.Nat.{ℕ}
 use lib.Seq.{slice}
-use lib.Dec.{leb, eqb}
-use borrow.Author.Tests.{eq-eqb, ne-eqb, le-leb, lt-leb}
+use lib.Dec.{eqb}
+use borrow.Author.Tests.{eq-eqb, ne-eqb}
 use Rattle.paper_table.specs.TableNumbers.{tagField, tagArgument}
 use Rattle.paper_table.specs.Types.{tableOf, typeIn, nameOnly}
 use Rattle.paper_table.specs.Rules.{baseMeant, memberUnknown, memberBaseWrong}
 use Rattle.table_members.specs.Members.{fieldsIn, memberFrom}
-use Rattle.table_bases.specs.Meanings.{isOutputTag}
-
-pub output-low : (k : ℕ) → k < 2 → false ≡ isOutputTag k
-output-low k h = sym (rw (lt-leb 2 k h) refl)
-
-pub output-high : (k : ℕ) → 2 ≤ k → leb k 4 ≡ isOutputTag k
-output-high k h = sym (rw (le-leb 2 k h) refl)
+use Rattle.table_types.specs.Booked.{isCompositeTag}
 
 -- rules 7 and 8, by the member's tag
 module _ (t : List ℕ) (tag start end b : ℕ) (e : b ≡ baseMeant (tableOf t) (typeIn (fieldsIn t start end)) .tag) where
@@ -36,7 +30,7 @@ module _ (t : List ℕ) (tag start end b : ℕ) (e : b ≡ baseMeant (tableOf t)
       or-none true = refl
       or-none false = refl
 
-  pub wrong-input : (tag ≡ tagField → ⊥) → tag ≡ tagArgument → isOutputTag b ≡ memberBaseWrong (tableOf t) 0 (memberFrom t tag start end)
+  pub wrong-input : (tag ≡ tagField → ⊥) → tag ≡ tagArgument → isCompositeTag b ≡ memberBaseWrong (tableOf t) 0 (memberFrom t tag start end)
   unfolding memberFrom
   wrong-input n k = sym (rw (ne-eqb tag tagField n, eq-eqb tag tagArgument k, ← e) refl)
 

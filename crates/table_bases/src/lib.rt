@@ -1,8 +1,6 @@
 // What a name in a table means, by the type's tag: the base of a reference, an implemented name.
 // Nothing is asked of the table but its sizes.
 use paper_table::RECORD_INTERFACE;
-use paper_table::RECORD_OBJECT;
-use paper_table::RECORD_UNION;
 use paper_table::RULE_IMPLEMENTED_TWICE;
 ghost use mathlib.Core.Path.{_≡_};
 ghost use Prim.Native.Nat.{_-_};
@@ -12,9 +10,8 @@ ghost use Rattle.table_fields.specs.Fields.{Bounds};
 ghost use Rattle.table_book.specs.Book.{part};
 ghost use Rattle.table_members.specs.Members.{fieldsIn, implementedIn};
 ghost use Rattle.table_types.specs.Booked.{Booked};
-ghost use Rattle.table_bases.specs.Meanings.{implementedFails, isOutputTag};
+ghost use Rattle.table_bases.specs.Meanings.{implementedFails};
 
-// the tags of meant types
 // Rules 7 and 8: the tag of the type that the reference in a content has as its base, 0 of no type.
 pub fn base_tag(t: &[u8], book: &[u32], start: usize, end: usize) -> u32
     requires { ⌜ Booked (now t) (now book) × Bounds (now t) start end ⌝ }
@@ -22,16 +19,6 @@ pub fn base_tag(t: &[u8], book: &[u32], start: usize, end: usize) -> u32
 {
     let r = table_members::type_in(t, start, end);
     table_types::tag_meant(t, book, t, r.at, r.size)
-}
-
-// Object, interface or union.
-pub fn is_output(tag: u32) -> bool
-    ensures { λ r. ⌜ r ≡ isOutputTag tag ⌝ }
-{
-    if tag < RECORD_OBJECT {
-        return false;
-    }
-    tag <= RECORD_UNION
 }
 
 // Does an implemented name of the record from `from` up to `end`, its number m, break a rule? (10; else that it is no interface's: 9.)

@@ -6,4 +6,3 @@ pub mod KeyLaws
 pub mod Chained
 pub mod Search
 pub mod Linking
-pub mod SubLaws

@@ -9,9 +9,6 @@ use lib.ListN.{length, take, drop, getD}
 use lib.Dec.{eqb, leb}
 use Rattle.paper.specs.Tokens.{same}
 use Rattle.paper_table.specs.Lists.{firstAt}
-use Rattle.paper_table.specs.References.{Ref, baseOf}
-use Rattle.paper_table.specs.SubTypes.{subTest}
-use Rattle.table_fields.specs.Wrappers.{packOf}
 
 -- the n bytes of a text from `at` on
 abbrev pub part : List ℕ → ℕ → ℕ → List ℕ
@@ -135,8 +132,3 @@ pub record Cleared (old book : List ℕ) : Type 0 where
 pub record Linked (t old book : List ℕ) : Type 0 where
   pub kept : Kept old book
   pub indexed : Indexed t book
-
--- q answers whether every reference of the wrappers o is a sub-type of every reference of the wrappers i,
--- where their base names are the same or not, and the second's can be the first's or not
-abbrev pub SubAnswer : Bool → Bool → ℕ → ℕ → Bool → Type 0
-SubAnswer alike can o i q = (r s : Ref) → packOf r ≡ o → packOf s ≡ i → same (baseOf r) (baseOf s) ≡ alike → q ≡ subTest (λ a b. can) r s

@@ -1,12 +1,11 @@
-// A book of a holder's fields with an index of their names, and the sub-type test on packed wrappers.
+// A book of a holder's fields with an index of their names.
 ghost use mathlib.Core.Path.{_≡_};
-ghost use mathlib.Core.Bool.{true, false, _&&_};
+ghost use mathlib.Core.Bool.{true, false};
 ghost use Prim.Native.Nat.{_+_, _-_, _*_, _≤_, _<_};
 ghost use lib.ListN.{length, take, drop, getD, set};
-ghost use lib.Dec.{eqb};
 ghost use Rattle.paper.specs.Tokens.{same};
 ghost use Rattle.paper_table.specs.Lists.{firstAt};
-ghost use Rattle.table_book.specs.Book.{part, room, cellName, cellSize, cellStart, cellEnd, cellCount, cellNext, cellHead, bookSize, countIn, keyAt, keysOf, keyed, Held, hashLimit, multiplierOf, hashOf, Indexed, Cleared, Linked, SubAnswer};
+ghost use Rattle.table_book.specs.Book.{part, room, cellName, cellSize, cellStart, cellEnd, cellCount, cellNext, cellHead, bookSize, countIn, keyAt, keysOf, keyed, Held, hashLimit, multiplierOf, hashOf, Indexed, Cleared, Linked};
 
 // where the columns of a book begin: kinds at 0, then names, their sizes, contents' starts and ends, the count; next of each entry, first of each bucket, the seed
 pub const ROOM: usize = 256;
@@ -120,12 +119,18 @@ pub fn is_text(t: &[u8], a: usize, l: usize, s: &[u8], at: usize, n: usize) -> b
     same_text(t, a, s, at, n)
 }
 
+// A step of the hash multiplies a number below this, plus a byte, by a multiplier below this: that fits 64 bits.
 const HASH_LIMIT: usize = 2147483648;
 
+// 2^32 divided by the square of the golden ratio. Odd, so that a step loses nothing: names that differ in one byte alone never have one hash.
+// Large, so that short names reach the high bits: T0 to T255 come into 172 buckets, three names at most in one; multiplied by 31 they come into two.
 const FIRST_MULTIPLIER: usize = 1640531527;
 
+// Twice the prime 2654435761 (near 2^32 divided by the golden ratio), modulo 2^32. Even, so that all multipliers are odd; twice an odd number, so that
+// no two of the 256 seeds have the same.
 const MULTIPLIER_STEP: usize = 1013904226;
 
+// The bucket is the highest 8 of 31 bits: a product's bit depends on those below it, not on those above.
 const BUCKET_SIZE: usize = 8388608;
 
 // The multiplier of a seed: odd, and another one for each.
@@ -231,7 +236,8 @@ fn link_by(t: &[u8], book: &mut [u32], seed: u32) -> bool
     crowded
 }
 
-// How many entries a bucket may have, and how many seeds there are.
+// How many entries a bucket may have, and how many seeds there are. Of 256 names made at random more than five share a bucket by one seed in seven,
+// more than four by three in five: five is the least for which another seed is soon found.
 const MOST_IN_BUCKET: u32 = 5;
 
 const SEEDS: u32 = 256;
@@ -276,37 +282,4 @@ pub fn link(t: &[u8], book: &mut [u32])
         seed = (seed + 1) % SEEDS;
         crowded = link_by(t, book, seed);
     }
-}
-
-// Are two references equal, given that their base names are the same or not?
-fn equal_refs(alike: bool, o: u32, i: u32) -> bool
-    ensures { λ r. ⌜ r ≡ alike && eqb o i ⌝ }
-{
-    if alike {
-        return o == i;
-    }
-    false
-}
-
-// Sub-type, by the wrappers o and i, from outside in, lowest two bits first, 1 list, 2 Non-Null.
-// alike: the base names are the same; can: the first is an object that the second can be.
-pub fn sub_type(alike: bool, can: bool, o: u32, i: u32) -> bool
-    ensures { λ q. ⌜ SubAnswer alike can o i q ⌝ }
-{
-    if equal_refs(alike, o, i) {
-        return true;
-    }
-    if o == 0 {
-        if i == 0 {
-            return can;
-        }
-        return false;
-    }
-    if o % 4 == 2 {
-        return sub_type(alike, can, o / 4, i);
-    }
-    if i % 4 == 1 {
-        return sub_type(alike, can, o / 4, i / 4);
-    }
-    false
 }

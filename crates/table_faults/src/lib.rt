@@ -43,7 +43,7 @@ fn is_member_base_wrong(t: &[u8], book: &[u32], tag: u8, start: usize, end: usiz
         return table_bases::base_tag(t, book, start, end) == RECORD_INPUT_OBJECT;
     }
     if tag == TAG_ARGUMENT {
-        return table_bases::is_output(table_bases::base_tag(t, book, start, end));
+        return table_types::is_composite(table_bases::base_tag(t, book, start, end));
     }
     false
 }
@@ -100,7 +100,7 @@ pub fn is_argument_broken(
         return table_bases::base_tag(t, book, start, stop) == NO_TYPE;
     }
     if rule == RULE_BASE {
-        return table_bases::is_output(table_bases::base_tag(t, book, start, stop));
+        return table_types::is_composite(table_bases::base_tag(t, book, start, stop));
     }
     let name = table_members::name_in(t, start, stop);
     if rule == RULE_NAME_REPEATED {

@@ -6,20 +6,12 @@ use Prim.Native.Nat.{ℕ, suc, _+_, _-_, _≤_, _<_}
 use native.Mathlib.Omega.{arith}
 use lib.ListN.{length, take, getD}
 use lib.Seq.{slice, length-slice}
-use lib.Dec.{eqb, leb, ltb, leb·suc-suc}
+use lib.Dec.{eqb}
 use borrow.Author.Tests.{eq-eqb, ne-eqb, eqb-true, eqb-false}
 use Rattle.paper.specs.Lexical.{letter, letterOrDigit, oneOf, within, span}
 use Rattle.paper_table.specs.Lists.{allOf, firstAt}
 use Rattle.paper_table.specs.References.{isName, nameSize}
 use Rattle.table_fields.proofs.FieldLaws.{slice-none, slice-next}
-
--- the end of the last range, after which none is asked
-pub last-range : (b k : ℕ) → ltb b (suc k) ≡ leb b k || false
-last-range b k = leb·suc-suc b k ∙ go (leb b k)
-  where
-    go : (x : Bool) → x ≡ x || false
-    go true = refl
-    go false = refl
 
 -- two tests of equal numbers, each of which follows from the other
 eq-same : (a b c d : ℕ) → (a ≡ b → c ≡ d) → (c ≡ d → a ≡ b) → eqb a b ≡ eqb c d

@@ -3,7 +3,6 @@
 ghost use mathlib.Core.Path.{_≡_};
 ghost use Prim.Native.Nat.{_+_};
 ghost use lib.Seq.{slice};
-ghost use Rattle.paper.specs.Lexical.{letter, letterOrDigit, oneOf};
 ghost use Rattle.paper_table.specs.References.{isName, isReference, nameSize};
 ghost use Rattle.table_fields.specs.Fields.{fieldAt, Bounds, Finds};
 ghost use Rattle.table_fields.specs.Wrappers.{bracketSize, wrapperOf, isMarked, RefersRead};
@@ -71,40 +70,6 @@ pub fn find_tag(t: &[u8], at: usize, end: usize, tag: u8) -> Part
     }
 }
 
-// A letter or `_`. The most frequent come first.
-pub fn is_letter(b: u8) -> bool
-    ensures { λ r. ⌜ r ≡ oneOf letter b ⌝ }
-{
-    if b'`' < b {
-        return b < b'{';
-    }
-    if b < b'A' {
-        return false;
-    }
-    if b < b'[' {
-        return true;
-    }
-    if b < b'_' {
-        return false;
-    }
-    b < b'`'
-}
-
-pub fn is_name_byte(b: u8) -> bool
-    ensures { λ r. ⌜ r ≡ oneOf letterOrDigit b ⌝ }
-{
-    if b'`' < b {
-        return b < b'{';
-    }
-    if b < b'0' {
-        return false;
-    }
-    if b < b':' {
-        return true;
-    }
-    is_letter(b)
-}
-
 // Where the bytes of a name end, from `start` on.
 pub fn name_end(t: &[u8], start: usize, end: usize) -> usize
     requires { ⌜ Bounds (now t) start end ⌝ }
@@ -112,7 +77,7 @@ pub fn name_end(t: &[u8], start: usize, end: usize) -> usize
 {
     let mut i = start;
     while i < end {
-        if !is_name_byte(t[i]) {
+        if !text_characters::in_name(t[i]) {
             return i;
         }
         i += 1;
@@ -128,7 +93,7 @@ pub fn is_name(t: &[u8], start: usize, end: usize) -> bool
     if start == end {
         return false;
     }
-    if !is_letter(t[start]) {
+    if !text_characters::starts_name(t[start]) {
         return false;
     }
     name_end(t, start + 1, end) == end
@@ -196,7 +161,7 @@ pub fn read_reference(t: &[u8], start: usize, end: usize) -> RefRead
     if from == end {
         return RefRead::Bad;
     }
-    if !is_letter(t[from]) {
+    if !text_characters::starts_name(t[from]) {
         return RefRead::Bad;
     }
     let to = name_end(t, from + 1, end);

@@ -8,15 +8,15 @@ use native.Mathlib.Omega.{arith}
 use Rattle.paper_table.specs.Lists.{anyOf, find}
 use Rattle.table_members.specs.Members.{First, Finds}
 
-find-nil : {A : Type 0} (p : A → Bool) → find p [] ≡ none
+pub find-nil : {A : Type 0} (p : A → Bool) → find p [] ≡ none
 unfolding find
 find-nil p = refl
 
-find-here : {A : Type 0} (p : A → Bool) (x : A) (xs : List A) → p x ≡ true → find p (x ∷ xs) ≡ some x
+pub find-here : {A : Type 0} (p : A → Bool) (x : A) (xs : List A) → p x ≡ true → find p (x ∷ xs) ≡ some x
 unfolding find
 find-here p x xs e = rw e
 
-find-on : {A : Type 0} (p : A → Bool) (x : A) (xs : List A) → p x ≡ false → find p (x ∷ xs) ≡ find p xs
+pub find-on : {A : Type 0} (p : A → Bool) (x : A) (xs : List A) → p x ≡ false → find p (x ∷ xs) ≡ find p xs
 unfolding find
 find-on p x xs e = rw e
 

@@ -17,9 +17,8 @@ use Rattle.paper_table.specs.Types.{orNone, typeIn}
 use Rattle.paper_table.proofs.ReferenceSizes.{wrappers as wrapperCount}
 use Rattle.table_fields.specs.Fields.{Finds}
 use Rattle.table_fields.specs.Wrappers.{packOf, packLimit, isMarked, Refers}
-use Rattle.table_fields.proofs.PackLaws.{pack-fits}
+use Rattle.table_fields.proofs.PackLaws.{pack-fits, same-ref, same-pack, same-base}
 use Rattle.table_book.specs.Book.{part}
-use Rattle.table_book.proofs.SubLaws.{same-ref, same-pack, same-base}
 use Rattle.table_members.specs.Members.{fieldsIn, Typed}
 use Rattle.table_members.proofs.TagLaws.{part-slice}
 

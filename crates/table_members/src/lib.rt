@@ -209,10 +209,10 @@ pub fn arguments_from(t: &[u8], tag: u8, start: usize, end: usize) -> usize
     requires { ⌜ Bounds (now t) start end ⌝ }
     ensures { λ r. ⌜ ArgumentsFrom (now (t .entry)) tag start end r ⌝ }
 {
-    if tag == TAG_FIELD {
-        return start;
+    if tag != TAG_FIELD {
+        return end;
     }
-    end
+    start
 }
 
 // Is a member's name the n bytes of s from `at` on?

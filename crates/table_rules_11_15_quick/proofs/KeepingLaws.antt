@@ -21,14 +21,15 @@ use Rattle.paper_table.specs.SubTypes.{SubType, equal, object-of, list, non-nul
 use Rattle.paper_table.proofs.SubTypesLaws.{subTest-complete, subTest-sound}
 use Rattle.paper_table.proofs.TextLaws.{same-sound, same-refl, sameRef-refl}
 use Rattle.table_fields.specs.Fields.{Finds}
-use Rattle.table_book.specs.Book.{part, SubAnswer}
+use Rattle.table_book.specs.Book.{part}
+use Rattle.table_subtypes.specs.SubAnswers.{SubAnswer}
 use Rattle.table_members.specs.Members.{fieldsIn, fieldFrom, memberFrom, First}
 use Rattle.table_members.proofs.MemberLaws.{field-is}
 use Rattle.table_members.proofs.TagLaws.{part-slice}
 use Rattle.table_members.proofs.TypeLaws.{typed-packs}
 use Rattle.table_types.proofs.Objects.{any-found}
 use Rattle.table_types.proofs.SubTyping.{sub-alike, sub-other}
-use Rattle.table_lookups.specs.Lookups.{FirstOf}
+use Rattle.table_rules_11_15_quick.specs.Numbered.{FirstOf}
 use Rattle.table_possible.proofs.BitLaws.{lone, bit-or, one-shifted}
 use Rattle.table_possible.proofs.NameLaws.{passes, Inside, inside-start, inside-one, inside-on}
 use Rattle.table_rules_11_15_quick.specs.Keeping.{Every, ArgumentKept, ExtraKept, OwnKept, FieldKept, NameKept, AllKept, SubKept, noArgument, bitOf, Marks, MatchedBy}

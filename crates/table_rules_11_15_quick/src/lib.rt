@@ -1,9 +1,8 @@
 // Whether a definition keeps the rules 11 to 15, in one walk over the fields that its interfaces promise: if the answer is true it does.
-// What breaks a rule, and where, crate promises says. Of the table nothing is asked but its sizes.
+// What breaks a rule, and where, `table_rules_11_15` says. Of the table nothing is asked but its sizes.
 use paper_table::RECORD_INTERFACE;
 use paper_table::TAG_FIELD;
 use paper_table::TAG_REFERENCE;
-use table_lookups::ArgumentFound;
 use table_members::FieldFound;
 use table_members::TypeRead;
 ghost use mathlib.Core.Path.{_≡_};
@@ -22,6 +21,7 @@ ghost use Rattle.table_types.specs.Booked.{Booked, startIn, endIn, definitionOn
 ghost use Rattle.table_types.specs.Sizes.{slimMember, Slim};
 ghost use Rattle.table_listing.specs.Listed.{Listed};
 ghost use Rattle.table_possible.specs.Possible.{Possible};
+ghost use Rattle.table_rules_11_15_quick.specs.Numbered.{ArgumentSought};
 ghost use Rattle.table_rules_11_15_quick.specs.Keeping.{Every, ArgumentKept, ExtraKept, OwnKept, FieldKept, NameKept, AllKept, SubKept, bitOf, ExtrasKept, MatchedAs};
 
 // Are the texts of two type references the same?
@@ -56,9 +56,9 @@ fn is_below(t: &[u8], book: &[u32], bits: &[u32], r: TypeRead, q: TypeRead) -> b
     ensures { λ b. ⌜ SubKept (now (t .entry)) (r .at) (r .size) (r .wrappers) (q .at) (q .size) (q .wrappers) b ⌝ }
 {
     if table_book::is_text(t, r.at, r.size, t, q.at, q.size) {
-        return table_book::sub_type(true, false, r.wrappers, q.wrappers);
+        return table_subtypes::sub_type(true, false, r.wrappers, q.wrappers);
     }
-    table_book::sub_type(
+    table_subtypes::sub_type(
         false,
         is_possible(t, book, bits, q, r),
         r.wrappers,
@@ -87,6 +87,45 @@ fn is_type_kept(
     is_below(t, book, bits, r, q)
 }
 
+// An argument's number and the bounds of its content; or there is none.
+pub enum ArgumentFound {
+    Argument {
+        number: usize,
+        start: usize,
+        end: usize,
+    },
+    Nothing,
+}
+
+// The first argument so named, from `from` on in a member's content, with its number, by which it is marked (`table_members::find_argument` counts none).
+fn argument_in(t: &[u8], from: usize, end: usize, s: &[u8], at: usize, n: usize) -> ArgumentFound
+    requires { ⌜ Bounds (now t) from end × (at + n ≤ length (now s)) ⌝ }
+    ensures { λ r. ⌜ ArgumentSought (now (t .entry)) (argumentsIn (now (t .entry)) from end) (part (now (s .entry)) at n) r ⌝ }
+{
+    let mut i = from;
+    let mut a = 0;
+    loop {
+        let FieldFound::Found {
+            tag: _,
+            start,
+            end: stop,
+        } = table_members::next_argument(t, i, end)
+        else {
+            return ArgumentFound::Nothing;
+        };
+        let name = table_members::name_in(t, start, stop);
+        if table_book::is_text(t, name.at, name.size, s, at, n) {
+            return ArgumentFound::Argument {
+                number: a,
+                start: start,
+                end: stop,
+            };
+        }
+        i = stop;
+        a += 1;
+    }
+}
+
 // The number of the own field's argument that has another's name and type.
 pub enum Matched {
     Argument(u32),
@@ -105,7 +144,7 @@ fn matching(t: &[u8], start: usize, end: usize, from: usize, stop: usize) -> Mat
         number,
         start: own,
         end: own_end,
-    } = table_lookups::argument_in(t, from, stop, t, n.at, n.size)
+    } = argument_in(t, from, stop, t, n.at, n.size)
     else {
         return Matched::Nothing;
     };

@@ -19,7 +19,7 @@ use Rattle.paper_table.proofs.TextLaws.{same-sound}
 use Rattle.table_book.specs.Book.{part}
 use Rattle.table_book.proofs.Texts.{length-part}
 use Rattle.table_members.specs.Members.{fieldsIn, memberFrom, First}
-use Rattle.table_bases.specs.Meanings.{isOutputTag}
+use Rattle.table_types.specs.Booked.{isCompositeTag}
 use Rattle.table_bases.proofs.TestLaws.{unknown-field, unknown-input, unknown-other, wrong-field, wrong-input, wrong-other}
 use Rattle.table_rules_4_8_quick.specs.Sound.{EveryFrom, memberName, argumentName, Before, ArgumentSound, BaseSound, MemberSound, Sound, InputTag, cells, long, secondLast, last, tailAt, cellOf, Seen, Noted, Onward, Told}
 
@@ -64,7 +64,7 @@ all-sound t i d k = record {
 }
 
 -- by the tag of the base type
-pub input-tag : (k : ℕ) (r : Bool) → (k ≡ 0 → ⊥) → r ≡ isOutputTag k → not r ≡ true → InputTag k
+pub input-tag : (k : ℕ) (r : Bool) → (k ≡ 0 → ⊥) → r ≡ isCompositeTag k → not r ≡ true → InputTag k
 input-tag k r z e q = record { known = ne-eqb k 0 z; input = sym e ∙ not-true r q }
 
 module _ (t : List ℕ) (tag start end b : ℕ) (e : b ≡ baseMeant (tableOf t) (typeIn (fieldsIn t start end)) .tag) where
@@ -84,7 +84,7 @@ argument-sound t xs a x n k e q r f i = record {
   first = ap (Before argumentName xs a) (sym e) ∙ f;
   own = ap isReserved (sym e) ∙ r;
   known = ap (λ (j : ℕ). eqb j 0) (sym q) ∙ i .known;
-  input = ap isOutputTag (sym q) ∙ i .input;
+  input = ap isCompositeTag (sym q) ∙ i .input;
 }
 
 pub member-sound : (t : Table) (ms : List Member) (m : ℕ) (x : Member) (n : List ℕ) → n ≡ x .name → isReserved n ≡ false → anyOf (same n) noEnumValues ≡ false

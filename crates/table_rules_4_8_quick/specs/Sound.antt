@@ -11,7 +11,7 @@ use lib.Dec.{eqb, ltb}
 use Rattle.paper.specs.Tokens.{same}
 use Rattle.paper_table.specs.Types.{Argument, Member, Definition, Table, isUnknown}
 use Rattle.paper_table.specs.Rules.{earlier, isReserved, isNoEnumValue, baseMeant, memberUnknown, isComposite, memberBaseWrong, nameRepeated, reservedMember, enumValue, noType, wrongBase}
-use Rattle.table_bases.specs.Meanings.{isOutputTag}
+use Rattle.table_types.specs.Booked.{isCompositeTag}
 
 -- each element of a list, with its number, counted from i
 abbrev pub EveryFrom : {A : Type 0} → (ℕ → A → Type 0) → ℕ → List A → Type 0
@@ -59,7 +59,7 @@ pub record Sound (t : Table) (i : ℕ) (d : Definition) : Type 0 where
 -- the tag of a type that an argument may have
 pub record InputTag (k : ℕ) : Type 0 where
   pub known : eqb k 0 ≡ false
-  pub input : isOutputTag k ≡ false
+  pub input : isCompositeTag k ≡ false
 
 -- the cell in which a name is noted: by its length, its first byte and of a long one its last six, else its last two, and what each of these counts
 abbrev pub cells : ℕ

@@ -135,7 +135,7 @@ fn is_input(tag: u32) -> bool
     if tag == NO_TYPE {
         return false;
     }
-    !table_bases::is_output(tag)
+    !table_types::is_composite(tag)
 }
 
 // Rules 4, 5, 7 and 8 of the argument from `start` up to `stop`, its number a, of the field from `from` up to `end`.

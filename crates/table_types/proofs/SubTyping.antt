@@ -8,7 +8,8 @@ use Rattle.paper_table.specs.References.{Ref, named, listOf, nonNull, baseOf, s
 use Rattle.paper_table.specs.SubTypes.{subTest}
 use Rattle.paper_table.specs.Types.{tableOf, canBe}
 use Rattle.paper_table.proofs.SubTypesLaws.{subTest-bases}
-use Rattle.table_book.specs.Book.{part, SubAnswer}
+use Rattle.table_book.specs.Book.{part}
+use Rattle.table_subtypes.specs.SubAnswers.{SubAnswer}
 use Rattle.table_members.specs.Members.{Typed}
 use Rattle.table_members.proofs.TypeLaws.{typed-packs}
 use Rattle.table_types.specs.Booked.{SubTyped}

@@ -25,7 +25,7 @@ ghost use Rattle.paper_table.specs.Rules.{memberNamed};
 ghost use Rattle.table_fields.specs.Fields.{Bounds};
 ghost use Rattle.table_book.specs.Book.{part, room, bookSize, countIn};
 ghost use Rattle.table_members.specs.Members.{membersIn};
-ghost use Rattle.table_types.specs.Booked.{Booked, Bookable, Recorded, Put, Entering, NumberMeant, kindIn, spoken, SubTyped};
+ghost use Rattle.table_types.specs.Booked.{Booked, Bookable, Recorded, Put, Entering, NumberMeant, kindIn, isCompositeTag, spoken, SubTyped};
 
 // What a name means: a built-in scalar, the type that is the table's definition of a number, or nothing.
 pub enum Meant {
@@ -184,6 +184,16 @@ pub fn tag_meant(t: &[u8], book: &[u32], s: &[u8], at: usize, n: usize) -> u32
     NO_TYPE
 }
 
+// Is it the tag of an object, interface or union?
+pub fn is_composite(tag: u32) -> bool
+    ensures { λ r. ⌜ r ≡ isCompositeTag tag ⌝ }
+{
+    if tag < RECORD_OBJECT {
+        return false;
+    }
+    tag <= RECORD_UNION
+}
+
 // Has a record a member whose name is the n bytes of s from `at` on?
 pub fn has_member(t: &[u8], start: usize, end: usize, s: &[u8], at: usize, n: usize) -> bool
     requires { ⌜ Bounds (now t) start end × (at + n ≤ length (now s)) ⌝ }
@@ -262,9 +272,9 @@ pub fn is_sub_type(t: &[u8], book: &[u32], r: TypeRead, q: TypeRead) -> bool
     ensures { λ b. ⌜ SubTyped (now (t .entry)) (r .at) (r .size) (r .wrappers) (q .at) (q .size) (q .wrappers) b ⌝ }
 {
     if table_book::is_text(t, r.at, r.size, t, q.at, q.size) {
-        return table_book::sub_type(true, false, r.wrappers, q.wrappers);
+        return table_subtypes::sub_type(true, false, r.wrappers, q.wrappers);
     }
-    table_book::sub_type(
+    table_subtypes::sub_type(
         false,
         can_be(t, book, t, q.at, q.size, r.at, r.size),
         r.wrappers,

@@ -10,6 +10,7 @@ use native.Mathlib.Numerals.{add-one}
 use lib.Dec.{T, ltb, leb}
 use lib.ListN.{length, getD, drop}
 use lib.Seq.{drop-cons}
+use borrow.Author.Tests.{le-leb, lt-leb, ltb-false}
 use Rattle.paper.specs.Lexical.{span, oneOf, hitsByte, letter, letterOrDigit, digit}
 use Rattle.paper.proofs.Bools.{and-l, and-r}
 
@@ -60,3 +61,17 @@ letter-in-name b q = go (ltb b 256) (leb 48 b && leb b 57) (oneOf (span 0x41 0x5
     go true true other h = let z : _≡_ {A = ℕ} 0 1 = cc in let y : ⊥ = omega arith in absurd y
     go true false other h = refl
     go false low other h = refl
+
+-- what is one of a name's bytes is a byte
+byte-only : (b : ℕ) (x : Bool) → (256 ≤ b → x ≡ false) → ltb b 256 && x ≡ x
+byte-only b x f = go (ltb b 256) refl
+  where
+    go : (near : Bool) → ltb b 256 ≡ near → near && x ≡ x
+    go true e = refl
+    go false e = sym (f (ltb-false b 256 e))
+
+pub letter-byte : (b : ℕ) → hitsByte letter b ≡ oneOf letter b
+letter-byte b = byte-only b (oneOf letter b) (λ h. rw (lt-leb b 90 (omega arith), lt-leb b 95 (omega arith), lt-leb b 122 (omega arith), le-leb 65 b (omega arith), le-leb 95 b (omega arith), le-leb 97 b (omega arith)))
+
+pub name-byte : (b : ℕ) → hitsByte letterOrDigit b ≡ oneOf letterOrDigit b
+name-byte b = byte-only b (oneOf letterOrDigit b) (λ h. rw (lt-leb b 57 (omega arith), lt-leb b 90 (omega arith), lt-leb b 95 (omega arith), lt-leb b 122 (omega arith), le-leb 48 b (omega arith), le-leb 65 b (omega arith), le-leb 95 b (omega arith), le-leb 97 b (omega arith)))

@@ -1,9 +1,37 @@
-// The characters of comments, one at a time.
+// The bytes of names, and the characters of comments, one at a time.
 ghost use mathlib.Core.Path.{_≡_};
 ghost use Prim.Native.Nat.{_<_};
 ghost use lib.ListN.{length, drop};
-ghost use Rattle.paper.specs.Lexical.{hitsByte, tail};
+ghost use Rattle.paper.specs.Lexical.{hitsByte, letter, letterOrDigit, tail};
 ghost use Rattle.text_characters.specs.Characters.{secondOf, wideSize, characterSize};
+
+// Name :: /[_A-Za-z][_0-9A-Za-z]*/ (draft 2.1.9): whether a byte may start a name, and whether it may go on with one. The most frequent come first.
+pub fn starts_name(b: u8) -> bool
+    ensures { λ r. ⌜ r ≡ hitsByte letter b ⌝ }
+{
+    if b'a' <= b {
+        return b <= b'z';
+    }
+    if b <= b'Z' {
+        return b'A' <= b;
+    }
+    b == b'_'
+}
+
+pub fn in_name(b: u8) -> bool
+    ensures { λ r. ⌜ r ≡ hitsByte letterOrDigit b ⌝ }
+{
+    if b'a' <= b {
+        return b <= b'z';
+    }
+    if b <= b'9' {
+        return b'0' <= b;
+    }
+    if b <= b'Z' {
+        return b'A' <= b;
+    }
+    b == b'_'
+}
 
 // Whether a byte goes on with a character of UTF-8.
 pub fn is_tail(b: u8) -> bool

@@ -1,4 +1,6 @@
 // Reads one token of a text at a time, by longest match.
+use text_characters::in_name;
+use text_characters::starts_name;
 use text_scan::TOKEN_AT;
 use text_scan::TOKEN_BANG;
 use text_scan::TOKEN_BAR;
@@ -23,25 +25,12 @@ ghost use mathlib.Core.Path.{_≡_};
 ghost use Prim.Native.Nat.{_+_, _-_, _≤_, _<_};
 ghost use mathlib.Core.Bool.{cond};
 ghost use lib.ListN.{length, take, drop, getD};
-ghost use Rattle.paper.specs.Lexical.{hitsByte, letter, letterOrDigit, digit};
+ghost use Rattle.paper.specs.Lexical.{hitsByte, letterOrDigit, digit};
 ghost use Rattle.paper.proofs.Lexing.{from};
 ghost use Rattle.text_scan.specs.Head.{headOf};
 ghost use Rattle.text_scan.specs.Piece.{tokenHere, ignoredHere};
 ghost use Rattle.text_scan.specs.Run.{runOf, startsWith, fractionSize, signSize, exponentSize, wholeSize};
 ghost use Rattle.text_tokens.specs.Skip.{Skipped, Numeric, punctuatorOf};
-
-// Whether a byte may start a name: A to Z, a to z, _ (draft 2.1.9). The most frequent come first.
-pub fn starts_name(b: u8) -> bool
-    ensures { λ r. ⌜ r ≡ hitsByte letter b ⌝ }
-{
-    if b'`' < b {
-        return b < b'{';
-    }
-    if b'Z' < b {
-        return b == b'_';
-    }
-    b'@' < b
-}
 
 pub fn is_digit(b: u8) -> bool
     ensures { λ r. ⌜ r ≡ hitsByte digit b ⌝ }
@@ -50,22 +39,6 @@ pub fn is_digit(b: u8) -> bool
         return false;
     }
     b < b':'
-}
-
-// Whether a byte may go on with a name.
-pub fn in_name(b: u8) -> bool
-    ensures { λ r. ⌜ r ≡ hitsByte letterOrDigit b ⌝ }
-{
-    if b'`' < b {
-        return b < b'{';
-    }
-    if b < b':' {
-        return b'/' < b;
-    }
-    if b'Z' < b {
-        return b == b'_';
-    }
-    b'@' < b
 }
 
 // Whether the byte order mark stands at i.

@@ -15,7 +15,7 @@ use Rattle.plan_walk_formed.proofs.step_formed.Statement.{statement}
 use Rattle.plan_walk_formed.proofs.step_formed.Tie as tie
 use Rattle.plan_walk_formed.proofs.step_formed.Reads as reads
 use Rattle.plan_walk_formed.proofs.step_formed.Lts as lts
-use Rattle.query_types.proofs.is_output.Reads as is-output-reads
+use Rattle.table_types.proofs.is_composite.Reads as is-composite-reads
 use Rattle.plan_walk_formed.proofs.number_at.Reads as number-at-reads
 use Rattle.table_types.proofs.kind_in.Reads as kind-in-reads
 
@@ -80,15 +80,15 @@ kind-in-requires : tie.Need-kind-in-requires
 kind-in-requires c κs = search needs
 
 -- src/lib.rt:57:9
-is-output-requires : tie.Need-is-output-requires
-is-output-requires c κs = search needs
+is-composite-requires : tie.Need-is-composite-requires
+is-composite-requires c κs = search needs
 
 -- src/lib.rt:57:9
 returns-6 : tie.Need-returns-6
 returns-6 c =
     let a = c .before .before .before .before .before .before .before .before .before .before .before .before .before .args in
     three-is _ _ _ _ _ _ _ (c .before .before .before .before .before .before .before .before .before .number-at .ensures) (c .before .before .before .before .before .before .before .before .number-at2 .ensures) (c .before .before .before .before .before .before .before .number-at3 .ensures) (omega (arith, c .before .before .before .before .if4 .left)) (omega (arith, c .before .before .before .if5 .left)) (c .before .before .if6 .taken) _
-    (sym (c .is-output .ensures ∙ ap (λ (x : ℕ). leb tagObject x && leb x tagUnion) (c .before .kind-in .ensures ∙ kind-is (a .t .now) (a .book .now) (c .before .before .before .before .before .before .before .before .before .before .before .before .before .pre .0) (c .before .before .before .before .before .before .before .before .number-at2 .result))))
+    (sym (c .is-composite .ensures ∙ ap (λ (x : ℕ). leb tagObject x && leb x tagUnion) (c .before .kind-in .ensures ∙ kind-is (a .t .now) (a .book .now) (c .before .before .before .before .before .before .before .before .before .before .before .before .before .pre .0) (c .before .before .before .before .before .before .before .before .number-at2 .result))))
 
 -- src/lib.rt:60:9
 returns-7 : tie.Need-returns-7
@@ -117,7 +117,7 @@ step-formed-spec =
     returns-4
     returns-5
     kind-in-requires
-    is-output-requires
+    is-composite-requires
     returns-6
     returns-7
     returns-8)

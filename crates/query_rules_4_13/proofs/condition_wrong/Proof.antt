@@ -75,13 +75,13 @@ tag-meant-requires c κs =
     let g = c .before .before .before .before .before .before .before .before .before .before .before .before .pre in
     (g .0, rw (c .before .name-of .ensures, c .size-of .ensures) (name-within (a .s .now) (a .rows .now) (a .n) (g .1) (a .i)))
 
-is-output-requires : tie.Need-is-output-requires
-is-output-requires c κs = search needs
+is-composite-requires : tie.Need-is-composite-requires
+is-composite-requires c κs = search needs
 
 returns-3 : tie.Need-returns-3
 returns-3 c =
     let a = c .before .before .before .before .before .before .before .before .before .before .before .before .before .before .args in
-    condition-judged (tableOf (a .t .now)) (docOf (a .s .now) (a .rows .now) (a .n)) (a .i) (kind (c .before .before .before .before .before .before .before .before)) (parent (c .before .before .before .before .before) ∙ not-false _ (c .before .before .before .before .if2 .left)) (c .is-output .ensures ∙ ap (λ (k : ℕ). leb tagObject k && leb k tagUnion) (meant-tag (c .before)))
+    condition-judged (tableOf (a .t .now)) (docOf (a .s .now) (a .rows .now) (a .n)) (a .i) (kind (c .before .before .before .before .before .before .before .before)) (parent (c .before .before .before .before .before) ∙ not-false _ (c .before .before .before .before .if2 .left)) (c .is-composite .ensures ∙ ap (λ (k : ℕ). leb tagObject k && leb k tagUnion) (meant-tag (c .before)))
 
 pub condition-wrong-spec : {M : Type 1} → statement M
 condition-wrong-spec =
@@ -99,5 +99,5 @@ condition-wrong-spec =
     size-of-requires
     cast-tag-meant-2
     tag-meant-requires
-    is-output-requires
+    is-composite-requires
     returns-3)

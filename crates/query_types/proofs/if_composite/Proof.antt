@@ -1,26 +1,22 @@
 -- By the kind in the book.
 use mathlib.Core.Path.{_≡_, ap, _∙_}
-use mathlib.Core.Bool.{_&&_}
-use Prim.Native.Nat.{ℕ}
 use native.Mathlib.Omega.{arith}
-use lib.Dec.{leb}
-use Rattle.paper_table.specs.TableNumbers.{tagObject, tagUnion}
-use Rattle.table_types.specs.Booked.{kindIn}
+use Rattle.table_types.specs.Booked.{kindIn, isCompositeTag}
 use Rattle.query_types.proofs.CompositeLaws.{kind-few, composite-yes, composite-no}
 use borrow.Author.Needs.{needs}
 use Rattle.query_types.proofs.if_composite.Statement.{statement}
 use Rattle.query_types.proofs.if_composite.Tie as tie
 
-tested : (c : tie.After-is-output)
-    → c .is-output .result ≡ leb tagObject (kindIn (c .before .before .before .before .args .book .now) (c .before .before .before .before .args .k)) && leb (kindIn (c .before .before .before .before .args .book .now) (c .before .before .before .before .args .k)) tagUnion
+tested : (c : tie.After-is-composite)
+    → c .is-composite .result ≡ isCompositeTag (kindIn (c .before .before .before .before .args .book .now) (c .before .before .before .before .args .k))
 tested c =
-    c .is-output .ensures ∙ ap (λ (x : ℕ). leb tagObject x && leb x tagUnion) (c .before .kind-in .ensures)
+    c .is-composite .ensures ∙ ap isCompositeTag (c .before .kind-in .ensures)
 
 kind-in-requires : tie.Need-kind-in-requires
 kind-in-requires c κs = search needs
 
-is-output-requires : tie.Need-is-output-requires
-is-output-requires c κs = search needs
+is-composite-requires : tie.Need-is-composite-requires
+is-composite-requires c κs = search needs
 
 cast-result : tie.Need-cast-result
 cast-result c =
@@ -45,4 +41,4 @@ returns-2 c =
 pub if-composite-spec : {M : Type 1} → statement M
 if-composite-spec =
     tie.close
-    (tie.spec kind-in-requires is-output-requires cast-result add-result returns returns-2)
+    (tie.spec kind-in-requires is-composite-requires cast-result add-result returns returns-2)

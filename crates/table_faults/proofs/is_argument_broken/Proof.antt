@@ -9,7 +9,7 @@ use Rattle.paper_table.specs.Lists.{anyOf}
 use Rattle.paper_table.specs.Types.{tableOf}
 use Rattle.paper_table.specs.Rules.{isReserved, argumentNamed}
 use Rattle.table_members.specs.Members.{argumentsIn, argumentFrom}
-use Rattle.table_bases.specs.Meanings.{isOutputTag}
+use Rattle.table_types.specs.Booked.{isCompositeTag}
 use Rattle.table_faults.proofs.FailLaws.{argument-seven, argument-eight, argument-four, argument-five, argument-other}
 use Rattle.table_faults.proofs.is_argument_broken.Statement.{statement}
 use Rattle.table_faults.proofs.is_argument_broken.Tie as tie
@@ -23,11 +23,11 @@ returns c = ap (λ (k : ℕ). eqb k 0) (c .base-tag .ensures) ∙ argument-seven
 base-tag-requires-2 : tie.Need-base-tag-requires-2
 base-tag-requires-2 c κs = search needs
 
-is-output-requires : tie.Need-is-output-requires
-is-output-requires c κs = search needs
+is-composite-requires : tie.Need-is-composite-requires
+is-composite-requires c κs = search needs
 
 returns-2 : tie.Need-returns-2
-returns-2 c = c .is-output .ensures ∙ ap isOutputTag (c .before .base-tag2 .ensures) ∙ argument-eight (c .before .before .before .before .before .before .args .rule) (tableOf (c .before .before .before .before .before .before .args .t .now)) (argumentsIn (c .before .before .before .before .before .before .args .t .now) (c .before .before .before .before .before .before .args .from) (c .before .before .before .before .before .before .args .end)) (c .before .before .before .before .before .before .args .a) (argumentFrom (c .before .before .before .before .before .before .args .t .now) (c .before .before .before .before .before .before .args .start) (c .before .before .before .before .before .before .args .stop)) (c .before .before .before .if1 .left) (c .before .before .if2 .taken)
+returns-2 c = c .is-composite .ensures ∙ ap isCompositeTag (c .before .base-tag2 .ensures) ∙ argument-eight (c .before .before .before .before .before .before .args .rule) (tableOf (c .before .before .before .before .before .before .args .t .now)) (argumentsIn (c .before .before .before .before .before .before .args .t .now) (c .before .before .before .before .before .before .args .from) (c .before .before .before .before .before .before .args .end)) (c .before .before .before .before .before .before .args .a) (argumentFrom (c .before .before .before .before .before .before .args .t .now) (c .before .before .before .before .before .before .args .start) (c .before .before .before .before .before .before .args .stop)) (c .before .before .before .if1 .left) (c .before .before .if2 .taken)
 
 name-in-requires : tie.Need-name-in-requires
 name-in-requires c κs = search needs
@@ -54,7 +54,7 @@ is-argument-broken-spec =
     base-tag-requires
     returns
     base-tag-requires-2
-    is-output-requires
+    is-composite-requires
     returns-2
     name-in-requires
     is-argument-before-requires

@@ -14,11 +14,11 @@ returns c = wrong-field _ _ _ _ _ (c .base-tag .ensures) (c .before .if1 .taken)
 base-tag-requires-2 : tie.Need-base-tag-requires-2
 base-tag-requires-2 c κs = search needs
 
-is-output-requires : tie.Need-is-output-requires
-is-output-requires c κs = search needs
+is-composite-requires : tie.Need-is-composite-requires
+is-composite-requires c κs = search needs
 
 returns-2 : tie.Need-returns-2
-returns-2 c = c .is-output .ensures ∙ wrong-input _ _ _ _ _ (c .before .base-tag2 .ensures) (c .before .before .before .if1 .left) (c .before .before .if2 .taken)
+returns-2 c = c .is-composite .ensures ∙ wrong-input _ _ _ _ _ (c .before .base-tag2 .ensures) (c .before .before .before .if1 .left) (c .before .before .if2 .taken)
 
 returns-3 : tie.Need-returns-3
 returns-3 c = wrong-other _ _ _ _ (c .before .if1 .left) (c .if2 .left)
@@ -30,6 +30,6 @@ is-member-base-wrong-spec =
     base-tag-requires
     returns
     base-tag-requires-2
-    is-output-requires
+    is-composite-requires
     returns-2
     returns-3)

@@ -3,6 +3,8 @@ use mathlib.Core.Path.{sym, _∙_}
 use Prim.Native.Nat.{_-_}
 use native.Mathlib.Omega.{arith}
 use borrow.Author.Tests.{not-true, not-false}
+use lib.ListN.{getD}
+use Rattle.text_characters.proofs.ByteLaws.{letter-byte}
 use Rattle.table_fields.proofs.NameLaws.{name-none, name-no, name-by}
 use borrow.Author.Needs.{needs}
 use Rattle.table_fields.proofs.is_name.Statement.{statement}
@@ -11,14 +13,14 @@ use Rattle.table_fields.proofs.is_name.Tie as tie
 returns : tie.Need-returns
 returns c = name-none (c .before .before .args .t .now) (c .before .before .args .start) (c .before .before .args .end) (c .before .before .pre .within) (omega arith)
 
-shared-slice-read-is-letter : tie.Need-shared-slice-read-is-letter
-shared-slice-read-is-letter c = search needs
+shared-slice-read-starts-name : tie.Need-shared-slice-read-starts-name
+shared-slice-read-starts-name c = search needs
 
-is-letter-requires : tie.Need-is-letter-requires
-is-letter-requires c κs = search needs
+starts-name-requires : tie.Need-starts-name-requires
+starts-name-requires c κs = search needs
 
 returns-2 : tie.Need-returns-2
-returns-2 c = name-no (c .before .before .before .before .before .args .t .now) (c .before .before .before .before .before .args .start) (c .before .before .before .before .before .args .end) (c .before .before .before .before .before .pre .within) (omega (arith, c .before .before .before .if1 .left, c .before .before .before .before .before .pre .order)) (sym (c .before .is-letter .ensures) ∙ not-true _ (c .if2 .taken))
+returns-2 c = name-no (c .before .before .before .before .before .args .t .now) (c .before .before .before .before .before .args .start) (c .before .before .before .before .before .args .end) (c .before .before .before .before .before .pre .within) (omega (arith, c .before .before .before .if1 .left, c .before .before .before .before .before .pre .order)) (sym (c .before .starts-name .ensures ∙ letter-byte (getD (c .before .before .before .before .before .args .t .now) (c .before .before .before .before .before .args .start) 0)) ∙ not-true _ (c .if2 .taken))
 
 add-name-end : tie.Need-add-name-end
 add-name-end c = search needs
@@ -27,15 +29,15 @@ name-end-requires : tie.Need-name-end-requires
 name-end-requires c κs = record { order = omega (arith, c .before .before .before .if1 .left, c .before .before .before .before .before .pre .order); within = c .before .before .before .before .before .pre .within; most = c .before .before .before .before .before .pre .most }
 
 returns-3 : tie.Need-returns-3
-returns-3 c = name-by (c .before .before .before .before .before .before .args .t .now) (c .before .before .before .before .before .before .args .start) (c .before .before .before .before .before .before .args .end) (c .before .before .before .before .before .before .pre .within) (omega (arith, c .before .before .before .before .if1 .left, c .before .before .before .before .before .before .pre .order)) (sym (c .before .before .is-letter .ensures) ∙ not-false _ (c .before .if2 .left)) _ (c .name-end .ensures)
+returns-3 c = name-by (c .before .before .before .before .before .before .args .t .now) (c .before .before .before .before .before .before .args .start) (c .before .before .before .before .before .before .args .end) (c .before .before .before .before .before .before .pre .within) (omega (arith, c .before .before .before .before .if1 .left, c .before .before .before .before .before .before .pre .order)) (sym (c .before .before .starts-name .ensures ∙ letter-byte (getD (c .before .before .before .before .before .before .args .t .now) (c .before .before .before .before .before .before .args .start) 0)) ∙ not-false _ (c .before .if2 .left)) _ (c .name-end .ensures)
 
 pub is-name-spec : {M : Type 1} → statement M
 is-name-spec =
     tie.close
     (tie.spec
     returns
-    shared-slice-read-is-letter
-    is-letter-requires
+    shared-slice-read-starts-name
+    starts-name-requires
     returns-2
     add-name-end
     name-end-requires

@@ -5,8 +5,10 @@ use mathlib.Core.Bool.{Bool, not}
 use Prim.Native.Nat.{ℕ, _+_, _-_, _≤_}
 use native.Mathlib.Omega.{arith}
 use lib.Seq.{slice}
+use lib.ListN.{getD}
 use Rattle.paper.specs.Lexical.{letterOrDigit, oneOf}
 use Rattle.paper_table.specs.References.{nameSize}
+use Rattle.text_characters.proofs.ByteLaws.{name-byte}
 use Rattle.table_fields.proofs.NameLaws.{run-more, run-stop, run-end}
 use Rattle.table_fields.proofs.name_end.Statement.{statement}
 use Rattle.table_fields.proofs.name_end.Tie as tie
@@ -23,14 +25,14 @@ noName b = not (oneOf letterOrDigit b)
 loop-holds : tie.Need-loop-holds Inv-loop μ-loop
 loop-holds c = (refl, omega arith, c .before .pre .order)
 
-shared-slice-read-is-name-byte : tie.Need-shared-slice-read-is-name-byte Inv-loop μ-loop
-shared-slice-read-is-name-byte c = search needs
+shared-slice-read-in-name : tie.Need-shared-slice-read-in-name Inv-loop μ-loop
+shared-slice-read-in-name c = search needs
 
-is-name-byte-requires : tie.Need-is-name-byte-requires Inv-loop μ-loop
-is-name-byte-requires c κs = search needs
+in-name-requires : tie.Need-in-name-requires Inv-loop μ-loop
+in-name-requires c κs = search needs
 
 returns : tie.Need-returns Inv-loop μ-loop
-returns c = run-stop noName (c .before .before .before .before .before .before .args .t .now) (c .before .before .before .before .loop .i) (c .before .before .before .before .before .before .args .end) (c .before .before .before .before .before .before .pre .within) (c .before .before .before .loop-test .taken) (ap not (sym (c .before .is-name-byte .ensures)) ∙ c .if1 .taken) ∙ c .before .before .before .before .loop .inv .0
+returns c = run-stop noName (c .before .before .before .before .before .before .args .t .now) (c .before .before .before .before .loop .i) (c .before .before .before .before .before .before .args .end) (c .before .before .before .before .before .before .pre .within) (c .before .before .before .loop-test .taken) (ap not (sym (c .before .in-name .ensures ∙ name-byte (getD (c .before .before .before .before .before .before .args .t .now) (c .before .before .before .before .loop .i) 0))) ∙ c .if1 .taken) ∙ c .before .before .before .before .loop .inv .0
 
 add-i : tie.Need-add-i Inv-loop μ-loop
 add-i c = search needs
@@ -39,7 +41,7 @@ loop-less : tie.Need-loop-less Inv-loop μ-loop
 loop-less c = search needs
 
 loop-again : tie.Need-loop-again Inv-loop μ-loop
-loop-again c = (run-more noName (c .before .before .before .before .before .before .args .t .now) (c .before .before .before .before .loop .i) (c .before .before .before .before .before .before .args .end) (c .before .before .before .before .before .before .pre .within) (c .before .before .before .loop-test .taken) (ap not (sym (c .before .is-name-byte .ensures)) ∙ c .if1 .left) ∙ c .before .before .before .before .loop .inv .0, omega arith, omega arith)
+loop-again c = (run-more noName (c .before .before .before .before .before .before .args .t .now) (c .before .before .before .before .loop .i) (c .before .before .before .before .before .before .args .end) (c .before .before .before .before .before .before .pre .within) (c .before .before .before .loop-test .taken) (ap not (sym (c .before .in-name .ensures ∙ name-byte (getD (c .before .before .before .before .before .before .args .t .now) (c .before .before .before .before .loop .i) 0))) ∙ c .if1 .left) ∙ c .before .before .before .before .loop .inv .0, omega arith, omega arith)
 
 returns-2 : tie.Need-returns-2 Inv-loop μ-loop
 returns-2 c = run-end noName (c .before .before .before .args .t .now) (c .before .loop .i) (c .before .before .before .args .end) (c .before .before .before .pre .within) (c .loop-test .left) ∙ c .before .loop .inv .0
@@ -51,8 +53,8 @@ name-end-spec =
     Inv-loop
     μ-loop
     loop-holds
-    shared-slice-read-is-name-byte
-    is-name-byte-requires
+    shared-slice-read-in-name
+    in-name-requires
     returns
     add-i
     loop-less

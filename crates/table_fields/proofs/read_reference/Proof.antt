@@ -4,6 +4,8 @@ use mathlib.Core.Path.{sym, _∙_}
 use Prim.Native.Nat.{_-_, _≤_, _<_}
 use native.Mathlib.Omega.{arith}
 use borrow.Author.Tests.{not-true, not-false}
+use lib.ListN.{getD}
+use Rattle.text_characters.proofs.ByteLaws.{letter-byte}
 use Rattle.table_fields.proofs.RefLaws.{ref-none, ref-no, brackets-within, Wrapped, wrapped-start, wrapped-small, wrapped-whole, wrapped-short, wrapped-bad, wrapped-most, wrapped-on}
 use Rattle.table_fields.proofs.read_reference.Statement.{statement}
 use Rattle.table_fields.proofs.read_reference.Tie as tie
@@ -30,14 +32,14 @@ brackets-end-requires c κs = c .before .pre
 returns : tie.Need-returns Inv-loop μ-loop
 returns c = ref-none (c .before .before .before .args .t .now) (c .before .before .before .args .start) (c .before .before .before .args .end) (c .before .brackets-end .result) (c .before .before .before .pre .order) (c .before .before .before .pre .within) (c .before .brackets-end .ensures) (omega (arith, c .if1 .taken))
 
-shared-slice-read-is-letter : tie.Need-shared-slice-read-is-letter Inv-loop μ-loop
-shared-slice-read-is-letter c = let h = room (c .before) in omega (arith, h, c .before .before .before .before .pre .within)
+shared-slice-read-starts-name : tie.Need-shared-slice-read-starts-name Inv-loop μ-loop
+shared-slice-read-starts-name c = let h = room (c .before) in omega (arith, h, c .before .before .before .before .pre .within)
 
-is-letter-requires : tie.Need-is-letter-requires Inv-loop μ-loop
-is-letter-requires c κs = search needs
+starts-name-requires : tie.Need-starts-name-requires Inv-loop μ-loop
+starts-name-requires c κs = search needs
 
 returns-2 : tie.Need-returns-2 Inv-loop μ-loop
-returns-2 c = ref-no (c .before .before .before .before .before .before .args .t .now) (c .before .before .before .before .before .before .args .start) (c .before .before .before .before .before .before .args .end) (c .before .before .before .before .brackets-end .result) (c .before .before .before .before .before .before .pre .order) (c .before .before .before .before .before .before .pre .within) (c .before .before .before .before .brackets-end .ensures) (room (c .before .before .before)) (sym (c .before .is-letter .ensures) ∙ not-true _ (c .if2 .taken))
+returns-2 c = ref-no (c .before .before .before .before .before .before .args .t .now) (c .before .before .before .before .before .before .args .start) (c .before .before .before .before .before .before .args .end) (c .before .before .before .before .brackets-end .result) (c .before .before .before .before .before .before .pre .order) (c .before .before .before .before .before .before .pre .within) (c .before .before .before .before .brackets-end .ensures) (room (c .before .before .before)) (sym (c .before .starts-name .ensures ∙ letter-byte (getD (c .before .before .before .before .before .before .args .t .now) (c .before .before .before .before .brackets-end .result) 0)) ∙ not-true _ (c .if2 .taken))
 
 add-name-end : tie.Need-add-name-end Inv-loop μ-loop
 add-name-end c = let h = room (c .before .before .before) in omega (arith, h, c .before .before .before .before .before .before .pre .within, c .before .before .before .before .before .before .pre .most)
@@ -49,7 +51,7 @@ sub-lists : tie.Need-sub-lists Inv-loop μ-loop
 sub-lists c = let h = inside ((c .before .before .before .before .before)) in omega (arith, h .0)
 
 loop-holds : tie.Need-loop-holds Inv-loop μ-loop
-loop-holds c = wrapped-start (c .before .before .before .before .before .before .before .args .t .now) (c .before .before .before .before .before .before .before .args .start) (c .before .before .before .before .before .before .before .args .end) (c .before .before .before .before .before .brackets-end .result) (c .name-end .result) (c .before .before .before .before .before .before .before .pre .order) (c .before .before .before .before .before .before .before .pre .within) (c .before .before .before .before .before .brackets-end .ensures) (room (c .before .before .before .before)) (sym (c .before .before .is-letter .ensures) ∙ not-false _ (c .before .if2 .left)) (c .name-end .ensures)
+loop-holds c = wrapped-start (c .before .before .before .before .before .before .before .args .t .now) (c .before .before .before .before .before .before .before .args .start) (c .before .before .before .before .before .before .before .args .end) (c .before .before .before .before .before .brackets-end .result) (c .name-end .result) (c .before .before .before .before .before .before .before .pre .order) (c .before .before .before .before .before .before .before .pre .within) (c .before .before .before .before .before .brackets-end .ensures) (room (c .before .before .before .before)) (sym (c .before .before .starts-name .ensures ∙ letter-byte (getD (c .before .before .before .before .before .before .before .args .t .now) (c .before .before .before .before .before .brackets-end .result) 0)) ∙ not-false _ (c .before .if2 .left)) (c .name-end .ensures)
 
 shared-slice-read-wrapper : tie.Need-shared-slice-read-wrapper Inv-loop μ-loop
 shared-slice-read-wrapper c = omega (arith, c .before .loop-test .taken, c .before .before .before .before .before .before .before .before .before .before .pre .within)
@@ -95,8 +97,8 @@ read-reference-spec =
     μ-loop
     brackets-end-requires
     returns
-    shared-slice-read-is-letter
-    is-letter-requires
+    shared-slice-read-starts-name
+    starts-name-requires
     returns-2
     add-name-end
     name-end-requires

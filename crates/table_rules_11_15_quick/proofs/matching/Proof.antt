@@ -4,7 +4,7 @@ use mathlib.Core.Path.{subst}
 use native.Mathlib.Omega.{arith}
 use Rattle.table_book.specs.Book.{part}
 use Rattle.table_members.specs.Members.{argumentsIn, argumentFrom}
-use Rattle.table_lookups.specs.Lookups.{ArgumentAt, ArgumentSought}
+use Rattle.table_rules_11_15_quick.specs.Numbered.{ArgumentAt, ArgumentSought}
 use Rattle.table_rules_11_15_quick.proofs.KeepingLaws.{matched}
 use Rattle.table_rules_11_15_quick.proofs.matching.Statement.{statement}
 use Rattle.table_rules_11_15_quick.proofs.matching.Tie as tie

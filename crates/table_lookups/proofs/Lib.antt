@@ -1,2 +1,0 @@
--- Laws of this crate, in the order in which they use each other.
-pub mod LookupLaws
