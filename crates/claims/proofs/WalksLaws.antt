@@ -23,7 +23,7 @@ use Rattle.paper_plan.specs.WalkNumbers.{mostPairs, pairsSize, refuseWalk, refu
 use Rattle.paper_plan.specs.WalkCalls.{CanWalk, listed, Lent, Right, Walked, short-report, short-pairs, long-table, refuses-table, refuses-walk, too-many-pairs, lists}
 use Rattle.paper_plan.proofs.WalkCallsOne.{walked-one}
 use Rattle.plan_theory.proofs.Document.{Among}
-use Rattle.plan_walk_answer.proofs.WalkedLaws.{flat-length}
+use Rattle.plan_walk_told.proofs.FixedLaws.{flat-length}
 use Rattle.claims.proofs.BuffersLaws.{filled-kept, filled-head, tells-fits}
 use Rattle.claims.proofs.CheckedLaws.{told-fits}
 

@@ -19,15 +19,13 @@ use Rattle.paper.specs.Rows.{Row}
 use Rattle.paper.specs.Refusals.{numberOf}
 use Rattle.paper.specs.Calls.{filled, tells}
 use Rattle.paper.specs.declared.Refusal.{Refusal}
-use Rattle.paper.specs.declared.Refusal.the-variants.{Buffer}
 use Rattle.paper_table.specs.TableNumbers.{mostTable}
 use Rattle.paper_table.specs.Lists.{firstAt}
 use Rattle.paper_table.specs.Types.{Table, tableOf}
 use Rattle.paper_query.specs.Constructs.{Doc, count, rowOf, noRow, is, called, numbersWhere}
 use Rattle.paper_query.specs.DocumentCalls.{Short, read}
 use Rattle.paper_query.specs.Opening.{onlyOne, ifBelow, operationMeant, AcceptedDocument, Opened, stops, opens, opened}
-use Rattle.call_buffers.specs.Buffers.{Asks, Sized, cleared}
-use Rattle.call_buffers.specs.Buffers.{short-rows as asks-rows, long-document as asks-document, long-table as asks-table}
+use Rattle.call_buffers.specs.Buffers.{cleared}
 use Rattle.call_buffers.specs.declared.Sizes.{Sizes}
 use Rattle.call_buffers.specs.declared.Sizes.the-variants.{Met, Unmet}
 use Rattle.table_types.specs.Booked.{Booked}
@@ -46,8 +44,9 @@ use Rattle.query_opening.proofs.Start.{the-type}
 use Rattle.query_opening.specs.Opens.{Ready, Opens, stopNumber, stopShown}
 use Rattle.query_opening.specs.declared.Start.{Start}
 use Rattle.query_opening.specs.declared.Start.the-variants.{BadTable, BadText, Broken, NoOperation, Open}
-use Rattle.plan_answer.specs.Told.{TooManyTold, PlanTold, Left, PlanAsks, PlanSized}
-use Rattle.plan_answer.specs.Told.{short-plan as asks-plan, long-document as asks-long, long-table as asks-long-table}
+use Rattle.plan_endings.specs.Endings.{PlanAsks, PlanSized, MadeTold}
+use Rattle.plan_endings.specs.Endings.{short-plan as asks-plan, long-document as asks-long, long-table as asks-long-table}
+use Rattle.plan_answer.specs.Told.{TooManyTold, PlanTold, Left}
 
 -- the operation that is meant is one
 only-is : (d : Doc) (l : List ℕ) (o : ℕ) → onlyOne l ≡ some o → elem eqb o l ≡ true
@@ -114,39 +113,35 @@ pub all-cleared : (plan plan₁ : List ℕ) → length plan ≡ planSize → len
 all-cleared plan plan₁ e f = ap (λ (n : ℕ). replicate (n - 0) 0) f ∙ none-beyond (replicate planSize 0) plan e
 
 -- what the making of the plan leaves, told
-module _ (t : Table) (d : Doc) (o : ℕ) (plan p₁ report report′ : List ℕ) (size : length plan ≡ planSize) (r : ℕ) (w : PlanMade t d o p₁ r) where
-  pub left-many : (p₂ : List ℕ) → r ≡ 4097 → length p₁ ≡ planSize → p₂ ≡ cleared 0 p₁ → report′ ≡ filled reportSize (refuseTooManySteps ∷ 0 ∷ []) report → Left t d o plan p₂ report report′ refuseTooManySteps
-  left-many p₂ e size₁ q u = record { blocks = w .blocks; their = w .their; left = inl (go (w .made)) }
-    where
-      go : PlanFits t d o (w .blocks) p₁ r ⊎ PlanOver t d o (w .blocks) r → TooManyTold t d o (w .blocks) plan p₂ report report′ refuseTooManySteps
-      go (inl f) = absurd (omega (arith, f .top))
-      go (inr f) = record { many = f .many; answer = refl; cleared = q ∙ all-cleared plan p₁ size size₁; told = u }
+pub made-steps : {t : Table} {d : Doc} {o : ℕ} {p : List ℕ} {r : ℕ} → PlanMade t d o p r → r ≤ suc mostSteps
+made-steps {t} {d} {o} {p} {r} w = go (w .made)
+  where
+    go : PlanFits t d o (w .blocks) p r ⊎ PlanOver t d o (w .blocks) r → r ≤ suc mostSteps
+    go (inl f) = omega (arith, f .top)
+    go (inr f) = omega (arith, f .told)
 
-  fits : (r ≡ 4097 → ⊥) → PlanFits t d o (w .blocks) p₁ r
-  fits n = go (w .made)
-    where
-      go : PlanFits t d o (w .blocks) p₁ r ⊎ PlanOver t d o (w .blocks) r → PlanFits t d o (w .blocks) p₁ r
-      go (inl f) = f
-      go (inr f) = absurd (n (f .told))
+module _ (t : Table) (d : Doc) (o : ℕ) (plan p₁ p₂ report report′ : List ℕ) (size : length plan ≡ planSize) (r a : ℕ) (w : PlanMade t d o p₁ r) where
+  left-many : PlanOver t d o (w .blocks) r → length p₁ ≡ planSize → MadeTold r p₁ p₂ report report′ a → TooManyTold t d o (w .blocks) plan p₂ report report′ a
+  left-many f size₁ h = let u = h .too-many (f .told) in record { many = f .many; answer = u .0; cleared = u .1 ∙ all-cleared plan p₁ size size₁; told = u .2 }
 
-  pub made-top : (r ≡ 4097 → ⊥) → r ≤ mostSteps
-  made-top n = fits n .top
-
-  pub left-plan : (r ≡ 4097 → ⊥) → report′ ≡ filled reportSize (accepted ∷ getD p₁ 0 0 ∷ r ∷ 0 ∷ 0 ∷ 0 ∷ []) report → Left t d o plan p₁ report report′ accepted
-  left-plan n u =
-      let f = fits n in
+  left-plan : PlanFits t d o (w .blocks) p₁ r → MadeTold r p₁ p₂ report report′ a → PlanTold t d o (w .blocks) plan p₂ report report′ a
+  left-plan f h =
+      let u = h .counted (f .top) in
       let p = planFor t d o (w .blocks) in
       let first : getD p₁ 0 0 ≡ length (p .first) = ap (λ (l : List ℕ). getD l 0 0) (f .written) in
       record {
-        blocks = w .blocks;
-        their = w .their;
-        left = inr (record {
-          few = omega (arith, f .end, f .top);
-          answer = refl;
-          written = f .written ∙ none-beyond (planNumbers p ++ replicate (planSize - length (planNumbers p)) 0) plan size;
-          told = u ∙ ap (λ (k : ℕ). filled reportSize (accepted ∷ k ∷ r ∷ []) report) first ∙ ap (λ (k : ℕ). filled reportSize (accepted ∷ length (p .first) ∷ k ∷ []) report) (f .end);
-        });
+        few = omega (arith, f .end, f .top);
+        answer = u .0;
+        written = u .1 ∙ f .written ∙ none-beyond (planNumbers p ++ replicate (planSize - length (planNumbers p)) 0) plan size;
+        told = u .2 ∙ ap (λ (k : ℕ). filled reportSize (accepted ∷ k ∷ r ∷ []) report) first ∙ ap (λ (k : ℕ). filled reportSize (accepted ∷ length (p .first) ∷ k ∷ []) report) (f .end);
       }
+
+  pub left-told : length p₁ ≡ planSize → MadeTold r p₁ p₂ report report′ a → Left t d o plan p₂ report report′ a
+  left-told size₁ h = record { blocks = w .blocks; their = w .their; left = go (w .made) }
+    where
+      go : PlanFits t d o (w .blocks) p₁ r ⊎ PlanOver t d o (w .blocks) r → TooManyTold t d o (w .blocks) plan p₂ report report′ a ⊎ PlanTold t d o (w .blocks) plan p₂ report report′ a
+      go (inl f) = inr (left-plan f h)
+      go (inr f) = inl (left-many f size₁ h)
 
 -- an opened operation
 module _ (table document name plan report plan′ report′ : List ℕ) (lent : PlanLent plan report) (short : Short table document) where
@@ -190,18 +185,6 @@ module _ (table document name plan report plan′ report′ : List ℕ) (lent : 
       subst (Planned table document name plan report plan′ report′) (sym (t .0)) (refuses-opening lent short (stops-so table document name rows book x w f) (q ∙ all-cleared plan plan₁ e g) (t .1))
 
 -- The sizes.
-pub sized-short : (plan document table : ℕ) → plan < planSize → PlanSized plan document table (Unmet Buffer)
-sized-short plan document table h = asks-plan h
-
-pub sized-rest : (plan document table : ℕ) (s : Sizes) → planSize ≤ plan → Sized rowsSize document table s → PlanSized plan document table s
-sized-rest plan document table Met h w = (h, w .1, w .2)
-sized-rest plan document table (Unmet r) h w = go r w
-  where
-    go : (y : Refusal) → Asks rowsSize document table y → PlanAsks plan document table y
-    go _ (asks-rows u) = absurd (omega arith)
-    go _ (asks-document u l) = asks-long h l
-    go _ (asks-table u l m) = asks-long-table h l m
-
 pub sizes-kept : {plan document table : ℕ} {s : Sizes} → PlanSized plan document table s → s ≡ Met → (planSize ≤ plan) × (document ≤ mostText) × (table ≤ mostTable)
 sizes-kept {plan} {document} {table} w e = subst (PlanSized plan document table) e w
 

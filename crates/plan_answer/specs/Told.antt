@@ -1,19 +1,14 @@
--- What is left of an operation that was opened; and whether the plan's buffer and the inputs keep to their sizes.
+-- What is left of an operation that was opened.
 -- Assumes nothing.
 use mathlib.Core.Path.{_≡_}
 use mathlib.Core.List.{List, [], _∷_}
 use mathlib.Core.Logic.{_⊎_}
 use Prim.Native.Nat.{ℕ, _≤_, _<_}
 use lib.ListN.{length}
-use Rattle.paper.specs.Numbers.{reportSize, mostText, inputDocument, accepted}
+use Rattle.paper.specs.Numbers.{reportSize, accepted}
 use Rattle.paper.specs.Calls.{filled}
-use Rattle.paper.specs.declared.Refusal.{Refusal}
-use Rattle.paper.specs.declared.Refusal.the-variants.{Buffer, OverLength}
-use Rattle.paper_table.specs.TableNumbers.{mostTable, inputTable}
 use Rattle.paper_table.specs.Types.{Table}
 use Rattle.paper_query.specs.Constructs.{Doc}
-use Rattle.call_buffers.specs.declared.Sizes.{Sizes}
-use Rattle.call_buffers.specs.declared.Sizes.the-variants.{Met, Unmet}
 use Rattle.paper_plan.specs.Selecting.{BlockRows, planFor}
 use Rattle.paper_plan.specs.PlanNumbers.{planSize, mostSteps, planNumbers}
 use Rattle.paper_plan.specs.PlanCalls.{refuseTooManySteps}
@@ -35,13 +30,3 @@ pub record Left (t : Table) (d : Doc) (o : ℕ) (plan plan′ report report′ :
   pub blocks : List ℕ
   pub their : BlockRows d o blocks
   pub left : TooManyTold t d o blocks plan plan′ report report′ r ⊎ PlanTold t d o blocks plan plan′ report report′ r
-
--- the first refusal that the lengths ask for: 1, then 2 with the least input
-pub data PlanAsks (plan document table : ℕ) : Refusal → Type 0 where
-  short-plan : plan < planSize → PlanAsks plan document table Buffer
-  long-document : planSize ≤ plan → mostText < document → PlanAsks plan document table (OverLength inputDocument)
-  long-table : planSize ≤ plan → document ≤ mostText → mostTable < table → PlanAsks plan document table (OverLength inputTable)
-
-abbrev pub PlanSized : ℕ → ℕ → ℕ → Sizes → Type 0
-PlanSized plan document table Met = (planSize ≤ plan) × (document ≤ mostText) × (table ≤ mostTable)
-PlanSized plan document table (Unmet r) = PlanAsks plan document table r

@@ -4,6 +4,10 @@ use paper::KIND_FIELD;
 use paper::KIND_INLINE;
 use paper::KIND_SPREAD;
 use paper::KIND_TYPE_REFERENCE;
+use paper_plan::STEP_IF_MET;
+use paper_plan::STEP_IF_TRUE;
+use paper_plan::STEP_UNLESS_APPLIES;
+use paper_plan::STEP_UNLESS_TRUE;
 use plan_conditions::If;
 use query_links::link_of;
 use query_rows::kind_of;
@@ -51,15 +55,6 @@ const WHAT_FIELD: u16 = 1;
 const WHAT_NESTED: u16 = 2;
 
 const WHAT_DROPPED: u16 = 3;
-
-// the kinds of steps that are tests
-const STEP_IF_TRUE: u16 = 1;
-
-const STEP_UNLESS_TRUE: u16 = 2;
-
-const STEP_UNLESS_APPLIES: u16 = 3;
-
-const STEP_IF_MET: u16 = 4;
 
 // Writes what a row is.
 fn put_head(row: &mut [u16], what: u16, above: u32, behind: u32, count: u32)

@@ -1,4 +1,7 @@
 // Whether the numbers of a lent plan are well-formed.
+use paper_plan::MOST_BLOCKS;
+use paper_plan::MOST_STEPS;
+use paper_plan::PLAN_SIZE;
 use table_types::is_composite;
 ghost use mathlib.Core.Path.{_≡_};
 ghost use Prim.Native.Nat.{_+_, _≤_, _<_};
@@ -8,13 +11,6 @@ ghost use Rattle.table_types.specs.Booked.{Booked};
 ghost use Rattle.query_rows.specs.Rowed.{Decides};
 ghost use Rattle.paper_plan.specs.PlanNumbers.{planSize, mostSteps, blocksIn, stepsIn, firstIn, endIn, Formed, WellFormed};
 ghost use Rattle.plan_walk_formed.specs.Blocks.{StepsFormed, BlockFormed, Headed, BlocksFormed};
-
-// how many numbers a plan has; the most of its blocks and steps
-pub const PLAN_SIZE: usize = 14338;
-
-pub const MOST_BLOCKS: u32 = 2048;
-
-pub const MOST_STEPS: u32 = 4096;
 
 fn wide(x: u32) -> usize
     ensures { λ r. ⌜ r ≡ x ⌝ }

@@ -36,6 +36,7 @@ use Rattle.query_opening.specs.declared.Start.the-variants.{BadTable, BadText a
 use Rattle.query_subtrees.specs.Past.{Pasts}
 use Rattle.query_counts.proofs.FewRows.{taken-variables}
 use Rattle.paper_values.specs.ValueNumbers.{mostCoerced}
+use Rattle.paper_values.specs.Values.{Tree, Out}
 use Rattle.paper_values.specs.RowValues.{placed, argumentsAt}
 use Rattle.paper_values.specs.DocumentDues.{variableDues, givenIn, argumentDues, ReachedField}
 use Rattle.paper_values.specs.ValueCalls.{Ending, ends, ended, VariablesEnd, nothing-opened, text-refused, variables-coerced, ArgumentsEnd, no-operation-opened, no-field-reached, variables-unread, arguments-coerced}
@@ -51,11 +52,15 @@ use Rattle.value_fields.proofs.MeantLaws.{opened-operation}
 use Rattle.value_endings.specs.Endings.{endingOf}
 use Rattle.value_endings.specs.declared.Ended.{Ended}
 use Rattle.value_variables.specs.Variables.{Asked}
-use Rattle.value_answers.specs.Answers.{Few, Stands, Standing, FieldServes, resultOf, Gives, ReadEnd, unread, done, FieldEnd, unreached, reached, OpenEnd, EndFor}
+use Rattle.value_results.specs.Results.{Few, FieldServes, resultOf, outcomeOf}
+use Rattle.value_results.specs.Results.{Gives as Comes}
+use Rattle.value_results.specs.declared.Outcome.{Outcome}
+use Rattle.value_results.specs.declared.Outcome.the-variants as results
+use Rattle.value_results.specs.declared.Task.{Task}
+use Rattle.value_results.specs.declared.Task.the-variants.{OfOperation}
+use Rattle.value_answers.specs.Answers.{Stands, Standing, endedOf, Gives, ReadEnd, unread, done, FieldEnd, unreached, reached, OpenEnd, EndFor}
 use Rattle.value_answers.specs.declared.Call.{Call}
 use Rattle.value_answers.specs.declared.Call.the-variants.{Variables, Arguments}
-use Rattle.value_answers.specs.declared.Task.{Task}
-use Rattle.value_answers.specs.declared.Task.the-variants.{OfOperation}
 
 -- ---- what is asked of rows with their pasts
 
@@ -70,6 +75,15 @@ module _ (t book s rows past s1 rows1 past1 : List ℕ) (n n1 : ℕ) (st : Stand
 
 pub stands-few : (t book s rows held out : List ℕ) (n op : ℕ) → Stands t book s rows n → length held ≡ 448 → length out ≡ mostCoerced → Few (docOf s rows n) op held out
 stands-few t book s rows held out n op st a b = record { few = taken-variables s rows n (st .taken) op; held-size = a; out-size = b }
+
+-- ---- what comes of the task
+
+same-end : (o : Outcome) (v : List ℕ) → outcomeOf o v ≡ endingOf (endedOf o) v
+same-end (results.UpTo at) v = refl
+same-end (results.Refused text row why) v = refl
+
+pub task-ends : {x : Out Tree} {v : List ℕ} {o : Outcome} {e : Ended} → Comes x v o → e ≡ endedOf o → Gives x v e
+task-ends {x} {v} {o} g q = subst (λ (z : Ended). Gives x v z) (sym q) record { same = g .same ∙ same-end o v }
 
 -- ---- the variables text
 

@@ -4,69 +4,47 @@ use mathlib.Core.Path.{_≡_}
 use mathlib.Core.List.{List, []}
 use Prim.Native.Nat.{ℕ, _≤_}
 use lib.ListN.{length}
-use Rattle.paper.specs.Numbers.{mostVariables, kindOperation, inputDocument, inputVariables}
+use Rattle.paper.specs.Numbers.{kindOperation, inputVariables}
 use Rattle.paper.specs.Language.{Document, VariablesText}
 use Rattle.paper.specs.Tokens.{Text, Tokens}
 use Rattle.paper.specs.Rows.{Row}
 use Rattle.paper.specs.Refusals.{numberOf, shownInText}
 use Rattle.paper.specs.Reading.{rows-are, refuses, Said}
 use Rattle.paper.specs.declared.Refusal.{Refusal}
-use Rattle.paper_table.specs.Types.{tableOf}
 use Rattle.paper_table.specs.Judging.{judge}
 use Rattle.paper_table.specs.declared.TableAnswer.the-variants.{Accepted}
-use Rattle.paper_query.specs.Constructs.{Doc, count}
-use Rattle.paper_query.specs.Enclosing.{fieldAt}
+use Rattle.paper_query.specs.Constructs.{Doc}
 use Rattle.paper_query.specs.DocumentCalls.{read}
 use Rattle.paper_query.specs.Opening.{refuseNoOperation}
 use Rattle.table_types.specs.Booked.{Booked}
 use Rattle.query_rows.specs.Rowed.{rowIn}
 use Rattle.query_rows.proofs.ReadRows.{Taken}
 use Rattle.paper_values.specs.ValueNumbers.{mostCoerced}
-use Rattle.paper_values.specs.Values.{Tree, Pairs, Out, andThen}
-use Rattle.paper_values.specs.Coercion.{heads, inObject, givens, valueIn, orDefault, variablesOf}
-use Rattle.paper_values.specs.RowValues.{placed, argumentsAt}
-use Rattle.paper_values.specs.DocumentDues.{definitionsOf, variableDues, givenIn, argumentDues, ReachedField}
-use Rattle.paper_values.specs.ValueCalls.{Ending, ends, ended, asObject, VariablesEnd, ArgumentsEnd}
-use Rattle.value_coerce.specs.Coercing.{kindsIn}
-use Rattle.value_fields.specs.Wants.{Holds}
+use Rattle.paper_values.specs.Values.{Tree, Out}
+use Rattle.paper_values.specs.DocumentDues.{ReachedField}
+use Rattle.paper_values.specs.ValueCalls.{Ending, ends, ended, VariablesEnd, ArgumentsEnd}
 use Rattle.value_endings.specs.Endings.{endingOf, Leaves}
 use Rattle.value_endings.specs.declared.Ended.{Ended}
+use Rattle.value_endings.specs.declared.Ended.the-variants.{Refused, UpTo}
+use Rattle.value_results.specs.Results.{resultOf}
+use Rattle.value_results.specs.declared.Outcome.{Outcome}
+use Rattle.value_results.specs.declared.Outcome.the-variants as results
+use Rattle.value_results.specs.declared.Task.{Task}
+use Rattle.value_results.specs.declared.Task.the-variants.{OfOperation, OfField}
 use Rattle.value_answers.specs.declared.Call.{Call}
 use Rattle.value_answers.specs.declared.Call.the-variants.{Variables, Arguments}
-use Rattle.value_answers.specs.declared.Task.{Task}
-use Rattle.value_answers.specs.declared.Task.the-variants.{OfOperation, OfField}
 
--- ---- results
+-- ---- what comes of its task
 
--- the numbers that are kept of variables
-abbrev pub heldRoom : ℕ
-heldRoom = 448
-
--- an operation's variables, from what the variables text gives
-abbrev pub coercedVariables : List ℕ → Doc → ℕ → Doc → Out Pairs
-coercedVariables t d op d1 = variablesOf (kindsIn t) (givenIn d1) (variableDues d op)
-
--- the arguments of the field at a row, where these variables have values
-abbrev pub argued : List ℕ → Doc → ℕ → Pairs → Out Tree
-argued t d row ps =
-    inObject (λ δ rest. orDefault (kindsIn t) (placed inputDocument d row) δ (δ .default) rest) (heads (argumentsAt inputDocument d row))
-    (givens (kindsIn t) (valueIn ps) (argumentsAt inputDocument d row)) (argumentDues (fieldAt (tableOf t) d row))
-
-abbrev pub resultOf : List ℕ → Doc → ℕ → Doc → Task → Out Tree
-resultOf t d op d1 OfOperation = asObject (coercedVariables t d op d1)
-resultOf t d op d1 (OfField row start end) = andThen (coercedVariables t d op d1) (argued t d row)
+abbrev pub endedOf : Outcome → Ended
+endedOf (results.UpTo at) = UpTo at
+endedOf (results.Refused text row why) = Refused text row why
 
 -- the code ends as this result does, where these bytes stand in the output
 pub record Gives (o : Out Tree) (v : List ℕ) (r : Ended) : Type 0 where
   pub same : ended o ≡ endingOf r v
 
 -- ---- what is asked
-
--- few variables, and room for what is kept of them and for the value
-pub record Few (d : Doc) (op : ℕ) (held out : List ℕ) : Type 0 where
-  pub few : length (definitionsOf d op) ≤ mostVariables
-  pub held-size : length held ≡ heldRoom
-  pub out-size : length out ≡ mostCoerced
 
 -- an accepted table and its book, a document's rows, and the row of one of its operations
 pub record Stands (t book s rows : List ℕ) (n : ℕ) : Type 0 where
@@ -77,15 +55,6 @@ pub record Stands (t book s rows : List ℕ) (n : ℕ) : Type 0 where
 pub record Standing (t book s rows : List ℕ) (n op : ℕ) : Type 0 where
   pub stands : Stands t book s rows n
   pub operation : rowIn rows n op .kind ≡ kindOperation
-
--- the row is one of the document's, and there stand the definitions of its field's arguments
-pub record FieldServes (t : List ℕ) (d : Doc) (row start end : ℕ) : Type 0 where
-  pub there : row ≤ count d
-  pub holds : Holds t (fieldAt (tableOf t) d row) start end
-
-abbrev pub Serves : List ℕ → Doc → Task → Type 0
-Serves t d OfOperation = Unit
-Serves t d (OfField row start end) = FieldServes t d row start end
 
 -- ---- how a call ends
 

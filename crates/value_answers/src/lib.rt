@@ -2,44 +2,33 @@
 // read, and the operation's variables are coerced, or the arguments of one of its fields.
 // Each large array is made in a function of its own, so that the rows of the variables text take no room while the document is judged.
 use call_buffers::Sizes;
-use paper::INPUT_DOCUMENT;
-use paper::KIND_ARGUMENT;
 use paper::REFUSE_BUFFER;
 use paper::REPORT_SIZE;
 use paper::ROWS_SIZE;
 use paper_values::MOST_COERCED;
-use paper_values::TAG_INPUT;
 use query_opening::Start;
 use table_book::BOOK_SIZE;
 use text_cursor::Read;
-use value_coerce::ALL_LEVELS;
-use value_coerce::object;
 use value_endings::Ended;
 use value_fields::Wanted;
 use value_fields::find_wanted;
-use value_kinds::Coerced;
+use value_results::Outcome;
+use value_results::Task;
+use value_results::put_task;
 use value_variables::HELD_ROOM;
-use value_variables::Variables;
-use value_variables::coerce_variables;
-use value_writing::close;
-use value_writing::place;
 ghost use mathlib.Core.Path.{_≡_};
 ghost use Prim.Native.Nat.{_≤_, _<_};
 ghost use lib.ListN.{length};
-ghost use Rattle.paper.specs.Numbers.{mostText, mostRows, rowsSize, reportSize};
+ghost use Rattle.paper.specs.Numbers.{mostText, rowsSize, reportSize};
 ghost use Rattle.paper.specs.Language.{VariablesText};
 ghost use Rattle.table_book.specs.Book.{bookSize};
 ghost use Rattle.query_rows.specs.Rowed.{docOf, fewRows, roomOf};
 ghost use Rattle.query_rows.proofs.ReadRows.{Taken};
 ghost use Rattle.paper_values.specs.ValueNumbers.{mostCoerced};
-ghost use Rattle.paper_values.specs.Values.{Pairs, andThen};
-ghost use Rattle.paper_values.specs.ValueCalls.{asObject, Short, Coerced as CoercedBy, CoercedVariables, CoercedArguments};
-ghost use Rattle.value_coerce.specs.Coercing.{Ready};
-ghost use Rattle.value_coerce.specs.Holding.{Holds, Holding};
+ghost use Rattle.paper_values.specs.ValueCalls.{Short, Coerced as CoercedBy, CoercedVariables, CoercedArguments};
 ghost use Rattle.value_endings.specs.Endings.{endingOf};
-ghost use Rattle.value_endings.specs.declared.Ended.the-variants.{Refused};
-ghost use Rattle.value_variables.specs.Variables.{Asked};
-ghost use Rattle.value_answers.specs.Answers.{heldRoom, Few, EndFor, argued, coercedVariables, resultOf, Gives, ReadEnd, OpenEnd, Stands, Standing, Serves, FieldServes, Ends};
+ghost use Rattle.value_results.specs.Results.{heldRoom, resultOf, Serves};
+ghost use Rattle.value_answers.specs.Answers.{EndFor, endedOf, Gives, ReadEnd, OpenEnd, Stands, Standing, Ends};
 
 // Up to how many rows there are few; how many there may be.
 const FEW_ROWS: usize = 256;
@@ -52,242 +41,21 @@ enum Call {
     Arguments(u32),
 }
 
-// The same, where that field is found: the content that its arguments' definitions are in.
-enum Task {
-    OfOperation,
-    OfField {
-        row: usize,
-        start: usize,
-        end: usize,
-    },
-}
-
-// A refused value.
-fn refused(text: u32, row: usize, why: u32) -> Ended
-    requires { ⌜ row ≤ mostRows ⌝ }
-    ensures { λ r. ⌜ r ≡ Refused text row why ⌝ }
+// How a call ends whose task comes to this.
+fn ended(o: Outcome) -> Ended
+    ensures { λ r. ⌜ r ≡ endedOf o ⌝ }
 {
-    Ended::Refused {
-        text: text,
-        row: row as u32,
-        why: why,
+    match o {
+        Outcome::UpTo(at) => Ended::UpTo(at),
+        Outcome::Refused { text, row, why } => Ended::Refused {
+            text: text,
+            row: row,
+            why: why,
+        },
     }
 }
 
-// Coerces the variables of the operation of row op as one object.
-fn put_variables(
-    t: &[u8],
-    book: &[u32],
-    s: &[u8],
-    rows: &[u32],
-    n: usize,
-    past: &[u32],
-    op: usize,
-    s1: &[u8],
-    rows1: &[u32],
-    n1: usize,
-    past1: &[u32],
-    held: &mut [u32],
-    out: &mut [u8],
-) -> Ended
-    requires { ⌜ Asked (now t) (now book) (now s) (now rows) n (now past) (now s1) (now rows1) n1 (now past1) × Few (docOf (now s) (now rows) n) op (now held) (now out) ⌝ }
-    ensures { λ r. ⌜ Gives (asObject (coercedVariables (now (t .entry)) (docOf (now (s .entry)) (now (rows .entry)) n) op (docOf (now (s1 .entry)) (now (rows1 .entry)) n1))) (now (out .exit)) r ⌝ }
-{
-    let from = place(MOST_COERCED, 0, 3);
-    let r = coerce_variables(
-        t,
-        book,
-        s,
-        rows,
-        n,
-        past,
-        op,
-        s1,
-        rows1,
-        n1,
-        past1,
-        held,
-        out,
-        MOST_COERCED,
-        from,
-    );
-    match r {
-        Variables::Done { at, .. } => Ended::UpTo(close(out, MOST_COERCED, 0, TAG_INPUT, at)),
-        Variables::Refused { text, row, why } => refused(text, row, why),
-    }
-}
-
-// Coerces the arguments of the field of row i, whose definitions stand from `start` up to `end`, where `many` variables have the values held.
-fn put_held(
-    t: &[u8],
-    book: &[u32],
-    s: &[u8],
-    rows: &[u32],
-    n: usize,
-    past: &[u32],
-    i: usize,
-    start: usize,
-    end: usize,
-    s1: &[u8],
-    rows1: &[u32],
-    n1: usize,
-    past1: &[u32],
-    held: &[u32],
-    many: usize,
-    out: &mut [u8],
-) -> Ended
-    requires { ⌜ Ready (now t) (now book) (now s) (now rows) n (now past) × FieldServes (now t) (docOf (now s) (now rows) n) i start end × Holding (now t) (now book) (now s) (now rows) n (now s1) (now rows1) n1 (now past1) (now held) many × (length (now out) ≡ mostCoerced) ⌝ }
-    ensures { λ r. ⌜ ((ps : Pairs) → Holds (now (t .entry)) (now (book .entry)) (now (s .entry)) (now (rows .entry)) n (now (s1 .entry)) (now (rows1 .entry)) n1 (now (held .entry)) 0 many ps →
-        Gives (argued (now (t .entry)) (docOf (now (s .entry)) (now (rows .entry)) n) i ps) (now (out .exit)) r) ⌝ }
-{
-    let c = object(
-        t,
-        book,
-        s,
-        rows,
-        n,
-        past,
-        i,
-        ALL_LEVELS,
-        KIND_ARGUMENT,
-        start,
-        end,
-        s1,
-        rows1,
-        n1,
-        past1,
-        held,
-        many,
-        out,
-        MOST_COERCED,
-        0,
-    );
-    match c {
-        Coerced::UpTo(e) => Ended::UpTo(e),
-        Coerced::Refused { row, why } => refused(INPUT_DOCUMENT, row, why),
-    }
-}
-
-// Coerces the variables of the operation of row op, writing none of them, and then the arguments of the field of row i.
-fn put_arguments(
-    t: &[u8],
-    book: &[u32],
-    s: &[u8],
-    rows: &[u32],
-    n: usize,
-    past: &[u32],
-    op: usize,
-    i: usize,
-    start: usize,
-    end: usize,
-    s1: &[u8],
-    rows1: &[u32],
-    n1: usize,
-    past1: &[u32],
-    held: &mut [u32],
-    out: &mut [u8],
-) -> Ended
-    requires { ⌜ Asked (now t) (now book) (now s) (now rows) n (now past) (now s1) (now rows1) n1 (now past1) × Few (docOf (now s) (now rows) n) op (now held) (now out) × FieldServes (now t) (docOf (now s) (now rows) n) i start end ⌝ }
-    ensures { λ r. ⌜ Gives (andThen (coercedVariables (now (t .entry)) (docOf (now (s .entry)) (now (rows .entry)) n) op (docOf (now (s1 .entry)) (now (rows1 .entry)) n1)) (argued (now (t .entry)) (docOf (now (s .entry)) (now (rows .entry)) n) i)) (now (out .exit)) r ⌝ }
-{
-    let r = coerce_variables(
-        t,
-        book,
-        s,
-        rows,
-        n,
-        past,
-        op,
-        s1,
-        rows1,
-        n1,
-        past1,
-        held,
-        out,
-        MOST_COERCED,
-        MOST_COERCED + 1,
-    );
-    match r {
-        Variables::Done { many, .. } => put_held(
-            t,
-            book,
-            s,
-            rows,
-            n,
-            past,
-            i,
-            start,
-            end,
-            s1,
-            rows1,
-            n1,
-            past1,
-            held,
-            many,
-            out,
-        ),
-        Variables::Refused { text, row, why } => refused(text, row, why),
-    }
-}
-
-// Does the task, where the row past each row's subtree is known in both texts.
-fn put_task(
-    t: &[u8],
-    book: &[u32],
-    s: &[u8],
-    rows: &[u32],
-    n: usize,
-    past: &[u32],
-    op: usize,
-    task: Task,
-    s1: &[u8],
-    rows1: &[u32],
-    n1: usize,
-    past1: &[u32],
-    held: &mut [u32],
-    out: &mut [u8],
-) -> Ended
-    requires { ⌜ Asked (now t) (now book) (now s) (now rows) n (now past) (now s1) (now rows1) n1 (now past1) × Few (docOf (now s) (now rows) n) op (now held) (now out) × Serves (now t) (docOf (now s) (now rows) n) task ⌝ }
-    ensures { λ r. ⌜ Gives (resultOf (now (t .entry)) (docOf (now (s .entry)) (now (rows .entry)) n) op (docOf (now (s1 .entry)) (now (rows1 .entry)) n1) task) (now (out .exit)) r ⌝ }
-{
-    match task {
-        Task::OfOperation => put_variables(
-            t,
-            book,
-            s,
-            rows,
-            n,
-            past,
-            op,
-            s1,
-            rows1,
-            n1,
-            past1,
-            held,
-            out,
-        ),
-        Task::OfField { row, start, end } => put_arguments(
-            t,
-            book,
-            s,
-            rows,
-            n,
-            past,
-            op,
-            row,
-            start,
-            end,
-            s1,
-            rows1,
-            n1,
-            past1,
-            held,
-            out,
-        ),
-    }
-}
-
-// The same, where they are yet to be found: in lists that are lent.
+// Does the task and says how the call ends by it; the row past each row's subtree is yet to be found, in lists that are lent.
 fn coerce_with(
     t: &[u8],
     book: &[u32],
@@ -309,7 +77,7 @@ fn coerce_with(
 {
     query_subtrees::fill_pasts(rows, n, past);
     query_subtrees::fill_pasts(rows1, n1, past1);
-    put_task(
+    let o = put_task(
         t,
         book,
         s,
@@ -324,7 +92,8 @@ fn coerce_with(
         past1,
         held,
         out,
-    )
+    );
+    ended(o)
 }
 
 // The same with lists of its own, for few rows of the variables text: less is cleared then.

@@ -1,5 +1,5 @@
--- `value_answers::coerce_with` meets its contract: what is asked of both texts is true of texts that were read.
-use Rattle.value_answers.proofs.EndLaws.{asks-both, stands-few}
+-- `value_answers::coerce_with` meets its contract: what is asked of both texts is true of texts that were read, and the call ends by what comes of the task.
+use Rattle.value_answers.proofs.EndLaws.{asks-both, stands-few, task-ends}
 use borrow.Author.Needs.{needs}
 use Rattle.value_answers.proofs.coerce_with.Statement.{statement}
 use Rattle.value_answers.proofs.coerce_with.Tie as tie
@@ -16,6 +16,9 @@ put-task-requires c κs =
     let p = c .before .before .before .before .before .before .before .before .before .before .before .before .before .before .before .before .before .before .before .before .before .before .pre in
     (asks-both _ _ _ _ _ _ _ _ _ _ (p .0) (p .2) (c .before .before .before .before .before .before .before .before .before .before .fill-pasts .ensures) (c .before .before .before .before .before .before .fill-pasts2 .ensures), stands-few (a .t .now) (a .book .now) _ _ _ _ _ (a .op) (p .0) (p .5) (p .6), p .1)
 
+ended-requires : tie.Need-ended-requires
+ended-requires c κs = search needs
+
 same-length : tie.Need-same-length
 same-length c = search needs
 
@@ -29,7 +32,7 @@ same-length-4 : tie.Need-same-length-4
 same-length-4 c = search needs
 
 returns : tie.Need-returns
-returns c = search needs
+returns c = task-ends (c .before .before .before .before .before .put-task .ensures) (c .ended .ensures)
 
 pub coerce-with-spec : {M : Type 1} → statement M
 coerce-with-spec =
@@ -38,6 +41,7 @@ coerce-with-spec =
     fill-pasts-requires
     fill-pasts-requires-2
     put-task-requires
+    ended-requires
     same-length
     same-length-2
     same-length-3

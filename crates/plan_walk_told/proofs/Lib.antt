@@ -1,0 +1,3 @@
+-- Laws of this crate.
+pub mod ListedLaws
+pub mod FixedLaws
