@@ -27,6 +27,7 @@ use Rattle.text_cursor.proofs.Cells.{put, put-length, ends-row}
 use Rattle.text_arguments.specs.Arguments.{argumentsStack, directiveStack, directivesStack}
 use Rattle.text_leaves.proofs.MovedLaws.{moved-halts}
 use Rattle.text_arguments.specs.Passed.{Passed, shut}
+use Rattle.text_arguments.proofs.ArgumentsLaws.{none-said}
 use Rattle.text_arguments.proofs.Onward.{Next, lies, has-bytes, next, next-at, name-taken, name-lacks, same, said-went, said-halts, opened-row, named-row}
 
 -- ONE DIRECTIVE, at its @, whose row is n
@@ -143,6 +144,10 @@ module _ (s rows : List ℕ) (c : Cursor) (parent left : ℕ) (a : Ready s rows 
                             ∙ ap (λ (v : List ℕ). at s v d o left q σ) (sym j);
                       }
 
+              -- without arguments
+              pub directive-bare : (b .kind ≡ 8 → ⊥) → (rows₃ : List ℕ) → rows₃ ≡ set rows₁ (7 * c .rows + 2) (b .stop) → Went 1 s rows rows₃ c b parent left directiveStack
+              directive-bare i = directive-ends rows₁ (Done b) (none-said s rows₁ b (c .rows) left directive-ready i) b refl
+
 -- DIRECTIVES, OR NONE
 module _ (s : List ℕ) (c : Cursor) (h : c .stop ≤ length s) (l : Looks s c) (cells : List ℕ) (n : ℕ) (o : List ℕ) (left : ℕ) (q : Counts) where
   abbrev here : Stack → Out
@@ -212,3 +217,7 @@ module _ (s rows rows₁ : List ℕ) (c d : Cursor) (parent left : ℕ) (i : Pas
             on = omega (arith, i .on, turn-read .on);
             goes = λ σ o q p f. to-directive σ o q p f ∙ turn-read .goes (nt Directive* ∷ σ) o q p f;
           }
+
+-- no directive, where no @ stands
+pub no-directives : (s rows : List ℕ) (c : Cursor) (parent left : ℕ) → Ready s rows c parent → (c .kind ≡ 12 → ⊥) → Went 0 s rows rows c c parent left directivesStack
+no-directives s rows c parent left a = turn-ends s rows rows c c parent left (turn-first s rows c parent left a)

@@ -19,7 +19,7 @@ ghost use Rattle.text_cursor.specs.Reader.{Ready, Said};
 ghost use Rattle.text_arguments.specs.Arguments.{AtOn, argumentsStack, directiveStack, directivesStack, conditionStack};
 
 // Arguments, at their (
-fn arguments(s: &[u8], rows: &mut [u32], c: Cursor, parent: u32, left: u32) -> Read
+pub fn arguments(s: &[u8], rows: &mut [u32], c: Cursor, parent: u32, left: u32) -> Read
     requires { ⌜ Ready (now s) (now rows) c parent × (c .kind ≡ 8) ⌝ }
     ensures { λ r. ⌜ Said 0 (now (s .entry)) (now (rows .entry)) (now (rows .exit)) c parent left argumentsStack r ⌝ }
 {
@@ -43,17 +43,6 @@ fn arguments(s: &[u8], rows: &mut [u32], c: Cursor, parent: u32, left: u32) -> R
         }
         d = next;
     }
-}
-
-// Arguments, or none
-pub fn arguments_if(s: &[u8], rows: &mut [u32], c: Cursor, parent: u32, left: u32) -> Read
-    requires { ⌜ Ready (now s) (now rows) c parent ⌝ }
-    ensures { λ r. ⌜ Said 0 (now (s .entry)) (now (rows .entry)) (now (rows .exit)) c parent left argumentsStack r ⌝ }
-{
-    if c.kind == TOKEN_PAREN_OPEN {
-        return arguments(s, rows, c, parent, left);
-    }
-    Read::Done(c)
 }
 
 // Directive, at its @
@@ -87,7 +76,11 @@ fn directive(s: &[u8], rows: &mut [u32], c: Cursor, parent: u32, left: u32) -> R
     let Read::Done(first) = t else {
         return t;
     };
-    let u = arguments_if(s, rows, first, n, left);
+    if first.kind != TOKEN_PAREN_OPEN {
+        put_end(rows, n, first.stop);
+        return t;
+    }
+    let u = arguments(s, rows, first, n, left);
     let Read::Done(d) = u else {
         return u;
     };
@@ -95,20 +88,20 @@ fn directive(s: &[u8], rows: &mut [u32], c: Cursor, parent: u32, left: u32) -> R
     u
 }
 
-// Directives, or none
-pub fn directives_if(s: &[u8], rows: &mut [u32], c: Cursor, parent: u32, left: u32) -> Read
-    requires { ⌜ Ready (now s) (now rows) c parent ⌝ }
+// Directives, at their first @
+pub fn directives(s: &[u8], rows: &mut [u32], c: Cursor, parent: u32, left: u32) -> Read
+    requires { ⌜ Ready (now s) (now rows) c parent × (c .kind ≡ 12) ⌝ }
     ensures { λ r. ⌜ Said 0 (now (s .entry)) (now (rows .entry)) (now (rows .exit)) c parent left directivesStack r ⌝ }
 {
     let mut d = c;
     loop {
-        if d.kind != TOKEN_AT {
-            return Read::Done(d);
-        }
         let r = directive(s, rows, d, parent, left);
         let Read::Done(next) = r else {
             return r;
         };
+        if next.kind != TOKEN_AT {
+            return r;
+        }
         d = next;
     }
 }

@@ -7,7 +7,7 @@ use native.Mathlib.Omega.{arith}
 use lib.ListN.{length, set, length-set}
 use Rattle.paper.specs.Grammar.{nt, act}
 use Rattle.paper.specs.Numbers.{mostLevels}
-use Rattle.paper.specs.Language.{language, end, SelectionSet, VariableDefinitions?, VariableDefinitions}
+use Rattle.paper.specs.Language.{language, end, VariableDefinitions?, VariableDefinitions}
 use Rattle.paper.specs.Rows.{pop}
 use Rattle.paper.specs.Sizes.{Counts}
 use Rattle.paper.specs.declared.Refusal.{Refusal}
@@ -21,37 +21,48 @@ use Rattle.text_cursor.specs.declared.Read.{Read}
 use Rattle.text_cursor.specs.declared.Read.the-variants.{Done, Refused}
 use Rattle.text_cursor.proofs.Steps.{is, not-is, null, first}
 use Rattle.text_arguments.specs.Arguments.{directivesStack}
+use Rattle.text_arguments.proofs.DirectivesLaws.{no-directives}
 use Rattle.text_selections.specs.Selections.{selectionSetStack}
 use Rattle.text_variables.specs.Counted.{Counted, CountedSaid, stays, anyCounts, variablesAre, sameCounts, sameFragments}
-use Rattle.text_documents.specs.Words.{bodyStack}
+use Rattle.text_documents.specs.Words.{setStack, bodyStack}
 use Rattle.text_variables.proofs.CountedLaws.{said-halts, counted-halts}
 
 module _ (s rows : List ℕ) (c : Cursor) (n : ℕ) where
+  -- the selection set
+  pub set-stop : (rows₁ rows′ : List ℕ) (r : Read) → Said 1 s rows rows₁ c n mostLevels selectionSetStack r → (x : Refusal) → r ≡ Refused x → CountedSaid 1 s rows rows′ c n mostLevels setStack pop anyCounts sameCounts r
+  set-stop rows₁ rows′ r u x e = rw e (λ σ o q t f m. said-halts 1 s rows rows₁ c n mostLevels selectionSetStack r u x e (act end ∷ σ) o q t f)
+
+  pub set-done : (rows₁ rows′ : List ℕ) (d : Cursor) → Went 1 s rows rows₁ c d n mostLevels selectionSetStack → rows′ ≡ set rows₁ (7 * n + 2) (d .stop) →
+      Counted 1 s rows rows′ c d n mostLevels setStack pop anyCounts sameCounts
+  set-done rows₁ rows′ d u z =
+      record {
+        size = ap length z ∙ simp length-set (u .size);
+        within = u .within;
+        few = u .few;
+        looks = u .looks;
+        on = u .on;
+        goes = λ σ o q t f m. (q, f, refl, u .goes (act end ∷ σ) o q t f ∙ go-act (st rows₁ (d .rows) o (d .stop) mostLevels q) end σ (from s (d .stop)) ∙ rw (t, z) refl);
+      }
+
+  -- directives before it
   pub body-stop : (rows₁ rows′ : List ℕ) (r : Read) → Said 0 s rows rows₁ c n mostLevels directivesStack r → (x : Refusal) → r ≡ Refused x → CountedSaid 1 s rows rows′ c n mostLevels bodyStack pop anyCounts sameCounts r
-  body-stop rows₁ rows′ r w x e = rw e (λ σ o q t f m. said-halts 0 s rows rows₁ c n mostLevels directivesStack r w x e (nt SelectionSet ∷ act end ∷ σ) o q t f)
+  body-stop rows₁ rows′ r w x e = rw e (λ σ o q t f m. said-halts 0 s rows rows₁ c n mostLevels directivesStack r w x e (setStack ++ σ) o q t f)
 
-  module _ (rows₁ : List ℕ) (a : Cursor) (w : Went 0 s rows rows₁ c a n mostLevels directivesStack) where
-    pub body-stop-2 : (rows₂ rows′ : List ℕ) (r : Read) → Said 1 s rows₁ rows₂ a n mostLevels selectionSetStack r → (x : Refusal) → r ≡ Refused x → CountedSaid 1 s rows rows′ c n mostLevels bodyStack pop anyCounts sameCounts r
-    body-stop-2 rows₂ rows′ r u x e =
-        rw e (λ σ o q t f m. w .goes (nt SelectionSet ∷ act end ∷ σ) o q t f ∙ said-halts 1 s rows₁ rows₂ a n mostLevels selectionSetStack r u x e (act end ∷ σ) o q t f)
+  pub body-says : (rows₁ : List ℕ) (a : Cursor) → Went 0 s rows rows₁ c a n mostLevels directivesStack → (rows′ : List ℕ) (r : Read) →
+      CountedSaid 1 s rows₁ rows′ a n mostLevels setStack pop anyCounts sameCounts r → CountedSaid 1 s rows rows′ c n mostLevels bodyStack pop anyCounts sameCounts r
+  body-says rows₁ a w rows′ (Done d) u =
+      record {
+        size = u .size;
+        within = u .within;
+        few = u .few;
+        looks = u .looks;
+        on = omega (arith, w .on, u .on);
+        goes = λ σ o q t f m. (let y = u .goes σ o q t f m in (y .0, y .1, y .2, w .goes (setStack ++ σ) o q t f ∙ y .3));
+      }
+  body-says rows₁ a w rows′ (Refused x) u = λ σ o q t f m. w .goes (setStack ++ σ) o q t f ∙ u σ o q t f m
 
-    pub body-done : (rows₂ rows′ : List ℕ) (d : Cursor) → Went 1 s rows₁ rows₂ a d n mostLevels selectionSetStack → rows′ ≡ set rows₂ (7 * n + 2) (d .stop) →
-        Counted 1 s rows rows′ c d n mostLevels bodyStack pop anyCounts sameCounts
-    body-done rows₂ rows′ d u z =
-        record {
-          size = ap length z ∙ simp length-set (u .size);
-          within = u .within;
-          few = u .few;
-          looks = u .looks;
-          on = omega (arith, w .on, u .on);
-          goes = λ σ o q t f m. (
-            q,
-            f,
-            refl,
-            w .goes (nt SelectionSet ∷ act end ∷ σ) o q t f ∙ u .goes (act end ∷ σ) o q t f
-                ∙ go-act (st rows₂ (d .rows) o (d .stop) mostLevels q) end σ (from s (d .stop)) ∙ rw (t, z) refl,
-          );
-        }
+  pub body-bare : Ready s rows c n → (c .kind ≡ 12 → ⊥) → (rows′ : List ℕ) (r : Read) → CountedSaid 1 s rows rows′ c n mostLevels setStack pop anyCounts sameCounts r → CountedSaid 1 s rows rows′ c n mostLevels bodyStack pop anyCounts sameCounts r
+  body-bare g k = body-says rows c (no-directives s rows c n mostLevels g k)
 
 -- the same behind the name of an operation, with variable definitions or none
 abbrev pub restStack : Stack

@@ -11,9 +11,12 @@ use Rattle.text_scan.specs.Head.{wordOf}
 use Rattle.text_cursor.specs.declared.Cursor.{Cursor}
 use Rattle.text_arguments.specs.Arguments.{bytesAt}
 
--- the last symbols of an operation or a fragment
+-- the last symbols of an operation or a fragment, without its directives and with them
+abbrev pub setStack : Stack
+setStack = nt SelectionSet ∷ act end ∷ []
+
 abbrev pub bodyStack : Stack
-bodyStack = nt Directives? ∷ nt SelectionSet ∷ act end ∷ []
+bodyStack = nt Directives? ∷ setStack
 
 -- which word the token looked at is; of no name it is 0
 abbrev pub wordAt : List ℕ → Cursor → ℕ

@@ -10,13 +10,14 @@ use paper::MOST_ROWS;
 use paper::NO_PARENT;
 use paper::Refusal;
 use text_arguments::condition;
-use text_arguments::directives_if;
+use text_arguments::directives;
 use text_cursor::Cursor;
 use text_cursor::Read;
 use text_cursor::located;
 use text_cursor::no_going;
 use text_cursor::put_end;
 use text_cursor::put_row;
+use text_scan::TOKEN_AT;
 use text_scan::TOKEN_BRACE_OPEN;
 use text_scan::TOKEN_END;
 use text_scan::TOKEN_NAME;
@@ -44,24 +45,35 @@ ghost use Rattle.text_scan.specs.Head.{headOf};
 ghost use Rattle.text_cursor.specs.Reader.{Ready, Said, movedTo};
 ghost use Rattle.text_selections.specs.Selections.{namesFragment};
 ghost use Rattle.text_variables.specs.Counted.{CountedSaid, stays, anyCounts, fragmentsAre, variablesAre, sameCounts, sameFragments, fragmentsBecome};
-ghost use Rattle.text_documents.specs.Words.{bodyStack, wordAt, fragmentsAfter, AtType, AtFragment};
+ghost use Rattle.text_documents.specs.Words.{setStack, bodyStack, wordAt, fragmentsAfter, AtType, AtFragment};
 ghost use Rattle.text_documents.specs.Documents.{Ended};
+
+// The selection set that ends row n
+fn definition_set(s: &[u8], rows: &mut [u32], c: Cursor, n: u32) -> Read
+    requires { ⌜ Ready (now s) (now rows) c n × (n < mostRows) ⌝ }
+    ensures { λ r. ⌜ CountedSaid 1 (now (s .entry)) (now (rows .entry)) (now (rows .exit)) c n mostLevels setStack pop anyCounts sameCounts r ⌝ }
+{
+    let t = selection_set(s, rows, c, n, MOST_LEVELS);
+    let Read::Done(e) = t else {
+        return t;
+    };
+    put_end(rows, n, e.stop);
+    t
+}
 
 // The body of row n, which it ends: Directives? SelectionSet
 fn definition_body(s: &[u8], rows: &mut [u32], c: Cursor, n: u32) -> Read
     requires { ⌜ Ready (now s) (now rows) c n × (n < mostRows) ⌝ }
     ensures { λ r. ⌜ CountedSaid 1 (now (s .entry)) (now (rows .entry)) (now (rows .exit)) c n mostLevels bodyStack pop anyCounts sameCounts r ⌝ }
 {
-    let r = directives_if(s, rows, c, n, MOST_LEVELS);
+    if c.kind != TOKEN_AT {
+        return definition_set(s, rows, c, n);
+    }
+    let r = directives(s, rows, c, n, MOST_LEVELS);
     let Read::Done(d) = r else {
         return r;
     };
-    let t = selection_set(s, rows, d, n, MOST_LEVELS);
-    let Read::Done(e) = t else {
-        return t;
-    };
-    put_end(rows, n, e.stop);
-    t
+    definition_set(s, rows, d, n)
 }
 
 // OperationDefinition behind its name: VariableDefinitions? Directives? SelectionSet

@@ -26,6 +26,8 @@ use Rattle.text_cursor.proofs.Cells.{put-length, ends-row}
 use Rattle.text_arguments.specs.Arguments.{argumentsStack, directivesStack}
 use Rattle.text_leaves.proofs.MovedLaws.{moved-halts}
 use Rattle.text_arguments.specs.Passed.{Passed, Passes, opened, shut}
+use Rattle.text_arguments.proofs.ArgumentsLaws.{none-said}
+use Rattle.text_arguments.proofs.DirectivesLaws.{no-directives}
 use Rattle.text_arguments.proofs.Onward.{Next, lies, has-bytes, next, next-at, name-taken, name-lacks, said-went, said-halts, opened-row, named-row}
 use Rattle.text_selections.specs.Selections.{selectionStack, bodyStack, fieldStack, aliasStack, fieldRestStack, fieldEndStack, fieldBegun, AliasSaid, HeadSaid}
 
@@ -52,6 +54,16 @@ module _ (s rows rows₁ : List ℕ) (c : Cursor) (n left : ℕ) (r : Read) (v :
           goes = λ σ o q p f. rest-read .goes (nt Directives? ∷ σ) o q p f ∙ w .goes σ o q p f;
         }
     rest-said rows₂ (Refused x) w = λ σ o q p f. rest-read .goes (nt Directives? ∷ σ) o q p f ∙ w σ o q p f
+
+    pub rest-undirected : length s ≤ mostText → n ≤ mostRows → (d .kind ≡ 12 → ⊥) → Went 0 s rows rows₁ c d n left fieldRestStack
+    rest-undirected h p k = rest-said rows₁ (Done d) (no-directives s rows₁ d n left (rest-ready h p) k)
+
+-- without arguments
+pub rest-bare : (s rows : List ℕ) (c : Cursor) (n left : ℕ) → Ready s rows c n → (c .kind ≡ 8 → ⊥) → (rows₂ : List ℕ) (t : Read) → Said 0 s rows rows₂ c n left directivesStack t → Said 0 s rows rows₂ c n left fieldRestStack t
+rest-bare s rows c n left a k = rest-said s rows rows c n left (Done c) (none-said s rows c n left a k) c refl
+
+pub rest-none : (s rows : List ℕ) (c : Cursor) (n left : ℕ) → Ready s rows c n → (c .kind ≡ 8 → ⊥) → (c .kind ≡ 12 → ⊥) → Went 0 s rows rows c c n left fieldRestStack
+rest-none s rows c n left a k i = rest-bare s rows c n left a k rows (Done c) (no-directives s rows c n left a i)
 
 -- FROM THE COLON OF AN ALIAS ON: row n begins at `start`, and its name is told again
 module _ (s rows : List ℕ) (c : Cursor) (parent left n start : ℕ) (a : Ready s rows c n) (e : c .kind ≡ 10) (k : c .rows ≡ n + 1) where

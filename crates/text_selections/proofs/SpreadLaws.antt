@@ -31,6 +31,7 @@ use Rattle.text_cursor.proofs.Cells.{put, put-length, row-begins, kind-told, en
 use Rattle.text_arguments.specs.Arguments.{AtOn, bytesAt, conditionStack, directivesStack}
 use Rattle.text_leaves.proofs.MovedLaws.{start-in, moved-halts}
 use Rattle.text_arguments.specs.Passed.{Passed, Passes, opened, shut}
+use Rattle.text_arguments.proofs.DirectivesLaws.{no-directives}
 use Rattle.text_arguments.proofs.Onward.{Next, lies, has-bytes, next, next-at, same, said-went, said-halts, passes-went, passes-halts, named-row}
 use Rattle.text_arguments.proofs.Words.{is-on, on-is, is-no-on, no-on-is, word-first, word-taken}
 use Rattle.text_selections.specs.Selections.{namesFragment, selectionStack, bodyStack, spreadStack, spreadBegun}
@@ -125,6 +126,10 @@ module _ (s rows : List ℕ) (c : Cursor) (parent left n start : ℕ) (a : Ready
                     ∙ ap (λ (u : List ℕ). at s u d o left q σ) (sym h);
               }
 
+      -- without directives
+      pub named-bare : (b .kind ≡ 12 → ⊥) → (rows₃ : List ℕ) → rows₃ ≡ set rows₁ (7 * n + 2) (b .stop) → Passed 1 s (spreadBegun rows n start parent) rows₃ c b n left left (opened n) shut spreadStack []
+      named-bare i = named-ends rows₁ (Done b) (no-directives s rows₁ b n left named-ready i) b refl
+
 -- AN INLINE FRAGMENT'S HEAD, behind its dots; row n begins at `start`
 module _ (s rows : List ℕ) (c : Cursor) (parent left n start : ℕ) (a : Ready s rows c n) (e : namesFragment s c ≡ false) (rows₁ : List ℕ) (j : rows₁ ≡ put rows n 5 start 0 parent 0 0 0) where
   pub inline-ready : Ready s rows₁ c n
@@ -184,6 +189,9 @@ module _ (s rows : List ℕ) (c : Cursor) (parent left n start : ℕ) (a : Ready
               goes = λ σ o q p f. to-condition σ o q ∙ inline-read .goes (nt Directives? ∷ bodyStack ++ σ) (n ∷ o) q refl f ∙ u .goes (bodyStack ++ σ) (n ∷ o) q refl f;
             }
 
+        pub inline-undirected : (d .kind ≡ 12 → ⊥) → Passed 0 s (spreadBegun rows n start parent) rows₂ c d n left left (opened n) (opened n) spreadStack bodyStack
+        inline-undirected k′ = inline-said rows₂ (Done d) (no-directives s rows₂ d n left inline-ready-behind k′)
+
   -- without
   module _ (k : c .kind ≡ 1 → ⊥) where
     no-condition : (σ : Stack) (o : List ℕ) (q : Counts) → at s rows₁ c (n ∷ o) left q (kinded-at σ) ≡ at s rows₁ c (n ∷ o) left q (nt Directives? ∷ bodyStack ++ σ)
@@ -221,6 +229,9 @@ module _ (s rows : List ℕ) (c : Cursor) (parent left n start : ℕ) (a : Ready
           on = u .on;
           goes = λ σ o q p f. to-directives′ σ o q ∙ u .goes (bodyStack ++ σ) (n ∷ o) q refl f;
         }
+
+    pub inline-bare : (c .kind ≡ 12 → ⊥) → Passed 0 s (spreadBegun rows n start parent) rows₁ c c n left left (opened n) (opened n) spreadStack bodyStack
+    inline-bare i = inline-plain rows₁ (Done c) (no-directives s rows₁ c n left inline-ready i)
 
 -- EITHER, at its dots
 module _ (s rows : List ℕ) (c : Cursor) (parent left : ℕ) (a : Ready s rows c parent) (e : c .kind ≡ 5) where

@@ -4,18 +4,20 @@ use paper::KIND_INLINE;
 use paper::KIND_SPREAD;
 use paper::MOST_ROWS;
 use paper::Refusal;
-use text_arguments::arguments_if;
+use text_arguments::arguments;
 use text_arguments::condition;
-use text_arguments::directives_if;
+use text_arguments::directives;
 use text_cursor::Cursor;
 use text_cursor::Read;
 use text_cursor::no_going;
 use text_cursor::put_end;
 use text_cursor::put_row;
+use text_scan::TOKEN_AT;
 use text_scan::TOKEN_BRACE_CLOSE;
 use text_scan::TOKEN_BRACE_OPEN;
 use text_scan::TOKEN_COLON;
 use text_scan::TOKEN_NAME;
+use text_scan::TOKEN_PAREN_OPEN;
 use text_scan::TOKEN_SPREAD;
 use text_scan::WORD_ON;
 ghost use mathlib.Core.Path.{_≡_};
@@ -101,11 +103,20 @@ fn field_rest(s: &[u8], rows: &mut [u32], c: Cursor, n: u32, left: u32) -> Read
     requires { ⌜ Ready (now s) (now rows) c n ⌝ }
     ensures { λ r. ⌜ Said 0 (now (s .entry)) (now (rows .entry)) (now (rows .exit)) c n left fieldRestStack r ⌝ }
 {
-    let r = arguments_if(s, rows, c, n, left);
-    let Read::Done(d) = r else {
+    if c.kind == TOKEN_PAREN_OPEN {
+        let r = arguments(s, rows, c, n, left);
+        let Read::Done(d) = r else {
+            return r;
+        };
+        if d.kind == TOKEN_AT {
+            return directives(s, rows, d, n, left);
+        }
         return r;
-    };
-    directives_if(s, rows, d, n, left)
+    }
+    if c.kind == TOKEN_AT {
+        return directives(s, rows, c, n, left);
+    }
+    Read::Done(c)
 }
 
 // FragmentSpread, from its name on, at which the cursor stands; row n begins at `start`
@@ -137,7 +148,11 @@ fn named_spread(
     let Read::Done(after) = r else {
         return r;
     };
-    let t = directives_if(s, rows, after, n, left);
+    if after.kind != TOKEN_AT {
+        put_end(rows, n, after.stop);
+        return r;
+    }
+    let t = directives(s, rows, after, n, left);
     let Read::Done(d) = t else {
         return t;
     };
@@ -164,9 +179,15 @@ fn inline_head(
         let Read::Done(d) = r else {
             return r;
         };
-        return directives_if(s, rows, d, n, left);
+        if d.kind == TOKEN_AT {
+            return directives(s, rows, d, n, left);
+        }
+        return r;
     }
-    directives_if(s, rows, c, n, left)
+    if c.kind == TOKEN_AT {
+        return directives(s, rows, c, n, left);
+    }
+    Read::Done(c)
 }
 
 // SelectionSet; no other token than { goes on
