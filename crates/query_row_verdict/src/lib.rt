@@ -23,15 +23,15 @@ use paper_query::RULE_VARIABLE_TYPE;
 use query_rows::kind_of;
 ghost use mathlib.Core.Path.{_≡_};
 ghost use mathlib.Core.Bool.{cond};
-ghost use Prim.Native.Nat.{_≤_, _<_};
+ghost use Prim.Native.Nat.{_<_};
 ghost use lib.ListN.{length};
 ghost use Rattle.paper.specs.Numbers.{kindOperation, kindFragment, kindField, kindArgument, kindVariableDefinition};
-ghost use Rattle.paper_table.specs.TableNumbers.{mostTable};
 ghost use Rattle.paper_table.specs.Types.{Table, tableOf};
 ghost use Rattle.table_types.specs.Booked.{Booked};
 ghost use Rattle.query_rows.specs.Rowed.{rowIn, rowsIn, docOf, Rowed};
 ghost use Rattle.query_links.specs.Links.{Family, Kinds};
 ghost use Rattle.query_inside.specs.Enclosed.{Enclosed};
+ghost use Rattle.query_places.specs.Placed.{Placed};
 ghost use Rattle.query_alike.specs.Flags.{Flagged};
 ghost use Rattle.query_row_verdict.specs.Least.{LeastAt};
 ghost use Rattle.query_row_verdict.specs.Ready.{Ready};
@@ -127,7 +127,7 @@ fn argument_rule(
     to: &[u32],
     i: usize,
 ) -> u32
-    requires { ⌜ (length (now t) ≤ mostTable) × Rowed (now s) (now rows) n × Family (rowsIn (now rows) n) (now first) (now next) × Enclosed (now t) (now s) (now rows) n (now inside) (now at) (now to) × (i < n) × (rowIn (now rows) n i .kind ≡ kindArgument) ⌝ }
+    requires { ⌜ Rowed (now s) (now rows) n × Family (rowsIn (now rows) n) (now first) (now next) × Placed (now t) (now s) (now rows) n (now at) (now to) (now inside) n × (i < n) × (rowIn (now rows) n i .kind ≡ kindArgument) ⌝ }
     ensures { λ r. ⌜ LeastAt (tableOf (now (t .entry))) (docOf (now (s .entry)) (now (rows .entry)) n) i r ⌝ }
 {
     if query_siblings::name_twice(s, rows, n, first, next, i) {

@@ -11,7 +11,6 @@ use Rattle.paper_query.specs.Constructs.{Doc, count}
 use Rattle.query_rows.specs.Rowed.{docOf, roomOf}
 use Rattle.query_rows.proofs.RowsIn.{rows-count}
 use Rattle.query_rows.proofs.Rooms.{room-enough}
-use Rattle.query_links.specs.Links.{firstsSize}
 use Rattle.query_spreads.specs.Owners.{Defines}
 use Rattle.query_spreads.specs.Spreads.{SpreadIn, Spreader, FirstOf, Targeted, Linked, Graph}
 use Rattle.query_spreads.proofs.OwnerLaws.{definition-within}
@@ -33,17 +32,19 @@ first-later P n i j u x = record {
     go k h m p (yes e) = u (subst P e p)
     go k h m p (no e) = x .skips k (omega arith) m p
 
--- the spreads from row j on are linked
-pub record Linking (d : Doc) (first next : List ℕ) (j : ℕ) : Type 0 where
-  pub firsts : length first ≡ firstsSize
+-- the spreads from row j on are linked, in a list of firsts of this size
+pub record Linking (d : Doc) (size : ℕ) (first next : List ℕ) (j : ℕ) : Type 0 where
+  pub firsts : length first ≡ size
+  pub enough : count d ≤ size
   pub nexts : length next ≡ roomOf (count d)
   pub most : j ≤ count d
   pub eldest : (a : ℕ) → Defines d a → FirstOf (SpreadIn d a) (count d) j (getD first a 0)
   pub younger : (a s : ℕ) → j ≤ s → Defines d a → SpreadIn d a s → FirstOf (SpreadIn d a) (count d) (suc s) (getD next s 0)
 
-pub linking-start : (d : Doc) (first next : List ℕ) (n : ℕ) → count d ≡ n → n ≤ mostRows → first ≡ replicate firstsSize n → length next ≡ roomOf (count d) → Linking d first next n
-linking-start d first next n c m e l = record {
-  firsts = ap length e ∙ length-replicate firstsSize n;
+pub linking-start : (d : Doc) (size : ℕ) (first next : List ℕ) (n : ℕ) → count d ≡ n → n ≤ size → first ≡ replicate size n → length next ≡ roomOf (count d) → Linking d size first next n
+linking-start d size first next n c m e l = record {
+  firsts = ap length e ∙ length-replicate size n;
+  enough = omega arith;
   nexts = l;
   most = omega arith;
   eldest = λ a h. rw (at a h) (first-here (SpreadIn d a) (count d) n (omega arith) (λ k. absurd (omega arith)));
@@ -51,13 +52,37 @@ linking-start d first next n c m e l = record {
 }
   where
     at : (a : ℕ) → Defines d a → getD first a 0 ≡ n
-    at a h = ap (λ (x : List ℕ). getD x a 0) e ∙ getD-replicate firstsSize a n 0 (omega (arith, definition-within d a h))
+    at a h = ap (λ (x : List ℕ). getD x a 0) e ∙ getD-replicate size a n 0 (omega (arith, definition-within d a h))
+
+-- a row that spreads nothing in a definition is passed over
+pub linking-skip : (d : Doc) (size : ℕ) (first next : List ℕ) (j o : ℕ) → Linking d size first next j → 0 < j → Spreader d (j - 1) o → count d ≤ o → Linking d size first next (j - 1)
+linking-skip d size first next j o x z s l = record {
+  firsts = x .firsts;
+  enough = x .enough;
+  nexts = x .nexts;
+  most = omega (arith, x .most);
+  eldest = λ a h. first-later (SpreadIn d a) (count d) (j - 1) (getD first a 0) (none a h) (first-from a h);
+  younger = λ a i m h w. younger a i m h w (ℕ-discrete i (j - 1));
+}
+  where
+    none : (a : ℕ) → Defines d a → SpreadIn d a (j - 1) → ⊥
+    none a h w = omega (arith, s .sole a h w, definition-within d a h)
+
+    first-from : (a : ℕ) → Defines d a → FirstOf (SpreadIn d a) (count d) (suc (j - 1)) (getD first a 0)
+    first-from a h =
+        let e : j ≡ suc (j - 1) = omega arith in
+        subst (λ (k : ℕ). FirstOf (SpreadIn d a) (count d) k (getD first a 0)) e (x .eldest a h)
+
+    younger : (a i : ℕ) → j - 1 ≤ i → Defines d a → SpreadIn d a i → Dec (i ≡ j - 1) → FirstOf (SpreadIn d a) (count d) (suc i) (getD next i 0)
+    younger a i m h w (yes e) = absurd (none a h (subst (SpreadIn d a) e w))
+    younger a i m h w (no e) = x .younger a i (omega arith) h w
 
 -- one more row in front of the spreads of its definition
-pub linking-more : (d : Doc) (first next : List ℕ) (j o : ℕ) {first′ next′ : List ℕ} → Linking d first next j → 0 < j → count d ≤ mostRows → Spreader d (j - 1) o
-    → first′ ≡ set first o (j - 1) → next′ ≡ set next (j - 1) (getD first o 0) → Linking d first′ next′ (j - 1)
-linking-more d first next j o x z m s p q = rw (p, q) (record {
+pub linking-more : (d : Doc) (size : ℕ) (first next : List ℕ) (j o : ℕ) {first′ next′ : List ℕ} → Linking d size first next j → 0 < j → count d ≤ mostRows → Spreader d (j - 1) o → o < count d
+    → first′ ≡ set first o (j - 1) → next′ ≡ set next (j - 1) (getD first o 0) → Linking d size first′ next′ (j - 1)
+linking-more d size first next j o x z m s b p q = rw (p, q) (record {
   firsts = length-set first o (j - 1) ∙ x .firsts;
+  enough = x .enough;
   nexts = length-set next (j - 1) (getD first o 0) ∙ x .nexts;
   most = omega (arith, x .most);
   eldest = λ a h. eldest a h (ℕ-discrete a o);
@@ -71,7 +96,7 @@ linking-more d first next j o x z m s p q = rw (p, q) (record {
 
     eldest : (a : ℕ) → Defines d a → Dec (a ≡ o) → FirstOf (SpreadIn d a) (count d) (j - 1) (getD (set first o (j - 1)) a 0)
     eldest a h (yes e) =
-        rw (e, getD-set-same first o (j - 1) 0 (omega (arith, x .firsts, s .most)))
+        rw (e, getD-set-same first o (j - 1) 0 (omega (arith, x .firsts, x .enough)))
         (first-here (SpreadIn d o) (count d) (j - 1) (omega (arith, x .most)) (λ _. s .stands (subst (Defines d) e h)))
     eldest a h (no e) =
         rw (getD-set-other first o a (j - 1) 0 e) (first-later (SpreadIn d a) (count d) (j - 1) (getD first a 0) (λ w. e (sym (s .sole a h w))) (first-from a h))
@@ -83,9 +108,9 @@ linking-more d first next j o x z m s p q = rw (p, q) (record {
     younger a i l h w (no e) =
         rw (getD-set-other next (j - 1) i (getD first o 0) 0 e) (x .younger a i (omega arith) h w)
 
-pub linking-end : {d : Doc} {first next : List ℕ} {j : ℕ} → Linking d first next j → j ≡ 0 → Linked d first next
+pub linking-end : {d : Doc} {size : ℕ} {first next : List ℕ} {j : ℕ} → Linking d size first next j → j ≡ 0 → Linked d first next
 linking-end {d = d} {first = first} x e = record {
-  firsts = x .firsts;
+  firsts = omega (arith, x .firsts, x .enough);
   nexts = x .nexts;
   eldest = λ a h. subst (λ (k : ℕ). FirstOf (SpreadIn d a) (count d) k (getD first a 0)) e (x .eldest a h);
   younger = λ a s h w. x .younger a s (omega arith) h w;

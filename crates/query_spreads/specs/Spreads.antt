@@ -9,7 +9,6 @@ use Rattle.paper.specs.Numbers.{mostRows, kindSpread}
 use Rattle.paper_query.specs.Constructs.{Doc, count, is, rowOf, nameOf, fragmentNamed}
 use Rattle.paper_query.specs.Reaching.{Within}
 use Rattle.query_rows.specs.Rowed.{roomOf}
-use Rattle.query_links.specs.Links.{firstsSize}
 use Rattle.query_spreads.specs.Owners.{Defines}
 
 -- row s is a spread
@@ -41,7 +40,7 @@ pub record FirstOf (P : ℕ → Type 0) (n i j : ℕ) : Type 0 where
 
 -- of each definition its first spread, and after each spread the next of its definition
 pub record Linked (d : Doc) (first next : List ℕ) : Type 0 where
-  pub firsts : length first ≡ firstsSize
+  pub firsts : count d ≤ length first
   pub nexts : length next ≡ roomOf (count d)
   pub eldest : (a : ℕ) → Defines d a → FirstOf (SpreadIn d a) (count d) 0 (getD first a 0)
   pub younger : (a s : ℕ) → Defines d a → SpreadIn d a s → FirstOf (SpreadIn d a) (count d) (suc s) (getD next s 0)

@@ -6,11 +6,11 @@ use paper::NO_PARENT;
 use query_rows::kind_of;
 use query_rows::parent_of;
 ghost use mathlib.Core.Path.{_≡_};
-ghost use Prim.Native.Nat.{_<_};
+ghost use Prim.Native.Nat.{_≤_, _<_};
 ghost use lib.ListN.{length};
 ghost use Rattle.paper_query.specs.Rule7Spread.{spreadOfNone};
 ghost use Rattle.query_rows.specs.Rowed.{docOf, rowsIn, Rowed, Sized, roomOf};
-ghost use Rattle.query_links.specs.Links.{firstsSize, Kinds};
+ghost use Rattle.query_links.specs.Links.{Kinds};
 ghost use Rattle.query_spreads.specs.Owners.{Owner, Owned, OwnedTo};
 ghost use Rattle.query_spreads.specs.Spreads.{Targeted, Linked, Spreader};
 
@@ -81,9 +81,9 @@ fn spreader(s: &[u8], rows: &[u32], n: usize, owner: &[u32], j: usize) -> usize
     NO_PARENT as usize
 }
 
-// Links the spreads of each definition.
+// Links the spreads of each definition, in a list of firsts that has one for each row or more.
 pub fn spreads(s: &[u8], rows: &[u32], n: usize, owner: &[u32], first: &mut [u32], next: &mut [u32])
-    requires { ⌜ Rowed (now s) (now rows) n × Owned (docOf (now s) (now rows) n) (now owner) × (length (now first) ≡ firstsSize) × (length (now next) ≡ roomOf n) ⌝ }
+    requires { ⌜ Rowed (now s) (now rows) n × Owned (docOf (now s) (now rows) n) (now owner) × (n ≤ length (now first)) × (length (now next) ≡ roomOf n) ⌝ }
     ensures { λ _. ⌜ Linked (docOf (now (s .entry)) (now (rows .entry)) n) (now (first .exit)) (now (next .exit)) ⌝ }
 {
     query_links::clear(first, n);
@@ -91,6 +91,8 @@ pub fn spreads(s: &[u8], rows: &[u32], n: usize, owner: &[u32], first: &mut [u32
     while 0 < j {
         j -= 1;
         let a = spreader(s, rows, n, owner, j);
-        query_links::put_first(first, next, a, j);
+        if a < n {
+            query_links::put_first(first, next, a, j);
+        }
     }
 }

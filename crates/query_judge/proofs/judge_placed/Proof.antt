@@ -15,7 +15,7 @@ flags-requires c κs =
 judge-rows-requires : tie.Need-judge-rows-requires
 judge-rows-requires c κs =
     let p = c .before .before .before .before .before .before .before .before .before .before .before .before .before .before .before .before .before .before .before .before .before .before .before .before .pre in
-    record { short = p .0; asked = p .1; kinds = p .2; enclosed = p .3 .enclosed; targeted = c .before .before .before .before .before .before .before .before .before .targets .ensures; flagged = c .before .before .before .before .flags .ensures }
+    record { short = p .0; asked = p .1; kinds = p .2; placed = p .3; targeted = c .before .before .before .before .before .before .before .before .before .targets .ensures; flagged = c .before .before .before .before .flags .ensures }
 
 same-length : tie.Need-same-length
 same-length c = search needs

@@ -7,7 +7,7 @@ name-twice-requires : tie.Need-name-twice-requires
 name-twice-requires c κs = search needs
 
 returns : tie.Need-returns
-returns c = argument-first (c .before .before .before .before .before .before .before .before .before .before .pre .5) (c .before .name-twice .ensures) (c .if1 .taken)
+returns c = argument-first (c .before .before .before .before .before .before .before .before .before .before .pre .4) (c .before .name-twice .ensures) (c .if1 .taken)
 
 argument-unknown-requires : tie.Need-argument-unknown-requires
 argument-unknown-requires c κs = search needs
@@ -16,7 +16,7 @@ rule-if-requires : tie.Need-rule-if-requires
 rule-if-requires c κs = search needs
 
 returns-2 : tie.Need-returns-2
-returns-2 c = argument-last (c .before .before .before .before .before .before .before .before .before .before .before .before .pre .5) (c .before .before .before .name-twice .ensures) (c .before .before .if1 .left) _ (c .before .argument-unknown .ensures) (c .rule-if .ensures)
+returns-2 c = argument-last (c .before .before .before .before .before .before .before .before .before .before .before .before .pre .4) (c .before .before .before .name-twice .ensures) (c .before .before .if1 .left) _ (c .before .argument-unknown .ensures) (c .rule-if .ensures)
 
 pub argument-rule-spec : {M : Type 1} → statement M
 argument-rule-spec =
