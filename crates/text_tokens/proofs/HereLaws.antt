@@ -1,5 +1,5 @@
 -- Behind what is ignored stands the first token, or bytes that start none, or the end.
-use mathlib.Core.Path.{_≡_, refl, sym, ap}
+use mathlib.Core.Path.{_≡_, refl, sym, ap, _∙_}
 use mathlib.Core.Bool.{Bool, true, false, cond}
 use mathlib.Core.List.{List, [], _∷_}
 use mathlib.Core.Option.{Option, none, some}
@@ -41,6 +41,20 @@ ignored-within bs = go (pieceAt bs) (piece-is bs)
 pub ignored-in : (s : List ℕ) (i : ℕ) → i ≤ length s → i + ignoredHere (drop i s) ≤ length s
 ignored-in s i h = omega (arith, ignored-within (drop i s), length-drop i s)
 
+-- nothing that is ignored begins as a token does
+token-kept : (at : ℕ) (bs : List ℕ) (k a e : ℕ) → tokenHere at bs ≡ Token k a e → ignoredHere bs ≡ 0
+unfolding ignoredHere tokenHere
+token-kept at bs k a e q = go (pieceAt bs) q
+  where
+    by-what : (w : What) (n : ℕ) → asToken w at n ≡ Token k a e → asIgnored w n bs ≡ 0
+    by-what (is c) n z = refl
+    by-what ignored n z = let x : _≡_ {A = ℕ} 0 1 = cc in let y : ⊥ = omega arith in absurd y
+    by-what comment n z = let x : _≡_ {A = ℕ} 0 1 = cc in let y : ⊥ = omega arith in absurd y
+
+    go : (o : Option (Match ℕ What)) → tokenOf at o ≡ Token k a e → ignoredOf bs o ≡ 0
+    go none z = refl
+    go (some m) z = by-what (whatOf (m .events)) (m .size) z
+
 module _ (s : List ℕ) (p : ℕ) where
   pub here-end : length s ≤ p → Token 0 p p ≡ headOf (from s p)
   here-end k = rw (from-end s p k)
@@ -62,3 +76,6 @@ module _ (s : List ℕ) (p : ℕ) where
       go : (o : Option (Match ℕ What)) → scan lexer (nt Piece ∷ []) (drop p s) ≡ o → ignoredOf (drop p s) o ≡ 0 → tokenOf p o ≡ headOf (found (λ n. from s (p + n)) p (drop p s) o)
       go none q e = refl
       go (some m) q e = by-what (whatOf (m .events)) (m .size) (piece-byte (drop p s) m q) e
+
+  pub here-found : (k a e : ℕ) → p < length s → Token k a e ≡ tokenHere p (drop p s) → Token k a e ≡ headOf (from s p)
+  here-found k a e h q = q ∙ here-token h (token-kept p (drop p s) k a e (sym q))

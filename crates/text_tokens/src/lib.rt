@@ -30,7 +30,7 @@ ghost use Rattle.paper.proofs.Lexing.{from};
 ghost use Rattle.text_scan.specs.Head.{headOf};
 ghost use Rattle.text_scan.specs.Piece.{tokenHere, ignoredHere};
 ghost use Rattle.text_scan.specs.Run.{runOf, startsWith, fractionSize, signSize, exponentSize, wholeSize};
-ghost use Rattle.text_tokens.specs.Skip.{Skipped, Numeric, punctuatorOf};
+ghost use Rattle.text_tokens.specs.Skip.{Other, Numeric, punctuatorOf};
 
 pub fn is_digit(b: u8) -> bool
     ensures { λ r. ⌜ r ≡ hitsByte digit b ⌝ }
@@ -88,22 +88,6 @@ pub fn ignored(s: &[u8], i: usize) -> usize
         return comment(s, i);
     }
     0
-}
-
-// The first place at or after `from` that is not ignored.
-pub fn skip(s: &[u8], from: usize) -> usize
-    requires { ⌜ from ≤ length (now s) ⌝ }
-    ensures { λ r. ⌜ Skipped (now (s .entry)) from r ⌝ }
-{
-    let mut i = from;
-    while i < s.len() {
-        let n = ignored(s, i);
-        if n == 0 {
-            return i;
-        }
-        i += n;
-    }
-    i
 }
 
 // One past the last of the name's characters that stand from `from` on.
@@ -304,36 +288,12 @@ pub fn punctuator(b: u8) -> u32
     TOKEN_END
 }
 
-// The token at or after `from`.
-pub fn next(s: &[u8], from: usize) -> TokenRead
-    requires { ⌜ from ≤ length (now s) ⌝ }
-    ensures { λ r. ⌜ r ≡ headOf (Rattle.paper.proofs.Lexing.from (now (s .entry)) from) ⌝ }
+// The string, spread or number at `at`, where no name and no punctuator of one byte stands.
+fn other(s: &[u8], at: usize) -> TokenRead
+    requires { ⌜ Other (now s) at ⌝ }
+    ensures { λ r. ⌜ r ≡ tokenHere at (drop at (now (s .entry))) ⌝ }
 {
-    let at = skip(s, from);
-    if s.len() <= at {
-        return TokenRead::Token {
-            kind: TOKEN_END,
-            start: at,
-            end: at,
-        };
-    }
     let b = s[at];
-    if starts_name(b) {
-        let e = name_end(s, at + 1);
-        return TokenRead::Token {
-            kind: TOKEN_NAME,
-            start: at,
-            end: e,
-        };
-    }
-    let k = punctuator(b);
-    if k != TOKEN_END {
-        return TokenRead::Token {
-            kind: k,
-            start: at,
-            end: at + 1,
-        };
-    }
     if b == b'"' {
         return string(s, at);
     }
@@ -341,4 +301,45 @@ pub fn next(s: &[u8], from: usize) -> TokenRead
         return spread(s, at);
     }
     number(s, at)
+}
+
+// The token at or after `from`. One loop looks at each byte, in the order in which they are frequent.
+pub fn next(s: &[u8], from: usize) -> TokenRead
+    requires { ⌜ from ≤ length (now s) ⌝ }
+    ensures { λ r. ⌜ r ≡ headOf (Rattle.paper.proofs.Lexing.from (now (s .entry)) from) ⌝ }
+{
+    let mut i = from;
+    while i < s.len() {
+        let b = s[i];
+        if b == b' ' {
+            i += 1;
+            continue;
+        }
+        if starts_name(b) {
+            let e = name_end(s, i + 1);
+            return TokenRead::Token {
+                kind: TOKEN_NAME,
+                start: i,
+                end: e,
+            };
+        }
+        let k = punctuator(b);
+        if k != TOKEN_END {
+            return TokenRead::Token {
+                kind: k,
+                start: i,
+                end: i + 1,
+            };
+        }
+        let n = ignored(s, i);
+        if n == 0 {
+            return other(s, i);
+        }
+        i += n;
+    }
+    TokenRead::Token {
+        kind: TOKEN_END,
+        start: i,
+        end: i,
+    }
 }

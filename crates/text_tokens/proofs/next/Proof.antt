@@ -1,95 +1,103 @@
--- `text_tokens::next` meets its contract: behind what is ignored, by the first byte.
-use mathlib.Core.Path.{_≡_, sym, ap, _∙_}
-use lib.ListN.{drop}
+-- `text_tokens::next` meets its contract: what the loop has passed over changes nothing, and what stands behind it is told by its first byte.
+use mathlib.Core.Path.{_≡_, refl, sym, ap, _∙_}
+use Prim.Native.Nat.{_-_, _≤_}
+use native.Mathlib.Omega.{arith}
+use lib.ListN.{length}
 use Rattle.paper.proofs.Lexing.{from as tokens-from}
 use Rattle.paper.specs.Tokens.{Text}
 use Rattle.text_scan.specs.Head.{headOf}
-use Rattle.text_scan.specs.Piece.{tokenHere}
-use Rattle.text_tokens.proofs.PieceLaws.{name-at, mark-at}
-use Rattle.text_tokens.proofs.HereLaws.{here-end, here-token}
+use Rattle.text_tokens.proofs.PieceLaws.{blank-space, name-at, mark-at}
+use Rattle.text_tokens.proofs.HereLaws.{ignored-in, here-end, here-token, here-found}
+use Rattle.text_tokens.proofs.Unroll.{from-skip}
 use borrow.Author.Needs.{needs}
 use Rattle.text_tokens.proofs.next.Statement.{statement}
 use Rattle.text_tokens.proofs.next.Tie as tie
 
-here : (c : tie.Else1) → tokenHere (c .before .skip .result) (drop (c .before .skip .result) (c .before .before .before .args .s .now)) ≡ headOf (tokens-from (c .before .before .before .args .s .now) (c .before .before .before .args .from))
-here c =
-    let k = c .before .skip .ensures in
-    here-token _ _ (c .if1 .left) (k .stop (c .if1 .left)) ∙ ap (λ (t : Text). headOf t) (sym (k .same))
+abbrev Inv-loop : tie.InvT-loop
+Inv-loop s from i₀ i = (i ≤ length s) × (tokens-from s from ≡ tokens-from s i)
 
-skip-requires : tie.Need-skip-requires
-skip-requires c κs = search needs
+abbrev μ-loop : tie.MeasureT-loop
+μ-loop s from i₀ i = length s - i
 
-returns : tie.Need-returns
-returns c =
-    let k = c .before .skip .ensures in
-    here-end _ _ (c .if1 .taken) ∙ ap (λ (t : Text). headOf t) (sym (k .same))
+loop-holds : tie.Need-loop-holds Inv-loop μ-loop
+loop-holds c = (c .before .pre, refl)
 
-shared-slice-read-b : tie.Need-shared-slice-read-b
+shared-slice-read-b : tie.Need-shared-slice-read-b Inv-loop μ-loop
 shared-slice-read-b c = search needs
 
-starts-name-requires : tie.Need-starts-name-requires
+add-i : tie.Need-add-i Inv-loop μ-loop
+add-i c = search needs
+
+loop-less : tie.Need-loop-less Inv-loop μ-loop
+loop-less c = omega (arith, c .before .before .loop-test .taken)
+
+loop-again : tie.Need-loop-again Inv-loop μ-loop
+loop-again c = (omega (arith, c .before .before .loop-test .taken), c .before .before .before .loop .inv .1 ∙ from-skip _ (c .before .before .before .loop .i) 1 (c .before .before .loop-test .taken) (sym (blank-space _ (c .before .before .before .loop .i) (c .before .before .loop-test .taken) (c .if1 .taken))) (λ e. omega arith))
+
+starts-name-requires : tie.Need-starts-name-requires Inv-loop μ-loop
 starts-name-requires c κs = search needs
 
-add-name-end : tie.Need-add-name-end
+add-name-end : tie.Need-add-name-end Inv-loop μ-loop
 add-name-end c = search needs
 
-name-end-requires : tie.Need-name-end-requires
+name-end-requires : tie.Need-name-end-requires Inv-loop μ-loop
 name-end-requires c κs = search needs
 
-returns-2 : tie.Need-returns-2
-returns-2 c = name-at _ _ (c .before .before .before .before .if1 .left) _ (sym (c .before .before .starts-name .ensures) ∙ c .before .if2 .taken) (c .name-end .ensures) ∙ here (c .before .before .before .before)
+returns : tie.Need-returns Inv-loop μ-loop
+returns c = here-found _ _ _ _ _ (c .before .before .before .before .before .loop-test .taken) (name-at _ _ (c .before .before .before .before .before .loop-test .taken) _ (sym (c .before .before .starts-name .ensures) ∙ c .before .if2 .taken) (c .name-end .ensures)) ∙ ap (λ (t : Text). headOf t) (sym (c .before .before .before .before .before .before .loop .inv .1))
 
-punctuator-requires : tie.Need-punctuator-requires
+punctuator-requires : tie.Need-punctuator-requires Inv-loop μ-loop
 punctuator-requires c κs = search needs
 
-add-t13 : tie.Need-add-t13
-add-t13 c = search needs
+add-t14 : tie.Need-add-t14 Inv-loop μ-loop
+add-t14 c = search needs
 
-returns-3 : tie.Need-returns-3
-returns-3 c = mark-at _ _ (c .before .before .before .before .before .if1 .left) _ (c .before .punctuator .ensures) (c .if3 .taken) ∙ here (c .before .before .before .before .before)
+returns-2 : tie.Need-returns-2 Inv-loop μ-loop
+returns-2 c = here-found _ _ _ _ _ (c .before .before .before .before .before .before .loop-test .taken) (mark-at _ _ (c .before .before .before .before .before .before .loop-test .taken) _ (c .before .punctuator .ensures) (c .if3 .taken)) ∙ ap (λ (t : Text). headOf t) (sym (c .before .before .before .before .before .before .before .loop .inv .1))
 
-string-requires : tie.Need-string-requires
-string-requires c κs = search needs
+ignored-requires : tie.Need-ignored-requires Inv-loop μ-loop
+ignored-requires c κs = search needs
 
-returns-4 : tie.Need-returns-4
-returns-4 c = c .string .ensures ∙ here (c .before .before .before .before .before .before .before)
+other-requires : tie.Need-other-requires Inv-loop μ-loop
+other-requires c κs = record { within = c .before .before .before .before .before .before .before .before .loop-test .taken; no-letter = sym (c .before .before .before .before .before .starts-name .ensures) ∙ c .before .before .before .before .if2 .left; no-mark = sym (c .before .before .before .punctuator .ensures) ∙ c .before .before .if3 .left }
 
-spread-requires : tie.Need-spread-requires
-spread-requires c κs = search needs
+returns-3 : tie.Need-returns-3 Inv-loop μ-loop
+returns-3 c = c .other .ensures ∙ here-token _ _ (c .before .before .before .before .before .before .before .before .before .loop-test .taken) (sym (c .before .before .ignored .ensures) ∙ c .before .if4 .taken) ∙ ap (λ (t : Text). headOf t) (sym (c .before .before .before .before .before .before .before .before .before .before .loop .inv .1))
 
-returns-5 : tie.Need-returns-5
-returns-5 c = c .spread .ensures ∙ here (c .before .before .before .before .before .before .before .before)
+add-i-2 : tie.Need-add-i-2 Inv-loop μ-loop
+add-i-2 c = omega (arith, c .before .ignored .ensures, ignored-in (c .before .before .before .before .before .before .before .before .before .before .before .args .s .now) (c .before .before .before .before .before .before .before .before .before .loop .i) (c .before .before .before .before .before .before .before .before .before .loop .inv .0))
 
-number-requires : tie.Need-number-requires
-number-requires c κs =
-    record {
-      within = c .before .before .before .before .before .before .before .if1 .left;
-      no-letter = sym (c .before .before .before .before .before .starts-name .ensures) ∙ c .before .before .before .before .if2 .left;
-      no-mark = sym (c .before .before .before .punctuator .ensures) ∙ c .before .before .if3 .left;
-      no-quote = c .before .if4 .left;
-      no-dot = c .if5 .left;
-    }
+loop-less-2 : tie.Need-loop-less-2 Inv-loop μ-loop
+loop-less-2 c = omega (arith, c .before .before .before .before .before .before .before .before .loop-test .taken, c .if4 .left)
 
-returns-6 : tie.Need-returns-6
-returns-6 c = c .number .ensures ∙ here (c .before .before .before .before .before .before .before .before)
+loop-again-2 : tie.Need-loop-again-2 Inv-loop μ-loop
+loop-again-2 c = (omega (arith, c .before .ignored .ensures, ignored-in (c .before .before .before .before .before .before .before .before .before .before .before .args .s .now) (c .before .before .before .before .before .before .before .before .before .loop .i) (c .before .before .before .before .before .before .before .before .before .loop .inv .0)), c .before .before .before .before .before .before .before .before .before .loop .inv .1 ∙ from-skip _ (c .before .before .before .before .before .before .before .before .before .loop .i) _ (c .before .before .before .before .before .before .before .before .loop-test .taken) (sym (c .before .ignored .ensures)) (c .if4 .left))
+
+returns-4 : tie.Need-returns-4 Inv-loop μ-loop
+returns-4 c = here-end _ _ (c .loop-test .left) ∙ ap (λ (t : Text). headOf t) (sym (c .before .loop .inv .1))
 
 pub next-spec : {M : Type 1} → statement M
 next-spec =
     tie.close
     (tie.spec
-    skip-requires
-    returns
+    Inv-loop
+    μ-loop
+    loop-holds
     shared-slice-read-b
+    add-i
+    loop-less
+    loop-again
     starts-name-requires
     add-name-end
     name-end-requires
-    returns-2
+    returns
     punctuator-requires
-    add-t13
+    add-t14
+    returns-2
+    ignored-requires
+    other-requires
     returns-3
-    string-requires
-    returns-4
-    spread-requires
-    returns-5
-    number-requires
-    returns-6)
+    add-i-2
+    loop-less-2
+    loop-again-2
+    returns-4)
