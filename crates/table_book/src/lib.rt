@@ -5,7 +5,7 @@ ghost use Prim.Native.Nat.{_+_, _-_, _*_, _≤_, _<_};
 ghost use lib.ListN.{length, take, drop, getD, set};
 ghost use Rattle.paper.specs.Tokens.{same};
 ghost use Rattle.paper_table.specs.Lists.{firstAt};
-ghost use Rattle.table_book.specs.Book.{part, room, cellName, cellSize, cellStart, cellEnd, cellCount, cellNext, cellHead, bookSize, countIn, keyAt, keysOf, keyed, Held, hashLimit, multiplierOf, hashOf, Indexed, Cleared, Linked};
+ghost use Rattle.table_book.specs.Book.{part, room, cellName, cellSize, cellStart, cellEnd, cellCount, cellNext, cellHead, bookSize, countIn, keyAt, keysOf, keyed, Held, hashLimit, multiplierOf, hashOf, Indexed, Cleared, Linked, hashFrom};
 
 // where the columns of a book begin: kinds at 0, then names, their sizes, contents' starts and ends, the count; next of each entry, first of each bucket, the seed
 pub const ROOM: usize = 256;
@@ -140,10 +140,10 @@ fn multiplier(seed: u32) -> usize
     (FIRST_MULTIPLIER + MULTIPLIER_STEP * wide(seed)) % HASH_LIMIT
 }
 
-// The bucket of the name of n bytes from `at` on.
-fn hash(s: &[u8], at: usize, n: usize, seed: u32) -> usize
+// The hash of the n bytes of s from `at` on, below HASH_LIMIT: its highest bits are a bucket.
+pub fn mixed(s: &[u8], at: usize, n: usize, seed: u32) -> usize
     requires { ⌜ at + n ≤ length (now s) ⌝ }
-    ensures { λ r. ⌜ (r ≡ hashOf seed (part (now (s .entry)) at n)) × (r < room) ⌝ }
+    ensures { λ r. ⌜ (r ≡ hashFrom (multiplierOf seed) 0 (part (now (s .entry)) at n)) × (r < hashLimit) ⌝ }
 {
     let m = multiplier(seed);
     let mut h = 0;
@@ -152,7 +152,15 @@ fn hash(s: &[u8], at: usize, n: usize, seed: u32) -> usize
         h = (h + s[at + i] as usize) * m % HASH_LIMIT;
         i += 1;
     }
-    h / BUCKET_SIZE
+    h
+}
+
+// The bucket of the name of n bytes from `at` on.
+fn hash(s: &[u8], at: usize, n: usize, seed: u32) -> usize
+    requires { ⌜ at + n ≤ length (now s) ⌝ }
+    ensures { λ r. ⌜ (r ≡ hashOf seed (part (now (s .entry)) at n)) × (r < room) ⌝ }
+{
+    mixed(s, at, n, seed) / BUCKET_SIZE
 }
 
 // Is entry j of a kind from low to high, and its name the n bytes of s from `at` on?
