@@ -130,7 +130,7 @@ const FIRST_MULTIPLIER: usize = 1640531527;
 // no two of the 256 seeds have the same.
 const MULTIPLIER_STEP: usize = 1013904226;
 
-// The bucket is the highest 8 of 31 bits: a product's bit depends on those below it, not on those above.
+// The bucket is the highest 8 of 31 bits, which depend on all bits below. The lowest 8 did as well for the sets of 256 names that were tried.
 const BUCKET_SIZE: usize = 8388608;
 
 // The multiplier of a seed: odd, and another one for each.
@@ -245,7 +245,7 @@ fn link_by(t: &[u8], book: &mut [u32], seed: u32) -> bool
 }
 
 // How many entries a bucket may have, and how many seeds there are. Of 256 names made at random more than five share a bucket by one seed in seven,
-// more than four by three in five: five is the least for which another seed is soon found.
+// more than four by three in five.
 const MOST_IN_BUCKET: u32 = 5;
 
 const SEEDS: u32 = 256;
