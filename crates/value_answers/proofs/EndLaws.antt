@@ -43,7 +43,7 @@ use Rattle.paper_values.specs.ValueCalls.{Ending, ends, ended, VariablesEnd, no
 use Rattle.paper_values.proofs.CallsExact.{variables-have, arguments-have}
 use Rattle.value_texts.proofs.TextSpans.{taken-spanned, taken-object}
 use Rattle.value_definitions.proofs.ReadLaws.{taken-treed}
-use Rattle.value_coerce.specs.Coercing.{kindsIn}
+use Rattle.value_held.specs.Given.{kindsIn}
 use Rattle.value_fields.specs.Wants.{Prepared, Wants}
 use Rattle.value_fields.specs.declared.Wanted.{Wanted}
 use Rattle.value_fields.specs.declared.Wanted.the-variants.{Field}

@@ -7,14 +7,12 @@ use mathlib.Core.List.{List, []}
 use Prim.Native.Nat.{ℕ, _+_, _≤_, _<_}
 use native.Mathlib.Omega.{arith}
 use lib.ListN.{length}
-use lib.Dec.{eqb}
-use borrow.Author.Tests.{lt-leb, eqb-true, eqb-false}
+use borrow.Author.Tests.{lt-leb}
 use Rattle.paper.specs.Numbers.{kindVariable, kindNull}
 use Rattle.paper.specs.Tokens.{same}
 use Rattle.paper_table.specs.Lists.{anyOf}
 use Rattle.paper_table.specs.References.{Ref, named, listOf, nonNull}
 use Rattle.paper_query.specs.Constructs.{Doc, kindOf}
-use Rattle.query_rows.specs.Rowed.{Decides}
 use Rattle.paper_values.specs.ValueNumbers.{reasonEnum, reasonRepeated, reasonUnknown}
 use Rattle.paper_values.specs.NumberTokens.{intOf, floatContent}
 use Rattle.paper_values.specs.Values.{Name, At, Value, variable, integer, float, string, boolean, null, enum, list, object, Due, Tree, Null, Bits, Decimal, Text, Truth, Member, Many, Fields, Token, Trees, no-more, also, Pairs, Out, Got, No, andThen}
@@ -28,9 +26,11 @@ use Rattle.value_kinds.specs.declared.Coerced.{Coerced}
 use Rattle.value_kinds.specs.declared.Coerced.the-variants.{UpTo}
 use Rattle.value_kinds.specs.Dues.{Told, placedAt}
 use Rattle.value_tokens.proofs.TokenLaws.{value-variable, value-null}
-use Rattle.value_coerce.specs.Coercing.{Vars, kindsIn, stood}
-use Rattle.value_coerce.specs.Holding.{Kept}
-use Rattle.value_coerce.proofs.ValueLaws.{at-level, row-plain}
+use Rattle.value_held.specs.Given.{Vars, kindsIn}
+use Rattle.value_coerce.specs.Coercing.{stood}
+use Rattle.value_held.specs.Holding.{Kept}
+use Rattle.value_held.proofs.LevelLaws.{at-level}
+use Rattle.value_coerce.proofs.ValueLaws.{row-plain}
 
 -- ---- what is not null
 
@@ -138,18 +138,6 @@ null-is : (i : At) (r : Ref) (tree : Tree) → nullAt i r ≡ Got tree → tree 
 null-is i (named n) tree e = cc
 null-is i (listOf r) tree e = cc
 null-is i (nonNull r) tree e = absurd (let z : _≡_ {A = ℕ} 0 1 = cc in omega arith)
-
--- the value of a row is null or a variable, or it is neither
-pub null-decides : (kind row : ℕ) → kind ≡ row → (kind ≡ kindNull → ⊥) → Decides (eqb kind kindVariable) ((row ≡ kindNull) ⊎ (row ≡ kindVariable))
-null-decides kind row p q = go (eqb kind kindVariable) refl
-  where
-    other : (kind ≡ kindVariable → ⊥) → (row ≡ kindNull) ⊎ (row ≡ kindVariable) → ⊥
-    other z (inl e) = q (p ∙ e)
-    other z (inr e) = z (p ∙ e)
-
-    go : (b : Bool) → eqb kind kindVariable ≡ b → Decides b ((row ≡ kindNull) ⊎ (row ≡ kindVariable))
-    go true e = inr (sym p ∙ eqb-true kind kindVariable e)
-    go false e = other (eqb-false kind kindVariable e)
 
 module _ (t : List ℕ) (vars : Vars) (text there : ℕ) (d : Doc) (n row i limit from : ℕ) (r ref : Ref) (tree : Tree) (p p′ : List ℕ) (c : Coerced) (k : Kept t there d n row ref tree) where
   abbrev Goal : Type 0

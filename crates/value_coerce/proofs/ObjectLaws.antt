@@ -3,14 +3,14 @@ use mathlib.Core.Path.{_≡_, refl, sym, ap, subst, _∙_}
 use mathlib.Core.Bool.{Bool, true, false, cond}
 use mathlib.Core.Option.{Option, none, some}
 use mathlib.Core.List.{List, [], _∷_, _++_, append-assoc}
-use Prim.Native.Nat.{ℕ, _+_, _-_, _%_, _≤_, _<_}
+use Prim.Native.Nat.{ℕ, _+_, _-_, _≤_, _<_}
 use native.Mathlib.Omega.{arith}
 use lib.ListN.{length, take, drop}
 use borrow.Author.Tests.{leb-true}
 use Rattle.paper.specs.Numbers.{mostWrappers}
 use Rattle.paper_table.specs.TableNumbers.{tagName}
 use Rattle.paper_table.specs.Lists.{gather, allOf}
-use Rattle.paper_table.specs.References.{Ref, named, listOf, nonNull, isNonNull}
+use Rattle.paper_table.specs.References.{Ref, isNonNull}
 use Rattle.paper_table.specs.Types.{Member, Definition, tableOf}
 use Rattle.paper_table.proofs.ReferenceSizes.{wrappers as wrapperCount}
 use Rattle.paper_query.specs.Constructs.{Doc}
@@ -36,31 +36,10 @@ use Rattle.value_kinds.specs.declared.Coerced.{Coerced}
 use Rattle.value_kinds.specs.declared.Coerced.the-variants.{UpTo, Refused}
 use Rattle.value_kinds.specs.Dues.{Told, placedAt}
 use Rattle.value_entries.specs.Entered.{duesOf, duesIn, duesBy, NextDue, Marks}
-use Rattle.value_coerce.specs.Coercing.{Vars, slimDue, coerced, entriesAt, givensAt, objected, stepped, ToldPairs}
-use Rattle.value_coerce.specs.Holding.{Knows, Gives}
-use Rattle.value_coerce.proofs.ListLaws.{told-up, told-no}
-
--- ---- what lacks
-
-lack-is : (r : Ref) → packOf r % 4 ≡ 2 → isNonNull r ≡ true
-unfolding packOf
-lack-is (named n) e = absurd (omega (arith, e))
-lack-is (listOf r) e = absurd (omega (arith, e))
-lack-is (nonNull r) e = refl
-
-lack-not : (r : Ref) → (packOf r % 4 ≡ 2 → ⊥) → isNonNull r ≡ false
-unfolding packOf
-lack-not (named n) e = refl
-lack-not (listOf r) e = refl
-lack-not (nonNull r) e = absurd (e (omega arith))
-
-module _ (text limit from h w : ℕ) (δ : Due) (p : List ℕ) (e : packOf (δ .type) ≡ w) where
-  pub lack-refused : w % 4 ≡ 2 → ToldPairs text limit (missing (placedAt text h) δ (Got nothing)) from p p (Refused h reasonMissing)
-  lack-refused q = subst (λ (b : Bool). ToldPairs text limit (cond b (No (placedAt text h) reasonMissing) (Got nothing)) from p p (Refused h reasonMissing)) (sym (lack-is (δ .type) (ap (λ (x : ℕ). x % 4) e ∙ q))) (refl, refl)
-
-  pub lack-nothing : (w % 4 ≡ 2 → ⊥) → from ≤ limit + 1 → ToldPairs text limit (missing (placedAt text h) δ (Got nothing)) from p p (UpTo from)
-  lack-nothing q l = subst (λ (b : Bool). ToldPairs text limit (cond b (No (placedAt text h) reasonMissing) (Got nothing)) from p p (UpTo from)) (sym (lack-not (δ .type) (λ (z : packOf (δ .type) % 4 ≡ 2). q (ap (λ (x : ℕ). x % 4) (sym e) ∙ z))))
-      (from, refl, no-pairs-put limit from p l)
+use Rattle.value_held.specs.Given.{Vars, coerced, entriesAt, givensAt, ToldPairs}
+use Rattle.value_coerce.specs.Coercing.{slimDue, objected, stepped}
+use Rattle.value_held.specs.Holding.{Knows, Gives}
+use Rattle.value_ones.proofs.ToldLaws.{told-up, told-no}
 
 -- ---- one that is due
 

@@ -1,8 +1,8 @@
 -- A row's value at a type, by the ways the code takes.
 use mathlib.Core.Path.{_≡_, refl, sym, ap, subst, _∙_}
-use mathlib.Core.Bool.{Bool, true, false, _&&_, not, cond}
+use mathlib.Core.Bool.{Bool, true, false, _&&_}
 use mathlib.Core.List.{List}
-use Prim.Native.Nat.{ℕ, zero, suc, _+_, _-_, _*_, _/_, _%_, _≤_, _<_}
+use Prim.Native.Nat.{ℕ, zero, suc, _+_, _-_, _/_, _%_, _≤_, _<_}
 use native.Mathlib.Omega.{arith}
 use native.Mathlib.Decide.{decLt}
 use lib.Dec.{eqb}
@@ -18,7 +18,7 @@ use Rattle.query_rows.proofs.RowsIn.{row-none}
 use Rattle.paper_values.specs.ValueNumbers.{reasonKind}
 use Rattle.paper_values.specs.Values.{Name, At, Value, variable, integer, float, string, boolean, null, enum, list, object, Values, Entries, Due, Tree, Many, no-more, also, Out, Got, No, andThen}
 use Rattle.paper_values.specs.Kinds.{Kind, Input}
-use Rattle.paper_values.specs.Coercion.{nullAt, objectAt, inObject, missing, heads, leftOut, coerce, coerceAll, givens}
+use Rattle.paper_values.specs.Coercion.{nullAt, objectAt, inObject, missing, heads, coerce, coerceAll, givens}
 use Rattle.paper_values.specs.CoercionRules.{plain, one as alone}
 use Rattle.paper_values.specs.RowValues.{placed, itemsFrom, entriesFrom, valueBy, valueAt}
 use Rattle.value_leaves.specs.Leaves.{sortOf}
@@ -32,7 +32,11 @@ use Rattle.value_kinds.proofs.KindLaws.{sort-input}
 use Rattle.value_entries.specs.Entered.{duesOf}
 use Rattle.value_tokens.specs.Spans.{isObjectKind, takesFields}
 use Rattle.value_tokens.proofs.TokenLaws.{value-variable, value-null, value-list, value-object}
-use Rattle.value_coerce.specs.Coercing.{Meant, listsOf, nullableOf, ones, Vars, kindsIn, coerced, listed, stood, objected}
+use Rattle.value_ones.specs.Ones.{listsOf, nullableOf, ones}
+use Rattle.value_held.specs.Given.{Vars, kindsIn, coerced}
+use Rattle.value_coerce.specs.Coercing.{Meant, listed, stood, objected}
+use Rattle.value_ones.proofs.PackLaws.{pack-list, pack-named, base-nullable}
+use Rattle.value_held.proofs.LevelLaws.{pick, at-level}
 
 alone-plain : (v : Value) → alone v ≡ true → plain v ≡ true
 alone-plain (variable i n) e = e
@@ -95,10 +99,6 @@ object-at : (kinds : Name → Kind) (vars : Vars) (i : At) (es : Entries) (m : N
 unfolding coerce
 object-at kinds vars i es m ds e = ap (objectAt i (inObject (missing i) (heads es) (givens kinds vars es))) e
 
-pick : (f : Value → Bool) (b : Bool) (x y : Value) → f x ≡ true → f y ≡ true → f (cond b x y) ≡ true
-pick f true x y p q = p
-pick f false x y p q = q
-
 module _ (text : ℕ) (d : Doc) (read : ℕ → Value) (i : ℕ) where
   pub row-plain : (kindOf d i ≡ kindVariable → ⊥) → (kindOf d i ≡ kindNull → ⊥) → plain (valueBy text d read i) ≡ true
   unfolding valueBy
@@ -112,29 +112,7 @@ module _ (text : ℕ) (d : Doc) (read : ℕ → Value) (i : ℕ) where
       (pick alone (eqb (kindOf d i) kindInteger) _ _ refl (pick alone (eqb (kindOf d i) kindFloat) _ _ refl (pick alone (eqb (kindOf d i) kindString) _ _ refl
       (pick alone (eqb (kindOf d i) kindBoolean) _ _ refl (pick alone (eqb (kindOf d i) kindEnum) _ _ refl refl)))))
 
-module _ (kinds : Name → Kind) (vars : Vars) (text : ℕ) (d : Doc) (read : ℕ → Value) (i : ℕ) where
-  abbrev stays : Value → Bool
-  stays v = not (leftOut kinds vars v)
-
-  row-stays : (kindOf d i ≡ kindVariable → ⊥) → stays (valueBy text d read i) ≡ true
-  unfolding valueBy
-  row-stays a = rw (ne-eqb (kindOf d i) kindVariable a)
-      (pick stays (eqb (kindOf d i) kindInteger) _ _ refl (pick stays (eqb (kindOf d i) kindFloat) _ _ refl (pick stays (eqb (kindOf d i) kindString) _ _ refl
-      (pick stays (eqb (kindOf d i) kindBoolean) _ _ refl (pick stays (eqb (kindOf d i) kindNull) _ _ refl (pick stays (eqb (kindOf d i) kindEnum) _ _ refl (pick stays (eqb (kindOf d i) kindList) _ _ refl refl)))))))
-
-  pub plain-out : (kindOf d i ≡ kindVariable → ⊥) → leftOut kinds vars (valueBy text d read i) ≡ false
-  plain-out a = go (leftOut kinds vars (valueBy text d read i)) (row-stays a)
-    where
-      go : (b : Bool) → not b ≡ true → b ≡ false
-      go true e = absurd (let z : _≡_ {A = ℕ} 0 1 = cc in omega arith)
-      go false e = refl
-
 -- ---- levels
-
-pub at-level : (text : ℕ) (d : Doc) (k i : ℕ) → (k ≡ 0 → ⊥) → valueAt text d k i ≡ valueBy text d (valueAt text d (k - 1)) i
-unfolding valueAt
-at-level text d zero i q = absurd (q refl)
-at-level text d (suc k) i q = let z : suc k - 1 ≡ k = omega arith in rw z refl
 
 at-none : (text : ℕ) (d : Doc) (k i : ℕ) → k ≡ 0 → valueAt text d k i ≡ null (placed text d i)
 unfolding valueAt
@@ -142,48 +120,6 @@ at-none text d zero i q = refl
 at-none text d (suc k) i q = absurd (omega (arith, q))
 
 -- ---- wrappers
-
-pub pack-list : (r : Ref) → packOf r % 4 ≡ 1 → (q : Ref) × (r ≡ listOf q) × (packOf q ≡ packOf r / 4) × (baseOf q ≡ baseOf r)
-unfolding packOf
-pack-list (named n) e = absurd (omega (arith, e))
-pack-list (listOf r) e = (r, refl, omega arith, refl)
-pack-list (nonNull r) e = absurd (omega (arith, e))
-
-pub pack-named : (r : Ref) → (packOf r % 4 ≡ 2 → ⊥) → (packOf r % 4 ≡ 1 → ⊥) → r ≡ named (baseOf r)
-unfolding packOf
-pack-named (named n) a b = refl
-pack-named (listOf r) a b = absurd (b (omega arith))
-pack-named (nonNull r) a b = absurd (a (omega arith))
-
--- one wrapper less
-pub pack-less : (r : Ref) → 0 < packOf r → (q : Ref) × (packOf q ≡ packOf r / 4) × (packOf r % 2 + listsOf q ≡ listsOf r)
-unfolding packOf
-pack-less (named n) l = absurd (omega (arith, l))
-pack-less (listOf r) l = (r, omega arith, (let z : (4 * packOf r + 1) % 2 ≡ 1 = omega arith in omega (arith, z)))
-pack-less (nonNull r) l = (r, omega arith, (let z : (4 * packOf r + 2) % 2 ≡ 0 = omega arith in omega (arith, z)))
-
-pub pack-none : (r : Ref) → packOf r ≡ 0 → listsOf r ≡ 0
-unfolding packOf
-pack-none (named n) e = refl
-pack-none (listOf r) e = absurd (omega (arith, e))
-pack-none (nonNull r) e = absurd (omega (arith, e))
-
-pub pack-marked : (r : Ref) → packOf r % 4 ≡ 2 → (q : Ref) × (packOf q ≡ packOf r / 4) × (nullableOf q ≡ nullableOf r)
-unfolding packOf
-pack-marked (named n) e = absurd (omega (arith, e))
-pack-marked (listOf r) e = absurd (omega (arith, e))
-pack-marked (nonNull r) e = (r, omega arith, refl)
-
-pub pack-bare : (r : Ref) → (packOf r % 4 ≡ 2 → ⊥) → nullableOf r ≡ r
-unfolding packOf
-pack-bare (named n) a = refl
-pack-bare (listOf r) a = refl
-pack-bare (nonNull r) a = absurd (a (omega arith))
-
-base-nullable : (r : Ref) → baseOf (nullableOf r) ≡ baseOf r
-base-nullable (named n) = refl
-base-nullable (listOf r) = refl
-base-nullable (nonNull r) = base-nullable r
 
 -- the same base in other wrappers
 same-base : (t book : List ℕ) (r q : Ref) (sort number w v : ℕ) → baseOf q ≡ baseOf r → packOf q ≡ v → DueIs t book r sort number w → DueIs t book q sort number v

@@ -4,280 +4,67 @@ use paper::KIND_LIST;
 use paper::KIND_NULL;
 use paper::KIND_OBJECT_FIELD;
 use paper::KIND_VARIABLE;
-use paper::ROW_SIZE;
 use paper_table::TAG_NAME;
 use paper_values::REASON_KIND;
-use paper_values::REASON_MISSING;
 use paper_values::REASON_REPEATED;
 use paper_values::REASON_UNKNOWN;
 use paper_values::TAG_INPUT;
 use paper_values::TAG_LIST;
 use paper_values::TAG_PAIR;
 use table_members::FieldFound;
-use value_entries::find_entry;
 use value_entries::first_child;
-use value_entries::first_repeated;
-use value_entries::first_unknown;
 use value_entries::next_child;
 use value_entries::next_due;
+use value_held::HELD_ROW;
+use value_held::HELD_TEXT;
+use value_held::cell_of;
+use value_held::due_held;
+use value_held::find_again;
+use value_held::find_alien;
+use value_held::given;
+use value_held::held_at;
+use value_held::is_null;
+use value_held::lacking;
 use value_kinds::Coerced;
 use value_kinds::Due;
 use value_kinds::due_of;
 use value_kinds::of_leaf;
 use value_kinds::put_nothing;
+use value_ones::close_ones;
+use value_ones::lists_in;
+use value_ones::nullable;
 use value_tokens::put_base;
 use value_tokens::takes_fields;
 use value_writing::close;
 use value_writing::place;
 use value_writing::put_field;
 ghost use mathlib.Core.Path.{_≡_};
-ghost use mathlib.Core.Logic.{_⊎_};
 ghost use mathlib.Core.Bool.{true};
 ghost use mathlib.Core.Option.{some};
-ghost use mathlib.Core.List.{List, []};
-ghost use Prim.Native.Nat.{ℕ, _+_, _-_, _*_, _%_, _≤_, _<_};
-ghost use lib.ListN.{length};
-ghost use Rattle.paper.specs.Numbers.{rowSize, kindVariable, kindNull};
+ghost use Prim.Native.Nat.{ℕ, _≤_, _<_};
 ghost use Rattle.paper_table.specs.Lists.{allOf};
 ghost use Rattle.paper_table.specs.References.{Ref};
 ghost use Rattle.paper_query.specs.Constructs.{nameOf};
 ghost use Rattle.table_fields.specs.Fields.{Bounds};
-ghost use Rattle.table_fields.specs.Wrappers.{packOf, packLimit};
-ghost use Rattle.table_book.specs.Book.{part};
+ghost use Rattle.table_fields.specs.Wrappers.{packOf};
 ghost use Rattle.table_members.specs.Members.{memberFrom};
-ghost use Rattle.query_rows.specs.Rowed.{cell, rowIn, docOf, Rowed, Sized, Decides};
+ghost use Rattle.query_rows.specs.Rowed.{rowIn, docOf};
 ghost use Rattle.paper_values.specs.Kinds.{dueOf};
-ghost use Rattle.paper_values.specs.Values.{Value, Due as Dues, Tree, Out, Pairs, Got, nothing};
-ghost use Rattle.paper_values.specs.Coercion.{heads, repeated, unknown, missing, valueIn};
-ghost use Rattle.paper_values.specs.RowValues.{entriesFrom};
-ghost use Rattle.value_writing.specs.Writing.{placeOf, Room};
-ghost use Rattle.value_kinds.specs.Dues.{DueIs, Fits, Told, placedAt};
-ghost use Rattle.value_kinds.specs.declared.Coerced.the-variants.{UpTo};
+ghost use Rattle.paper_values.specs.Values.{Tree, Pairs};
+ghost use Rattle.paper_values.specs.Coercion.{valueIn};
+ghost use Rattle.value_writing.specs.Writing.{Room};
+ghost use Rattle.value_kinds.specs.Dues.{DueIs, Fits, Told};
 ghost use Rattle.value_tokens.specs.Spans.{takesFields};
-ghost use Rattle.value_entries.specs.Entered.{Treed, Marks, duesBy};
-ghost use Rattle.value_coerce.specs.Coercing.{Ready, Meant, Alone, Inside, Vars, slimDue, leavesOut, listsOf, nullableOf, coerced, listed, ones, stood, objected, stepped, ToldPairs};
-ghost use Rattle.value_coerce.specs.Holding.{Kept, Holds, Holding, Names, Knows, Gives, heldFrom};
-
-// The numbers held of a variable: where its name starts, and its size; the text of its value, and the value's row there; sort, number and
-// wrappers of its type.
-pub const HELD_NAME: usize = 0;
-
-pub const HELD_SIZE: usize = 1;
-
-pub const HELD_TEXT: usize = 2;
-
-pub const HELD_ROW: usize = 3;
-
-pub const HELD_SORT: usize = 4;
-
-pub const HELD_NUMBER: usize = 5;
-
-pub const HELD_WRAPPERS: usize = 6;
+ghost use Rattle.value_entries.specs.Entered.{duesBy};
+ghost use Rattle.value_held.specs.Given.{Ready, Vars, coerced, ToldPairs};
+ghost use Rattle.value_coerce.specs.Coercing.{Meant, Alone, slimDue, listed, stood, objected, stepped};
+ghost use Rattle.value_held.specs.Holding.{Kept, Holds, Holding};
 
 // The text that is the document itself; any other number is the variables text.
 pub const TEXT_DOCUMENT: u32 = 0;
 
 // The levels that values can stand in one another, and one.
 pub const ALL_LEVELS: usize = 33;
-
-// Number c of variable j.
-fn cell_of(held: &[u32], many: usize, j: usize, c: usize) -> u32
-    requires { ⌜ (rowSize * many ≤ length (now held)) × (j < many) × (c < rowSize) ⌝ }
-    ensures { λ r. ⌜ r ≡ cell (now (held .entry)) j c ⌝ }
-{
-    held[ROW_SIZE * j + c]
-}
-
-// The type of variable j.
-fn due_held(held: &[u32], many: usize, j: usize) -> Due
-    requires { ⌜ (rowSize * many ≤ length (now held)) × (j < many) ⌝ }
-    ensures { λ r. ⌜ (r .sort ≡ cell (now (held .entry)) j 4) × (r .number ≡ cell (now (held .entry)) j 5) × (r .wrappers ≡ cell (now (held .entry)) j 6) ⌝ }
-{
-    let number = cell_of(held, many, j, HELD_NUMBER) as usize;
-    Due {
-        sort: cell_of(held, many, j, HELD_SORT),
-        number: number,
-        wrappers: cell_of(held, many, j, HELD_WRAPPERS),
-    }
-}
-
-// The first variable whose name is the l bytes of s from `at` on; as many as there are if there is none.
-fn find_held(s: &[u8], held: &[u32], many: usize, at: usize, l: usize) -> usize
-    requires { ⌜ Names (now s) (now held) many × (at + l ≤ length (now s)) ⌝ }
-    ensures { λ r. ⌜ r ≡ heldFrom (now (s .entry)) (now (held .entry)) (part (now (s .entry)) at l) many 0 ⌝ }
-{
-    let mut j = 0;
-    while j < many {
-        let a = cell_of(held, many, j, HELD_NAME) as usize;
-        let size = cell_of(held, many, j, HELD_SIZE) as usize;
-        if table_book::is_text(s, at, l, s, a, size) {
-            return j;
-        }
-        j += 1;
-    }
-    j
-}
-
-// The variable that row i names; as many as there are if it has no value.
-fn held_at(s: &[u8], rows: &[u32], n: usize, i: usize, held: &[u32], many: usize) -> usize
-    requires { ⌜ Rowed (now s) (now rows) n × Names (now s) (now held) many ⌝ }
-    ensures { λ r. ⌜ r ≡ heldFrom (now (s .entry)) (now (held .entry)) (nameOf (docOf (now (s .entry)) (now (rows .entry)) n) i) many 0 ⌝ }
-{
-    let at = query_rows::name_of(rows, n, i) as usize;
-    let l = query_rows::size_of(rows, n, i) as usize;
-    find_held(s, held, many, at, l)
-}
-
-// Is the value of row i a variable without a value, which leaves its entry out?
-fn is_left_out(
-    s: &[u8],
-    rows: &[u32],
-    n: usize,
-    i: usize,
-    levels: usize,
-    held: &[u32],
-    many: usize,
-) -> bool
-    requires { ⌜ Rowed (now s) (now rows) n × Names (now s) (now held) many ⌝ }
-    ensures { λ r. ⌜ ((vars : Vars) → Knows (now (s .entry)) (now (held .entry)) many vars → r ≡ leavesOut vars (docOf (now (s .entry)) (now (rows .entry)) n) levels i) ⌝ }
-{
-    if levels == 0 {
-        return false;
-    }
-    if query_rows::kind_of(rows, n, i) != KIND_VARIABLE {
-        return false;
-    }
-    many <= held_at(s, rows, n, i, held, many)
-}
-
-// The entry of this kind right below row h whose name is the l bytes of t from `at` on, and that is not left out; n if there is none.
-pub fn given(
-    s: &[u8],
-    rows: &[u32],
-    n: usize,
-    past: &[u32],
-    h: usize,
-    k: usize,
-    kind: u32,
-    held: &[u32],
-    many: usize,
-    t: &[u8],
-    at: usize,
-    l: usize,
-) -> usize
-    requires { ⌜ Treed (now s) (now rows) n (now past) × Names (now s) (now held) many × (at + l ≤ length (now t)) × (h ≤ n) ⌝ }
-    ensures { λ r. ⌜ Gives (now (s .entry)) (now (held .entry)) many (docOf (now (s .entry)) (now (rows .entry)) n) n k kind h (part (now (t .entry)) at l) r ⌝ }
-{
-    if n <= h {
-        return n;
-    }
-    let c = find_entry(s, rows, n, past, h, kind, t, at, l);
-    if n <= c {
-        return n;
-    }
-    if is_left_out(s, rows, n, c + 1, k, held, many) {
-        return n;
-    }
-    c
-}
-
-// The first entry of this kind right below row h whose name an earlier one has; n if there is none. Below a row that is not there stands nothing.
-fn find_again(s: &[u8], rows: &[u32], n: usize, past: &[u32], h: usize, kind: u32) -> usize
-    requires { ⌜ Treed (now s) (now rows) n (now past) × (h ≤ n) ⌝ }
-    ensures { λ r. ⌜ ((text : ℕ) (read : ℕ → Value) → Marks n text (repeated [] (heads (entriesFrom text (docOf (now (s .entry)) (now (rows .entry)) n) read kind h (n - (h + 1)) (h + 1)))) r) ⌝ }
-{
-    if n <= h {
-        return n;
-    }
-    first_repeated(s, rows, n, past, h, kind)
-}
-
-// The first of them whose name nothing has that this content makes due; n if there is none.
-fn find_alien(
-    t: &[u8],
-    start: usize,
-    end: usize,
-    s: &[u8],
-    rows: &[u32],
-    n: usize,
-    past: &[u32],
-    h: usize,
-    kind: u32,
-) -> usize
-    requires { ⌜ Bounds (now t) start end × Treed (now s) (now rows) n (now past) × (h ≤ n) ⌝ }
-    ensures { λ r. ⌜ ((text : ℕ) (read : ℕ → Value) → Marks n text (unknown (duesBy kind (now (t .entry)) start end) (heads (entriesFrom text (docOf (now (s .entry)) (now (rows .entry)) n) read kind h (n - (h + 1)) (h + 1)))) r) ⌝ }
-{
-    if n <= h {
-        return n;
-    }
-    first_unknown(t, start, end, s, rows, n, past, h, kind)
-}
-
-// Nothing is given for what is due in row h.
-pub fn lacking(limit: usize, from: usize, h: usize, wrappers: u32) -> Coerced
-    requires { ⌜ from ≤ limit + 1 ⌝ }
-    ensures { λ c. ⌜ ((text : ℕ) (what : Dues) (p : List ℕ) → packOf (what .type) ≡ wrappers → ToldPairs text limit (missing (placedAt text h) what (Got nothing)) from p p c) ⌝ }
-{
-    if wrappers % 4 == 2 {
-        return Coerced::Refused {
-            row: h,
-            why: REASON_MISSING,
-        };
-    }
-    Coerced::UpTo(from)
-}
-
-// Is the constant of this row no more than null? A variable has no value in a constant.
-fn is_null(rows: &[u32], n: usize, i: usize) -> bool
-    requires { ⌜ Sized (now rows) n ⌝ }
-    ensures { λ r. ⌜ Decides r ((rowIn (now (rows .entry)) n i .kind ≡ kindNull) ⊎ (rowIn (now (rows .entry)) n i .kind ≡ kindVariable)) ⌝ }
-{
-    let kind = query_rows::kind_of(rows, n, i);
-    if kind == KIND_NULL {
-        return true;
-    }
-    kind == KIND_VARIABLE
-}
-
-// How many of these wrappers are lists.
-fn lists_in(wrappers: u32) -> usize
-    requires { ⌜ wrappers < packLimit ⌝ }
-    ensures { λ m. ⌜ (m < packLimit) × ((r : Ref) → packOf r ≡ wrappers → m ≡ listsOf r) ⌝ }
-{
-    let mut m = 0;
-    let mut w = wrappers;
-    while 0 < w {
-        m += (w % 2) as usize;
-        w = w / 4;
-    }
-    m
-}
-
-// These wrappers without Non-Null outside.
-fn nullable(wrappers: u32) -> u32
-    ensures { λ w. ⌜ (w ≤ wrappers) × (w % 4 ≡ 2 → ⊥) × ((r : Ref) → packOf r ≡ wrappers → packOf (nullableOf r) ≡ w) ⌝ }
-{
-    let mut rest = wrappers;
-    while rest % 4 == 2 {
-        rest = rest / 4;
-    }
-    rest
-}
-
-// Puts the heads of m lists of one, each in the other, before what was written behind their bytes from `from` on, up to `at`.
-fn close_ones(out: &mut [u8], limit: usize, from: usize, m: usize, at: usize) -> usize
-    requires { ⌜ Inside limit from m at (now out) ⌝ }
-    ensures { λ e. ⌜ ((text : ℕ) (o : Out Tree) (p : List ℕ) → Told text limit o (placeOf limit (from + 3 * m)) p (now (out .entry)) (UpTo at) → Told text limit (ones m o) from p (now (out .exit)) (UpTo e)) ⌝ }
-{
-    let mut e = at;
-    let mut j = m;
-    while 0 < j {
-        j -= 1;
-        let head = place(limit, from, 3 * j);
-        e = close(out, limit, head, TAG_LIST, e);
-    }
-    e
-}
 
 // Writes the value of row i at the type that is due, with k levels left. The variables are coerced already; `many` is 0 where none has a value.
 pub fn value(

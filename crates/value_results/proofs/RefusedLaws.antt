@@ -21,8 +21,8 @@ use Rattle.paper_values.specs.Coercion.{Given, heads, repeated, unless, entryOf
 use Rattle.paper_values.specs.RowValues.{placed, valueOfRow, argumentsAt}
 use Rattle.paper_values.specs.DocumentDues.{valueIf, definitionsOf, dueVariable, variableDues, givenIn}
 use Rattle.paper_values.proofs.PlacesLaws.{Kept, PlacedEntries, PlacedIf, PlacedDues, UpTo, variables-kept, object-kept, value-placed, entries-placed}
-use Rattle.value_coerce.specs.Coercing.{kindsIn}
-use Rattle.value_coerce.specs.Holding.{Holds}
+use Rattle.value_held.specs.Given.{kindsIn}
+use Rattle.value_held.specs.Holding.{Holds}
 use Rattle.value_results.specs.Results.{coercedVariables}
 
 -- ---- rows

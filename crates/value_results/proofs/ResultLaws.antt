@@ -32,8 +32,9 @@ use Rattle.value_kinds.specs.Dues.{Told as ToldValue}
 use Rattle.value_kinds.specs.declared.Coerced.{Coerced}
 use Rattle.value_kinds.specs.declared.Coerced.the-variants as coerced
 use Rattle.value_entries.specs.Entered.{duesBy}
-use Rattle.value_coerce.specs.Coercing.{Ready, kindsIn, objected, slimDue}
-use Rattle.value_coerce.specs.Holding.{Holds, Holding}
+use Rattle.value_held.specs.Given.{Ready, kindsIn}
+use Rattle.value_coerce.specs.Coercing.{objected, slimDue}
+use Rattle.value_held.specs.Holding.{Holds, Holding}
 use Rattle.value_coerce.proofs.ArgumentLaws.{arguments-same, dues-arguments, slim-arguments}
 use Rattle.value_variables.specs.Variables.{Told}
 use Rattle.value_variables.specs.declared.Variables.{Variables}

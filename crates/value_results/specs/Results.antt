@@ -16,7 +16,7 @@ use Rattle.paper_values.specs.Coercion.{heads, inObject, givens, valueIn, orDef
 use Rattle.paper_values.specs.RowValues.{placed, argumentsAt}
 use Rattle.paper_values.specs.DocumentDues.{definitionsOf, variableDues, givenIn, argumentDues}
 use Rattle.paper_values.specs.ValueCalls.{Ending, ends, yields, ended, asObject}
-use Rattle.value_coerce.specs.Coercing.{kindsIn}
+use Rattle.value_held.specs.Given.{kindsIn}
 use Rattle.value_fields.specs.Wants.{Holds}
 use Rattle.value_results.specs.declared.Task.{Task}
 use Rattle.value_results.specs.declared.Task.the-variants.{OfOperation, OfField}

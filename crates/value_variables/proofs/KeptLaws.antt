@@ -15,7 +15,7 @@ use Rattle.paper_values.specs.Kinds.{kindOf}
 use Rattle.query_rows.specs.Rowed.{cell, docOf}
 use Rattle.paper_values.specs.Values.{Name, Tree, Pairs, nothing, pair}
 use Rattle.value_kinds.specs.Dues.{Sorted, DueIs, Fits}
-use Rattle.value_coerce.specs.Holding.{Kept, HeldAt, Holds}
+use Rattle.value_held.specs.Holding.{Kept, HeldAt, Holds}
 use Rattle.value_coerce.proofs.ObjectLaws.{joinPairs}
 use Rattle.value_variables.specs.Variables.{small, Same}
 

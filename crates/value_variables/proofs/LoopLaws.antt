@@ -21,8 +21,8 @@ use Rattle.value_writing.specs.Writing.{Put, Room}
 use Rattle.value_writing.proofs.PlaceLaws.{put-as, put-then, room-after}
 use Rattle.value_writing.proofs.EncodedLaws.{no-pairs-put}
 use Rattle.value_entries.specs.Entered.{Marks}
-use Rattle.value_coerce.specs.Coercing.{kindsIn}
-use Rattle.value_coerce.specs.Holding.{Holds}
+use Rattle.value_held.specs.Given.{kindsIn}
+use Rattle.value_held.specs.Holding.{Holds}
 use Rattle.value_coerce.proofs.ObjectLaws.{joinPairs, join-nothing, join-more, encode-join, and-got}
 use Rattle.value_variables.specs.Variables.{isDefinition, Same, Grows, givensIn, onlyOf, onlyAt, Told, definitionsFrom}
 use Rattle.value_variables.specs.declared.Variables.{Variables}

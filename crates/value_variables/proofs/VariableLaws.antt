@@ -19,10 +19,10 @@ use Rattle.value_writing.proofs.EncodedLaws.{no-pairs-put, pair-put, pairs-put}
 use Rattle.value_kinds.specs.declared.Coerced.{Coerced}
 use Rattle.value_kinds.specs.declared.Coerced.the-variants.{UpTo, Refused}
 use Rattle.value_kinds.specs.Dues.{Told}
-use Rattle.value_coerce.specs.Coercing.{ToldPairs}
-use Rattle.value_coerce.specs.Coercing.{kindsIn}
-use Rattle.value_coerce.specs.Holding.{HeldAt}
-use Rattle.value_coerce.proofs.ListLaws.{told-up, told-no}
+use Rattle.value_held.specs.Given.{ToldPairs}
+use Rattle.value_held.specs.Given.{kindsIn}
+use Rattle.value_held.specs.Holding.{HeldAt}
+use Rattle.value_ones.proofs.ToldLaws.{told-up, told-no}
 use Rattle.value_variables.specs.Variables.{told, Grows, onlyOf, Told as Variables·Told}
 use Rattle.value_variables.specs.declared.Variables.{Variables}
 use Rattle.value_variables.specs.declared.Variables.the-variants.{Done, Refused as Stopped}

@@ -27,8 +27,8 @@ use Rattle.value_kinds.specs.declared.Coerced.{Coerced}
 use Rattle.value_definitions.specs.Definitions.{told as defaultTold}
 use Rattle.value_definitions.specs.declared.Default.{Default}
 use Rattle.value_definitions.specs.declared.Default.the-variants as default
-use Rattle.value_coerce.specs.Coercing.{kindsIn, coerced, givensAt, ToldPairs}
-use Rattle.value_coerce.specs.Holding.{Kept, HeldAt, Gives, Names, Knows, heldFrom}
+use Rattle.value_held.specs.Given.{kindsIn, coerced, givensAt, ToldPairs}
+use Rattle.value_held.specs.Holding.{Kept, HeldAt, Gives, Names, Knows, heldFrom}
 use Rattle.value_variables.specs.Variables.{small, told, Asked, Same, Grows, givensIn, onlyOf, onlyAt, Told}
 use Rattle.value_variables.specs.declared.Variables.{Variables}
 use Rattle.value_variables.proofs.KeptLaws.{keep-same, keep-held, small-due, small-fits}

@@ -23,8 +23,8 @@ use Rattle.paper_values.specs.CallRules.{noVariables}
 use Rattle.value_writing.specs.Writing.{Put}
 use Rattle.value_kinds.specs.declared.Coerced.{Coerced}
 use Rattle.value_kinds.specs.declared.Coerced.the-variants as coerced
-use Rattle.value_coerce.specs.Coercing.{Ready, kindsIn}
-use Rattle.value_coerce.specs.Holding.{Holds}
+use Rattle.value_held.specs.Given.{Ready, kindsIn}
+use Rattle.value_held.specs.Holding.{Holds}
 use Rattle.value_variables.specs.declared.Variables.{Variables}
 use Rattle.value_variables.specs.declared.Variables.the-variants.{Done, Refused}
 

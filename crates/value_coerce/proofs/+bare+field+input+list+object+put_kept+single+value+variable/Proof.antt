@@ -29,13 +29,15 @@ use Rattle.value_kinds.specs.declared.Coerced.the-variants.{UpTo, Refused}
 use Rattle.value_kinds.specs.Dues.{DueIs}
 use Rattle.value_kinds.proofs.KindLaws.{due-is}
 use Rattle.value_entries.specs.Entered.{duesBy}
-use Rattle.value_coerce.specs.Coercing.{slimDue, coerced, stepped}
-use Rattle.value_coerce.specs.Holding.{Holds}
-use Rattle.value_coerce.proofs.HoldingLaws.{looked, knows, names, held-due, held-row0, held-row1}
+use Rattle.value_held.specs.Given.{coerced}
+use Rattle.value_coerce.specs.Coercing.{slimDue, stepped}
+use Rattle.value_held.specs.Holding.{Holds}
+use Rattle.value_held.proofs.HoldingLaws.{looked, knows, names, held-due, held-row0, held-row1}
 use Rattle.value_coerce.proofs.KeptLaws.{stood-as, kept-null, kept-full, kept-value}
 use Rattle.value_coerce.proofs.ValueLaws.{told-none, told-null, told-variable, told-kind, told-list, told-single, told-object, told-leaf, meant-items, fits-items, due-base, takes-input, takes-by, room-first, room-at, list-there}
-use Rattle.value_coerce.proofs.ListLaws.{told-up, told-room, item-below, child-more, Listed, list-start, list-step, list-stop, list-end, list-behind}
-use Rattle.value_coerce.proofs.OnesLaws.{ones-stop, ones-told, ones-inside}
+use Rattle.value_ones.proofs.ToldLaws.{told-up, told-room}
+use Rattle.value_coerce.proofs.ListLaws.{item-below, child-more, Listed, list-start, list-step, list-stop, list-end, list-behind}
+use Rattle.value_ones.proofs.OnesLaws.{ones-stop, ones-told, ones-inside}
 use Rattle.value_coerce.proofs.ObjectLaws.{object-repeated, object-unknown, object-fields, dues-here, Fielded, fields-start, fields-step, fields-stop, fields-end, fields-behind, pairs-room, step-lacks, step-stop, step-put, step-behind, gives-name, name-put, next-found, next-none, slim-here, slim-first, slim-rest, slim-packs}
 use Prim.Native.Nat.{ℕ, _<_}
 use borrow.Fn.Kinds.{In}
@@ -72,17 +74,17 @@ use Rattle.table_book.proofs.end_of.Reads as end-of-reads
 use Rattle.table_book.proofs.start_of.Reads as start-of-reads
 use Rattle.table_members.proofs.member_name.Reads as member-name-reads
 use Rattle.table_members.proofs.member_type.Reads as member-type-reads
-use Rattle.value_coerce.proofs.find_again.Reads as find-again-reads
-use Rattle.value_coerce.proofs.find_alien.Reads as find-alien-reads
-use Rattle.value_coerce.proofs.cell_of.Reads as cell-of-reads
-use Rattle.value_coerce.proofs.due_held.Reads as due-held-reads
-use Rattle.value_coerce.proofs.given.Reads as given-reads
-use Rattle.value_coerce.proofs.held_at.Reads as held-at-reads
-use Rattle.value_coerce.proofs.close_ones.Reads as close-ones-reads
-use Rattle.value_coerce.proofs.is_null.Reads as is-null-reads
-use Rattle.value_coerce.proofs.lacking.Reads as lacking-reads
-use Rattle.value_coerce.proofs.lists_in.Reads as lists-in-reads
-use Rattle.value_coerce.proofs.nullable.Reads as nullable-reads
+use Rattle.value_held.proofs.find_again.Reads as find-again-reads
+use Rattle.value_held.proofs.find_alien.Reads as find-alien-reads
+use Rattle.value_held.proofs.cell_of.Reads as cell-of-reads
+use Rattle.value_held.proofs.due_held.Reads as due-held-reads
+use Rattle.value_held.proofs.given.Reads as given-reads
+use Rattle.value_held.proofs.held_at.Reads as held-at-reads
+use Rattle.value_ones.proofs.close_ones.Reads as close-ones-reads
+use Rattle.value_held.proofs.is_null.Reads as is-null-reads
+use Rattle.value_held.proofs.lacking.Reads as lacking-reads
+use Rattle.value_ones.proofs.lists_in.Reads as lists-in-reads
+use Rattle.value_ones.proofs.nullable.Reads as nullable-reads
 use Rattle.value_entries.proofs.first_child.Reads as first-child-reads
 use Rattle.value_entries.proofs.next_child.Reads as next-child-reads
 use Rattle.value_entries.proofs.next_due.Reads as next-due-reads

@@ -9,7 +9,7 @@ use Rattle.table_book.specs.Book.{part}
 use Rattle.query_rows.specs.Rowed.{docOf}
 use Rattle.paper_values.specs.Coercion.{constant}
 use Rattle.paper_values.specs.RowValues.{valueOfRow}
-use Rattle.value_coerce.specs.Coercing.{kindsIn}
+use Rattle.value_held.specs.Given.{kindsIn}
 use Rattle.value_writing.specs.Writing.{placeOf}
 use Rattle.value_writing.proofs.PlaceLaws.{room-after}
 use Rattle.value_coerce.proofs.ValueLaws.{room-first}

@@ -1,0 +1,5 @@
+-- Laws of this crate.
+pub mod LevelLaws
+pub mod GivenLaws
+pub mod HoldingLaws
+pub mod LackLaws
