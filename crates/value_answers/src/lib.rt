@@ -9,6 +9,8 @@ use paper::REPORT_SIZE;
 use paper::ROWS_SIZE;
 use paper_values::MOST_COERCED;
 use paper_values::TAG_INPUT;
+use query_links::FEW_ROWS;
+use query_links::ROWS;
 use query_opening::Start;
 use table_book::BOOK_SIZE;
 use text_cursor::Read;
@@ -40,11 +42,6 @@ ghost use Rattle.value_endings.specs.Endings.{endingOf};
 ghost use Rattle.value_endings.specs.declared.Ended.the-variants.{Refused};
 ghost use Rattle.value_variables.specs.Variables.{Asked};
 ghost use Rattle.value_answers.specs.Answers.{heldRoom, Few, EndFor, argued, coercedVariables, resultOf, Gives, ReadEnd, OpenEnd, Stands, Standing, Serves, FieldServes, Ends};
-
-// Up to how many rows there are few; how many there may be.
-const FEW_ROWS: usize = 256;
-
-const ROWS: usize = 2048;
 
 // What a call coerces: an operation's variables, or the arguments of the field of a row.
 enum Call {
