@@ -3,6 +3,10 @@
 use paper::ROWS_SIZE;
 use plan_keys::number_keys;
 use plan_writing::write_plan;
+use query_links::FEW_ROWS;
+use query_links::FIRSTS;
+use query_links::KINDS;
+use query_links::ROWS;
 ghost use mathlib.Core.Path.{_≡_};
 ghost use mathlib.Core.List.{_∷_};
 ghost use Prim.Native.Nat.{_+_, _*_, _≤_, _<_};
@@ -21,15 +25,7 @@ ghost use Rattle.plan_tests.specs.Right.{TableTo};
 ghost use Rattle.plan_writing.specs.Writing.{Tables, Holders, Writes};
 ghost use Rattle.plan_making.specs.Made.{PlanMade, Asked, Room, Prepared};
 
-// How many rows there may be, up to how many there are few, how many firsts are linked, of a row or of none; how many kinds; a row's numbers in the table.
-const ROWS: usize = 2048;
-
-const FEW_ROWS: usize = 256;
-
-const FIRSTS: usize = 2049;
-
-const KINDS: usize = 32;
-
+// How many buckets keys are in; how many numbers the table has, for few rows and for all.
 const BUCKETS: usize = 2048;
 
 const FEW_CELLS: usize = 3072;

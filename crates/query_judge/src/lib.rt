@@ -1,6 +1,10 @@
 // Judges a document that was read against an accepted table: makes all ready that the rules ask of it, then judges its rows.
 // What is lent mutably is scratch. It is made at once, with room for few rows where there are few: less is cleared then.
 use paper_query::QueryAnswer;
+use query_links::FEW_ROWS;
+use query_links::FIRSTS;
+use query_links::KINDS;
+use query_links::ROWS;
 ghost use mathlib.Core.Path.{_≡_};
 ghost use Prim.Native.Nat.{_≤_, _<_};
 ghost use lib.ListN.{length};
@@ -15,15 +19,6 @@ ghost use Rattle.query_links.specs.Links.{Kinds};
 ghost use Rattle.query_inside.specs.Enclosed.{Asked};
 ghost use Rattle.query_due_types.specs.Dues.{Fitted};
 ghost use Rattle.query_places.specs.Placed.{Placed};
-
-// How many rows there may be, up to how many there are few, how many firsts are linked, of a row or of none; how many kinds.
-const ROWS: usize = 2048;
-
-const FEW_ROWS: usize = 256;
-
-const FIRSTS: usize = 2049;
-
-const KINDS: usize = 32;
 
 // Finds where spreads lead, flags what breaks the rules that speak of paths, and judges the rows.
 fn judge_placed(

@@ -8,6 +8,16 @@ ghost use Rattle.paper.specs.Numbers.{mostRows};
 ghost use Rattle.query_rows.specs.Rowed.{rowsIn, Rowed, Sized, roomOf};
 ghost use Rattle.query_links.specs.Links.{firstsSize, kindsSize, Family, Kinds};
 
+// The sizes of scratch for a document's rows: how many rows there may be; up to how many there are few, for which less is cleared;
+// how many firsts are linked, of a row or of none; how many kinds are.
+pub const ROWS: usize = 2048;
+
+pub const FEW_ROWS: usize = 256;
+
+pub const FIRSTS: usize = 2049;
+
+pub const KINDS: usize = 32;
+
 fn wide(x: u32) -> usize
     ensures { λ r. ⌜ r ≡ x ⌝ }
 {

@@ -1,21 +1,16 @@
 // The query rules that speak of paths, flagged at each row: makes ready what `query_path_rules` asks for, and nothing above does.
 // All of it is scratch, made with room for few rows where there are few: less is cleared then.
+use query_links::FEW_ROWS;
+use query_links::ROWS;
 ghost use mathlib.Core.Path.{_≡_};
 ghost use Prim.Native.Nat.{_≤_, _<_};
 ghost use lib.ListN.{length};
 ghost use Rattle.paper_table.specs.Types.{tableOf};
 ghost use Rattle.query_rows.specs.Rowed.{rowsIn, docOf, Rowed, fewRows, roomOf};
-ghost use Rattle.query_links.specs.Links.{firstsSize, Family, Kinds};
+ghost use Rattle.query_links.specs.Links.{Family, Kinds};
 ghost use Rattle.query_places.specs.Placed.{Placed};
 ghost use Rattle.query_spreads.specs.Spreads.{Targeted};
 ghost use Rattle.query_alike.specs.Flags.{Flagged};
-
-// How many rows there may be, up to how many there are few, and how many firsts are linked, of a row or of none.
-const ROWS: usize = 2048;
-
-const FEW_ROWS: usize = 256;
-
-const FIRSTS: usize = 2049;
 
 // Finds the definition that each row stands in and the spreads that stand in each, and flags by them.
 fn flag_with(
@@ -38,7 +33,7 @@ fn flag_with(
     stack: &mut [u16],
     flag: &mut [u32],
 )
-    requires { ⌜ Rowed (now s) (now rows) n × Family (rowsIn (now rows) n) (now first) (now next) × Kinds (rowsIn (now rows) n) (now firstk) (now nextk) × Placed (now t) (now s) (now rows) n (now at) (now to) (now inside) n × Targeted (docOf (now s) (now rows) n) (now target) × (length (now owner) ≡ roomOf n) × (length (now firsts) ≡ firstsSize) × (length (now nexts) ≡ roomOf n) × (length (now mark) ≡ roomOf n) × (length (now stack) ≡ roomOf n) × (length (now flag) ≡ roomOf n) ⌝ }
+    requires { ⌜ Rowed (now s) (now rows) n × Family (rowsIn (now rows) n) (now first) (now next) × Kinds (rowsIn (now rows) n) (now firstk) (now nextk) × Placed (now t) (now s) (now rows) n (now at) (now to) (now inside) n × Targeted (docOf (now s) (now rows) n) (now target) × (length (now owner) ≡ roomOf n) × (length (now firsts) ≡ roomOf n) × (length (now nexts) ≡ roomOf n) × (length (now mark) ≡ roomOf n) × (length (now stack) ≡ roomOf n) × (length (now flag) ≡ roomOf n) ⌝ }
     ensures { λ _. ⌜ Flagged (tableOf (now (t .entry))) (docOf (now (s .entry)) (now (rows .entry)) n) (now (flag .exit)) ⌝ }
 {
     query_spreads::owners(s, rows, n, owner);
@@ -85,7 +80,7 @@ fn flag_few(
     ensures { λ _. ⌜ Flagged (tableOf (now (t .entry))) (docOf (now (s .entry)) (now (rows .entry)) n) (now (flag .exit)) ⌝ }
 {
     let mut owner = [0u32; FEW_ROWS];
-    let mut firsts = [0u32; FIRSTS];
+    let mut firsts = [0u32; FEW_ROWS];
     let mut nexts = [0u32; FEW_ROWS];
     let mut mark = [0u32; FEW_ROWS];
     let mut stack = [0u16; FEW_ROWS];
@@ -131,7 +126,7 @@ fn flag_many(
     ensures { λ _. ⌜ Flagged (tableOf (now (t .entry))) (docOf (now (s .entry)) (now (rows .entry)) n) (now (flag .exit)) ⌝ }
 {
     let mut owner = [0u32; ROWS];
-    let mut firsts = [0u32; FIRSTS];
+    let mut firsts = [0u32; ROWS];
     let mut nexts = [0u32; ROWS];
     let mut mark = [0u32; ROWS];
     let mut stack = [0u16; ROWS];

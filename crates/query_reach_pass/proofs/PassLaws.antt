@@ -26,6 +26,10 @@ module _ {d : Doc} {target first next : List ℕ} (h : Graph d target first next
   pub passed-below : {j : ℕ} → Search d a mark stack height g j → g < mostRows
   passed-below {j = j} x = omega (arith, definition-within d g (search-defines d a mark stack height g j x), h .few)
 
+  -- it has its first among the firsts
+  pub passed-first : {j : ℕ} → Search d a mark stack height g j → g < length first
+  passed-first {j = j} x = omega (arith, definition-within d g (search-defines d a mark stack height g j x), h .linked .firsts)
+
   pub passing-start : {j : ℕ} → Search d a mark stack height g 0 → j ≡ getD first g 0 → Passing d a mark height mark stack height g j
   passing-start {j = j} x e =
       let n : FirstOf (SpreadIn d g) (count d) 0 j = rw e (h .linked .eldest g (search-defines d a mark stack height g 0 x)) in

@@ -6,6 +6,8 @@ use paper::REFUSE_BUFFER;
 use paper::REPORT_SIZE;
 use paper::ROWS_SIZE;
 use paper_values::MOST_COERCED;
+use query_links::FEW_ROWS;
+use query_links::ROWS;
 use query_opening::Start;
 use table_book::BOOK_SIZE;
 use text_cursor::Read;
@@ -29,11 +31,6 @@ ghost use Rattle.paper_values.specs.ValueCalls.{Short, Coerced as CoercedBy, Co
 ghost use Rattle.value_endings.specs.Endings.{endingOf};
 ghost use Rattle.value_results.specs.Results.{heldRoom, resultOf, Serves};
 ghost use Rattle.value_answers.specs.Answers.{EndFor, endedOf, Gives, ReadEnd, OpenEnd, Stands, Standing, Ends};
-
-// Up to how many rows there are few; how many there may be.
-const FEW_ROWS: usize = 256;
-
-const ROWS: usize = 2048;
 
 // What a call coerces: an operation's variables, or the arguments of the field of a row.
 enum Call {

@@ -3,6 +3,10 @@
 // All of it is scratch, made with room for few rows where there are few: less is cleared then.
 use paper::KIND_FIELD;
 use query_fields::FIELD_TYPENAME;
+use query_links::FEW_ROWS;
+use query_links::FIRSTS;
+use query_links::KINDS;
+use query_links::ROWS;
 use query_rows::kind_of;
 ghost use mathlib.Core.Path.{_≡_};
 ghost use Prim.Native.Nat.{_≤_, _<_};
@@ -17,15 +21,6 @@ ghost use Rattle.query_links.specs.Links.{firstsSize, kindsSize};
 ghost use Rattle.query_spreads.specs.Owners.{Defines, Owned};
 ghost use Rattle.query_inside.specs.Enclosed.{Enclosed};
 ghost use Rattle.value_fields.specs.Wants.{Known, Holds, Prepared, Wants};
-
-// How many rows there may be, up to how many there are few, how many firsts are linked, of a row or of none; how many kinds.
-const ROWS: usize = 2048;
-
-const FEW_ROWS: usize = 256;
-
-const FIRSTS: usize = 2049;
-
-const KINDS: usize = 32;
 
 // Where the arguments of a field stand in the table: the content that they are in.
 pub enum Wanted {
@@ -55,7 +50,7 @@ fn search_spreads(
     op: usize,
     i: usize,
 ) -> bool
-    requires { ⌜ Rowed (now s) (now rows) n × Owned (docOf (now s) (now rows) n) (now owner) × (length (now firstk) ≡ kindsSize) × (length (now nextk) ≡ roomOf n) × (length (now target) ≡ roomOf n) × (length (now first) ≡ firstsSize) × (length (now next) ≡ roomOf n) × (now mark ≡ replicate (roomOf n) 0) × (length (now stack) ≡ roomOf n) × Defines (docOf (now s) (now rows) n) op × (i < n) ⌝ }
+    requires { ⌜ Rowed (now s) (now rows) n × Owned (docOf (now s) (now rows) n) (now owner) × (length (now firstk) ≡ kindsSize) × (length (now nextk) ≡ roomOf n) × (length (now target) ≡ roomOf n) × (length (now first) ≡ roomOf n) × (length (now next) ≡ roomOf n) × (now mark ≡ replicate (roomOf n) 0) × (length (now stack) ≡ roomOf n) × Defines (docOf (now s) (now rows) n) op × (i < n) ⌝ }
     ensures { λ r. ⌜ Decides r (Reaches (docOf (now (s .entry)) (now (rows .entry)) n) op i) ⌝ }
 {
     query_links::kinds(rows, n, firstk, nextk);
@@ -81,7 +76,7 @@ fn reach_with(
     op: usize,
     i: usize,
 ) -> bool
-    requires { ⌜ Rowed (now s) (now rows) n × (length (now owner) ≡ roomOf n) × (length (now firstk) ≡ kindsSize) × (length (now nextk) ≡ roomOf n) × (length (now target) ≡ roomOf n) × (length (now first) ≡ firstsSize) × (length (now next) ≡ roomOf n) × (now mark ≡ replicate (roomOf n) 0) × (length (now stack) ≡ roomOf n) × Defines (docOf (now s) (now rows) n) op × (i < n) ⌝ }
+    requires { ⌜ Rowed (now s) (now rows) n × (length (now owner) ≡ roomOf n) × (length (now firstk) ≡ kindsSize) × (length (now nextk) ≡ roomOf n) × (length (now target) ≡ roomOf n) × (length (now first) ≡ roomOf n) × (length (now next) ≡ roomOf n) × (now mark ≡ replicate (roomOf n) 0) × (length (now stack) ≡ roomOf n) × Defines (docOf (now s) (now rows) n) op × (i < n) ⌝ }
     ensures { λ r. ⌜ Decides r (Reaches (docOf (now (s .entry)) (now (rows .entry)) n) op i) ⌝ }
 {
     query_spreads::owners(s, rows, n, owner);
@@ -114,7 +109,7 @@ fn reach_few(s: &[u8], rows: &[u32], n: usize, op: usize, i: usize) -> bool
     let mut firstk = [0u32; KINDS];
     let mut nextk = [0u32; FEW_ROWS];
     let mut target = [0u32; FEW_ROWS];
-    let mut first = [0u32; FIRSTS];
+    let mut first = [0u32; FEW_ROWS];
     let mut next = [0u32; FEW_ROWS];
     let mut mark = [0u32; FEW_ROWS];
     let mut stack = [0u16; FEW_ROWS];
@@ -144,7 +139,7 @@ fn reach_many(s: &[u8], rows: &[u32], n: usize, op: usize, i: usize) -> bool
     let mut firstk = [0u32; KINDS];
     let mut nextk = [0u32; ROWS];
     let mut target = [0u32; ROWS];
-    let mut first = [0u32; FIRSTS];
+    let mut first = [0u32; ROWS];
     let mut next = [0u32; ROWS];
     let mut mark = [0u32; ROWS];
     let mut stack = [0u16; ROWS];

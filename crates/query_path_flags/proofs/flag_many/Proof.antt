@@ -1,6 +1,5 @@
 use mathlib.Core.Path.{refl, sym}
 use Rattle.query_rows.proofs.Rooms.{room-many}
-use Rattle.query_links.specs.Links.{firstsSize}
 use borrow.Author.Needs.{needs}
 use Rattle.query_path_flags.proofs.flag_many.Statement.{statement}
 use Rattle.query_path_flags.proofs.flag_many.Tie as tie
@@ -24,7 +23,7 @@ flag-with-requires : tie.Need-flag-with-requires
 flag-with-requires c κs =
     let p = c .before .before .before .before .before .before .before .before .before .before .before .before .before .before .before .before .before .before .pre in
     let e = sym (room-many _ (p .6)) in
-    (p .0, p .1, p .2, p .3, p .4, e, refl {a = firstsSize}, e, e, e, p .5)
+    (p .0, p .1, p .2, p .3, p .4, e, e, e, e, e, p .5)
 
 same-length : tie.Need-same-length
 same-length c = search needs

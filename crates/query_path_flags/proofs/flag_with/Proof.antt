@@ -1,3 +1,5 @@
+use native.Mathlib.Omega.{arith}
+use Rattle.query_rows.proofs.Rooms.{room-enough}
 use Rattle.query_spreads.proofs.LinkLaws.{graph-of}
 use borrow.Author.Needs.{needs}
 use Rattle.query_path_flags.proofs.flag_with.Statement.{statement}
@@ -7,7 +9,9 @@ owners-requires : tie.Need-owners-requires
 owners-requires c κs = search needs
 
 spreads-requires : tie.Need-spreads-requires
-spreads-requires c κs = search needs
+spreads-requires c κs =
+    let p = c .before .before .before .before .before .before .before .before .before .before .before .before .before .before .before .before .before .before .before .before .before .before .before .before .pre in
+    (p .0, c .before .before .before .before .before .owners .ensures, omega (arith, p .6, room-enough _ (p .0 .few)), p .7)
 
 flags-requires : tie.Need-flags-requires
 flags-requires c κs =

@@ -5,7 +5,7 @@ use native.Mathlib.Omega.{arith}
 use Rattle.query_rows.specs.Rowed.{docOf}
 use Rattle.query_rows.proofs.RowsIn.{rows-count}
 use Rattle.query_rows.proofs.Rooms.{room-enough}
-use Rattle.query_reach_pass.proofs.PassLaws.{Passing, start-below, passed-below, passing-start, passing-room, passing-less, passing-more, passing-end}
+use Rattle.query_reach_pass.proofs.PassLaws.{Passing, start-below, passed-below, passed-first, passing-start, passing-room, passing-less, passing-more, passing-end}
 use Rattle.query_reach_pass.proofs.pass.Statement.{statement}
 use Rattle.query_reach_pass.proofs.pass.Tie as tie
 
@@ -25,7 +25,7 @@ mul-j : tie.Need-mul-j Inv-loop μ-loop
 mul-j c = omega (arith, passed-below (c .before .before .before .before .before .before .before .pre .0) (c .before .before .before .before .before .before .before .pre .1))
 
 shared-slice-read-j : tie.Need-shared-slice-read-j Inv-loop μ-loop
-shared-slice-read-j c = omega (arith, c .before .before .before .before .before .before .before .before .pre .0 .linked .firsts, passed-below (c .before .before .before .before .before .before .before .before .pre .0) (c .before .before .before .before .before .before .before .before .pre .1))
+shared-slice-read-j c = omega (arith, passed-first (c .before .before .before .before .before .before .before .before .pre .0) (c .before .before .before .before .before .before .before .before .pre .1))
 
 cast-j : tie.Need-cast-j Inv-loop μ-loop
 cast-j c = omega (arith, c .shared-slice-known6 .given (c .before .before .before .before .before .before .before .before .args .g))

@@ -3,7 +3,7 @@ use mathlib.Core.Path.{refl, sym, ap}
 use Prim.Native.Nat.{ℕ}
 use lib.ListN.{replicate}
 use Rattle.query_rows.proofs.Rooms.{room-many}
-use Rattle.query_links.specs.Links.{firstsSize, kindsSize}
+use Rattle.query_links.specs.Links.{kindsSize}
 use borrow.Author.Needs.{needs}
 use Rattle.value_fields.proofs.reach_many.Statement.{statement}
 use Rattle.value_fields.proofs.reach_many.Tie as tie
@@ -36,7 +36,7 @@ reach-with-requires : tie.Need-reach-with-requires
 reach-with-requires c κs =
     let p = c .before .before .before .before .before .before .before .before .before .before .pre in
     let e = sym (room-many _ (p .3)) in
-    (p .0, e, refl {a = kindsSize}, e, e, refl {a = firstsSize}, e, ap (λ (k : ℕ). replicate k 0) e, e, p .1, p .2)
+    (p .0, e, refl {a = kindsSize}, e, e, e, e, ap (λ (k : ℕ). replicate k 0) e, e, p .1, p .2)
 
 returns : tie.Need-returns
 returns c = search needs

@@ -1,6 +1,7 @@
 -- Links, where spreads lead, one search.
 use mathlib.Core.Path.{sym, _∙_}
-use Rattle.query_rows.proofs.Rooms.{room-rows}
+use native.Mathlib.Omega.{arith}
+use Rattle.query_rows.proofs.Rooms.{room-enough, room-rows}
 use Rattle.query_spreads.proofs.LinkLaws.{graph-of}
 use Rattle.value_fields.proofs.ReachLaws.{zeros-stamped}
 use borrow.Author.Needs.{needs}
@@ -14,7 +15,9 @@ targets-requires : tie.Need-targets-requires
 targets-requires c κs = search needs
 
 spreads-requires : tie.Need-spreads-requires
-spreads-requires c κs = search needs
+spreads-requires c κs =
+    let p = c .before .before .before .before .before .before .before .before .before .before .before .before .before .before .before .before .before .before .before .before .before .before .before .before .before .pre in
+    (p .0, p .1, omega (arith, p .5, room-enough _ (p .0 .few)), p .6)
 
 reach-requires : tie.Need-reach-requires
 reach-requires c κs =
