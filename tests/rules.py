@@ -11,14 +11,8 @@ DEFINES = r"(?m)^\s*(?:(?:unfoldable|abbrev|pub|data|record) )*{}\b"
 
 def definitions(kind):
     """the files with each rule's definitions, by number"""
-    if kind == "Schema":
-        text = (ROOT / "crates/paper_table/specs/Rules.antt").read_text()
-        parts = re.split(r"(?m)^-- (\d+)[.,] ", text)
-        found = {}
-        for number, part in zip(parts[1::2], parts[2::2]):
-            found[int(number)] = found.get(int(number), "") + part
-        return found
-    return {int(re.match(r"Rule(\d+)", p.name).group(1)): p.read_text() for p in (ROOT / "crates/paper_query/specs").glob("Rule*.antt")}
+    crate = "paper_table" if kind == "Schema" else "paper_query"
+    return {int(re.match(r"Rule(\d+)", p.name).group(1)): p.read_text() for p in (ROOT / "crates" / crate / "specs").glob("Rule*.antt")}
 
 
 def function_there(name):

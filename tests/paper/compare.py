@@ -145,7 +145,7 @@ def part_text(tally, count, chance):
             one_text(tally, inputs.document(chance), chance)
         else:
             some = inputs.variables(chance)
-            said = text.Said("VariablesText", text.Tokens(some))
+            said = text.TextAnswer("VariablesText", text.Tokens(some))
             gave = (said[0], [tuple(r) for r in said[1]]) if said[0] == "rows" else said
             expected = variables_said(some)
             tally.one(some.hex(), (gave[0], [list(gave[1:])]), (expected[0], [list(expected[1:])]), "variables " + (str(gave[1]) if gave[0] == "refuses" else "0"))
@@ -206,7 +206,7 @@ def every_fault(tally, table, document):
         return
     _, schema, roots = check_reader.schema_of(table)
     due = set(check_reader.Judge(schema, roots, *check_reader.tree_of(document, flat)).faults())
-    d = rules.read(document, text.Said("Document", text.Tokens(document))[1])
+    d = rules.read(document, text.TextAnswer("Document", text.Tokens(document))[1])
     t = paper_table.tableOf(table)
     gave = {(i, k) for i in range(rules.count(d)) for k, broken in rules.Broken if broken(t, d, i)}
     gave -= {(i, 12) for i in range(rules.count(d)) if rules.kindOf(d, rules.parentOf(d, i)) == text.kindDirective}
@@ -316,7 +316,7 @@ BEGINNINGS = [b"", b"{", b"{a", b"{a:", b"{a(x:1", b"{a(x:[", b"{a(x:{", b"{a(x:
 
 def one_every(tally, document):
     """As one_text, without the buffers."""
-    said = text.Said("Document", text.Tokens(document))
+    said = text.TextAnswer("Document", text.Tokens(document))
     gave = [0, len(said[1])] + [n for r in said[1] for n in r] if said[0] == "rows" else [said[1], said[2]]
     report, rows = reader.parse(document)
     due = report[:2] + rows

@@ -463,22 +463,22 @@ def renamed(chance, tokens, names):
 def restructured(chance, made, names, edits):
     """A document whose rows are taken twice, away, or for each other, and whose names and values are exchanged: it stays a document, mostly."""
     for _ in range(edits):
-        said = text.Said("Document", text.Tokens(made))
+        said = text.TextAnswer("Document", text.Tokens(made))
         if said[0] != "rows":
             return made
         rows = said[1]
         row = chance.choice(rows)
-        whole = made[row.start : row.stop]
+        whole = made[row.start : row.end]
         alike = [r for r in rows if r.kind == row.kind or (row.kind in SELECTIONS and r.kind in SELECTIONS) or (row.kind >= 20 and r.kind >= 20)]
         other = chance.choice(alike)
         way = chance.randrange(8)
-        start, stop, put = row.start, row.stop, made[other.start : other.stop]
-        if made[row.name : row.name + row.size] == b"__typename" and chance.randrange(2):
-            start, stop, put = row.name, row.name + row.size, chance.choice(names)      # of a union too, whose members are types
-        elif way < 3 and row.size:
-            named = [r for r in rows if r.size]
+        start, stop, put = row.start, row.end, made[other.start : other.end]
+        if made[row.nameStart : row.nameStart + row.nameLength] == b"__typename" and chance.randrange(2):
+            start, stop, put = row.nameStart, row.nameStart + row.nameLength, chance.choice(names)      # of a union too, whose members are types
+        elif way < 3 and row.nameLength:
+            named = [r for r in rows if r.nameLength]
             one = chance.choice(named)
-            start, stop, put = row.name, row.name + row.size, chance.choice([made[one.name : one.name + one.size], chance.choice(names), chance.choice(names)])
+            start, stop, put = row.nameStart, row.nameStart + row.nameLength, chance.choice([made[one.nameStart : one.nameStart + one.nameLength], chance.choice(names), chance.choice(names)])
         elif way == 3:
             put = whole + b" " + (whole if chance.randrange(2) else put)
         elif way == 4 and row.kind in (3, 4, 5, 6, 7, 8, 10) and chance.randrange(2):
@@ -641,7 +641,7 @@ def doubling(chance):
 
 def shuffled(chance, made):
     """Each operation's variable definitions in an order of its own."""
-    said = text.Said("Document", text.Tokens(made))
+    said = text.TextAnswer("Document", text.Tokens(made))
     if said[0] != "rows":
         return made
     rows = said[1]
@@ -649,9 +649,9 @@ def shuffled(chance, made):
     for op, row in enumerate(rows):
         if row.kind == 1:
             own = [r for r in rows if r.kind == 8 and r.parent == op]
-            put += zip(own, [made[r.start : r.stop] for r in chance.sample(own, len(own))])
+            put += zip(own, [made[r.start : r.end] for r in chance.sample(own, len(own))])
     for row, whole in sorted(put, key=lambda one: -one[0].start):
-        made = made[: row.start] + whole + made[row.stop :]
+        made = made[: row.start] + whole + made[row.end :]
     return made
 
 

@@ -92,7 +92,7 @@ def passes(vars, d, r):
     return not skipped(vars, d.skip(r)) and included(vars, d.include(r))
 
 
-def fits(does, c):
+def conditionFits(does, c):
     return c is None or does(c)
 
 
@@ -112,7 +112,7 @@ def Collect(d, vars, does, rs, v, g):
             if does(d.on(f)):  # a-spread; else other-type
                 h, v = Collect(d, vars, does, d.fragment(f), v, [])
                 g = merge(g, h)
-        elif fits(does, sort[1]):  # an-inline; else other-inline
+        elif conditionFits(does, sort[1]):  # an-inline; else other-inline
             h, v = Collect(d, vars, does, d.body(r), v, [])
             g = merge(g, h)
     return g, v
@@ -153,12 +153,12 @@ def dropped(s, i):
     return skipDrops(s) or includeDrops(i)
 
 
-def closed(past, ts):
+def leavesPast(past, ts):
     return [("leave", t, past) for t in ts]
 
 
-def placed(ts, at, b):
-    return closed(at + len(ts) + len(b), ts) + b
+def guarded(ts, at, b):
+    return leavesPast(at + len(ts) + len(b), ts) + b
 
 
 def sortTests(d, sort):
@@ -190,7 +190,7 @@ def plan(d, k, at, rs):
             b = [("list", sort[1], r)]
         else:
             b = plan(d, k - 1, inner, d.fragment(sort[1]) if sort[0] == "spread" else d.body(r))
-        steps += placed(ts, here, b)
+        steps += guarded(ts, here, b)
         if at + len(steps) > mostSteps:
             raise TooLong
     return steps
@@ -253,7 +253,7 @@ def grouped(ps):
     return list(g.items())
 
 
-def answer(vars, does, p, bs):
+def walkAnswer(vars, does, p, bs):
     return pairs(grouped(blocks(vars, does, p, bs)))
 
 
@@ -513,7 +513,7 @@ def CanWalk(t, plan, object, blocks, variables):
 
 
 def listed(t, plan, object, blocks, variables):
-    return answer(isOne(variables), lambda k: applies(t, k, object), planIn(plan), blocks)
+    return walkAnswer(isOne(variables), lambda k: applies(t, k, object), planIn(plan), blocks)
 
 
 # gw_walk: the answer, the pairs and the report after

@@ -6,7 +6,7 @@ from paper import table as types
 from paper.table import baseOf, earlier, find, firstAt, inputTable, isInputObject, isComposite, isUnion, isUnknown, judge, meant, mostTable, rootsOf, tableOf, tagQueryRoot
 from paper.text import (
     Row,
-    Said,
+    TextAnswer,
     Tokens,
     accepted,
     filled,
@@ -99,7 +99,7 @@ def extraOf(d, i):
 
 
 def spelt(d, r):
-    return d.bytes[r.name : r.name + r.size]
+    return d.bytes[r.nameStart : r.nameStart + r.nameLength]
 
 
 def nameOf(d, i):
@@ -134,7 +134,7 @@ def hasFragment(d, n):
 
 
 def definitionAt(t, k):
-    return t[k] if k < len(t) else types.blank(types.tagNothing)
+    return t[k] if k < len(t) else types.blankDefinition(types.tagNothing)
 
 
 def compositeOf(t, n):
@@ -156,7 +156,7 @@ def isTypename(n):
     return n == b"__typename"
 
 
-def fieldIn(t, k, n):
+def fieldNamed(t, k, n):
     if k is None:
         return "unknown"
     if isTypename(n):
@@ -165,7 +165,7 @@ def fieldIn(t, k, n):
     return "missing" if e is None else ("member", e)
 
 
-def typeIn(t, f):
+def selectionsType(t, f):
     return compositeOf(t, baseOf(f[1].type)) if f[0] == "member" else None
 
 
@@ -179,7 +179,7 @@ def conditioned(t, d, above, r):
 
 # `insideBy` with its bound, a row's number and one, which is always enough: parents stand before
 @remembered
-def inside(t, d, i):
+def typeInside(t, d, i):
     k = kindOf(d, i)
     if k == kindOperation:
         m = rootOf(t, extraOf(d, i))
@@ -187,21 +187,21 @@ def inside(t, d, i):
     if k == kindFragment:
         return conditioned(t, d, None, conditionOf(d, i))
     if k == kindInline:
-        return conditioned(t, d, inside(t, d, parentOf(d, i)), conditionOf(d, i))
+        return conditioned(t, d, typeInside(t, d, parentOf(d, i)), conditionOf(d, i))
     if k == kindField:
-        return typeIn(t, fieldIn(t, inside(t, d, parentOf(d, i)), nameOf(d, i)))
+        return selectionsType(t, fieldNamed(t, typeInside(t, d, parentOf(d, i)), nameOf(d, i)))
     return None
 
 
 def enclosing(t, d, i):
-    return inside(t, d, parentOf(d, i))
+    return typeInside(t, d, parentOf(d, i))
 
 
 def fieldAt(t, d, i):
-    return fieldIn(t, enclosing(t, d, i), nameOf(d, i))
+    return fieldNamed(t, enclosing(t, d, i), nameOf(d, i))
 
 
-def argumentOf(f, n):
+def argumentCalled(f, n):
     return find(lambda x: x.name == n, f[1].arguments) if f[0] == "member" else None
 
 
@@ -226,7 +226,7 @@ def nullable(w):
     return w // 4 if w % 4 == wrapNonNull else w
 
 
-def fits(p, q):
+def sameButNonNull(p, q):
     return p[0] == q[0] and nullable(p[1]) == nullable(q[1])
 
 
@@ -246,7 +246,7 @@ def argumentPlace(t, d, i):
     if kindOf(d, p) == kindDirective:
         return (b"Boolean", 0)
     if kindOf(d, p) == kindField:
-        x = argumentOf(fieldAt(t, d, p), nameOf(d, i))
+        x = argumentCalled(fieldAt(t, d, p), nameOf(d, i))
         return None if x is None else shapeOf(x.type)
     return None
 
@@ -315,7 +315,7 @@ def Circles(d, f):
 
 
 def isNamed(r):
-    return r.size != 0
+    return r.nameLength != 0
 
 
 def operationRepeated(t, d, i):
@@ -342,7 +342,7 @@ def conditionWrong(t, d, i):
     return kindOf(d, i) == kindTypeReference and kindOf(d, parentOf(d, i)) in (kindFragment, kindInline) and not isComposite(meant(t, nameOf(d, i)))
 
 
-def fieldMissing(t, d, i):
+def fieldNotOfType(t, d, i):
     return kindOf(d, i) == kindField and fieldAt(t, d, i) == "missing"
 
 
@@ -437,7 +437,7 @@ def declaredBy(d, o, n):
 
 
 def differ(p, q):
-    return p is not None and q is not None and not fits(p, q)
+    return p is not None and q is not None and not sameButNonNull(p, q)
 
 
 def Differs(t, d, i):
@@ -457,7 +457,7 @@ def noRoot(t, d, i):
     return kindOf(d, i) == kindOperation and rootOf(t, extraOf(d, i)) is None
 
 
-def lacks(f, n):
+def hasNoArgument(f, n):
     if f == "typename":
         return True
     return f[0] == "member" and not any(x.name == n for x in f[1].arguments)
@@ -465,7 +465,7 @@ def lacks(f, n):
 
 def argumentUnknown(t, d, i):
     p = parentOf(d, i)
-    return kindOf(d, i) == kindArgument and kindOf(d, p) == kindField and lacks(fieldAt(t, d, p), nameOf(d, i))
+    return kindOf(d, i) == kindArgument and kindOf(d, p) == kindField and hasNoArgument(fieldAt(t, d, p), nameOf(d, i))
 
 
 # ---- QueryRules.antt
@@ -475,7 +475,7 @@ Broken = [
     (2, operationUnnamed),
     (3, fragmentRepeated),
     (4, conditionWrong),
-    (5, fieldMissing),
+    (5, fieldNotOfType),
     (6, leafWrong),
     (7, spreadOfNone),
     (8, ReachesItself),
@@ -519,7 +519,7 @@ def CheckedDocument(table, document, rows, report):
     number, shown = judge(table)
     if number != accepted:  # refuses-table
         return number, zeros, filled(reportSize, [number] + shown, report)
-    said = Said("Document", Tokens(document))
+    said = TextAnswer("Document", Tokens(document))
     if said[0] == "refuses":  # refuses-text
         return said[1], zeros, filled(reportSize, [said[1]] + shownOf(said[1], said[2]), report)
     broken = Judged(tableOf(table), read(document, said[1]))
@@ -546,7 +546,7 @@ def Opened(table, document, name):
     number, shown = judge(table)
     if number != accepted:
         return ("stops", number, shown)
-    said = Said("Document", Tokens(document))
+    said = TextAnswer("Document", Tokens(document))
     if said[0] == "refuses":
         return ("stops", said[1], shownOf(said[1], said[2]))
     d = read(document, said[1])

@@ -19,7 +19,7 @@ from paper import plans, rules, table, text, values  # noqa: E402
 CRATES = HERE.parent.parent / "crates"
 PARTS = {"paper": text, "paper_table": table, "paper_query": rules, "paper_values": values, "paper_plan": plans}
 # parts of the grammars that no production of the draft names; they are there for the proofs
-FOR_PROOFS = {"SpreadRest", "AliasRest", "Bang?", "Number", "NumberRest", "ExponentPart?", "FloatRest", "Whole"}
+FOR_PROOFS = {"SpreadRest", "AliasRest", "Bang?", "Number", "NumberRest", "ExponentPart?", "FloatRest", "UnsignedPart"}
 
 
 def specs(crate):

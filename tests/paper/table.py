@@ -5,7 +5,7 @@
 from collections import namedtuple
 from functools import lru_cache
 
-from paper.text import accepted, filled, letter, letterOrDigit, mostWrappers, oneOf, refuseBuffer, refuseOverLength, refuseTooMany, reportSize
+from paper.text import accepted, filled, letter, letterOrDigit, mostWrappers, inSet, refuseBuffer, refuseOverLength, refuseTooMany, reportSize
 
 # ---- TableNumbers.antt
 
@@ -43,7 +43,7 @@ def find(p, xs):
 
 
 def isName(s):
-    return len(s) > 0 and oneOf(letter, s[0]) and all(oneOf(letterOrDigit, b) for b in s[1:])
+    return len(s) > 0 and inSet(letter, s[0]) and all(inSet(letterOrDigit, b) for b in s[1:])
 
 
 def baseOf(r):
@@ -81,7 +81,7 @@ def closed(read):
 
 
 def nameSize(s):
-    return firstAt(lambda b: not oneOf(letterOrDigit, b), s)
+    return firstAt(lambda b: not inSet(letterOrDigit, b), s)
 
 
 def readName(s):
@@ -114,7 +114,7 @@ def isReference(s):
 # ---- House.antt
 
 
-def pieces(at, s):
+def houseFields(at, s):
     found = []
     i = 0
     while i < len(s):
@@ -130,8 +130,8 @@ def pieces(at, s):
     return found
 
 
-def inside(at, s):
-    return pieces(at + 3, s)
+def houseFieldsIn(at, s):
+    return houseFields(at + 3, s)
 
 
 def one(k):
@@ -194,7 +194,7 @@ def openBehind(tag, slots):
     return openAfter(tag, slots) if inPlace(tag, slots) else slots
 
 
-def lacks(slots, ps):
+def lacksHouseField(slots, ps):
     return any(how == "one" and not any(p[0] == "piece" and p[2] == k for p in ps) for how, k in slots)
 
 
@@ -221,7 +221,7 @@ def byContent(inner, at, s, content):
         return [] if isName(s) else [at]
     if content[0] == "aReference":
         return [] if isReference(s) else [at]
-    return orLacking(at, lacks(content[1], inside(at, s)), inOrder(inner, content[1], inside(at, s)))
+    return orLacking(at, lacksHouseField(content[1], houseFieldsIn(at, s)), inOrder(inner, content[1], houseFieldsIn(at, s)))
 
 
 def wrongs(d):
@@ -254,8 +254,8 @@ def smallest(ws):
     return min(ws) if ws else None
 
 
-def framing(s):
-    return smallest(tableWrongs(pieces(0, s)))
+def framingOffset(s):
+    return smallest(tableWrongs(houseFields(0, s)))
 
 
 # ---- TableSizes.antt: a room is (from, to, how many may still come)
@@ -311,7 +311,7 @@ def oversBy(inner, at, tag, s, content):
     if content[0] == "aReference":
         return wrappersOver(mostWrappers, at + 3, s)
     if content[0] == "holds":
-        return oversIn(inner, roomIn(tag), inside(at, s))
+        return oversIn(inner, roomIn(tag), houseFieldsIn(at, s))
     return []
 
 
@@ -322,8 +322,8 @@ def overs(d):
     return offsets
 
 
-def counts(s):
-    return smallest(oversIn(overs(mostDeep), roomInTable, pieces(0, s)))
+def countsOffset(s):
+    return smallest(oversIn(overs(mostDeep), roomInTable, houseFields(0, s)))
 
 
 # ---- Types.antt
@@ -348,7 +348,7 @@ def typeIn(ps):
 
 
 def argumentIn(at, s):
-    return Argument(nameIn(inside(at, s)), typeIn(inside(at, s)))
+    return Argument(nameIn(houseFieldsIn(at, s)), typeIn(houseFieldsIn(at, s)))
 
 
 def argumentOf(p):
@@ -360,11 +360,11 @@ def gather(f, xs):
 
 
 def fieldIn(at, s):
-    return Member(tagField, nameIn(inside(at, s)), typeIn(inside(at, s)), gather(argumentOf, inside(at, s)))
+    return Member(tagField, nameIn(houseFieldsIn(at, s)), typeIn(houseFieldsIn(at, s)), gather(argumentOf, houseFieldsIn(at, s)))
 
 
 def inputIn(at, s):
-    return Member(tagArgument, nameIn(inside(at, s)), typeIn(inside(at, s)), [])
+    return Member(tagArgument, nameIn(houseFieldsIn(at, s)), typeIn(houseFieldsIn(at, s)), [])
 
 
 def nameOnly(tag, s):
@@ -387,7 +387,7 @@ def implementedOf(p):
 
 
 def definitionIn(at, tag, s):
-    return Definition(tag, nameIn(inside(at, s)), gather(implementedOf, inside(at, s)), gather(memberOf, inside(at, s)))
+    return Definition(tag, nameIn(houseFieldsIn(at, s)), gather(implementedOf, houseFieldsIn(at, s)), gather(memberOf, houseFieldsIn(at, s)))
 
 
 def definitionOf(p):
@@ -396,7 +396,7 @@ def definitionOf(p):
 
 @lru_cache(maxsize=64)
 def tableOf(s):
-    return gather(definitionOf, pieces(0, s))
+    return gather(definitionOf, houseFields(0, s))
 
 
 def isObject(d):
@@ -458,12 +458,12 @@ def meaning(t, n):
 tagNothing = 0
 
 
-def blank(tag):
+def blankDefinition(tag):
     return Definition(tag, b"", [], [])
 
 
 def definitionBy(t, m):
-    return blank(tagScalar) if m == "builtIn" else blank(tagNothing) if m is None else t[m]
+    return blankDefinition(tagScalar) if m == "builtIn" else blankDefinition(tagNothing) if m is None else t[m]
 
 
 def meant(t, n):
@@ -509,7 +509,7 @@ def subTest(can, r, s):
     return subTest(can, r[1], s)
 
 
-# ---- Rules.antt: a place is (member, part, argument)
+# ---- Places.antt, and the schema rules, a file each: a place is (member, part, argument)
 
 wholeOf = (noPlace, noPlace, noPlace)
 
@@ -655,7 +655,7 @@ def own(d, f):
     return find(lambda e: e.name == f.name, d.members)
 
 
-def fieldMissing(t, i, d):
+def interfaceFieldMissing(t, i, d):
     return promised(lambda m, p, f: [] if any(e.name == f.name for e in d.members) else [partAt(m, p)], t, d)
 
 
@@ -674,7 +674,7 @@ def fieldType(t, i, d):
     return promised(ask, t, d)
 
 
-def argumentMissing(t, i, d):
+def interfaceArgumentMissing(t, i, d):
     def ask(m, p, f):
         e = own(d, f)
         if e is None:
@@ -732,9 +732,9 @@ rules = [
     (8, wrongBase),
     (9, notObjectOrInterface),
     (10, implementedTwice),
-    (11, fieldMissing),
+    (11, interfaceFieldMissing),
     (12, fieldType),
-    (13, argumentMissing),
+    (13, interfaceArgumentMissing),
     (14, argumentType),
     (15, argumentExtra),
     (16, rootNotObject),
@@ -751,10 +751,10 @@ def breaks(t):
 # a TableAnswer: its number and what it shows; the last ones are kept, since many documents are judged by one table
 @lru_cache(maxsize=64)
 def judge(s):
-    at = framing(s)
+    at = framingOffset(s)
     if at is not None:
         return refuseFraming, [at]
-    over = counts(s)
+    over = countsOffset(s)
     if over is not None:
         return refuseTooMany, [over]
     broken = breaks(tableOf(s))

@@ -62,17 +62,17 @@ classes = (
 ).split()
 
 
-def isName(c):
+def isNameClass(c):
     return c in ("n-query", "n-mutation", "n-subscription", "n-fragment", "n-on", "n-true", "n-false", "n-null", "n-other")
 
 
 def hits(terminal, c):
     if terminal == "anyName":
-        return isName(c)
+        return isNameClass(c)
     if terminal == "nameButOn":
-        return isName(c) and c != "n-on"
+        return isNameClass(c) and c != "n-on"
     if terminal == "nameButLiteral":
-        return isName(c) and c not in ("n-true", "n-false", "n-null")
+        return isNameClass(c) and c not in ("n-true", "n-false", "n-null")
     return terminal == c
 
 
@@ -217,12 +217,12 @@ sets = {
 }
 
 
-def oneOf(spans, b):
+def inSet(spans, b):
     return any(a <= b <= z for a, z in spans)
 
 
 def hitsByte(name, b):
-    return b < 256 and oneOf(sets[name], b)
+    return b < 256 and inSet(sets[name], b)
 
 
 # `is:C` is the mark that a piece is a token of class C; `ignored` and `comment` are the other two
@@ -448,7 +448,7 @@ def Tokens(bs):
 
 # ---- Rows.antt
 
-Row = namedtuple("Row", "kind start stop parent name size extra")
+Row = namedtuple("Row", "kind start end parent nameStart nameLength extra")
 
 
 # the rows of the events es and the tokens ts: `book`, with the rows as lists that are changed in place
@@ -485,7 +485,7 @@ def flat(rows):
 # ---- Sizes.antt
 
 Sums = namedtuple("Sums", "levels rows fragments variables wrappers")
-nothing = Sums(0, 0, 0, 0, 0)
+nothingCounted = Sums(0, 0, 0, 0, 0)
 
 
 def leveled(c, levels):
@@ -523,15 +523,15 @@ def overCounts(s):
     return mostFragments < s.fragments or mostVariables < s.variables or mostWrappers < s.wrappers
 
 
-# ---- Reading.antt: `Fault` and `Said`. The tokens are taken from left to right; each fault of a token shows that token's offset, so the
+# ---- Reading.antt: `Fault` and `TextAnswer`. The tokens are taken from left to right; each fault of a token shows that token's offset, so the
 # first token with a fault has the least one, and behind it nothing need be looked at.
 
 parsing = Deriving(language, hits)
 
 
 # ("rows", rows) or ("refuses", number, offset)
-def Said(part, text):
-    configs = [(linked((("nt", part),), None), None, nothing)]
+def TextAnswer(part, text):
+    configs = [(linked((("nt", part),), None), None, nothingCounted)]
     for t in text.tokens:
         after = []
         for stack, events, sums in configs:
@@ -591,7 +591,7 @@ def Parsed(document, rows, report):
         return refuseBuffer, rows, filled(reportSize, [refuseBuffer], report)
     if mostText < len(document):  # over-length
         return refuseOverLength, rows, filled(reportSize, [refuseOverLength, inputDocument], report)
-    said = Said("Document", Tokens(document))
+    said = TextAnswer("Document", Tokens(document))
     if said[0] == "refuses":  # refuses-text
         return said[1], filled(rowsSize, [], rows), filled(reportSize, [said[1]] + shownOf(said[1], said[2]), report)
     return accepted, filled(rowsSize, flat(said[1]), rows), filled(reportSize, [accepted, len(said[1])], report)  # reads

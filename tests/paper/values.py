@@ -1,5 +1,5 @@
 # The definitions of crates/paper_values/specs written out in Python, definition by definition, under the same names: numbers, characters,
-# kinds, coercion as a function (Coercion.antt) and as rules (CoercionRules.antt, CallRules.antt), encoding, and the two coercing calls.
+# kinds, coercion as a function (Coercion.antt, Computed.antt) and as rules (CoercionRules.antt, CallRules.antt), encoding, and the two coercing calls.
 # States nothing of its own. It was written from the definitions alone, before the library or the readers in tests/ were looked at.
 # A value is a tuple that begins with its constructor's name and its place (text, row); an Out is ("Got", x) or ("No", place, reason);
 # lists, entries and pairs are Python lists.
@@ -8,7 +8,7 @@ from collections import namedtuple
 from paper.rules import Opened, Reaches, declared, extraOf, fieldAt, isValue, kindOf, nameOf, read, refuseNoOperation, rowOf
 from paper.table import inputTable, isBuiltIn, isEnum, isInputObject, isNonNull, meant, mostTable, tableOf, tagName, tagScalar
 from paper.text import (
-    Said,
+    TextAnswer,
     Tokens,
     accepted,
     extraTrue,
@@ -49,7 +49,7 @@ reasonKind, reasonRange, reasonMissing, reasonNull, reasonUnknown, reasonRepeate
 # ---- Written.antt
 
 
-def fieldOf(tag, bs):
+def houseFieldBytes(tag, bs):
     return bytes([tag]) + bytes([len(bs) // 256 & 255, len(bs) % 256]) + bs  # a length of 65,536 or more is never written: its value is refused
 
 
@@ -231,7 +231,7 @@ def kindOfType(t):
     return lambda n: builtInKind(n) if isBuiltIn(n) else kindOfDefinition(meant(t, n))
 
 
-# ---- Coercion.antt
+# ---- Coercion.antt, and Computed.antt, which is held to the rules below
 
 
 def nullAt(i, r):
@@ -246,18 +246,18 @@ def textAt(i, cs):
     return No(i, reasonSurrogate) if cs is None else Got(("Text", cs))
 
 
-def memberAt(i, n, ms):
+def enumValueAt(i, n, ms):
     return Got(("Member", n)) if n in ms else No(i, reasonEnum)
 
 
-def bad(i):
+def wrongKind(i):
     return No(i, reasonKind)
 
 
 # the columns: Int, Float, String, Boolean, ID, Own, Enum, Input; Other and what is not named are reason 1
-def table(i, kind, **answers):
+def byType(i, kind, **answers):
     answer = answers.get(kind[0])
-    return bad(i) if answer is None else answer(*kind[1:])
+    return wrongKind(i) if answer is None else answer(*kind[1:])
 
 
 # the bits of an Int hold the number that the token writes, and there are some exactly where it is an Int (Signed.antt)
@@ -268,7 +268,7 @@ def bitsOf(s):
 
 
 def integerAt(i, s, kind):
-    return table(
+    return byType(
         i,
         kind,
         Int=lambda: inRange(i, "Bits", bitsOf(s)),
@@ -279,29 +279,29 @@ def integerAt(i, s, kind):
 
 
 def floatAt(i, s, kind):
-    return table(i, kind, Float=lambda: inRange(i, "Decimal", floatContent(False, s)), Own=lambda: Got(("Token", s)))
+    return byType(i, kind, Float=lambda: inRange(i, "Decimal", floatContent(False, s)), Own=lambda: Got(("Token", s)))
 
 
 def stringAt(i, s, cs, kind):
-    return table(i, kind, String=lambda: textAt(i, cs), ID=lambda: textAt(i, cs), Own=lambda: Got(("Token", s)))
+    return byType(i, kind, String=lambda: textAt(i, cs), ID=lambda: textAt(i, cs), Own=lambda: Got(("Token", s)))
 
 
 def booleanAt(i, b, kind):
-    return table(i, kind, Boolean=lambda: Got(("Truth", b)), Own=lambda: Got(("Token", b"true" if b else b"false")))
+    return byType(i, kind, Boolean=lambda: Got(("Truth", b)), Own=lambda: Got(("Token", b"true" if b else b"false")))
 
 
 def enumAt(i, n, kind):
-    return table(i, kind, Enum=lambda ms: memberAt(i, n, ms))
+    return byType(i, kind, Enum=lambda ms: enumValueAt(i, n, ms))
 
 
 def objectAt(i, f, kind):
-    return table(i, kind, Input=f)
+    return byType(i, kind, Input=f)
 
 
 # heads are (place, name); givens are (name, left out, what it is at a type)
 
 
-def repeated(es):
+def repeatedEntry(es):
     seen = set()
     for i, n in es:
         if n in seen:
@@ -310,7 +310,7 @@ def repeated(es):
     return None
 
 
-def unknown(ds, es):
+def unknownEntry(ds, es):
     for i, n in es:
         if not any(n == d.name for d in ds):
             return i
@@ -324,8 +324,8 @@ def entryOf(n, gs):
     return None
 
 
-# `fields`, `field`, `first` and `missing`, from the first due to the last: what is refused first refuses all
-def fields(lack, gs, ds):
+# `dueFields`, `dueField`, `pairFirst` and `missingDue`, from the first due to the last: what is refused first refuses all
+def dueFields(lack, gs, ds):
     pairs = []
     for d in ds:
         f = entryOf(d.name, gs)
@@ -342,18 +342,18 @@ def fields(lack, gs, ds):
 
 
 # what is due and has no entry: reason 3, or None for nothing
-def missing(i):
+def missingDue(i):
     return lambda d: No(i, reasonMissing) if isNonNull(d.type) else None
 
 
 def inObject(lack, es, gs, ds):
-    e = repeated(es)
+    e = repeatedEntry(es)
     if e is not None:
         return No(e, reasonRepeated)
-    e = unknown(ds, es)
+    e = unknownEntry(ds, es)
     if e is not None:
         return No(e, reasonUnknown)
-    return andThen(fields(lack, gs, ds), lambda ps: Got(("Fields", ps)))
+    return andThen(dueFields(lack, gs, ds), lambda ps: Got(("Fields", ps)))
 
 
 def heads(es):
@@ -370,7 +370,7 @@ def single(kinds, f, r):
 
 def several(i, items, r):
     if r[0] == "named":
-        return bad(i)
+        return wrongKind(i)
     if r[0] == "listOf":
         return andThen(items(r[1]), lambda ts: Got(("Many", ts)))
     return several(i, items, r[1])
@@ -403,7 +403,7 @@ def coerce(kinds, vars, v, r):
     if c == "list":
         return several(i, lambda q: coerceAll(kinds, vars, v[2], q), r)
     es = v[2]
-    return single(kinds, lambda k: objectAt(i, lambda ds: inObject(missing(i), heads(es), givens(kinds, vars, es), ds), k), r)
+    return single(kinds, lambda k: objectAt(i, lambda ds: inObject(missingDue(i), heads(es), givens(kinds, vars, es), ds), k), r)
 
 
 def coerceAll(kinds, vars, vs, r):
@@ -433,15 +433,15 @@ def constant(kinds, v, r):
 
 # without an entry: the default, or reason 3, or None for nothing
 def orDefault(kinds, i):
-    return lambda d: missing(i)(d) if d.default is None else constant(kinds, d.default, d.type)
+    return lambda d: missingDue(i)(d) if d.default is None else constant(kinds, d.default, d.type)
 
 
 def variablesOf(kinds, es, vs):
-    e = repeated(heads(es))
+    e = repeatedEntry(heads(es))
     if e is not None:
         return No(e, reasonRepeated)
     places = {id(d): i for i, d in vs}
-    return fields(lambda d: orDefault(kinds, places[id(d)])(d), givens(kinds, noVariables, es), [d for i, d in vs])
+    return dueFields(lambda d: orDefault(kinds, places[id(d)])(d), givens(kinds, noVariables, es), [d for i, d in vs])
 
 
 def argumentsOf(kinds, given, vs, i, es, ds):
@@ -454,7 +454,7 @@ def argumentsOf(kinds, given, vs, i, es, ds):
 # ---- CoercionRules.antt: every result that some rule gives. Each rule is tried, whatever the others say; the callers ask for exactly one.
 
 
-def plain(v):
+def plainValue(v):
     return v[0] not in ("variable", "null")
 
 
@@ -489,7 +489,7 @@ def Coerces(kinds, vars, v, r):
             found += Coerces(kinds, vars, ("null", i), r)  # null-variable
         if t is not None and t != Null:
             found.append(Got(t))  # held-variable
-    if plain(v) and r[0] == "nonNull":
+    if plainValue(v) and r[0] == "nonNull":
         found += Coerces(kinds, vars, v, r[1])  # at-non-null
     if c == "list" and r[0] == "listOf":
         found += [andThen(o, lambda ts: Got(("Many", ts))) for o in Items(kinds, vars, v[2], r[1])]  # a-list
@@ -514,8 +514,8 @@ def Coerces(kinds, vars, v, r):
             if ds is None:
                 found.append(No(i, reasonKind))  # no-object
             else:
-                again = repeated(heads(es))
-                other = unknown(ds, heads(es))
+                again = repeatedEntry(heads(es))
+                other = unknownEntry(ds, heads(es))
                 if again is not None:
                     found.append(No(again, reasonRepeated))  # entry-repeated
                 if again is None and other is not None:
@@ -582,7 +582,7 @@ def InDues(kinds, vars, es, ds):
 
 
 def CoercesVariables(kinds, es, vs):
-    e = repeated(heads(es))
+    e = repeatedEntry(heads(es))
     return [No(e, reasonRepeated)] if e is not None else InDues(kinds, noVariables, es, vs)  # name-repeated, in-order
 
 
@@ -592,7 +592,7 @@ def CoercesArguments(kinds, given, vs, i, es, ds):
         if o[0] == "No":
             found.append(o)  # variables-refused
             continue
-        again, other = repeated(heads(es)), unknown(ds, heads(es))
+        again, other = repeatedEntry(heads(es)), unknownEntry(ds, heads(es))
         if again is not None:
             found.append(No(again, reasonRepeated))  # argument-repeated
         elif other is not None:
@@ -608,33 +608,33 @@ def CoercesArguments(kinds, given, vs, i, es, ds):
 def encode(t):
     c = t[0]
     if c == "Null":
-        return fieldOf(tagNull, b"")
+        return houseFieldBytes(tagNull, b"")
     if c == "Bits":
-        return fieldOf(tagInt, fourBytes(t[1]))
+        return houseFieldBytes(tagInt, fourBytes(t[1]))
     if c == "Truth":
-        return fieldOf(tagBoolean, bytes([1 if t[1] else 0]))
+        return houseFieldBytes(tagBoolean, bytes([1 if t[1] else 0]))
     if c == "Many":
-        return fieldOf(tagList, b"".join(encode(x) for x in t[1]))
+        return houseFieldBytes(tagList, b"".join(encode(x) for x in t[1]))
     if c == "Fields":
-        return fieldOf(tagInput, b"".join(fieldOf(tagPair, fieldOf(tagName, n) + encode(x)) for n, x in t[1]))
-    return fieldOf({"Decimal": tagFloat, "Text": tagString, "Member": tagEnumName, "Token": tagOwn}[c], t[1])
+        return houseFieldBytes(tagInput, b"".join(houseFieldBytes(tagPair, houseFieldBytes(tagName, n) + encode(x)) for n, x in t[1]))
+    return houseFieldBytes({"Decimal": tagFloat, "Text": tagString, "Member": tagEnumName, "Token": tagOwn}[c], t[1])
 
 
 # ---- RowValues.antt
 
 
-def refFrom(k, n, w):
+def refOfWrappers(k, n, w):
     if k == 0 or w == 0:
         return ("named", n)
-    return ("listOf" if w % 4 == wrapList else "nonNull", refFrom(k - 1, n, w // 4))
+    return ("listOf" if w % 4 == wrapList else "nonNull", refOfWrappers(k - 1, n, w // 4))
 
 
 def refIn(p):
-    return refFrom(mostWrappers, p[0], p[1])
+    return refOfWrappers(mostWrappers, p[0], p[1])
 
 
 def tokenAt(d, i):
-    return d.bytes[rowOf(d, i).start : rowOf(d, i).stop]
+    return d.bytes[rowOf(d, i).start : rowOf(d, i).end]
 
 
 # the entries of a kind right below row h; each value is the next row's
@@ -736,7 +736,7 @@ def asObject(o):
 
 
 def variablesRead(variables):
-    return Said("VariablesText", Tokens(variables))
+    return TextAnswer("VariablesText", Tokens(variables))
 
 
 def VariablesEnd(table, document, name, variables):

@@ -12,8 +12,8 @@ use Rattle.paper.specs.Grammar.{Ev, tok, mark, toks}
 use Rattle.paper.specs.Numbers.{mostRows, mostFragments, mostVariables, mostWrappers, kindOperation, kindFragment, kindVariableDefinition}
 use Rattle.paper.specs.Language.{Class, Mark, row, kind, named, wrapper, wrap, end, Part}
 use Rattle.paper.specs.Tokens.{Text, Tokens}
-use Rattle.paper.specs.Sizes.{Counts, Sums, nothing, kinded, wrapperMore, counted, sums, through, overRows, overCounts}
-use Rattle.paper.specs.Reading.{tokensOf, classesOf, placeOf, Reads, Summed, refuses, Said}
+use Rattle.paper.specs.Sizes.{Counts, Sums, nothingCounted, kinded, wrapperMore, counted, sums, through, overRows, overCounts}
+use Rattle.paper.specs.Reading.{tokensOf, classesOf, placeOf, Reads, Summed, refuses, TextAnswer}
 use Rattle.paper.specs.declared.Refusal.the-variants.{TooManyRows, TooMany}
 use Rattle.paper.proofs.Bools.{or-cases}
 use Rattle.claims.proofs.LevelsLaws.{test-before}
@@ -46,9 +46,9 @@ crosses test q (mark a ∷ es) (suc k) s h o =
     (mark a ∷ r .0, r .1, r .2, ap (λ (z : Evs). mark a ∷ z) (r .3), r .4, r .5, r .6)
 
 -- so at the first token with which a test fails
-module _ (test : Sums → Bool) (z : test nothing ≡ false) (q : (c : Class) (s : Sums) → test (counted (tok c) s) ≡ test s) where
-  first-crosses : (n : Part) (ts : List Class) (k : ℕ) (m : Sums) (s : Summed n ts k m) → T (test m) → ((j : ℕ) (m′ : Sums) → j < k → Summed n ts j m′ → test m′ ≡ false) → Crosses test (s .events) k nothing
-  first-crosses n ts k m s o f = crosses test q (s .events) k nothing (test-before test z n ts k m s f) (subst (λ (x : Sums). T (test x)) (sym (s .are)) o)
+module _ (test : Sums → Bool) (z : test nothingCounted ≡ false) (q : (c : Class) (s : Sums) → test (counted (tok c) s) ≡ test s) where
+  first-crosses : (n : Part) (ts : List Class) (k : ℕ) (m : Sums) (s : Summed n ts k m) → T (test m) → ((j : ℕ) (m′ : Sums) → j < k → Summed n ts j m′ → test m′ ≡ false) → Crosses test (s .events) k nothingCounted
+  first-crosses n ts k m s o f = crosses test q (s .events) k nothingCounted (test-before test z n ts k m s f) (subst (λ (x : Sums). T (test x)) (sym (s .are)) o)
 
 -- ROWS. Only the beginning of a row counts one
 row-crosses : (a : Mark) (s : Sums) → overRows s ≡ false → T (overRows (counted (mark a) s)) → (a ≡ row) × (s .rows ≡ mostRows)
@@ -124,19 +124,19 @@ inside : (n : Part) (t : Text) (k : ℕ) (m : Sums) → Summed n (classesOf t) k
 inside n t k m s = let e = length-map (tokensOf t) (λ x. x .class) in let i = s .inside in omega arith
 
 -- in full
-pub row-begins : (n : Part) {s : List ℕ} {t : Text} (at : ℕ) → Tokens 0 s t → Said n t (refuses (TooManyRows at)) →
+pub row-begins : (n : Part) {s : List ℕ} {t : Text} (at : ℕ) → Tokens 0 s t → TextAnswer n t (refuses (TooManyRows at)) →
     (k : ℕ) × (later : List Class) × (es : Evs) × (xs : Evs) × (ys : Evs) × (at ≡ placeOf k t) × (k < length (tokensOf t))
-    × Reads n (take (suc k) (classesOf t) ++ later) es × (through (suc k) es ≡ xs ++ (mark row ∷ ys)) × (length (toks xs) ≡ k) × (sums xs nothing .rows ≡ mostRows)
+    × Reads n (take (suc k) (classesOf t) ++ later) es × (through (suc k) es ≡ xs ++ (mark row ∷ ys)) × (length (toks xs) ≡ k) × (sums xs nothingCounted .rows ≡ mostRows)
 row-begins n {s} {t} at k a =
     let r = rows-stands n at k a in
     let c = first-crosses overRows refl (λ c s. refl) n (classesOf t) (r .0) (r .1) (r .3) (r .4) (λ j m h x. r .5 j m h x .1) in
-    let p = row-crosses (c .1) (sums (c .0) nothing) (c .5) (c .6) in
+    let p = row-crosses (c .1) (sums (c .0) nothingCounted) (c .5) (c .6) in
     (r .0, r .3 .later, r .3 .events, c .0, c .2, r .2, inside n t (r .0) (r .1) (r .3), r .3 .reads, subst (λ (x : Mark). through (suc (r .0)) (r .3 .events) ≡ c .0 ++ (mark x ∷ c .2)) (p .0) (c .3), c .4, p .1)
 
-pub count-begins : (n : Part) {s : List ℕ} {t : Text} (at : ℕ) → Tokens 0 s t → Said n t (refuses (TooMany at)) →
+pub count-begins : (n : Part) {s : List ℕ} {t : Text} (at : ℕ) → Tokens 0 s t → TextAnswer n t (refuses (TooMany at)) →
     (k : ℕ) × (later : List Class) × (es : Evs) × (xs : Evs) × (a : Mark) × (ys : Evs) × (at ≡ placeOf k t) × (k < length (tokensOf t))
-    × Reads n (take (suc k) (classesOf t) ++ later) es × (through (suc k) es ≡ xs ++ (mark a ∷ ys)) × (length (toks xs) ≡ k) × Passes a (sums xs nothing .counts)
+    × Reads n (take (suc k) (classesOf t) ++ later) es × (through (suc k) es ≡ xs ++ (mark a ∷ ys)) × (length (toks xs) ≡ k) × Passes a (sums xs nothingCounted .counts)
 count-begins n {s} {t} at k a =
     let r = many-stands n at k a in
     let c = first-crosses (λ m. overCounts (m .counts)) refl (λ c s. refl) n (classesOf t) (r .0) (r .1) (r .3) (r .4) (λ j m h x. r .5 j m h x .2) in
-    (r .0, r .3 .later, r .3 .events, c .0, c .1, c .2, r .2, inside n t (r .0) (r .1) (r .3), r .3 .reads, c .3, c .4, count-crosses (c .1) (sums (c .0) nothing) (c .5) (c .6))
+    (r .0, r .3 .later, r .3 .events, c .0, c .1, c .2, r .2, inside n t (r .0) (r .1) (r .3), r .3 .reads, c .3, c .4, count-crosses (c .1) (sums (c .0) nothingCounted) (c .5) (c .6))

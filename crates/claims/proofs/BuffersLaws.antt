@@ -12,7 +12,7 @@ use Rattle.paper.specs.Language.{Part, Document}
 use Rattle.paper.specs.Tokens.{Text, Tokens}
 use Rattle.paper.specs.Rows.{Row, flat}
 use Rattle.paper.specs.Refusals.{numberOf, shownOf}
-use Rattle.paper.specs.Reading.{Fault, no-token, no-going, no-end, too-deep, too-many-rows, too-many, rows-are, refuses, Said, refused}
+use Rattle.paper.specs.Reading.{Fault, no-token, no-going, no-end, too-deep, too-many-rows, too-many, rows-are, refuses, TextAnswer, refused}
 use Rattle.paper.specs.Calls.{filled, Parsed, short-report, short-rows, over-length, refuses-text, reads}
 use Rattle.paper.specs.declared.Refusal.{Refusal}
 use Rattle.paper.specs.declared.Refusal.the-variants.{Buffer, OverLength, NoToken, NoGoing, TooDeep, TooManyRows, TooMany}
@@ -31,7 +31,7 @@ rows-inj q = cc
 refuses≢rows : {r : Refusal} {rs : List Row} → refuses r ≡ rows-are rs → ⊥
 refuses≢rows q = let z : _≡_ {A = ℕ} 0 1 = cc in omega arith
 
-few-rows : (n : Part) (s : List ℕ) (rs : List Row) → Said n (from s 0) (rows-are rs) → length rs ≤ mostRows
+few-rows : (n : Part) (s : List ℕ) (rs : List Row) → TextAnswer n (from s 0) (rows-are rs) → length rs ≤ mostRows
 few-rows n s rs d = of-cells (replicate rowsSize 0) (length-replicate {A = ℕ} rowsSize 0)
   where
     of-cells : (cells : List ℕ) → length cells ≡ rowsSize → length rs ≤ mostRows
@@ -43,8 +43,8 @@ few-rows n s rs d = of-cells (replicate rowsSize 0) (length-replicate {A = ℕ} 
             subst (λ (z : List Row). length z ≤ mostRows) (rows-inj (said-one (g .1) d)) (g .3)
         of-answer (halt r) q = absurd (refuses≢rows (said-one (going-halt n (from s 0) (from-rising s) cells r q) d))
 
-pub rows-few : (n : Part) {s : List ℕ} {t : Text} (rs : List Row) → Tokens 0 s t → Said n t (rows-are rs) → length rs ≤ mostRows
-rows-few n {s} {t} rs k d = few-rows n s rs (subst (λ (z : Text). Said n z (rows-are rs)) (tokens-from k) d)
+pub rows-few : (n : Part) {s : List ℕ} {t : Text} (rs : List Row) → Tokens 0 s t → TextAnswer n t (rows-are rs) → length rs ≤ mostRows
+rows-few n {s} {t} rs k d = few-rows n s rs (subst (λ (z : Text). TextAnswer n z (rows-are rs)) (tokens-from k) d)
 
 -- a buffer filled: its fixed size, then what stood there
 head-length : (size : ℕ) (ns : List ℕ) → length ns ≤ size → length (ns ++ replicate (size - length ns) 0) ≡ size
@@ -67,7 +67,7 @@ pub filled-kept : (size : ℕ) (ns old new : List ℕ) → length ns ≤ size �
 filled-kept size ns old new h l e = (ap length e ∙ filled-length size ns old h l, ap (drop size) e ∙ filled-tail size ns old h)
 
 -- the numbers that a call may write
-pub flat-fits : {s : List ℕ} {t : Text} (rs : List Row) → Tokens 0 s t → Said Document t (rows-are rs) → length (flat rs) ≤ rowsSize
+pub flat-fits : {s : List ℕ} {t : Text} (rs : List Row) → Tokens 0 s t → TextAnswer Document t (rows-are rs) → length (flat rs) ≤ rowsSize
 flat-fits rs k d = let h = rows-few Document rs k d in let e = flat-length rs in omega arith
 
 pub tells-fits : (r : Refusal) → length (numberOf r ∷ shownOf r) ≤ reportSize
@@ -87,7 +87,7 @@ fault-number (too-deep k h o) = omega arith
 fault-number (too-many-rows k h o) = omega arith
 fault-number (too-many k h o) = omega arith
 
-pub said-number : {n : Part} {t : Text} {r : Refusal} → Said n t (refuses r) → 2 < numberOf r
+pub said-number : {n : Part} {t : Text} {r : Refusal} → TextAnswer n t (refuses r) → 2 < numberOf r
 said-number (refused f l) = fault-number f
 
 -- WHAT IS LEFT
@@ -143,7 +143,7 @@ module _ {document rows report rows′ report′ : List ℕ} where
 
   -- success: the rows and zeros, and their count
   pub rows-read : {a : ℕ} → Parsed document rows report rows′ report′ a → a ≡ 0 →
-      (t : Text) × (rs : List Row) × Tokens 0 document t × Said Document t (rows-are rs) × (length rs ≤ mostRows)
+      (t : Text) × (rs : List Row) × Tokens 0 document t × TextAnswer Document t (rows-are rs) × (length rs ≤ mostRows)
       × (take rowsSize rows′ ≡ flat rs ++ replicate (rowsSize - rowSize * length rs) 0) × (take 2 report′ ≡ 0 ∷ length rs ∷ [])
   rows-read (short-report h e f) l = let y : ⊥ = omega arith in absurd y
   rows-read (short-rows h w e f) l = let y : ⊥ = omega arith in absurd y

@@ -23,7 +23,7 @@ use Rattle.claims.proofs.CoercionsStops.{opening-stops, Unnamed, unname
 use Rattle.paper_query.specs.DocumentCalls.{read}
 use Rattle.paper_values.specs.Values.{At, Tree, Out, Got, No}
 use Rattle.paper_values.specs.DocumentDues.{ReachedField}
-use Rattle.paper_values.specs.ValueCalls.{Ending, ends, yields, ended, ArgumentsEnd, Lent, Short, CoercedArguments}
+use Rattle.paper_values.specs.ValueCalls.{Ending, ends, yields, ended, ArgumentsEnd, ValueLent, ValueShort, CoercedArguments}
 use Rattle.paper_values.proofs.ValueCallsOne.{arguments-end-one}
 use Rattle.claims.proofs.CoercionsWords.{VariablesRead, VariablesUnread, ArgumentsGive, answerOf, valueLeft, reportLeft}
 
@@ -78,23 +78,23 @@ module _ (table document name variables : List ℕ) (row : ℕ) where
 
   module _ {value report value′ report′ : List ℕ} {a : ℕ} (c : CoercedArguments table document name variables row value report value′ report′ a) where
     -- the ending that is due is told, and by 0 and all above 2 some ending
-    pub arguments-told : Lent value report → Short table document variables → (e : Ending) → ArgumentsEnd table document name variables row e → (a ≡ answerOf e) × (value′ ≡ valueLeft value e) × (report′ ≡ reportLeft report e)
+    pub arguments-told : ValueLent value report → ValueShort table document variables → (e : Ending) → ArgumentsEnd table document name variables row e → (a ≡ answerOf e) × (value′ ≡ valueLeft value e) × (report′ ≡ reportLeft report e)
     arguments-told l s e d = coerced.ending-told (ArgumentsEnd table document name variables row) AStops AUnread AWrong AGives (λ e f c d. arguments-end-one c d) a-split a-join a-stop a-said table document variables value report value′ report′ c l s e d
 
-    pub arguments-tells : (a ≡ 0) ⊎ (2 < a) → Lent value report × Short table document variables × ((e : Ending) × ArgumentsEnd table document name variables row e × (a ≡ answerOf e) × (value′ ≡ valueLeft value e) × (report′ ≡ reportLeft report e))
+    pub arguments-tells : (a ≡ 0) ⊎ (2 < a) → ValueLent value report × ValueShort table document variables × ((e : Ending) × ArgumentsEnd table document name variables row e × (a ≡ answerOf e) × (value′ ≡ valueLeft value e) × (report′ ≡ reportLeft report e))
     arguments-tells = coerced.tells-it (ArgumentsEnd table document name variables row) AStops AUnread AWrong AGives (λ e f c d. arguments-end-one c d) a-split a-join a-stop a-said table document variables value report value′ report′ c
 
     -- 0
     abbrev AAccepted : Type 0
     AAccepted = (rs : List Row) × (op : ℕ) × (vs : List Row) × (t : Tree) × ReachedField (read document rs) op row × VariablesRead table document name variables rs op vs × ArgumentsGive table document variables row rs op vs (Got t) × (length (encode t) ≤ mostCoerced)
 
-    pub arguments-accepted-exactly : (a ≡ 0) ↔ (Lent value report × Short table document variables × AAccepted)
+    pub arguments-accepted-exactly : (a ≡ 0) ↔ (ValueLent value report × ValueShort table document variables × AAccepted)
     arguments-accepted-exactly = (to, from)
       where
-        to : a ≡ 0 → Lent value report × Short table document variables × AAccepted
+        to : a ≡ 0 → ValueLent value report × ValueShort table document variables × AAccepted
         to q = let h = coerced.accepted-gives (ArgumentsEnd table document name variables row) AStops AUnread AWrong AGives (λ e f c d. arguments-end-one c d) a-split a-join a-stop a-said table document variables value report value′ report′ c q in let g = h .2 .1 in (h .0, h .1, (g .0, g .1, g .2, h .2 .0, g .3, g .4, g .5, h .2 .2))
 
-        from : Lent value report × Short table document variables × AAccepted → a ≡ 0
+        from : ValueLent value report × ValueShort table document variables × AAccepted → a ≡ 0
         from h = let g = h .2 in coerced.told (ArgumentsEnd table document name variables row) AStops AUnread AWrong AGives (λ e f c d. arguments-end-one c d) a-split a-join a-stop a-said table document variables value report value′ report′ c (h .0) (h .1) (yields (encode (g .3))) (fits (g .3) (g .0, g .1, g .2, g .4, g .5, g .6) (g .7)) .0
 
     pub arguments-success : a ≡ 0 → (rs : List Row) × (op : ℕ) × (vs : List Row) × (t : Tree) × ReachedField (read document rs) op row × VariablesRead table document name variables rs op vs × ArgumentsGive table document variables row rs op vs (Got t) × (take mostCoerced value′ ≡ encode t ++ replicate (mostCoerced - length (encode t)) 0) × (take 2 report′ ≡ 0 ∷ length (encode t) ∷ [])
@@ -103,26 +103,26 @@ module _ (table document name variables : List ℕ) (row : ℕ) where
         (g .0, g .1, g .2, h .2 .0, g .3, g .4, g .5, coerced.value-filled (ArgumentsEnd table document name variables row) AStops AUnread AWrong AGives (λ e f c d. arguments-end-one c d) a-split a-join a-stop a-said table document variables value report value′ report′ (h .2 .0) (h .2 .2) (h .2 .3), ap (take 2) (h .2 .4))
 
     -- 16
-    pub arguments-too-long-exactly : (a ≡ 16) ↔ (Lent value report × Short table document variables × ((rs : List Row) × (op : ℕ) × (vs : List Row) × (t : Tree) × ReachedField (read document rs) op row × VariablesRead table document name variables rs op vs × ArgumentsGive table document variables row rs op vs (Got t) × (mostCoerced < length (encode t))))
+    pub arguments-too-long-exactly : (a ≡ 16) ↔ (ValueLent value report × ValueShort table document variables × ((rs : List Row) × (op : ℕ) × (vs : List Row) × (t : Tree) × ReachedField (read document rs) op row × VariablesRead table document name variables rs op vs × ArgumentsGive table document variables row rs op vs (Got t) × (mostCoerced < length (encode t))))
     arguments-too-long-exactly = (to, from)
       where
-        to : a ≡ 16 → Lent value report × Short table document variables × ((rs : List Row) × (op : ℕ) × (vs : List Row) × (t : Tree) × ReachedField (read document rs) op row × VariablesRead table document name variables rs op vs × ArgumentsGive table document variables row rs op vs (Got t) × (mostCoerced < length (encode t)))
+        to : a ≡ 16 → ValueLent value report × ValueShort table document variables × ((rs : List Row) × (op : ℕ) × (vs : List Row) × (t : Tree) × ReachedField (read document rs) op row × VariablesRead table document name variables rs op vs × ArgumentsGive table document variables row rs op vs (Got t) × (mostCoerced < length (encode t)))
         to q = let h = coerced.refused-long (ArgumentsEnd table document name variables row) AStops AUnread AWrong AGives (λ e f c d. arguments-end-one c d) a-split a-join a-stop a-said table document variables value report value′ report′ c q in let g = h .2 .1 in (h .0, h .1, (g .0, g .1, g .2, h .2 .0, g .3, g .4, g .5, h .2 .2))
 
-        from : Lent value report × Short table document variables × ((rs : List Row) × (op : ℕ) × (vs : List Row) × (t : Tree) × ReachedField (read document rs) op row × VariablesRead table document name variables rs op vs × ArgumentsGive table document variables row rs op vs (Got t) × (mostCoerced < length (encode t))) → a ≡ 16
+        from : ValueLent value report × ValueShort table document variables × ((rs : List Row) × (op : ℕ) × (vs : List Row) × (t : Tree) × ReachedField (read document rs) op row × VariablesRead table document name variables rs op vs × ArgumentsGive table document variables row rs op vs (Got t) × (mostCoerced < length (encode t))) → a ≡ 16
         from h = let g = h .2 in coerced.told (ArgumentsEnd table document name variables row) AStops AUnread AWrong AGives (λ e f c d. arguments-end-one c d) a-split a-join a-stop a-said table document variables value report value′ report′ c (h .0) (h .1) (ends 16 []) (long (g .3) (g .0, g .1, g .2, g .4, g .5, g .6) (g .7)) .0
 
     -- 11, with text, row and reason
-    pub arguments-refused-exactly : (i : At) (w : ℕ) → ((a ≡ 11) × (take 4 report′ ≡ 11 ∷ i .text ∷ i .row ∷ w ∷ [])) ↔ (Lent value report × Short table document variables × ((rs : List Row) × (op : ℕ) × (vs : List Row) × ReachedField (read document rs) op row × VariablesRead table document name variables rs op vs × ArgumentsGive table document variables row rs op vs (No i w)))
+    pub arguments-refused-exactly : (i : At) (w : ℕ) → ((a ≡ 11) × (take 4 report′ ≡ 11 ∷ i .text ∷ i .row ∷ w ∷ [])) ↔ (ValueLent value report × ValueShort table document variables × ((rs : List Row) × (op : ℕ) × (vs : List Row) × ReachedField (read document rs) op row × VariablesRead table document name variables rs op vs × ArgumentsGive table document variables row rs op vs (No i w)))
     arguments-refused-exactly i w = (to, from)
       where
         same-told : (j : At) (x : ℕ) → 11 ∷ j .text ∷ j .row ∷ x ∷ [] ≡ 11 ∷ i .text ∷ i .row ∷ w ∷ [] → AWrong j x → AWrong i w
         same-told j x q h = let e : j .text ≡ i .text = cc in let f : j .row ≡ i .row = cc in let g : x ≡ w = cc in let k : j ≡ i = ap (λ (y : ℕ). record { text = y; row = j .row }) e ∙ ap (λ (y : ℕ). record { text = i .text; row = y }) f in rw (sym k, sym g) h
 
-        to : (a ≡ 11) × (take 4 report′ ≡ 11 ∷ i .text ∷ i .row ∷ w ∷ []) → Lent value report × Short table document variables × ((rs : List Row) × (op : ℕ) × (vs : List Row) × ReachedField (read document rs) op row × VariablesRead table document name variables rs op vs × ArgumentsGive table document variables row rs op vs (No i w))
+        to : (a ≡ 11) × (take 4 report′ ≡ 11 ∷ i .text ∷ i .row ∷ w ∷ []) → ValueLent value report × ValueShort table document variables × ((rs : List Row) × (op : ℕ) × (vs : List Row) × ReachedField (read document rs) op row × VariablesRead table document name variables rs op vs × ArgumentsGive table document variables row rs op vs (No i w))
         to q = let h = coerced.refused-wrong (ArgumentsEnd table document name variables row) AStops AUnread AWrong AGives (λ e f c d. arguments-end-one c d) a-split a-join a-stop a-said table document variables value report value′ report′ c (q .0) in (h .0, h .1, same-told (h .2 .0) (h .2 .1) (ap (take 4) (sym (h .2 .3)) ∙ q .1) (h .2 .2))
 
-        from : Lent value report × Short table document variables × ((rs : List Row) × (op : ℕ) × (vs : List Row) × ReachedField (read document rs) op row × VariablesRead table document name variables rs op vs × ArgumentsGive table document variables row rs op vs (No i w)) → (a ≡ 11) × (take 4 report′ ≡ 11 ∷ i .text ∷ i .row ∷ w ∷ [])
+        from : ValueLent value report × ValueShort table document variables × ((rs : List Row) × (op : ℕ) × (vs : List Row) × ReachedField (read document rs) op row × VariablesRead table document name variables rs op vs × ArgumentsGive table document variables row rs op vs (No i w)) → (a ≡ 11) × (take 4 report′ ≡ 11 ∷ i .text ∷ i .row ∷ w ∷ [])
         from h = let g = coerced.told (ArgumentsEnd table document name variables row) AStops AUnread AWrong AGives (λ e f c d. arguments-end-one c d) a-split a-join a-stop a-said table document variables value report value′ report′ c (h .0) (h .1) (ends 11 (i .text ∷ i .row ∷ w ∷ [])) (wrong i (h .2)) in (g .0, ap (take 4) (g .2))
 
     pub arguments-refused-some : a ≡ 11 → (i : At) × (w : ℕ) × (take 4 report′ ≡ 11 ∷ i .text ∷ i .row ∷ w ∷ []) × ((rs : List Row) × (op : ℕ) × (vs : List Row) × ReachedField (read document rs) op row × VariablesRead table document name variables rs op vs × ArgumentsGive table document variables row rs op vs (No i w))
@@ -137,7 +137,7 @@ module _ (table document name variables : List ℕ) (row : ℕ) where
 
     -- 3 to 6 of the variables text
     pub arguments-text-exactly : (k at : ℕ) → 2 < k → k < 7 →
-        ((a ≡ k) × (take 3 report′ ≡ k ∷ at ∷ 1 ∷ [])) ↔ (Lent value report × Short table document variables × ((rs : List Row) × (op : ℕ) × (r : Refusal) × ReachedField (read document rs) op row × VariablesUnread table document name variables rs op r × (numberOf r ≡ k) × (shownInText inputVariables r ≡ at ∷ 1 ∷ [])))
+        ((a ≡ k) × (take 3 report′ ≡ k ∷ at ∷ 1 ∷ [])) ↔ (ValueLent value report × ValueShort table document variables × ((rs : List Row) × (op : ℕ) × (r : Refusal) × ReachedField (read document rs) op row × VariablesUnread table document name variables rs op r × (numberOf r ≡ k) × (shownInText inputVariables r ≡ at ∷ 1 ∷ [])))
     arguments-text-exactly k at l u = (
       λ q. let h = coerced.text-told (ArgumentsEnd table document name variables row) AStops AUnread AWrong AGives (λ e f c d. arguments-end-one c d) a-split a-join a-stop a-said table document variables value report value′ report′ c k at l u .0 q in (h .0, h .1, (h .2 .1 .0, h .2 .1 .1, h .2 .0, h .2 .1 .2, h .2 .1 .3, h .2 .2, h .2 .3)),
       λ h. let g = h .2 in coerced.text-told (ArgumentsEnd table document name variables row) AStops AUnread AWrong AGives (λ e f c d. arguments-end-one c d) a-split a-join a-stop a-said table document variables value report value′ report′ c k at l u .1 (h .0, h .1, (g .2, (g .0, g .1, g .3, g .4), g .5, g .6)),
@@ -152,23 +152,23 @@ module _ (table document name variables : List ℕ) (row : ℕ) where
     to-12 (inl u) = inl (no-operation (u .1) (u .2))
     to-12 (inr u) = inr (u, refl, refl)
 
-    pub arguments-unnamed-exactly : (a ≡ 12) ↔ (Lent value report × Short table document variables × (Unnamed table document name ⊎ Unreached))
+    pub arguments-unnamed-exactly : (a ≡ 12) ↔ (ValueLent value report × ValueShort table document variables × (Unnamed table document name ⊎ Unreached))
     arguments-unnamed-exactly = (
       λ q. let h = coerced.refused-stop (ArgumentsEnd table document name variables row) AStops AUnread AWrong AGives (λ e f c d. arguments-end-one c d) a-split a-join a-stop a-said table document variables value report value′ report′ c q in (h .0, h .1, for-12 (h .2 .0) (h .2 .1)),
       λ h. coerced.told (ArgumentsEnd table document name variables row) AStops AUnread AWrong AGives (λ e f c d. arguments-end-one c d) a-split a-join a-stop a-said table document variables value report value′ report′ c (h .0) (h .1) (ends 12 []) (stopped (to-12 (h .2))) .0,
     )
 
     -- the order
-    pub arguments-document-first : Lent value report → mostText < length document → (a ≡ 2) × (report′ ≡ tells (OverLength inputDocument) report)
+    pub arguments-document-first : ValueLent value report → mostText < length document → (a ≡ 2) × (report′ ≡ tells (OverLength inputDocument) report)
     arguments-document-first = coerced.first-the-document (ArgumentsEnd table document name variables row) AStops AUnread AWrong AGives (λ e f c d. arguments-end-one c d) a-split a-join a-stop a-said table document variables value report value′ report′ c
 
-    pub arguments-text-next : Lent value report → length document ≤ mostText → mostText < length variables → (a ≡ 2) × (report′ ≡ tells (OverLength inputVariables) report)
+    pub arguments-text-next : ValueLent value report → length document ≤ mostText → mostText < length variables → (a ≡ 2) × (report′ ≡ tells (OverLength inputVariables) report)
     arguments-text-next = coerced.then-the-variables (ArgumentsEnd table document name variables row) AStops AUnread AWrong AGives (λ e f c d. arguments-end-one c d) a-split a-join a-stop a-said table document variables value report value′ report′ c
 
-    pub arguments-table-next : Lent value report → length document ≤ mostText → length variables ≤ mostText → mostTable < length table → (a ≡ 2) × (report′ ≡ tells (OverLength inputTable) report)
+    pub arguments-table-next : ValueLent value report → length document ≤ mostText → length variables ≤ mostText → mostTable < length table → (a ≡ 2) × (report′ ≡ tells (OverLength inputTable) report)
     arguments-table-next = coerced.then-the-table (ArgumentsEnd table document name variables row) AStops AUnread AWrong AGives (λ e f c d. arguments-end-one c d) a-split a-join a-stop a-said table document variables value report value′ report′ c
 
-    pub arguments-opening-next : Lent value report → Short table document variables → (k : ℕ) (shown : List ℕ) → Opened table document name (stops k shown) →
+    pub arguments-opening-next : ValueLent value report → ValueShort table document variables → (k : ℕ) (shown : List ℕ) → Opened table document name (stops k shown) →
         (a ≡ k) × (report′ ≡ filled reportSize (k ∷ shown) report)
     arguments-opening-next l s k shown p = let h = coerced.told (ArgumentsEnd table document name variables row) AStops AUnread AWrong AGives (λ e f c d. arguments-end-one c d) a-split a-join a-stop a-said table document variables value report value′ report′ c l s (ends k shown) (stopped (inl p)) in (h .0, h .2)
 

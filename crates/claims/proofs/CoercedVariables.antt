@@ -21,7 +21,7 @@ use Rattle.claims.proofs.CoercionsLaws as coerced
 use Rattle.claims.proofs.CoercionsLaws.{Ends, stopped, unread, wrong, long, fits, Stopped}
 use Rattle.claims.proofs.CoercionsStops.{opening-stops, Unnamed, unnamed-if, ended-long, ended-fits, by-length}
 use Rattle.paper_values.specs.Values.{At, Tree, Fields, Pairs, Out, Got, No}
-use Rattle.paper_values.specs.ValueCalls.{Ending, ends, yields, ended, VariablesEnd, Lent, Short, CoercedVariables}
+use Rattle.paper_values.specs.ValueCalls.{Ending, ends, yields, ended, VariablesEnd, ValueLent, ValueShort, CoercedVariables}
 use Rattle.paper_values.proofs.ValueCallsOne.{variables-end-one}
 use Rattle.claims.proofs.CoercionsWords.{VariablesRead, VariablesUnread, VariablesGive, answerOf, valueLeft, reportLeft}
 
@@ -66,23 +66,23 @@ module _ (table document name variables : List ℕ) where
 
   module _ {value report value′ report′ : List ℕ} {a : ℕ} (c : CoercedVariables table document name variables value report value′ report′ a) where
     -- the ending that is due is told, and by 0 and all above 2 some ending
-    pub variables-told : Lent value report → Short table document variables → (e : Ending) → VariablesEnd table document name variables e → (a ≡ answerOf e) × (value′ ≡ valueLeft value e) × (report′ ≡ reportLeft report e)
+    pub variables-told : ValueLent value report → ValueShort table document variables → (e : Ending) → VariablesEnd table document name variables e → (a ≡ answerOf e) × (value′ ≡ valueLeft value e) × (report′ ≡ reportLeft report e)
     variables-told l s e d = coerced.ending-told (VariablesEnd table document name variables) VStops VUnread VWrong VGives (λ e f c d. variables-end-one c d) v-split v-join v-stop v-said table document variables value report value′ report′ c l s e d
 
-    pub variables-tells : (a ≡ 0) ⊎ (2 < a) → Lent value report × Short table document variables × ((e : Ending) × VariablesEnd table document name variables e × (a ≡ answerOf e) × (value′ ≡ valueLeft value e) × (report′ ≡ reportLeft report e))
+    pub variables-tells : (a ≡ 0) ⊎ (2 < a) → ValueLent value report × ValueShort table document variables × ((e : Ending) × VariablesEnd table document name variables e × (a ≡ answerOf e) × (value′ ≡ valueLeft value e) × (report′ ≡ reportLeft report e))
     variables-tells = coerced.tells-it (VariablesEnd table document name variables) VStops VUnread VWrong VGives (λ e f c d. variables-end-one c d) v-split v-join v-stop v-said table document variables value report value′ report′ c
 
     -- 0
     abbrev VAccepted : Type 0
     VAccepted = (rs : List Row) × (op : ℕ) × (vs : List Row) × (ps : Pairs) × VariablesRead table document name variables rs op vs × VariablesGive table document variables rs op vs (Got ps) × (length (encode (Fields ps)) ≤ mostCoerced)
 
-    pub variables-accepted-exactly : (a ≡ 0) ↔ (Lent value report × Short table document variables × VAccepted)
+    pub variables-accepted-exactly : (a ≡ 0) ↔ (ValueLent value report × ValueShort table document variables × VAccepted)
     variables-accepted-exactly = (to, from)
       where
-        to : a ≡ 0 → Lent value report × Short table document variables × VAccepted
+        to : a ≡ 0 → ValueLent value report × ValueShort table document variables × VAccepted
         to q = let h = coerced.accepted-gives (VariablesEnd table document name variables) VStops VUnread VWrong VGives (λ e f c d. variables-end-one c d) v-split v-join v-stop v-said table document variables value report value′ report′ c q in let g = h .2 .1 in (h .0, h .1, (g .0, g .1, g .2, g .3, g .4, g .5, subst (λ (t : Tree). length (encode t) ≤ mostCoerced) (sym (g .6)) (h .2 .2)))
 
-        from : Lent value report × Short table document variables × VAccepted → a ≡ 0
+        from : ValueLent value report × ValueShort table document variables × VAccepted → a ≡ 0
         from h = let g = h .2 in coerced.told (VariablesEnd table document name variables) VStops VUnread VWrong VGives (λ e f c d. variables-end-one c d) v-split v-join v-stop v-said table document variables value report value′ report′ c (h .0) (h .1) (yields (encode (Fields (g .3)))) (fits (Fields (g .3)) (g .0, g .1, g .2, g .3, g .4, g .5, refl) (g .6)) .0
 
     pub variables-success : a ≡ 0 → (rs : List Row) × (op : ℕ) × (vs : List Row) × (ps : Pairs) × VariablesRead table document name variables rs op vs × VariablesGive table document variables rs op vs (Got ps) × (take mostCoerced value′ ≡ encode (Fields ps) ++ replicate (mostCoerced - length (encode (Fields ps))) 0) × (take 2 report′ ≡ 0 ∷ length (encode (Fields ps)) ∷ [])
@@ -99,26 +99,26 @@ module _ (table document name variables : List ℕ) where
         )
 
     -- 16
-    pub variables-too-long-exactly : (a ≡ 16) ↔ (Lent value report × Short table document variables × ((rs : List Row) × (op : ℕ) × (vs : List Row) × (ps : Pairs) × VariablesRead table document name variables rs op vs × VariablesGive table document variables rs op vs (Got ps) × (mostCoerced < length (encode (Fields ps)))))
+    pub variables-too-long-exactly : (a ≡ 16) ↔ (ValueLent value report × ValueShort table document variables × ((rs : List Row) × (op : ℕ) × (vs : List Row) × (ps : Pairs) × VariablesRead table document name variables rs op vs × VariablesGive table document variables rs op vs (Got ps) × (mostCoerced < length (encode (Fields ps)))))
     variables-too-long-exactly = (to, from)
       where
-        to : a ≡ 16 → Lent value report × Short table document variables × ((rs : List Row) × (op : ℕ) × (vs : List Row) × (ps : Pairs) × VariablesRead table document name variables rs op vs × VariablesGive table document variables rs op vs (Got ps) × (mostCoerced < length (encode (Fields ps))))
+        to : a ≡ 16 → ValueLent value report × ValueShort table document variables × ((rs : List Row) × (op : ℕ) × (vs : List Row) × (ps : Pairs) × VariablesRead table document name variables rs op vs × VariablesGive table document variables rs op vs (Got ps) × (mostCoerced < length (encode (Fields ps))))
         to q = let h = coerced.refused-long (VariablesEnd table document name variables) VStops VUnread VWrong VGives (λ e f c d. variables-end-one c d) v-split v-join v-stop v-said table document variables value report value′ report′ c q in let g = h .2 .1 in (h .0, h .1, (g .0, g .1, g .2, g .3, g .4, g .5, subst (λ (t : Tree). mostCoerced < length (encode t)) (sym (g .6)) (h .2 .2)))
 
-        from : Lent value report × Short table document variables × ((rs : List Row) × (op : ℕ) × (vs : List Row) × (ps : Pairs) × VariablesRead table document name variables rs op vs × VariablesGive table document variables rs op vs (Got ps) × (mostCoerced < length (encode (Fields ps)))) → a ≡ 16
+        from : ValueLent value report × ValueShort table document variables × ((rs : List Row) × (op : ℕ) × (vs : List Row) × (ps : Pairs) × VariablesRead table document name variables rs op vs × VariablesGive table document variables rs op vs (Got ps) × (mostCoerced < length (encode (Fields ps)))) → a ≡ 16
         from h = let g = h .2 in coerced.told (VariablesEnd table document name variables) VStops VUnread VWrong VGives (λ e f c d. variables-end-one c d) v-split v-join v-stop v-said table document variables value report value′ report′ c (h .0) (h .1) (ends 16 []) (long (Fields (g .3)) (g .0, g .1, g .2, g .3, g .4, g .5, refl) (g .6)) .0
 
     -- 11, with text, row and reason
-    pub variables-refused-exactly : (i : At) (w : ℕ) → ((a ≡ 11) × (take 4 report′ ≡ 11 ∷ i .text ∷ i .row ∷ w ∷ [])) ↔ (Lent value report × Short table document variables × ((rs : List Row) × (op : ℕ) × (vs : List Row) × VariablesRead table document name variables rs op vs × VariablesGive table document variables rs op vs (No i w)))
+    pub variables-refused-exactly : (i : At) (w : ℕ) → ((a ≡ 11) × (take 4 report′ ≡ 11 ∷ i .text ∷ i .row ∷ w ∷ [])) ↔ (ValueLent value report × ValueShort table document variables × ((rs : List Row) × (op : ℕ) × (vs : List Row) × VariablesRead table document name variables rs op vs × VariablesGive table document variables rs op vs (No i w)))
     variables-refused-exactly i w = (to, from)
       where
         same-told : (j : At) (x : ℕ) → 11 ∷ j .text ∷ j .row ∷ x ∷ [] ≡ 11 ∷ i .text ∷ i .row ∷ w ∷ [] → VWrong j x → VWrong i w
         same-told j x q h = let e : j .text ≡ i .text = cc in let f : j .row ≡ i .row = cc in let g : x ≡ w = cc in let k : j ≡ i = ap (λ (y : ℕ). record { text = y; row = j .row }) e ∙ ap (λ (y : ℕ). record { text = i .text; row = y }) f in rw (sym k, sym g) h
 
-        to : (a ≡ 11) × (take 4 report′ ≡ 11 ∷ i .text ∷ i .row ∷ w ∷ []) → Lent value report × Short table document variables × ((rs : List Row) × (op : ℕ) × (vs : List Row) × VariablesRead table document name variables rs op vs × VariablesGive table document variables rs op vs (No i w))
+        to : (a ≡ 11) × (take 4 report′ ≡ 11 ∷ i .text ∷ i .row ∷ w ∷ []) → ValueLent value report × ValueShort table document variables × ((rs : List Row) × (op : ℕ) × (vs : List Row) × VariablesRead table document name variables rs op vs × VariablesGive table document variables rs op vs (No i w))
         to q = let h = coerced.refused-wrong (VariablesEnd table document name variables) VStops VUnread VWrong VGives (λ e f c d. variables-end-one c d) v-split v-join v-stop v-said table document variables value report value′ report′ c (q .0) in (h .0, h .1, same-told (h .2 .0) (h .2 .1) (ap (take 4) (sym (h .2 .3)) ∙ q .1) (h .2 .2))
 
-        from : Lent value report × Short table document variables × ((rs : List Row) × (op : ℕ) × (vs : List Row) × VariablesRead table document name variables rs op vs × VariablesGive table document variables rs op vs (No i w)) → (a ≡ 11) × (take 4 report′ ≡ 11 ∷ i .text ∷ i .row ∷ w ∷ [])
+        from : ValueLent value report × ValueShort table document variables × ((rs : List Row) × (op : ℕ) × (vs : List Row) × VariablesRead table document name variables rs op vs × VariablesGive table document variables rs op vs (No i w)) → (a ≡ 11) × (take 4 report′ ≡ 11 ∷ i .text ∷ i .row ∷ w ∷ [])
         from h = let g = coerced.told (VariablesEnd table document name variables) VStops VUnread VWrong VGives (λ e f c d. variables-end-one c d) v-split v-join v-stop v-said table document variables value report value′ report′ c (h .0) (h .1) (ends 11 (i .text ∷ i .row ∷ w ∷ [])) (wrong i (h .2)) in (g .0, ap (take 4) (g .2))
 
     pub variables-refused-some : a ≡ 11 → (i : At) × (w : ℕ) × (take 4 report′ ≡ 11 ∷ i .text ∷ i .row ∷ w ∷ []) × ((rs : List Row) × (op : ℕ) × (vs : List Row) × VariablesRead table document name variables rs op vs × VariablesGive table document variables rs op vs (No i w))
@@ -133,30 +133,30 @@ module _ (table document name variables : List ℕ) where
 
     -- 3 to 6 of the variables text
     pub variables-text-exactly : (k at : ℕ) → 2 < k → k < 7 →
-        ((a ≡ k) × (take 3 report′ ≡ k ∷ at ∷ 1 ∷ [])) ↔ (Lent value report × Short table document variables × ((rs : List Row) × (op : ℕ) × (r : Refusal) × VariablesUnread table document name variables rs op r × (numberOf r ≡ k) × (shownInText inputVariables r ≡ at ∷ 1 ∷ [])))
+        ((a ≡ k) × (take 3 report′ ≡ k ∷ at ∷ 1 ∷ [])) ↔ (ValueLent value report × ValueShort table document variables × ((rs : List Row) × (op : ℕ) × (r : Refusal) × VariablesUnread table document name variables rs op r × (numberOf r ≡ k) × (shownInText inputVariables r ≡ at ∷ 1 ∷ [])))
     variables-text-exactly k at l u = (
       λ q. let h = coerced.text-told (VariablesEnd table document name variables) VStops VUnread VWrong VGives (λ e f c d. variables-end-one c d) v-split v-join v-stop v-said table document variables value report value′ report′ c k at l u .0 q in (h .0, h .1, (h .2 .1 .0, h .2 .1 .1, h .2 .0, h .2 .1 .2, h .2 .2, h .2 .3)),
       λ h. let g = h .2 in coerced.text-told (VariablesEnd table document name variables) VStops VUnread VWrong VGives (λ e f c d. variables-end-one c d) v-split v-join v-stop v-said table document variables value report value′ report′ c k at l u .1 (h .0, h .1, (g .2, (g .0, g .1, g .3), g .4, g .5)),
     )
 
     -- 12
-    pub variables-unnamed-exactly : (a ≡ 12) ↔ (Lent value report × Short table document variables × Unnamed table document name)
+    pub variables-unnamed-exactly : (a ≡ 12) ↔ (ValueLent value report × ValueShort table document variables × Unnamed table document name)
     variables-unnamed-exactly = (
       λ q. let h = coerced.refused-stop (VariablesEnd table document name variables) VStops VUnread VWrong VGives (λ e f c d. variables-end-one c d) v-split v-join v-stop v-said table document variables value report value′ report′ c q in (h .0, h .1, unnamed-if (h .2 .1) refl),
       λ h. coerced.told (VariablesEnd table document name variables) VStops VUnread VWrong VGives (λ e f c d. variables-end-one c d) v-split v-join v-stop v-said table document variables value report value′ report′ c (h .0) (h .1) (ends 12 []) (stopped (no-operation (h .2 .1) (h .2 .2))) .0,
     )
 
     -- the order
-    pub variables-document-first : Lent value report → mostText < length document → (a ≡ 2) × (report′ ≡ tells (OverLength inputDocument) report)
+    pub variables-document-first : ValueLent value report → mostText < length document → (a ≡ 2) × (report′ ≡ tells (OverLength inputDocument) report)
     variables-document-first = coerced.first-the-document (VariablesEnd table document name variables) VStops VUnread VWrong VGives (λ e f c d. variables-end-one c d) v-split v-join v-stop v-said table document variables value report value′ report′ c
 
-    pub variables-text-next : Lent value report → length document ≤ mostText → mostText < length variables → (a ≡ 2) × (report′ ≡ tells (OverLength inputVariables) report)
+    pub variables-text-next : ValueLent value report → length document ≤ mostText → mostText < length variables → (a ≡ 2) × (report′ ≡ tells (OverLength inputVariables) report)
     variables-text-next = coerced.then-the-variables (VariablesEnd table document name variables) VStops VUnread VWrong VGives (λ e f c d. variables-end-one c d) v-split v-join v-stop v-said table document variables value report value′ report′ c
 
-    pub variables-table-next : Lent value report → length document ≤ mostText → length variables ≤ mostText → mostTable < length table → (a ≡ 2) × (report′ ≡ tells (OverLength inputTable) report)
+    pub variables-table-next : ValueLent value report → length document ≤ mostText → length variables ≤ mostText → mostTable < length table → (a ≡ 2) × (report′ ≡ tells (OverLength inputTable) report)
     variables-table-next = coerced.then-the-table (VariablesEnd table document name variables) VStops VUnread VWrong VGives (λ e f c d. variables-end-one c d) v-split v-join v-stop v-said table document variables value report value′ report′ c
 
-    pub variables-opening-next : Lent value report → Short table document variables → (k : ℕ) (shown : List ℕ) → Opened table document name (stops k shown) →
+    pub variables-opening-next : ValueLent value report → ValueShort table document variables → (k : ℕ) (shown : List ℕ) → Opened table document name (stops k shown) →
         (a ≡ k) × (report′ ≡ filled reportSize (k ∷ shown) report)
     variables-opening-next l s k shown p = let h = coerced.told (VariablesEnd table document name variables) VStops VUnread VWrong VGives (λ e f c d. variables-end-one c d) v-split v-join v-stop v-said table document variables value report value′ report′ c l s (ends k shown) (stopped p) in (h .0, h .2)
 

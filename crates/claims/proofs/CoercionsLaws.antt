@@ -14,7 +14,7 @@ use Rattle.paper_table.specs.TableNumbers.{mostTable, inputTable}
 use Rattle.paper_values.specs.ValueNumbers.{refuseValue, refuseTooLong, mostCoerced}
 use Rattle.paper_values.specs.Values.{At, Tree}
 use Rattle.paper_values.specs.Encoding.{encode}
-use Rattle.paper_values.specs.ValueCalls.{Ending, ends, yields, Lent, Short, Coerced, short-report, short-value, long-document, long-variables, long-table, refused, answered}
+use Rattle.paper_values.specs.ValueCalls.{Ending, ends, yields, ValueLent, ValueShort, Coerced, short-report, short-value, long-document, long-variables, long-table, refused, answered}
 use Rattle.paper_values.proofs.ValueCallsOne.{coerced-one}
 use Rattle.claims.proofs.BuffersLaws.{filled-kept, filled-head, tells-fits}
 use Rattle.claims.proofs.CoercionsWords.{answerOf, valueLeft, reportLeft}
@@ -82,7 +82,7 @@ module _ (End : Ending → Type 0) (Stops : ℕ → List ℕ → Type 0) (Unread
   -- ---- where the buffers are lent and the inputs short
 
   abbrev Told : ℕ → Type 0
-  Told a = Lent value report × Short table document variables × ((e : Ending) × End e × (a ≡ answerOf e) × (value′ ≡ valueLeft value e) × (report′ ≡ reportLeft report e))
+  Told a = ValueLent value report × ValueShort table document variables × ((e : Ending) × End e × (a ≡ answerOf e) × (value′ ≡ valueLeft value e) × (report′ ≡ reportLeft report e))
 
   pub tells-it : {a : ℕ} → Coerced End table document variables value report value′ report′ a → (a ≡ 0) ⊎ (2 < a) → Told a
   tells-it (short-report h e f) (inl q) = absurd (omega (arith, q))
@@ -99,16 +99,16 @@ module _ (End : Ending → Type 0) (Stops : ℕ → List ℕ → Type 0) (Unread
   tells-it (answered {bs} l s d e f) q = (l, s, (yields bs, d, refl, e, f))
 
   -- the ending that is due is the one that is told
-  of-ending : {a : ℕ} → Coerced End table document variables value report value′ report′ a → Lent value report → Short table document variables → (e : Ending) → End e →
+  of-ending : {a : ℕ} → Coerced End table document variables value report value′ report′ a → ValueLent value report → ValueShort table document variables → (e : Ending) → End e →
       (a ≡ answerOf e) × (value′ ≡ valueLeft value e) × (report′ ≡ reportLeft report e)
   of-ending c l s (ends k shown) d = coerced-one End one table document variables value report c (refused l s d refl refl)
   of-ending c l s (yields bs) d = coerced-one End one table document variables value report c (answered l s d refl refl)
 
-  pub told : {a : ℕ} → Coerced End table document variables value report value′ report′ a → Lent value report → Short table document variables → (e : Ending) → Ends Stops Unread Wrong Gives e →
+  pub told : {a : ℕ} → Coerced End table document variables value report value′ report′ a → ValueLent value report → ValueShort table document variables → (e : Ending) → Ends Stops Unread Wrong Gives e →
       (a ≡ answerOf e) × (value′ ≡ valueLeft value e) × (report′ ≡ reportLeft report e)
   told c l s e d = of-ending c l s e (join e d)
 
-  pub ending-told : {a : ℕ} → Coerced End table document variables value report value′ report′ a → Lent value report → Short table document variables → (e : Ending) →
+  pub ending-told : {a : ℕ} → Coerced End table document variables value report value′ report′ a → ValueLent value report → ValueShort table document variables → (e : Ending) →
       End e → (a ≡ answerOf e) × (value′ ≡ valueLeft value e) × (report′ ≡ reportLeft report e)
   ending-told = of-ending
 
@@ -122,7 +122,7 @@ module _ (End : Ending → Type 0) (Stops : ℕ → List ℕ → Type 0) (Unread
   gives-from (fits t g l) q = (t, g, l, refl)
 
   pub accepted-gives : {a : ℕ} → Coerced End table document variables value report value′ report′ a → a ≡ 0 →
-      Lent value report × Short table document variables
+      ValueLent value report × ValueShort table document variables
       × ((t : Tree) × Gives t × (length (encode t) ≤ mostCoerced) × (value′ ≡ filled mostCoerced (encode t) value) × (report′ ≡ filled reportSize (0 ∷ length (encode t) ∷ []) report))
   accepted-gives c q =
       let h = tells-it c (inl q) in
@@ -139,7 +139,7 @@ module _ (End : Ending → Type 0) (Stops : ℕ → List ℕ → Type 0) (Unread
   wrong-from (fits t g l) q = absurd (omega (arith, q))
 
   pub refused-wrong : {a : ℕ} → Coerced End table document variables value report value′ report′ a → a ≡ 11 →
-      Lent value report × Short table document variables × ((i : At) × (w : ℕ) × Wrong i w × (report′ ≡ filled reportSize (11 ∷ i .text ∷ i .row ∷ w ∷ []) report))
+      ValueLent value report × ValueShort table document variables × ((i : At) × (w : ℕ) × Wrong i w × (report′ ≡ filled reportSize (11 ∷ i .text ∷ i .row ∷ w ∷ []) report))
   refused-wrong c q =
       let h = tells-it c (inr (omega (arith, q))) in
       let g = wrong-from (split (h .2 .0) (h .2 .1)) (sym (h .2 .2) ∙ q) in
@@ -155,7 +155,7 @@ module _ (End : Ending → Type 0) (Stops : ℕ → List ℕ → Type 0) (Unread
   long-from (fits t g l) q = absurd (omega (arith, q))
 
   pub refused-long : {a : ℕ} → Coerced End table document variables value report value′ report′ a → a ≡ 16 →
-      Lent value report × Short table document variables × ((t : Tree) × Gives t × (mostCoerced < length (encode t)))
+      ValueLent value report × ValueShort table document variables × ((t : Tree) × Gives t × (mostCoerced < length (encode t)))
   refused-long c q =
       let h = tells-it c (inr (omega (arith, q))) in
       (h .0, h .1, long-from (split (h .2 .0) (h .2 .1)) (sym (h .2 .2) ∙ q))
@@ -169,7 +169,7 @@ module _ (End : Ending → Type 0) (Stops : ℕ → List ℕ → Type 0) (Unread
   stop-from (long t g l) q = absurd (omega (arith, q))
   stop-from (fits t g l) q = absurd (omega (arith, q))
 
-  pub refused-stop : {a : ℕ} → Coerced End table document variables value report value′ report′ a → a ≡ 12 → Lent value report × Short table document variables × ((shown : List ℕ) × Stops 12 shown)
+  pub refused-stop : {a : ℕ} → Coerced End table document variables value report value′ report′ a → a ≡ 12 → ValueLent value report × ValueShort table document variables × ((shown : List ℕ) × Stops 12 shown)
   refused-stop c q =
       let h = tells-it c (inr (omega (arith, q))) in
       (h .0, h .1, stop-from (split (h .2 .0) (h .2 .1)) (sym (h .2 .2) ∙ q))
@@ -188,7 +188,7 @@ module _ (End : Ending → Type 0) (Stops : ℕ → List ℕ → Type 0) (Unread
   unread-from (fits t g x) k at l u q z = absurd (omega (arith, q, l))
 
   abbrev Read : (k at : ℕ) → Type 0
-  Read k at = Lent value report × Short table document variables × ((r : Refusal) × Unread r × (numberOf r ≡ k) × (shownInText inputVariables r ≡ at ∷ 1 ∷ []))
+  Read k at = ValueLent value report × ValueShort table document variables × ((r : Refusal) × Unread r × (numberOf r ≡ k) × (shownInText inputVariables r ≡ at ∷ 1 ∷ []))
 
   pub text-told : {a : ℕ} → Coerced End table document variables value report value′ report′ a → (k at : ℕ) → 2 < k → k < 7 →
       ((a ≡ k) × (take 3 report′ ≡ k ∷ at ∷ 1 ∷ [])) ↔ Read k at
@@ -206,15 +206,15 @@ module _ (End : Ending → Type 0) (Stops : ℕ → List ℕ → Type 0) (Unread
 
   -- ---- the order before that: the lengths, document, variables, table
 
-  pub first-the-document : {a : ℕ} → Coerced End table document variables value report value′ report′ a → Lent value report → mostText < length document →
+  pub first-the-document : {a : ℕ} → Coerced End table document variables value report value′ report′ a → ValueLent value report → mostText < length document →
       (a ≡ 2) × (report′ ≡ tells (OverLength inputDocument) report)
   first-the-document c l w = let e = coerced-one End one table document variables value report c (long-document l w refl refl) in (e .0, e .2)
 
-  pub then-the-variables : {a : ℕ} → Coerced End table document variables value report value′ report′ a → Lent value report → length document ≤ mostText → mostText < length variables →
+  pub then-the-variables : {a : ℕ} → Coerced End table document variables value report value′ report′ a → ValueLent value report → length document ≤ mostText → mostText < length variables →
       (a ≡ 2) × (report′ ≡ tells (OverLength inputVariables) report)
   then-the-variables c l x w = let e = coerced-one End one table document variables value report c (long-variables l x w refl refl) in (e .0, e .2)
 
-  pub then-the-table : {a : ℕ} → Coerced End table document variables value report value′ report′ a → Lent value report → length document ≤ mostText → length variables ≤ mostText → mostTable < length table →
+  pub then-the-table : {a : ℕ} → Coerced End table document variables value report value′ report′ a → ValueLent value report → length document ≤ mostText → length variables ≤ mostText → mostTable < length table →
       (a ≡ 2) × (report′ ≡ tells (OverLength inputTable) report)
   then-the-table c l x y w = let e = coerced-one End one table document variables value report c (long-table l x y w refl refl) in (e .0, e .2)
 

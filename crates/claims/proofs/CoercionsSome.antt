@@ -12,7 +12,7 @@ use Rattle.paper.specs.Numbers.{mostText, reportSize}
 use Rattle.paper.specs.Language.{Document, VariablesText}
 use Rattle.paper.specs.Tokens.{Text, Tokens}
 use Rattle.paper.specs.Rows.{Row}
-use Rattle.paper.specs.Reading.{Answer, rows-are, refuses, Said}
+use Rattle.paper.specs.Reading.{Answer, rows-are, refuses, TextAnswer}
 use Rattle.paper_table.specs.TableNumbers.{mostTable}
 use Rattle.paper_table.specs.Types.{Table, tableOf}
 use Rattle.paper_table.specs.Judging.{judge}
@@ -28,7 +28,7 @@ use Rattle.paper_values.specs.ValueNumbers.{mostCoerced}
 use Rattle.paper_values.specs.Kinds.{kindOfType}
 use Rattle.paper_values.specs.DocumentDues.{ReachedField}
 use Rattle.paper_values.specs.ValueCalls as calls
-use Rattle.paper_values.specs.ValueCalls.{Ending, ends, yields, VariablesEnd, ArgumentsEnd, Lent, Short, Coerced, CoercedVariables, CoercedArguments}
+use Rattle.paper_values.specs.ValueCalls.{Ending, ends, yields, VariablesEnd, ArgumentsEnd, ValueLent, ValueShort, Coerced, CoercedVariables, CoercedArguments}
 use Rattle.paper_values.proofs.CallsExact.{variables-have, arguments-have}
 use Rattle.claims.proofs.StandsLaws.{tokens-some, said-of}
 
@@ -71,11 +71,11 @@ module _ (table document name : List ℕ) (h : (o : Outcome) → Opened table do
   of-name a none q = h _ (no-operation a q)
   of-name a (some op) q = h _ (opened a q)
 
-  of-rules : judge table ≡ Accepted → (t : Text) → Tokens 0 document t → (rs : List Row) → Said Document t (rows-are rs) → (a : QueryAnswer) → Judged (tableOf table) (read document rs) a → ⊥
+  of-rules : judge table ≡ Accepted → (t : Text) → Tokens 0 document t → (rs : List Row) → TextAnswer Document t (rows-are rs) → (a : QueryAnswer) → Judged (tableOf table) (read document rs) a → ⊥
   of-rules j t k rs s Fits q = of-name (record { table-right = j; text = t; tokens = k; said = s; judged = q }) (operationMeant (read document rs) name) refl
   of-rules j t k rs s (Breaks i r) q = h _ (rule-broken j k s q)
 
-  of-text : judge table ≡ Accepted → (t : Text) → Tokens 0 document t → (a : Answer) → Said Document t a → ⊥
+  of-text : judge table ≡ Accepted → (t : Text) → Tokens 0 document t → (a : Answer) → TextAnswer Document t a → ⊥
   of-text j t k (rows-are rs) s = unjudged (tableOf table) (read document rs) (λ a q. of-rules j t k rs s a q)
   of-text j t k (refuses r) s = h _ (text-refused j k s)
 
@@ -90,7 +90,7 @@ module _ (table document name : List ℕ) (h : (o : Outcome) → Opened table do
 
 module _ (table document name variables : List ℕ) where
   module _ (h : (e : Ending) → VariablesEnd table document name variables e → ⊥) where
-    after-text : (rs : List Row) (op : ℕ) → Opened table document name (opens rs op) → (t : Text) → Tokens 0 variables t → (a : Answer) → Said VariablesText t a → ⊥
+    after-text : (rs : List Row) (op : ℕ) → Opened table document name (opens rs op) → (t : Text) → Tokens 0 variables t → (a : Answer) → TextAnswer VariablesText t a → ⊥
     after-text rs op p t k (rows-are vs) s = h _ (calls.variables-coerced p k s (variables-have (kindOfType (tableOf table)) _ _))
     after-text rs op p t k (refuses r) s = h _ (calls.text-refused p k s)
 
@@ -102,7 +102,7 @@ module _ (table document name variables : List ℕ) where
     variables-unended = unopened table document name after-opening
 
   module _ (row : ℕ) (h : (e : Ending) → ArgumentsEnd table document name variables row e → ⊥) where
-    after-argument-text : (rs : List Row) (op : ℕ) → Opened table document name (opens rs op) → ReachedField (read document rs) op row → (t : Text) → Tokens 0 variables t → (a : Answer) → Said VariablesText t a → ⊥
+    after-argument-text : (rs : List Row) (op : ℕ) → Opened table document name (opens rs op) → ReachedField (read document rs) op row → (t : Text) → Tokens 0 variables t → (a : Answer) → TextAnswer VariablesText t a → ⊥
     after-argument-text rs op p f t k (rows-are vs) s = h _ (calls.arguments-coerced p f k s (arguments-have (kindOfType (tableOf table)) _ _ _ _ _))
     after-argument-text rs op p f t k (refuses r) s = h _ (calls.variables-unread p f k s)
 
@@ -117,19 +117,19 @@ module _ (table document name variables : List ℕ) where
 
 module _ (End : Ending → Type 0) (some-end : ((e : Ending) → End e → ⊥) → ⊥) (table document variables value report : List ℕ)
     (h : (value′ report′ : List ℕ) (a : ℕ) → Coerced End table document variables value report value′ report′ a → ⊥) where
-  with-end : Lent value report → Short table document variables → (e : Ending) → End e → ⊥
+  with-end : ValueLent value report → ValueShort table document variables → (e : Ending) → End e → ⊥
   with-end l s (ends k shown) d = h _ _ _ (calls.refused l s d refl refl)
   with-end l s (yields bs) d = h _ _ _ (calls.answered l s d refl refl)
 
-  with-table : Lent value report → length document ≤ mostText → length variables ≤ mostText → Dec (length table ≤ mostTable) → ⊥
+  with-table : ValueLent value report → length document ≤ mostText → length variables ≤ mostText → Dec (length table ≤ mostTable) → ⊥
   with-table l x y (yes z) = some-end (with-end l (x, y, z))
   with-table l x y (no z) = h _ _ _ (calls.long-table l x y (lt-of-not-le z) refl refl)
 
-  with-variables : Lent value report → length document ≤ mostText → Dec (length variables ≤ mostText) → ⊥
+  with-variables : ValueLent value report → length document ≤ mostText → Dec (length variables ≤ mostText) → ⊥
   with-variables l x (yes y) = with-table l x y (decLe (length table) mostTable)
   with-variables l x (no y) = h _ _ _ (calls.long-variables l x (lt-of-not-le y) refl refl)
 
-  with-document : Lent value report → Dec (length document ≤ mostText) → ⊥
+  with-document : ValueLent value report → Dec (length document ≤ mostText) → ⊥
   with-document l (yes x) = with-variables l x (decLe (length variables) mostText)
   with-document l (no x) = h _ _ _ (calls.long-document l (lt-of-not-le x) refl refl)
 

@@ -7,7 +7,7 @@ use Rattle.paper.specs.Numbers.{reportSize, inputDocument, accepted}
 use Rattle.paper.specs.Language.{VariablesText}
 use Rattle.paper.specs.Tokens.{Text, Tokens}
 use Rattle.paper.specs.Rows.{Row}
-use Rattle.paper.specs.Reading.{rows-are, refuses, Said}
+use Rattle.paper.specs.Reading.{rows-are, refuses, TextAnswer}
 use Rattle.paper.specs.Calls.{filled}
 use Rattle.paper.specs.declared.Refusal.{Refusal}
 use Rattle.paper_table.specs.Types.{tableOf}
@@ -24,10 +24,10 @@ use Rattle.paper_values.specs.ValueCalls.{Ending, ends, yields}
 
 -- the operation op of the rows rs is opened, and the variables text is read as the rows vs; or it is refused
 abbrev pub VariablesRead : (table document name variables : List ℕ) → List Row → ℕ → List Row → Type 0
-VariablesRead table document name variables rs op vs = Opened table document name (opens rs op) × ((t : Text) × Tokens 0 variables t × Said VariablesText t (rows-are vs))
+VariablesRead table document name variables rs op vs = Opened table document name (opens rs op) × ((t : Text) × Tokens 0 variables t × TextAnswer VariablesText t (rows-are vs))
 
 abbrev pub VariablesUnread : (table document name variables : List ℕ) → List Row → ℕ → Refusal → Type 0
-VariablesUnread table document name variables rs op r = Opened table document name (opens rs op) × ((t : Text) × Tokens 0 variables t × Said VariablesText t (refuses r))
+VariablesUnread table document name variables rs op r = Opened table document name (opens rs op) × ((t : Text) × Tokens 0 variables t × TextAnswer VariablesText t (refuses r))
 
 -- what the rules give for that operation's variables, and for the arguments of the field at a row
 abbrev pub VariablesGive : (table document variables : List ℕ) → List Row → ℕ → List Row → Out Pairs → Type 0

@@ -17,7 +17,7 @@ use Rattle.paper_plan.specs.PlanNumbers.{blocksIn, WellFormed}
 use Rattle.paper_plan.specs.PlanCalls.{Planned, short-report, short-plan, long-document, long-table, refuses-opening, too-many-steps, plans}
 use Rattle.paper_plan.specs.Selecting.{BlockRows, blockIn}
 use Rattle.paper_plan.specs.WalkNumbers.{mostWalked, variablesSize}
-use Rattle.paper_plan.specs.WalkCalls.{Lent, Walked}
+use Rattle.paper_plan.specs.WalkCalls.{WalkLent, Walked}
 use Rattle.plan_theory.proofs.Ones.{blocks-one}
 use Rattle.plan_wellformed.proofs.BothCalls.{Made, Collected, made-blocks, planned-rows, planned-blocks, planned-formed}
 use Rattle.claims.proofs.CoercionsStops.{opening-stops}
@@ -45,12 +45,12 @@ module _ {table document name plan report plan′ report′ : List ℕ} (c : Pla
 
   module _ (rs : List Row) (op : ℕ) (rows : List ℕ) (o : Opened table document name (opens rs op)) (w : BlockRows (read document rs) op rows) (object : ℕ) where
     pub by-blocks : (blocks variables : List ℕ) → isObject (definitionAt (tableOf table) object) ≡ true → length blocks ≤ mostWalked → ((j : ℕ) → j < length blocks → getD blocks j 0 < blocksIn plan′) →
-        variablesSize ≤ length variables → (pairs walked pairs′ walked′ : List ℕ) (a : ℕ) → Lent pairs walked → Walked table plan′ object blocks variables pairs walked pairs′ walked′ a →
+        variablesSize ≤ length variables → (pairs walked pairs′ walked′ : List ℕ) (a : ℕ) → WalkLent pairs walked → Walked table plan′ object blocks variables pairs walked pairs′ walked′ a →
         Collected (tableOf table) (read document rs) op object (map (λ b. getD rows b 0) blocks) variables pairs walked pairs′ walked′ a
     by-blocks blocks variables i f k v pairs walked pairs′ walked′ a l = planned-blocks table document name plan plan′ m rs op rows o w object variables i v pairs walked pairs′ walked′ a l blocks f k
 
     pub by-rows : (holders variables : List ℕ) → isObject (definitionAt (tableOf table) object) ≡ true → length holders ≤ mostWalked → ((j : ℕ) → j < length holders → elem eqb (getD holders j 0) rows ≡ true) →
-        variablesSize ≤ length variables → (pairs walked pairs′ walked′ : List ℕ) (a : ℕ) → Lent pairs walked → Walked table plan′ object (map (blockIn rows) holders) variables pairs walked pairs′ walked′ a →
+        variablesSize ≤ length variables → (pairs walked pairs′ walked′ : List ℕ) (a : ℕ) → WalkLent pairs walked → Walked table plan′ object (map (blockIn rows) holders) variables pairs walked pairs′ walked′ a →
         Collected (tableOf table) (read document rs) op object holders variables pairs walked pairs′ walked′ a
     by-rows holders variables i f k v pairs walked pairs′ walked′ a l =
         planned-rows table document name plan plan′ m rs op rows o w object variables i v pairs walked pairs′ walked′ a l holders (among rows holders k) f

@@ -10,7 +10,7 @@ use Rattle.paper.specs.Language.{Document}
 use Rattle.paper.specs.Tokens.{Text, Tokens}
 use Rattle.paper.specs.Rows.{Row, flat}
 use Rattle.paper.specs.Refusals.{numberOf, shownOf}
-use Rattle.paper.specs.Reading.{Fault, no-token, no-going, no-end, too-deep, too-many-rows, too-many, rows-are, refuses, Said, refused}
+use Rattle.paper.specs.Reading.{Fault, no-token, no-going, no-end, too-deep, too-many-rows, too-many, rows-are, refuses, TextAnswer, refused}
 use Rattle.paper.specs.Calls.{tells, Parsed, reads}
 use Rattle.paper.specs.declared.Refusal.{Refusal}
 use Rattle.paper.specs.declared.Refusal.the-variants.{Buffer, OverLength}
@@ -50,7 +50,7 @@ breaks-exactly t d i k = (to, λ h. least-break (h .0) (h .1))
 
 -- the rows of a document that is read
 abbrev pub Rows : List ℕ → List Row → Type 0
-Rows document rs = (t : Text) × Tokens 0 document t × Said Document t (rows-are rs)
+Rows document rs = (t : Text) × Tokens 0 document t × TextAnswer Document t (rows-are rs)
 
 -- numbers of answers: a table's refusal is 7 to 9, a text's 3 to 8
 table-number : (a : TableAnswer) → (a ≡ Accepted → ⊥) → (2 < tableNumber a) × (tableNumber a < refuseQuery)
@@ -67,7 +67,7 @@ fault-less (too-deep k h o) = omega arith
 fault-less (too-many-rows k h o) = omega arith
 fault-less (too-many k h o) = omega arith
 
-text-number : {t : Text} {r : Refusal} → Said Document t (refuses r) → (2 < numberOf r) × (numberOf r < refuseQuery)
+text-number : {t : Text} {r : Refusal} → TextAnswer Document t (refuses r) → (2 < numberOf r) × (numberOf r < refuseQuery)
 text-number (refused f l) = (said-number (refused f l), fault-less f)
 
 module _ {table document rows report rows′ report′ : List ℕ} {a : ℕ} (c : CheckedDocument table document rows report rows′ report′ a) where
@@ -78,7 +78,7 @@ module _ {table document rows report rows′ report′ : List ℕ} {a : ℕ} (c 
   pub then-the-table : Lent rows report → Short table document → (judge table ≡ Accepted → ⊥) → (a ≡ tableNumber (judge table)) × (report′ ≡ tellsTable (judge table) report)
   then-the-table l s w = let e = checked-document-one c (refuses-table l s refl w refl refl) in (e .0, e .2)
 
-  pub then-the-text : Lent rows report → Short table document → judge table ≡ Accepted → (t : Text) (r : Refusal) → Tokens 0 document t → Said Document t (refuses r) → (a ≡ numberOf r) × (report′ ≡ tells r report)
+  pub then-the-text : Lent rows report → Short table document → judge table ≡ Accepted → (t : Text) (r : Refusal) → Tokens 0 document t → TextAnswer Document t (refuses r) → (a ≡ numberOf r) × (report′ ≡ tells r report)
   then-the-text l s j t r k d = let e = checked-document-one c (refuses-text l s j k d refl refl) in (e .0, e .2)
 
 module _ {table document rows report rows′ report′ : List ℕ} where

@@ -13,13 +13,13 @@ use Rattle.paper.specs.Language.{Document}
 use Rattle.paper.specs.Tokens.{Text, Tokens}
 use Rattle.paper.specs.Rows.{Row}
 use Rattle.paper.specs.Refusals.{numberOf, shownOf}
-use Rattle.paper.specs.Reading.{Answer, rows-are, refuses, Said}
+use Rattle.paper.specs.Reading.{Answer, rows-are, refuses, TextAnswer}
 use Rattle.paper.specs.Calls.{tells, Parsed, short-report, short-rows, over-length, refuses-text, reads}
 use Rattle.paper.specs.declared.Refusal.{Refusal}
 use Rattle.paper.specs.declared.Refusal.the-variants.{Buffer, OverLength, NoToken, NoGoing, TooDeep, TooManyRows, TooMany}
 use Rattle.paper_table.specs.TableNumbers.{mostTable, inputTable}
-use Rattle.paper_table.specs.House.{framing}
-use Rattle.paper_table.specs.TableSizes.{counts}
+use Rattle.paper_table.specs.House.{framingOffset}
+use Rattle.paper_table.specs.TableSizes.{countsOffset}
 use Rattle.paper_table.specs.Types.{tableOf}
 use Rattle.paper_table.specs.Judging.{breaks, judge, tableNumber}
 use Rattle.paper_table.specs.TableCalls.{tellsTable, Checked}
@@ -43,10 +43,10 @@ use Rattle.claims.proofs.CoercionsSome.{unjudged, accepts-or-not}
 
 -- the rows of a document that is read; what it is refused for
 abbrev Rows : List ℕ → List Row → Type 0
-Rows document rs = (t : Text) × Tokens 0 document t × Said Document t (rows-are rs)
+Rows document rs = (t : Text) × Tokens 0 document t × TextAnswer Document t (rows-are rs)
 
 abbrev NoRows : List ℕ → Refusal → Type 0
-NoRows document r = (t : Text) × Tokens 0 document t × Said Document t (refuses r)
+NoRows document r = (t : Text) × Tokens 0 document t × TextAnswer Document t (refuses r)
 
 -- ---- gw_parse
 module _ {document rows report rows′ report′ : List ℕ} where
@@ -80,7 +80,7 @@ module _ {document rows report rows′ report′ : List ℕ} where
 
 -- ---- gw_check_table
 module _ {table report report′ : List ℕ} where
-  to-accepted : {a : ℕ} → Checked table report report′ a → a ≡ 0 → (reportSize ≤ length report) × (length table ≤ mostTable) × (framing table ≡ none) × (counts table ≡ none) × (breaks (tableOf table) ≡ [])
+  to-accepted : {a : ℕ} → Checked table report report′ a → a ≡ 0 → (reportSize ≤ length report) × (length table ≤ mostTable) × (framingOffset table ≡ none) × (countsOffset table ≡ none) × (breaks (tableOf table) ≡ [])
   to-accepted (table-cases.short-report h e) l = let z : ⊥ = omega arith in absurd z
   to-accepted (table-cases.over-length h m e) l = let z : ⊥ = omega arith in absurd z
   to-accepted (table-cases.judges h m e) l = let j = judged.accepted-exactly table .0 (accepts {table = table} {report = report} {report′ = report′} (table-cases.judges h m e) l .1) in (h, m, j .0, j .1, j .2)
@@ -89,7 +89,7 @@ module _ {table report report′ : List ℕ} where
   from-accepted c h m j = checked-one c (table-cases.judges h m refl) .0 ∙ ap tableNumber j
 
   pub checked-exactly : {a : ℕ} → Checked table report report′ a →
-      (a ≡ 0) ↔ ((reportSize ≤ length report) × (length table ≤ mostTable) × (framing table ≡ none) × (counts table ≡ none) × (breaks (tableOf table) ≡ []))
+      (a ≡ 0) ↔ ((reportSize ≤ length report) × (length table ≤ mostTable) × (framingOffset table ≡ none) × (countsOffset table ≡ none) × (breaks (tableOf table) ≡ []))
   checked-exactly c = (to-accepted c, λ h. from-accepted c (h .0) (h .1) (judged.accepted-exactly table .1 (h .2, h .3, h .4)))
 
   -- what is said of the table is told, and shown
@@ -101,12 +101,12 @@ module _ {table report report′ : List ℕ} where
 
 -- ---- gw_check
 module _ (table document rows report : List ℕ) (h : (rows′ report′ : List ℕ) (a : ℕ) → CheckedDocument table document rows report rows′ report′ a → ⊥) where
-  of-rules : Lent rows report → Short table document → judge table ≡ Accepted → (t : Text) → Tokens 0 document t → (rs : List Row) → Said Document t (rows-are rs) →
+  of-rules : Lent rows report → Short table document → judge table ≡ Accepted → (t : Text) → Tokens 0 document t → (rs : List Row) → TextAnswer Document t (rows-are rs) →
       (a : QueryAnswer) → Judged (tableOf table) (read document rs) a → ⊥
   of-rules l s j t k rs d Fits q = h _ _ _ (check-cases.accepts l s j k d q refl refl)
   of-rules l s j t k rs d (Breaks i r) q = h _ _ _ (check-cases.breaks-rule l s j k d q refl refl)
 
-  of-text : Lent rows report → Short table document → judge table ≡ Accepted → (t : Text) → Tokens 0 document t → (a : Answer) → Said Document t a → ⊥
+  of-text : Lent rows report → Short table document → judge table ≡ Accepted → (t : Text) → Tokens 0 document t → (a : Answer) → TextAnswer Document t a → ⊥
   of-text l s j t k (rows-are rs) d = unjudged (tableOf table) (read document rs) (of-rules l s j t k rs d)
   of-text l s j t k (refuses r) d = h _ _ _ (check-cases.refuses-text l s j k d refl refl)
 

@@ -5,17 +5,33 @@ use Prim.Native.Nat.{ℕ}
 use lib.ListN.{length}
 use Rattle.paper_table.specs.Lists.{bytes, anyOf, allOf, firstAt, find, gather, eachFrom}
 use Rattle.paper_table.specs.References.{isName, sameRef, marked, closed, readName, refFrom, wholeRef, refOf}
-use Rattle.paper_table.specs.House.{piecesFrom, contents, lookUp, openAfter, inOrder, byContent, wrongs, tableWrongs, smallest, framing}
-use Rattle.paper_table.specs.TableSizes.{roomIn, oversIn, wrappersOver, oversBy, overs, counts}
+use Rattle.paper_table.specs.House.{houseFieldsFrom, contents, lookUp, openAfter, inOrder, byContent, wrongs, tableWrongs, smallest, framingOffset}
+use Rattle.paper_table.specs.TableSizes.{roomIn, oversIn, wrappersOver, oversBy, overs, countsOffset}
 use Rattle.paper_table.specs.Types.{textOf, memberOf, definitionOf, tableOf, builtIns, builtInDirectives, meaning, canBe}
 use Rattle.paper_table.specs.SubTypes.{subTest}
-use Rattle.paper_table.specs.Rules.{reservedName, nameKnown, noMembers, nameRepeated, reservedMember, noEnumValues, enumValue, noType, wrongBase, notObjectOrInterface, implementedTwice, promised, fieldMissing, fieldType, argumentMissing, argumentType, argumentExtra, rootNotObject, queryNotObject}
-use Rattle.paper_table.specs.Judging.{rules, breaksOf, breaks, before, leastBreak, answer, judge}
+use Rattle.paper_table.specs.Promises.{promised}
+use Rattle.paper_table.specs.Rule1ReservedName.{reservedName}
+use Rattle.paper_table.specs.Rule2NameKnown.{nameKnown}
+use Rattle.paper_table.specs.Rule3NoMembers.{noMembers}
+use Rattle.paper_table.specs.Rule4NameRepeated.{nameRepeated}
+use Rattle.paper_table.specs.Rule5ReservedMember.{reservedMember}
+use Rattle.paper_table.specs.Rule6EnumValue.{noEnumValues, enumValue}
+use Rattle.paper_table.specs.Rule7NoType.{noType}
+use Rattle.paper_table.specs.Rule8Base.{wrongBase}
+use Rattle.paper_table.specs.Rule9NotObjectOrInterface.{notObjectOrInterface}
+use Rattle.paper_table.specs.Rule10ImplementedTwice.{implementedTwice}
+use Rattle.paper_table.specs.Rule11FieldMissing.{interfaceFieldMissing}
+use Rattle.paper_table.specs.Rule12FieldType.{fieldType}
+use Rattle.paper_table.specs.Rule13ArgumentMissing.{interfaceArgumentMissing}
+use Rattle.paper_table.specs.Rule14ArgumentType.{argumentType}
+use Rattle.paper_table.specs.Rule15ArgumentExtra.{argumentExtra}
+use Rattle.paper_table.specs.Rule16Root.{rootNotObject, queryNotObject}
+use Rattle.paper_table.specs.Judging.{rules, breaksOf, breaks, notAfter, leastBreak, tableAnswer, judge}
 use Rattle.paper_table.specs.declared.TableAnswer.the-variants.{Breaks}
 use Rattle.paper_query.proofs.WorkedRules.{tableT}
 use Rattle.paper_table.specs.References.{named}
 use Rattle.paper_values.specs.Characters.{charactersOf}
-use Rattle.paper_values.specs.Values.{variable, integer, string, null, object, close, entry, Tree, Null, Bits, Fields, nothing, pair, Out, Got, No}
+use Rattle.paper_values.specs.Values.{variable, integer, string, null, object, no-entries, entry, Tree, Null, Bits, Fields, no-pairs, pair, Out, Got, No}
 use Rattle.paper_values.proofs.ExamplesCoercion.{seven}
 use Rattle.paper_plan.specs.Applies.{applies}
 use Rattle.paper_plan.specs.Planning as planning
@@ -26,7 +42,7 @@ use Rattle.claims.proofs.PlansExampleLaws.{eight, nine, ten}
 
 -- (11)
 empty-judged : judge [] ≡ Breaks 0 16 65535 65535 65535
-unfolding anyOf allOf firstAt find gather eachFrom isName sameRef marked closed readName refFrom wholeRef refOf piecesFrom contents lookUp openAfter inOrder byContent wrongs tableWrongs smallest framing roomIn oversIn wrappersOver oversBy overs counts textOf memberOf definitionOf tableOf builtIns builtInDirectives meaning canBe subTest reservedName nameKnown noMembers nameRepeated reservedMember noEnumValues enumValue noType wrongBase notObjectOrInterface implementedTwice promised fieldMissing fieldType argumentMissing argumentType argumentExtra rootNotObject queryNotObject rules breaksOf breaks before leastBreak answer judge
+unfolding anyOf allOf firstAt find gather eachFrom isName sameRef marked closed readName refFrom wholeRef refOf houseFieldsFrom contents lookUp openAfter inOrder byContent wrongs tableWrongs smallest framingOffset roomIn oversIn wrappersOver oversBy overs countsOffset textOf memberOf definitionOf tableOf builtIns builtInDirectives meaning canBe subTest reservedName nameKnown noMembers nameRepeated reservedMember noEnumValues enumValue noType wrongBase notObjectOrInterface implementedTwice promised interfaceFieldMissing fieldType interfaceArgumentMissing argumentType argumentExtra rootNotObject queryNotObject rules breaksOf breaks notAfter leastBreak tableAnswer judge
 empty-judged = refl
 
 -- (1) to (7)
@@ -36,9 +52,9 @@ asked =
     give (named (bytes "Int")) (integer (here 1) (bytes "2147483648")) ∷
     give (named (bytes "Int")) (integer (here 1) (bytes "-2147483648")) ∷
     give (named (bytes "Int")) (integer (here 1) (bytes "-2147483649")) ∷
-    give (named (bytes "In")) (object (here 0) (entry (here 1) (bytes "a") (string (here 2) (0x22 ∷ (bytes "abc" ++ (0x22 ∷ []))) (charactersOf (0x22 ∷ (bytes "abc" ++ (0x22 ∷ []))))) close)) ∷
-    give (named (bytes "In")) (object (here 0) (entry (here 1) (bytes "a") (null (here 2)) (entry (here 3) (bytes "b") (integer (here 4) (bytes "1")) close))) ∷
-    give (named (bytes "In")) (object (here 0) (entry (here 1) (bytes "a") (variable (here 2) (bytes "var")) (entry (here 3) (bytes "b") (integer (here 4) (bytes "1")) close))) ∷
+    give (named (bytes "In")) (object (here 0) (entry (here 1) (bytes "a") (string (here 2) (0x22 ∷ (bytes "abc" ++ (0x22 ∷ []))) (charactersOf (0x22 ∷ (bytes "abc" ++ (0x22 ∷ []))))) no-entries)) ∷
+    give (named (bytes "In")) (object (here 0) (entry (here 1) (bytes "a") (null (here 2)) (entry (here 3) (bytes "b") (integer (here 4) (bytes "1")) no-entries))) ∷
+    give (named (bytes "In")) (object (here 0) (entry (here 1) (bytes "a") (variable (here 2) (bytes "var")) (entry (here 3) (bytes "b") (integer (here 4) (bytes "1")) no-entries))) ∷
     []
 
 abbrev answered : List (Out Tree)
@@ -48,8 +64,8 @@ answered =
     Got (Bits 2147483648) ∷
     No (here 1) 2 ∷
     No (here 0) 3 ∷
-    Got (Fields (pair (bytes "a") Null (pair (bytes "b") (Bits 1) nothing))) ∷
-    Got (Fields (pair (bytes "b") (Bits 1) nothing)) ∷
+    Got (Fields (pair (bytes "a") Null (pair (bytes "b") (Bits 1) no-pairs))) ∷
+    Got (Fields (pair (bytes "b") (Bits 1) no-pairs)) ∷
     []
 
 -- (8) to (11)

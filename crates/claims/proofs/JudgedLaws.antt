@@ -9,12 +9,12 @@ use native.Mathlib.Omega.{arith}
 use lib.Dec.{leb}
 use lib.ListN.{getD}
 use borrow.Author.Tests.{leb-true, leb-false}
-use Rattle.paper_table.specs.House.{pieces, tableWrongs, mostDeep, smaller, smallest, framing}
-use Rattle.paper_table.specs.TableSizes.{roomInTable, oversIn, overs, counts}
+use Rattle.paper_table.specs.House.{houseFields, tableWrongs, mostDeep, smaller, smallest, framingOffset}
+use Rattle.paper_table.specs.TableSizes.{roomInTable, oversIn, overs, countsOffset}
 use Rattle.paper_table.specs.Types.{tableOf}
 use Rattle.paper_table.specs.References.{Ref, refOf}
 use Rattle.paper_table.specs.SubTypes.{SubType, subTest}
-use Rattle.paper_table.specs.Judging.{Break, breaks, numbersOf, before, leastBreak, answer, judge, tableShown}
+use Rattle.paper_table.specs.Judging.{Break, breaks, numbersOf, notAfter, leastBreak, tableAnswer, judge, tableShown}
 use Rattle.paper_table.specs.declared.TableAnswer.{TableAnswer}
 use Rattle.paper_table.specs.declared.TableAnswer.the-variants.{Accepted, Framing, TooMany, Breaks}
 use Rattle.paper_table.proofs.Before.{Before, empty, less, same, before-complete, before-sound}
@@ -84,25 +84,25 @@ smallest-exact ws at = (λ e. (smallest-member ws at e, λ w m. below w m e), λ
 
 -- 7 stands at the smallest wrong offset
 pub framing-stands : (s : List ℕ) (at : ℕ) →
-    (judge s ≡ Framing at) ↔ (List·Memᴰ at (tableWrongs true (pieces 0 s)) × ((w : ℕ) → List·Memᴰ w (tableWrongs true (pieces 0 s)) → at ≤ w))
-unfolding framing
+    (judge s ≡ Framing at) ↔ (List·Memᴰ at (tableWrongs true (houseFields 0 s)) × ((w : ℕ) → List·Memᴰ w (tableWrongs true (houseFields 0 s)) → at ≤ w))
+unfolding framingOffset
 framing-stands s at =
     let j = judge-framing s at in
-    let k = smallest-exact (tableWrongs true (pieces 0 s)) at in
+    let k = smallest-exact (tableWrongs true (houseFields 0 s)) at in
     (λ e. k .0 (j .0 e), λ h. j .1 (k .1 h))
 
 -- 8, where no offset is wrong, at the smallest over a size
 pub too-many-stands : (s : List ℕ) (at : ℕ) →
     (judge s ≡ TooMany at)
-    ↔ ((framing s ≡ none) × List·Memᴰ at (oversIn (overs mostDeep) roomInTable (pieces 0 s)) × ((w : ℕ) → List·Memᴰ w (oversIn (overs mostDeep) roomInTable (pieces 0 s)) → at ≤ w))
-unfolding counts
+    ↔ ((framingOffset s ≡ none) × List·Memᴰ at (oversIn (overs mostDeep) roomInTable (houseFields 0 s)) × ((w : ℕ) → List·Memᴰ w (oversIn (overs mostDeep) roomInTable (houseFields 0 s)) → at ≤ w))
+unfolding countsOffset
 too-many-stands s at =
     let j = judge-too-many s at in
-    let k = smallest-exact (oversIn (overs mostDeep) roomInTable (pieces 0 s)) at in
+    let k = smallest-exact (oversIn (overs mostDeep) roomInTable (houseFields 0 s)) at in
     (λ e. let q = j .0 e in let z = k .0 (q .1) in (q .0, z .0, z .1), λ h. j .1 (h .0, k .1 (h .1, h .2)))
 
 -- accepted, exactly
-pub accepted-exactly : (s : List ℕ) → (judge s ≡ Accepted) ↔ ((framing s ≡ none) × (counts s ≡ none) × (breaks (tableOf s) ≡ []))
+pub accepted-exactly : (s : List ℕ) → (judge s ≡ Accepted) ↔ ((framingOffset s ≡ none) × (countsOffset s ≡ none) × (breaks (tableOf s) ≡ []))
 accepted-exactly s =
     let j = judge-accepted s in
     (λ e. let q = j .0 e in (q .0, q .1, breaks-nil (tableOf s) (q .2)), λ h. j .1 (h .0, h .1, breaks-none (tableOf s) (h .2)))
@@ -122,24 +122,24 @@ showing ns = Breaks (getD ns 0 0) (getD ns 1 0) (getD ns 2 0) (getD ns 3 0) (get
 -- 9 shows the least of the breaks
 pub breaks-shown : (s : List ℕ) (i k m p a : ℕ) →
     (judge s ≡ Breaks i k m p a)
-    ↔ ((framing s ≡ none) × (counts s ≡ none)
-    × ((b : Break) × (numbersOf b ≡ i ∷ k ∷ m ∷ p ∷ a ∷ []) × List·Memᴰ b (breaks (tableOf s)) × ((c : Break) → List·Memᴰ c (breaks (tableOf s)) → before (numbersOf b) (numbersOf c) ≡ true)))
-unfolding judge answer
+    ↔ ((framingOffset s ≡ none) × (countsOffset s ≡ none)
+    × ((b : Break) × (numbersOf b ≡ i ∷ k ∷ m ∷ p ∷ a ∷ []) × List·Memᴰ b (breaks (tableOf s)) × ((c : Break) → List·Memᴰ c (breaks (tableOf s)) → notAfter (numbersOf b) (numbersOf c) ≡ true)))
+unfolding judge tableAnswer
 breaks-shown s i k m p a = (to, from)
   where
-    to : judge s ≡ Breaks i k m p a → (framing s ≡ none) × (counts s ≡ none)
-        × ((b : Break) × (numbersOf b ≡ i ∷ k ∷ m ∷ p ∷ a ∷ []) × List·Memᴰ b (breaks (tableOf s)) × ((c : Break) → List·Memᴰ c (breaks (tableOf s)) → before (numbersOf b) (numbersOf c) ≡ true))
+    to : judge s ≡ Breaks i k m p a → (framingOffset s ≡ none) × (countsOffset s ≡ none)
+        × ((b : Break) × (numbersOf b ≡ i ∷ k ∷ m ∷ p ∷ a ∷ []) × List·Memᴰ b (breaks (tableOf s)) × ((c : Break) → List·Memᴰ c (breaks (tableOf s)) → notAfter (numbersOf b) (numbersOf c) ≡ true))
     to e =
         let j = judge-breaks s i k m p a e in
         let w = j .2 in
         (j .0, j .1, (w .least, sym (ap tableShown (w .shows)), breaks-complete (tableOf s) (w .least) (w .broken), λ c z. before-complete (w .first c (breaks-sound (tableOf s) c z))))
 
-    from : (framing s ≡ none) × (counts s ≡ none)
-        × ((b : Break) × (numbersOf b ≡ i ∷ k ∷ m ∷ p ∷ a ∷ []) × List·Memᴰ b (breaks (tableOf s)) × ((c : Break) → List·Memᴰ c (breaks (tableOf s)) → before (numbersOf b) (numbersOf c) ≡ true))
+    from : (framingOffset s ≡ none) × (countsOffset s ≡ none)
+        × ((b : Break) × (numbersOf b ≡ i ∷ k ∷ m ∷ p ∷ a ∷ []) × List·Memᴰ b (breaks (tableOf s)) × ((c : Break) → List·Memᴰ c (breaks (tableOf s)) → notAfter (numbersOf b) (numbersOf c) ≡ true))
         → judge s ≡ Breaks i k m p a
     from h = go (leastBreak (breaks (tableOf s))) refl
       where
-        go : (o : Option Break) → leastBreak (breaks (tableOf s)) ≡ o → answer (framing s) (counts s) (leastBreak (breaks (tableOf s))) ≡ Breaks i k m p a
+        go : (o : Option Break) → leastBreak (breaks (tableOf s)) ≡ o → tableAnswer (framingOffset s) (countsOffset s) (leastBreak (breaks (tableOf s))) ≡ Breaks i k m p a
         go none q = absurd (List·Memᴰ·not-nil (subst (λ (l : List Break). List·Memᴰ (h .2 .0) l) (least-none (breaks (tableOf s)) q) (h .2 .2)))
         go (some d) q =
             let b = h .2 .0 in

@@ -12,7 +12,7 @@ use borrow.Author.Tests.{ltb-false}
 use Rattle.paper.specs.Grammar.{Ev, tok, mark, toks}
 use Rattle.paper.specs.Numbers.{mostLevels}
 use Rattle.paper.specs.Language.{Class, Mark, row, kind, named, wrapper, wrap, end, Part}
-use Rattle.paper.specs.Sizes.{Sums, nothing, opens, closes, leveled, counted, sums, through, overLevels}
+use Rattle.paper.specs.Sizes.{Sums, nothingCounted, opensLevel, closesLevel, leveled, counted, sums, through, overLevels}
 use Rattle.paper.specs.Reading.{Summed}
 
 abbrev Evs : Type 0
@@ -47,7 +47,7 @@ place-in-front (t ∷ ts) zero c r l e = let q : t ≡ c = cc in ap (λ (z : Cla
 place-in-front (t ∷ ts) (suc k) c r l e = place-in-front ts k c r l e
 
 -- the sums after the token before, in the same text
-summed-before : (n : Part) (ts : List Class) (j : ℕ) (m : Sums) (s : Summed n ts (suc j) m) → Summed n ts j (sums (through (suc j) (s .events)) nothing)
+summed-before : (n : Part) (ts : List Class) (j : ℕ) (m : Sums) (s : Summed n ts (suc j) m) → Summed n ts j (sums (through (suc j) (s .events)) nothingCounted)
 summed-before n ts j m s =
     let i = s .inside in
     let h : suc j ≤ length (take (suc (suc j)) ts) = (let e = length-take-le (suc (suc j)) ts i in omega arith) in
@@ -65,8 +65,8 @@ summed-before n ts j m s =
     }
 
 -- a token that takes the levels over their size
-opened : (c : Class) (p : ℕ) → p ≤ mostLevels → mostLevels < leveled c p → (leveled c p ≡ suc mostLevels) × T (opens c)
-opened c p h o = go (opens c) (closes c) o
+opened : (c : Class) (p : ℕ) → p ≤ mostLevels → mostLevels < leveled c p → (leveled c p ≡ suc mostLevels) × T (opensLevel c)
+opened c p h o = go (opensLevel c) (closesLevel c) o
   where
     go : (a b : Bool) → mostLevels < cond a (p + 1) (cond b (p - 1) p) → (cond a (p + 1) (cond b (p - 1) p) ≡ suc mostLevels) × T a
     go true b l = (omega arith, tt)
@@ -74,18 +74,18 @@ opened c p h o = go (opens c) (closes c) o
     go false false l = let z : ⊥ = omega arith in absurd z
 
 -- a test of the sums that no token before fails, is not failed just before the token
-pub test-before : (test : Sums → Bool) → test nothing ≡ false → (n : Part) (ts : List Class) (k : ℕ) (m : Sums) (s : Summed n ts k m) → ((j : ℕ) (m′ : Sums) → j < k → Summed n ts j m′ → test m′ ≡ false) →
-    test (sums (through k (s .events)) nothing) ≡ false
+pub test-before : (test : Sums → Bool) → test nothingCounted ≡ false → (n : Part) (ts : List Class) (k : ℕ) (m : Sums) (s : Summed n ts k m) → ((j : ℕ) (m′ : Sums) → j < k → Summed n ts j m′ → test m′ ≡ false) →
+    test (sums (through k (s .events)) nothingCounted) ≡ false
 unfolding through sums
 test-before test z n ts zero m s f = z
-test-before test z n ts (suc j) m s f = f j (sums (through (suc j) (s .events)) nothing) (omega arith) (summed-before n ts j m s)
+test-before test z n ts (suc j) m s f = f j (sums (through (suc j) (s .events)) nothingCounted) (omega arith) (summed-before n ts j m s)
 
 module _ (n : Part) (ts : List Class) (k : ℕ) (m : Sums) (s : Summed n ts k m) (o : T (overLevels m)) where
-  pub opens-33 : ((j : ℕ) (m′ : Sums) → j < k → Summed n ts j m′ → overLevels m′ ≡ false) → (m .levels ≡ suc mostLevels) × ((c : Class) × (r : List Class) × (drop k ts ≡ c ∷ r) × T (opens c))
+  pub opens-33 : ((j : ℕ) (m′ : Sums) → j < k → Summed n ts j m′ → overLevels m′ ≡ false) → (m .levels ≡ suc mostLevels) × ((c : Class) × (r : List Class) × (drop k ts ≡ c ∷ r) × T (opensLevel c))
   opens-33 f =
       let a = at-place ts k (s .inside) in
       let e : drop k (toks (s .events)) ≡ a .0 ∷ s .later = ap (drop k) (s .reads .1) ∙ place-in-front ts k (a .0) (a .1) (s .later) (a .2) in
-      let q : sums (through (suc k) (s .events)) nothing .levels ≡ leveled (a .0) (sums (through k (s .events)) nothing .levels) = through-levels (s .events) k nothing (a .0) (s .later) e in
-      let v : m .levels ≡ leveled (a .0) (sums (through k (s .events)) nothing .levels) = ap (λ (z : Sums). z .levels) (sym (s .are)) ∙ q in
-      let p = opened (a .0) (sums (through k (s .events)) nothing .levels) (ltb-false mostLevels (sums (through k (s .events)) nothing .levels) (test-before overLevels refl n ts k m s f)) (subst (λ (z : ℕ). mostLevels < z) v (ltb→lt mostLevels (m .levels) o)) in
+      let q : sums (through (suc k) (s .events)) nothingCounted .levels ≡ leveled (a .0) (sums (through k (s .events)) nothingCounted .levels) = through-levels (s .events) k nothingCounted (a .0) (s .later) e in
+      let v : m .levels ≡ leveled (a .0) (sums (through k (s .events)) nothingCounted .levels) = ap (λ (z : Sums). z .levels) (sym (s .are)) ∙ q in
+      let p = opened (a .0) (sums (through k (s .events)) nothingCounted .levels) (ltb-false mostLevels (sums (through k (s .events)) nothingCounted .levels) (test-before overLevels refl n ts k m s f)) (subst (λ (z : ℕ). mostLevels < z) v (ltb→lt mostLevels (m .levels) o)) in
       (v ∙ p .0, (a .0, a .1, a .2, p .1))

@@ -10,9 +10,9 @@ use mathlib.Core.List.{List, [], _∷_, map}
 use mathlib.Core.Logic.{_↔_, _⊎_}
 use Prim.Native.Nat.{ℕ, _≤_, _<_}
 use lib.ListN.{length, take, getD}
-use Rattle.claims.proofs.Words.{Result, Fixed, reportSize, mostTable, mostCoerced, Text, Tokens, Document, Row, rows-are, Said, Accepted, framing, counts, breaks, tableOf, judge, Broken, read, Lent, Short, At, Tree, Fields, Pairs, Got, No, encode, ReachedField}
+use Rattle.claims.proofs.Words.{Result, Fixed, reportSize, mostTable, mostCoerced, Text, Tokens, Document, Row, rows-are, TextAnswer, Accepted, framingOffset, countsOffset, breaks, tableOf, judge, Broken, read, Lent, Short, At, Tree, Fields, Pairs, Got, No, encode, ReachedField}
 use Rattle.claims.proofs.Words.{Parsed, Checked, CheckedDocument, CoercedVariables, CoercedArguments, Planned, Walked, ValueLent, ValueShort, VariablesRead, VariablesGive, ArgumentsGive}
-use Rattle.claims.proofs.Words.{opens, Opened, BlockRows, isObject, definitionAt, mostWalked, mostPairs, pairsSize, variablesSize, blocksIn, WalkLent, Grouped, Name, Collects, isOne, pairsOf, flat, filled}
+use Rattle.claims.proofs.Words.{opens, Opened, BlockRows, isObject, definitionAt, mostWalked, mostPairs, pairsSize, variablesSize, blocksIn, WalkLent, Grouped, Name, Collects, isOne, pairsOf, pairNumbers, filled}
 use Rattle.claims.proofs.Exported as call
 use Rattle.claims.proofs.CallsMet as met
 use Rattle.claims.proofs.FixedLaws as fixed
@@ -44,12 +44,12 @@ demand-1 = (met.all, fixed.parse-fixed, fixed.table-fixed, fixed.check-fixed, fi
 pub demand-2 :
     -- a table: its framing is right, no count is over its size, no schema rule is broken
     ((table report report′ : List ℕ) (a : ℕ) → Checked table report report′ a →
-    (a ≡ 0) ↔ ((reportSize ≤ length report) × (length table ≤ mostTable) × (framing table ≡ none) × (counts table ≡ none) × (breaks (tableOf table) ≡ [])))
+    (a ≡ 0) ↔ ((reportSize ≤ length report) × (length table ≤ mostTable) × (framingOffset table ≡ none) × (countsOffset table ≡ none) × (breaks (tableOf table) ≡ [])))
     -- a document, by a table that is accepted: its text fits grammar and sizes (then it has rows), and no row breaks a query rule
     × ((table document rows report rows′ report′ : List ℕ) (a : ℕ) → CheckedDocument table document rows report rows′ report′ a →
     (a ≡ 0)
     ↔ (Lent rows report × Short table document × (judge table ≡ Accepted)
-    × ((rs : List Row) × ((t : Text) × Tokens 0 document t × Said Document t (rows-are rs)) × ((i k : ℕ) → Broken (tableOf table) (read document rs) i k → ⊥))))
+    × ((rs : List Row) × ((t : Text) × Tokens 0 document t × TextAnswer Document t (rows-are rs)) × ((i k : ℕ) → Broken (tableOf table) (read document rs) i k → ⊥))))
     -- an operation's variables: coerced exactly when the rules give a result that fits; refused, with text, row and reason, exactly where the rules refuse
     × ((table document name variables value report value′ report′ : List ℕ) (a : ℕ) → CoercedVariables table document name variables value report value′ report′ a →
     ((a ≡ 0)
@@ -90,7 +90,7 @@ pub demand-3 :
     (g : Grouped Name) × Collects (tableOf table) (read document rs) op (isOne variables) object (map (λ b. getD rows b 0) blocks) g
     × ((h : Grouped Name) → Collects (tableOf table) (read document rs) op (isOne variables) object (map (λ b. getD rows b 0) blocks) h → g ≡ h)
     -- and the walk leaves its keys and fields in that order, if there are at most 512, and is refused with 15 if there are more
-    × (((length (pairsOf (read document rs) g) ≤ mostPairs) × (a ≡ 0) × (pairs′ ≡ filled pairsSize (flat (pairsOf (read document rs) g)) pairs)
+    × (((length (pairsOf (read document rs) g) ≤ mostPairs) × (a ≡ 0) × (pairs′ ≡ filled pairsSize (pairNumbers (pairsOf (read document rs) g)) pairs)
     × (walked′ ≡ filled reportSize (0 ∷ length (pairsOf (read document rs) g) ∷ []) walked))
     ⊎ ((mostPairs < length (pairsOf (read document rs) g)) × (a ≡ 15) × (pairs′ ≡ filled pairsSize [] pairs) × (walked′ ≡ filled reportSize (15 ∷ []) walked)))
 demand-3 = planned.by-blocks

@@ -10,7 +10,7 @@ use Rattle.paper.specs.Numbers.{reportSize, rowsSize, mostText, inputDocument}
 use Rattle.paper.specs.Language.{Document}
 use Rattle.paper.specs.Tokens.{Text, Tokens}
 use Rattle.paper.specs.Rows.{Row}
-use Rattle.paper.specs.Reading.{rows-are, refuses, Said}
+use Rattle.paper.specs.Reading.{rows-are, refuses, TextAnswer}
 use Rattle.paper.specs.Refusals.{numberOf}
 use Rattle.paper.specs.Calls.{Parsed, tells}
 use Rattle.paper.specs.declared.Refusal.{Refusal}
@@ -54,20 +54,20 @@ gw-check-some = exactly.checked-document-some
 pub document-accepted-exactly : {table document rows report rows′ report′ : List ℕ} {a : ℕ} → CheckedDocument table document rows report rows′ report′ a →
     (a ≡ 0)
     ↔ (Lent rows report × Short table document × (judge table ≡ Accepted)
-    × ((rs : List Row) × ((t : Text) × Tokens 0 document t × Said Document t (rows-are rs)) × ((i k : ℕ) → Broken (tableOf table) (read document rs) i k → ⊥)))
+    × ((rs : List Row) × ((t : Text) × Tokens 0 document t × TextAnswer Document t (rows-are rs)) × ((i k : ℕ) → Broken (tableOf table) (read document rs) i k → ⊥)))
 document-accepted-exactly = checked-documents.accepted-exactly
 
 -- 10 exactly when all this is so but for the rules: some row breaks a rule, and of the breaks one comes before all others, by row, then by rule.
 pub document-broken-exactly : {table document rows report rows′ report′ : List ℕ} {a : ℕ} → CheckedDocument table document rows report rows′ report′ a →
     (a ≡ 10)
     ↔ (Lent rows report × Short table document × (judge table ≡ Accepted)
-    × ((rs : List Row) × (i : ℕ) × (k : ℕ) × ((t : Text) × Tokens 0 document t × Said Document t (rows-are rs))
+    × ((rs : List Row) × (i : ℕ) × (k : ℕ) × ((t : Text) × Tokens 0 document t × TextAnswer Document t (rows-are rs))
     × (Broken (tableOf table) (read document rs) i k × ((j l : ℕ) → Broken (tableOf table) (read document rs) j l → NotAfter i k j l))))
 document-broken-exactly = exactly.broken-exactly
 
 -- Then the report shows that break.
 pub document-break-least : {table document rows report rows′ report′ : List ℕ} {a : ℕ} → CheckedDocument table document rows report rows′ report′ a → a ≡ 10 →
-    (rs : List Row) × (i : ℕ) × (k : ℕ) × ((t : Text) × Tokens 0 document t × Said Document t (rows-are rs))
+    (rs : List Row) × (i : ℕ) × (k : ℕ) × ((t : Text) × Tokens 0 document t × TextAnswer Document t (rows-are rs))
     × (Broken (tableOf table) (read document rs) i k × ((j l : ℕ) → Broken (tableOf table) (read document rs) j l → NotAfter i k j l))
     × (take 3 report′ ≡ 10 ∷ i ∷ k ∷ [])
 document-break-least c h = checked-documents.to-broken c h .3
@@ -86,7 +86,7 @@ pub check-table-first : {table document rows report rows′ report′ : List ℕ
 check-table-first = checked-documents.then-the-table
 
 pub check-text-next : {table document rows report rows′ report′ : List ℕ} {a : ℕ} → CheckedDocument table document rows report rows′ report′ a →
-    Lent rows report → Short table document → judge table ≡ Accepted → (t : Text) (r : Refusal) → Tokens 0 document t → Said Document t (refuses r) →
+    Lent rows report → Short table document → judge table ≡ Accepted → (t : Text) (r : Refusal) → Tokens 0 document t → TextAnswer Document t (refuses r) →
     (a ≡ numberOf r) × (report′ ≡ tells r report)
 check-text-next = checked-documents.then-the-text
 

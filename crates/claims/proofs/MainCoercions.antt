@@ -27,15 +27,16 @@ use Rattle.paper_values.specs.Written.{fourBytes}
 use Rattle.paper_values.specs.Characters.{charactersOf}
 use Rattle.paper_values.specs.NumberTokens.{intOf}
 use Rattle.paper_values.specs.Signed.{numberWritten, numberHeld, isInt}
-use Rattle.paper_values.specs.Values.{Name, At, Value, Values, variable, integer, string, null, object, Entries, close, entry, Due, Tree, Null, Bits, Fields, Pairs, nothing, pair, Out, Got, No}
+use Rattle.paper_values.specs.Values.{Name, At, Value, Values, variable, integer, string, null, object, Entries, no-entries, entry, Due, Tree, Null, Bits, Fields, Pairs, no-pairs, pair, Out, Got, No}
 use Rattle.paper_values.specs.Kinds.{Kind, Int, kindOfType}
-use Rattle.paper_values.specs.Coercion.{Given, heads, repeated, unknown, coerce, coerceAll, variablesOf, argumentsOf}
-use Rattle.paper_values.specs.CoercionRules.{plain, one, asInput, Coerces}
+use Rattle.paper_values.specs.Computed.{Given, coerce, coerceAll, variablesOf, argumentsOf}
+use Rattle.paper_values.specs.Coercion.{heads, repeatedEntry, unknownEntry}
+use Rattle.paper_values.specs.CoercionRules.{plainValue, singleValue, asInput, Coerces}
 use Rattle.paper_values.specs.CallRules.{CoercesVariables, CoercesArguments}
 use Rattle.paper_values.specs.Encoding.{encode}
 use Rattle.paper_values.specs.RowValues.{valueAt}
 use Rattle.paper_values.specs.DocumentDues.{ReachedField}
-use Rattle.paper_values.specs.ValueCalls.{Ending, VariablesEnd, ArgumentsEnd, Lent, Short, CoercedVariables, CoercedArguments}
+use Rattle.paper_values.specs.ValueCalls.{Ending, VariablesEnd, ArgumentsEnd, ValueLent, ValueShort, CoercedVariables, CoercedArguments}
 use Rattle.paper_values.proofs.ReasonTables.{takes, outside, noMember, noText, placeOf}
 use Rattle.paper_values.proofs.ReasonsExact.{asNull, Apart, ApartInside, Lacks, Refused}
 use Rattle.paper_values.proofs.TrapInt.{narrowedIntOf}
@@ -129,19 +130,19 @@ arguments-coercion-one = calls-exact.arguments-one
 
 -- 1, a wrong kind of value: at a named type, told where the value stands, exactly when the type's kind does not take values of that kind (the table `takes`).
 -- The value is neither null nor a variable, and if it is an object no value in it stands at its own place (which `row-apart` shows for the value of every row).
-pub reason-1-exactly : (kinds : Name → Kind) (vars : Name → Option Tree) (v : Value) (n : Name) → plain v ≡ true → ApartInside kinds vars v →
+pub reason-1-exactly : (kinds : Name → Kind) (vars : Name → Option Tree) (v : Value) (n : Name) → plainValue v ≡ true → ApartInside kinds vars v →
     (coerce kinds vars v (named n) ≡ No (placeOf v) reasonKind) ↔ (takes v (kinds n) ≡ false)
 reason-1-exactly = reasons.kind-exactly
 
 -- 2, out of range: exactly for an integer token at Int whose number is outside 32 bits, or at Float beyond 2^53 (`outside`).
-pub reason-2-exactly : (kinds : Name → Kind) (vars : Name → Option Tree) (v : Value) (n : Name) → plain v ≡ true → ApartInside kinds vars v →
+pub reason-2-exactly : (kinds : Name → Kind) (vars : Name → Option Tree) (v : Value) (n : Name) → plainValue v ≡ true → ApartInside kinds vars v →
     (coerce kinds vars v (named n) ≡ No (placeOf v) reasonRange) ↔ (outside v (kinds n) ≡ true)
 reason-2-exactly = reasons.range-exactly
 
 -- 3, missing: told where the object stands, exactly when no name is repeated or unknown, and the first of the fields due that fails is a Non-Null without an entry (`Lacks`).
 pub reason-3-exactly : (kinds : Name → Kind) (vars : Name → Option Tree) (i : At) (es : Entries) (n : Name) → Apart kinds vars i es →
     (coerce kinds vars (object i es) (named n) ≡ No i reasonMissing)
-    ↔ ((ds : List Due) × (asInput (kinds n) ≡ some ds) × (repeated [] (heads es) ≡ none) × (unknown ds (heads es) ≡ none) × Lacks kinds vars es ds)
+    ↔ ((ds : List Due) × (asInput (kinds n) ≡ some ds) × (repeatedEntry [] (heads es) ≡ none) × (unknownEntry ds (heads es) ≡ none) × Lacks kinds vars es ds)
 reason-3-exactly = reasons.missing-exactly
 
 -- 4, null: at any type, exactly at a Non-Null one.
@@ -156,21 +157,21 @@ reason-4-of-a-variable = reasons.null-variable-exactly
 -- 5, unknown: told at an entry, exactly when no name is repeated and that entry is the first whose name no field has.
 pub reason-5-exactly : (kinds : Name → Kind) (vars : Name → Option Tree) (i : At) (es : Entries) (n : Name) (e : At) → Apart kinds vars e es →
     (coerce kinds vars (object i es) (named n) ≡ No e reasonUnknown)
-    ↔ ((ds : List Due) × (asInput (kinds n) ≡ some ds) × (repeated [] (heads es) ≡ none) × (unknown ds (heads es) ≡ some e))
+    ↔ ((ds : List Due) × (asInput (kinds n) ≡ some ds) × (repeatedEntry [] (heads es) ≡ none) × (unknownEntry ds (heads es) ≡ some e))
 reason-5-exactly = reasons.unknown-exactly
 
 -- 6, repeated: told at an entry, exactly when it is the first whose name an earlier one has.
 pub reason-6-exactly : (kinds : Name → Kind) (vars : Name → Option Tree) (i : At) (es : Entries) (n : Name) (e : At) → Apart kinds vars e es →
-    (coerce kinds vars (object i es) (named n) ≡ No e reasonRepeated) ↔ ((ds : List Due) × (asInput (kinds n) ≡ some ds) × (repeated [] (heads es) ≡ some e))
+    (coerce kinds vars (object i es) (named n) ≡ No e reasonRepeated) ↔ ((ds : List Due) × (asInput (kinds n) ≡ some ds) × (repeatedEntry [] (heads es) ≡ some e))
 reason-6-exactly = reasons.repeated-exactly
 
 -- 7, no member: exactly for a name at an enum that has none such (`noMember`).
-pub reason-7-exactly : (kinds : Name → Kind) (vars : Name → Option Tree) (v : Value) (n : Name) → plain v ≡ true → ApartInside kinds vars v →
+pub reason-7-exactly : (kinds : Name → Kind) (vars : Name → Option Tree) (v : Value) (n : Name) → plainValue v ≡ true → ApartInside kinds vars v →
     (coerce kinds vars v (named n) ≡ No (placeOf v) reasonEnum) ↔ (noMember v (kinds n) ≡ true)
 reason-7-exactly = reasons.enum-exactly
 
 -- 8, an escaped surrogate: exactly for a string with one at String or ID (`noText`).
-pub reason-8-exactly : (kinds : Name → Kind) (vars : Name → Option Tree) (v : Value) (n : Name) → plain v ≡ true → ApartInside kinds vars v →
+pub reason-8-exactly : (kinds : Name → Kind) (vars : Name → Option Tree) (v : Value) (n : Name) → plainValue v ≡ true → ApartInside kinds vars v →
     (coerce kinds vars v (named n) ≡ No (placeOf v) reasonSurrogate) ↔ (noText v (kinds n) ≡ true)
 reason-8-exactly = reasons.surrogate-exactly
 
@@ -180,10 +181,10 @@ pub object-refused-exactly : (kinds : Name → Kind) (vars : Name → Option Tre
 object-refused-exactly = reasons.object-refused-exactly
 
 -- At other types the same is told: what is neither null nor a variable is at a Non-Null type what it is inside; what is no list is refused as a list of one as it is itself.
-pub non-null-same : (kinds : Name → Kind) (vars : Name → Option Tree) (v : Value) (r : Ref) → plain v ≡ true → coerce kinds vars v (nonNull r) ≡ coerce kinds vars v r
+pub non-null-same : (kinds : Name → Kind) (vars : Name → Option Tree) (v : Value) (r : Ref) → plainValue v ≡ true → coerce kinds vars v (nonNull r) ≡ coerce kinds vars v r
 non-null-same = reasons.non-null-same
 
-pub list-of-one-refused : (kinds : Name → Kind) (vars : Name → Option Tree) (v : Value) (r : Ref) (e : At) (w : ℕ) → one v ≡ true →
+pub list-of-one-refused : (kinds : Name → Kind) (vars : Name → Option Tree) (v : Value) (r : Ref) (e : At) (w : ℕ) → singleValue v ≡ true →
     (coerce kinds vars v (listOf r) ≡ No e w) ↔ (coerce kinds vars v r ≡ No e w)
 list-of-one-refused = reasons.list-of-one-refused
 
@@ -220,17 +221,17 @@ pub examples-1-to-7 :
     give (named (bytes "Int")) (integer (here 1) (bytes "2147483648")) ∷
     give (named (bytes "Int")) (integer (here 1) (bytes "-2147483648")) ∷
     give (named (bytes "Int")) (integer (here 1) (bytes "-2147483649")) ∷
-    give (named (bytes "In")) (object (here 0) (entry (here 1) (bytes "a") (string (here 2) (0x22 ∷ (bytes "abc" ++ (0x22 ∷ []))) (charactersOf (0x22 ∷ (bytes "abc" ++ (0x22 ∷ []))))) close)) ∷
-    give (named (bytes "In")) (object (here 0) (entry (here 1) (bytes "a") (null (here 2)) (entry (here 3) (bytes "b") (integer (here 4) (bytes "1")) close))) ∷
-    give (named (bytes "In")) (object (here 0) (entry (here 1) (bytes "a") (variable (here 2) (bytes "var")) (entry (here 3) (bytes "b") (integer (here 4) (bytes "1")) close))) ∷
+    give (named (bytes "In")) (object (here 0) (entry (here 1) (bytes "a") (string (here 2) (0x22 ∷ (bytes "abc" ++ (0x22 ∷ []))) (charactersOf (0x22 ∷ (bytes "abc" ++ (0x22 ∷ []))))) no-entries)) ∷
+    give (named (bytes "In")) (object (here 0) (entry (here 1) (bytes "a") (null (here 2)) (entry (here 3) (bytes "b") (integer (here 4) (bytes "1")) no-entries))) ∷
+    give (named (bytes "In")) (object (here 0) (entry (here 1) (bytes "a") (variable (here 2) (bytes "var")) (entry (here 3) (bytes "b") (integer (here 4) (bytes "1")) no-entries))) ∷
     [] ≡
     Got (Bits 2147483647) ∷
     No (here 1) 2 ∷
     Got (Bits 2147483648) ∷
     No (here 1) 2 ∷
     No (here 0) 3 ∷
-    Got (Fields (pair (bytes "a") Null (pair (bytes "b") (Bits 1) nothing))) ∷
-    Got (Fields (pair (bytes "b") (Bits 1) nothing)) ∷
+    Got (Fields (pair (bytes "a") Null (pair (bytes "b") (Bits 1) no-pairs))) ∷
+    Got (Fields (pair (bytes "b") (Bits 1) no-pairs)) ∷
     []
 examples-1-to-7 = examples.seven
 
@@ -250,18 +251,18 @@ coerced-variables-some = some-results.coerced-variables-some
 
 -- Where the buffers are lent and the inputs short enough, the ending that is due is the one that is told, and it fills both buffers.
 pub coerced-variables-told : (table document name variables : List ℕ) {value report value′ report′ : List ℕ} {a : ℕ} → CoercedVariables table document name variables value report value′ report′ a →
-    Lent value report → Short table document variables → (e : Ending) → VariablesEnd table document name variables e → (a ≡ answerOf e) × (value′ ≡ valueLeft value e) × (report′ ≡ reportLeft report e)
+    ValueLent value report → ValueShort table document variables → (e : Ending) → VariablesEnd table document name variables e → (a ≡ answerOf e) × (value′ ≡ valueLeft value e) × (report′ ≡ reportLeft report e)
 coerced-variables-told = variables-call.variables-told
 
 -- And 0, and every answer above 2, is an ending's that is due.
 pub coerced-variables-tells : (table document name variables : List ℕ) {value report value′ report′ : List ℕ} {a : ℕ} → CoercedVariables table document name variables value report value′ report′ a → (a ≡ 0) ⊎ (2 < a) →
-    Lent value report × Short table document variables × ((e : Ending) × VariablesEnd table document name variables e × (a ≡ answerOf e) × (value′ ≡ valueLeft value e) × (report′ ≡ reportLeft report e))
+    ValueLent value report × ValueShort table document variables × ((e : Ending) × VariablesEnd table document name variables e × (a ≡ answerOf e) × (value′ ≡ valueLeft value e) × (report′ ≡ reportLeft report e))
 coerced-variables-tells = variables-call.variables-tells
 
 -- 0 exactly when all is read, the rules give a result, and its bytes are at most 8,192.
 pub coerced-variables-accepted-exactly : (table document name variables : List ℕ) {value report value′ report′ : List ℕ} {a : ℕ} → CoercedVariables table document name variables value report value′ report′ a →
     (a ≡ 0)
-    ↔ (Lent value report × Short table document variables
+    ↔ (ValueLent value report × ValueShort table document variables
     × ((rs : List Row) × (op : ℕ) × (vs : List Row) × (ps : Pairs) × VariablesRead table document name variables rs op vs
     × VariablesGive table document variables rs op vs (Got ps) × (length (encode (Fields ps)) ≤ mostCoerced)))
 coerced-variables-accepted-exactly = variables-call.variables-accepted-exactly
@@ -276,7 +277,7 @@ coerced-variables-success = variables-call.variables-success
 -- 11 with a text, row and reason exactly when the rules refuse so; and 11 always shows them.
 pub coerced-variables-refused-exactly : (table document name variables : List ℕ) {value report value′ report′ : List ℕ} {a : ℕ} → CoercedVariables table document name variables value report value′ report′ a → (i : At) (w : ℕ) →
     ((a ≡ 11) × (take 4 report′ ≡ 11 ∷ i .text ∷ i .row ∷ w ∷ []))
-    ↔ (Lent value report × Short table document variables
+    ↔ (ValueLent value report × ValueShort table document variables
     × ((rs : List Row) × (op : ℕ) × (vs : List Row) × VariablesRead table document name variables rs op vs
     × VariablesGive table document variables rs op vs (No i w)))
 coerced-variables-refused-exactly = variables-call.variables-refused-exactly
@@ -290,7 +291,7 @@ coerced-variables-refused-some = variables-call.variables-refused-some
 -- 16 exactly when all is read, nothing is refused, and the result is longer than 8,192 bytes; never where an 11 is due.
 pub coerced-variables-too-long-exactly : (table document name variables : List ℕ) {value report value′ report′ : List ℕ} {a : ℕ} → CoercedVariables table document name variables value report value′ report′ a →
     (a ≡ 16)
-    ↔ (Lent value report × Short table document variables
+    ↔ (ValueLent value report × ValueShort table document variables
     × ((rs : List Row) × (op : ℕ) × (vs : List Row) × (ps : Pairs) × VariablesRead table document name variables rs op vs
     × VariablesGive table document variables rs op vs (Got ps) × (mostCoerced < length (encode (Fields ps)))))
 coerced-variables-too-long-exactly = variables-call.variables-too-long-exactly
@@ -303,31 +304,31 @@ coerced-variables-refused-not-too-long = variables-call.variables-refused-not-to
 -- 3 to 6 with an offset and the text 1 exactly when an operation is opened and the variables text refused so.
 pub coerced-variables-text-exactly : (table document name variables : List ℕ) {value report value′ report′ : List ℕ} {a : ℕ} → CoercedVariables table document name variables value report value′ report′ a → (k at : ℕ) → 2 < k → k < 7 →
     ((a ≡ k) × (take 3 report′ ≡ k ∷ at ∷ 1 ∷ []))
-    ↔ (Lent value report × Short table document variables
+    ↔ (ValueLent value report × ValueShort table document variables
     × ((rs : List Row) × (op : ℕ) × (r : Refusal) × VariablesUnread table document name variables rs op r × (numberOf r ≡ k) × (shownInText inputVariables r ≡ at ∷ 1 ∷ [])))
 coerced-variables-text-exactly = variables-call.variables-text-exactly
 
 -- 12 exactly when table and document are accepted and the name means no operation: whatever the variables text is.
 pub coerced-variables-12-exactly : (table document name variables : List ℕ) {value report value′ report′ : List ℕ} {a : ℕ} → CoercedVariables table document name variables value report value′ report′ a →
     (a ≡ 12)
-    ↔ (Lent value report × Short table document variables
+    ↔ (ValueLent value report × ValueShort table document variables
     × ((rs : List Row) × AcceptedDocument table document rs × (operationMeant (read document rs) name ≡ none)))
 coerced-variables-12-exactly = variables-call.variables-unnamed-exactly
 
 -- The order: the document's length, the variables', the table's; then what opening refuses (table 7, 8, 9, document 3 to 6 and 8, 10, 12), whatever the variables text is.
-pub coerced-variables-document-length-first : (table document name variables : List ℕ) {value report value′ report′ : List ℕ} {a : ℕ} → CoercedVariables table document name variables value report value′ report′ a → Lent value report → mostText < length document →
+pub coerced-variables-document-length-first : (table document name variables : List ℕ) {value report value′ report′ : List ℕ} {a : ℕ} → CoercedVariables table document name variables value report value′ report′ a → ValueLent value report → mostText < length document →
     (a ≡ 2) × (report′ ≡ tells (OverLength inputDocument) report)
 coerced-variables-document-length-first = variables-call.variables-document-first
 
-pub coerced-variables-text-length-next : (table document name variables : List ℕ) {value report value′ report′ : List ℕ} {a : ℕ} → CoercedVariables table document name variables value report value′ report′ a → Lent value report → length document ≤ mostText → mostText < length variables →
+pub coerced-variables-text-length-next : (table document name variables : List ℕ) {value report value′ report′ : List ℕ} {a : ℕ} → CoercedVariables table document name variables value report value′ report′ a → ValueLent value report → length document ≤ mostText → mostText < length variables →
     (a ≡ 2) × (report′ ≡ tells (OverLength inputVariables) report)
 coerced-variables-text-length-next = variables-call.variables-text-next
 
-pub coerced-variables-table-length-next : (table document name variables : List ℕ) {value report value′ report′ : List ℕ} {a : ℕ} → CoercedVariables table document name variables value report value′ report′ a → Lent value report → length document ≤ mostText → length variables ≤ mostText →
+pub coerced-variables-table-length-next : (table document name variables : List ℕ) {value report value′ report′ : List ℕ} {a : ℕ} → CoercedVariables table document name variables value report value′ report′ a → ValueLent value report → length document ≤ mostText → length variables ≤ mostText →
     mostTable < length table → (a ≡ 2) × (report′ ≡ tells (OverLength inputTable) report)
 coerced-variables-table-length-next = variables-call.variables-table-next
 
-pub coerced-variables-opening-next : (table document name variables : List ℕ) {value report value′ report′ : List ℕ} {a : ℕ} → CoercedVariables table document name variables value report value′ report′ a → Lent value report → Short table document variables →
+pub coerced-variables-opening-next : (table document name variables : List ℕ) {value report value′ report′ : List ℕ} {a : ℕ} → CoercedVariables table document name variables value report value′ report′ a → ValueLent value report → ValueShort table document variables →
     (k : ℕ) (shown : List ℕ) → Opened table document name (stops k shown) → (a ≡ k) × (report′ ≡ filled reportSize (k ∷ shown) report)
 coerced-variables-opening-next = variables-call.variables-opening-next
 
@@ -370,18 +371,18 @@ coerced-arguments-some = some-results.coerced-arguments-some
 
 -- Where the buffers are lent and the inputs short enough, the ending that is due is the one that is told, and it fills both buffers.
 pub coerced-arguments-told : (table document name variables : List ℕ) (row : ℕ) {value report value′ report′ : List ℕ} {a : ℕ} → CoercedArguments table document name variables row value report value′ report′ a →
-    Lent value report → Short table document variables → (e : Ending) → ArgumentsEnd table document name variables row e → (a ≡ answerOf e) × (value′ ≡ valueLeft value e) × (report′ ≡ reportLeft report e)
+    ValueLent value report → ValueShort table document variables → (e : Ending) → ArgumentsEnd table document name variables row e → (a ≡ answerOf e) × (value′ ≡ valueLeft value e) × (report′ ≡ reportLeft report e)
 coerced-arguments-told = arguments-call.arguments-told
 
 -- And 0, and every answer above 2, is an ending's that is due.
 pub coerced-arguments-tells : (table document name variables : List ℕ) (row : ℕ) {value report value′ report′ : List ℕ} {a : ℕ} → CoercedArguments table document name variables row value report value′ report′ a → (a ≡ 0) ⊎ (2 < a) →
-    Lent value report × Short table document variables × ((e : Ending) × ArgumentsEnd table document name variables row e × (a ≡ answerOf e) × (value′ ≡ valueLeft value e) × (report′ ≡ reportLeft report e))
+    ValueLent value report × ValueShort table document variables × ((e : Ending) × ArgumentsEnd table document name variables row e × (a ≡ answerOf e) × (value′ ≡ valueLeft value e) × (report′ ≡ reportLeft report e))
 coerced-arguments-tells = arguments-call.arguments-tells
 
 -- 0 exactly when all is read, the rules give a result, and its bytes are at most 8,192.
 pub coerced-arguments-accepted-exactly : (table document name variables : List ℕ) (row : ℕ) {value report value′ report′ : List ℕ} {a : ℕ} → CoercedArguments table document name variables row value report value′ report′ a →
     (a ≡ 0)
-    ↔ (Lent value report × Short table document variables
+    ↔ (ValueLent value report × ValueShort table document variables
     × ((rs : List Row) × (op : ℕ) × (vs : List Row) × (t : Tree) × ReachedField (read document rs) op row × VariablesRead table document name variables rs op vs
     × ArgumentsGive table document variables row rs op vs (Got t) × (length (encode t) ≤ mostCoerced)))
 coerced-arguments-accepted-exactly = arguments-call.arguments-accepted-exactly
@@ -396,7 +397,7 @@ coerced-arguments-success = arguments-call.arguments-success
 -- 11 with a text, row and reason exactly when the rules refuse so; and 11 always shows them.
 pub coerced-arguments-refused-exactly : (table document name variables : List ℕ) (row : ℕ) {value report value′ report′ : List ℕ} {a : ℕ} → CoercedArguments table document name variables row value report value′ report′ a → (i : At) (w : ℕ) →
     ((a ≡ 11) × (take 4 report′ ≡ 11 ∷ i .text ∷ i .row ∷ w ∷ []))
-    ↔ (Lent value report × Short table document variables
+    ↔ (ValueLent value report × ValueShort table document variables
     × ((rs : List Row) × (op : ℕ) × (vs : List Row) × ReachedField (read document rs) op row × VariablesRead table document name variables rs op vs
     × ArgumentsGive table document variables row rs op vs (No i w)))
 coerced-arguments-refused-exactly = arguments-call.arguments-refused-exactly
@@ -410,7 +411,7 @@ coerced-arguments-refused-some = arguments-call.arguments-refused-some
 -- 16 exactly when all is read, nothing is refused, and the result is longer than 8,192 bytes; never where an 11 is due.
 pub coerced-arguments-too-long-exactly : (table document name variables : List ℕ) (row : ℕ) {value report value′ report′ : List ℕ} {a : ℕ} → CoercedArguments table document name variables row value report value′ report′ a →
     (a ≡ 16)
-    ↔ (Lent value report × Short table document variables
+    ↔ (ValueLent value report × ValueShort table document variables
     × ((rs : List Row) × (op : ℕ) × (vs : List Row) × (t : Tree) × ReachedField (read document rs) op row × VariablesRead table document name variables rs op vs
     × ArgumentsGive table document variables row rs op vs (Got t) × (mostCoerced < length (encode t))))
 coerced-arguments-too-long-exactly = arguments-call.arguments-too-long-exactly
@@ -423,32 +424,32 @@ coerced-arguments-refused-not-too-long = arguments-call.arguments-refused-not-to
 -- 3 to 6 with an offset and the text 1 exactly when an operation is opened, the row reached and the variables text refused so.
 pub coerced-arguments-text-exactly : (table document name variables : List ℕ) (row : ℕ) {value report value′ report′ : List ℕ} {a : ℕ} → CoercedArguments table document name variables row value report value′ report′ a → (k at : ℕ) → 2 < k → k < 7 →
     ((a ≡ k) × (take 3 report′ ≡ k ∷ at ∷ 1 ∷ []))
-    ↔ (Lent value report × Short table document variables
+    ↔ (ValueLent value report × ValueShort table document variables
     × ((rs : List Row) × (op : ℕ) × (r : Refusal) × ReachedField (read document rs) op row × VariablesUnread table document name variables rs op r × (numberOf r ≡ k) × (shownInText inputVariables r ≡ at ∷ 1 ∷ [])))
 coerced-arguments-text-exactly = arguments-call.arguments-text-exactly
 
 -- 12 exactly when table and document are accepted and the name means no operation, or the row is no field that the operation reaches: whatever the variables text is.
 pub coerced-arguments-12-exactly : (table document name variables : List ℕ) (row : ℕ) {value report value′ report′ : List ℕ} {a : ℕ} → CoercedArguments table document name variables row value report value′ report′ a →
     (a ≡ 12)
-    ↔ (Lent value report × Short table document variables
+    ↔ (ValueLent value report × ValueShort table document variables
     × (((rs : List Row) × AcceptedDocument table document rs × (operationMeant (read document rs) name ≡ none))
     ⊎ ((rs : List Row) × (op : ℕ) × Opened table document name (opens rs op) × (ReachedField (read document rs) op row → ⊥))))
 coerced-arguments-12-exactly = arguments-call.arguments-unnamed-exactly
 
 -- The order: the document's length, the variables', the table's; then what opening refuses (table 7, 8, 9, document 3 to 6 and 8, 10, 12), whatever the variables text is.
-pub coerced-arguments-document-length-first : (table document name variables : List ℕ) (row : ℕ) {value report value′ report′ : List ℕ} {a : ℕ} → CoercedArguments table document name variables row value report value′ report′ a → Lent value report → mostText < length document →
+pub coerced-arguments-document-length-first : (table document name variables : List ℕ) (row : ℕ) {value report value′ report′ : List ℕ} {a : ℕ} → CoercedArguments table document name variables row value report value′ report′ a → ValueLent value report → mostText < length document →
     (a ≡ 2) × (report′ ≡ tells (OverLength inputDocument) report)
 coerced-arguments-document-length-first = arguments-call.arguments-document-first
 
-pub coerced-arguments-text-length-next : (table document name variables : List ℕ) (row : ℕ) {value report value′ report′ : List ℕ} {a : ℕ} → CoercedArguments table document name variables row value report value′ report′ a → Lent value report → length document ≤ mostText → mostText < length variables →
+pub coerced-arguments-text-length-next : (table document name variables : List ℕ) (row : ℕ) {value report value′ report′ : List ℕ} {a : ℕ} → CoercedArguments table document name variables row value report value′ report′ a → ValueLent value report → length document ≤ mostText → mostText < length variables →
     (a ≡ 2) × (report′ ≡ tells (OverLength inputVariables) report)
 coerced-arguments-text-length-next = arguments-call.arguments-text-next
 
-pub coerced-arguments-table-length-next : (table document name variables : List ℕ) (row : ℕ) {value report value′ report′ : List ℕ} {a : ℕ} → CoercedArguments table document name variables row value report value′ report′ a → Lent value report → length document ≤ mostText → length variables ≤ mostText →
+pub coerced-arguments-table-length-next : (table document name variables : List ℕ) (row : ℕ) {value report value′ report′ : List ℕ} {a : ℕ} → CoercedArguments table document name variables row value report value′ report′ a → ValueLent value report → length document ≤ mostText → length variables ≤ mostText →
     mostTable < length table → (a ≡ 2) × (report′ ≡ tells (OverLength inputTable) report)
 coerced-arguments-table-length-next = arguments-call.arguments-table-next
 
-pub coerced-arguments-opening-next : (table document name variables : List ℕ) (row : ℕ) {value report value′ report′ : List ℕ} {a : ℕ} → CoercedArguments table document name variables row value report value′ report′ a → Lent value report → Short table document variables →
+pub coerced-arguments-opening-next : (table document name variables : List ℕ) (row : ℕ) {value report value′ report′ : List ℕ} {a : ℕ} → CoercedArguments table document name variables row value report value′ report′ a → ValueLent value report → ValueShort table document variables →
     (k : ℕ) (shown : List ℕ) → Opened table document name (stops k shown) → (a ≡ k) × (report′ ≡ filled reportSize (k ∷ shown) report)
 coerced-arguments-opening-next = arguments-call.arguments-opening-next
 

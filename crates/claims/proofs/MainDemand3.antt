@@ -19,9 +19,9 @@ use Rattle.paper_plan.specs.Collecting.{Grouped, elem}
 use Rattle.paper_plan.specs.PlanNumbers.{blocksIn, WellFormed}
 use Rattle.paper_plan.specs.PlanCalls.{Planned}
 use Rattle.paper_plan.specs.Selecting.{Name, Collects, pairsOf, BlockRows, blockIn}
-use Rattle.paper_plan.specs.LentPlan.{isOne, flat}
+use Rattle.paper_plan.specs.LentPlan.{isOne, pairNumbers}
 use Rattle.paper_plan.specs.WalkNumbers.{mostPairs, mostWalked, pairsSize, variablesSize}
-use Rattle.paper_plan.specs.WalkCalls.{Lent, Walked}
+use Rattle.paper_plan.specs.WalkCalls.{WalkLent, Walked}
 use Rattle.claims.proofs.Demand3Laws as demand
 
 -- Every plan that `gw_plan` makes is well-formed.
@@ -43,10 +43,10 @@ plan-blocks-one = demand.opened-blocks-one
 pub demand-3 : {table document name plan report plan′ report′ : List ℕ} → Planned table document name plan report plan′ report′ 0 →
     (rs : List Row) (op : ℕ) (rows : List ℕ) → Opened table document name (opens rs op) → BlockRows (read document rs) op rows →
     (object : ℕ) (blocks variables : List ℕ) → isObject (definitionAt (tableOf table) object) ≡ true → length blocks ≤ mostWalked → ((j : ℕ) → j < length blocks → getD blocks j 0 < blocksIn plan′) →
-    variablesSize ≤ length variables → (pairs walked pairs′ walked′ : List ℕ) (a : ℕ) → Lent pairs walked → Walked table plan′ object blocks variables pairs walked pairs′ walked′ a →
+    variablesSize ≤ length variables → (pairs walked pairs′ walked′ : List ℕ) (a : ℕ) → WalkLent pairs walked → Walked table plan′ object blocks variables pairs walked pairs′ walked′ a →
     (g : Grouped Name) × Collects (tableOf table) (read document rs) op (isOne variables) object (map (λ b. getD rows b 0) blocks) g
     × ((h : Grouped Name) → Collects (tableOf table) (read document rs) op (isOne variables) object (map (λ b. getD rows b 0) blocks) h → g ≡ h)
-    × (((length (pairsOf (read document rs) g) ≤ mostPairs) × (a ≡ 0) × (pairs′ ≡ filled pairsSize (flat (pairsOf (read document rs) g)) pairs)
+    × (((length (pairsOf (read document rs) g) ≤ mostPairs) × (a ≡ 0) × (pairs′ ≡ filled pairsSize (pairNumbers (pairsOf (read document rs) g)) pairs)
     × (walked′ ≡ filled reportSize (0 ∷ length (pairsOf (read document rs) g) ∷ []) walked))
     ⊎ ((mostPairs < length (pairsOf (read document rs) g)) × (a ≡ 15) × (pairs′ ≡ filled pairsSize [] pairs) × (walked′ ≡ filled reportSize (15 ∷ []) walked)))
 demand-3 = demand.by-blocks
@@ -56,10 +56,10 @@ pub demand-3-rows : {table document name plan report plan′ report′ : List �
     (rs : List Row) (op : ℕ) (rows : List ℕ) → Opened table document name (opens rs op) → BlockRows (read document rs) op rows →
     (object : ℕ) (holders variables : List ℕ) → isObject (definitionAt (tableOf table) object) ≡ true → length holders ≤ mostWalked →
     ((j : ℕ) → j < length holders → elem eqb (getD holders j 0) rows ≡ true) →
-    variablesSize ≤ length variables → (pairs walked pairs′ walked′ : List ℕ) (a : ℕ) → Lent pairs walked → Walked table plan′ object (map (blockIn rows) holders) variables pairs walked pairs′ walked′ a →
+    variablesSize ≤ length variables → (pairs walked pairs′ walked′ : List ℕ) (a : ℕ) → WalkLent pairs walked → Walked table plan′ object (map (blockIn rows) holders) variables pairs walked pairs′ walked′ a →
     (g : Grouped Name) × Collects (tableOf table) (read document rs) op (isOne variables) object holders g
     × ((h : Grouped Name) → Collects (tableOf table) (read document rs) op (isOne variables) object holders h → g ≡ h)
-    × (((length (pairsOf (read document rs) g) ≤ mostPairs) × (a ≡ 0) × (pairs′ ≡ filled pairsSize (flat (pairsOf (read document rs) g)) pairs)
+    × (((length (pairsOf (read document rs) g) ≤ mostPairs) × (a ≡ 0) × (pairs′ ≡ filled pairsSize (pairNumbers (pairsOf (read document rs) g)) pairs)
     × (walked′ ≡ filled reportSize (0 ∷ length (pairsOf (read document rs) g) ∷ []) walked))
     ⊎ ((mostPairs < length (pairsOf (read document rs) g)) × (a ≡ 15) × (pairs′ ≡ filled pairsSize [] pairs) × (walked′ ≡ filled reportSize (15 ∷ []) walked)))
 demand-3-rows = demand.by-rows

@@ -14,14 +14,14 @@ use Rattle.paper.specs.Language.{Class, Mark, row, kind, wrapper, Part, Documen
 use Rattle.paper.specs.Lexical.{comment}
 use Rattle.paper.specs.Tokens.{Text, Tokens, NoPiece, Longest, lineEnd}
 use Rattle.paper.specs.Rows.{Row, rowsOf, flat}
-use Rattle.paper.specs.Sizes.{Sums, nothing, sums, through, opens, overLevels, overRows, overCounts}
-use Rattle.paper.specs.Reading.{tokensOf, classesOf, placeOf, Whole, Reads, Is, StopsAt, Summed, Fault, NoLater, Answer, rows-are, refuses, Said}
+use Rattle.paper.specs.Sizes.{Sums, nothingCounted, sums, through, opensLevel, overLevels, overRows, overCounts}
+use Rattle.paper.specs.Reading.{tokensOf, classesOf, placeOf, EndsWell, Reads, Is, StopsAt, Summed, Fault, NoLater, Answer, rows-are, refuses, TextAnswer}
 use Rattle.paper.specs.Refusals.{numberOf, shownInText}
 use Rattle.paper.specs.Calls.{Parsed, filled, tells}
 use Rattle.paper.specs.declared.Refusal.{Refusal}
 use Rattle.paper.specs.declared.Refusal.the-variants.{NoToken, NoGoing, TooDeep, TooManyRows, TooMany}
-use Rattle.paper_table.specs.TableSizes.{counts}
-use Rattle.paper_table.specs.Judging.{before, answer}
+use Rattle.paper_table.specs.TableSizes.{countsOffset}
+use Rattle.paper_table.specs.Judging.{notAfter, tableAnswer}
 use Rattle.paper_query.specs.Constructs.{noRow}
 use Rattle.paper_theory.proofs.TokensLaws as tokens
 use Rattle.paper_theory.proofs.ReadingLaws as reading
@@ -61,7 +61,7 @@ gw-parse-some = some.parsed-some
 
 -- Success: the rows of the document and zeros, and in the report their count.
 pub success-fills : {document rows report rows′ report′ : List ℕ} {a : ℕ} → Parsed document rows report rows′ report′ a → a ≡ 0 →
-    (t : Text) × (rs : List Row) × Tokens 0 document t × Said Document t (rows-are rs) × (length rs ≤ mostRows)
+    (t : Text) × (rs : List Row) × Tokens 0 document t × TextAnswer Document t (rows-are rs) × (length rs ≤ mostRows)
     × (take rowsSize rows′ ≡ flat rs ++ replicate (rowsSize - rowSize * length rs) 0) × (take 2 report′ ≡ 0 ∷ length rs ∷ [])
 success-fills = buffers.rows-read
 
@@ -99,36 +99,36 @@ pub tokens-one : {at : ℕ} {bs : List ℕ} {t t′ : Text} → Tokens at bs t �
 tokens-one = tokens.tokens-one
 
 -- Of any text something is said, and one thing only.
-pub said-some : (n : Part) {s : List ℕ} {t : Text} → Tokens 0 s t → (a : Answer) × Said n t a
+pub said-some : (n : Part) {s : List ℕ} {t : Text} → Tokens 0 s t → (a : Answer) × TextAnswer n t a
 said-some = stands.said-of
 
-pub said-one : {n : Part} {t : Text} {a a′ : Answer} → Said n t a → Said n t a′ → a ≡ a′
+pub said-one : {n : Part} {t : Text} {a a′ : Answer} → TextAnswer n t a → TextAnswer n t a′ → a ≡ a′
 said-one = said.said-one
 
 -- A text is accepted exactly when it fits the grammar and the sizes: it ends well, its classes derive as the part, and after no token a count
 -- is over; and then the rows are those that the derivation gives.
 pub accepted-exactly : (n : Part) (t : Text) (rs : List Row) →
-    Said n t (rows-are rs)
-    ↔ ((es : List (Ev Class Mark)) × Whole t × Reads n (classesOf t) es
+    TextAnswer n t (rows-are rs)
+    ↔ ((es : List (Ev Class Mark)) × EndsWell t × Reads n (classesOf t) es
     × ((k : ℕ) → k < length (tokensOf t) →
-    (overLevels (sums (through (suc k) es) nothing) ≡ false) × (overRows (sums (through (suc k) es) nothing) ≡ false) × (overCounts (sums (through (suc k) es) nothing .counts) ≡ false))
+    (overLevels (sums (through (suc k) es) nothingCounted) ≡ false) × (overRows (sums (through (suc k) es) nothingCounted) ≡ false) × (overCounts (sums (through (suc k) es) nothingCounted .counts) ≡ false))
     × (rs ≡ rowsOf es (tokensOf t)))
 accepted-exactly = fits.fits-exactly
 
 -- At the level of the call: 0 exactly when the buffers are lent, the document is short enough and it has rows, by grammar and sizes.
 pub parse-accepted-exactly : {document rows report rows′ report′ : List ℕ} {a : ℕ} → Parsed document rows report rows′ report′ a →
-    (a ≡ 0) ↔ ((reportSize ≤ length report) × (rowsSize ≤ length rows) × (length document ≤ mostText) × ((rs : List Row) × ((t : Text) × Tokens 0 document t × Said Document t (rows-are rs))))
+    (a ≡ 0) ↔ ((reportSize ≤ length report) × (rowsSize ≤ length rows) × (length document ≤ mostText) × ((rs : List Row) × ((t : Text) × Tokens 0 document t × TextAnswer Document t (rows-are rs))))
 parse-accepted-exactly = exactly.parsed-exactly
 
 -- 3 to 6 and 8, with their offset, exactly when the text is refused so: what is said of the text is told, and every answer above 2 is said of the text.
 pub parse-refusal-told : {document rows report rows′ report′ : List ℕ} {a : ℕ} → Parsed document rows report rows′ report′ a →
     reportSize ≤ length report → rowsSize ≤ length rows → length document ≤ mostText →
-    (r : Refusal) → ((t : Text) × Tokens 0 document t × Said Document t (refuses r)) → (a ≡ numberOf r) × (report′ ≡ tells r report)
+    (r : Refusal) → ((t : Text) × Tokens 0 document t × TextAnswer Document t (refuses r)) → (a ≡ numberOf r) × (report′ ≡ tells r report)
 parse-refusal-told = exactly.parse-refuses
 
 pub parse-refusal-said : {document rows report rows′ report′ : List ℕ} {a : ℕ} → Parsed document rows report rows′ report′ a → 2 < a →
     (reportSize ≤ length report) × (rowsSize ≤ length rows) × (length document ≤ mostText)
-    × ((r : Refusal) × ((t : Text) × Tokens 0 document t × Said Document t (refuses r)) × (a ≡ numberOf r) × (report′ ≡ tells r report))
+    × ((r : Refusal) × ((t : Text) × Tokens 0 document t × TextAnswer Document t (refuses r)) × (a ≡ numberOf r) × (report′ ≡ tells r report))
 parse-refusal-said = exactly.parse-told
 
 -- There is only one derivation.
@@ -138,35 +138,35 @@ reading-one = reading.one-reading
 -- ---- HOW THE ROWS LIE, of a document or of a variables text that is read
 
 -- They stand in order of start.
-pub rows-in-order : (n : Part) {s : List ℕ} {t : Text} {rs : List Row} → (n ≡ Document) ⊎ (n ≡ VariablesText) → Tokens 0 s t → Said n t (rows-are rs) →
+pub rows-in-order : (n : Part) {s : List ℕ} {t : Text} {rs : List Row} → (n ≡ Document) ⊎ (n ≡ VariablesText) → Tokens 0 s t → TextAnswer n t (rows-are rs) →
     (i j : ℕ) → i < j → j < length rs → getD rs i noRow .start ≤ getD rs j noRow .start
 rows-in-order = lie.rows-ordered
 
 -- Each has a byte at least, and ends within the text.
-pub rows-have-bytes : (n : Part) {s : List ℕ} {t : Text} {rs : List Row} → (n ≡ Document) ⊎ (n ≡ VariablesText) → Tokens 0 s t → Said n t (rows-are rs) →
-    (i : ℕ) → i < length rs → (getD rs i noRow .start < getD rs i noRow .stop) × (getD rs i noRow .stop ≤ length s)
+pub rows-have-bytes : (n : Part) {s : List ℕ} {t : Text} {rs : List Row} → (n ≡ Document) ⊎ (n ≡ VariablesText) → Tokens 0 s t → TextAnswer n t (rows-are rs) →
+    (i : ℕ) → i < length rs → (getD rs i noRow .start < getD rs i noRow .end) × (getD rs i noRow .end ≤ length s)
 rows-have-bytes = lie.rows-end
 
 -- A parent stands before what it holds, and encloses it.
-pub parent-encloses : (n : Part) {s : List ℕ} {t : Text} {rs : List Row} → (n ≡ Document) ⊎ (n ≡ VariablesText) → Tokens 0 s t → Said n t (rows-are rs) →
+pub parent-encloses : (n : Part) {s : List ℕ} {t : Text} {rs : List Row} → (n ≡ Document) ⊎ (n ≡ VariablesText) → Tokens 0 s t → TextAnswer n t (rows-are rs) →
     (i p : ℕ) → i < length rs → getD rs i noRow .parent ≡ p → (p ≡ noParent → ⊥) →
-    (p < i) × (getD rs p noRow .start ≤ getD rs i noRow .start) × (getD rs i noRow .stop ≤ getD rs p noRow .stop)
+    (p < i) × (getD rs p noRow .start ≤ getD rs i noRow .start) × (getD rs i noRow .end ≤ getD rs p noRow .end)
 parent-encloses = lie.parents-enclose
 
 -- ---- WHERE A REFUSAL STANDS
 
 -- The least of the faults is told: the least offset, then the least number.
-pub least-told : (n : Part) (t : Text) (r : Refusal) → Said n t (refuses r) ↔ (Fault n t r × ((r′ : Refusal) → Fault n t r′ → NoLater r r′))
+pub least-told : (n : Part) (t : Text) (r : Refusal) → TextAnswer n t (refuses r) ↔ (Fault n t r × ((r′ : Refusal) → Fault n t r′ → NoLater r r′))
 least-told = stands.least
 
 -- 3 stands at bytes with which no token begins (a string with bad text is no token), or at a comment with bad text.
-pub refusal-3-stands : (n : Part) {s : List ℕ} {t : Text} (at : ℕ) → Tokens 0 s t → Said n t (refuses (NoToken at)) →
+pub refusal-3-stands : (n : Part) {s : List ℕ} {t : Text} (at : ℕ) → Tokens 0 s t → TextAnswer n t (refuses (NoToken at)) →
     (at < length s) × (NoPiece (drop at s) ⊎ ((p : List ℕ) × Longest (drop at s) p comment × T (not (lineEnd (drop (length p) (drop at s))))))
 refusal-3-stands = stands.token-stands
 
 -- 4 stands at a token, or at the end, with which no text of the part can go on, while what stands before it can be completed to one.
-pub refusal-4-stands : (n : Part) (t : Text) (at : ℕ) → Said n t (refuses (NoGoing at)) →
-    (k : ℕ) × (at ≡ placeOf k t) × StopsAt n (classesOf t) k × ((k < length (tokensOf t)) ⊎ ((k ≡ length (tokensOf t)) × Whole t))
+pub refusal-4-stands : (n : Part) (t : Text) (at : ℕ) → TextAnswer n t (refuses (NoGoing at)) →
+    (k : ℕ) × (at ≡ placeOf k t) × StopsAt n (classesOf t) k × ((k < length (tokensOf t)) ⊎ ((k ≡ length (tokensOf t)) × EndsWell t))
 refusal-4-stands = stands.going-stands
 
 -- That place is the only one, and tokens that make no text of the part have one.
@@ -178,35 +178,35 @@ stop-some = stands.stop-some
 
 -- 5 stands at the first opening mark of level 33; 6 and 8 at the first token with which the rows or another count are over. After no token before
 -- is any of them over.
-pub refusal-5-stands : (n : Part) {s : List ℕ} {t : Text} (at : ℕ) → Tokens 0 s t → Said n t (refuses (TooDeep at)) →
-    (k : ℕ) × (m : Sums) × (at ≡ placeOf k t) × Summed n (classesOf t) k m × (m .levels ≡ suc mostLevels) × ((c : Class) × (r : List Class) × (drop k (classesOf t) ≡ c ∷ r) × T (opens c))
+pub refusal-5-stands : (n : Part) {s : List ℕ} {t : Text} (at : ℕ) → Tokens 0 s t → TextAnswer n t (refuses (TooDeep at)) →
+    (k : ℕ) × (m : Sums) × (at ≡ placeOf k t) × Summed n (classesOf t) k m × (m .levels ≡ suc mostLevels) × ((c : Class) × (r : List Class) × (drop k (classesOf t) ≡ c ∷ r) × T (opensLevel c))
     × ((j : ℕ) (m′ : Sums) → j < k → Summed n (classesOf t) j m′ → (overLevels m′ ≡ false) × (overRows m′ ≡ false) × (overCounts (m′ .counts) ≡ false))
 refusal-5-stands = stands.deep-stands
 
-pub refusal-6-stands : (n : Part) {s : List ℕ} {t : Text} (at : ℕ) → Tokens 0 s t → Said n t (refuses (TooManyRows at)) →
+pub refusal-6-stands : (n : Part) {s : List ℕ} {t : Text} (at : ℕ) → Tokens 0 s t → TextAnswer n t (refuses (TooManyRows at)) →
     (k : ℕ) × (m : Sums) × (at ≡ placeOf k t) × Summed n (classesOf t) k m × T (overRows m)
     × ((j : ℕ) (m′ : Sums) → j < k → Summed n (classesOf t) j m′ → (overLevels m′ ≡ false) × (overRows m′ ≡ false) × (overCounts (m′ .counts) ≡ false))
 refusal-6-stands = stands.rows-stands
 
-pub refusal-8-stands : (n : Part) {s : List ℕ} {t : Text} (at : ℕ) → Tokens 0 s t → Said n t (refuses (TooMany at)) →
+pub refusal-8-stands : (n : Part) {s : List ℕ} {t : Text} (at : ℕ) → Tokens 0 s t → TextAnswer n t (refuses (TooMany at)) →
     (k : ℕ) × (m : Sums) × (at ≡ placeOf k t) × Summed n (classesOf t) k m × T (overCounts (m .counts))
     × ((j : ℕ) (m′ : Sums) → j < k → Summed n (classesOf t) j m′ → (overLevels m′ ≡ false) × (overRows m′ ≡ false) × (overCounts (m′ .counts) ≡ false))
 refusal-8-stands = stands.many-stands
 
 -- There a construct begins that is the first over. In the events of a text that begins with the tokens up to the refused one, a mark stands right before it, that is, behind all tokens
 -- that it follows: at 6 the beginning of a row, where 2,048 have begun, so that the offset is the start of row 2,049.
-pub refusal-6-begins : (n : Part) {s : List ℕ} {t : Text} (at : ℕ) → Tokens 0 s t → Said n t (refuses (TooManyRows at)) →
+pub refusal-6-begins : (n : Part) {s : List ℕ} {t : Text} (at : ℕ) → Tokens 0 s t → TextAnswer n t (refuses (TooManyRows at)) →
     (k : ℕ) × (later : List Class) × (es : List (Ev Class Mark)) × (xs : List (Ev Class Mark)) × (ys : List (Ev Class Mark)) × (at ≡ placeOf k t) × (k < length (tokensOf t))
-    × Reads n (take (suc k) (classesOf t) ++ later) es × (through (suc k) es ≡ xs ++ (mark row ∷ ys)) × (length (toks xs) ≡ k) × (sums xs nothing .rows ≡ mostRows)
+    × Reads n (take (suc k) (classesOf t) ++ later) es × (through (suc k) es ≡ xs ++ (mark row ∷ ys)) × (length (toks xs) ≡ k) × (sums xs nothingCounted .rows ≡ mostRows)
 refusal-6-begins = begins.row-begins
 
 -- At 8 the kind of a fragment where 64 have theirs, the kind of a variable definition where the operation has 64, or a wrapper where the type reference has 7.
-pub refusal-8-begins : (n : Part) {s : List ℕ} {t : Text} (at : ℕ) → Tokens 0 s t → Said n t (refuses (TooMany at)) →
+pub refusal-8-begins : (n : Part) {s : List ℕ} {t : Text} (at : ℕ) → Tokens 0 s t → TextAnswer n t (refuses (TooMany at)) →
     (k : ℕ) × (later : List Class) × (es : List (Ev Class Mark)) × (xs : List (Ev Class Mark)) × (a : Mark) × (ys : List (Ev Class Mark)) × (at ≡ placeOf k t) × (k < length (tokensOf t))
     × Reads n (take (suc k) (classesOf t) ++ later) es × (through (suc k) es ≡ xs ++ (mark a ∷ ys)) × (length (toks xs) ≡ k)
-    × (((x : ℕ) × (a ≡ kind kindFragment x) × (sums xs nothing .counts .fragments ≡ mostFragments))
-    ⊎ (((x : ℕ) × (a ≡ kind kindVariableDefinition x) × (sums xs nothing .counts .variables ≡ mostVariables))
-    ⊎ ((a ≡ wrapper) × (sums xs nothing .counts .wrappers ≡ mostWrappers))))
+    × (((x : ℕ) × (a ≡ kind kindFragment x) × (sums xs nothingCounted .counts .fragments ≡ mostFragments))
+    ⊎ (((x : ℕ) × (a ≡ kind kindVariableDefinition x) × (sums xs nothingCounted .counts .variables ≡ mostVariables))
+    ⊎ ((a ≡ wrapper) × (sums xs nothingCounted .counts .wrappers ≡ mostWrappers))))
 refusal-8-begins = begins.count-begins
 
 -- The sums after a token do not depend on how the text goes on.
@@ -225,13 +225,13 @@ variables-text-meets = variables-text-met.met
 
 -- That contract says what `Said VariablesText` does: the rows and their count, or the refusal.
 pub variables-text-reads : (s rows rows′ : List ℕ) (d : Cursor) → length rows ≡ rowsSize → Ended VariablesText s rows rows′ (Done d) →
-    (t : Text) × (rs : List Row) × Tokens 0 s t × Said VariablesText t (rows-are rs) × (d .rows ≡ length rs) × (length rs ≤ mostRows) × (take (rowSize * length rs) rows′ ≡ flat rs)
+    (t : Text) × (rs : List Row) × Tokens 0 s t × TextAnswer VariablesText t (rows-are rs) × (d .rows ≡ length rs) × (length rs ≤ mostRows) × (take (rowSize * length rs) rows′ ≡ flat rs)
 variables-text-reads = variables.variables-read
 
 pub variables-text-refuses : (s rows rows′ : List ℕ) (r : Refusal) → length rows ≡ rowsSize → Ended VariablesText s rows rows′ (Refused r) →
-    (t : Text) × Tokens 0 s t × Said VariablesText t (refuses r)
+    (t : Text) × Tokens 0 s t × TextAnswer VariablesText t (refuses r)
 variables-text-refuses = variables.variables-refused
 
 -- 3 to 6 alone: 8 is never said of a variables text.
-pub variables-text-never-8 : (t : Text) (at : ℕ) → Said VariablesText t (refuses (TooMany at)) → ⊥
+pub variables-text-never-8 : (t : Text) (at : ℕ) → TextAnswer VariablesText t (refuses (TooMany at)) → ⊥
 variables-text-never-8 = variables.variables-never-8

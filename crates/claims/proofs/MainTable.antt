@@ -12,12 +12,12 @@ use Rattle.paper.specs.Numbers.{reportSize}
 use Rattle.paper.specs.Calls.{tells}
 use Rattle.paper.specs.declared.Refusal.the-variants.{OverLength}
 use Rattle.paper_table.specs.TableNumbers.{mostTable, inputTable}
-use Rattle.paper_table.specs.House.{pieces, mostDeep, tableWrongs, framing}
-use Rattle.paper_table.specs.TableSizes.{roomInTable, oversIn, overs, counts}
+use Rattle.paper_table.specs.House.{houseFields, mostDeep, tableWrongs, framingOffset}
+use Rattle.paper_table.specs.TableSizes.{roomInTable, oversIn, overs, countsOffset}
 use Rattle.paper_table.specs.References.{Ref, named, nonNull, refOf}
 use Rattle.paper_table.specs.Types.{tableOf}
 use Rattle.paper_table.specs.SubTypes.{SubType, subTest}
-use Rattle.paper_table.specs.Judging.{Break, breaks, numbersOf, before, answer, judge, tableNumber}
+use Rattle.paper_table.specs.Judging.{Break, breaks, numbersOf, notAfter, tableAnswer, judge, tableNumber}
 use Rattle.paper_table.specs.TableCalls.{tellsTable, Checked}
 use Rattle.paper_table.specs.declared.TableAnswer.the-variants.{Accepted, Framing, Breaks}
 use Rattle.paper_table.specs.declared.TableAnswer.the-variants as answers
@@ -63,12 +63,12 @@ table-report-tail = checked.report-tail
 -- ---- A TYPE TABLE: ACCEPTED EXACTLY WHEN, AND WHICH REFUSAL
 
 -- A table is accepted exactly when its framing is right, no count is over and no rule is broken.
-pub table-accepted-exactly : (s : List ℕ) → (judge s ≡ Accepted) ↔ ((framing s ≡ none) × (counts s ≡ none) × (breaks (tableOf s) ≡ []))
+pub table-accepted-exactly : (s : List ℕ) → (judge s ≡ Accepted) ↔ ((framingOffset s ≡ none) × (countsOffset s ≡ none) × (breaks (tableOf s) ≡ []))
 table-accepted-exactly = judged.accepted-exactly
 
 -- At the level of the call: 0 exactly when the report is lent, the table is short enough, its framing is right, no count is over and no rule is broken.
 pub table-call-accepts-exactly : {table report report′ : List ℕ} {a : ℕ} → Checked table report report′ a →
-    (a ≡ 0) ↔ ((reportSize ≤ length report) × (length table ≤ mostTable) × (framing table ≡ none) × (counts table ≡ none) × (breaks (tableOf table) ≡ []))
+    (a ≡ 0) ↔ ((reportSize ≤ length report) × (length table ≤ mostTable) × (framingOffset table ≡ none) × (countsOffset table ≡ none) × (breaks (tableOf table) ≡ []))
 table-call-accepts-exactly = exactly.checked-exactly
 
 -- What is said of the table is told and shown: 7 with its offset, 8 with its, 9 with the break's five numbers; a table over its length is told as such.
@@ -82,25 +82,25 @@ table-over-length-told = exactly.checked-long
 
 -- 7 stands at the smallest wrong offset, whatever else is wrong.
 pub table-framing-stands : (s : List ℕ) (at : ℕ) →
-    (judge s ≡ Framing at) ↔ (List·Memᴰ at (tableWrongs true (pieces 0 s)) × ((w : ℕ) → List·Memᴰ w (tableWrongs true (pieces 0 s)) → at ≤ w))
+    (judge s ≡ Framing at) ↔ (List·Memᴰ at (tableWrongs true (houseFields 0 s)) × ((w : ℕ) → List·Memᴰ w (tableWrongs true (houseFields 0 s)) → at ≤ w))
 table-framing-stands = judged.framing-stands
 
 -- 8 stands, where the framing is right, at the smallest offset of what is over a count, whatever rule is broken.
 pub table-too-many-stands : (s : List ℕ) (at : ℕ) →
     (judge s ≡ answers.TooMany at)
-    ↔ ((framing s ≡ none) × List·Memᴰ at (oversIn (overs mostDeep) roomInTable (pieces 0 s)) × ((w : ℕ) → List·Memᴰ w (oversIn (overs mostDeep) roomInTable (pieces 0 s)) → at ≤ w))
+    ↔ ((framingOffset s ≡ none) × List·Memᴰ at (oversIn (overs mostDeep) roomInTable (houseFields 0 s)) × ((w : ℕ) → List·Memᴰ w (oversIn (overs mostDeep) roomInTable (houseFields 0 s)) → at ≤ w))
 table-too-many-stands = judged.too-many-stands
 
 -- 9 shows, where the framing is right and no count is over, the break that no other is before, by definition, rule, member, part, argument.
 pub table-break-least : (s : List ℕ) (i k m p a : ℕ) →
     (judge s ≡ Breaks i k m p a)
-    ↔ ((framing s ≡ none) × (counts s ≡ none)
-    × ((b : Break) × (numbersOf b ≡ i ∷ k ∷ m ∷ p ∷ a ∷ []) × List·Memᴰ b (breaks (tableOf s)) × ((c : Break) → List·Memᴰ c (breaks (tableOf s)) → before (numbersOf b) (numbersOf c) ≡ true)))
+    ↔ ((framingOffset s ≡ none) × (countsOffset s ≡ none)
+    × ((b : Break) × (numbersOf b ≡ i ∷ k ∷ m ∷ p ∷ a ∷ []) × List·Memᴰ b (breaks (tableOf s)) × ((c : Break) → List·Memᴰ c (breaks (tableOf s)) → notAfter (numbersOf b) (numbersOf c) ≡ true)))
 table-break-least = judged.breaks-shown
 
 -- 7, 8, 9 in this order, and of each the first that is met from the front of the table on.
 pub table-first-told : (s : List ℕ) → length s ≤ mostTable →
-    judge s ≡ answer (head? (tableWrongs true (pieces 0 s))) (head? (oversIn (overs mostDeep) roomInTable (pieces 0 s))) (head? (breaks (tableOf s)))
+    judge s ≡ tableAnswer (head? (tableWrongs true (houseFields 0 s))) (head? (oversIn (overs mostDeep) roomInTable (houseFields 0 s))) (head? (breaks (tableOf s)))
 table-first-told = judging.judge-first
 
 -- ---- TYPE REFERENCES

@@ -25,12 +25,12 @@ use Rattle.paper_query.proofs.WorkedRules.{tableT}
 use Rattle.paper_plan.specs.Keys.{keyAt}
 use Rattle.paper_plan.specs.Applies.{applies}
 use Rattle.paper_plan.specs.Collecting.{Grouped, elem, Pair}
-use Rattle.paper_plan.specs.Planning.{answer}
+use Rattle.paper_plan.specs.Planning.{walkAnswer}
 use Rattle.paper_plan.specs.PlanNumbers.{planSize, planNumbers, WellFormed}
 use Rattle.paper_plan.specs.Selecting.{Name, Collects, pairsOf, blockIn, planFor}
-use Rattle.paper_plan.specs.LentPlan.{isOne, flat}
+use Rattle.paper_plan.specs.LentPlan.{isOne, pairNumbers}
 use Rattle.paper_plan.specs.WalkNumbers.{mostPairs, mostWalked, pairsSize, variablesSize}
-use Rattle.paper_plan.specs.WalkCalls.{CanWalk, listed, Lent, Right, Walked}
+use Rattle.paper_plan.specs.WalkCalls.{CanWalk, listed, WalkLent, Right, Walked}
 use Rattle.paper_plan.proofs.ExamplesPlans.{D, planD, unset, walked}
 use Rattle.paper_plan.proofs.TrapsPlans.{freshly}
 use Rattle.paper_plan.proofs.TrapsPlans as traps
@@ -62,25 +62,25 @@ gw-walk-some = some.walked-some
 -- 0 exactly when the buffers are lent, the table is accepted, all is so that a walk asks, and at most 512 pairs are listed.
 pub walk-lists-exactly : {table plan : List ℕ} {object : ℕ} {blocks variables pairs report pairs′ report′ : List ℕ} {a : ℕ} →
     Walked table plan object blocks variables pairs report pairs′ report′ a →
-    (a ≡ 0) ↔ (Lent pairs report × Right table × CanWalk (tableOf table) plan object blocks variables × (length (listed (tableOf table) plan object blocks variables) ≤ mostPairs))
+    (a ≡ 0) ↔ (WalkLent pairs report × Right table × CanWalk (tableOf table) plan object blocks variables × (length (listed (tableOf table) plan object blocks variables) ≤ mostPairs))
 walk-lists-exactly = walks.listed-exactly
 
 -- 14 exactly when something is not so that a walk asks: the plan is not well-formed, a block unknown, the record no object's, over 64 blocks or fewer than 64 variables.
 pub walk-refused-exactly : {table plan : List ℕ} {object : ℕ} {blocks variables pairs report pairs′ report′ : List ℕ} {a : ℕ} →
     Walked table plan object blocks variables pairs report pairs′ report′ a →
-    (a ≡ 14) ↔ (Lent pairs report × Right table × (CanWalk (tableOf table) plan object blocks variables → ⊥))
+    (a ≡ 14) ↔ (WalkLent pairs report × Right table × (CanWalk (tableOf table) plan object blocks variables → ⊥))
 walk-refused-exactly = walks.refused-exactly
 
 -- 15 exactly when all is so and over 512 pairs are listed.
 pub walk-too-many-exactly : {table plan : List ℕ} {object : ℕ} {blocks variables pairs report pairs′ report′ : List ℕ} {a : ℕ} →
     Walked table plan object blocks variables pairs report pairs′ report′ a →
-    (a ≡ 15) ↔ (Lent pairs report × Right table × CanWalk (tableOf table) plan object blocks variables × (mostPairs < length (listed (tableOf table) plan object blocks variables)))
+    (a ≡ 15) ↔ (WalkLent pairs report × Right table × CanWalk (tableOf table) plan object blocks variables × (mostPairs < length (listed (tableOf table) plan object blocks variables)))
 walk-too-many-exactly = walks.many-exactly
 
 -- Success leaves the pairs and zeros, and their count.
 pub walk-success : {table plan : List ℕ} {object : ℕ} {blocks variables pairs report pairs′ report′ : List ℕ} {a : ℕ} →
     Walked table plan object blocks variables pairs report pairs′ report′ a → a ≡ 0 →
-    (take pairsSize pairs′ ≡ flat (listed (tableOf table) plan object blocks variables) ++ replicate (pairsSize - 2 * length (listed (tableOf table) plan object blocks variables)) 0)
+    (take pairsSize pairs′ ≡ pairNumbers (listed (tableOf table) plan object blocks variables) ++ replicate (pairsSize - 2 * length (listed (tableOf table) plan object blocks variables)) 0)
     × (take 2 report′ ≡ 0 ∷ length (listed (tableOf table) plan object blocks variables) ∷ [])
 walk-success = walks.pairs-listed
 
@@ -91,9 +91,9 @@ pub walk-collects : (table document : List ℕ) (rs : List Row) → AcceptedDocu
     WellFormed (tableOf table) (planNumbers (planFor (tableOf table) (read document rs) op rows) ++ more) →
     isObject (definitionAt (tableOf table) object) ≡ true → length holders ≤ mostWalked → variablesSize ≤ length variables →
     (g : Grouped Name) → Collects (tableOf table) (read document rs) op (isOne variables) object holders g →
-    (pairs report pairs′ report′ : List ℕ) (a : ℕ) → Lent pairs report → length table ≤ mostTable →
+    (pairs report pairs′ report′ : List ℕ) (a : ℕ) → WalkLent pairs report → length table ≤ mostTable →
     Walked table (planNumbers (planFor (tableOf table) (read document rs) op rows) ++ more) object (map (blockIn rows) holders) variables pairs report pairs′ report′ a →
-    ((length (pairsOf (read document rs) g) ≤ mostPairs) × (a ≡ 0) × (pairs′ ≡ filled pairsSize (flat (pairsOf (read document rs) g)) pairs)
+    ((length (pairsOf (read document rs) g) ≤ mostPairs) × (a ≡ 0) × (pairs′ ≡ filled pairsSize (pairNumbers (pairsOf (read document rs) g)) pairs)
     × (report′ ≡ filled reportSize (0 ∷ length (pairsOf (read document rs) g) ∷ []) report))
     ⊎ ((mostPairs < length (pairsOf (read document rs) g)) × (a ≡ 15) × (pairs′ ≡ filled pairsSize [] pairs) × (report′ ≡ filled reportSize (15 ∷ []) report))
 walk-collects table document rs d op rows more object holders variables h = collects.walked-collects table document rs d op rows more object holders variables (walks.among rows holders h)
@@ -106,7 +106,7 @@ walk-reads-first-numbers table plan object blocks variables pairs report pairs�
 -- The order: a table's refusal comes before what a walk asks.
 pub walk-table-first : {table plan : List ℕ} {object : ℕ} {blocks variables pairs report pairs′ report′ : List ℕ} {a : ℕ} →
     Walked table plan object blocks variables pairs report pairs′ report′ a →
-    Lent pairs report → length table ≤ mostTable → (judge table ≡ Accepted → ⊥) → (a ≡ tableNumber (judge table)) × (report′ ≡ tellsTable (judge table) report)
+    WalkLent pairs report → length table ≤ mostTable → (judge table ≡ Accepted → ⊥) → (a ≡ tableNumber (judge table)) × (report′ ≡ tellsTable (judge table) report)
 walk-table-first = walks.first-the-table
 
 -- Refusals 1 and 2 touch no other buffer, and a shorter report is untouched itself; the other refusals zero the fixed size of the pairs.
@@ -142,13 +142,13 @@ abbrev named : Pair → Name × ℕ
 named p = (keyAt D (p .0), p .1)
 
 -- D's blocks 1 and 2 merged for Fan, T's record 1: tag 4, tag 10, rpm 13. This is what the draft collects for Fan of the selection sets of the rows 1 and 7.
-pub example-9 : (answer unset (λ k. applies (tableOf tableT) k 1) planD (1 ∷ 2 ∷ []) ≡ (4, 4) ∷ (4, 10) ∷ (13, 13) ∷ [])
+pub example-9 : (walkAnswer unset (λ k. applies (tableOf tableT) k 1) planD (1 ∷ 2 ∷ []) ≡ (4, 4) ∷ (4, 10) ∷ (13, 13) ∷ [])
     × (map named ((4, 4) ∷ (4, 10) ∷ (13, 13) ∷ []) ≡ (bytes "tag", 4) ∷ (bytes "tag", 10) ∷ (bytes "rpm", 13) ∷ [])
     × ((g : Grouped Name) × Collects (tableOf tableT) D 0 unset 1 (1 ∷ 7 ∷ []) g × (pairsOf D g ≡ (4, 4) ∷ (4, 10) ∷ (13, 13) ∷ []))
 example-9 = examples.nine
 
 -- For Pump, record 2: tag 4, tag 10.
-pub example-10 : (answer unset (λ k. applies (tableOf tableT) k 2) planD (1 ∷ 2 ∷ []) ≡ (4, 4) ∷ (4, 10) ∷ [])
+pub example-10 : (walkAnswer unset (λ k. applies (tableOf tableT) k 2) planD (1 ∷ 2 ∷ []) ≡ (4, 4) ∷ (4, 10) ∷ [])
     × (map named ((4, 4) ∷ (4, 10) ∷ []) ≡ (bytes "tag", 4) ∷ (bytes "tag", 10) ∷ [])
     × ((g : Grouped Name) × Collects (tableOf tableT) D 0 unset 2 (1 ∷ 7 ∷ []) g × (pairsOf D g ≡ (4, 4) ∷ (4, 10) ∷ []))
 example-10 = examples.ten

@@ -11,12 +11,13 @@ use native.Mathlib.Omega.{arith}
 use lib.ListN.{length, take, replicate, length-replicate}
 use lib.Dec.{T, eqb, lit<, lit≤}
 use borrow.Author.Tests.{eqb-true}
+use Rattle.paper.proofs.Bools.{T→eq as so}
 use Rattle.paper.specs.Grammar.{nt}
 use Rattle.paper.specs.Numbers.{rowsSize, kindFragment, kindSpread, kindVariable}
 use Rattle.paper.specs.Language.{Class, Mark, Document, language}
 use Rattle.paper.specs.Lexical.{lexical}
 use Rattle.paper.specs.Rows.{Row, book, rowsOf}
-use Rattle.paper.specs.Reading.{tokensOf, classesOf, rows-are, Said, accepts}
+use Rattle.paper.specs.Reading.{tokensOf, classesOf, rows-are, TextAnswer, accepts}
 use Rattle.paper.proofs.Machine.{enter, choose, step, run, Answer, stopped}
 use Rattle.paper.proofs.Machine.{accepted as derived}
 use Rattle.paper.proofs.Longest.{scan}
@@ -30,15 +31,31 @@ use Rattle.paper_theory.proofs.ReadingLaws as reading
 use Rattle.paper_theory.proofs.GoingSaid.{going-whole}
 use Rattle.paper_table.specs.Lists.{bytes, anyOf, allOf, firstAt, find, gather, eachFrom}
 use Rattle.paper_table.specs.References.{isName, sameRef, marked, closed, readName, refFrom, wholeRef, refOf}
-use Rattle.paper_table.specs.House.{piecesFrom, contents, lookUp, openAfter, inOrder, byContent, wrongs, tableWrongs, smallest, framing}
-use Rattle.paper_table.specs.TableSizes.{roomIn, oversIn, wrappersOver, oversBy, overs, counts}
+use Rattle.paper_table.specs.House.{houseFieldsFrom, contents, lookUp, openAfter, inOrder, byContent, wrongs, tableWrongs, smallest, framingOffset}
+use Rattle.paper_table.specs.TableSizes.{roomIn, oversIn, wrappersOver, oversBy, overs, countsOffset}
 use Rattle.paper_table.specs.Types.{textOf, memberOf, definitionOf, tableOf, builtIns, builtInDirectives, meaning, canBe, rootsOf}
 use Rattle.paper_table.specs.SubTypes.{subTest}
-use Rattle.paper_table.specs.Rules.{reservedName, nameKnown, noMembers, nameRepeated, reservedMember, noEnumValues, enumValue, noType, wrongBase, notObjectOrInterface, implementedTwice, promised, fieldMissing, fieldType, argumentMissing, argumentType, argumentExtra, rootNotObject, queryNotObject}
-use Rattle.paper_table.specs.Judging.{rules, breaksOf, breaks, before, leastBreak, answer, judge}
+use Rattle.paper_table.specs.Promises.{promised}
+use Rattle.paper_table.specs.Rule1ReservedName.{reservedName}
+use Rattle.paper_table.specs.Rule2NameKnown.{nameKnown}
+use Rattle.paper_table.specs.Rule3NoMembers.{noMembers}
+use Rattle.paper_table.specs.Rule4NameRepeated.{nameRepeated}
+use Rattle.paper_table.specs.Rule5ReservedMember.{reservedMember}
+use Rattle.paper_table.specs.Rule6EnumValue.{noEnumValues, enumValue}
+use Rattle.paper_table.specs.Rule7NoType.{noType}
+use Rattle.paper_table.specs.Rule8Base.{wrongBase}
+use Rattle.paper_table.specs.Rule9NotObjectOrInterface.{notObjectOrInterface}
+use Rattle.paper_table.specs.Rule10ImplementedTwice.{implementedTwice}
+use Rattle.paper_table.specs.Rule11FieldMissing.{interfaceFieldMissing}
+use Rattle.paper_table.specs.Rule12FieldType.{fieldType}
+use Rattle.paper_table.specs.Rule13ArgumentMissing.{interfaceArgumentMissing}
+use Rattle.paper_table.specs.Rule14ArgumentType.{argumentType}
+use Rattle.paper_table.specs.Rule15ArgumentExtra.{argumentExtra}
+use Rattle.paper_table.specs.Rule16Root.{rootNotObject, queryNotObject}
+use Rattle.paper_table.specs.Judging.{rules, breaksOf, breaks, notAfter, leastBreak, tableAnswer, judge}
 use Rattle.paper_table.specs.declared.TableAnswer.the-variants.{Accepted}
 use Rattle.paper_query.specs.Constructs.{Doc, count, rowOf, is, nameOf, fragmentNamed, hasFragment, numbersWhere}
-use Rattle.paper_query.specs.Enclosing.{compositeOf, rootOf, fieldOf, isTypename, conditionOf, insideFrom, insideBy, inside}
+use Rattle.paper_query.specs.Enclosing.{compositeOf, rootOf, fieldOf, isTypename, conditionOf, typeInsideFrom, typeInsideBy, typeInside}
 use Rattle.paper_query.specs.Reaching.{Within, itself, deeper, Spreads, Reaches, here, through}
 use Rattle.paper_query.specs.Rule1OperationRepeated.{operationRepeated}
 use Rattle.paper_query.specs.Rule2OperationUnnamed.{operationUnnamed}
@@ -53,7 +70,7 @@ use Rattle.paper_query.specs.Rule11VariableType.{declared, noInputType}
 use Rattle.paper_query.specs.Rule12NameTwice.{nameTwice}
 use Rattle.paper_query.specs.Rule13NoRoot.{noRoot}
 use Rattle.paper_query.specs.Rule14Argument.{argumentUnknown}
-use Rattle.paper_query.specs.QueryRules.{Broken, operation-repeated, operation-unnamed, fragment-repeated, condition, field, leaf, spread, circle, directive, undefined, no-input-type, other-type, name-twice, no-root, argument, no-break}
+use Rattle.paper_query.specs.QueryRules.{Broken, operation-repeated, operation-unnamed, fragment-repeated, condition, field-not-of-type, leaf, spread-of-none, circle, directive, undefined, no-input-type, other-type, name-twice, no-root, unknown-argument, no-break}
 use Rattle.paper_query.specs.DocumentCalls.{read}
 use Rattle.paper_query.specs.Opening.{AcceptedDocument, operationMeant, opened}
 use Rattle.paper_query.proofs.WorkedRules.{tableT}
@@ -82,33 +99,29 @@ D-whole : isWhole (go (start (replicate rowsSize 0)) (nt Document ∷ []) (from 
 unfolding from text scan step enter choose lexical lexFactored language factored go
 D-whole = refl
 
-D-said : Said Document (from (D .bytes) 0) (rows-are (D .rows))
+D-said : TextAnswer Document (from (D .bytes) 0) (rows-are (D .rows))
 D-said = of-run (run graphql (nt Document ∷ []) (classesOf (from (D .bytes) 0))) refl
   where
-    with-events : {rs : List Row} → Said Document (from (D .bytes) 0) (rows-are rs) → {es : List _} → run graphql (nt Document ∷ []) (classesOf (from (D .bytes) 0)) ≡ derived es →
-        rowsOf es (tokensOf (from (D .bytes) 0)) ≡ D .rows → Said Document (from (D .bytes) 0) (rows-are (D .rows))
-    with-events (accepts w r c) {es} e q = subst (λ (rs : List Row). Said Document (from (D .bytes) 0) (rows-are rs)) q (accepts {es = es} w (reading.accepts Document (classesOf (from (D .bytes) 0)) e) c)
+    with-events : {rs : List Row} → TextAnswer Document (from (D .bytes) 0) (rows-are rs) → {es : List _} → run graphql (nt Document ∷ []) (classesOf (from (D .bytes) 0)) ≡ derived es →
+        rowsOf es (tokensOf (from (D .bytes) 0)) ≡ D .rows → TextAnswer Document (from (D .bytes) 0) (rows-are (D .rows))
+    with-events (accepts w r c) {es} e q = subst (λ (rs : List Row). TextAnswer Document (from (D .bytes) 0) (rows-are rs)) q (accepts {es = es} w (reading.accepts Document (classesOf (from (D .bytes) 0)) e) c)
 
     of-out : {es : List _} → run graphql (nt Document ∷ []) (classesOf (from (D .bytes) 0)) ≡ derived es → rowsOf es (tokensOf (from (D .bytes) 0)) ≡ D .rows →
-        (o : Out) → go (start (replicate rowsSize 0)) (nt Document ∷ []) (from (D .bytes) 0) ≡ o → Said Document (from (D .bytes) 0) (rows-are (D .rows))
+        (o : Out) → go (start (replicate rowsSize 0)) (nt Document ∷ []) (from (D .bytes) 0) ≡ o → TextAnswer Document (from (D .bytes) 0) (rows-are (D .rows))
     of-out e q (whole s) w = with-events (going-whole Document (from (D .bytes) 0) (replicate rowsSize 0) s (length-replicate {A = ℕ} rowsSize 0) w .1) e q
     of-out e q (halt r) w = absurd (true≢false (sym D-whole ∙ ap isWhole w))
 
-    of-run : (a : Answer Class Mark) → run graphql (nt Document ∷ []) (classesOf (from (D .bytes) 0)) ≡ a → Said Document (from (D .bytes) 0) (rows-are (D .rows))
+    of-run : (a : Answer Class Mark) → run graphql (nt Document ∷ []) (classesOf (from (D .bytes) 0)) ≡ a → TextAnswer Document (from (D .bytes) 0) (rows-are (D .rows))
     of-run (derived es) e = of-out e (rw e at rows-of-D) (go (start (replicate rowsSize 0)) (nt Document ∷ []) (from (D .bytes) 0)) refl
     of-run (stopped k) e = let q : [] ≡ D .rows = rw e at rows-of-D in let z : _≡_ {A = ℕ} 0 1 = cc in absurd (omega arith)
 
 -- ---- T is a right table
 
 T-right : judge tableT ≡ Accepted
-unfolding anyOf allOf firstAt find gather eachFrom isName sameRef marked closed readName refFrom wholeRef refOf piecesFrom contents lookUp openAfter inOrder byContent wrongs tableWrongs smallest framing roomIn oversIn wrappersOver oversBy overs counts textOf memberOf definitionOf tableOf builtIns builtInDirectives meaning canBe subTest reservedName nameKnown noMembers nameRepeated reservedMember noEnumValues enumValue noType wrongBase notObjectOrInterface implementedTwice promised fieldMissing fieldType argumentMissing argumentType argumentExtra rootNotObject queryNotObject rules breaksOf breaks before leastBreak answer judge
+unfolding anyOf allOf firstAt find gather eachFrom isName sameRef marked closed readName refFrom wholeRef refOf houseFieldsFrom contents lookUp openAfter inOrder byContent wrongs tableWrongs smallest framingOffset roomIn oversIn wrappersOver oversBy overs countsOffset textOf memberOf definitionOf tableOf builtIns builtInDirectives meaning canBe subTest reservedName nameKnown noMembers nameRepeated reservedMember noEnumValues enumValue noType wrongBase notObjectOrInterface implementedTwice promised interfaceFieldMissing fieldType interfaceArgumentMissing argumentType argumentExtra rootNotObject queryNotObject rules breaksOf breaks notAfter leastBreak tableAnswer judge
 T-right = refl
 
 -- ---- no row of D breaks a rule
-
-so : (b : Bool) → T b → b ≡ true
-so true h = refl
-so false h = absurd h
 
 -- what no row passes
 silent : (p : ℕ → Bool) → upTo (λ i. not (p i)) (count D) ≡ true → (i : ℕ) → i < count D → T (p i) → ⊥
@@ -157,14 +170,14 @@ not-reached i at h t (here w) = within-spread i at (spread-is at t) w h
 not-reached i at h t (through {s} {f} r x w) = within-spread f at (spread-is at t) w (spread-to s f (spread-is s (x .spread)) (x .named))
 
 not-broken : (i k : ℕ) → i < count D → Broken (tableOf tableT) D i k → ⊥
-unfolding anyOf allOf firstAt find gather eachFrom isName marked closed readName refFrom wholeRef refOf piecesFrom textOf memberOf definitionOf tableOf builtIns builtInDirectives meaning rootsOf fragmentNamed hasFragment compositeOf rootOf fieldOf isTypename conditionOf insideFrom insideBy inside operationRepeated operationUnnamed fragmentRepeated conditionWrong rule-5.fieldMissing hasSelections leafWrong spreadOfNone rowsBelow directiveWrong declared noInputType nameTwice noRoot argumentUnknown
+unfolding anyOf allOf firstAt find gather eachFrom isName marked closed readName refFrom wholeRef refOf houseFieldsFrom textOf memberOf definitionOf tableOf builtIns builtInDirectives meaning rootsOf fragmentNamed hasFragment compositeOf rootOf fieldOf isTypename conditionOf typeInsideFrom typeInsideBy typeInside operationRepeated operationUnnamed fragmentRepeated conditionWrong rule-5.fieldMissing hasSelections leafWrong spreadOfNone rowsBelow directiveWrong declared noInputType nameTwice noRoot argumentUnknown
 not-broken i k l (operation-repeated h) = silent (operationRepeated D) refl i l h
 not-broken i k l (operation-unnamed h) = silent (operationUnnamed D) refl i l h
 not-broken i k l (fragment-repeated h) = silent (fragmentRepeated D) refl i l h
 not-broken i k l (condition h) = silent (conditionWrong (tableOf tableT) D) refl i l h
-not-broken i k l (field h) = silent (rule-5.fieldMissing (tableOf tableT) D) refl i l h
+not-broken i k l (field-not-of-type h) = silent (rule-5.fieldMissing (tableOf tableT) D) refl i l h
 not-broken i k l (leaf h) = silent (leafWrong (tableOf tableT) D) refl i l h
-not-broken i k l (spread h) = silent (spreadOfNone D) refl i l h
+not-broken i k l (spread-of-none h) = silent (spreadOfNone D) refl i l h
 not-broken i k l (circle c) = not-reached i (c .circles .at) (c .fragment) (c .circles .spreads .spread) (c .circles .reaches)
 not-broken i k l (directive h) = silent (directiveWrong D) refl i l h
 not-broken i k l (undefined u) = silent (λ j. is kindVariable (rowOf D j)) refl i l (u .variable)
@@ -172,7 +185,7 @@ not-broken i k l (no-input-type h) = silent (noInputType (tableOf tableT) D) ref
 not-broken i k l (other-type u) = silent (λ j. is kindVariable (rowOf D j)) refl i l (u .variable)
 not-broken i k l (name-twice h) = silent (nameTwice D) refl i l h
 not-broken i k l (no-root h) = silent (noRoot (tableOf tableT) D) refl i l h
-not-broken i k l (argument h) = silent (argumentUnknown (tableOf tableT) D) refl i l h
+not-broken i k l (unknown-argument h) = silent (argumentUnknown (tableOf tableT) D) refl i l h
 
 D-accepted : AcceptedDocument tableT (D .bytes) (D .rows)
 D-accepted = record { table-right = T-right; text = from (D .bytes) 0; tokens = tokens-are (D .bytes); said = D-said; judged = no-break (λ i k b. go i k b (decLt i (count D))) }

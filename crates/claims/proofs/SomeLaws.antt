@@ -10,7 +10,7 @@ use Rattle.paper.specs.Language.{Document}
 use Rattle.paper.specs.Tokens.{Text, Tokens}
 use Rattle.paper.specs.Rows.{flat}
 use Rattle.paper.specs.Refusals.{numberOf}
-use Rattle.paper.specs.Reading.{Answer, rows-are, refuses, Said}
+use Rattle.paper.specs.Reading.{Answer, rows-are, refuses, TextAnswer}
 use Rattle.paper.specs.Calls.{filled, tells, Parsed, short-report, short-rows, over-length, refuses-text, reads}
 use Rattle.paper.specs.declared.Refusal.the-variants.{Buffer, OverLength}
 use Rattle.claims.proofs.StandsLaws.{tokens-some, said-of}
@@ -19,7 +19,7 @@ abbrev Some : List ℕ → List ℕ → List ℕ → Type 0
 Some document rows report = (rows′ : List ℕ) × (report′ : List ℕ) × (a : ℕ) × Parsed document rows report rows′ report′ a
 
 module _ (document rows report : List ℕ) where
-  of-said : reportSize ≤ length report → rowsSize ≤ length rows → length document ≤ mostText → (t : Text) → Tokens 0 document t → (a : Answer) → Said Document t a → Some document rows report
+  of-said : reportSize ≤ length report → rowsSize ≤ length rows → length document ≤ mostText → (t : Text) → Tokens 0 document t → (a : Answer) → TextAnswer Document t a → Some document rows report
   of-said h w l t k (rows-are rs) s = (filled rowsSize (flat rs) rows, filled reportSize (accepted ∷ length rs ∷ []) report, accepted, reads h w l k s refl refl)
   of-said h w l t k (refuses r) s = (filled rowsSize [] rows, tells r report, numberOf r, refuses-text h w l k s refl refl)
 

@@ -13,8 +13,8 @@ use Rattle.paper.specs.Language.{Class, Mark, Part}
 use Rattle.paper.specs.Lexical.{comment}
 use Rattle.paper.specs.Tokens.{Text, NoPiece, Longest, lineEnd, Tokens, starts-none, skips, comments, bad-comment, tokens}
 use Rattle.paper.specs.Numbers.{mostLevels}
-use Rattle.paper.specs.Sizes.{Sums, opens, overLevels, overRows, overCounts}
-use Rattle.paper.specs.Reading.{tokensOf, classesOf, placeOf, Whole, BadAt, bad-here, bad-later, Is, StopsAt, Summed, Fault, no-token, no-going, no-end, too-deep, too-many-rows, too-many, offsetOf, NoLater, Answer, refuses, Said, refused}
+use Rattle.paper.specs.Sizes.{Sums, opensLevel, overLevels, overRows, overCounts}
+use Rattle.paper.specs.Reading.{tokensOf, classesOf, placeOf, EndsWell, BadAt, bad-here, bad-later, Is, StopsAt, Summed, Fault, no-token, no-going, no-end, too-deep, too-many-rows, too-many, offsetOf, NoLater, Answer, refuses, TextAnswer, refused}
 use Rattle.paper.specs.declared.Refusal.{Refusal}
 use Rattle.paper.specs.declared.Refusal.the-variants.{NoToken, NoGoing, TooDeep, TooManyRows, TooMany}
 use Rattle.paper.proofs.Machine as machine
@@ -35,17 +35,17 @@ tokens-some s = (from s 0, tokens-are s)
 rising : {s : List ℕ} {t : Text} → Tokens 0 s t → Rising t
 rising {s} k = subst Rising (sym (tokens-from k)) (from-rising s)
 
-pub said-of : (n : Part) {s : List ℕ} {t : Text} → Tokens 0 s t → (a : Answer) × Said n t a
+pub said-of : (n : Part) {s : List ℕ} {t : Text} → Tokens 0 s t → (a : Answer) × TextAnswer n t a
 said-of n {s} {t} k = said-some n t (rising k)
 
 -- THE LEAST IS TOLD
-told-least : (n : Part) (t : Text) (r : Refusal) → Said n t (refuses r) → Fault n t r × ((r′ : Refusal) → Fault n t r′ → NoLater r r′)
+told-least : (n : Part) (t : Text) (r : Refusal) → TextAnswer n t (refuses r) → Fault n t r × ((r′ : Refusal) → Fault n t r′ → NoLater r r′)
 told-least n t r (refused f l) = (f, l)
 
-least-told : (n : Part) (t : Text) (r : Refusal) → Fault n t r × ((r′ : Refusal) → Fault n t r′ → NoLater r r′) → Said n t (refuses r)
+least-told : (n : Part) (t : Text) (r : Refusal) → Fault n t r × ((r′ : Refusal) → Fault n t r′ → NoLater r r′) → TextAnswer n t (refuses r)
 least-told n t r (f, l) = refused f l
 
-pub least : (n : Part) (t : Text) (r : Refusal) → Said n t (refuses r) ↔ (Fault n t r × ((r′ : Refusal) → Fault n t r′ → NoLater r r′))
+pub least : (n : Part) (t : Text) (r : Refusal) → TextAnswer n t (refuses r) ↔ (Fault n t r × ((r′ : Refusal) → Fault n t r′ → NoLater r r′))
 least n t r = (told-least n t r, least-told n t r)
 
 -- REFUSAL 4
@@ -60,12 +60,12 @@ stop-some n ts = go (machine.run graphql (nt n ∷ []) ts) refl
     go (machine.stopped k) e = inr (k, bound ts (nt n ∷ []) k e, stops n ts k e)
 
 going-fault : (n : Part) (t : Text) (at : ℕ) → Fault n t (NoGoing at) →
-    (k : ℕ) × (at ≡ placeOf k t) × StopsAt n (classesOf t) k × ((k < length (tokensOf t)) ⊎ ((k ≡ length (tokensOf t)) × Whole t))
+    (k : ℕ) × (at ≡ placeOf k t) × StopsAt n (classesOf t) k × ((k < length (tokensOf t)) ⊎ ((k ≡ length (tokensOf t)) × EndsWell t))
 going-fault n t at (no-going k h s) = (k, refl, s, inl h)
 going-fault n t at (no-end w s) = (length (tokensOf t), refl, s, inr (refl, w))
 
-pub going-stands : (n : Part) (t : Text) (at : ℕ) → Said n t (refuses (NoGoing at)) →
-    (k : ℕ) × (at ≡ placeOf k t) × StopsAt n (classesOf t) k × ((k < length (tokensOf t)) ⊎ ((k ≡ length (tokensOf t)) × Whole t))
+pub going-stands : (n : Part) (t : Text) (at : ℕ) → TextAnswer n t (refuses (NoGoing at)) →
+    (k : ℕ) × (at ≡ placeOf k t) × StopsAt n (classesOf t) k × ((k < length (tokensOf t)) ⊎ ((k ≡ length (tokensOf t)) × EndsWell t))
 going-stands n t at (refused f l) = going-fault n t at f
 
 -- REFUSAL 3
@@ -92,7 +92,7 @@ bad-ahead {at} {n} {bs} (tokens p c l k) (bad-later b) = behind n at bs p (bad-a
 token-fault : (n : Part) (t : Text) (at : ℕ) → Fault n t (NoToken at) → BadAt at t
 token-fault n t at (no-token b) = b
 
-pub token-stands : (n : Part) {s : List ℕ} {t : Text} (at : ℕ) → Tokens 0 s t → Said n t (refuses (NoToken at)) → (at < length s) × BadHere (drop at s)
+pub token-stands : (n : Part) {s : List ℕ} {t : Text} (at : ℕ) → Tokens 0 s t → TextAnswer n t (refuses (NoToken at)) → (at < length s) × BadHere (drop at s)
 token-stands n {s} {t} at k (refused f l) =
     let b = bad-ahead k (token-fault n t at f) in
     let e : b .0 ≡ at = (let q = b .1 in omega arith) in
@@ -127,7 +127,7 @@ First n t at test =
 -- of refusal 5: it opens level 33
 abbrev Deep : Part → Text → ℕ → Type 0
 Deep n t at =
-    (k : ℕ) × (m : Sums) × (at ≡ placeOf k t) × Summed n (classesOf t) k m × (m .levels ≡ suc mostLevels) × ((c : Class) × (r : List Class) × (drop k (classesOf t) ≡ c ∷ r) × T (opens c))
+    (k : ℕ) × (m : Sums) × (at ≡ placeOf k t) × Summed n (classesOf t) k m × (m .levels ≡ suc mostLevels) × ((c : Class) × (r : List Class) × (drop k (classesOf t) ≡ c ∷ r) × T (opensLevel c))
     × ((j : ℕ) (m′ : Sums) → j < k → Summed n (classesOf t) j m′ → (overLevels m′ ≡ false) × (overRows m′ ≡ false) × (overCounts (m′ .counts) ≡ false))
 
 deep-first : (n : Part) (t : Text) (at : ℕ) → Rising t → Fault n t (TooDeep at) → ((r′ : Refusal) → Fault n t r′ → NoLater (TooDeep at) r′) → Deep n t at
@@ -142,11 +142,11 @@ rows-first n t at up (too-many-rows k {s = m} s o) l = (k, m, refl, s, o, within
 many-first : (n : Part) (t : Text) (at : ℕ) → Rising t → Fault n t (TooMany at) → ((r′ : Refusal) → Fault n t r′ → NoLater (TooMany at) r′) → First n t at (λ m. overCounts (m .counts))
 many-first n t at up (too-many k {s = m} s o) l = (k, m, refl, s, o, within-before n t (TooMany (placeOf k t)) k up (inside n t k m s) refl l)
 
-pub deep-stands : (n : Part) {s : List ℕ} {t : Text} (at : ℕ) → Tokens 0 s t → Said n t (refuses (TooDeep at)) → Deep n t at
+pub deep-stands : (n : Part) {s : List ℕ} {t : Text} (at : ℕ) → Tokens 0 s t → TextAnswer n t (refuses (TooDeep at)) → Deep n t at
 deep-stands n {s} {t} at k (refused f l) = deep-first n t at (rising k) f l
 
-pub rows-stands : (n : Part) {s : List ℕ} {t : Text} (at : ℕ) → Tokens 0 s t → Said n t (refuses (TooManyRows at)) → First n t at overRows
+pub rows-stands : (n : Part) {s : List ℕ} {t : Text} (at : ℕ) → Tokens 0 s t → TextAnswer n t (refuses (TooManyRows at)) → First n t at overRows
 rows-stands n {s} {t} at k (refused f l) = rows-first n t at (rising k) f l
 
-pub many-stands : (n : Part) {s : List ℕ} {t : Text} (at : ℕ) → Tokens 0 s t → Said n t (refuses (TooMany at)) → First n t at (λ m. overCounts (m .counts))
+pub many-stands : (n : Part) {s : List ℕ} {t : Text} (at : ℕ) → Tokens 0 s t → TextAnswer n t (refuses (TooMany at)) → First n t at (λ m. overCounts (m .counts))
 many-stands n {s} {t} at k (refused f l) = many-first n t at (rising k) f l

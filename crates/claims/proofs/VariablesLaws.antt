@@ -10,14 +10,14 @@ use Rattle.paper.specs.Numbers.{reportSize, inputDocument, rowSize, rowsSize, m
 use Rattle.paper.specs.Language.{Class, Terminal, Mark, row, kind, named, wrapper, wrap, end, Part, language, hits, VariablesText}
 use Rattle.paper.specs.Tokens.{Text, Tokens}
 use Rattle.paper.specs.Rows.{Row, flat}
-use Rattle.paper.specs.Sizes.{Counts, Sums, nothing, counted, sums, through, overCounts}
-use Rattle.paper.specs.Reading.{classesOf, Summed, Fault, too-many, rows-are, refuses, Said, refused}
+use Rattle.paper.specs.Sizes.{Counts, Sums, nothingCounted, counted, sums, through, overCounts}
+use Rattle.paper.specs.Reading.{classesOf, Summed, Fault, too-many, rows-are, refuses, TextAnswer, refused}
 use Rattle.paper.specs.declared.Refusal.{Refusal}
 use Rattle.paper.specs.declared.Refusal.the-variants.{Buffer, OverLength, NoToken, NoGoing, TooDeep, TooManyRows, TooMany}
 use Rattle.paper.specs.Refusals.{numberOf, shownInText}
 use Rattle.paper.specs.Calls.{filled, tells}
 use Rattle.paper.specs.Language.{ConstValue, ConstListValue, ConstValue+, ConstValue*, ConstObjectValue, ConstObjectField+, ConstObjectField*, ConstObjectField, EnumValue, Name}
-use Rattle.paper.proofs.Bools.{and-l, and-r, and-i}
+use Rattle.paper.proofs.Bools.{and-l, and-r, and-i, not-eq as not-true}
 use Rattle.paper_theory.proofs.Test.{all, all-at, all-mem, implies, implies-out}
 use Rattle.paper.proofs.Tables.{allN, numN, atN}
 use Rattle.paper.proofs.Lexing.{from}
@@ -30,7 +30,7 @@ use Rattle.text_cursor.specs.declared.Read.the-variants.{Done, Refused}
 
 -- the rows of the text and their count
 pub variables-read : (s rows rows′ : List ℕ) (d : Cursor) → length rows ≡ rowsSize → Ended VariablesText s rows rows′ (Done d) →
-    (t : Text) × (rs : List Row) × Tokens 0 s t × Said VariablesText t (rows-are rs) × (d .rows ≡ length rs) × (length rs ≤ mostRows) × (take (rowSize * length rs) rows′ ≡ flat rs)
+    (t : Text) × (rs : List Row) × Tokens 0 s t × TextAnswer VariablesText t (rows-are rs) × (d .rows ≡ length rs) × (length rs ≤ mostRows) × (take (rowSize * length rs) rows′ ≡ flat rs)
 variables-read s rows rows′ d e h =
     let g = going-whole VariablesText (from s 0) rows (h .0) e (h .1) in (
       from s 0,
@@ -44,7 +44,7 @@ variables-read s rows rows′ d e h =
 
 -- or why it is refused
 pub variables-refused : (s rows rows′ : List ℕ) (r : Refusal) → length rows ≡ rowsSize → Ended VariablesText s rows rows′ (Refused r) →
-    (t : Text) × Tokens 0 s t × Said VariablesText t (refuses r)
+    (t : Text) × Tokens 0 s t × TextAnswer VariablesText t (refuses r)
 variables-refused s rows rows′ r e h = (from s 0, tokens-are s, going-halt VariablesText (from s 0) (from-rising s) rows r h)
 
 -- NO OTHER COUNT
@@ -116,10 +116,6 @@ through-rows (suc k) [] h = tt
 through-rows (suc k) (tok c ∷ es) h = through-rows k es h
 through-rows (suc k) (mark a ∷ es) h = (h .0, through-rows (suc k) es (h .1))
 
-not-true : (b : Bool) → T (not b) → b ≡ false
-not-true true h = absurd h
-not-true false h = refl
-
 mark-counts : (a : Mark) (m : Sums) → T (counts-none a) → counted (mark a) m .counts ≡ m .counts
 mark-counts row m h = refl
 mark-counts (kind k x) m h =
@@ -142,12 +138,12 @@ sums-counts (mark a ∷ es) m h = sums-counts es (counted (mark a) m) (h .1) ∙
 summed-counts : (ts : List Class) (k : ℕ) (m : Sums) → Summed VariablesText ts k m → overCounts (m .counts) ≡ false
 summed-counts ts k m s =
     ap (λ (z : Sums). overCounts (z .counts)) (sym (s .are))
-    ∙ ap (λ (q : Counts). overCounts q) (sums-counts (through (suc k) (s .events)) nothing (through-rows (suc k) (s .events) (derives-rows (s .reads .0) tt)))
+    ∙ ap (λ (q : Counts). overCounts q) (sums-counts (through (suc k) (s .events)) nothingCounted (through-rows (suc k) (s .events) (derives-rows (s .reads .0) tt)))
 
 fault-counts : (t : Text) (at : ℕ) → Fault VariablesText t (TooMany at) → ⊥
 fault-counts t at (too-many k {s = m} s o) = subst T (summed-counts (classesOf t) k m s) o
 
-pub variables-never-8 : (t : Text) (at : ℕ) → Said VariablesText t (refuses (TooMany at)) → ⊥
+pub variables-never-8 : (t : Text) (at : ℕ) → TextAnswer VariablesText t (refuses (TooMany at)) → ⊥
 variables-never-8 t at (refused f l) = fault-counts t at f
 
 -- the document's number is 0, as the rest of a report

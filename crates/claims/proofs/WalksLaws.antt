@@ -18,9 +18,9 @@ use Rattle.paper_table.specs.TableCalls.{tellsTable}
 use Rattle.paper_table.specs.declared.TableAnswer.{TableAnswer}
 use Rattle.paper_table.specs.declared.TableAnswer.the-variants.{Accepted, Framing, TooMany, Breaks}
 use Rattle.paper_plan.specs.Collecting.{Pair, elem}
-use Rattle.paper_plan.specs.LentPlan.{flat}
+use Rattle.paper_plan.specs.LentPlan.{pairNumbers}
 use Rattle.paper_plan.specs.WalkNumbers.{mostPairs, pairsSize, refuseWalk, refuseTooManyPairs}
-use Rattle.paper_plan.specs.WalkCalls.{CanWalk, listed, Lent, Right, Walked, short-report, short-pairs, long-table, refuses-table, refuses-walk, too-many-pairs, lists}
+use Rattle.paper_plan.specs.WalkCalls.{CanWalk, listed, WalkLent, Right, Walked, short-report, short-pairs, long-table, refuses-table, refuses-walk, too-many-pairs, lists}
 use Rattle.paper_plan.proofs.WalkCallsOne.{walked-one}
 use Rattle.plan_theory.proofs.Document.{Among}
 use Rattle.plan_walk_told.proofs.FixedLaws.{flat-length}
@@ -34,12 +34,12 @@ table-number (Framing at) w = (omega arith, omega arith)
 table-number (TooMany at) w = (omega arith, omega arith)
 table-number (Breaks i k m p a) w = (omega arith, omega arith)
 
-pairs-fit : (ps : List Pair) → length ps ≤ mostPairs → length (flat ps) ≤ pairsSize
+pairs-fit : (ps : List Pair) → length ps ≤ mostPairs → length (pairNumbers ps) ≤ pairsSize
 pairs-fit ps h = omega (arith, flat-length ps)
 
 module _ {table plan : List ℕ} {object : ℕ} {blocks variables pairs report pairs′ report′ : List ℕ} {a : ℕ} (c : Walked table plan object blocks variables pairs report pairs′ report′ a) where
   -- each check in its turn
-  pub first-the-table : Lent pairs report → length table ≤ mostTable → (judge table ≡ Accepted → ⊥) → (a ≡ tableNumber (judge table)) × (report′ ≡ tellsTable (judge table) report)
+  pub first-the-table : WalkLent pairs report → length table ≤ mostTable → (judge table ≡ Accepted → ⊥) → (a ≡ tableNumber (judge table)) × (report′ ≡ tellsTable (judge table) report)
   first-the-table l s w = let e = walked-one c (refuses-table l s refl w refl refl) in (e .0, e .2)
 
   -- a shorter report: nothing is touched
@@ -49,7 +49,7 @@ module _ {table plan : List ℕ} {object : ℕ} {blocks variables pairs report p
 module _ {table plan : List ℕ} {object : ℕ} {blocks variables pairs report pairs′ report′ : List ℕ} where
   -- 0, 14 and 15, each exactly where it is due
   to-listed : {a : ℕ} → Walked table plan object blocks variables pairs report pairs′ report′ a → a ≡ 0 →
-      Lent pairs report × Right table × CanWalk (tableOf table) plan object blocks variables × (length (listed (tableOf table) plan object blocks variables) ≤ mostPairs)
+      WalkLent pairs report × Right table × CanWalk (tableOf table) plan object blocks variables × (length (listed (tableOf table) plan object blocks variables) ≤ mostPairs)
   to-listed (short-report h e f) l = let z : ⊥ = omega arith in absurd z
   to-listed (short-pairs h w e f) l = let z : ⊥ = omega arith in absurd z
   to-listed (long-table h w e f) l = let z : ⊥ = omega arith in absurd z
@@ -59,11 +59,11 @@ module _ {table plan : List ℕ} {object : ℕ} {blocks variables pairs report p
   to-listed (lists h r w m e f) l = (h, r, w, m)
 
   pub listed-exactly : {a : ℕ} → Walked table plan object blocks variables pairs report pairs′ report′ a →
-      (a ≡ 0) ↔ (Lent pairs report × Right table × CanWalk (tableOf table) plan object blocks variables × (length (listed (tableOf table) plan object blocks variables) ≤ mostPairs))
+      (a ≡ 0) ↔ (WalkLent pairs report × Right table × CanWalk (tableOf table) plan object blocks variables × (length (listed (tableOf table) plan object blocks variables) ≤ mostPairs))
   listed-exactly c = (to-listed c, λ h. walked-one c (lists (h .0) (h .1) (h .2) (h .3) refl refl) .0)
 
   to-refused : {a : ℕ} → Walked table plan object blocks variables pairs report pairs′ report′ a → a ≡ 14 →
-      Lent pairs report × Right table × (CanWalk (tableOf table) plan object blocks variables → ⊥)
+      WalkLent pairs report × Right table × (CanWalk (tableOf table) plan object blocks variables → ⊥)
   to-refused (short-report h e f) l = let z : ⊥ = omega arith in absurd z
   to-refused (short-pairs h w e f) l = let z : ⊥ = omega arith in absurd z
   to-refused (long-table h w e f) l = let z : ⊥ = omega arith in absurd z
@@ -73,11 +73,11 @@ module _ {table plan : List ℕ} {object : ℕ} {blocks variables pairs report p
   to-refused (lists h r w m e f) l = let z : ⊥ = omega arith in absurd z
 
   pub refused-exactly : {a : ℕ} → Walked table plan object blocks variables pairs report pairs′ report′ a →
-      (a ≡ 14) ↔ (Lent pairs report × Right table × (CanWalk (tableOf table) plan object blocks variables → ⊥))
+      (a ≡ 14) ↔ (WalkLent pairs report × Right table × (CanWalk (tableOf table) plan object blocks variables → ⊥))
   refused-exactly c = (to-refused c, λ h. walked-one c (refuses-walk (h .0) (h .1) (h .2) refl refl) .0)
 
   to-many : {a : ℕ} → Walked table plan object blocks variables pairs report pairs′ report′ a → a ≡ 15 →
-      Lent pairs report × Right table × CanWalk (tableOf table) plan object blocks variables × (mostPairs < length (listed (tableOf table) plan object blocks variables))
+      WalkLent pairs report × Right table × CanWalk (tableOf table) plan object blocks variables × (mostPairs < length (listed (tableOf table) plan object blocks variables))
   to-many (short-report h e f) l = let z : ⊥ = omega arith in absurd z
   to-many (short-pairs h w e f) l = let z : ⊥ = omega arith in absurd z
   to-many (long-table h w e f) l = let z : ⊥ = omega arith in absurd z
@@ -87,12 +87,12 @@ module _ {table plan : List ℕ} {object : ℕ} {blocks variables pairs report p
   to-many (lists h r w m e f) l = let z : ⊥ = omega arith in absurd z
 
   pub many-exactly : {a : ℕ} → Walked table plan object blocks variables pairs report pairs′ report′ a →
-      (a ≡ 15) ↔ (Lent pairs report × Right table × CanWalk (tableOf table) plan object blocks variables × (mostPairs < length (listed (tableOf table) plan object blocks variables)))
+      (a ≡ 15) ↔ (WalkLent pairs report × Right table × CanWalk (tableOf table) plan object blocks variables × (mostPairs < length (listed (tableOf table) plan object blocks variables)))
   many-exactly c = (to-many c, λ h. walked-one c (too-many-pairs (h .0) (h .1) (h .2) (h .3) refl refl) .0)
 
   -- success: the pairs and zeros, and their count
   pub pairs-listed : {a : ℕ} → Walked table plan object blocks variables pairs report pairs′ report′ a → a ≡ 0 →
-      (take pairsSize pairs′ ≡ flat (listed (tableOf table) plan object blocks variables) ++ replicate (pairsSize - 2 * length (listed (tableOf table) plan object blocks variables)) 0)
+      (take pairsSize pairs′ ≡ pairNumbers (listed (tableOf table) plan object blocks variables) ++ replicate (pairsSize - 2 * length (listed (tableOf table) plan object blocks variables)) 0)
       × (take 2 report′ ≡ 0 ∷ length (listed (tableOf table) plan object blocks variables) ∷ [])
   pairs-listed (short-report h e f) l = let z : ⊥ = omega arith in absurd z
   pairs-listed (short-pairs h w e f) l = let z : ⊥ = omega arith in absurd z
@@ -101,8 +101,8 @@ module _ {table plan : List ℕ} {object : ℕ} {blocks variables pairs report p
   pairs-listed (refuses-walk h r n e f) l = let z : ⊥ = omega arith in absurd z
   pairs-listed (too-many-pairs h r w m e f) l = let z : ⊥ = omega arith in absurd z
   pairs-listed (lists h r w m e f) l = (
-    ap (take pairsSize) e ∙ filled-head pairsSize (flat (listed (tableOf table) plan object blocks variables)) pairs (pairs-fit (listed (tableOf table) plan object blocks variables) m)
-        ∙ ap (λ (z : ℕ). flat (listed (tableOf table) plan object blocks variables) ++ replicate (pairsSize - z) 0) (flat-length (listed (tableOf table) plan object blocks variables)),
+    ap (take pairsSize) e ∙ filled-head pairsSize (pairNumbers (listed (tableOf table) plan object blocks variables)) pairs (pairs-fit (listed (tableOf table) plan object blocks variables) m)
+        ∙ ap (λ (z : ℕ). pairNumbers (listed (tableOf table) plan object blocks variables) ++ replicate (pairsSize - z) 0) (flat-length (listed (tableOf table) plan object blocks variables)),
     ap (take 2) f,
   )
 
@@ -149,7 +149,7 @@ module _ {table plan : List ℕ} {object : ℕ} {blocks variables pairs report p
   pairs-tail (refuses-walk h r n e f) = filled-kept pairsSize [] pairs pairs′ (omega arith) (h .1) e
   pairs-tail (too-many-pairs h r w m e f) = filled-kept pairsSize [] pairs pairs′ (omega arith) (h .1) e
   pairs-tail (lists h r w m e f) =
-      filled-kept pairsSize (flat (listed (tableOf table) plan object blocks variables)) pairs pairs′ (pairs-fit (listed (tableOf table) plan object blocks variables) m) (h .1) e
+      filled-kept pairsSize (pairNumbers (listed (tableOf table) plan object blocks variables)) pairs pairs′ (pairs-fit (listed (tableOf table) plan object blocks variables) m) (h .1) e
 
   pub report-tail : {a : ℕ} → Walked table plan object blocks variables pairs report pairs′ report′ a → (length report′ ≡ length report) × (drop reportSize report′ ≡ drop reportSize report)
   report-tail (short-report h e f) = (ap length f, ap (drop reportSize) f)

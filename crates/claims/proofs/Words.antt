@@ -7,11 +7,11 @@ pub use Rattle.paper.specs.Numbers.{reportSize, mostText}
 pub use Rattle.paper.specs.Language.{Document, VariablesText}
 pub use Rattle.paper.specs.Tokens.{Text, Tokens}
 pub use Rattle.paper.specs.Rows.{Row}
-pub use Rattle.paper.specs.Reading.{rows-are, Said}
+pub use Rattle.paper.specs.Reading.{rows-are, TextAnswer}
 pub use Rattle.paper.specs.Calls.{Parsed, filled}
 pub use Rattle.paper_table.specs.TableNumbers.{mostTable}
-unfoldable pub use Rattle.paper_table.specs.House.{framing}
-unfoldable pub use Rattle.paper_table.specs.TableSizes.{counts}
+unfoldable pub use Rattle.paper_table.specs.House.{framingOffset}
+unfoldable pub use Rattle.paper_table.specs.TableSizes.{countsOffset}
 unfoldable pub use Rattle.paper_table.specs.Types.{tableOf}
 pub use Rattle.paper_table.specs.Types.{isObject}
 unfoldable pub use Rattle.paper_table.specs.Judging.{breaks, judge}
@@ -27,14 +27,14 @@ pub use Rattle.paper_values.specs.ValueNumbers.{mostCoerced}
 pub use Rattle.paper_values.specs.Values.{At, Tree, Fields, Pairs, Out, Got, No}
 pub use Rattle.paper_values.specs.Encoding.{encode}
 pub use Rattle.paper_values.specs.DocumentDues.{ReachedField}
-pub use Rattle.paper_values.specs.ValueCalls.{CoercedVariables, CoercedArguments, Lent as ValueLent, Short as ValueShort}
+pub use Rattle.paper_values.specs.ValueCalls.{CoercedVariables, CoercedArguments, ValueLent, ValueShort}
 pub use Rattle.paper_plan.specs.PlanCalls.{Planned}
 pub use Rattle.paper_plan.specs.Collecting.{Grouped, Pair}
 pub use Rattle.paper_plan.specs.Selecting.{Name, BlockRows, Collects, pairsOf}
 pub use Rattle.paper_plan.specs.PlanNumbers.{blocksIn}
-pub use Rattle.paper_plan.specs.LentPlan.{isOne, flat}
+pub use Rattle.paper_plan.specs.LentPlan.{isOne, pairNumbers}
 pub use Rattle.paper_plan.specs.WalkNumbers.{mostPairs, mostWalked, pairsSize, variablesSize}
-pub use Rattle.paper_plan.specs.WalkCalls.{Walked, Lent as WalkLent}
+pub use Rattle.paper_plan.specs.WalkCalls.{Walked, WalkLent}
 pub use Rattle.claims.proofs.CoercionsWords.{VariablesRead, VariablesGive, ArgumentsGive}
 
 -- a call's result: its answer, what its output buffer holds afterwards (nothing where it has none), and its report

@@ -11,9 +11,9 @@ use lib.Seq.{sets}
 use Rattle.paper.specs.Grammar.{Sym, nt, tm, act, Ev, tok, mark}
 use Rattle.paper.specs.Numbers.{mostLevels, mostRows}
 use Rattle.paper.specs.Language.{Class, Terminal, Mark, row, kind, named, wrapper, wrap, end, Part}
-use Rattle.paper.specs.Tokens.{Tok, Text, over, bad, token}
+use Rattle.paper.specs.Tokens.{Tok, Text, atEnd, bad, token}
 use Rattle.paper.specs.Rows.{top, pop}
-use Rattle.paper.specs.Sizes.{Counts, opens, closes, kinded, wrapperMore, overCounts}
+use Rattle.paper.specs.Sizes.{Counts, opensLevel, closesLevel, kinded, wrapperMore, overCounts}
 use Rattle.paper.specs.declared.Refusal.{Refusal}
 use Rattle.paper.specs.declared.Refusal.the-variants.{NoToken, NoGoing, TooDeep, TooManyRows, TooMany}
 use Rattle.paper.proofs.Machine.{Step, took, emptied, refused, spent, step, over as over-stack, _▸_}
@@ -44,12 +44,12 @@ pub data Out : Type 0 where
 
 -- the next token's ends
 abbrev pub startIn : Text → ℕ
-startIn (over n) = n
+startIn (atEnd n) = n
 startIn (bad n) = n
 startIn (token k t) = k .start
 
 abbrev pub stopIn : Text → ℕ
-stopIn (over n) = n
+stopIn (atEnd n) = n
 stopIn (bad n) = n
 stopIn (token k t) = k .stop
 
@@ -85,12 +85,12 @@ many false r o = o
 -- a token is taken, where it keeps to the sizes
 abbrev pub heed : Tok → State → (State → Out) → Out
 heed k s f =
-    deep (opens (k .class)) (closes (k .class)) (s .left) (k .start)
+    deep (opensLevel (k .class)) (closesLevel (k .class)) (s .left) (k .start)
     (λ l. many (ltb mostRows (s .rows)) (TooManyRows (k .start)) (many (overCounts (s .counts)) (TooMany (k .start)) (f (st (s .cells) (s .rows) (s .open′) (k .stop) l (s .counts)))))
 
 abbrev pub ended : State → ℕ → Step Part Terminal Class Mark → Out
 ended s n (took es σ) = halt (NoGoing n)
-ended s n (emptied es) = whole (marked es (over n) s)
+ended s n (emptied es) = whole (marked es (atEnd n) s)
 ended s n refused = halt (NoGoing n)
 ended s n spent = halt (NoGoing n)
 
@@ -102,7 +102,7 @@ goes s k t f spent = halt (NoGoing (k .start))
 
 -- what is said of the text t where the stack σ is expected
 unfoldable pub go : State → Stack → Text → Out
-go s σ (over n) = ended s n (step graphql σ none)
+go s σ (atEnd n) = ended s n (step graphql σ none)
 go s σ (bad n) = halt (NoToken n)
 go s σ (token k t) = goes s k t (λ s′ σ′. go s′ σ′ t) (step graphql σ (some (k .class)))
 
@@ -110,9 +110,9 @@ go s σ (token k t) = goes s k t (λ s′ σ′. go s′ σ′ t) (step graphql 
 pub go-act : (s : State) (a : Mark) (σ : Stack) (t : Text) → go s (act a ∷ σ) t ≡ go (noted a t s) σ t
 unfolding go step
 go-act s a σ (bad n) = refl
-go-act s a σ (over n) = cases (step graphql σ none)
+go-act s a σ (atEnd n) = cases (step graphql σ none)
   where
-    cases : (r : Step Part Terminal Class Mark) → ended s n ((mark a ∷ []) ▸ r) ≡ ended (noted a (over n) s) n r
+    cases : (r : Step Part Terminal Class Mark) → ended s n ((mark a ∷ []) ▸ r) ≡ ended (noted a (atEnd n) s) n r
     cases (took es ss) = refl
     cases (emptied es) = refl
     cases refused = refl

@@ -10,7 +10,7 @@ use Rattle.paper.specs.Grammar.{Sym, nt, tm, act}
 use Rattle.paper.proofs.Machine.{Tables}
 use Rattle.paper.specs.Language.{bang, dollar, parenL, parenR, spread, colon, equals, atSign, bracketL, bracketR, braceL, bar, braceR, n-other, int, float, string}
 use Rattle.paper.specs.Lexical.{Span, span, Set, hitsByte, What, is, ignored, comment, dot, quote, zero, nonZero, b-bang, b-dollar, b-parenL, b-parenR, b-colon, b-equals, b-atSign, b-bracketL, b-bracketR, b-braceL, b-bar, b-braceR}
-use Rattle.paper.specs.Lexical.{Lex, lexical, Piece, Name, NameRest*, IntValue, FloatValue, IntegerPart, NegativeSign?, Digit*, Digit+, FractionalPart, ExponentPart, Sign?, StringValue, StringCharacter+, StringCharacter*, StringCharacter, Escape, Wide, Ignored, Comment, CommentCharacter*, CommentCharacter, Number, NumberRest, ExponentPart?, FloatRest, Whole}
+use Rattle.paper.specs.Lexical.{Lex, lexical, Piece, Name, NameRest*, IntValue, FloatValue, IntegerPart, NegativeSign?, Digit*, Digit+, FractionalPart, ExponentPart, Sign?, StringValue, StringCharacter+, StringCharacter*, StringCharacter, Escape, Wide, Ignored, Comment, CommentCharacter*, CommentCharacter, Number, NumberRest, ExponentPart?, FloatRest, UnsignedPart}
 
 abbrev pub numL : Lex → ℕ
 numL Piece = 0
@@ -39,10 +39,10 @@ numL Number = 22
 numL NumberRest = 23
 numL ExponentPart? = 24
 numL FloatRest = 25
-numL Whole = 26
+numL UnsignedPart = 26
 
 abbrev pub allL : List Lex
-allL = Piece ∷ Name ∷ NameRest* ∷ IntValue ∷ FloatValue ∷ IntegerPart ∷ NegativeSign? ∷ Digit* ∷ Digit+ ∷ FractionalPart ∷ ExponentPart ∷ Sign? ∷ StringValue ∷ StringCharacter+ ∷ StringCharacter* ∷ StringCharacter ∷ Escape ∷ Wide ∷ Ignored ∷ Comment ∷ CommentCharacter* ∷ CommentCharacter ∷ Number ∷ NumberRest ∷ ExponentPart? ∷ FloatRest ∷ Whole ∷ []
+allL = Piece ∷ Name ∷ NameRest* ∷ IntValue ∷ FloatValue ∷ IntegerPart ∷ NegativeSign? ∷ Digit* ∷ Digit+ ∷ FractionalPart ∷ ExponentPart ∷ Sign? ∷ StringValue ∷ StringCharacter+ ∷ StringCharacter* ∷ StringCharacter ∷ Escape ∷ Wide ∷ Ignored ∷ Comment ∷ CommentCharacter* ∷ CommentCharacter ∷ Number ∷ NumberRest ∷ ExponentPart? ∷ FloatRest ∷ UnsignedPart ∷ []
 
 pub atL : (n : Lex) → getElem? allL (numL n) ≡ some n
 atL Piece = refl
@@ -71,7 +71,7 @@ atL Number = refl
 atL NumberRest = refl
 atL ExponentPart? = refl
 atL FloatRest = refl
-atL Whole = refl
+atL UnsignedPart = refl
 
 abbrev pub Rules : Type 0
 Rules = List (List (Sym Lex Set What))
@@ -81,7 +81,7 @@ abbrev pub changedL : List (Lex × Rules)
 changedL =
     (Piece, (nt Number ∷ []) ∷ (tm b-bang ∷ act (is bang) ∷ []) ∷ (tm b-dollar ∷ act (is dollar) ∷ []) ∷ (tm b-parenL ∷ act (is parenL) ∷ []) ∷ (tm b-parenR ∷ act (is parenR) ∷ []) ∷ (tm b-colon ∷ act (is colon) ∷ []) ∷ (tm b-equals ∷ act (is equals) ∷ []) ∷ (tm b-atSign ∷ act (is atSign) ∷ []) ∷ (tm b-bracketL ∷ act (is bracketL) ∷ []) ∷ (tm b-bracketR ∷ act (is bracketR) ∷ []) ∷ (tm b-braceL ∷ act (is braceL) ∷ []) ∷ (tm b-bar ∷ act (is bar) ∷ []) ∷ (tm b-braceR ∷ act (is braceR) ∷ []) ∷ (tm dot ∷ tm dot ∷ tm dot ∷ act (is spread) ∷ []) ∷ (nt Name ∷ act (is n-other) ∷ []) ∷ (nt StringValue ∷ act (is string) ∷ []) ∷ (nt Ignored ∷ act ignored ∷ []) ∷ (nt Comment ∷ act comment ∷ []) ∷ []) ∷
     (FloatValue, (nt IntegerPart ∷ nt FloatRest ∷ []) ∷ []) ∷
-    (IntegerPart, (nt NegativeSign? ∷ nt Whole ∷ []) ∷ []) ∷
+    (IntegerPart, (nt NegativeSign? ∷ nt UnsignedPart ∷ []) ∷ []) ∷
     (StringValue, (tm quote ∷ nt StringCharacter* ∷ tm quote ∷ []) ∷ []) ∷
     []
 
@@ -127,7 +127,7 @@ firstsL Number = span 0x2d 0x2d ∷ span 0x30 0x39 ∷ []
 firstsL NumberRest = span 0x2e 0x2e ∷ span 0x45 0x45 ∷ span 0x65 0x65 ∷ []
 firstsL ExponentPart? = span 0x45 0x45 ∷ span 0x65 0x65 ∷ []
 firstsL FloatRest = span 0x2e 0x2e ∷ span 0x45 0x45 ∷ span 0x65 0x65 ∷ []
-firstsL Whole = span 0x30 0x39 ∷ []
+firstsL UnsignedPart = span 0x30 0x39 ∷ []
 
 abbrev pub followersL : Lex → Set
 followersL Piece = []
@@ -156,7 +156,7 @@ followersL Number = []
 followersL NumberRest = []
 followersL ExponentPart? = []
 followersL FloatRest = []
-followersL Whole = span 0x2e 0x2e ∷ span 0x45 0x45 ∷ span 0x65 0x65 ∷ []
+followersL UnsignedPart = span 0x2e 0x2e ∷ span 0x45 0x45 ∷ span 0x65 0x65 ∷ []
 
 abbrev pub noneL : Lex → Bool
 noneL Piece = false
@@ -185,7 +185,7 @@ noneL Number = false
 noneL NumberRest = true
 noneL ExponentPart? = true
 noneL FloatRest = false
-noneL Whole = false
+noneL UnsignedPart = false
 
 abbrev pub sampleL : Lex → List ℕ
 sampleL Piece = 33 ∷ []
@@ -214,7 +214,7 @@ sampleL Number = 48 ∷ []
 sampleL NumberRest = []
 sampleL ExponentPart? = []
 sampleL FloatRest = 46 ∷ 48 ∷ []
-sampleL Whole = 48 ∷ []
+sampleL UnsignedPart = 48 ∷ []
 
 abbrev pub lexer : Tables Lex Set ℕ What
 lexer = record { prods = lexFactored; hits = hitsByte; first = λ n b. hitsByte (firstsL n) b; null = noneL; depth = 8 }

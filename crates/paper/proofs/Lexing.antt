@@ -6,7 +6,7 @@ use Prim.Native.Nat.{ℕ, zero, suc, _+_}
 use lib.ListN.{length, take, drop}
 use Rattle.paper.specs.Grammar.{nt}
 use Rattle.paper.specs.Lexical.{What, is, ignored, comment, Piece}
-use Rattle.paper.specs.Tokens.{Text, over, bad, token, classed, whatOf, lineEnd}
+use Rattle.paper.specs.Tokens.{Text, atEnd, bad, token, classed, whatOf, lineEnd}
 use Rattle.paper.proofs.Longest.{Match, scan}
 use Rattle.paper.proofs.LexTables.{lexer}
 
@@ -25,8 +25,8 @@ found k at bs (some m) = let t = k (m .size) in shown (whatOf (m .events)) at (m
 
 -- each piece has a byte at least, so as many rounds as bytes are enough
 unfoldable pub text : ℕ → ℕ → List ℕ → Text
-text zero at bs = over at
-text (suc k) at [] = over at
+text zero at bs = atEnd at
+text (suc k) at [] = atEnd at
 text (suc k) at (b ∷ bs) = found (λ n. text k (at + n) (drop n (b ∷ bs))) at (b ∷ bs) (scan lexer (nt Piece ∷ []) (b ∷ bs))
 
 -- the tokens from the offset p on

@@ -63,4 +63,4 @@ rowsBy p s = rowsIn (from s 0) (run graphql (nt p ∷ []) (classesOf (from s 0))
 
 -- kind, start, end, parent, name, its length, extra
 abbrev pub r : ℕ → ℕ → ℕ → ℕ → ℕ → ℕ → ℕ → Row
-r k a e p n z x = record { kind = k; start = a; stop = e; parent = p; name = n; size = z; extra = x }
+r k a e p n z x = record { kind = k; start = a; end = e; parent = p; nameStart = n; nameLength = z; extra = x }

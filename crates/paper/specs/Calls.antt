@@ -10,7 +10,7 @@ use Rattle.paper.specs.Language.{Document}
 use Rattle.paper.specs.Tokens.{Text, Tokens}
 use Rattle.paper.specs.Rows.{flat}
 use Rattle.paper.specs.Refusals.{numberOf, shownOf}
-use Rattle.paper.specs.Reading.{Answer, rows-are, refuses, Said}
+use Rattle.paper.specs.Reading.{Answer, rows-are, refuses, TextAnswer}
 use Rattle.paper.specs.declared.Refusal.{Refusal}
 use Rattle.paper.specs.declared.Refusal.the-variants.{Buffer, OverLength}
 
@@ -33,9 +33,9 @@ pub data Parsed (document rows report rows′ report′ : List ℕ) : ℕ → Ty
       rows′ ≡ rows → report′ ≡ tells (OverLength inputDocument) report → Parsed document rows report rows′ report′ (numberOf (OverLength inputDocument))
   -- the others zero the fixed size
   refuses-text : {t : Text} {r : Refusal} → reportSize ≤ length report → rowsSize ≤ length rows → length document ≤ mostText →
-      Tokens 0 document t → Said Document t (refuses r) →
+      Tokens 0 document t → TextAnswer Document t (refuses r) →
       rows′ ≡ filled rowsSize [] rows → report′ ≡ tells r report → Parsed document rows report rows′ report′ (numberOf r)
   -- success: the rows and their count
   reads : {t : Text} {rs : List Rattle.paper.specs.Rows.Row} → reportSize ≤ length report → rowsSize ≤ length rows → length document ≤ mostText →
-      Tokens 0 document t → Said Document t (rows-are rs) →
+      Tokens 0 document t → TextAnswer Document t (rows-are rs) →
       rows′ ≡ filled rowsSize (flat rs) rows → report′ ≡ filled reportSize (accepted ∷ length rs ∷ []) report → Parsed document rows report rows′ report′ accepted

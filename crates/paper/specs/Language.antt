@@ -49,8 +49,8 @@ abbrev pub oneOf : List Class → Class → Bool
 oneOf [] c = false
 oneOf (d ∷ ds) c = sameC d c || oneOf ds c
 
-abbrev pub isName : Class → Bool
-isName c = oneOf (n-query ∷ n-mutation ∷ n-subscription ∷ n-fragment ∷ n-on ∷ n-true ∷ n-false ∷ n-null ∷ n-other ∷ []) c
+abbrev pub isNameClass : Class → Bool
+isNameClass c = oneOf (n-query ∷ n-mutation ∷ n-subscription ∷ n-fragment ∷ n-on ∷ n-true ∷ n-false ∷ n-null ∷ n-other ∷ []) c
 
 -- a terminal: a token of one class; a Name; "Name but not on"; "Name but not true, false or null"
 pub data Terminal : Type 0 where
@@ -60,9 +60,9 @@ pub data Terminal : Type 0 where
 -- which tokens a terminal is
 abbrev pub hits : Terminal → Class → Bool
 hits (the c) d = sameC c d
-hits anyName d = isName d
-hits nameButOn d = isName d && not (sameC n-on d)
-hits nameButLiteral d = isName d && not (oneOf (n-true ∷ n-false ∷ n-null ∷ []) d)
+hits anyName d = isNameClass d
+hits nameButOn d = isNameClass d && not (sameC n-on d)
+hits nameButLiteral d = isNameClass d && not (oneOf (n-true ∷ n-false ∷ n-null ∷ []) d)
 
 -- `row`: a row begins at the next token. `kind k x`: its kind and extra. `named`: the next token is its name (a later one takes the
 -- place of an earlier, so a field's alias gives way to its name). `wrapper`: the next token is a mark of a type reference.

@@ -18,13 +18,13 @@ Set = List Span
 abbrev pub within : Span → ℕ → Bool
 within (span a e) b = leb a b && leb b e
 
-abbrev pub oneOf : Set → ℕ → Bool
-oneOf [] b = false
-oneOf (s ∷ ss) b = within s b || oneOf ss b
+abbrev pub inSet : Set → ℕ → Bool
+inSet [] b = false
+inSet (s ∷ ss) b = within s b || inSet ss b
 
 -- a set hits a byte in it; no set hits what is no byte
 abbrev pub hitsByte : Set → ℕ → Bool
-hitsByte p b = ltb b 256 && oneOf p b
+hitsByte p b = ltb b 256 && inSet p b
 
 -- what a piece of text is
 pub data What : Type 0 where
@@ -167,7 +167,7 @@ abbrev pub b-braceR : Set
 b-braceR = span 0x7d 0x7d ∷ []
 
 pub data Lex : Type 0 where
-  Piece Name NameRest* IntValue FloatValue IntegerPart NegativeSign? Digit* Digit+ FractionalPart ExponentPart Sign? StringValue StringCharacter+ StringCharacter* StringCharacter Escape Wide Ignored Comment CommentCharacter* CommentCharacter Number NumberRest ExponentPart? FloatRest Whole : Lex
+  Piece Name NameRest* IntValue FloatValue IntegerPart NegativeSign? Digit* Digit+ FractionalPart ExponentPart Sign? StringValue StringCharacter+ StringCharacter* StringCharacter Escape Wide Ignored Comment CommentCharacter* CommentCharacter Number NumberRest ExponentPart? FloatRest UnsignedPart : Lex
 
 unfoldable pub lexical : Lex → List (List (Sym Lex Set What))
 lexical Piece =
@@ -226,4 +226,4 @@ lexical Number = (nt IntegerPart ∷ nt NumberRest ∷ []) ∷ []
 lexical NumberRest = (act (is int) ∷ []) ∷ (nt FractionalPart ∷ nt ExponentPart? ∷ act (is float) ∷ []) ∷ (nt ExponentPart ∷ act (is float) ∷ []) ∷ []
 lexical ExponentPart? = [] ∷ (nt ExponentPart ∷ []) ∷ []
 lexical FloatRest = (nt FractionalPart ∷ nt ExponentPart? ∷ []) ∷ (nt ExponentPart ∷ []) ∷ []
-lexical Whole = (tm zero ∷ []) ∷ (tm nonZero ∷ nt Digit* ∷ []) ∷ []
+lexical UnsignedPart = (tm zero ∷ []) ∷ (tm nonZero ∷ nt Digit* ∷ []) ∷ []

@@ -9,16 +9,16 @@ use lib.Dec.{T}
 use lib.ListN.{length, take, drop}
 use Rattle.paper.specs.Grammar.{nt, Ev, toks, Derives}
 use Rattle.paper.specs.Language.{Class, Mark, Part, language, hits}
-use Rattle.paper.specs.Tokens.{Tok, Text, over, bad, token}
+use Rattle.paper.specs.Tokens.{Tok, Text, atEnd, bad, token}
 use Rattle.paper.specs.Rows.{Row, rowsOf}
-use Rattle.paper.specs.Sizes.{Sums, nothing, sums, through, overLevels, overRows, overCounts}
+use Rattle.paper.specs.Sizes.{Sums, nothingCounted, sums, through, overLevels, overRows, overCounts}
 use Rattle.paper.specs.Refusals.{numberOf}
 use Rattle.paper.specs.declared.Refusal.{Refusal}
 use Rattle.paper.specs.declared.Refusal.the-variants.{NoToken, NoGoing, TooDeep, TooManyRows, TooMany}
 
 -- the tokens of a text, and their classes
 unfoldable pub tokensOf : Text → List Tok
-tokensOf (over n) = []
+tokensOf (atEnd n) = []
 tokensOf (bad n) = []
 tokensOf (token k t) = k ∷ tokensOf t
 
@@ -27,15 +27,15 @@ classesOf t = map (λ k. k .class) (tokensOf t)
 
 -- where the n-th token begins, or the end, or the bad bytes, where there are n tokens
 unfoldable pub placeOf : ℕ → Text → ℕ
-placeOf n (over at) = at
+placeOf n (atEnd at) = at
 placeOf n (bad at) = at
 placeOf zero (token k t) = k .start
 placeOf (suc n) (token k t) = placeOf n t
 
 -- the text ends well; it ends at bad bytes
-pub data Whole : Text → Type 0 where
-  whole-over : {n : ℕ} → Whole (over n)
-  whole-token : {k : Tok} {t : Text} → Whole t → Whole (token k t)
+pub data EndsWell : Text → Type 0 where
+  ends-well-here : {n : ℕ} → EndsWell (atEnd n)
+  ends-well-later : {k : Tok} {t : Text} → EndsWell t → EndsWell (token k t)
 
 pub data BadAt : ℕ → Text → Type 0 where
   bad-here : {n : ℕ} → BadAt n (bad n)
@@ -63,7 +63,7 @@ pub record Summed (n : Part) (ts : List Class) (k : ℕ) (s : Sums) : Type 0 whe
   pub later : List Class
   pub events : List (Ev Class Mark)
   pub reads : Reads n (take (suc k) ts ++ later) events
-  pub are : sums (through (suc k) events) nothing ≡ s
+  pub are : sums (through (suc k) events) nothingCounted ≡ s
 
 -- what is wrong with a text of the part n
 pub data Fault (n : Part) (t : Text) : Refusal → Type 0 where
@@ -72,7 +72,7 @@ pub data Fault (n : Part) (t : Text) : Refusal → Type 0 where
   -- 4: a token with which no text of the part can go on
   no-going : (k : ℕ) → k < length (tokensOf t) → StopsAt n (classesOf t) k → Fault n t (NoGoing (placeOf k t))
   -- 4: the end, where no text of the part can end
-  no-end : Whole t → StopsAt n (classesOf t) (length (tokensOf t)) → Fault n t (NoGoing (placeOf (length (tokensOf t)) t))
+  no-end : EndsWell t → StopsAt n (classesOf t) (length (tokensOf t)) → Fault n t (NoGoing (placeOf (length (tokensOf t)) t))
   -- 5, 6 and 8: the token with which a count is over
   too-deep : (k : ℕ) {s : Sums} → Summed n (classesOf t) k s → T (overLevels s) → Fault n t (TooDeep (placeOf k t))
   too-many-rows : (k : ℕ) {s : Sums} → Summed n (classesOf t) k s → T (overRows s) → Fault n t (TooManyRows (placeOf k t))
@@ -99,6 +99,6 @@ pub data Answer : Type 0 where
 
 -- `Said n t a`: a is what is said of the text t, read as a text of the part n. The rows are those of its derivation, where it has one and no
 -- fault; or the refusal is the least of its faults
-pub data Said (n : Part) (t : Text) : Answer → Type 0 where
-  accepts : {es : List (Ev Class Mark)} → Whole t → Reads n (classesOf t) es → ((r : Refusal) → Fault n t r → ⊥) → Said n t (rows-are (rowsOf es (tokensOf t)))
-  refused : {r : Refusal} → Fault n t r → ((r′ : Refusal) → Fault n t r′ → NoLater r r′) → Said n t (refuses r)
+pub data TextAnswer (n : Part) (t : Text) : Answer → Type 0 where
+  accepts : {es : List (Ev Class Mark)} → EndsWell t → Reads n (classesOf t) es → ((r : Refusal) → Fault n t r → ⊥) → TextAnswer n t (rows-are (rowsOf es (tokensOf t)))
+  refused : {r : Refusal} → Fault n t r → ((r′ : Refusal) → Fault n t r′ → NoLater r r′) → TextAnswer n t (refuses r)

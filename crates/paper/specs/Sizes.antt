@@ -21,18 +21,18 @@ pub record Sums : Type 0 where
   pub rows : ℕ
   pub counts : Counts
 
-abbrev pub nothing : Sums
-nothing = record { levels = 0; rows = 0; counts = record { fragments = 0; variables = 0; wrappers = 0 } }
+abbrev pub nothingCounted : Sums
+nothingCounted = record { levels = 0; rows = 0; counts = record { fragments = 0; variables = 0; wrappers = 0 } }
 
 -- braces, brackets and parentheses
-abbrev pub opens : Class → Bool
-opens c = oneOf (parenL ∷ bracketL ∷ braceL ∷ []) c
+abbrev pub opensLevel : Class → Bool
+opensLevel c = oneOf (parenL ∷ bracketL ∷ braceL ∷ []) c
 
-abbrev pub closes : Class → Bool
-closes c = oneOf (parenR ∷ bracketR ∷ braceR ∷ []) c
+abbrev pub closesLevel : Class → Bool
+closesLevel c = oneOf (parenR ∷ bracketR ∷ braceR ∷ []) c
 
 abbrev pub leveled : Class → ℕ → ℕ
-leveled c l = cond (opens c) (l + 1) (cond (closes c) (l - 1) l)
+leveled c l = cond (opensLevel c) (l + 1) (cond (closesLevel c) (l - 1) l)
 
 -- an operation begins with no variable, a variable definition with no wrapper: its type reference is the only one in it
 abbrev pub kinded : ℕ → Counts → Counts

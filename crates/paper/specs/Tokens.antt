@@ -19,7 +19,7 @@ pub record Tok : Type 0 where
 
 -- tokens, and then the end of the text, or bytes that start no token (or a comment with bad text)
 pub data Text : Type 0 where
-  over : ℕ → Text
+  atEnd : ℕ → Text
   bad : ℕ → Text
   token : Tok → Text → Text
 
@@ -78,7 +78,7 @@ lineEnd (b ∷ bs) = eqb b 10 || eqb b 13
 
 -- `Tokens at bs t`: the bytes bs, which stand at the offset `at`, are the text t. At each place the longest piece is taken
 pub data Tokens : ℕ → List ℕ → Text → Type 0 where
-  ends : {at : ℕ} → Tokens at [] (over at)
+  ends : {at : ℕ} → Tokens at [] (atEnd at)
   starts-none : {at b : ℕ} {bs : List ℕ} → NoPiece (b ∷ bs) → Tokens at (b ∷ bs) (bad at)
   skips : {at : ℕ} {bs : List ℕ} {t : Text} (p : List ℕ) → Longest bs p ignored → Tokens (at + length p) (drop (length p) bs) t → Tokens at bs t
   comments : {at : ℕ} {bs : List ℕ} {t : Text} (p : List ℕ) → Longest bs p comment → T (lineEnd (drop (length p) bs)) → Tokens (at + length p) (drop (length p) bs) t → Tokens at bs t

@@ -10,6 +10,7 @@ use native.Mathlib.Omega.{arith}
 use lib.ListN.{length, List·getD-eq-default}
 use lib.Dec.{eqb, lit<}
 use borrow.Author.Tests.{eqb-true}
+use Rattle.paper.proofs.Bools.{and-left as and-first, and-right as and-second}
 use Rattle.paper.specs.Numbers.{kindField}
 use Rattle.paper.specs.Language.{Document, language}
 use Rattle.paper.specs.Lexical.{lexical}
@@ -31,14 +32,6 @@ use Rattle.paper_plan.specs.Selecting.{setOf, ifOf, IsBlock, BlockRows}
 use Rattle.paper_plan.proofs.ExamplesPlans.{D, blocksD}
 
 -- ---- how the blocks of a document whose every field with selections is reached are found
-
-and-first : (a b : Bool) → (a && b) ≡ true → a ≡ true
-and-first true b e = refl
-and-first false b e = e
-
-and-second : (a b : Bool) → (a && b) ≡ true → b ≡ true
-and-second true b e = e
-and-second false b e = absurd (true≢false (sym e))
 
 -- each number below n passes
 abbrev pub upTo : (ℕ → Bool) → ℕ → Bool

@@ -18,7 +18,7 @@ use Rattle.paper.proofs.Lexing.{text, from}
 use Rattle.paper.proofs.Worked.{r, rowsBy}
 use Rattle.paper_table.specs.Lists.{bytes, anyOf, allOf, firstAt, find, gather, eachFrom}
 use Rattle.paper_table.specs.References.{isName, marked, closed, readName, refFrom, wholeRef, refOf}
-use Rattle.paper_table.specs.House.{piecesFrom}
+use Rattle.paper_table.specs.House.{houseFieldsFrom}
 use Rattle.paper_table.specs.Types.{textOf, memberOf, definitionOf, tableOf, builtIns, meaning, canBe}
 use Rattle.paper_query.specs.Constructs.{Doc, fragmentNamed}
 use Rattle.paper_query.specs.Enclosing.{compositeOf, conditionOf}
@@ -29,7 +29,7 @@ use Rattle.paper_plan.specs.PlanNumbers.{stepNumbers}
 use Rattle.paper_plan.specs.Keys.{nameFront, keyNumber}
 use Rattle.paper_plan.specs.Applies.{applies}
 use Rattle.paper_plan.specs.Collecting.{Pair}
-use Rattle.paper_plan.specs.Planning.{if-true, unless-true, unless-applies, if-met, leave, list, plan, program, firsts, Plan, walk, blocks, answer}
+use Rattle.paper_plan.specs.Planning.{if-true, unless-true, unless-applies, if-met, leave, list, plan, program, firsts, Plan, walk, blocks, walkAnswer}
 use Rattle.paper_query.specs.Constructs.{numbersWhere}
 use Rattle.paper_plan.specs.Selecting.{rowsWhere, ifOf, blockIn, planFor}
 
@@ -55,33 +55,33 @@ planD = planFor (tableOf tableT) D 0 blocksD
 
 -- 4 blocks and 11 steps
 pub first-steps : planD .first ≡ 0 ∷ 5 ∷ 9 ∷ 10 ∷ []
-unfolding anyOf allOf firstAt find gather eachFrom isName marked closed readName refFrom wholeRef refOf piecesFrom textOf memberOf definitionOf tableOf builtIns meaning fragmentNamed compositeOf conditionOf canBe nameFront keyNumber applies numbersWhere rowsWhere ifOf plan firsts
+unfolding anyOf allOf firstAt find gather eachFrom isName marked closed readName refFrom wholeRef refOf houseFieldsFrom textOf memberOf definitionOf tableOf builtIns meaning fragmentNamed compositeOf conditionOf canBe nameFront keyNumber applies numbersWhere rowsWhere ifOf plan firsts
 first-steps = refl
 
 pub steps-of-D : planD .steps ≡
     list 1 1 ∷ leave (if-met 1) 4 ∷ leave (unless-applies 3) 4 ∷ list 16 16 ∷ list 1 7 ∷
     list 4 4 ∷ leave (if-met 0) 9 ∷ leave (unless-applies 1) 9 ∷ list 13 13 ∷
     list 4 10 ∷ list 13 19 ∷ []
-unfolding anyOf allOf firstAt find gather eachFrom isName marked closed readName refFrom wholeRef refOf piecesFrom textOf memberOf definitionOf tableOf builtIns meaning fragmentNamed compositeOf conditionOf canBe nameFront keyNumber applies numbersWhere rowsWhere ifOf plan program
+unfolding anyOf allOf firstAt find gather eachFrom isName marked closed readName refFrom wholeRef refOf houseFieldsFrom textOf memberOf definitionOf tableOf builtIns meaning fragmentNamed compositeOf conditionOf canBe nameFront keyNumber applies numbersWhere rowsWhere ifOf plan program
 steps-of-D = refl
 
 abbrev pub unset : ℕ → Bool
 unset v = false
 
 abbrev pub answered : ℕ → List ℕ → List Pair
-answered o holders = answer unset (λ k. applies (tableOf tableT) k o) planD (map (blockIn blocksD) holders)
+answered o holders = walkAnswer unset (λ k. applies (tableOf tableT) k o) planD (map (blockIn blocksD) holders)
 
 -- (9): blocks 1 and 2 merged for Fan; (10): for Pump; READINGS 94: block 0 for Query
 pub for-fan : answered 1 (1 ∷ 7 ∷ []) ≡ (4, 4) ∷ (4, 10) ∷ (13, 13) ∷ []
-unfolding anyOf allOf firstAt find gather eachFrom isName marked closed readName refFrom wholeRef refOf piecesFrom textOf memberOf definitionOf tableOf builtIns meaning fragmentNamed compositeOf conditionOf canBe nameFront keyNumber applies numbersWhere rowsWhere ifOf plan program firsts walk blocks
+unfolding anyOf allOf firstAt find gather eachFrom isName marked closed readName refFrom wholeRef refOf houseFieldsFrom textOf memberOf definitionOf tableOf builtIns meaning fragmentNamed compositeOf conditionOf canBe nameFront keyNumber applies numbersWhere rowsWhere ifOf plan program firsts walk blocks
 for-fan = refl
 
 pub for-pump : answered 2 (1 ∷ 7 ∷ []) ≡ (4, 4) ∷ (4, 10) ∷ []
-unfolding anyOf allOf firstAt find gather eachFrom isName marked closed readName refFrom wholeRef refOf piecesFrom textOf memberOf definitionOf tableOf builtIns meaning fragmentNamed compositeOf conditionOf canBe nameFront keyNumber applies numbersWhere rowsWhere ifOf plan program firsts walk blocks
+unfolding anyOf allOf firstAt find gather eachFrom isName marked closed readName refFrom wholeRef refOf houseFieldsFrom textOf memberOf definitionOf tableOf builtIns meaning fragmentNamed compositeOf conditionOf canBe nameFront keyNumber applies numbersWhere rowsWhere ifOf plan program firsts walk blocks
 for-pump = refl
 
 pub for-query : answered 3 (0 ∷ []) ≡ (1, 1) ∷ (1, 7) ∷ (16, 16) ∷ []
-unfolding anyOf allOf firstAt find gather eachFrom isName marked closed readName refFrom wholeRef refOf piecesFrom textOf memberOf definitionOf tableOf builtIns meaning fragmentNamed compositeOf conditionOf canBe nameFront keyNumber applies numbersWhere rowsWhere ifOf plan program firsts walk blocks
+unfolding anyOf allOf firstAt find gather eachFrom isName marked closed readName refFrom wholeRef refOf houseFieldsFrom textOf memberOf definitionOf tableOf builtIns meaning fragmentNamed compositeOf conditionOf canBe nameFront keyNumber applies numbersWhere rowsWhere ifOf plan program firsts walk blocks
 for-query = refl
 
 -- READINGS 95 to 102, on the readings' table S (Query 0, O 1): a document's steps, its operation and the rows of its blocks given
@@ -89,7 +89,7 @@ abbrev pub steps : String → ℕ → List ℕ → List ℕ
 steps s op rows = gather stepNumbers (planFor (tableOf tableS) (document (bytes s)) op rows .steps)
 
 abbrev pub walked : String → (ℕ → Bool) → List ℕ → List Pair
-walked s vars bs = answer vars (λ k. applies (tableOf tableS) k 0) (planFor (tableOf tableS) (document (bytes s)) 0 (0 ∷ [])) bs
+walked s vars bs = walkAnswer vars (λ k. applies (tableOf tableS) k 0) (planFor (tableOf tableS) (document (bytes s)) 0 (0 ∷ [])) bs
 
 pub record Readings : Type 0 where
   one-set-of-marks : walked "{a ...F} fragment F on Query {b}" (λ v. false) (0 ∷ 0 ∷ []) ≡ (1, 1) ∷ (1, 1) ∷ (5, 5) ∷ []
@@ -104,5 +104,5 @@ pub record Readings : Type 0 where
   always-tested : steps "{...on Query{a} ...{a}}" 0 (0 ∷ []) ≡ 3 ∷ 0 ∷ 2 ∷ 5 ∷ 3 ∷ 3 ∷ 5 ∷ 3 ∷ 5 ∷ []
 
 pub readings : Readings
-unfolding from text scan step enter choose lexical lexFactored language factored run rowsOf book tokensOf anyOf allOf firstAt find gather eachFrom isName marked closed readName refFrom wholeRef refOf piecesFrom textOf memberOf definitionOf tableOf builtIns meaning fragmentNamed compositeOf conditionOf canBe nameFront keyNumber applies numbersWhere rowsWhere ifOf plan program firsts walk blocks
+unfolding from text scan step enter choose lexical lexFactored language factored run rowsOf book tokensOf anyOf allOf firstAt find gather eachFrom isName marked closed readName refFrom wholeRef refOf houseFieldsFrom textOf memberOf definitionOf tableOf builtIns meaning fragmentNamed compositeOf conditionOf canBe nameFront keyNumber applies numbersWhere rowsWhere ifOf plan program firsts walk blocks
 readings = record { one-set-of-marks = refl; marked-after-skip = refl; least-in-document = refl; among-all-steps = refl; in-written-order = refl; dropped-by-one = refl; literal-kept = refl; skip-first = refl; body-again = refl; always-tested = refl }

@@ -21,7 +21,7 @@ use Rattle.paper.proofs.LexTables.{lexFactored}
 use Rattle.paper.proofs.Lexing.{text, from}
 use Rattle.paper_table.specs.Lists.{bytes, anyOf, allOf, firstAt, find, gather, eachFrom}
 use Rattle.paper_table.specs.References.{isName, marked, closed, readName, refFrom, wholeRef, refOf}
-use Rattle.paper_table.specs.House.{piecesFrom}
+use Rattle.paper_table.specs.House.{houseFieldsFrom}
 use Rattle.paper_table.specs.Types.{textOf, memberOf, definitionOf, tableOf, builtIns, meaning, canBe}
 use Rattle.paper_query.specs.Constructs.{Doc, count, fragmentNamed, numbersWhere}
 use Rattle.paper_query.specs.Enclosing.{compositeOf, conditionOf}
@@ -29,7 +29,7 @@ use Rattle.paper_query.proofs.WorkedRules.{tableS, document}
 use Rattle.paper_plan.specs.Keys.{nameFront, keyed, keyNumber}
 use Rattle.paper_plan.specs.Applies.{applies}
 use Rattle.paper_plan.specs.Collecting.{Sort, field, spread, inline, View, elem, Pair, pairs}
-use Rattle.paper_plan.specs.Planning.{Test, Step, leave, list, skipTests, includeTests, dropped, placed, unless, sortTests, tests, content, plan, program, firsts, Plan, State, blockOf, walk, blocks, grouped, answer}
+use Rattle.paper_plan.specs.Planning.{Test, Step, leave, list, skipTests, includeTests, dropped, guarded, unlessDropped, sortTests, tests, content, plan, program, firsts, Plan, State, blockOf, walk, blocks, grouped, walkAnswer}
 use Rattle.paper_plan.specs.Selecting.{Name, setOf, rowsWhere, ifOf, byNumbers, planFor}
 use Rattle.paper_plan.proofs.ExamplesPlans.{walked}
 
@@ -40,7 +40,7 @@ Planner = View ℕ → ℕ → ℕ → List ℕ → List Step
 abbrev pub walkedBy : Planner → String → (ℕ → Bool) → List Pair
 walkedBy planner s vars =
     let d = document (bytes s) in
-    answer vars (λ k. applies (tableOf tableS) k 0) record { first = 0 ∷ []; steps = planner (byNumbers (tableOf tableS) d 0) (suc (count d)) 0 (setOf d 0) } (0 ∷ [])
+    walkAnswer vars (λ k. applies (tableOf tableS) k 0) record { first = 0 ∷ []; steps = planner (byNumbers (tableOf tableS) d 0) (suc (count d)) 0 (setOf d 0) } (0 ∷ [])
 
 -- ---- 1. A fragment marked before its skip test
 
@@ -51,7 +51,7 @@ module _ (d : View ℕ) where
   abbrev markedSelection : (ℕ → List ℕ → List Step) → ℕ → ℕ → List Step
   markedSelection inner at r =
       let b = content d inner (at + length (marksFirst r)) r (d .sort r) in
-      let s = placed (marksFirst r) at b in unless (dropped (d .skip r) (d .include r)) s
+      let s = guarded (marksFirst r) at b in unlessDropped (dropped (d .skip r) (d .include r)) s
 
   abbrev markedSelections : (ℕ → List ℕ → List Step) → ℕ → List ℕ → List Step
   markedSelections inner at [] = []
@@ -63,7 +63,7 @@ module _ (d : View ℕ) where
 
 -- the first spread is skipped, so the second one's fields are listed
 pub mark-before-skip-differs : ((s : String) (vars : ℕ → Bool) → walkedBy markFirst s vars ≡ walked s vars (0 ∷ [])) → ⊥
-unfolding from text scan step enter choose lexical lexFactored language factored run rowsOf book tokensOf anyOf allOf firstAt find gather eachFrom isName marked closed readName refFrom wholeRef refOf piecesFrom textOf memberOf definitionOf tableOf builtIns meaning fragmentNamed compositeOf conditionOf canBe nameFront keyNumber applies numbersWhere rowsWhere ifOf plan program firsts walk blocks markFirst
+unfolding from text scan step enter choose lexical lexFactored language factored run rowsOf book tokensOf anyOf allOf firstAt find gather eachFrom isName marked closed readName refFrom wholeRef refOf houseFieldsFrom textOf memberOf definitionOf tableOf builtIns meaning fragmentNamed compositeOf conditionOf canBe nameFront keyNumber applies numbersWhere rowsWhere ifOf plan program firsts walk blocks markFirst
 mark-before-skip-differs h = let e : _≡_ {A = List Pair} [] ((10, 10) ∷ []) = h "query($v:Boolean){...F @skip(if:$v) ...F} fragment F on Query{a}" (λ v. true) in let z : _≡_ {A = ℕ} 0 1 = cc in omega arith
 
 -- ---- 2. Fresh marks for each merged block
@@ -79,7 +79,7 @@ freshly s vars bs =
 
 -- one block twice: the fragment's field is listed once
 pub fresh-marks-differ : ((s : String) (vars : ℕ → Bool) (bs : List ℕ) → freshly s vars bs ≡ walked s vars bs) → ⊥
-unfolding from text scan step enter choose lexical lexFactored language factored run rowsOf book tokensOf anyOf allOf firstAt find gather eachFrom isName marked closed readName refFrom wholeRef refOf piecesFrom textOf memberOf definitionOf tableOf builtIns meaning fragmentNamed compositeOf conditionOf canBe nameFront keyNumber applies numbersWhere rowsWhere ifOf plan program firsts walk blocks freshBlocks
+unfolding from text scan step enter choose lexical lexFactored language factored run rowsOf book tokensOf anyOf allOf firstAt find gather eachFrom isName marked closed readName refFrom wholeRef refOf houseFieldsFrom textOf memberOf definitionOf tableOf builtIns meaning fragmentNamed compositeOf conditionOf canBe nameFront keyNumber applies numbersWhere rowsWhere ifOf plan program firsts walk blocks freshBlocks
 fresh-marks-differ h =
     let e : _≡_ {A = List Pair} ((1, 1) ∷ (1, 1) ∷ (5, 5) ∷ (5, 5) ∷ []) ((1, 1) ∷ (1, 1) ∷ (5, 5) ∷ []) = h "{a ...F} fragment F on Query {b}" (λ v. false) (0 ∷ 0 ∷ []) in omega (arith, ap length e)
 
@@ -100,7 +100,7 @@ module _ (d : View ℕ) where
   selectionsOnce inner seen at [] = []
   selectionsOnce inner seen at (r ∷ rs) =
       let b = contentOnce seen inner (at + length (tests d r)) r (d .sort r) in
-      let s = unless (dropped (d .skip r) (d .include r)) (placed (tests d r) at b) in
+      let s = unlessDropped (dropped (d .skip r) (d .include r)) (guarded (tests d r) at b) in
       s ++ selectionsOnce inner (seenBy (d .sort r) ++ seen) (at + length s) rs
 
   unfoldable pub bodyOnce : ℕ → ℕ → List ℕ → List Step
@@ -109,7 +109,7 @@ module _ (d : View ℕ) where
 
 -- the first spread is skipped, so the second one's body is walked
 pub body-once-differs : ((s : String) (vars : ℕ → Bool) → walkedBy bodyOnce s vars ≡ walked s vars (0 ∷ [])) → ⊥
-unfolding from text scan step enter choose lexical lexFactored language factored run rowsOf book tokensOf anyOf allOf firstAt find gather eachFrom isName marked closed readName refFrom wholeRef refOf piecesFrom textOf memberOf definitionOf tableOf builtIns meaning fragmentNamed compositeOf conditionOf canBe nameFront keyNumber applies numbersWhere rowsWhere ifOf plan program firsts walk blocks bodyOnce
+unfolding from text scan step enter choose lexical lexFactored language factored run rowsOf book tokensOf anyOf allOf firstAt find gather eachFrom isName marked closed readName refFrom wholeRef refOf houseFieldsFrom textOf memberOf definitionOf tableOf builtIns meaning fragmentNamed compositeOf conditionOf canBe nameFront keyNumber applies numbersWhere rowsWhere ifOf plan program firsts walk blocks bodyOnce
 body-once-differs h = let e : _≡_ {A = List Pair} [] ((10, 10) ∷ []) = h "query($v:Boolean){...F @skip(if:$v) ...F} fragment F on Query{a}" (λ v. true) in let z : _≡_ {A = ℕ} 0 1 = cc in omega arith
 
 -- ---- 4. Keys numbered by the operation's rows only

@@ -14,7 +14,7 @@ use Rattle.paper_table.specs.Judging.{judge, tableNumber}
 use Rattle.paper_table.specs.TableCalls.{tellsTable}
 use Rattle.paper_table.specs.declared.TableAnswer.the-variants.{Accepted}
 use Rattle.paper_query.proofs.InOrder.{Left, left, One, Checks, failed, later, checks-one}
-use Rattle.paper_plan.specs.LentPlan.{flat}
+use Rattle.paper_plan.specs.LentPlan.{pairNumbers}
 use Rattle.paper_plan.specs.WalkNumbers.{mostPairs, pairsSize, refuseWalk, refuseTooManyPairs}
 use Rattle.paper_plan.specs.WalkCalls.{CanWalk, listed, Walked, short-report, short-pairs, long-table, refuses-table, refuses-walk, too-many-pairs, lists}
 
@@ -37,7 +37,7 @@ module _ (table plan : List ℕ) (object : ℕ) (blocks variables pairs report :
   -- the checks, one after another
   abbrev FewPairs : Left → Type 0
   FewPairs = Checks (mostPairs < count) (count ≤ mostPairs) (refused refuseTooManyPairs)
-      (Is (left accepted (filled pairsSize (flat (listed (tableOf table) plan object blocks variables)) pairs) (filled reportSize (accepted ∷ count ∷ []) report)))
+      (Is (left accepted (filled pairsSize (pairNumbers (listed (tableOf table) plan object blocks variables)) pairs) (filled reportSize (accepted ∷ count ∷ []) report)))
 
   abbrev Walks : Left → Type 0
   Walks = Checks (CanWalk (tableOf table) plan object blocks variables → ⊥) (CanWalk (tableOf table) plan object blocks variables) (refused refuseWalk) FewPairs

@@ -40,6 +40,6 @@ abbrev pub planIn : List ℕ → Plan
 planIn p = record { first = firstsFrom p 0 (blocksIn p); steps = stepsFrom p 0 (stepsIn p) }
 
 -- pairs as they stand in the output: key number and row
-abbrev pub flat : List Pair → List ℕ
-flat [] = []
-flat (p ∷ ps) = p .0 ∷ p .1 ∷ flat ps
+abbrev pub pairNumbers : List Pair → List ℕ
+pairNumbers [] = []
+pairNumbers (p ∷ ps) = p .0 ∷ p .1 ∷ pairNumbers ps

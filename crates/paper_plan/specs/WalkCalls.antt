@@ -19,9 +19,9 @@ use Rattle.paper_table.specs.declared.TableAnswer.the-variants.{Accepted}
 use Rattle.paper_query.specs.Enclosing.{definitionAt}
 use Rattle.paper_plan.specs.Applies.{applies}
 use Rattle.paper_plan.specs.Collecting.{Pair}
-use Rattle.paper_plan.specs.Planning.{answer}
+use Rattle.paper_plan.specs.Planning.{walkAnswer}
 use Rattle.paper_plan.specs.PlanNumbers.{blocksIn, WellFormed}
-use Rattle.paper_plan.specs.LentPlan.{isOne, planIn, flat}
+use Rattle.paper_plan.specs.LentPlan.{isOne, planIn, pairNumbers}
 use Rattle.paper_plan.specs.WalkNumbers.{mostPairs, mostWalked, pairsSize, variablesSize, refuseWalk, refuseTooManyPairs}
 
 -- Refusal 14 is where this is not so: "not a well-formed plan, an unknown block, no object's record, or over 64 blocks"; of the variables "fewer is 14".
@@ -34,11 +34,11 @@ pub record CanWalk (t : Table) (plan : List ℕ) (object : ℕ) (blocks variable
 
 -- what is listed then: the blocks as given are walked for that object type
 abbrev pub listed : Table → List ℕ → ℕ → List ℕ → List ℕ → List Pair
-listed t plan object blocks variables = answer (isOne variables) (λ k. applies t k object) (planIn plan) blocks
+listed t plan object blocks variables = walkAnswer (isOne variables) (λ k. applies t k object) (planIn plan) blocks
 
 -- the buffers are long enough, and the table is accepted
-abbrev pub Lent : List ℕ → List ℕ → Type 0
-Lent pairs report = (reportSize ≤ length report) × (pairsSize ≤ length pairs)
+abbrev pub WalkLent : List ℕ → List ℕ → Type 0
+WalkLent pairs report = (reportSize ≤ length report) × (pairsSize ≤ length pairs)
 
 abbrev pub Right : List ℕ → Type 0
 Right table = (length table ≤ mostTable) × (judge table ≡ Accepted)
@@ -51,24 +51,24 @@ pub data Walked (table plan : List ℕ) (object : ℕ) (blocks variables pairs r
   -- refusals 1 and 2 touch no other buffer
   short-pairs : reportSize ≤ length report → length pairs < pairsSize → pairs′ ≡ pairs → report′ ≡ tells Buffer report →
       Walked table plan object blocks variables pairs report pairs′ report′ (numberOf Buffer)
-  long-table : Lent pairs report → mostTable < length table → pairs′ ≡ pairs → report′ ≡ tells (OverLength inputTable) report →
+  long-table : WalkLent pairs report → mostTable < length table → pairs′ ≡ pairs → report′ ≡ tells (OverLength inputTable) report →
       Walked table plan object blocks variables pairs report pairs′ report′ (numberOf (OverLength inputTable))
   -- the others zero the fixed size: first what is said of the table
-  refuses-table : {a : TableAnswer} → Lent pairs report → length table ≤ mostTable → judge table ≡ a → (a ≡ Accepted → ⊥) →
+  refuses-table : {a : TableAnswer} → WalkLent pairs report → length table ≤ mostTable → judge table ≡ a → (a ≡ Accepted → ⊥) →
       pairs′ ≡ filled pairsSize [] pairs → report′ ≡ tellsTable a report →
       Walked table plan object blocks variables pairs report pairs′ report′ (tableNumber a)
   -- then what is asked of a walk
-  refuses-walk : Lent pairs report → Right table → (CanWalk (tableOf table) plan object blocks variables → ⊥) →
+  refuses-walk : WalkLent pairs report → Right table → (CanWalk (tableOf table) plan object blocks variables → ⊥) →
       pairs′ ≡ filled pairsSize [] pairs → report′ ≡ filled reportSize (refuseWalk ∷ []) report →
       Walked table plan object blocks variables pairs report pairs′ report′ refuseWalk
   -- over 512 pairs
-  too-many-pairs : Lent pairs report → Right table → CanWalk (tableOf table) plan object blocks variables →
+  too-many-pairs : WalkLent pairs report → Right table → CanWalk (tableOf table) plan object blocks variables →
       mostPairs < length (listed (tableOf table) plan object blocks variables) →
       pairs′ ≡ filled pairsSize [] pairs → report′ ≡ filled reportSize (refuseTooManyPairs ∷ []) report →
       Walked table plan object blocks variables pairs report pairs′ report′ refuseTooManyPairs
   -- success: the pairs and their count
-  lists : Lent pairs report → Right table → CanWalk (tableOf table) plan object blocks variables →
+  lists : WalkLent pairs report → Right table → CanWalk (tableOf table) plan object blocks variables →
       length (listed (tableOf table) plan object blocks variables) ≤ mostPairs →
-      pairs′ ≡ filled pairsSize (flat (listed (tableOf table) plan object blocks variables)) pairs →
+      pairs′ ≡ filled pairsSize (pairNumbers (listed (tableOf table) plan object blocks variables)) pairs →
       report′ ≡ filled reportSize (accepted ∷ length (listed (tableOf table) plan object blocks variables) ∷ []) report →
       Walked table plan object blocks variables pairs report pairs′ report′ accepted

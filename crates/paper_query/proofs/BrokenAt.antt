@@ -15,7 +15,7 @@ use Rattle.paper_query.specs.Rule1OperationRepeated.{operationRepeated}
 use Rattle.paper_query.specs.Rule2OperationUnnamed.{operationUnnamed}
 use Rattle.paper_query.specs.Rule3FragmentRepeated.{fragmentRepeated}
 use Rattle.paper_query.specs.Rule4Condition.{conditionWrong}
-use Rattle.paper_query.specs.Rule5Field.{fieldMissing}
+use Rattle.paper_query.specs.Rule5Field.{fieldNotOfType}
 use Rattle.paper_query.specs.Rule6Leaf.{leafWrong}
 use Rattle.paper_query.specs.Rule7Spread.{spreadOfNone}
 use Rattle.paper_query.specs.Rule8Circle.{ReachesItself}
@@ -25,7 +25,7 @@ use Rattle.paper_query.specs.Rule11VariableType.{noInputType, Differs}
 use Rattle.paper_query.specs.Rule12NameTwice.{nameTwice}
 use Rattle.paper_query.specs.Rule13NoRoot.{noRoot}
 use Rattle.paper_query.specs.Rule14Argument.{argumentUnknown}
-use Rattle.paper_query.specs.QueryRules.{Broken, operation-repeated, operation-unnamed, fragment-repeated, condition, field, leaf, spread, circle, directive, undefined, no-input-type, other-type, name-twice, no-root, argument}
+use Rattle.paper_query.specs.QueryRules.{Broken, operation-repeated, operation-unnamed, fragment-repeated, condition, field-not-of-type, leaf, spread-of-none, circle, directive, undefined, no-input-type, other-type, name-twice, no-root, unknown-argument}
 
 -- the rules that can be broken at a row of kind x, in order
 unfoldable pub rulesAt : ℕ → List ℕ
@@ -62,14 +62,14 @@ at-either y x z k true e h m n = at-kind y x k (λ f. true≢false (sym e ∙ f)
 at-either y x z k false e h m n = at-kind y z k (h refl) n
 
 pub broken-among : {t : Table} {d : Doc} {i k : ℕ} → Broken t d i k → T (among k (rulesAt (kindOf d i)))
-unfolding rulesAt operationRepeated operationUnnamed fragmentRepeated conditionWrong fieldMissing leafWrong spreadOfNone directiveWrong noInputType nameTwice noRoot argumentUnknown
+unfolding rulesAt operationRepeated operationUnnamed fragmentRepeated conditionWrong fieldNotOfType leafWrong spreadOfNone directiveWrong noInputType nameTwice noRoot argumentUnknown
 broken-among {d} {i} (operation-repeated h) = at-kind (kindOf d i) kindOperation ruleOperationRepeated (λ e. rw e at h) tt
 broken-among {d} {i} (operation-unnamed h) = at-kind (kindOf d i) kindOperation ruleOperationUnnamed (λ e. rw e at h) tt
 broken-among {d} {i} (fragment-repeated h) = at-kind (kindOf d i) kindFragment ruleFragmentRepeated (λ e. rw e at h) tt
 broken-among {d} {i} (condition h) = at-kind (kindOf d i) kindTypeReference ruleCondition (λ e. rw e at h) tt
-broken-among {d} {i} (field h) = at-kind (kindOf d i) kindField ruleField (λ e. rw e at h) tt
+broken-among {d} {i} (field-not-of-type h) = at-kind (kindOf d i) kindField ruleField (λ e. rw e at h) tt
 broken-among {d} {i} (leaf h) = at-kind (kindOf d i) kindField ruleLeaf (λ e. rw e at h) tt
-broken-among {d} {i} (spread h) = at-kind (kindOf d i) kindSpread ruleSpread (λ e. rw e at h) tt
+broken-among {d} {i} (spread-of-none h) = at-kind (kindOf d i) kindSpread ruleSpread (λ e. rw e at h) tt
 broken-among {d} {i} (circle h) = at-kind (kindOf d i) kindFragment ruleCircle (λ e. rw e at (h .fragment)) tt
 broken-among {d} {i} (directive h) = at-kind (kindOf d i) kindDirective ruleDirective (λ e. rw e at h) tt
 broken-among {d} {i} (undefined h) = at-kind (kindOf d i) kindVariable ruleUndefined (λ e. rw e at (h .variable)) tt
@@ -77,7 +77,7 @@ broken-among {d} {i} (no-input-type h) = at-kind (kindOf d i) kindVariableDefini
 broken-among {d} {i} (other-type h) = at-kind (kindOf d i) kindVariable ruleVariableType (λ e. rw e at (h .variable)) tt
 broken-among {d} {i} (name-twice h) = at-either (kindOf d i) kindArgument kindVariableDefinition ruleNameTwice _ refl (λ e f. rw (e, f) at h) tt tt
 broken-among {d} {i} (no-root h) = at-kind (kindOf d i) kindOperation ruleNoRoot (λ e. rw e at h) tt
-broken-among {d} {i} (argument h) = at-kind (kindOf d i) kindArgument ruleArgument (λ e. rw e at h) tt
+broken-among {d} {i} (unknown-argument h) = at-kind (kindOf d i) kindArgument ruleArgument (λ e. rw e at h) tt
 
 -- at a row of no kind, none; at a number that is no row, none
 pub none-broken : {t : Table} {d : Doc} {i k : ℕ} → rulesAt (kindOf d i) ≡ [] → Broken t d i k → ⊥
@@ -101,14 +101,14 @@ module _ {t : Table} {d : Doc} {i : ℕ} where
   pub condition-so : Broken t d i ruleCondition → T (conditionWrong t d i)
   condition-so (condition h) = h
 
-  pub field-so : Broken t d i ruleField → T (fieldMissing t d i)
-  field-so (field h) = h
+  pub field-so : Broken t d i ruleField → T (fieldNotOfType t d i)
+  field-so (field-not-of-type h) = h
 
   pub leaf-so : Broken t d i ruleLeaf → T (leafWrong t d i)
   leaf-so (leaf h) = h
 
   pub spread-so : Broken t d i ruleSpread → T (spreadOfNone d i)
-  spread-so (spread h) = h
+  spread-so (spread-of-none h) = h
 
   pub circle-so : Broken t d i ruleCircle → ReachesItself d i
   circle-so (circle h) = h
@@ -126,7 +126,7 @@ module _ {t : Table} {d : Doc} {i : ℕ} where
   no-root-so (no-root h) = h
 
   pub argument-so : Broken t d i ruleArgument → T (argumentUnknown t d i)
-  argument-so (argument h) = h
+  argument-so (unknown-argument h) = h
 
   pub variable-type-so : Broken t d i ruleVariableType → T (noInputType t d i) ⊎ Differs t d i
   variable-type-so (no-input-type h) = inl h

@@ -9,7 +9,7 @@ use Rattle.paper.specs.Language.{Document}
 use Rattle.paper.specs.Tokens.{Text, Tokens}
 use Rattle.paper.specs.Rows.{Row, flat}
 use Rattle.paper.specs.Refusals.{numberOf}
-use Rattle.paper.specs.Reading.{Answer, rows-are, refuses, Said}
+use Rattle.paper.specs.Reading.{Answer, rows-are, refuses, TextAnswer}
 use Rattle.paper.specs.Calls.{filled, tells}
 use Rattle.paper.specs.declared.Refusal.{Refusal}
 use Rattle.paper.specs.declared.Refusal.the-variants.{Buffer, OverLength}

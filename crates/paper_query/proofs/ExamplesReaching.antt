@@ -17,12 +17,12 @@ use Rattle.paper.proofs.Lexing.{text, from}
 use Rattle.paper.proofs.Worked.{rowsBy, r}
 use Rattle.paper_table.specs.Lists.{bytes, anyOf, allOf, firstAt, find, gather, eachFrom}
 use Rattle.paper_table.specs.References.{isName, marked, closed, readName, refFrom, wholeRef, refOf}
-use Rattle.paper_table.specs.House.{piecesFrom}
+use Rattle.paper_table.specs.House.{houseFieldsFrom}
 use Rattle.paper_table.specs.Types.{Table, textOf, memberOf, definitionOf, tableOf, builtIns, builtInDirectives, meaning, rootsOf}
 use Rattle.paper_query.specs.QueryNumbers.{ruleCircle, ruleUndefined, ruleVariableType}
 use Rattle.paper_query.specs.Constructs.{Doc, nameOf, fragmentNamed, hasFragment}
-use Rattle.paper_query.specs.Enclosing.{compositeOf, rootOf, fieldOf, isTypename, conditionOf, insideFrom, insideBy, inside}
-use Rattle.paper_query.specs.PlaceTypes.{wrappersOf, fits, itemOf, inputFieldOf, placeFrom, placeBy, place}
+use Rattle.paper_query.specs.Enclosing.{compositeOf, rootOf, fieldOf, isTypename, conditionOf, typeInsideFrom, typeInsideBy, typeInside}
+use Rattle.paper_query.specs.PlaceTypes.{wrappersOf, sameButNonNull, itemOf, inputFieldOf, placeFrom, placeBy, place}
 use Rattle.paper_query.specs.Reaching.{itself, deeper, here, through}
 use Rattle.paper_query.specs.Rule10Undefined.{defines}
 use Rattle.paper_query.specs.Rule11VariableType.{declared, declaredBy, differ}
@@ -120,7 +120,7 @@ shared-told t =
     })
 
 listed-told : Broken (tableOf tableS) listed 5 ruleVariableType
-unfolding anyOf allOf firstAt find gather eachFrom isName marked closed readName refFrom wholeRef refOf piecesFrom textOf memberOf definitionOf tableOf builtIns builtInDirectives meaning rootsOf fragmentNamed hasFragment compositeOf rootOf fieldOf isTypename conditionOf insideFrom insideBy inside defines declared declaredBy fits itemOf inputFieldOf wrappersOf placeFrom placeBy place
+unfolding anyOf allOf firstAt find gather eachFrom isName marked closed readName refFrom wholeRef refOf houseFieldsFrom textOf memberOf definitionOf tableOf builtIns builtInDirectives meaning rootsOf fragmentNamed hasFragment compositeOf rootOf fieldOf isTypename conditionOf typeInsideFrom typeInsideBy typeInside defines declared declaredBy sameButNonNull itemOf inputFieldOf wrappersOf placeFrom placeBy place
 listed-told =
     other-type (record { variable = tt; operation = 0; is-operation = tt; reaches = here (deeper {i = 5} tt (deeper {i = 4} tt (deeper {i = 3} tt itself))); differs = tt })
 
@@ -141,5 +141,5 @@ uses-told : T (agreed (tableOf tableS) (
     (shared, 5, 4, true, false) ∷ (shared, 9, 4, false, false) ∷ (unlike, 5, 4, true, true) ∷ (listed, 0, 5, true, true) ∷
     (required, 0, 5, true, false) ∷ (nowhere, 0, 6, true, false) ∷ (asItem, 0, 7, true, true) ∷
     (nested, 0, 6, true, false) ∷ (nested, 0, 10, true, false) ∷ (nested, 0, 15, true, false) ∷ []))
-unfolding anyOf allOf firstAt find gather eachFrom isName marked closed readName refFrom wholeRef refOf piecesFrom textOf memberOf definitionOf tableOf builtIns builtInDirectives meaning rootsOf fragmentNamed hasFragment compositeOf rootOf fieldOf isTypename conditionOf insideFrom insideBy inside defines declared declaredBy fits itemOf inputFieldOf wrappersOf placeFrom placeBy place
+unfolding anyOf allOf firstAt find gather eachFrom isName marked closed readName refFrom wholeRef refOf houseFieldsFrom textOf memberOf definitionOf tableOf builtIns builtInDirectives meaning rootsOf fragmentNamed hasFragment compositeOf rootOf fieldOf isTypename conditionOf typeInsideFrom typeInsideBy typeInside defines declared declaredBy sameButNonNull itemOf inputFieldOf wrappersOf placeFrom placeBy place
 uses-told = tt

@@ -14,16 +14,16 @@ use Rattle.paper.proofs.LexTables.{lexFactored}
 use Rattle.paper.proofs.Lexing.{text, from}
 use Rattle.paper_table.specs.Lists.{anyOf, allOf, firstAt, find, gather, eachFrom}
 use Rattle.paper_table.specs.References.{isName, marked, closed, readName, refFrom, wholeRef, refOf}
-use Rattle.paper_table.specs.House.{piecesFrom}
+use Rattle.paper_table.specs.House.{houseFieldsFrom}
 use Rattle.paper_table.specs.Types.{textOf, memberOf, definitionOf, tableOf, builtIns, builtInDirectives, meaning, rootsOf}
 use Rattle.paper_table.proofs.WorkedTables.{field, argument, object, interface, roots, implements, query, mutation}
 use Rattle.paper_query.specs.Constructs.{fragmentNamed, hasFragment}
-use Rattle.paper_query.specs.Enclosing.{compositeOf, rootOf, fieldOf, isTypename, conditionOf, insideFrom, insideBy, inside}
+use Rattle.paper_query.specs.Enclosing.{compositeOf, rootOf, fieldOf, isTypename, conditionOf, typeInsideFrom, typeInsideBy, typeInside}
 use Rattle.paper_query.specs.Rule1OperationRepeated.{operationRepeated}
 use Rattle.paper_query.specs.Rule2OperationUnnamed.{operationUnnamed}
 use Rattle.paper_query.specs.Rule3FragmentRepeated.{fragmentRepeated}
 use Rattle.paper_query.specs.Rule4Condition.{conditionWrong}
-use Rattle.paper_query.specs.Rule5Field.{fieldMissing}
+use Rattle.paper_query.specs.Rule5Field.{fieldNotOfType}
 use Rattle.paper_query.specs.Rule6Leaf.{hasSelections, leafWrong}
 use Rattle.paper_query.specs.Rule7Spread.{spreadOfNone}
 use Rattle.paper_query.specs.Rule9Directive.{rowsBelow, directiveWrong}
@@ -43,7 +43,7 @@ ofT =
     []
 
 ofT-told : T (agreed (tableOf tableT) ofT)
-unfolding from text scan step enter choose lexical lexFactored language factored run rowsOf book tokensOf anyOf allOf firstAt find gather eachFrom isName marked closed readName refFrom wholeRef refOf piecesFrom textOf memberOf definitionOf tableOf builtIns builtInDirectives meaning rootsOf fragmentNamed hasFragment compositeOf rootOf fieldOf isTypename conditionOf insideFrom insideBy inside operationRepeated operationUnnamed fragmentRepeated conditionWrong fieldMissing hasSelections leafWrong spreadOfNone rowsBelow directiveWrong declared noInputType nameTwice noRoot argumentUnknown
+unfolding from text scan step enter choose lexical lexFactored language factored run rowsOf book tokensOf anyOf allOf firstAt find gather eachFrom isName marked closed readName refFrom wholeRef refOf houseFieldsFrom textOf memberOf definitionOf tableOf builtIns builtInDirectives meaning rootsOf fragmentNamed hasFragment compositeOf rootOf fieldOf isTypename conditionOf typeInsideFrom typeInsideBy typeInside operationRepeated operationUnnamed fragmentRepeated conditionWrong fieldNotOfType hasSelections leafWrong spreadOfNone rowsBelow directiveWrong declared noInputType nameTwice noRoot argumentUnknown
 ofT-told = tt
 
 -- rules 1, 2, 3 and 12
@@ -62,7 +62,7 @@ repeated =
     []
 
 repeated-told : T (agreed (tableOf tableS) repeated)
-unfolding from text scan step enter choose lexical lexFactored language factored run rowsOf book tokensOf anyOf allOf firstAt find gather eachFrom isName marked closed readName refFrom wholeRef refOf piecesFrom textOf memberOf definitionOf tableOf builtIns builtInDirectives meaning rootsOf fragmentNamed hasFragment compositeOf rootOf fieldOf isTypename conditionOf insideFrom insideBy inside operationRepeated operationUnnamed fragmentRepeated conditionWrong fieldMissing hasSelections leafWrong spreadOfNone rowsBelow directiveWrong declared noInputType nameTwice noRoot argumentUnknown
+unfolding from text scan step enter choose lexical lexFactored language factored run rowsOf book tokensOf anyOf allOf firstAt find gather eachFrom isName marked closed readName refFrom wholeRef refOf houseFieldsFrom textOf memberOf definitionOf tableOf builtIns builtInDirectives meaning rootsOf fragmentNamed hasFragment compositeOf rootOf fieldOf isTypename conditionOf typeInsideFrom typeInsideBy typeInside operationRepeated operationUnnamed fragmentRepeated conditionWrong fieldNotOfType hasSelections leafWrong spreadOfNone rowsBelow directiveWrong declared noInputType nameTwice noRoot argumentUnknown
 repeated-told = tt
 
 -- rules 4, 5, 6, 13, 14 and the first half of 11; nothing is judged where the type is not known
@@ -89,7 +89,7 @@ typed =
     []
 
 typed-told : T (agreed (tableOf tableS) typed)
-unfolding from text scan step enter choose lexical lexFactored language factored run rowsOf book tokensOf anyOf allOf firstAt find gather eachFrom isName marked closed readName refFrom wholeRef refOf piecesFrom textOf memberOf definitionOf tableOf builtIns builtInDirectives meaning rootsOf fragmentNamed hasFragment compositeOf rootOf fieldOf isTypename conditionOf insideFrom insideBy inside operationRepeated operationUnnamed fragmentRepeated conditionWrong fieldMissing hasSelections leafWrong spreadOfNone rowsBelow directiveWrong declared noInputType nameTwice noRoot argumentUnknown
+unfolding from text scan step enter choose lexical lexFactored language factored run rowsOf book tokensOf anyOf allOf firstAt find gather eachFrom isName marked closed readName refFrom wholeRef refOf houseFieldsFrom textOf memberOf definitionOf tableOf builtIns builtInDirectives meaning rootsOf fragmentNamed hasFragment compositeOf rootOf fieldOf isTypename conditionOf typeInsideFrom typeInsideBy typeInside operationRepeated operationUnnamed fragmentRepeated conditionWrong fieldNotOfType hasSelections leafWrong spreadOfNone rowsBelow directiveWrong declared noInputType nameTwice noRoot argumentUnknown
 typed-told = tt
 
 -- rules 7 and 9
@@ -111,7 +111,7 @@ spread =
     []
 
 spread-told : T (agreed (tableOf tableS) spread)
-unfolding from text scan step enter choose lexical lexFactored language factored run rowsOf book tokensOf anyOf allOf firstAt find gather eachFrom isName marked closed readName refFrom wholeRef refOf piecesFrom textOf memberOf definitionOf tableOf builtIns builtInDirectives meaning rootsOf fragmentNamed hasFragment compositeOf rootOf fieldOf isTypename conditionOf insideFrom insideBy inside operationRepeated operationUnnamed fragmentRepeated conditionWrong fieldMissing hasSelections leafWrong spreadOfNone rowsBelow directiveWrong declared noInputType nameTwice noRoot argumentUnknown
+unfolding from text scan step enter choose lexical lexFactored language factored run rowsOf book tokensOf anyOf allOf firstAt find gather eachFrom isName marked closed readName refFrom wholeRef refOf houseFieldsFrom textOf memberOf definitionOf tableOf builtIns builtInDirectives meaning rootsOf fragmentNamed hasFragment compositeOf rootOf fieldOf isTypename conditionOf typeInsideFrom typeInsideBy typeInside operationRepeated operationUnnamed fragmentRepeated conditionWrong fieldNotOfType hasSelections leafWrong spreadOfNone rowsBelow directiveWrong declared noInputType nameTwice noRoot argumentUnknown
 spread-told = tt
 
 -- what the rules do not ask
@@ -122,7 +122,7 @@ nothing =
     []
 
 nothing-told : T (agreed (tableOf tableS) nothing)
-unfolding from text scan step enter choose lexical lexFactored language factored run rowsOf book tokensOf anyOf allOf firstAt find gather eachFrom isName marked closed readName refFrom wholeRef refOf piecesFrom textOf memberOf definitionOf tableOf builtIns builtInDirectives meaning rootsOf fragmentNamed hasFragment compositeOf rootOf fieldOf isTypename conditionOf insideFrom insideBy inside operationRepeated operationUnnamed fragmentRepeated conditionWrong fieldMissing hasSelections leafWrong spreadOfNone rowsBelow directiveWrong declared noInputType nameTwice noRoot argumentUnknown
+unfolding from text scan step enter choose lexical lexFactored language factored run rowsOf book tokensOf anyOf allOf firstAt find gather eachFrom isName marked closed readName refFrom wholeRef refOf houseFieldsFrom textOf memberOf definitionOf tableOf builtIns builtInDirectives meaning rootsOf fragmentNamed hasFragment compositeOf rootOf fieldOf isTypename conditionOf typeInsideFrom typeInsideBy typeInside operationRepeated operationUnnamed fragmentRepeated conditionWrong fieldNotOfType hasSelections leafWrong spreadOfNone rowsBelow directiveWrong declared noInputType nameTwice noRoot argumentUnknown
 nothing-told = tt
 
 -- every break: nothing inside a type that is not known breaks a rule, and each of two unnamed operations breaks one
@@ -136,7 +136,7 @@ whole =
     []
 
 whole-told : T (agreedAll (tableOf tableS) whole)
-unfolding from text scan step enter choose lexical lexFactored language factored run rowsOf book tokensOf anyOf allOf firstAt find gather eachFrom isName marked closed readName refFrom wholeRef refOf piecesFrom textOf memberOf definitionOf tableOf builtIns builtInDirectives meaning rootsOf fragmentNamed hasFragment compositeOf rootOf fieldOf isTypename conditionOf insideFrom insideBy inside operationRepeated operationUnnamed fragmentRepeated conditionWrong fieldMissing hasSelections leafWrong spreadOfNone rowsBelow directiveWrong declared noInputType nameTwice noRoot argumentUnknown
+unfolding from text scan step enter choose lexical lexFactored language factored run rowsOf book tokensOf anyOf allOf firstAt find gather eachFrom isName marked closed readName refFrom wholeRef refOf houseFieldsFrom textOf memberOf definitionOf tableOf builtIns builtInDirectives meaning rootsOf fragmentNamed hasFragment compositeOf rootOf fieldOf isTypename conditionOf typeInsideFrom typeInsideBy typeInside operationRepeated operationUnnamed fragmentRepeated conditionWrong fieldNotOfType hasSelections leafWrong spreadOfNone rowsBelow directiveWrong declared noInputType nameTwice noRoot argumentUnknown
 whole-told = tt
 
 -- readings 58, 71, 72: roots of two kinds; a type named as a root; an interface's field
@@ -152,7 +152,7 @@ rooted =
     []
 
 rooted-told : T (agreed (tableOf twoRoots) rooted)
-unfolding from text scan step enter choose lexical lexFactored language factored run rowsOf book tokensOf anyOf allOf firstAt find gather eachFrom isName marked closed readName refFrom wholeRef refOf piecesFrom textOf memberOf definitionOf tableOf builtIns builtInDirectives meaning rootsOf fragmentNamed hasFragment compositeOf rootOf fieldOf isTypename conditionOf insideFrom insideBy inside operationRepeated operationUnnamed fragmentRepeated conditionWrong fieldMissing hasSelections leafWrong spreadOfNone rowsBelow directiveWrong declared noInputType nameTwice noRoot argumentUnknown
+unfolding from text scan step enter choose lexical lexFactored language factored run rowsOf book tokensOf anyOf allOf firstAt find gather eachFrom isName marked closed readName refFrom wholeRef refOf houseFieldsFrom textOf memberOf definitionOf tableOf builtIns builtInDirectives meaning rootsOf fragmentNamed hasFragment compositeOf rootOf fieldOf isTypename conditionOf typeInsideFrom typeInsideBy typeInside operationRepeated operationUnnamed fragmentRepeated conditionWrong fieldNotOfType hasSelections leafWrong spreadOfNone rowsBelow directiveWrong declared noInputType nameTwice noRoot argumentUnknown
 rooted-told = tt
 
 abbrev noRoots : List ℕ
@@ -166,7 +166,7 @@ unrooted =
     []
 
 unrooted-told : T (agreed (tableOf noRoots) unrooted)
-unfolding from text scan step enter choose lexical lexFactored language factored run rowsOf book tokensOf anyOf allOf firstAt find gather eachFrom isName marked closed readName refFrom wholeRef refOf piecesFrom textOf memberOf definitionOf tableOf builtIns builtInDirectives meaning rootsOf fragmentNamed hasFragment compositeOf rootOf fieldOf isTypename conditionOf insideFrom insideBy inside operationRepeated operationUnnamed fragmentRepeated conditionWrong fieldMissing hasSelections leafWrong spreadOfNone rowsBelow directiveWrong declared noInputType nameTwice noRoot argumentUnknown
+unfolding from text scan step enter choose lexical lexFactored language factored run rowsOf book tokensOf anyOf allOf firstAt find gather eachFrom isName marked closed readName refFrom wholeRef refOf houseFieldsFrom textOf memberOf definitionOf tableOf builtIns builtInDirectives meaning rootsOf fragmentNamed hasFragment compositeOf rootOf fieldOf isTypename conditionOf typeInsideFrom typeInsideBy typeInside operationRepeated operationUnnamed fragmentRepeated conditionWrong fieldNotOfType hasSelections leafWrong spreadOfNone rowsBelow directiveWrong declared noInputType nameTwice noRoot argumentUnknown
 unrooted-told = tt
 
 abbrev throughInterface : List ℕ
@@ -183,5 +183,5 @@ fieldOfInterface =
     []
 
 fieldOfInterface-told : T (agreed (tableOf throughInterface) fieldOfInterface)
-unfolding from text scan step enter choose lexical lexFactored language factored run rowsOf book tokensOf anyOf allOf firstAt find gather eachFrom isName marked closed readName refFrom wholeRef refOf piecesFrom textOf memberOf definitionOf tableOf builtIns builtInDirectives meaning rootsOf fragmentNamed hasFragment compositeOf rootOf fieldOf isTypename conditionOf insideFrom insideBy inside operationRepeated operationUnnamed fragmentRepeated conditionWrong fieldMissing hasSelections leafWrong spreadOfNone rowsBelow directiveWrong declared noInputType nameTwice noRoot argumentUnknown
+unfolding from text scan step enter choose lexical lexFactored language factored run rowsOf book tokensOf anyOf allOf firstAt find gather eachFrom isName marked closed readName refFrom wholeRef refOf houseFieldsFrom textOf memberOf definitionOf tableOf builtIns builtInDirectives meaning rootsOf fragmentNamed hasFragment compositeOf rootOf fieldOf isTypename conditionOf typeInsideFrom typeInsideBy typeInside operationRepeated operationUnnamed fragmentRepeated conditionWrong fieldNotOfType hasSelections leafWrong spreadOfNone rowsBelow directiveWrong declared noInputType nameTwice noRoot argumentUnknown
 fieldOfInterface-told = tt

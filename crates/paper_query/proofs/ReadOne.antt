@@ -6,7 +6,7 @@ use native.Mathlib.Omega.{arith}
 use Rattle.paper.specs.Language.{Part, Document}
 use Rattle.paper.specs.Tokens.{Text, Tokens}
 use Rattle.paper.specs.Rows.{Row}
-use Rattle.paper.specs.Reading.{Answer, rows-are, refuses, Said}
+use Rattle.paper.specs.Reading.{Answer, rows-are, refuses, TextAnswer}
 use Rattle.paper.specs.declared.Refusal.{Refusal}
 use Rattle.paper_theory.proofs.SaidOne.{said-one}
 use Rattle.paper_theory.proofs.TokensLaws.{tokens-one}
@@ -22,12 +22,12 @@ pub data Reading : Type 0 where
   judged : List Row → QueryAnswer → Reading
 
 pub data Comes (table document : List ℕ) : Reading → Type 0 where
-  ends : {t : Text} {r : Refusal} → Tokens 0 document t → Said Document t (refuses r) → Comes table document (refused r)
-  goes : {t : Text} {rs : List Row} {q : QueryAnswer} → Tokens 0 document t → Said Document t (rows-are rs) → Judged (tableOf table) (read document rs) q → Comes table document (judged rs q)
+  ends : {t : Text} {r : Refusal} → Tokens 0 document t → TextAnswer Document t (refuses r) → Comes table document (refused r)
+  goes : {t : Text} {rs : List Row} {q : QueryAnswer} → Tokens 0 document t → TextAnswer Document t (rows-are rs) → Judged (tableOf table) (read document rs) q → Comes table document (judged rs q)
 
 -- what the text says, for two ways of having its tokens
-pub said-same : {p : Part} {s : List ℕ} {t t′ : Text} {a a′ : Answer} → Tokens 0 s t → Tokens 0 s t′ → Said p t a → Said p t′ a′ → a ≡ a′
-said-same {p} {a′} k k′ s s′ = said-one s (subst (λ (z : Text). Said p z a′) (tokens-one k′ k) s′)
+pub said-same : {p : Part} {s : List ℕ} {t t′ : Text} {a a′ : Answer} → Tokens 0 s t → Tokens 0 s t′ → TextAnswer p t a → TextAnswer p t′ a′ → a ≡ a′
+said-same {p} {a′} k k′ s s′ = said-one s (subst (λ (z : Text). TextAnswer p z a′) (tokens-one k′ k) s′)
 
 pub rows-inj : {rs rs′ : List Row} → rows-are rs ≡ rows-are rs′ → rs ≡ rs′
 rows-inj q = cc

@@ -18,7 +18,7 @@ use Rattle.paper_query.specs.Rule1OperationRepeated.{operationRepeated}
 use Rattle.paper_query.specs.Rule2OperationUnnamed.{operationUnnamed}
 use Rattle.paper_query.specs.Rule3FragmentRepeated.{fragmentRepeated}
 use Rattle.paper_query.specs.Rule4Condition.{conditionWrong}
-use Rattle.paper_query.specs.Rule5Field.{fieldMissing}
+use Rattle.paper_query.specs.Rule5Field.{fieldNotOfType}
 use Rattle.paper_query.specs.Rule6Leaf.{leafWrong}
 use Rattle.paper_query.specs.Rule7Spread.{spreadOfNone}
 use Rattle.paper_query.specs.Rule9Directive.{directiveWrong}
@@ -56,7 +56,7 @@ document s = read s (rowsBy Document s)
 abbrev brokenAt : Table → Doc → ℕ → List ℕ
 brokenAt t d i =
     onlyIf (operationRepeated d i) ruleOperationRepeated ++ onlyIf (operationUnnamed d i) ruleOperationUnnamed ++
-    onlyIf (fragmentRepeated d i) ruleFragmentRepeated ++ onlyIf (conditionWrong t d i) ruleCondition ++ onlyIf (fieldMissing t d i) ruleField ++
+    onlyIf (fragmentRepeated d i) ruleFragmentRepeated ++ onlyIf (conditionWrong t d i) ruleCondition ++ onlyIf (fieldNotOfType t d i) ruleField ++
     onlyIf (leafWrong t d i) ruleLeaf ++ onlyIf (spreadOfNone d i) ruleSpread ++ onlyIf (directiveWrong d i) ruleDirective ++
     onlyIf (noInputType t d i) ruleVariableType ++ onlyIf (nameTwice d i) ruleNameTwice ++ onlyIf (noRoot t d i) ruleNoRoot ++
     onlyIf (argumentUnknown t d i) ruleArgument

@@ -21,7 +21,7 @@ count d = length (d .rows)
 
 -- row i; where there is none, a row of no kind
 abbrev pub noRow : Row
-noRow = record { kind = 0; start = 0; stop = 0; parent = noParent; name = 0; size = 0; extra = 0 }
+noRow = record { kind = 0; start = 0; end = 0; parent = noParent; nameStart = 0; nameLength = 0; extra = 0 }
 
 abbrev pub rowOf : Doc → ℕ → Row
 rowOf d i = getD (d .rows) i noRow
@@ -37,7 +37,7 @@ extraOf d i = rowOf d i .extra
 
 -- the name of a row: its bytes in the document
 abbrev pub spelt : Doc → Row → List ℕ
-spelt d r = take (r .size) (drop (r .name) (d .bytes))
+spelt d r = take (r .nameLength) (drop (r .nameStart) (d .bytes))
 
 abbrev pub nameOf : Doc → ℕ → List ℕ
 nameOf d i = spelt d (rowOf d i)

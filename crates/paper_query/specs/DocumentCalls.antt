@@ -10,7 +10,7 @@ use Rattle.paper.specs.Language.{Document}
 use Rattle.paper.specs.Tokens.{Text, Tokens}
 use Rattle.paper.specs.Rows.{Row, flat}
 use Rattle.paper.specs.Refusals.{numberOf}
-use Rattle.paper.specs.Reading.{rows-are, refuses, Said}
+use Rattle.paper.specs.Reading.{rows-are, refuses, TextAnswer}
 use Rattle.paper.specs.Calls.{filled, tells}
 use Rattle.paper.specs.declared.Refusal.{Refusal}
 use Rattle.paper.specs.declared.Refusal.the-variants.{Buffer, OverLength}
@@ -52,15 +52,15 @@ pub data CheckedDocument (table document rows report rows′ report′ : List �
       rows′ ≡ filled rowsSize [] rows → report′ ≡ tellsTable a report → CheckedDocument table document rows report rows′ report′ (tableNumber a)
   -- then the reading of the document
   refuses-text : {t : Text} {r : Refusal} → Lent rows report → Short table document → judge table ≡ Accepted →
-      Tokens 0 document t → Said Document t (refuses r) →
+      Tokens 0 document t → TextAnswer Document t (refuses r) →
       rows′ ≡ filled rowsSize [] rows → report′ ≡ tells r report → CheckedDocument table document rows report rows′ report′ (numberOf r)
   -- then its rules
   breaks-rule : {t : Text} {rs : List Row} {i k : ℕ} → Lent rows report → Short table document → judge table ≡ Accepted →
-      Tokens 0 document t → Said Document t (rows-are rs) → Judged (tableOf table) (read document rs) (Breaks i k) →
+      Tokens 0 document t → TextAnswer Document t (rows-are rs) → Judged (tableOf table) (read document rs) (Breaks i k) →
       rows′ ≡ filled rowsSize [] rows → report′ ≡ filled reportSize (queryNumber (Breaks i k) ∷ queryShown (Breaks i k)) report →
       CheckedDocument table document rows report rows′ report′ (queryNumber (Breaks i k))
   -- success: the rows and their count
   accepts : {t : Text} {rs : List Row} → Lent rows report → Short table document → judge table ≡ Accepted →
-      Tokens 0 document t → Said Document t (rows-are rs) → Judged (tableOf table) (read document rs) Fits →
+      Tokens 0 document t → TextAnswer Document t (rows-are rs) → Judged (tableOf table) (read document rs) Fits →
       rows′ ≡ filled rowsSize (flat rs) rows → report′ ≡ filled reportSize (accepted ∷ length rs ∷ []) report →
       CheckedDocument table document rows report rows′ report′ accepted

@@ -13,8 +13,7 @@ use Rattle.paper.specs.Rows.{Row}
 use Rattle.paper_table.specs.TableNumbers.{tagQueryRoot}
 use Rattle.paper_table.specs.Lists.{bytes, find}
 use Rattle.paper_table.specs.References.{Ref, baseOf}
-use Rattle.paper_table.specs.Types.{Argument, Member, Definition, Table, Meaning, builtIn, nothing, definition, meaning, blank, tagNothing, isUnion, rootsOf}
-use Rattle.paper_table.specs.Rules.{memberNamed, argumentNamed, isComposite}
+use Rattle.paper_table.specs.Types.{Argument, Member, Definition, Table, Meaning, builtIn, noMeaning, definition, meaning, blankDefinition, tagNothing, isUnion, rootsOf, memberNamed, argumentNamed, isComposite}
 use Rattle.paper_query.specs.Constructs.{Doc, is, below, spelt, rowOf, kindOf, parentOf, extraOf, nameOf}
 
 abbrev pub then : {A B : Type 0} → Option A → (A → Option B) → Option B
@@ -23,12 +22,12 @@ then (some x) f = f x
 
 -- the table's definition of a number
 abbrev pub definitionAt : Table → ℕ → Definition
-definitionAt t k = getD t k (blank tagNothing)
+definitionAt t k = getD t k (blankDefinition tagNothing)
 
 -- a name of an object, interface or union: its definition's number. No other type has selections
 abbrev pub ifComposite : Table → Meaning → Option ℕ
 ifComposite t builtIn = none
-ifComposite t nothing = none
+ifComposite t noMeaning = none
 ifComposite t (definition k) = cond (isComposite (definitionAt t k)) (some k) none
 
 unfoldable pub compositeOf : Table → List ℕ → Option ℕ
@@ -56,16 +55,16 @@ abbrev pub orMissing : Option Member → FieldIs
 orMissing none = missing
 orMissing (some e) = member e
 
-abbrev pub fieldIn : Table → Option ℕ → List ℕ → FieldIs
-fieldIn t none n = unknown
-fieldIn t (some k) n = cond (isTypename n) typename (orMissing (fieldOf t k n))
+abbrev pub fieldNamed : Table → Option ℕ → List ℕ → FieldIs
+fieldNamed t none n = unknown
+fieldNamed t (some k) n = cond (isTypename n) typename (orMissing (fieldOf t k n))
 
 -- the type that a field's selections are of
-abbrev pub typeIn : Table → FieldIs → Option ℕ
-typeIn t typename = none
-typeIn t (member e) = compositeOf t (baseOf (e .type))
-typeIn t missing = none
-typeIn t unknown = none
+abbrev pub selectionsType : Table → FieldIs → Option ℕ
+selectionsType t typename = none
+selectionsType t (member e) = compositeOf t (baseOf (e .type))
+selectionsType t missing = none
+selectionsType t unknown = none
 
 -- a fragment's type condition
 unfoldable pub conditionOf : Doc → ℕ → Option Row
@@ -76,32 +75,32 @@ conditioned t d above none = above
 conditioned t d above (some r) = compositeOf t (spelt d r)
 
 -- The type inside row i, where that inside its parent is `above`: an operation's root, a fragment's condition, a field's type.
-unfoldable pub insideFrom : Table → Doc → ℕ → Option ℕ → Option ℕ
-insideFrom t d i above =
+unfoldable pub typeInsideFrom : Table → Doc → ℕ → Option ℕ → Option ℕ
+typeInsideFrom t d i above =
     cond (is kindOperation (rowOf d i)) (then (rootOf t (extraOf d i)) (λ m. compositeOf t (m .name)))
     (cond (is kindFragment (rowOf d i)) (conditioned t d none (conditionOf d i))
     (cond (is kindInline (rowOf d i)) (conditioned t d above (conditionOf d i))
-    (cond (is kindField (rowOf d i)) (typeIn t (fieldIn t above (nameOf d i))) none)))
+    (cond (is kindField (rowOf d i)) (selectionsType t (fieldNamed t above (nameOf d i))) none)))
 
 -- the first number bounds how far up it is looked; a row's own number and one is enough, since parents stand before
-unfoldable pub insideBy : Table → Doc → ℕ → ℕ → Option ℕ
-insideBy t d zero i = none
-insideBy t d (suc f) i = insideFrom t d i (insideBy t d f (parentOf d i))
+unfoldable pub typeInsideBy : Table → Doc → ℕ → ℕ → Option ℕ
+typeInsideBy t d zero i = none
+typeInsideBy t d (suc f) i = typeInsideFrom t d i (typeInsideBy t d f (parentOf d i))
 
-unfoldable pub inside : Table → Doc → ℕ → Option ℕ
-inside t d i = insideBy t d (suc i) i
+unfoldable pub typeInside : Table → Doc → ℕ → Option ℕ
+typeInside t d i = typeInsideBy t d (suc i) i
 
 -- The type that encloses row i: that inside its parent.
 abbrev pub enclosing : Table → Doc → ℕ → Option ℕ
-enclosing t d i = inside t d (parentOf d i)
+enclosing t d i = typeInside t d (parentOf d i)
 
 -- What the field of row i is.
 abbrev pub fieldAt : Table → Doc → ℕ → FieldIs
-fieldAt t d i = fieldIn t (enclosing t d i) (nameOf d i)
+fieldAt t d i = fieldNamed t (enclosing t d i) (nameOf d i)
 
 -- the first argument so named of a field
-abbrev pub argumentOf : FieldIs → List ℕ → Option Argument
-argumentOf typename n = none
-argumentOf (member e) n = find (argumentNamed n) (e .arguments)
-argumentOf missing n = none
-argumentOf unknown n = none
+abbrev pub argumentCalled : FieldIs → List ℕ → Option Argument
+argumentCalled typename n = none
+argumentCalled (member e) n = find (argumentNamed n) (e .arguments)
+argumentCalled missing n = none
+argumentCalled unknown n = none

@@ -14,7 +14,7 @@ use Rattle.paper.specs.Language.{Document}
 use Rattle.paper.specs.Tokens.{Text, Tokens}
 use Rattle.paper.specs.Rows.{Row}
 use Rattle.paper.specs.Refusals.{numberOf, shownOf}
-use Rattle.paper.specs.Reading.{rows-are, refuses, Said}
+use Rattle.paper.specs.Reading.{rows-are, refuses, TextAnswer}
 use Rattle.paper.specs.declared.Refusal.{Refusal}
 use Rattle.paper_table.specs.Lists.{firstAt}
 use Rattle.paper_table.specs.Types.{tableOf}
@@ -34,7 +34,7 @@ pub record AcceptedDocument (table document : List ℕ) (rs : List Row) : Type 0
   pub table-right : judge table ≡ Accepted
   pub text : Text
   pub tokens : Tokens 0 document text
-  pub said : Said Document text (rows-are rs)
+  pub said : TextAnswer Document text (rows-are rs)
   pub judged : Judged (tableOf table) (read document rs) Fits
 
 -- the operation that a name means: the empty name the only one, if there is one only; another the first so named
@@ -57,9 +57,9 @@ pub data Outcome : Type 0 where
 
 pub data Opened (table document name : List ℕ) : Outcome → Type 0 where
   table-refused : {a : TableAnswer} → judge table ≡ a → (a ≡ Accepted → ⊥) → Opened table document name (stops (tableNumber a) (tableShown a))
-  text-refused : {t : Text} {r : Refusal} → judge table ≡ Accepted → Tokens 0 document t → Said Document t (refuses r) →
+  text-refused : {t : Text} {r : Refusal} → judge table ≡ Accepted → Tokens 0 document t → TextAnswer Document t (refuses r) →
       Opened table document name (stops (numberOf r) (shownOf r))
-  rule-broken : {t : Text} {rs : List Row} {i k : ℕ} → judge table ≡ Accepted → Tokens 0 document t → Said Document t (rows-are rs) →
+  rule-broken : {t : Text} {rs : List Row} {i k : ℕ} → judge table ≡ Accepted → Tokens 0 document t → TextAnswer Document t (rows-are rs) →
       Judged (tableOf table) (read document rs) (Breaks i k) → Opened table document name (stops (queryNumber (Breaks i k)) (queryShown (Breaks i k)))
   no-operation : {rs : List Row} → AcceptedDocument table document rs → operationMeant (read document rs) name ≡ none →
       Opened table document name (stops refuseNoOperation [])

@@ -12,10 +12,9 @@ use Rattle.paper.specs.Tokens.{same}
 use Rattle.paper.specs.Rows.{Row}
 use Rattle.paper_table.specs.Lists.{bytes, find}
 use Rattle.paper_table.specs.References.{Ref, named, listOf, nonNull, baseOf}
-use Rattle.paper_table.specs.Types.{Argument, Member, Table, meant, isInputObject}
-use Rattle.paper_table.specs.Rules.{memberNamed}
+use Rattle.paper_table.specs.Types.{Argument, Member, Table, meant, isInputObject, memberNamed}
 use Rattle.paper_query.specs.Constructs.{Doc, is, isValue, rowOf, parentOf, nameOf, spelt}
-use Rattle.paper_query.specs.Enclosing.{then, fieldAt, argumentOf}
+use Rattle.paper_query.specs.Enclosing.{then, fieldAt, argumentCalled}
 
 -- a type reference as a row has it: its base, and its wrappers from outside in, lowest two bits first, 1 list, 2 Non-Null
 pub record Shape : Type 0 where
@@ -42,8 +41,8 @@ abbrev pub nullable : ℕ → ℕ
 nullable w = cond (eqb (w % 4) wrapNonNull) (w / 4) w
 
 -- equal but for the outermost Non-Null
-unfoldable pub fits : Shape → Shape → Bool
-fits p q = same (p .base) (q .base) && eqb (nullable (p .wrappers)) (nullable (q .wrappers))
+unfoldable pub sameButNonNull : Shape → Shape → Bool
+sameButNonNull p q = same (p .base) (q .base) && eqb (nullable (p .wrappers)) (nullable (q .wrappers))
 
 -- the items of a list
 unfoldable pub itemOf : Shape → Option Shape
@@ -57,7 +56,7 @@ inputFieldOf t n p = cond (isInputObject (meant t (p .base))) (then (find (membe
 abbrev pub argumentPlace : Table → Doc → ℕ → Option Shape
 argumentPlace t d i =
     cond (is kindDirective (rowOf d (parentOf d i))) (some (shape (bytes "Boolean") 0))
-    (cond (is kindField (rowOf d (parentOf d i))) (then (argumentOf (fieldAt t d (parentOf d i)) (nameOf d i)) (λ x. some (shapeOf (x .type)))) none)
+    (cond (is kindField (rowOf d (parentOf d i))) (then (argumentCalled (fieldAt t d (parentOf d i)) (nameOf d i)) (λ x. some (shapeOf (x .type)))) none)
 
 -- The type due at row i, an argument, an object's field or a value, where that due at its parent is `above`.
 unfoldable pub placeFrom : Table → Doc → ℕ → Option Shape → Option Shape

@@ -14,7 +14,7 @@ use Rattle.paper_query.specs.Rule1OperationRepeated.{operationRepeated}
 use Rattle.paper_query.specs.Rule2OperationUnnamed.{operationUnnamed}
 use Rattle.paper_query.specs.Rule3FragmentRepeated.{fragmentRepeated}
 use Rattle.paper_query.specs.Rule4Condition.{conditionWrong}
-use Rattle.paper_query.specs.Rule5Field.{fieldMissing}
+use Rattle.paper_query.specs.Rule5Field.{fieldNotOfType}
 use Rattle.paper_query.specs.Rule6Leaf.{leafWrong}
 use Rattle.paper_query.specs.Rule7Spread.{spreadOfNone}
 use Rattle.paper_query.specs.Rule8Circle.{ReachesItself}
@@ -33,9 +33,9 @@ pub data Broken (t : Table) (d : Doc) (i : ℕ) : ℕ → Type 0 where
   operation-unnamed : T (operationUnnamed d i) → Broken t d i ruleOperationUnnamed
   fragment-repeated : T (fragmentRepeated d i) → Broken t d i ruleFragmentRepeated
   condition : T (conditionWrong t d i) → Broken t d i ruleCondition
-  field : T (fieldMissing t d i) → Broken t d i ruleField
+  field-not-of-type : T (fieldNotOfType t d i) → Broken t d i ruleField
   leaf : T (leafWrong t d i) → Broken t d i ruleLeaf
-  spread : T (spreadOfNone d i) → Broken t d i ruleSpread
+  spread-of-none : T (spreadOfNone d i) → Broken t d i ruleSpread
   circle : ReachesItself d i → Broken t d i ruleCircle
   directive : T (directiveWrong d i) → Broken t d i ruleDirective
   undefined : Undefined d i → Broken t d i ruleUndefined
@@ -43,7 +43,7 @@ pub data Broken (t : Table) (d : Doc) (i : ℕ) : ℕ → Type 0 where
   other-type : Differs t d i → Broken t d i ruleVariableType
   name-twice : T (nameTwice d i) → Broken t d i ruleNameTwice
   no-root : T (noRoot t d i) → Broken t d i ruleNoRoot
-  argument : T (argumentUnknown t d i) → Broken t d i ruleArgument
+  unknown-argument : T (argumentUnknown t d i) → Broken t d i ruleArgument
 
 -- the least row, then the least rule
 abbrev pub NotAfter : ℕ → ℕ → ℕ → ℕ → Type 0

@@ -9,11 +9,10 @@ use lib.Dec.{T}
 use Rattle.paper.specs.Numbers.{kindOperation, kindVariable, kindVariableDefinition, kindTypeReference}
 use Rattle.paper.specs.Rows.{Row}
 use Rattle.paper_table.specs.Lists.{find, firstAt}
-use Rattle.paper_table.specs.Types.{Table, Definition, meant, isUnknown}
-use Rattle.paper_table.specs.Rules.{isComposite}
+use Rattle.paper_table.specs.Types.{Table, Definition, meant, isUnknown, isComposite}
 use Rattle.paper_query.specs.Constructs.{Doc, is, below, rowOf, nameOf}
 use Rattle.paper_query.specs.Enclosing.{then}
-use Rattle.paper_query.specs.PlaceTypes.{Shape, shapeIn, fits, place}
+use Rattle.paper_query.specs.PlaceTypes.{Shape, shapeIn, sameButNonNull, place}
 use Rattle.paper_query.specs.Reaching.{Reaches}
 use Rattle.paper_query.specs.Rule10Undefined.{definesIt, defines}
 
@@ -39,7 +38,7 @@ declaredBy d o n = cond (defines d o n) (declared d (firstAt (definesIt d o n) (
 abbrev pub differ : Option Shape → Option Shape → Bool
 differ none q = false
 differ (some p) none = false
-differ (some p) (some q) = not (fits p q)
+differ (some p) (some q) = not (sameButNonNull p q)
 
 pub record Differs (t : Table) (d : Doc) (i : ℕ) : Type 0 where
   pub variable : T (is kindVariable (rowOf d i))

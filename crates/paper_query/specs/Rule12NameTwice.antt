@@ -2,7 +2,7 @@
 use mathlib.Core.Bool.{Bool, _&&_, _||_}
 use Prim.Native.Nat.{ℕ}
 use Rattle.paper.specs.Numbers.{kindArgument, kindVariableDefinition}
-use Rattle.paper_table.specs.Rules.{earlier}
+use Rattle.paper_table.specs.Lists.{earlier}
 use Rattle.paper_query.specs.Constructs.{Doc, is, called, below, rowOf, kindOf, parentOf, nameOf}
 
 unfoldable pub nameTwice : Doc → ℕ → Bool

@@ -4,12 +4,12 @@ use Prim.Native.Nat.{ℕ}
 use lib.Dec.{eqb}
 use Rattle.paper.specs.Numbers.{kindOperation}
 use Rattle.paper.specs.Rows.{Row}
-use Rattle.paper_table.specs.Rules.{earlier}
+use Rattle.paper_table.specs.Lists.{earlier}
 use Rattle.paper_query.specs.Constructs.{Doc, is, called, rowOf, nameOf}
 
 -- an unnamed operation's name has no bytes
 abbrev pub isNamed : Row → Bool
-isNamed r = not (eqb (r .size) 0)
+isNamed r = not (eqb (r .nameLength) 0)
 
 unfoldable pub operationRepeated : Doc → ℕ → Bool
 operationRepeated d i =

@@ -3,8 +3,7 @@ use mathlib.Core.Bool.{Bool, not, _&&_, _||_}
 use Prim.Native.Nat.{ℕ, suc}
 use lib.ListN.{drop}
 use Rattle.paper.specs.Numbers.{kindOperation}
-use Rattle.paper_table.specs.Lists.{anyOf}
-use Rattle.paper_table.specs.Rules.{earlier}
+use Rattle.paper_table.specs.Lists.{anyOf, earlier}
 use Rattle.paper_query.specs.Constructs.{Doc, is, rowOf}
 use Rattle.paper_query.specs.Rule1OperationRepeated.{isNamed}
 

@@ -2,7 +2,7 @@
 use mathlib.Core.Bool.{Bool, _&&_}
 use Prim.Native.Nat.{ℕ}
 use Rattle.paper.specs.Numbers.{kindFragment}
-use Rattle.paper_table.specs.Rules.{earlier}
+use Rattle.paper_table.specs.Lists.{earlier}
 use Rattle.paper_query.specs.Constructs.{Doc, is, rowOf, nameOf, fragmentCalled}
 
 unfoldable pub fragmentRepeated : Doc → ℕ → Bool

@@ -3,8 +3,7 @@ use mathlib.Core.Bool.{Bool, not, _&&_, _||_}
 use Prim.Native.Nat.{ℕ}
 use Rattle.paper.specs.Numbers.{kindFragment, kindInline, kindTypeReference}
 use Rattle.paper.specs.Rows.{Row}
-use Rattle.paper_table.specs.Types.{Table, meant}
-use Rattle.paper_table.specs.Rules.{isComposite}
+use Rattle.paper_table.specs.Types.{Table, meant, isComposite}
 use Rattle.paper_query.specs.Constructs.{Doc, is, rowOf, parentOf, nameOf}
 
 -- a fragment, whose type reference is a condition

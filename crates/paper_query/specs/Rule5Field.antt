@@ -12,5 +12,5 @@ isMissing (member e) = false
 isMissing missing = true
 isMissing unknown = false
 
-unfoldable pub fieldMissing : Table → Doc → ℕ → Bool
-fieldMissing t d i = is kindField (rowOf d i) && isMissing (fieldAt t d i)
+unfoldable pub fieldNotOfType : Table → Doc → ℕ → Bool
+fieldNotOfType t d i = is kindField (rowOf d i) && isMissing (fieldAt t d i)

@@ -4,8 +4,7 @@ use Prim.Native.Nat.{ℕ}
 use Rattle.paper.specs.Numbers.{kindField}
 use Rattle.paper_table.specs.Lists.{anyOf}
 use Rattle.paper_table.specs.References.{baseOf}
-use Rattle.paper_table.specs.Types.{Table, Definition, meant}
-use Rattle.paper_table.specs.Rules.{isComposite}
+use Rattle.paper_table.specs.Types.{Table, Definition, meant, isComposite}
 use Rattle.paper_query.specs.Constructs.{Doc, is, isSelection, below, rowOf}
 use Rattle.paper_query.specs.Enclosing.{FieldIs, typename, member, missing, unknown, fieldAt}
 

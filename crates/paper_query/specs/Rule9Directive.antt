@@ -6,9 +6,8 @@ use mathlib.Core.List.{List, [], _∷_}
 use Rattle.paper.specs.Numbers.{kindArgument, kindDirective, kindVariable, kindBoolean}
 use Rattle.paper.specs.Rows.{Row}
 use Rattle.paper.specs.Tokens.{same}
-use Rattle.paper_table.specs.Lists.{bytes, anyOf, each, onlyIf}
+use Rattle.paper_table.specs.Lists.{bytes, anyOf, each, onlyIf, earlier}
 use Rattle.paper_table.specs.Types.{builtInDirectives}
-use Rattle.paper_table.specs.Rules.{earlier}
 use Rattle.paper_query.specs.Constructs.{Doc, is, isSelection, called, below, rowOf, parentOf, nameOf}
 
 -- an earlier one beside it has its name

@@ -7,9 +7,9 @@ use lib.Dec.{T}
 use Rattle.paper.specs.Grammar.{nt, Ev}
 use Rattle.paper.specs.Language.{Class, Mark, language, Document, braceL, braceR, n-other}
 use Rattle.paper.specs.Lexical.{lexical}
-use Rattle.paper.specs.Tokens.{Text, over, token}
+use Rattle.paper.specs.Tokens.{Text, atEnd, token}
 use Rattle.paper.specs.Reading.{tokensOf, classesOf}
-use Rattle.paper.specs.Sizes.{nothing, sums, through}
+use Rattle.paper.specs.Sizes.{nothingCounted, sums, through}
 use Rattle.paper.proofs.Machine.{Answer, accepted, stopped, run, step, enter, choose}
 use Rattle.paper.proofs.Longest.{scan}
 use Rattle.paper.proofs.Tables.{graphql, factored}
@@ -66,7 +66,7 @@ fields at zero t = t at
 fields at (suc n) t = token (record { class = n-other; start = at; stop = at + 1 }) (fields (at + 2) n t)
 
 abbrev manyRows : ℕ → List ℕ
-manyRows n = told (go (begin 0 0) (nt Document ∷ []) (token (record { class = braceL; start = 0; stop = 1 }) (fields 1 n (λ at. token (record { class = braceR; start = at; stop = at + 1 }) (over (at + 1))))))
+manyRows n = told (go (begin 0 0) (nt Document ∷ []) (token (record { class = braceL; start = 0; stop = 1 }) (fields 1 n (λ at. token (record { class = braceR; start = at; stop = at + 1 }) (atEnd (at + 1))))))
 
 rows-told : manyRows 2048 ≡ 6 ∷ 4095 ∷ []
 unfolding step enter choose language factored go
@@ -78,7 +78,7 @@ eventsIn (accepted es) = es
 eventsIn (stopped k) = []
 
 abbrev countsAt : List (Ev Class Mark) → ℕ → List ℕ
-countsAt es n = let s = sums (through n es) nothing in s .levels ∷ s .rows ∷ s .counts .fragments ∷ s .counts .variables ∷ s .counts .wrappers ∷ []
+countsAt es n = let s = sums (through n es) nothingCounted in s .levels ∷ s .rows ∷ s .counts .fragments ∷ s .counts .variables ∷ s .counts .wrappers ∷ []
 
 -- of the tokens `$`, `[`, `!`, `)`, `b`, the second `{` and the last of this document
 sums-are :

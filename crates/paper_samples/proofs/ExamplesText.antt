@@ -6,7 +6,7 @@ use Prim.Native.Nat.{ℕ}
 use Prim.Native.String.{String}
 use lib.Dec.{T}
 use Rattle.paper.specs.Numbers.{accepted}
-use Rattle.paper.specs.Tokens.{Text, over, bad, token}
+use Rattle.paper.specs.Tokens.{Text, atEnd, bad, token}
 use Rattle.paper.specs.Language.{Class, int, float, spread, n-other, n-on}
 use Rattle.paper.specs.Language.{language}
 use Rattle.paper.specs.Lexical.{lexical}
@@ -24,7 +24,7 @@ tk c a e t = token (record { class = c; start = a; stop = e }) t
 -- the longest match, and the next begins anew
 longest-matches :
     map (λ s. from (bytes s) 0) ("1.x" ∷ "007" ∷ "...." ∷ "-0.5e+3e" ∷ "1..." ∷ "on one" ∷ []) ≡
-    tk int 0 1 (bad 1) ∷ tk int 0 1 (tk int 1 2 (tk int 2 3 (over 3))) ∷ tk spread 0 3 (bad 3) ∷ tk float 0 7 (tk n-other 7 8 (over 8)) ∷ tk int 0 1 (tk spread 1 4 (over 4)) ∷ tk n-on 0 2 (tk n-other 3 6 (over 6)) ∷ []
+    tk int 0 1 (bad 1) ∷ tk int 0 1 (tk int 1 2 (tk int 2 3 (atEnd 3))) ∷ tk spread 0 3 (bad 3) ∷ tk float 0 7 (tk n-other 7 8 (atEnd 8)) ∷ tk int 0 1 (tk spread 1 4 (atEnd 4)) ∷ tk n-on 0 2 (tk n-other 3 6 (atEnd 6)) ∷ []
 unfolding from text scan step enter choose lexical lexFactored
 longest-matches = refl
 

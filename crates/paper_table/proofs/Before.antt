@@ -7,7 +7,7 @@ use native.Mathlib.Omega.{arith}
 use lib.Dec.{ltb, eqb}
 use borrow.Author.Tests.{ltb-true, ltb-false, eqb-true, eqb-false, lt-ltb, eq-eqb}
 use Rattle.paper_table.specs.Lists.{onlyIf}
-use Rattle.paper_table.specs.Judging.{before}
+use Rattle.paper_table.specs.Judging.{notAfter}
 
 -- what the test `before` decides
 pub data Before : List ℕ → List ℕ → Type 0 where
@@ -15,8 +15,8 @@ pub data Before : List ℕ → List ℕ → Type 0 where
   less : {x y : ℕ} {xs ys : List ℕ} → x < y → Before (x ∷ xs) (y ∷ ys)
   same : {x y : ℕ} {xs ys : List ℕ} → x ≡ y → Before xs ys → Before (x ∷ xs) (y ∷ ys)
 
-pub before-complete : {xs ys : List ℕ} → Before xs ys → before xs ys ≡ true
-unfolding before
+pub before-complete : {xs ys : List ℕ} → Before xs ys → notAfter xs ys ≡ true
+unfolding notAfter
 before-complete empty = refl
 before-complete (less {x = x} {y = y} h) = rw (lt-ltb x y h)
 before-complete (same {x = x} {y = y} e b) = rw (eq-eqb x y e, before-complete b) (or-true (ltb x y))
@@ -25,13 +25,13 @@ before-complete (same {x = x} {y = y} e b) = rw (eq-eqb x y e, before-complete b
     or-true true = refl
     or-true false = refl
 
-pub before-sound : (xs ys : List ℕ) → before xs ys ≡ true → Before xs ys
-unfolding before
+pub before-sound : (xs ys : List ℕ) → notAfter xs ys ≡ true → Before xs ys
+unfolding notAfter
 before-sound [] ys e = empty
 before-sound (x ∷ xs) [] e = absurd (false≢true e)
 before-sound (x ∷ xs) (y ∷ ys) e = go (ltb x y) (eqb x y) refl refl e (λ q. before-sound xs ys q)
   where
-    go : (a b : Bool) → ltb x y ≡ a → eqb x y ≡ b → a || b && before xs ys ≡ true → (before xs ys ≡ true → Before xs ys) → Before (x ∷ xs) (y ∷ ys)
+    go : (a b : Bool) → ltb x y ≡ a → eqb x y ≡ b → a || b && notAfter xs ys ≡ true → (notAfter xs ys ≡ true → Before xs ys) → Before (x ∷ xs) (y ∷ ys)
     go true b p q e f = less (ltb-true x y p)
     go false true p q e f = same (eqb-true x y q) (f e)
     go false false p q e f = absurd (false≢true e)
@@ -57,13 +57,13 @@ before-trans (same e b) (less k) = less (eq-lt _ _ _ e k)
 before-trans (same e b) (same f c) = same (e ∙ f) (before-trans b c)
 
 -- one of two is not after the other
-pub before-total : (xs ys : List ℕ) → before xs ys ≡ false → Before ys xs
-unfolding before
+pub before-total : (xs ys : List ℕ) → notAfter xs ys ≡ false → Before ys xs
+unfolding notAfter
 before-total [] ys e = absurd (true≢false e)
 before-total (x ∷ xs) [] e = empty
 before-total (x ∷ xs) (y ∷ ys) e = go (ltb x y) (eqb x y) refl refl e (λ q. before-total xs ys q)
   where
-    go : (a b : Bool) → ltb x y ≡ a → eqb x y ≡ b → a || b && before xs ys ≡ false → (before xs ys ≡ false → Before ys xs) → Before (y ∷ ys) (x ∷ xs)
+    go : (a b : Bool) → ltb x y ≡ a → eqb x y ≡ b → a || b && notAfter xs ys ≡ false → (notAfter xs ys ≡ false → Before ys xs) → Before (y ∷ ys) (x ∷ xs)
     go true b p q e f = absurd (true≢false e)
     go false true p q e f = same (sym (eqb-true x y q)) (f e)
     go false false p q e f = let h : y ≤ x = ltb-false x y p in let g = eqb-false x y q in less (below h g)

@@ -8,7 +8,8 @@ use lib.ListN.{length}
 use Rattle.paper_table.specs.TableNumbers.{noPlace, ruleRoot}
 use Rattle.paper_table.specs.Lists.{gather}
 use Rattle.paper_table.specs.Types.{Definition, Table}
-use Rattle.paper_table.specs.Rules.{Place, wholeOf, queryNotObject}
+use Rattle.paper_table.specs.Places.{Place, wholeOf}
+use Rattle.paper_table.specs.Rule16Root.{queryNotObject}
 use Rattle.paper_table.specs.Judging.{rules, Break, break, breaksOf, breaks, numbersOf, leastBreak}
 use Rattle.paper_table.proofs.Every.{Every}
 use Rattle.paper_table.proofs.Before.{empty, less, same, before-refl, Rise, done, then, rise-lower, rise-higher, rise-append, rise-one}

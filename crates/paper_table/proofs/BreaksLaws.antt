@@ -9,8 +9,9 @@ use native.Mathlib.Omega.{arith}
 use lib.ListN.{length, getD}
 use Rattle.paper_table.specs.TableNumbers.{ruleRoot}
 use Rattle.paper_table.specs.Lists.{gather, eachFrom, onlyIf}
-use Rattle.paper_table.specs.Types.{Table, blank, tagNothing}
-use Rattle.paper_table.specs.Rules.{Place, wholeOf, queryNotObject}
+use Rattle.paper_table.specs.Types.{Table, blankDefinition, tagNothing}
+use Rattle.paper_table.specs.Places.{Place, wholeOf}
+use Rattle.paper_table.specs.Rule16Root.{queryNotObject}
 use Rattle.paper_table.specs.Judging.{Numbered, rules, Break, break, breaksOfRule, breaksOf, breaks}
 use Rattle.paper_table.proofs.Walk.{definitionAt}
 
@@ -90,13 +91,13 @@ breaks-sound t b m = go (List·Memᴰ·append-cases (eachFrom 0 (breaksOf t) t) 
     numbered r = of-definition t b (r .0) (r .1) (subst (λ (j : ℕ). List·Memᴰ b (breaksOf t j (definitionAt t (r .0)))) (zero-add (r .0)) (r .2))
 
     go : List·Memᴰ b (eachFrom 0 (breaksOf t) t) ⊎ List·Memᴰ b (onlyIf (queryNotObject t) (break (length t) ruleRoot wholeOf)) → Broken t b
-    go (inl k) = numbered (each-sound (breaksOf t) (blank tagNothing) 0 t b k)
+    go (inl k) = numbered (each-sound (breaksOf t) (blankDefinition tagNothing) 0 t b k)
     go (inr k) = query (queryNotObject t) refl k
 
 pub breaks-complete : (t : Table) (b : Break) → Broken t b → List·Memᴰ b (breaks t)
 unfolding breaks breaksOf
 breaks-complete t b (at-place i n q h r m) =
-    Memᴰ·append-left _ (each-complete (breaksOf t) (blank tagNothing) 0 t (break i (n .number) q) i h
+    Memᴰ·append-left _ (each-complete (breaksOf t) (blankDefinition tagNothing) 0 t (break i (n .number) q) i h
     (subst (λ (j : ℕ). List·Memᴰ (break i (n .number) q) (breaksOf t j (definitionAt t i))) (sym (zero-add i))
     (gather-complete (breaksOfRule t i (definitionAt t i)) rules (break i (n .number) q) n r (map-complete (break i (n .number)) (n .rule t i (definitionAt t i)) q m))))
 breaks-complete t b (at-query e) = Memᴰ·append-right (eachFrom 0 (breaksOf t) t) (rw e (List·Memᴰ·head refl))

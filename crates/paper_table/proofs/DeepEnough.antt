@@ -7,7 +7,7 @@ use lib.Dec.{eqb, leb}
 use borrow.Author.Tests.{eqb-true, leb-true}
 use Rattle.paper_table.specs.TableNumbers.{tagScalar, tagObject, tagInterface, tagUnion, tagEnum, tagInputObject, tagDirective, tagRoots, tagName, tagImplements, tagField, tagArgument, tagReference, tagUnionMember, tagEnumValue, tagQueryRoot, tagMutationRoot, tagSubscriptionRoot}
 use Rattle.paper_table.specs.Lists.{anyOf}
-use Rattle.paper_table.specs.House.{Piece, piece, cut, inside, Slot, one, atMostOne, many, aName, aReference, holds, contents, lookUp, contentOf, isFor, inPlace, openAfter, lacks, Offsets, inOrder, orLacking, byContent, wrongs, mostDeep, recordInPlace}
+use Rattle.paper_table.specs.House.{HouseField, houseField, cut, houseFieldsIn, Slot, one, atMostOne, many, aName, aReference, holds, contents, lookUp, contentOf, isFor, inPlace, openAfter, lacksHouseField, Offsets, inOrder, orLacking, byContent, wrongs, mostDeep, recordInPlace}
 use Rattle.paper_table.proofs.Every.{Every, no-more, one-more}
 use Rattle.paper_table.proofs.Filled.{slotTag, and-inv}
 use Rattle.paper_table.proofs.FramedTable.{one-of-eight}
@@ -53,11 +53,11 @@ every-after P t (one-more {x = many k} {xs = ss} p ps) = go (eqb t k) (every-aft
     go true ih = one-more p ps
     go false ih = ih
 
-order-same : (f g : Offsets) (ps : List Piece) (ss : List Slot) → Every (AgreeAt f g) ss → inOrder f ss ps ≡ inOrder g ss ps
+order-same : (f g : Offsets) (ps : List HouseField) (ss : List Slot) → Every (AgreeAt f g) ss → inOrder f ss ps ≡ inOrder g ss ps
 unfolding inOrder
 order-same f g [] ss a = refl
 order-same f g (cut at ∷ ps) ss a = ap (λ (ws : List ℕ). at ∷ ws) (order-same f g ps ss a)
-order-same f g (piece at t s ∷ ps) ss a = go (inPlace t ss) refl (order-same f g ps (openAfter t ss) (every-after (AgreeAt f g) t a)) (order-same f g ps ss a)
+order-same f g (houseField at t s ∷ ps) ss a = go (inPlace t ss) refl (order-same f g ps (openAfter t ss) (every-after (AgreeAt f g) t a)) (order-same f g ps ss a)
   where
     go : (b : Bool) → inPlace t ss ≡ b → inOrder f (openAfter t ss) ps ≡ inOrder g (openAfter t ss) ps → inOrder f ss ps ≡ inOrder g ss ps
         → cond b (f at t s) (at ∷ []) ++ inOrder f (cond b (openAfter t ss) ss) ps ≡ cond b (g at t s) (at ∷ []) ++ inOrder g (cond b (openAfter t ss) ss) ps
@@ -75,7 +75,7 @@ reference-same d e k c at s = rw c
 
 holder-same : (d e k : ℕ) (ss : List Slot) → contentOf k ≡ holds ss → Every (AgreeAt (wrongs d) (wrongs e)) ss → Agree (wrongs (suc d)) (wrongs (suc e)) k
 unfolding wrongs byContent
-holder-same d e k ss c a at s = rw c (ap (orLacking at (lacks ss (inside at s))) (order-same (wrongs d) (wrongs e) (inside at s) ss a))
+holder-same d e k ss c a at s = rw c (ap (orLacking at (lacksHouseField ss (houseFieldsIn at s))) (order-same (wrongs d) (wrongs e) (houseFieldsIn at s) ss a))
 
 argument-same : (d e : ℕ) → Agree (wrongs (suc (suc d))) (wrongs (suc (suc e))) tagArgument
 unfolding contents lookUp

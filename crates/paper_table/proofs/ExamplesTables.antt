@@ -4,12 +4,28 @@ use mathlib.Core.List.{List, [], _∷_, _++_}
 use lib.Dec.{T}
 use Rattle.paper_table.specs.Lists.{bytes, anyOf, allOf, firstAt, find, gather, eachFrom}
 use Rattle.paper_table.specs.References.{isName, sameRef, marked, closed, readName, refFrom, wholeRef, refOf}
-use Rattle.paper_table.specs.House.{piecesFrom, contents, lookUp, openAfter, inOrder, byContent, wrongs, tableWrongs, smallest, framing}
-use Rattle.paper_table.specs.TableSizes.{roomIn, oversIn, wrappersOver, oversBy, overs, counts}
+use Rattle.paper_table.specs.House.{houseFieldsFrom, contents, lookUp, openAfter, inOrder, byContent, wrongs, tableWrongs, smallest, framingOffset}
+use Rattle.paper_table.specs.TableSizes.{roomIn, oversIn, wrappersOver, oversBy, overs, countsOffset}
 use Rattle.paper_table.specs.Types.{textOf, memberOf, definitionOf, tableOf, builtIns, builtInDirectives, meaning, canBe}
 use Rattle.paper_table.specs.SubTypes.{subTest}
-use Rattle.paper_table.specs.Rules.{reservedName, nameKnown, noMembers, nameRepeated, reservedMember, noEnumValues, enumValue, noType, wrongBase, notObjectOrInterface, implementedTwice, promised, fieldMissing, fieldType, argumentMissing, argumentType, argumentExtra, rootNotObject, queryNotObject}
-use Rattle.paper_table.specs.Judging.{rules, breaksOf, breaks, before, leastBreak, answer, judge}
+use Rattle.paper_table.specs.Promises.{promised}
+use Rattle.paper_table.specs.Rule1ReservedName.{reservedName}
+use Rattle.paper_table.specs.Rule2NameKnown.{nameKnown}
+use Rattle.paper_table.specs.Rule3NoMembers.{noMembers}
+use Rattle.paper_table.specs.Rule4NameRepeated.{nameRepeated}
+use Rattle.paper_table.specs.Rule5ReservedMember.{reservedMember}
+use Rattle.paper_table.specs.Rule6EnumValue.{noEnumValues, enumValue}
+use Rattle.paper_table.specs.Rule7NoType.{noType}
+use Rattle.paper_table.specs.Rule8Base.{wrongBase}
+use Rattle.paper_table.specs.Rule9NotObjectOrInterface.{notObjectOrInterface}
+use Rattle.paper_table.specs.Rule10ImplementedTwice.{implementedTwice}
+use Rattle.paper_table.specs.Rule11FieldMissing.{interfaceFieldMissing}
+use Rattle.paper_table.specs.Rule12FieldType.{fieldType}
+use Rattle.paper_table.specs.Rule13ArgumentMissing.{interfaceArgumentMissing}
+use Rattle.paper_table.specs.Rule14ArgumentType.{argumentType}
+use Rattle.paper_table.specs.Rule15ArgumentExtra.{argumentExtra}
+use Rattle.paper_table.specs.Rule16Root.{rootNotObject, queryNotObject}
+use Rattle.paper_table.specs.Judging.{rules, breaksOf, breaks, notAfter, leastBreak, tableAnswer, judge}
 use Rattle.paper_table.proofs.WorkedTables.{h, N, field, argument, scalar, object, interface, union, enum, input, directive, roots, implements, member, value, query, mutation, subscription, Case, agreed}
 
 -- 01: table T, and a table of no bytes
@@ -20,7 +36,7 @@ document =
     []
 
 document-told : T (agreed document)
-unfolding anyOf allOf firstAt find gather eachFrom isName sameRef marked closed readName refFrom wholeRef refOf piecesFrom contents lookUp openAfter inOrder byContent wrongs tableWrongs smallest framing roomIn oversIn wrappersOver oversBy overs counts textOf memberOf definitionOf tableOf builtIns builtInDirectives meaning canBe subTest reservedName nameKnown noMembers nameRepeated reservedMember noEnumValues enumValue noType wrongBase notObjectOrInterface implementedTwice promised fieldMissing fieldType argumentMissing argumentType argumentExtra rootNotObject queryNotObject rules breaksOf breaks before leastBreak answer judge
+unfolding anyOf allOf firstAt find gather eachFrom isName sameRef marked closed readName refFrom wholeRef refOf houseFieldsFrom contents lookUp openAfter inOrder byContent wrongs tableWrongs smallest framingOffset roomIn oversIn wrappersOver oversBy overs countsOffset textOf memberOf definitionOf tableOf builtIns builtInDirectives meaning canBe subTest reservedName nameKnown noMembers nameRepeated reservedMember noEnumValues enumValue noType wrongBase notObjectOrInterface implementedTwice promised interfaceFieldMissing fieldType interfaceArgumentMissing argumentType argumentExtra rootNotObject queryNotObject rules breaksOf breaks notAfter leastBreak tableAnswer judge
 document-told = tt
 
 -- the readings of the type table
@@ -64,5 +80,5 @@ readings =
     []
 
 readings-told : T (agreed readings)
-unfolding anyOf allOf firstAt find gather eachFrom isName sameRef marked closed readName refFrom wholeRef refOf piecesFrom contents lookUp openAfter inOrder byContent wrongs tableWrongs smallest framing roomIn oversIn wrappersOver oversBy overs counts textOf memberOf definitionOf tableOf builtIns builtInDirectives meaning canBe subTest reservedName nameKnown noMembers nameRepeated reservedMember noEnumValues enumValue noType wrongBase notObjectOrInterface implementedTwice promised fieldMissing fieldType argumentMissing argumentType argumentExtra rootNotObject queryNotObject rules breaksOf breaks before leastBreak answer judge
+unfolding anyOf allOf firstAt find gather eachFrom isName sameRef marked closed readName refFrom wholeRef refOf houseFieldsFrom contents lookUp openAfter inOrder byContent wrongs tableWrongs smallest framingOffset roomIn oversIn wrappersOver oversBy overs countsOffset textOf memberOf definitionOf tableOf builtIns builtInDirectives meaning canBe subTest reservedName nameKnown noMembers nameRepeated reservedMember noEnumValues enumValue noType wrongBase notObjectOrInterface implementedTwice promised interfaceFieldMissing fieldType interfaceArgumentMissing argumentType argumentExtra rootNotObject queryNotObject rules breaksOf breaks notAfter leastBreak tableAnswer judge
 readings-told = tt

@@ -8,7 +8,7 @@ use lib.Dec.{leb}
 use Rattle.paper_table.specs.TableNumbers.{tagScalar, tagObject, tagInterface, tagUnion, tagEnum, tagInputObject, tagDirective, tagRoots, tagName, tagImplements, tagField, tagArgument, tagReference, tagUnionMember, tagEnumValue, tagQueryRoot, tagMutationRoot, tagSubscriptionRoot}
 use Rattle.paper_table.specs.Lists.{anyOf, gather, onlyIf}
 use Rattle.paper_table.specs.References.{isName, Ref, refOf, found, isReference}
-use Rattle.paper_table.specs.House.{Piece, piece, inside, Slot, one, atMostOne, many, aName, aReference, holds, contents, lookUp, contentOf, lacks, Offsets, inOrder, orLacking, byContent, wrongs, mostDeep}
+use Rattle.paper_table.specs.House.{HouseField, houseField, houseFieldsIn, Slot, one, atMostOne, many, aName, aReference, holds, contents, lookUp, contentOf, lacksHouseField, Offsets, inOrder, orLacking, byContent, wrongs, mostDeep}
 use Rattle.paper_table.specs.Types.{Argument, Member, Definition, textOf, nameIn, typeIn, argumentOf, fieldIn, inputIn, nameOnly, memberOf, implementedOf, definitionIn}
 use Rattle.paper_table.proofs.ReferenceTexts.{Written, refOf-sound}
 use Rattle.paper_table.proofs.Every.{Every, no-more, one-more, every-append}
@@ -20,11 +20,11 @@ lacking-inv at true [] e = absurd (cons≢nil e)
 lacking-inv at false [] e = (refl, refl)
 lacking-inv at b (w ∷ ws) e = absurd (cons≢nil e)
 
-pub holder-right : (d at tag : ℕ) (s : List ℕ) (ss : List Slot) → contentOf tag ≡ holds ss → distinct ss ≡ true → wrongs (suc d) at tag s ≡ [] → Filled (wrongs d) ss (inside at s)
+pub holder-right : (d at tag : ℕ) (s : List ℕ) (ss : List Slot) → contentOf tag ≡ holds ss → distinct ss ≡ true → wrongs (suc d) at tag s ≡ [] → Filled (wrongs d) ss (houseFieldsIn at s)
 unfolding wrongs byContent
 holder-right d at tag s ss c n e =
-    let z = lacking-inv at (lacks ss (inside at s)) (inOrder (wrongs d) ss (inside at s)) (rw c at e) in
-    filled-complete (wrongs d) ss n (inside at s) (z .0) (z .1)
+    let z = lacking-inv at (lacksHouseField ss (houseFieldsIn at s)) (inOrder (wrongs d) ss (houseFieldsIn at s)) (rw c at e) in
+    filled-complete (wrongs d) ss n (houseFieldsIn at s) (z .0) (z .1)
 
 only-inv : (b : Bool) (at : ℕ) → onlyIf (not b) at ≡ [] → b ≡ true
 only-inv true at e = refl
@@ -43,8 +43,8 @@ unfolding wrongs byContent
 reference-right d at tag s c e = found-inv (refOf s) (only-inv (isReference s) at (rw c at e))
 
 -- what a right holder's fields give
-pub filled-gather : {B : Type 0} (inner : Offsets) (Q : B → Type 0) (g : Piece → List B) {ss : List Slot} {ps : List Piece}
-    → Every (λ x. (at : ℕ) (s : List ℕ) → inner at (slotTag x) s ≡ [] → Every Q (g (piece at (slotTag x) s))) ss → Filled inner ss ps → Every Q (gather g ps)
+pub filled-gather : {B : Type 0} (inner : Offsets) (Q : B → Type 0) (g : HouseField → List B) {ss : List Slot} {ps : List HouseField}
+    → Every (λ x. (at : ℕ) (s : List ℕ) → inner at (slotTag x) s ≡ [] → Every Q (g (houseField at (slotTag x) s))) ss → Filled inner ss ps → Every Q (gather g ps)
 unfolding gather
 filled-gather inner Q g h filled = no-more
 filled-gather inner Q g (one-more h hs) (the-one {at = at} {s = s} e f) = every-append (h at s e) (filled-gather inner Q g hs f)
@@ -65,21 +65,21 @@ pub data RightMember : Member → Type 0 where
   a-name : {e : Member} (k : ℕ) → e .tag ≡ k → isName (e .name) ≡ true → e .arguments ≡ [] → RightMember e
 
 -- a name and a reference, the first two fields of 18 and 19
-abbrev Typed : List Piece → Type 0
+abbrev Typed : List HouseField → Type 0
 Typed ps = (isName (nameIn ps) ≡ true) × Written (typeIn ps)
 
-typed : (d : ℕ) {ss : List Slot} {ps : List Piece} → Filled (wrongs (suc d)) (one tagName ∷ one tagReference ∷ ss) ps → Typed ps
+typed : (d : ℕ) {ss : List Slot} {ps : List HouseField} → Filled (wrongs (suc d)) (one tagName ∷ one tagReference ∷ ss) ps → Typed ps
 unfolding textOf contents lookUp
 typed d (the-one {at = at} {s = n} e (the-one {at = at′} {s = s} e′ f)) =
     let z = reference-right d at′ tagReference s refl e′ in
     (name-right d at tagName n refl e, rw (z .1) (refOf-sound s (z .0) (z .1) .0))
 
-argument-right : (d at : ℕ) (s : List ℕ) → wrongs (suc (suc d)) at tagArgument s ≡ [] → Typed (inside at s)
+argument-right : (d at : ℕ) (s : List ℕ) → wrongs (suc (suc d)) at tagArgument s ≡ [] → Typed (houseFieldsIn at s)
 unfolding contents lookUp anyOf
 argument-right d at s e = typed d (holder-right (suc d) at tagArgument s (one tagName ∷ one tagReference ∷ []) refl refl e)
 
 -- the arguments of a right field
-arguments-right : (d : ℕ) {ps : List Piece} → Filled (wrongs (suc (suc d))) (one tagName ∷ one tagReference ∷ many tagArgument ∷ []) ps → Every RightArgument (gather argumentOf ps)
+arguments-right : (d : ℕ) {ps : List HouseField} → Filled (wrongs (suc (suc d))) (one tagName ∷ one tagReference ∷ many tagArgument ∷ []) ps → Every RightArgument (gather argumentOf ps)
 arguments-right d f =
     filled-gather (wrongs (suc (suc d))) RightArgument argumentOf
     (one-more (λ at s e. no-more) (one-more (λ at s e. no-more) (one-more (λ at s e. let z = argument-right d at s e in one-more (record { name = z .0; type = z .1 }) no-more) no-more))) f
@@ -123,33 +123,33 @@ nothing-in no-more = refl
 nothing-in (one-more h hs) = absurd h
 
 -- the name, a record's first field
-name-of : (d : ℕ) {ss : List Slot} {ps : List Piece} → Filled (wrongs (suc d)) (one tagName ∷ ss) ps → isName (nameIn ps) ≡ true
+name-of : (d : ℕ) {ss : List Slot} {ps : List HouseField} → Filled (wrongs (suc d)) (one tagName ∷ ss) ps → isName (nameIn ps) ≡ true
 unfolding textOf contents lookUp
 name-of d (the-one {at = at} {s = n} e f) = name-right d at tagName n refl e
 
 -- a record with its name and members of one tag
-module _ (k : ℕ) (members : (at : ℕ) (s : List ℕ) → wrongs 3 at k s ≡ [] → Every (MemberOf k) (memberOf (piece at k s))) (plain : (at : ℕ) (s : List ℕ) → implementedOf (piece at k s) ≡ []) where
-  members-right : {ps : List Piece} → Filled (wrongs 3) (one tagName ∷ many k ∷ []) ps → Every (MemberOf k) (gather memberOf ps)
+module _ (k : ℕ) (members : (at : ℕ) (s : List ℕ) → wrongs 3 at k s ≡ [] → Every (MemberOf k) (memberOf (houseField at k s))) (plain : (at : ℕ) (s : List ℕ) → implementedOf (houseField at k s) ≡ []) where
+  members-right : {ps : List HouseField} → Filled (wrongs 3) (one tagName ∷ many k ∷ []) ps → Every (MemberOf k) (gather memberOf ps)
   unfolding memberOf
   members-right f = filled-gather (wrongs 3) (MemberOf k) memberOf (one-more (λ at s e. no-more) (one-more members no-more)) f
 
-  none-implemented : {ps : List Piece} → Filled (wrongs 3) (one tagName ∷ many k ∷ []) ps → gather implementedOf ps ≡ []
+  none-implemented : {ps : List HouseField} → Filled (wrongs 3) (one tagName ∷ many k ∷ []) ps → gather implementedOf ps ≡ []
   none-implemented f =
       nothing-in (filled-gather (wrongs 3) (λ x. ⊥) implementedOf (one-more (λ at s e. no-more) (one-more (λ at s e. subst (Every (λ x. ⊥)) (sym (plain at s)) no-more) no-more)) f)
 
-fields-right : (at : ℕ) (s : List ℕ) → wrongs 3 at tagField s ≡ [] → Every (MemberOf tagField) (memberOf (piece at tagField s))
+fields-right : (at : ℕ) (s : List ℕ) → wrongs 3 at tagField s ≡ [] → Every (MemberOf tagField) (memberOf (houseField at tagField s))
 unfolding memberOf
 fields-right at s e = one-more (refl, field-right 0 at s e) no-more
 
-inputs-right : (at : ℕ) (s : List ℕ) → wrongs 3 at tagArgument s ≡ [] → Every (MemberOf tagArgument) (memberOf (piece at tagArgument s))
+inputs-right : (at : ℕ) (s : List ℕ) → wrongs 3 at tagArgument s ≡ [] → Every (MemberOf tagArgument) (memberOf (houseField at tagArgument s))
 unfolding memberOf
 inputs-right at s e = one-more (refl, input-right 1 at s e) no-more
 
-union-members-right : (at : ℕ) (s : List ℕ) → wrongs 3 at tagUnionMember s ≡ [] → Every (MemberOf tagUnionMember) (memberOf (piece at tagUnionMember s))
+union-members-right : (at : ℕ) (s : List ℕ) → wrongs 3 at tagUnionMember s ≡ [] → Every (MemberOf tagUnionMember) (memberOf (houseField at tagUnionMember s))
 unfolding memberOf contents lookUp
 union-members-right at s e = one-more (refl, a-name tagUnionMember refl (name-right 2 at tagUnionMember s refl e) refl) no-more
 
-values-right : (at : ℕ) (s : List ℕ) → wrongs 3 at tagEnumValue s ≡ [] → Every (MemberOf tagEnumValue) (memberOf (piece at tagEnumValue s))
+values-right : (at : ℕ) (s : List ℕ) → wrongs 3 at tagEnumValue s ≡ [] → Every (MemberOf tagEnumValue) (memberOf (houseField at tagEnumValue s))
 unfolding memberOf contents lookUp
 values-right at s e = one-more (refl, a-name tagEnumValue refl (name-right 2 at tagEnumValue s refl e) refl) no-more
 
@@ -203,7 +203,7 @@ directive-right at s e =
     let f = holder-right 3 at tagDirective s (one tagName ∷ many tagArgument ∷ []) refl refl e in
     a-directive refl (name-of 2 f) (none-implemented tagArgument inputs-right (λ at s. refl) f) (members-right tagArgument inputs-right (λ at s. refl) f)
 
-no-name : {inner : Offsets} {ps : List Piece} → Filled inner (one tagQueryRoot ∷ atMostOne tagMutationRoot ∷ atMostOne tagSubscriptionRoot ∷ []) ps → nameIn ps ≡ []
+no-name : {inner : Offsets} {ps : List HouseField} → Filled inner (one tagQueryRoot ∷ atMostOne tagMutationRoot ∷ atMostOne tagSubscriptionRoot ∷ []) ps → nameIn ps ≡ []
 unfolding textOf
 no-name (the-one e (not-there (not-there filled))) = refl
 no-name (the-one e (not-there (once e′ filled))) = refl

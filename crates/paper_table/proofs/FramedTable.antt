@@ -9,7 +9,7 @@ use lib.Dec.{eqb, leb}
 use borrow.Author.Tests.{leb-true}
 use Rattle.paper_table.specs.TableNumbers.{tagScalar, tagRoots}
 use Rattle.paper_table.specs.Lists.{gather}
-use Rattle.paper_table.specs.House.{Piece, piece, cut, pieces, wrongs, mostDeep, recordInPlace, tableWrongs, smallest, smaller, framing}
+use Rattle.paper_table.specs.House.{HouseField, houseField, cut, houseFields, wrongs, mostDeep, recordInPlace, tableWrongs, smallest, smaller, framingOffset}
 use Rattle.paper_table.specs.Types.{definitionIn, definitionOf, tableOf}
 use Rattle.paper_table.proofs.Every.{Every, no-more, one-more}
 use Rattle.paper_table.proofs.Filled.{append-inv, and-inv}
@@ -36,11 +36,11 @@ record-right roots at tag s b =
     (scalar-right at s) (object-right at s) (interface-right at s) (union-right at s) (enum-right at s) (input-object-right at s) (directive-right at s) (roots-right at s)
     tag (leb-true tagScalar tag (y .0)) (leb-true tag tagRoots (y .1))
 
-table-right : (ps : List Piece) (roots : Bool) → tableWrongs roots ps ≡ [] → Every RightDefinition (gather definitionOf ps)
+table-right : (ps : List HouseField) (roots : Bool) → tableWrongs roots ps ≡ [] → Every RightDefinition (gather definitionOf ps)
 unfolding tableWrongs gather definitionOf
 table-right [] roots e = no-more
 table-right (cut at ∷ ps) roots e = absurd (cons≢nil e)
-table-right (piece at tag s ∷ ps) roots e = go (recordInPlace roots tag) refl e (table-right ps (roots && not (eqb tag tagRoots)))
+table-right (houseField at tag s ∷ ps) roots e = go (recordInPlace roots tag) refl e (table-right ps (roots && not (eqb tag tagRoots)))
   where
     go : (b : Bool) → recordInPlace roots tag ≡ b → cond b (wrongs mostDeep at tag s) (at ∷ []) ++ tableWrongs (roots && not (eqb tag tagRoots)) ps ≡ []
         → (tableWrongs (roots && not (eqb tag tagRoots)) ps ≡ [] → Every RightDefinition (gather definitionOf ps)) → Every RightDefinition (definitionIn at tag s ∷ gather definitionOf ps)
@@ -56,10 +56,10 @@ smallest-none (w ∷ ws) e = absurd (go (smallest ws) e)
     go none e = let z : _≡_ {A = Option ℕ} (some w) none = e in false≢true cc
     go (some v) e = let z : _≡_ {A = Option ℕ} (some (cond (leb w v) w v)) none = e in false≢true cc
 
-pub framing-wrongs : (s : List ℕ) → framing s ≡ none → tableWrongs true (pieces 0 s) ≡ []
-unfolding framing
-framing-wrongs s e = smallest-none (tableWrongs true (pieces 0 s)) e
+pub framing-wrongs : (s : List ℕ) → framingOffset s ≡ none → tableWrongs true (houseFields 0 s) ≡ []
+unfolding framingOffset
+framing-wrongs s e = smallest-none (tableWrongs true (houseFields 0 s)) e
 
-pub framing-right : (s : List ℕ) → framing s ≡ none → Every RightDefinition (tableOf s)
+pub framing-right : (s : List ℕ) → framingOffset s ≡ none → Every RightDefinition (tableOf s)
 unfolding tableOf
-framing-right s e = table-right (pieces 0 s) true (framing-wrongs s e)
+framing-right s e = table-right (houseFields 0 s) true (framing-wrongs s e)

@@ -7,29 +7,29 @@ use Prim.Native.Nat.{ℕ}
 use lib.Dec.{eqb}
 use Rattle.paper_table.specs.TableNumbers.{tagRoots}
 use Rattle.paper_table.specs.Lists.{anyOf}
-use Rattle.paper_table.specs.House.{Piece, piece, cut, Slot, inPlace, openAfter, tagIs, Offsets, inOrder, orLacking, wrongs, mostDeep, recordInPlace, tableWrongs}
+use Rattle.paper_table.specs.House.{HouseField, houseField, cut, Slot, inPlace, openAfter, tagIs, Offsets, inOrder, orLacking, wrongs, mostDeep, recordInPlace, tableWrongs}
 use Rattle.paper_table.specs.TableSizes.{Room, isOver, lessRoom, oversIn}
 use Rattle.paper_table.proofs.ListsLaws.{head-left}
 
 -- Of a holder: in place and right, on with the slots that stay open
-pub order-on : (inner : Offsets) (ss : List Slot) (i k : ℕ) (s : List ℕ) (ps : List Piece) → inPlace k ss ≡ true → inner i k s ≡ []
-    → inOrder inner ss (piece i k s ∷ ps) ≡ inOrder inner (openAfter k ss) ps
+pub order-on : (inner : Offsets) (ss : List Slot) (i k : ℕ) (s : List ℕ) (ps : List HouseField) → inPlace k ss ≡ true → inner i k s ≡ []
+    → inOrder inner ss (houseField i k s ∷ ps) ≡ inOrder inner (openAfter k ss) ps
 unfolding inOrder
 order-on inner ss i k s ps q e = rw (q, e)
 
 -- in place and wrong inside: that offset
-pub order-inside : (inner : Offsets) (ss : List Slot) (i k : ℕ) (s : List ℕ) (ps : List Piece) (w : ℕ) → inPlace k ss ≡ true → head? (inner i k s) ≡ some w
-    → head? (inOrder inner ss (piece i k s ∷ ps)) ≡ some w
+pub order-inside : (inner : Offsets) (ss : List Slot) (i k : ℕ) (s : List ℕ) (ps : List HouseField) (w : ℕ) → inPlace k ss ≡ true → head? (inner i k s) ≡ some w
+    → head? (inOrder inner ss (houseField i k s ∷ ps)) ≡ some w
 unfolding inOrder
 order-inside inner ss i k s ps w q e = rw q (head-left (inner i k s) _ w e)
 
 -- out of place, or no whole field: its own offset
-pub order-out : (inner : Offsets) (ss : List Slot) (i k : ℕ) (s : List ℕ) (ps : List Piece) → inPlace k ss ≡ false
-    → head? (inOrder inner ss (piece i k s ∷ ps)) ≡ some i
+pub order-out : (inner : Offsets) (ss : List Slot) (i k : ℕ) (s : List ℕ) (ps : List HouseField) → inPlace k ss ≡ false
+    → head? (inOrder inner ss (houseField i k s ∷ ps)) ≡ some i
 unfolding inOrder
 order-out inner ss i k s ps q = rw q
 
-pub order-cut : (inner : Offsets) (ss : List Slot) (i : ℕ) (ps : List Piece) → head? (inOrder inner ss (cut i ∷ ps)) ≡ some i
+pub order-cut : (inner : Offsets) (ss : List Slot) (i : ℕ) (ps : List HouseField) → head? (inOrder inner ss (cut i ∷ ps)) ≡ some i
 unfolding inOrder
 order-cut inner ss i ps = refl
 
@@ -47,7 +47,7 @@ lacking-end at true = refl
 lacking-end at false = refl
 
 -- a tag is seen here or further on
-pub seen-on : (n i k : ℕ) (s : List ℕ) (ps : List Piece) → anyOf (tagIs n) (piece i k s ∷ ps) ≡ (eqb k n || anyOf (tagIs n) ps)
+pub seen-on : (n i k : ℕ) (s : List ℕ) (ps : List HouseField) → anyOf (tagIs n) (houseField i k s ∷ ps) ≡ (eqb k n || anyOf (tagIs n) ps)
 unfolding anyOf
 seen-on n i k s ps = refl
 
@@ -56,21 +56,21 @@ unfolding anyOf
 seen-end n = refl
 
 -- Of a table: the same of a record
-pub table-on : (roots : Bool) (i k : ℕ) (s : List ℕ) (ps : List Piece) → recordInPlace roots k ≡ true → wrongs mostDeep i k s ≡ []
-    → tableWrongs roots (piece i k s ∷ ps) ≡ tableWrongs (roots && not (eqb k tagRoots)) ps
+pub table-on : (roots : Bool) (i k : ℕ) (s : List ℕ) (ps : List HouseField) → recordInPlace roots k ≡ true → wrongs mostDeep i k s ≡ []
+    → tableWrongs roots (houseField i k s ∷ ps) ≡ tableWrongs (roots && not (eqb k tagRoots)) ps
 unfolding tableWrongs
 table-on roots i k s ps q e = rw (q, e)
 
-pub table-inside : (roots : Bool) (i k : ℕ) (s : List ℕ) (ps : List Piece) (w : ℕ) → recordInPlace roots k ≡ true → head? (wrongs mostDeep i k s) ≡ some w
-    → head? (tableWrongs roots (piece i k s ∷ ps)) ≡ some w
+pub table-inside : (roots : Bool) (i k : ℕ) (s : List ℕ) (ps : List HouseField) (w : ℕ) → recordInPlace roots k ≡ true → head? (wrongs mostDeep i k s) ≡ some w
+    → head? (tableWrongs roots (houseField i k s ∷ ps)) ≡ some w
 unfolding tableWrongs
 table-inside roots i k s ps w q e = rw q (head-left (wrongs mostDeep i k s) _ w e)
 
-pub table-out : (roots : Bool) (i k : ℕ) (s : List ℕ) (ps : List Piece) → recordInPlace roots k ≡ false → head? (tableWrongs roots (piece i k s ∷ ps)) ≡ some i
+pub table-out : (roots : Bool) (i k : ℕ) (s : List ℕ) (ps : List HouseField) → recordInPlace roots k ≡ false → head? (tableWrongs roots (houseField i k s ∷ ps)) ≡ some i
 unfolding tableWrongs
 table-out roots i k s ps q = rw q
 
-pub table-cut : (roots : Bool) (i : ℕ) (ps : List Piece) → head? (tableWrongs roots (cut i ∷ ps)) ≡ some i
+pub table-cut : (roots : Bool) (i : ℕ) (ps : List HouseField) → head? (tableWrongs roots (cut i ∷ ps)) ≡ some i
 unfolding tableWrongs
 table-cut roots i ps = refl
 
@@ -79,17 +79,17 @@ unfolding tableWrongs
 table-end roots = refl
 
 -- Of the counts: a field with room left, and nothing over in it; the field itself; what is over in it
-pub over-on : (inner : Offsets) (rooms : List Room) (i k : ℕ) (s : List ℕ) (ps : List Piece) → anyOf (isOver k) rooms ≡ false → inner i k s ≡ []
-    → oversIn inner rooms (piece i k s ∷ ps) ≡ oversIn inner (map (lessRoom k) rooms) ps
+pub over-on : (inner : Offsets) (rooms : List Room) (i k : ℕ) (s : List ℕ) (ps : List HouseField) → anyOf (isOver k) rooms ≡ false → inner i k s ≡ []
+    → oversIn inner rooms (houseField i k s ∷ ps) ≡ oversIn inner (map (lessRoom k) rooms) ps
 unfolding oversIn
 over-on inner rooms i k s ps q e = rw (q, e)
 
-pub over-here : (inner : Offsets) (rooms : List Room) (i k : ℕ) (s : List ℕ) (ps : List Piece) → anyOf (isOver k) rooms ≡ true → head? (oversIn inner rooms (piece i k s ∷ ps)) ≡ some i
+pub over-here : (inner : Offsets) (rooms : List Room) (i k : ℕ) (s : List ℕ) (ps : List HouseField) → anyOf (isOver k) rooms ≡ true → head? (oversIn inner rooms (houseField i k s ∷ ps)) ≡ some i
 unfolding oversIn
 over-here inner rooms i k s ps q = rw q
 
-pub over-inside : (inner : Offsets) (rooms : List Room) (i k : ℕ) (s : List ℕ) (ps : List Piece) (w : ℕ) → anyOf (isOver k) rooms ≡ false → head? (inner i k s) ≡ some w
-    → head? (oversIn inner rooms (piece i k s ∷ ps)) ≡ some w
+pub over-inside : (inner : Offsets) (rooms : List Room) (i k : ℕ) (s : List ℕ) (ps : List HouseField) (w : ℕ) → anyOf (isOver k) rooms ≡ false → head? (inner i k s) ≡ some w
+    → head? (oversIn inner rooms (houseField i k s ∷ ps)) ≡ some w
 unfolding oversIn
 over-inside inner rooms i k s ps w q e = rw q (head-left (inner i k s) _ w e)
 

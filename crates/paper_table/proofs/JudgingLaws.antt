@@ -8,10 +8,10 @@ use Prim.Native.Nat.{ℕ, _<_, _≤_}
 use native.Mathlib.Omega.{arith}
 use lib.ListN.{length}
 use Rattle.paper_table.specs.TableNumbers.{mostTable}
-use Rattle.paper_table.specs.House.{framing, pieces, tableWrongs, mostDeep}
-use Rattle.paper_table.specs.TableSizes.{counts, roomInTable, oversIn, overs}
+use Rattle.paper_table.specs.House.{framingOffset, houseFields, tableWrongs, mostDeep}
+use Rattle.paper_table.specs.TableSizes.{countsOffset, roomInTable, oversIn, overs}
 use Rattle.paper_table.specs.Types.{Table, tableOf}
-use Rattle.paper_table.specs.Judging.{Numbered, rules, Break, breaks, numbersOf, leastBreak, answer, judge}
+use Rattle.paper_table.specs.Judging.{Numbered, rules, Break, breaks, numbersOf, leastBreak, tableAnswer, judge}
 use Rattle.paper_table.specs.declared.TableAnswer.{TableAnswer}
 use Rattle.paper_table.specs.declared.TableAnswer.the-variants.{Accepted, Framing, TooMany, Breaks}
 use Rattle.paper_table.proofs.Before.{Before}
@@ -23,7 +23,7 @@ use Rattle.paper_table.proofs.BreaksLaws.{Broken, breaks-sound, breaks-
 
 -- For the code: the answer by the first wrong offset, the first over a size, the first break.
 pub judge-first : (s : List ℕ) → length s ≤ mostTable
-    → judge s ≡ answer (head? (tableWrongs true (pieces 0 s))) (head? (oversIn (overs mostDeep) roomInTable (pieces 0 s))) (head? (breaks (tableOf s)))
+    → judge s ≡ tableAnswer (head? (tableWrongs true (houseFields 0 s))) (head? (oversIn (overs mostDeep) roomInTable (houseFields 0 s))) (head? (breaks (tableOf s)))
 unfolding judge
 judge-first s h = rw (framing-first s, counts-first s, judged-first s h)
 
@@ -38,39 +38,39 @@ clash : {a b : TableAnswer} → a ≡ b → (kindOf a ≡ kindOf b → ⊥) → 
 clash e f = f (ap kindOf e)
 
 -- 7 stands exactly at the smallest wrong offset
-pub judge-framing : (s : List ℕ) (at : ℕ) → (judge s ≡ Framing at) ↔ (framing s ≡ some at)
-unfolding judge answer
-judge-framing s at = (to (framing s) (counts s) (leastBreak (breaks (tableOf s))), λ e. rw e)
+pub judge-framing : (s : List ℕ) (at : ℕ) → (judge s ≡ Framing at) ↔ (framingOffset s ≡ some at)
+unfolding judge tableAnswer
+judge-framing s at = (to (framingOffset s) (countsOffset s) (leastBreak (breaks (tableOf s))), λ e. rw e)
   where
-    to : (f c : Option ℕ) (b : Option Break) → answer f c b ≡ Framing at → f ≡ some at
+    to : (f c : Option ℕ) (b : Option Break) → tableAnswer f c b ≡ Framing at → f ≡ some at
     to (some w) c b e = cc
     to none (some w) b e = absurd (clash e (omega arith))
     to none none (some x) e = absurd (clash e (omega arith))
     to none none none e = absurd (clash e (omega arith))
 
 -- 8, where framing is right, exactly at the first over a size
-pub judge-too-many : (s : List ℕ) (at : ℕ) → (judge s ≡ TooMany at) ↔ ((framing s ≡ none) × (counts s ≡ some at))
-unfolding judge answer
-judge-too-many s at = (to (framing s) (counts s) (leastBreak (breaks (tableOf s))), λ e. let f = e .0 in let c = e .1 in rw (f, c))
+pub judge-too-many : (s : List ℕ) (at : ℕ) → (judge s ≡ TooMany at) ↔ ((framingOffset s ≡ none) × (countsOffset s ≡ some at))
+unfolding judge tableAnswer
+judge-too-many s at = (to (framingOffset s) (countsOffset s) (leastBreak (breaks (tableOf s))), λ e. let f = e .0 in let c = e .1 in rw (f, c))
   where
-    to : (f c : Option ℕ) (b : Option Break) → answer f c b ≡ TooMany at → (f ≡ none) × (c ≡ some at)
+    to : (f c : Option ℕ) (b : Option Break) → tableAnswer f c b ≡ TooMany at → (f ≡ none) × (c ≡ some at)
     to (some w) c b e = absurd (clash e (omega arith))
     to none (some w) b e = (refl, cc)
     to none none (some x) e = absurd (clash e (omega arith))
     to none none none e = absurd (clash e (omega arith))
 
 -- accepted exactly where framing is right, no count is over, and no rule is broken
-pub judge-accepted : (s : List ℕ) → (judge s ≡ Accepted) ↔ ((framing s ≡ none) × (counts s ≡ none) × ((b : Break) → Broken (tableOf s) b → ⊥))
-unfolding judge answer
-judge-accepted s = (λ e. let q = to (framing s) (counts s) (leastBreak (breaks (tableOf s))) e in (q .0, q .1, breaks-none (tableOf s) (least-none (breaks (tableOf s)) (q .2))), from)
+pub judge-accepted : (s : List ℕ) → (judge s ≡ Accepted) ↔ ((framingOffset s ≡ none) × (countsOffset s ≡ none) × ((b : Break) → Broken (tableOf s) b → ⊥))
+unfolding judge tableAnswer
+judge-accepted s = (λ e. let q = to (framingOffset s) (countsOffset s) (leastBreak (breaks (tableOf s))) e in (q .0, q .1, breaks-none (tableOf s) (least-none (breaks (tableOf s)) (q .2))), from)
   where
-    to : (f c : Option ℕ) (b : Option Break) → answer f c b ≡ Accepted → (f ≡ none) × (c ≡ none) × (b ≡ none)
+    to : (f c : Option ℕ) (b : Option Break) → tableAnswer f c b ≡ Accepted → (f ≡ none) × (c ≡ none) × (b ≡ none)
     to (some w) c b e = absurd (clash e (omega arith))
     to none (some w) b e = absurd (clash e (omega arith))
     to none none (some x) e = absurd (clash e (omega arith))
     to none none none e = (refl, refl, refl)
 
-    from : (framing s ≡ none) × (counts s ≡ none) × ((b : Break) → Broken (tableOf s) b → ⊥) → answer (framing s) (counts s) (leastBreak (breaks (tableOf s))) ≡ Accepted
+    from : (framingOffset s ≡ none) × (countsOffset s ≡ none) × ((b : Break) → Broken (tableOf s) b → ⊥) → tableAnswer (framingOffset s) (countsOffset s) (leastBreak (breaks (tableOf s))) ≡ Accepted
     from q = rw (q .0, q .1, breaks-nil (tableOf s) (q .2), least-nil)
 
 -- of an accepted table each rule's places are none
@@ -88,11 +88,11 @@ pub record Shown (t : Table) (a : TableAnswer) : Type 0 where
   pub broken : Broken t least
   pub first : (c : Break) → Broken t c → Before (numbersOf least) (numbersOf c)
 
-pub judge-breaks : (s : List ℕ) (i k m p a : ℕ) → judge s ≡ Breaks i k m p a → (framing s ≡ none) × (counts s ≡ none) × Shown (tableOf s) (Breaks i k m p a)
-unfolding judge answer
-judge-breaks s i k m p a e = go (framing s) (counts s) (leastBreak (breaks (tableOf s))) refl e
+pub judge-breaks : (s : List ℕ) (i k m p a : ℕ) → judge s ≡ Breaks i k m p a → (framingOffset s ≡ none) × (countsOffset s ≡ none) × Shown (tableOf s) (Breaks i k m p a)
+unfolding judge tableAnswer
+judge-breaks s i k m p a e = go (framingOffset s) (countsOffset s) (leastBreak (breaks (tableOf s))) refl e
   where
-    go : (f c : Option ℕ) (o : Option Break) → leastBreak (breaks (tableOf s)) ≡ o → answer f c o ≡ Breaks i k m p a → (f ≡ none) × (c ≡ none) × Shown (tableOf s) (Breaks i k m p a)
+    go : (f c : Option ℕ) (o : Option Break) → leastBreak (breaks (tableOf s)) ≡ o → tableAnswer f c o ≡ Breaks i k m p a → (f ≡ none) × (c ≡ none) × Shown (tableOf s) (Breaks i k m p a)
     go (some w) c o q e = absurd (clash e (omega arith))
     go none (some w) o q e = absurd (clash e (omega arith))
     go none none (some b) q e = (

@@ -4,7 +4,7 @@ use mathlib.Core.Bool.{Bool, true, false, cond, true≢false}
 use mathlib.Core.Option.{Option, none, some}
 use mathlib.Core.List.{List, [], _∷_, head?, List·Memᴰ, List·Memᴰ·head, List·Memᴰ·tail, List·Memᴰ·not-nil}
 use Prim.Native.Nat.{ℕ}
-use Rattle.paper_table.specs.Judging.{Break, numbersOf, before, lesser, leastBreak}
+use Rattle.paper_table.specs.Judging.{Break, numbersOf, notAfter, lesser, leastBreak}
 use Rattle.paper_table.proofs.Before.{Before, before-complete, before-sound, before-refl, before-trans, before-total, Rise, done, then}
 
 none≢some : {b : Break} → _≡_ {A = Option Break} none (some b) → ⊥
@@ -21,7 +21,7 @@ least-member (c ∷ bs) b e = go (leastBreak bs) refl e (λ (d : Break) (q : lea
   where
     go : (o : Option Break) → leastBreak bs ≡ o → lesser c o ≡ some b → ((d : Break) → leastBreak bs ≡ some d → List·Memᴰ d bs) → List·Memᴰ b (c ∷ bs)
     go none q e ih = List·Memᴰ·head (sym (some-inj e))
-    go (some d) q e ih = pick (before (numbersOf c) (numbersOf d)) e
+    go (some d) q e ih = pick (notAfter (numbersOf c) (numbersOf d)) e
       where
         pick : (t : Bool) → some (cond t c d) ≡ some b → List·Memᴰ b (c ∷ bs)
         pick true e = List·Memᴰ·head (sym (some-inj e))
@@ -48,9 +48,9 @@ least-least (x ∷ bs) b e c m = go (leastBreak bs) refl e (λ (d : Break) (q : 
             rest : (o : Option Break) → lesser y o ≡ none → ⊥
             rest none q = none≢some (sym q)
             rest (some z) q = none≢some (sym q)
-    go (some d) q e ih m = pick (before (numbersOf x) (numbersOf d)) refl e m
+    go (some d) q e ih m = pick (notAfter (numbersOf x) (numbersOf d)) refl e m
       where
-        pick : (t : Bool) → before (numbersOf x) (numbersOf d) ≡ t → some (cond t x d) ≡ some b → List·Memᴰ c (x ∷ bs) → Before (numbersOf b) (numbersOf c)
+        pick : (t : Bool) → notAfter (numbersOf x) (numbersOf d) ≡ t → some (cond t x d) ≡ some b → List·Memᴰ c (x ∷ bs) → Before (numbersOf b) (numbersOf c)
         pick true w e (List·Memᴰ·head p) = at x (some-inj e) p
         pick true w e (List·Memᴰ·tail m) =
             subst (λ (z : Break). Before (numbersOf z) (numbersOf c)) (some-inj e) (before-trans (before-sound (numbersOf x) (numbersOf d) w) (ih d q c m))

@@ -8,21 +8,21 @@ use lib.Dec.{ltb}
 use borrow.Author.Tests.{ltb-false}
 use Rattle.paper_table.specs.Lists.{firstAt}
 use Rattle.paper_table.specs.TableNumbers.{tagScalar}
-use Rattle.paper_table.specs.Types.{Table, typeNamed, isBuiltIn, builtIn, nothing, definition, meaning, blank, tagNothing, definitionBy, meant}
+use Rattle.paper_table.specs.Types.{Table, typeNamed, isBuiltIn, builtIn, noMeaning, definition, meaning, blankDefinition, tagNothing, definitionBy, meant}
 use Rattle.paper_table.proofs.ListsLaws.{any-first}
 
 -- the number found, or nothing where it is the count
 pub meaning-first : (t : Table) (n : List ℕ)
-    → meaning t n ≡ cond (isBuiltIn n) builtIn (cond (ltb (firstAt (typeNamed n) t) (length t)) (definition (firstAt (typeNamed n) t)) nothing)
+    → meaning t n ≡ cond (isBuiltIn n) builtIn (cond (ltb (firstAt (typeNamed n) t) (length t)) (definition (firstAt (typeNamed n) t)) noMeaning)
 unfolding meaning
-meaning-first t n = ap (λ (b : Bool). cond (isBuiltIn n) builtIn (cond b (definition (firstAt (typeNamed n) t)) nothing)) (any-first (typeNamed n) t)
+meaning-first t n = ap (λ (b : Bool). cond (isBuiltIn n) builtIn (cond b (definition (firstAt (typeNamed n) t)) noMeaning)) (any-first (typeNamed n) t)
 
 -- the definition meant: that of this number, which behind the last is the blank one
-pub meant-first : (t : Table) (n : List ℕ) → meant t n ≡ cond (isBuiltIn n) (blank tagScalar) (getD t (firstAt (typeNamed n) t) (blank tagNothing))
+pub meant-first : (t : Table) (n : List ℕ) → meant t n ≡ cond (isBuiltIn n) (blankDefinition tagScalar) (getD t (firstAt (typeNamed n) t) (blankDefinition tagNothing))
 meant-first t n = ap (definitionBy t) (meaning-first t n) ∙ go (isBuiltIn n) (ltb (firstAt (typeNamed n) t) (length t)) refl
   where
     go : (b c : Bool) → ltb (firstAt (typeNamed n) t) (length t) ≡ c
-        → definitionBy t (cond b builtIn (cond c (definition (firstAt (typeNamed n) t)) nothing)) ≡ cond b (blank tagScalar) (getD t (firstAt (typeNamed n) t) (blank tagNothing))
+        → definitionBy t (cond b builtIn (cond c (definition (firstAt (typeNamed n) t)) noMeaning)) ≡ cond b (blankDefinition tagScalar) (getD t (firstAt (typeNamed n) t) (blankDefinition tagNothing))
     go true c q = refl
     go false true q = refl
-    go false false q = sym (List·getD-eq-default t (blank tagNothing) (ltb-false (firstAt (typeNamed n) t) (length t) q))
+    go false false q = sym (List·getD-eq-default t (blankDefinition tagNothing) (ltb-false (firstAt (typeNamed n) t) (length t) q))

@@ -5,7 +5,7 @@ use Prim.Native.Nat.{ℕ, zero, suc, _+_, _-_, _*_, _≤_, _<_}
 use native.Mathlib.Omega.{arith}
 use lib.ListN.{length, take, drop, getD, length-drop}
 use lib.Seq.{drop-cons, length-take-le, take-take, drop-drop}
-use Rattle.paper_table.specs.House.{piece, cut, pieces}
+use Rattle.paper_table.specs.House.{houseField, cut, houseFields}
 use Rattle.paper_table.proofs.PiecesLaws.{pieces-nil, pieces-one, pieces-two, pieces-cut, pieces-field}
 
 -- the n bytes of a text from `at` on
@@ -39,8 +39,8 @@ abbrev pub sizeAt : List ℕ → ℕ → ℕ
 sizeAt t at = 256 * getD t (at + 1) 0 + getD t (at + 2) 0
 
 -- the fields of a content from `at` to `to`: none at its end
-pub pieces-end : (t : List ℕ) (at to : ℕ) → to ≤ at → pieces at (part t at (to - at)) ≡ []
-pieces-end t at to h = ap (λ (n : ℕ). pieces at (part t at n)) (let e : to - at ≡ 0 = omega arith in e) ∙ pieces-nil at
+pub pieces-end : (t : List ℕ) (at to : ℕ) → to ≤ at → houseFields at (part t at (to - at)) ≡ []
+pieces-end t at to h = ap (λ (n : ℕ). houseFields at (part t at n)) (let e : to - at ≡ 0 = omega arith in e) ∙ pieces-nil at
 
 three : (t : List ℕ) (at k : ℕ) → at + 3 + k ≤ length t → part t at (suc (suc (suc k))) ≡ getD t at 0 ∷ getD t (at + 1) 0 ∷ getD t (at + 2) 0 ∷ part t (at + 3) k
 three t at k h =
@@ -53,28 +53,28 @@ three-to : (t : List ℕ) (at to : ℕ) → at + 3 ≤ to → to ≤ length t �
 three-to t at to h w = ap (part t at) (let e : to - at ≡ suc (suc (suc (to - (at + 3)))) = omega arith in e) ∙ three t at (to - (at + 3)) (omega arith)
 
 -- fewer than three bytes: no whole field
-pub pieces-short : (t : List ℕ) (at to : ℕ) → at < to → to < at + 3 → to ≤ length t → pieces at (part t at (to - at)) ≡ cut at ∷ []
+pub pieces-short : (t : List ℕ) (at to : ℕ) → at < to → to < at + 3 → to ≤ length t → houseFields at (part t at (to - at)) ≡ cut at ∷ []
 pieces-short t at to h k w = go (to - at) refl
   where
-    go : (m : ℕ) → to - at ≡ m → pieces at (part t at m) ≡ cut at ∷ []
+    go : (m : ℕ) → to - at ≡ m → houseFields at (part t at m) ≡ cut at ∷ []
     go zero e = absurd (omega arith)
-    go (suc zero) e = ap (pieces at) (part-cons t at 0 (omega arith)) ∙ pieces-one at (getD t at 0)
+    go (suc zero) e = ap (houseFields at) (part-cons t at 0 (omega arith)) ∙ pieces-one at (getD t at 0)
     go (suc (suc zero)) e =
-        ap (pieces at) (part-cons t at 1 (omega arith) ∙ ap (λ (s : List ℕ). getD t at 0 ∷ s) (part-cons t (suc at) 0 (omega arith))) ∙ pieces-two at (getD t at 0) (getD t (suc at) 0)
+        ap (houseFields at) (part-cons t at 1 (omega arith) ∙ ap (λ (s : List ℕ). getD t at 0 ∷ s) (part-cons t (suc at) 0 (omega arith))) ∙ pieces-two at (getD t at 0) (getD t (suc at) 0)
     go (suc (suc (suc m))) e = absurd (omega arith)
 
 -- a length that goes past the end
-pub pieces-long : (t : List ℕ) (at to : ℕ) → at + 3 ≤ to → to < at + 3 + sizeAt t at → to ≤ length t → pieces at (part t at (to - at)) ≡ cut at ∷ []
+pub pieces-long : (t : List ℕ) (at to : ℕ) → at + 3 ≤ to → to < at + 3 + sizeAt t at → to ≤ length t → houseFields at (part t at (to - at)) ≡ cut at ∷ []
 pieces-long t at to h k w =
-    ap (pieces at) (three-to t at to h w)
+    ap (houseFields at) (three-to t at to h w)
     ∙ pieces-cut at (getD t at 0) (getD t (at + 1) 0) (getD t (at + 2) 0) (part t (at + 3) (to - (at + 3))) (let e = part-size t (at + 3) (to - (at + 3)) (omega arith) in omega arith)
 
 -- a whole field, and what stands behind it
 pub pieces-at : (t : List ℕ) (at to n : ℕ) → sizeAt t at ≡ n → at + 3 + n ≤ to → to ≤ length t
-    → pieces at (part t at (to - at)) ≡ piece at (getD t at 0) (part t (at + 3) n) ∷ pieces (at + 3 + n) (part t (at + 3 + n) (to - (at + 3 + n)))
+    → houseFields at (part t at (to - at)) ≡ houseField at (getD t at 0) (part t (at + 3) n) ∷ houseFields (at + 3 + n) (part t (at + 3 + n) (to - (at + 3 + n)))
 pieces-at t at to n e h w =
-    ap (pieces at) (three-to t at to (omega arith) w)
+    ap (houseFields at) (three-to t at to (omega arith) w)
     ∙ pieces-field at (getD t at 0) (getD t (at + 1) 0) (getD t (at + 2) 0) n (part t (at + 3) (to - (at + 3))) e (let k = part-size t (at + 3) (to - (at + 3)) (omega arith) in omega arith)
-    ∙ ap (λ (x : List ℕ). piece at (getD t at 0) x ∷ pieces (at + 3 + n) (drop n (part t (at + 3) (to - (at + 3))))) (part-take t (at + 3) (to - (at + 3)) n (omega arith))
-    ∙ ap (λ (x : List ℕ). piece at (getD t at 0) (part t (at + 3) n) ∷ pieces (at + 3 + n) x)
+    ∙ ap (λ (x : List ℕ). houseField at (getD t at 0) x ∷ houseFields (at + 3 + n) (drop n (part t (at + 3) (to - (at + 3))))) (part-take t (at + 3) (to - (at + 3)) n (omega arith))
+    ∙ ap (λ (x : List ℕ). houseField at (getD t at 0) (part t (at + 3) n) ∷ houseFields (at + 3 + n) x)
     (part-drop t (at + 3) (to - (at + 3)) n ∙ ap (part t (at + 3 + n)) (let z : to - (at + 3) - n ≡ to - (at + 3 + n) = omega arith in z))

@@ -7,7 +7,7 @@ use Prim.Native.Nat.{ℕ, zero, suc, _≤_}
 use native.Mathlib.Omega.{arith}
 use lib.ListN.{length, take, drop}
 use lib.Dec.{eqb}
-use Rattle.paper_table.specs.References.{isName, Ref, named, listOf, nonNull, byteBang, byteBracketL, byteBracketR, ReadRef, got, bad, marked, closed, nameSize, readName, refFrom, wholeRef, refOf}
+use Rattle.paper_table.specs.References.{isName, Ref, named, listOf, nonNull, byteBang, byteBracketL, byteBracketR, ReadRef, got, noReference, marked, closed, nameSize, readName, refFrom, wholeRef, refOf}
 
 -- the marks behind a reference r: k brackets are open, and `last` is whether a `!` stands just before
 unfoldable pub behind : ℕ → Bool → Ref → List ℕ → Option Ref
@@ -30,7 +30,7 @@ closings : ℕ → ReadRef → Option Ref
 closings zero q = wholeRef q
 closings (suc k) q = closings k (closed q)
 
-closings-bad : (k : ℕ) → closings k bad ≡ none
+closings-bad : (k : ℕ) → closings k noReference ≡ none
 unfolding closings wholeRef closed
 closings-bad zero = refl
 closings-bad (suc k) = closings-bad k
@@ -46,7 +46,7 @@ both-more : (b : ℕ) (s : List ℕ) → Both s → Both (b ∷ s)
 unfolding closings wholeRef closed marked behind
 both-more b s ih = (one, λ k r. two k r (eqb b byteBang) refl)
   where
-    close : (k : ℕ) (r : Ref) (c : Bool) → closings k (cond c (marked (listOf r) s) bad) ≡ cond c (behind k false (listOf r) s) none
+    close : (k : ℕ) (r : Ref) (c : Bool) → closings k (cond c (marked (listOf r) s) noReference) ≡ cond c (behind k false (listOf r) s) none
     close k r true = ih .1 k (listOf r)
     close k r false = closings-bad k
 
@@ -80,7 +80,7 @@ refFrom-opened zero k (b ∷ s) h = absurd (omega arith)
 refFrom-opened (suc f) k [] h = closings-bad k
 refFrom-opened (suc f) k (b ∷ s) h = go (eqb b byteBracketL) (refFrom-opened f (suc k) s (omega arith))
   where
-    name : (c : Bool) → closings k (cond c (marked (named (take (nameSize (b ∷ s)) (b ∷ s))) (drop (nameSize (b ∷ s)) (b ∷ s))) bad)
+    name : (c : Bool) → closings k (cond c (marked (named (take (nameSize (b ∷ s)) (b ∷ s))) (drop (nameSize (b ∷ s)) (b ∷ s))) noReference)
         ≡ cond c (behind k false (named (take (nameSize (b ∷ s)) (b ∷ s))) (drop (nameSize (b ∷ s)) (b ∷ s))) none
     name true = closings-both (drop (nameSize (b ∷ s)) (b ∷ s)) .1 k (named (take (nameSize (b ∷ s)) (b ∷ s)))
     name false = closings-bad k

@@ -7,7 +7,7 @@ use Prim.Native.Nat.{ℕ, zero, suc, _+_, _≤_, pred}
 use native.Mathlib.Omega.{arith}
 use lib.Dec.{eqb}
 use borrow.Author.Tests.{eqb-true, ne-eqb}
-use Rattle.paper.specs.Lexical.{letterOrDigit, oneOf}
+use Rattle.paper.specs.Lexical.{letterOrDigit, inSet}
 use Rattle.paper_table.specs.Lists.{allOf, onlyIf}
 use Rattle.paper_table.specs.References.{Ref, named, listOf, nonNull, byteBang, byteBracketL, byteBracketR, refOf}
 use Rattle.paper_table.specs.TableSizes.{isWrapper, wrappersOver}
@@ -30,7 +30,7 @@ marks-append [] t = omega arith
 marks-append (b ∷ s) t = let e = marks-append s t in omega arith
 
 -- no byte of a name is a mark
-plain : (b : ℕ) → oneOf letterOrDigit b ≡ true → isWrapper b ≡ false
+plain : (b : ℕ) → inSet letterOrDigit b ≡ true → isWrapper b ≡ false
 plain b h = go (eqb b byteBracketL) (eqb b byteBang) refl refl
   where
     go : (c d : Bool) → eqb b byteBracketL ≡ c → eqb b byteBang ≡ d → c || d ≡ false
@@ -38,12 +38,12 @@ plain b h = go (eqb b byteBracketL) (eqb b byteBang) refl refl
     go false true p q = absurd (false≢true (rw (eqb-true b byteBang q) at h))
     go false false p q = refl
 
-marks-name : (n : List ℕ) → allOf (oneOf letterOrDigit) n ≡ true → marksIn n ≡ 0
+marks-name : (n : List ℕ) → allOf (inSet letterOrDigit) n ≡ true → marksIn n ≡ 0
 unfolding marksIn allOf
 marks-name [] h = refl
-marks-name (b ∷ n) h = go (oneOf letterOrDigit b) refl h (λ e. marks-name n e)
+marks-name (b ∷ n) h = go (inSet letterOrDigit b) refl h (λ e. marks-name n e)
   where
-    go : (c : Bool) → oneOf letterOrDigit b ≡ c → c && allOf (oneOf letterOrDigit) n ≡ true → (allOf (oneOf letterOrDigit) n ≡ true → marksIn n ≡ 0) → cond (isWrapper b) 1 0 + marksIn n ≡ 0
+    go : (c : Bool) → inSet letterOrDigit b ≡ c → c && allOf (inSet letterOrDigit) n ≡ true → (allOf (inSet letterOrDigit) n ≡ true → marksIn n ≡ 0) → cond (isWrapper b) 1 0 + marksIn n ≡ 0
     go true q h ih = rw (plain b q, ih h)
     go false q h ih = absurd (false≢true h)
 

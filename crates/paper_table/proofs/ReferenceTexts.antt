@@ -7,7 +7,8 @@ use Prim.Native.Nat.{ℕ, zero, suc}
 use lib.ListN.{length, take, drop, take-append-drop}
 use lib.Dec.{eqb}
 use borrow.Author.Tests.{eqb-true}
-use Rattle.paper.specs.Lexical.{letter, letterOrDigit, oneOf}
+use Rattle.paper.proofs.Bools.{or-true-right as or-right}
+use Rattle.paper.specs.Lexical.{letter, letterOrDigit, inSet}
 use Rattle.paper_table.specs.Lists.{allOf, firstAt}
 use Rattle.paper_table.specs.References.{isName, Ref, named, listOf, nonNull, isNonNull, byteBang, byteBracketL, byteBracketR, nameSize, refOf}
 use Rattle.paper_table.proofs.ListsLaws.{firstAt-later}
@@ -28,16 +29,16 @@ pub data Written : Ref → Type 0 where
 -- no name goes on with this text
 abbrev Stops : List ℕ → Type 0
 Stops [] = Unit {0}
-Stops (b ∷ s) = oneOf letterOrDigit b ≡ false
+Stops (b ∷ s) = inSet letterOrDigit b ≡ false
 
-size-all : (n s : List ℕ) → allOf (oneOf letterOrDigit) n ≡ true → Stops s → nameSize (n ++ s) ≡ length n
+size-all : (n s : List ℕ) → allOf (inSet letterOrDigit) n ≡ true → Stops s → nameSize (n ++ s) ≡ length n
 unfolding allOf firstAt
 size-all [] [] h k = refl
 size-all [] (b ∷ s) h k = rw k
-size-all (b ∷ n) s h k = go (oneOf letterOrDigit b) refl h (λ e. size-all n s e k)
+size-all (b ∷ n) s h k = go (inSet letterOrDigit b) refl h (λ e. size-all n s e k)
   where
-    go : (c : Bool) → oneOf letterOrDigit b ≡ c → c && allOf (oneOf letterOrDigit) n ≡ true → (allOf (oneOf letterOrDigit) n ≡ true → nameSize (n ++ s) ≡ length n) → nameSize (b ∷ (n ++ s)) ≡ suc (length n)
-    go true q h ih = firstAt-later (λ b. not (oneOf letterOrDigit b)) b (n ++ s) (ap not q) ∙ ap suc (ih h)
+    go : (c : Bool) → inSet letterOrDigit b ≡ c → c && allOf (inSet letterOrDigit) n ≡ true → (allOf (inSet letterOrDigit) n ≡ true → nameSize (n ++ s) ≡ length n) → nameSize (b ∷ (n ++ s)) ≡ suc (length n)
+    go true q h ih = firstAt-later (λ b. not (inSet letterOrDigit b)) b (n ++ s) (ap not q) ∙ ap suc (ih h)
     go false q h ih = absurd (false≢true h)
 
 take-all : (n s : List ℕ) → take (length n) (n ++ s) ≡ n
@@ -48,25 +49,21 @@ drop-all : (n s : List ℕ) → drop (length n) (n ++ s) ≡ s
 drop-all [] s = refl
 drop-all (b ∷ n) s = drop-all n s
 
-or-right : (a b : Bool) → b ≡ true → a || b ≡ true
-or-right true b e = refl
-or-right false b e = e
-
 -- a letter is no bracket, and goes on a name
-letter-open : (b : ℕ) → oneOf letter b ≡ true → eqb b byteBracketL ≡ false
+letter-open : (b : ℕ) → inSet letter b ≡ true → eqb b byteBracketL ≡ false
 letter-open b h = go (eqb b byteBracketL) refl
   where
     go : (c : Bool) → eqb b byteBracketL ≡ c → c ≡ false
     go true q = absurd (false≢true (rw (eqb-true b byteBracketL q) at h))
     go false q = refl
 
-pub name-all : (n : List ℕ) → isName n ≡ true → allOf (oneOf letterOrDigit) n ≡ true
+pub name-all : (n : List ℕ) → isName n ≡ true → allOf (inSet letterOrDigit) n ≡ true
 unfolding isName allOf
 name-all [] h = refl
-name-all (b ∷ n) h = go (oneOf letter b) refl h
+name-all (b ∷ n) h = go (inSet letter b) refl h
   where
-    go : (c : Bool) → oneOf letter b ≡ c → c && allOf (oneOf letterOrDigit) n ≡ true → oneOf letterOrDigit b && allOf (oneOf letterOrDigit) n ≡ true
-    go true q h = rw (or-right _ (oneOf letter b) q) h
+    go : (c : Bool) → inSet letter b ≡ c → c && allOf (inSet letterOrDigit) n ≡ true → inSet letterOrDigit b && allOf (inSet letterOrDigit) n ≡ true
+    go true q h = rw (or-right _ (inSet letter b) q) h
     go false q h = absurd (false≢true h)
 
 name-opened : (k : ℕ) (n s : List ℕ) → isName n ≡ true → Stops s → opened k (n ++ s) ≡ behind k false (named n) s
@@ -84,10 +81,10 @@ name-opened k (b ∷ n) s h st =
     ∙ ap (behind k false (named (b ∷ n))) (drop-all n s) in
     rw (letter-open b (first b n h)) e
   where
-    first : (b : ℕ) (n : List ℕ) → isName (b ∷ n) ≡ true → oneOf letter b ≡ true
-    first b n h = go (oneOf letter b) (unfold isName in h)
+    first : (b : ℕ) (n : List ℕ) → isName (b ∷ n) ≡ true → inSet letter b ≡ true
+    first b n h = go (inSet letter b) (unfold isName in h)
       where
-        go : (c : Bool) → c && allOf (oneOf letterOrDigit) n ≡ true → c ≡ true
+        go : (c : Bool) → c && allOf (inSet letterOrDigit) n ≡ true → c ≡ true
         go true e = refl
         go false e = absurd (false≢true e)
 

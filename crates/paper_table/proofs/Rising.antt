@@ -13,8 +13,8 @@ use Rattle.paper.specs.Numbers.{mostWrappers}
 use Rattle.paper_table.specs.TableNumbers.{tagRoots}
 use Rattle.paper_table.specs.Lists.{anyOf, onlyIf}
 use Rattle.paper_table.specs.References.{isName, isReference}
-use Rattle.paper_table.specs.House.{Piece, pieces, inside, Slot, Content, aName, aReference, noTag, holds, contentOf, inPlace, openBehind, lacks, Offsets, inOrder, orLacking, byContent, wrongs, mostDeep, recordInPlace, tableWrongs, smaller, smallest, framing}
-use Rattle.paper_table.specs.TableSizes.{Room, isOver, lessRoom, roomInTable, roomIn, oversIn, isWrapper, wrappersOver, oversBy, overs, counts}
+use Rattle.paper_table.specs.House.{HouseField, houseFields, houseFieldsIn, Slot, Content, aName, aReference, noTag, holds, contentOf, inPlace, openBehind, lacksHouseField, Offsets, inOrder, orLacking, byContent, wrongs, mostDeep, recordInPlace, tableWrongs, smaller, smallest, framingOffset}
+use Rattle.paper_table.specs.TableSizes.{Room, isOver, lessRoom, roomInTable, roomIn, oversIn, isWrapper, wrappersOver, oversBy, overs, countsOffset}
 use Rattle.paper_table.proofs.PiecesLaws.{Laid, nil, torn, next, pieces-laid}
 
 up : (a n : ℕ) → a ≤ a + 3 + n
@@ -55,7 +55,7 @@ rises-least (then {w = w} h (then {w = v} {ws = vs} k r)) =
 abbrev Rising : Offsets → Type 0
 Rising inner = (at t : ℕ) (s : List ℕ) → Rises at (inner at t s) (at + 3 + length s)
 
-order-rises : (inner : Offsets) → Rising inner → {lo hi : ℕ} {ps : List Piece} → Laid lo ps hi → (ss : List Slot) → Rises lo (inOrder inner ss ps) hi
+order-rises : (inner : Offsets) → Rising inner → {lo hi : ℕ} {ps : List HouseField} → Laid lo ps hi → (ss : List Slot) → Rises lo (inOrder inner ss ps) hi
 unfolding inOrder
 order-rises inner f (nil h) ss = done h
 order-rises inner f (torn {lo = lo} h) ss = then (le-refl lo) (done h)
@@ -74,14 +74,14 @@ unfolding byContent
 content-rises inner f at s aName = rises-one (not (isName s)) at _ (up at (length s))
 content-rises inner f at s aReference = rises-one (not (isReference s)) at _ (up at (length s))
 content-rises inner f at s noTag = then (le-refl at) (done (up at (length s)))
-content-rises inner f at s (holds ss) = lacking-rises at (at + 3) _ (lacks ss (inside at s)) _ (grow at 3) (order-rises inner f (pieces-laid (at + 3) s) ss)
+content-rises inner f at s (holds ss) = lacking-rises at (at + 3) _ (lacksHouseField ss (houseFieldsIn at s)) _ (grow at 3) (order-rises inner f (pieces-laid (at + 3) s) ss)
 
 wrongs-rise : (d : ℕ) → Rising (wrongs d)
 unfolding wrongs
 wrongs-rise zero at t s = then (le-refl at) (done (up at (length s)))
 wrongs-rise (suc d) at t s = content-rises (wrongs d) (wrongs-rise d) at s (contentOf t)
 
-table-rises : {lo hi : ℕ} {ps : List Piece} → Laid lo ps hi → (roots : Bool) → Rises lo (tableWrongs roots ps) hi
+table-rises : {lo hi : ℕ} {ps : List HouseField} → Laid lo ps hi → (roots : Bool) → Rises lo (tableWrongs roots ps) hi
 unfolding tableWrongs
 table-rises (nil h) roots = done h
 table-rises (torn {lo = lo} h) roots = then (le-refl lo) (done h)
@@ -92,11 +92,11 @@ table-rises (next {lo = lo} {t = t} {s = s} r) roots = rises-append (go (recordI
     go false = then (le-refl lo) (done (up lo (length s)))
 
 -- Refusal 7's offset is the first wrong one in reading order.
-pub framing-first : (s : List ℕ) → framing s ≡ head? (tableWrongs true (pieces 0 s))
-unfolding framing
+pub framing-first : (s : List ℕ) → framingOffset s ≡ head? (tableWrongs true (houseFields 0 s))
+unfolding framingOffset
 framing-first s = rises-least (table-rises (pieces-laid 0 s) true)
 
-over-rises : (inner : Offsets) → Rising inner → {lo hi : ℕ} {ps : List Piece} → Laid lo ps hi → (rooms : List Room) → Rises lo (oversIn inner rooms ps) hi
+over-rises : (inner : Offsets) → Rising inner → {lo hi : ℕ} {ps : List HouseField} → Laid lo ps hi → (rooms : List Room) → Rises lo (oversIn inner rooms ps) hi
 unfolding oversIn
 over-rises inner f (nil h) rooms = done h
 over-rises inner f (torn h) rooms = done h
@@ -124,6 +124,6 @@ overs-rise zero at t s = done (up at (length s))
 overs-rise (suc d) at t s = overs-by-rise (overs d) (overs-rise d) at t s (contentOf t)
 
 -- Refusal 8's offset is the first over a size in reading order.
-pub counts-first : (s : List ℕ) → counts s ≡ head? (oversIn (overs mostDeep) roomInTable (pieces 0 s))
-unfolding counts
+pub counts-first : (s : List ℕ) → countsOffset s ≡ head? (oversIn (overs mostDeep) roomInTable (houseFields 0 s))
+unfolding countsOffset
 counts-first s = rises-least (over-rises (overs mostDeep) (overs-rise mostDeep) (pieces-laid 0 s) roomInTable)

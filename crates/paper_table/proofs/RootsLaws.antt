@@ -7,8 +7,9 @@ use Prim.Native.Nat.{ℕ, _<_}
 use lib.ListN.{length}
 use Rattle.paper_table.specs.TableNumbers.{ruleRoot}
 use Rattle.paper_table.specs.Lists.{bytes, find, anyOf}
-use Rattle.paper_table.specs.Types.{Member, Definition, Table, isObject, isRoots, blank, tagNothing, meant, rootsIn, rootsOf}
-use Rattle.paper_table.specs.Rules.{memberAt, wholeOf, rootNotObject, queryNotObject}
+use Rattle.paper_table.specs.Types.{Member, Definition, Table, isObject, isRoots, blankDefinition, tagNothing, meant, rootsIn, rootsOf}
+use Rattle.paper_table.specs.Places.{memberAt, wholeOf}
+use Rattle.paper_table.specs.Rule16Root.{rootNotObject, queryNotObject}
 use Rattle.paper_table.specs.Judging.{numbered, rules, breaks, break}
 use Rattle.paper_table.proofs.ListsLaws.{find-some, find-none}
 use Rattle.paper_table.proofs.Every.{Every, no-more, one-more, every-passes}
@@ -40,4 +41,4 @@ rootsOf-objects t e = go (find isRoots t) refl
 
     go : (o : Option Definition) → find isRoots t ≡ o → Every (IsObjectRoot t) (rootsIn o)
     go none q = one-more (sym (ap (λ (b : Bool). not b && not (isObject (meant t (bytes "Query")))) (find-none isRoots t q)) ∙ asked _ refl) no-more
-    go (some d) q = let z = find-some isRoots t d (blank tagNothing) q in written d (z .0) (z .1) (z .2) (z .3)
+    go (some d) q = let z = find-some isRoots t d (blankDefinition tagNothing) q in written d (z .0) (z .1) (z .2) (z .3)

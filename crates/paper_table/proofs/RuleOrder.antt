@@ -11,8 +11,25 @@ use lib.Dec.{ltb, eqb}
 use borrow.Author.Tests.{ltb-true, ltb-false}
 use Rattle.paper_table.specs.TableNumbers.{noPlace}
 use Rattle.paper_table.specs.Lists.{eachFrom, each, onlyIf}
-use Rattle.paper_table.specs.Types.{Argument, Member, Definition, Table, isObject, isInterface, isUnion, isEnum, isDirective, isRoots, isType, meant}
-use Rattle.paper_table.specs.Rules.{Place, wholeOf, memberAt, argumentAt, partAt, partArgumentAt, Rule, membersThat, argumentPlaces, memberPlaces, membersOrArgumentsThat, implementedThat, isReserved, typeKnown, directiveKnown, needsMembers, memberRepeats, argumentRepeats, memberReserved, argumentReserved, isNoEnumValue, memberUnknown, argumentUnknown, memberBaseWrong, argumentBaseWrong, memberNoObject, noInterface, implementedBefore, FieldBreaks, promisedBy, promised, own, ifAny, lacksField, missingBreaks, noSubType, typeBreaks, lacksArgument, argumentBreaks, differs, ownArgument, argumentTypeBreaks, isExtra, extraBreaks, reservedName, nameKnown, noMembers, nameRepeated, reservedMember, enumValue, noType, wrongBase, notObjectOrInterface, implementedTwice, fieldMissing, fieldType, argumentMissing, argumentType, argumentExtra, rootNotObject}
+use Rattle.paper_table.specs.Types.{Argument, Member, Definition, Table, isObject, isInterface, isUnion, isEnum, isDirective, isRoots, isType, meant, isReserved}
+use Rattle.paper_table.specs.Places.{Place, wholeOf, memberAt, argumentAt, partAt, partArgumentAt, Rule, membersThat, argumentPlaces, memberPlaces, membersOrArgumentsThat, implementedThat}
+use Rattle.paper_table.specs.Promises.{FieldBreaks, promisedBy, promised, own, ifAny}
+use Rattle.paper_table.specs.Rule1ReservedName.{reservedName}
+use Rattle.paper_table.specs.Rule2NameKnown.{typeKnown, directiveKnown, nameKnown}
+use Rattle.paper_table.specs.Rule3NoMembers.{needsMembers, noMembers}
+use Rattle.paper_table.specs.Rule4NameRepeated.{memberRepeats, argumentRepeats, nameRepeated}
+use Rattle.paper_table.specs.Rule5ReservedMember.{memberReserved, argumentReserved, reservedMember}
+use Rattle.paper_table.specs.Rule6EnumValue.{isNoEnumValue, enumValue}
+use Rattle.paper_table.specs.Rule7NoType.{memberTypeUnknown, argumentTypeUnknown, noType}
+use Rattle.paper_table.specs.Rule8Base.{memberBaseWrong, argumentBaseWrong, wrongBase}
+use Rattle.paper_table.specs.Rule9NotObjectOrInterface.{memberNoObject, noInterface, notObjectOrInterface}
+use Rattle.paper_table.specs.Rule10ImplementedTwice.{implementedBefore, implementedTwice}
+use Rattle.paper_table.specs.Rule11FieldMissing.{lacksField, missingBreaks, interfaceFieldMissing}
+use Rattle.paper_table.specs.Rule12FieldType.{noSubType, typeBreaks, fieldType}
+use Rattle.paper_table.specs.Rule13ArgumentMissing.{lacksArgument, argumentBreaks, interfaceArgumentMissing}
+use Rattle.paper_table.specs.Rule14ArgumentType.{typesDiffer, ownArgument, argumentTypeBreaks, argumentType}
+use Rattle.paper_table.specs.Rule15ArgumentExtra.{isExtra, extraBreaks, argumentExtra}
+use Rattle.paper_table.specs.Rule16Root.{rootNotObject}
 use Rattle.paper_table.proofs.Every.{Every, no-more, one-more}
 use Rattle.paper_table.proofs.Before.{Before, empty, less, same, before-refl, Rise, done, rise-lower, rise-higher, rise-append, rise-one}
 
@@ -152,7 +169,7 @@ enumValue-ordered t i d fits = if-ordered (isEnum d) _ _ (members-ordered isNoEn
 
 pub noType-ordered : RuleOrdered noType
 unfolding noType
-noType-ordered t i d fits = members-or-arguments-ordered (memberUnknown t) (argumentUnknown t) d fits
+noType-ordered t i d fits = members-or-arguments-ordered (memberTypeUnknown t) (argumentTypeUnknown t) d fits
 
 pub wrongBase-ordered : RuleOrdered wrongBase
 unfolding wrongBase
@@ -166,16 +183,16 @@ pub implementedTwice-ordered : RuleOrdered implementedTwice
 unfolding implementedTwice
 implementedTwice-ordered t i d fits = implemented-ordered (implementedBefore d) d
 
-pub fieldMissing-ordered : RuleOrdered fieldMissing
-unfolding fieldMissing
+pub fieldMissing-ordered : RuleOrdered interfaceFieldMissing
+unfolding interfaceFieldMissing
 fieldMissing-ordered t i d fits = promised-ordered (missingBreaks d) (λ m p f. one-part (lacksField d f) m p) t d
 
 pub fieldType-ordered : RuleOrdered fieldType
 unfolding fieldType
 fieldType-ordered t i d fits = promised-ordered (typeBreaks t d) (λ m p f. if-any (next-part m p) (own d f) _ (λ e. one-part (noSubType t f e) m p)) t d
 
-pub argumentMissing-ordered : RuleOrdered argumentMissing
-unfolding argumentMissing
+pub argumentMissing-ordered : RuleOrdered interfaceArgumentMissing
+unfolding interfaceArgumentMissing
 argumentMissing-ordered t i d fits =
     promised-ordered (argumentBreaks d) (λ m p f. if-any (next-part m p) (own d f) _ (λ e. arguments-of m p _ (λ a x. one-argument (lacksArgument e x) m p a) (f .arguments))) t d
 
@@ -183,7 +200,7 @@ pub argumentType-ordered : RuleOrdered argumentType
 unfolding argumentType
 argumentType-ordered t i d fits =
     promised-ordered (argumentTypeBreaks d) (λ m p f. if-any (next-part m p) (own d f) _ (λ e.
-    arguments-of m p _ (λ a x. if-any (same refl (same refl (less (below a)))) (ownArgument e x) _ (λ y. one-argument (differs x y) m p a)) (f .arguments))) t d
+    arguments-of m p _ (λ a x. if-any (same refl (same refl (less (below a)))) (ownArgument e x) _ (λ y. one-argument (typesDiffer x y) m p a)) (f .arguments))) t d
 
 pub argumentExtra-ordered : RuleOrdered argumentExtra
 unfolding argumentExtra

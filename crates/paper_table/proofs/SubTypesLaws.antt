@@ -3,14 +3,11 @@ use mathlib.Core.Path.{_≡_, refl, ap, subst}
 use mathlib.Core.Bool.{Bool, true, false, _||_, false≢true}
 use mathlib.Core.List.{List}
 use Prim.Native.Nat.{ℕ}
+use Rattle.paper.proofs.Bools.{or-true-right as or-right}
 use Rattle.paper.specs.Tokens.{same}
 use Rattle.paper_table.specs.References.{Ref, named, listOf, nonNull, baseOf, sameRef}
-use Rattle.paper_table.specs.SubTypes.{SubType, equal, object-of, list, non-null, subTest}
+use Rattle.paper_table.specs.SubTypes.{SubType, equal, object-of, list-of, non-null, subTest}
 use Rattle.paper_table.proofs.TextLaws.{same-sound, same-refl, sameRef-sound, sameRef-refl}
-
-or-right : (a b : Bool) → b ≡ true → a || b ≡ true
-or-right true b e = refl
-or-right false b e = e
 
 module _ (can : List ℕ → List ℕ → Bool) where
   test-refl : (r : Ref) → subTest can r r ≡ true
@@ -23,7 +20,7 @@ module _ (can : List ℕ → List ℕ → Bool) where
   unfolding subTest
   subTest-complete (equal {r = r}) = test-refl r
   subTest-complete (object-of {o = o} {a = a} e) = or-right (same o a) (can a o) e
-  subTest-complete (list d) = subTest-complete d
+  subTest-complete (list-of d) = subTest-complete d
   subTest-complete (non-null {r = r} {s = s} d) = go s (subTest-complete d)
     where
       go : (s : Ref) → subTest can r s ≡ true → subTest can (nonNull r) s ≡ true
@@ -41,7 +38,7 @@ module _ (can : List ℕ → List ℕ → Bool) where
   subTest-sound (named o) (listOf s) e = absurd (false≢true e)
   subTest-sound (named o) (nonNull s) e = absurd (false≢true e)
   subTest-sound (listOf r) (named a) e = absurd (false≢true e)
-  subTest-sound (listOf r) (listOf s) e = list (subTest-sound r s e)
+  subTest-sound (listOf r) (listOf s) e = list-of (subTest-sound r s e)
   subTest-sound (listOf r) (nonNull s) e = absurd (false≢true e)
   subTest-sound (nonNull r) (named a) e = non-null (subTest-sound r (named a) e)
   subTest-sound (nonNull r) (listOf s) e = non-null (subTest-sound r (listOf s) e)

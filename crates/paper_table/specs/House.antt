@@ -12,26 +12,26 @@ use Rattle.paper_table.specs.Lists.{anyOf, onlyIf}
 use Rattle.paper_table.specs.References.{isName, isReference}
 
 -- A house field in some bytes: the offset of its tag byte, its tag, its content; or the offset of bytes that are no whole field.
-pub data Piece : Type 0 where
-  piece : ℕ → ℕ → List ℕ → Piece
-  cut : ℕ → Piece
+pub data HouseField : Type 0 where
+  houseField : ℕ → ℕ → List ℕ → HouseField
+  cut : ℕ → HouseField
 
 -- the fields of bytes that stand at the offset `at`; the first number bounds how many, and the bytes' length is enough
-unfoldable pub piecesFrom : ℕ → ℕ → List ℕ → List Piece
-piecesFrom zero at s = []
-piecesFrom (suc f) at [] = []
-piecesFrom (suc f) at (tag ∷ []) = cut at ∷ []
-piecesFrom (suc f) at (tag ∷ high ∷ []) = cut at ∷ []
-piecesFrom (suc f) at (tag ∷ high ∷ low ∷ s) =
+unfoldable pub houseFieldsFrom : ℕ → ℕ → List ℕ → List HouseField
+houseFieldsFrom zero at s = []
+houseFieldsFrom (suc f) at [] = []
+houseFieldsFrom (suc f) at (tag ∷ []) = cut at ∷ []
+houseFieldsFrom (suc f) at (tag ∷ high ∷ []) = cut at ∷ []
+houseFieldsFrom (suc f) at (tag ∷ high ∷ low ∷ s) =
     let n : ℕ = 256 * high + low in
-    elim (leb n (length s)) [ true ↦ piece at tag (take n s) ∷ piecesFrom f (at + 3 + n) (drop n s) | false ↦ cut at ∷ [] ]
+    elim (leb n (length s)) [ true ↦ houseField at tag (take n s) ∷ houseFieldsFrom f (at + 3 + n) (drop n s) | false ↦ cut at ∷ [] ]
 
-abbrev pub pieces : ℕ → List ℕ → List Piece
-pieces at s = piecesFrom (length s) at s
+abbrev pub houseFields : ℕ → List ℕ → List HouseField
+houseFields at s = houseFieldsFrom (length s) at s
 
 -- the fields in a field at the offset `at`, behind its tag and length
-abbrev pub inside : ℕ → List ℕ → List Piece
-inside at s = pieces (at + 3) s
+abbrev pub houseFieldsIn : ℕ → List ℕ → List HouseField
+houseFieldsIn at s = houseFields (at + 3) s
 
 -- A place for fields of one tag in a holder: one is due, at most one may be there, or any number.
 pub data Slot : Type 0 where
@@ -95,28 +95,28 @@ openAfter tag (many k ∷ ss) = cond (eqb tag k) (many k ∷ ss) (openAfter tag 
 abbrev pub openBehind : ℕ → List Slot → List Slot
 openBehind tag slots = cond (inPlace tag slots) (openAfter tag slots) slots
 
-abbrev pub tagIs : ℕ → Piece → Bool
-tagIs k (piece at tag s) = eqb tag k
+abbrev pub tagIs : ℕ → HouseField → Bool
+tagIs k (houseField at tag s) = eqb tag k
 tagIs k (cut at) = false
 
 -- a field is missing: one is due and there is none
-abbrev pub lackedBy : List Piece → Slot → Bool
+abbrev pub lackedBy : List HouseField → Slot → Bool
 lackedBy ps (one k) = not (anyOf (tagIs k) ps)
 lackedBy ps (atMostOne k) = false
 lackedBy ps (many k) = false
 
-abbrev pub lacks : List Slot → List Piece → Bool
-lacks slots ps = anyOf (lackedBy ps) slots
+abbrev pub lacksHouseField : List Slot → List HouseField → Bool
+lacksHouseField slots ps = anyOf (lackedBy ps) slots
 
 -- Some offsets in a field, by its own offset, its tag, its content.
 abbrev pub Offsets : Type 0
 Offsets = ℕ → ℕ → List ℕ → List ℕ
 
 -- the wrong ones among a holder's fields: its own, of one out of place or not whole; else those in it
-unfoldable pub inOrder : Offsets → List Slot → List Piece → List ℕ
+unfoldable pub inOrder : Offsets → List Slot → List HouseField → List ℕ
 inOrder inner slots [] = []
 inOrder inner slots (cut at ∷ ps) = at ∷ inOrder inner slots ps
-inOrder inner slots (piece at tag s ∷ ps) = cond (inPlace tag slots) (inner at tag s) (at ∷ []) ++ inOrder inner (openBehind tag slots) ps
+inOrder inner slots (houseField at tag s ∷ ps) = cond (inPlace tag slots) (inner at tag s) (at ∷ []) ++ inOrder inner (openBehind tag slots) ps
 
 -- "a missing field is told at a holder that is right otherwise"
 abbrev pub orLacking : ℕ → Bool → List ℕ → List ℕ
@@ -128,7 +128,7 @@ unfoldable pub byContent : Offsets → ℕ → List ℕ → Content → List ℕ
 byContent inner at s noTag = at ∷ []
 byContent inner at s aName = onlyIf (not (isName s)) at
 byContent inner at s aReference = onlyIf (not (isReference s)) at
-byContent inner at s (holds slots) = orLacking at (lacks slots (inside at s)) (inOrder inner slots (inside at s))
+byContent inner at s (holds slots) = orLacking at (lacksHouseField slots (houseFieldsIn at s)) (inOrder inner slots (houseFieldsIn at s))
 
 -- the first number bounds how deep fields stand in one another
 unfoldable pub wrongs : ℕ → Offsets
@@ -144,10 +144,10 @@ abbrev pub recordInPlace : Bool → ℕ → Bool
 recordInPlace roots tag = leb tagScalar tag && leb tag tagRoots && (not (eqb tag tagRoots) || roots)
 
 -- the wrong offsets of a table
-unfoldable pub tableWrongs : Bool → List Piece → List ℕ
+unfoldable pub tableWrongs : Bool → List HouseField → List ℕ
 tableWrongs roots [] = []
 tableWrongs roots (cut at ∷ ps) = at ∷ tableWrongs roots ps
-tableWrongs roots (piece at tag s ∷ ps) =
+tableWrongs roots (houseField at tag s ∷ ps) =
     cond (recordInPlace roots tag) (wrongs mostDeep at tag s) (at ∷ []) ++ tableWrongs (roots && not (eqb tag tagRoots)) ps
 
 -- the smallest of some offsets
@@ -160,5 +160,5 @@ smallest [] = none
 smallest (w ∷ ws) = smaller w (smallest ws)
 
 -- Refusal 7: the smallest wrong offset, if there is one.
-unfoldable pub framing : List ℕ → Option ℕ
-framing s = smallest (tableWrongs true (pieces 0 s))
+unfoldable pub framingOffset : List ℕ → Option ℕ
+framingOffset s = smallest (tableWrongs true (houseFields 0 s))

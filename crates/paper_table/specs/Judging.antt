@@ -10,10 +10,26 @@ use lib.Dec.{ltb, eqb}
 use Rattle.paper.specs.Numbers.{accepted, refuseTooMany}
 use Rattle.paper_table.specs.TableNumbers.{refuseFraming, refuseSchema, ruleReservedName, ruleNameKnown, ruleNoMembers, ruleNameRepeated, ruleReservedMember, ruleEnumValue, ruleNoType, ruleBase, ruleNotObjectOrInterface, ruleImplementedTwice, ruleFieldMissing, ruleFieldType, ruleArgumentMissing, ruleArgumentType, ruleArgumentExtra, ruleRoot}
 use Rattle.paper_table.specs.Lists.{gather, each, onlyIf}
-use Rattle.paper_table.specs.House.{framing}
-use Rattle.paper_table.specs.TableSizes.{counts}
+use Rattle.paper_table.specs.House.{framingOffset}
+use Rattle.paper_table.specs.TableSizes.{countsOffset}
 use Rattle.paper_table.specs.Types.{Definition, Table, tableOf}
-use Rattle.paper_table.specs.Rules.{Place, wholeOf, Rule, reservedName, nameKnown, noMembers, nameRepeated, reservedMember, enumValue, noType, wrongBase, notObjectOrInterface, implementedTwice, fieldMissing, fieldType, argumentMissing, argumentType, argumentExtra, rootNotObject, queryNotObject}
+use Rattle.paper_table.specs.Places.{Place, wholeOf, Rule}
+use Rattle.paper_table.specs.Rule1ReservedName.{reservedName}
+use Rattle.paper_table.specs.Rule2NameKnown.{nameKnown}
+use Rattle.paper_table.specs.Rule3NoMembers.{noMembers}
+use Rattle.paper_table.specs.Rule4NameRepeated.{nameRepeated}
+use Rattle.paper_table.specs.Rule5ReservedMember.{reservedMember}
+use Rattle.paper_table.specs.Rule6EnumValue.{enumValue}
+use Rattle.paper_table.specs.Rule7NoType.{noType}
+use Rattle.paper_table.specs.Rule8Base.{wrongBase}
+use Rattle.paper_table.specs.Rule9NotObjectOrInterface.{notObjectOrInterface}
+use Rattle.paper_table.specs.Rule10ImplementedTwice.{implementedTwice}
+use Rattle.paper_table.specs.Rule11FieldMissing.{interfaceFieldMissing}
+use Rattle.paper_table.specs.Rule12FieldType.{fieldType}
+use Rattle.paper_table.specs.Rule13ArgumentMissing.{interfaceArgumentMissing}
+use Rattle.paper_table.specs.Rule14ArgumentType.{argumentType}
+use Rattle.paper_table.specs.Rule15ArgumentExtra.{argumentExtra}
+use Rattle.paper_table.specs.Rule16Root.{rootNotObject, queryNotObject}
 use Rattle.paper_table.specs.declared.TableAnswer.{TableAnswer}
 use Rattle.paper_table.specs.declared.TableAnswer.the-variants.{Accepted, Framing, TooMany, Breaks}
 
@@ -37,9 +53,9 @@ rules =
     numbered ruleBase wrongBase ∷
     numbered ruleNotObjectOrInterface notObjectOrInterface ∷
     numbered ruleImplementedTwice implementedTwice ∷
-    numbered ruleFieldMissing fieldMissing ∷
+    numbered ruleFieldMissing interfaceFieldMissing ∷
     numbered ruleFieldType fieldType ∷
-    numbered ruleArgumentMissing argumentMissing ∷
+    numbered ruleArgumentMissing interfaceArgumentMissing ∷
     numbered ruleArgumentType argumentType ∷
     numbered ruleArgumentExtra argumentExtra ∷
     numbered ruleRoot rootNotObject ∷
@@ -69,14 +85,14 @@ abbrev pub numbersOf : Break → List ℕ
 numbersOf b = b .definition ∷ b .rule ∷ b .place .member ∷ b .place .part ∷ b .place .argument ∷ []
 
 -- not after: as the numbers shown compare, from the first on
-unfoldable pub before : List ℕ → List ℕ → Bool
-before [] ys = true
-before (x ∷ xs) [] = false
-before (x ∷ xs) (y ∷ ys) = ltb x y || eqb x y && before xs ys
+unfoldable pub notAfter : List ℕ → List ℕ → Bool
+notAfter [] ys = true
+notAfter (x ∷ xs) [] = false
+notAfter (x ∷ xs) (y ∷ ys) = ltb x y || eqb x y && notAfter xs ys
 
 abbrev pub lesser : Break → Option Break → Option Break
 lesser b none = some b
-lesser b (some c) = some (cond (before (numbersOf b) (numbersOf c)) b c)
+lesser b (some c) = some (cond (notAfter (numbersOf b) (numbersOf c)) b c)
 
 -- the least of some breaks
 unfoldable pub leastBreak : List Break → Option Break
@@ -84,15 +100,15 @@ leastBreak [] = none
 leastBreak (b ∷ bs) = lesser b (leastBreak bs)
 
 -- "table 7, 8, 9"
-unfoldable pub answer : Option ℕ → Option ℕ → Option Break → TableAnswer
-answer (some at) over broken = Framing at
-answer none (some at) broken = TooMany at
-answer none none (some b) = Breaks (b .definition) (b .rule) (b .place .member) (b .place .part) (b .place .argument)
-answer none none none = Accepted
+unfoldable pub tableAnswer : Option ℕ → Option ℕ → Option Break → TableAnswer
+tableAnswer (some at) over broken = Framing at
+tableAnswer none (some at) broken = TooMany at
+tableAnswer none none (some b) = Breaks (b .definition) (b .rule) (b .place .member) (b .place .part) (b .place .argument)
+tableAnswer none none none = Accepted
 
 -- What is said of a table's bytes.
 unfoldable pub judge : List ℕ → TableAnswer
-judge s = answer (framing s) (counts s) (leastBreak (breaks (tableOf s)))
+judge s = tableAnswer (framingOffset s) (countsOffset s) (leastBreak (breaks (tableOf s)))
 
 -- the column "No."
 abbrev pub tableNumber : TableAnswer → ℕ

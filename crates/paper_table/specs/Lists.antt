@@ -6,6 +6,7 @@ use mathlib.Core.List.{List, [], _∷_, _++_}
 use Prim.Native.Nat.{ℕ, suc}
 use Prim.Native.Char.{code}
 use Prim.Native.String.{String, [] as empty, _∷_ as _then_}
+use lib.ListN.{take}
 
 -- a quoted text's bytes, in ASCII
 abbrev pub bytes : String → List ℕ
@@ -20,6 +21,10 @@ anyOf p (x ∷ xs) = p x || anyOf p xs
 unfoldable pub allOf : {A : Type 0} → (A → Bool) → List A → Bool
 allOf p [] = true
 allOf p (x ∷ xs) = p x && allOf p xs
+
+-- one before number i passes
+abbrev pub earlier : {A : Type 0} → (A → Bool) → ℕ → List A → Bool
+earlier p i xs = anyOf p (take i xs)
 
 -- how many stand before the first that passes; the list's length if none does
 unfoldable pub firstAt : {A : Type 0} → (A → Bool) → List A → ℕ

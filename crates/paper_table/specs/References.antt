@@ -7,14 +7,14 @@ use mathlib.Core.List.{List, [], _∷_}
 use Prim.Native.Nat.{ℕ, zero, suc}
 use lib.ListN.{length, take, drop}
 use lib.Dec.{eqb}
-use Rattle.paper.specs.Lexical.{letter, letterOrDigit, oneOf}
+use Rattle.paper.specs.Lexical.{letter, letterOrDigit, inSet}
 use Rattle.paper.specs.Tokens.{same}
 use Rattle.paper_table.specs.Lists.{allOf, firstAt}
 
 -- the text is a name: the draft's, one byte at least
 unfoldable pub isName : List ℕ → Bool
 isName [] = false
-isName (b ∷ bs) = oneOf letter b && allOf (oneOf letterOrDigit) bs
+isName (b ∷ bs) = inSet letter b && allOf (inSet letterOrDigit) bs
 
 -- A type reference (draft 2.11): a name, a list `[..]`, or Non-Null `..!` of one that is not Non-Null itself.
 pub data Ref : Type 0 where
@@ -57,7 +57,7 @@ byteBracketR = 0x5d
 -- a reference that a text begins with, and the text behind it; or the text begins with none
 pub data ReadRef : Type 0 where
   got : Ref → List ℕ → ReadRef
-  bad : ReadRef
+  noReference : ReadRef
 
 -- the `!` behind a reference, if there is one
 unfoldable pub marked : Ref → List ℕ → ReadRef
@@ -66,27 +66,27 @@ marked r (b ∷ s) = cond (eqb b byteBang) (got (nonNull r) s) (got r (b ∷ s))
 
 -- the `]` behind a list's item
 unfoldable pub closed : ReadRef → ReadRef
-closed bad = bad
-closed (got r []) = bad
-closed (got r (b ∷ s)) = cond (eqb b byteBracketR) (marked (listOf r) s) bad
+closed noReference = noReference
+closed (got r []) = noReference
+closed (got r (b ∷ s)) = cond (eqb b byteBracketR) (marked (listOf r) s) noReference
 
 -- how many bytes of a name the text begins with
 abbrev pub nameSize : List ℕ → ℕ
-nameSize s = firstAt (λ b. not (oneOf letterOrDigit b)) s
+nameSize s = firstAt (λ b. not (inSet letterOrDigit b)) s
 
 -- the name that a text begins with
 unfoldable pub readName : List ℕ → ReadRef
-readName s = cond (isName (take (nameSize s) s)) (marked (named (take (nameSize s) s)) (drop (nameSize s) s)) bad
+readName s = cond (isName (take (nameSize s) s)) (marked (named (take (nameSize s) s)) (drop (nameSize s) s)) noReference
 
 -- the reference that a text begins with; the first number bounds how deep lists go, and the text's length is enough
 unfoldable pub refFrom : ℕ → List ℕ → ReadRef
-refFrom zero s = bad
-refFrom (suc f) [] = bad
+refFrom zero s = noReference
+refFrom (suc f) [] = noReference
 refFrom (suc f) (b ∷ s) = elim (eqb b byteBracketL) [ true ↦ closed (refFrom f s) | false ↦ readName (b ∷ s) ]
 
 -- nothing stands behind it
 unfoldable pub wholeRef : ReadRef → Option Ref
-wholeRef bad = none
+wholeRef noReference = none
 wholeRef (got r []) = some r
 wholeRef (got r (b ∷ s)) = none
 

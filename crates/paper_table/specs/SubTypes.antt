@@ -12,7 +12,7 @@ use Rattle.paper_table.specs.References.{Ref, named, listOf, nonNull, sa
 pub data SubType (can : List ℕ → List ℕ → Bool) : Ref → Ref → Type 0 where
   equal : {r : Ref} → SubType can r r
   object-of : {o a : List ℕ} → can a o ≡ true → SubType can (named o) (named a)
-  list : {r s : Ref} → SubType can r s → SubType can (listOf r) (listOf s)
+  list-of : {r s : Ref} → SubType can r s → SubType can (listOf r) (listOf s)
   non-null : {r s : Ref} → SubType can r s → SubType can (nonNull r) s
 
 -- The test, which goes by the first reference's wrappers; that it decides `SubType` is proved (`subTest-sound`, `subTest-complete`).

@@ -11,20 +11,20 @@ use Rattle.paper.specs.Numbers.{mostWrappers}
 use Rattle.paper_table.specs.TableNumbers.{mostRecords, mostMembers, mostImplemented, mostArguments, tagScalar, tagRoots, tagImplements, tagField, tagArgument, tagSubscriptionRoot}
 use Rattle.paper_table.specs.Lists.{anyOf, onlyIf}
 use Rattle.paper_table.specs.References.{byteBang, byteBracketL}
-use Rattle.paper_table.specs.House.{Piece, piece, cut, pieces, inside, Content, aName, aReference, noTag, holds, contentOf, Offsets, mostDeep, smallest}
+use Rattle.paper_table.specs.House.{HouseField, houseField, cut, houseFields, houseFieldsIn, Content, aName, aReference, noTag, holds, contentOf, Offsets, mostDeep, smallest}
 
 -- How many fields of the tags from one to another may still come.
 pub data Room : Type 0 where
   room : ℕ → ℕ → ℕ → Room
 
-abbrev pub counted : ℕ → Room → Bool
-counted tag (room from to n) = leb from tag && leb tag to
+abbrev pub countsTowards : ℕ → Room → Bool
+countsTowards tag (room from to n) = leb from tag && leb tag to
 
 abbrev pub isOver : ℕ → Room → Bool
-isOver tag (room from to n) = counted tag (room from to n) && eqb n 0
+isOver tag (room from to n) = countsTowards tag (room from to n) && eqb n 0
 
 abbrev pub lessRoom : ℕ → Room → Room
-lessRoom tag (room from to n) = room from to (cond (counted tag (room from to n)) (pred n) n)
+lessRoom tag (room from to n) = room from to (cond (countsTowards tag (room from to n)) (pred n) n)
 
 -- a table's records
 abbrev pub roomInTable : List Room
@@ -37,10 +37,10 @@ roomIn tag =
     (cond (eqb tag tagField) (room tagArgument tagArgument mostArguments ∷ []) [])
 
 -- the offsets over a size among a holder's fields: each field with no room left, and those in it
-unfoldable pub oversIn : Offsets → List Room → List Piece → List ℕ
+unfoldable pub oversIn : Offsets → List Room → List HouseField → List ℕ
 oversIn inner rooms [] = []
 oversIn inner rooms (cut at ∷ ps) = oversIn inner rooms ps
-oversIn inner rooms (piece at tag s ∷ ps) = onlyIf (anyOf (isOver tag) rooms) at ++ (inner at tag s ++ oversIn inner (map (lessRoom tag) rooms) ps)
+oversIn inner rooms (houseField at tag s ∷ ps) = onlyIf (anyOf (isOver tag) rooms) at ++ (inner at tag s ++ oversIn inner (map (lessRoom tag) rooms) ps)
 
 -- the offsets of the wrappers over n in a reference's text at the offset `at`
 abbrev pub isWrapper : ℕ → Bool
@@ -55,7 +55,7 @@ unfoldable pub oversBy : Offsets → ℕ → ℕ → List ℕ → Content → Li
 oversBy inner at tag s noTag = []
 oversBy inner at tag s aName = []
 oversBy inner at tag s aReference = wrappersOver mostWrappers (at + 3) s
-oversBy inner at tag s (holds slots) = oversIn inner (roomIn tag) (inside at s)
+oversBy inner at tag s (holds slots) = oversIn inner (roomIn tag) (houseFieldsIn at s)
 
 -- the first number bounds how deep fields stand in one another
 unfoldable pub overs : ℕ → Offsets
@@ -63,5 +63,5 @@ overs zero at tag s = []
 overs (suc d) at tag s = oversBy (overs d) at tag s (contentOf tag)
 
 -- Refusal 8: "offset of the first over it".
-unfoldable pub counts : List ℕ → Option ℕ
-counts s = smallest (oversIn (overs mostDeep) roomInTable (pieces 0 s))
+unfoldable pub countsOffset : List ℕ → Option ℕ
+countsOffset s = smallest (oversIn (overs mostDeep) roomInTable (houseFields 0 s))

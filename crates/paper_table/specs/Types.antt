@@ -1,7 +1,7 @@
 -- A table as types: its definitions with their members and references, and what a name means.
 -- States: 01, "The type table": "A name means the first type so named. The five built-in scalars, skip and include are always known."
 -- Assumes nothing.
-use mathlib.Core.Bool.{Bool, _&&_, _||_, cond}
+use mathlib.Core.Bool.{Bool, _&&_, _||_, cond, false}
 use mathlib.Core.Option.{Option, none, some}
 use mathlib.Core.List.{List, [], _∷_}
 use Prim.Native.Nat.{ℕ}
@@ -11,7 +11,7 @@ use Rattle.paper.specs.Tokens.{same}
 use Rattle.paper_table.specs.TableNumbers.{tagScalar, tagObject, tagInterface, tagUnion, tagEnum, tagInputObject, tagDirective, tagRoots, tagName, tagImplements, tagField, tagArgument, tagReference, tagUnionMember, tagQueryRoot}
 use Rattle.paper_table.specs.Lists.{bytes, anyOf, firstAt, find, gather, onlyIf}
 use Rattle.paper_table.specs.References.{Ref, named, refOf}
-use Rattle.paper_table.specs.House.{Piece, piece, cut, pieces, inside}
+use Rattle.paper_table.specs.House.{HouseField, houseField, cut, houseFields, houseFieldsIn}
 
 -- a field's argument
 pub record Argument : Type 0 where
@@ -38,61 +38,61 @@ Table = List Definition
 
 -- What a table's bytes write.
 -- the content of the first field with this tag, no bytes if there is none
-unfoldable pub textOf : ℕ → List Piece → List ℕ
+unfoldable pub textOf : ℕ → List HouseField → List ℕ
 textOf k [] = []
 textOf k (cut at ∷ ps) = textOf k ps
-textOf k (piece at tag s ∷ ps) = cond (eqb tag k) s (textOf k ps)
+textOf k (houseField at tag s ∷ ps) = cond (eqb tag k) s (textOf k ps)
 
 -- where there is no reference, one to a type of no name
 abbrev pub orNone : Option Ref → Ref
 orNone none = named []
 orNone (some r) = r
 
-abbrev pub nameIn : List Piece → List ℕ
+abbrev pub nameIn : List HouseField → List ℕ
 nameIn ps = textOf tagName ps
 
-abbrev pub typeIn : List Piece → Ref
+abbrev pub typeIn : List HouseField → Ref
 typeIn ps = orNone (refOf (textOf tagReference ps))
 
 -- an argument of the content s, at the offset `at`
 abbrev pub argumentIn : ℕ → List ℕ → Argument
-argumentIn at s = record { name = nameIn (inside at s); type = typeIn (inside at s) }
+argumentIn at s = record { name = nameIn (houseFieldsIn at s); type = typeIn (houseFieldsIn at s) }
 
-abbrev pub argumentOf : Piece → List Argument
+abbrev pub argumentOf : HouseField → List Argument
 argumentOf (cut at) = []
-argumentOf (piece at tag s) = onlyIf (eqb tag tagArgument) (argumentIn at s)
+argumentOf (houseField at tag s) = onlyIf (eqb tag tagArgument) (argumentIn at s)
 
 -- a field; an input field or a directive's argument; a member that is one name
 abbrev pub fieldIn : ℕ → List ℕ → Member
-fieldIn at s = record { tag = tagField; name = nameIn (inside at s); type = typeIn (inside at s); arguments = gather argumentOf (inside at s) }
+fieldIn at s = record { tag = tagField; name = nameIn (houseFieldsIn at s); type = typeIn (houseFieldsIn at s); arguments = gather argumentOf (houseFieldsIn at s) }
 
 abbrev pub inputIn : ℕ → List ℕ → Member
-inputIn at s = record { tag = tagArgument; name = nameIn (inside at s); type = typeIn (inside at s); arguments = [] }
+inputIn at s = record { tag = tagArgument; name = nameIn (houseFieldsIn at s); type = typeIn (houseFieldsIn at s); arguments = [] }
 
 abbrev pub nameOnly : ℕ → List ℕ → Member
 nameOnly tag s = record { tag = tag; name = s; type = named []; arguments = [] }
 
-unfoldable pub memberOf : Piece → List Member
+unfoldable pub memberOf : HouseField → List Member
 memberOf (cut at) = []
-memberOf (piece at tag s) =
+memberOf (houseField at tag s) =
     cond (eqb tag tagField) (fieldIn at s ∷ [])
     (cond (eqb tag tagArgument) (inputIn at s ∷ [])
     (onlyIf (leb tagUnionMember tag) (nameOnly tag s)))
 
-abbrev pub implementedOf : Piece → List (List ℕ)
+abbrev pub implementedOf : HouseField → List (List ℕ)
 implementedOf (cut at) = []
-implementedOf (piece at tag s) = onlyIf (eqb tag tagImplements) s
+implementedOf (houseField at tag s) = onlyIf (eqb tag tagImplements) s
 
 -- a record
 abbrev pub definitionIn : ℕ → ℕ → List ℕ → Definition
-definitionIn at tag s = record { tag = tag; name = nameIn (inside at s); implements = gather implementedOf (inside at s); members = gather memberOf (inside at s) }
+definitionIn at tag s = record { tag = tag; name = nameIn (houseFieldsIn at s); implements = gather implementedOf (houseFieldsIn at s); members = gather memberOf (houseFieldsIn at s) }
 
-unfoldable pub definitionOf : Piece → List Definition
+unfoldable pub definitionOf : HouseField → List Definition
 definitionOf (cut at) = []
-definitionOf (piece at tag s) = definitionIn at tag s ∷ []
+definitionOf (houseField at tag s) = definitionIn at tag s ∷ []
 
 unfoldable pub tableOf : List ℕ → Table
-tableOf s = gather definitionOf (pieces 0 s)
+tableOf s = gather definitionOf (houseFields 0 s)
 
 -- What a definition is.
 abbrev pub isObject : Definition → Bool
@@ -120,6 +120,23 @@ isRoots d = eqb (d .tag) tagRoots
 abbrev pub isType : Definition → Bool
 isType d = leb (d .tag) tagInputObject
 
+-- a name that begins `__`
+abbrev pub isReserved : List ℕ → Bool
+isReserved [] = false
+isReserved (a ∷ []) = false
+isReserved (a ∷ b ∷ s) = eqb a 0x5f && eqb b 0x5f
+
+-- a member, an argument of this name
+abbrev pub memberNamed : List ℕ → Member → Bool
+memberNamed n e = same (e .name) n
+
+abbrev pub argumentNamed : List ℕ → Argument → Bool
+argumentNamed n x = same (x .name) n
+
+-- an object, interface or union
+abbrev pub isComposite : Definition → Bool
+isComposite d = leb tagObject (d .tag) && leb (d .tag) tagUnion
+
 abbrev pub typeNamed : List ℕ → Definition → Bool
 typeNamed n d = isType d && same (d .name) n
 
@@ -138,24 +155,24 @@ builtInDirectives = bytes "skip" ∷ bytes "include" ∷ []
 
 -- What a name means: a built-in scalar, the type that is the table's definition of a number, or nothing.
 pub data Meaning : Type 0 where
-  builtIn nothing : Meaning
+  builtIn noMeaning : Meaning
   definition : ℕ → Meaning
 
 -- the built-ins come before the table
 unfoldable pub meaning : Table → List ℕ → Meaning
-meaning t n = cond (isBuiltIn n) builtIn (cond (anyOf (typeNamed n) t) (definition (firstAt (typeNamed n) t)) nothing)
+meaning t n = cond (isBuiltIn n) builtIn (cond (anyOf (typeNamed n) t) (definition (firstAt (typeNamed n) t)) noMeaning)
 
 -- a definition of this tag and nothing else: a built-in scalar's, and, with tag 0, that of no type
-abbrev pub blank : ℕ → Definition
-blank tag = record { tag = tag; name = []; implements = []; members = [] }
+abbrev pub blankDefinition : ℕ → Definition
+blankDefinition tag = record { tag = tag; name = []; implements = []; members = [] }
 
 abbrev pub tagNothing : ℕ
 tagNothing = 0
 
 abbrev pub definitionBy : Table → Meaning → Definition
-definitionBy t builtIn = blank tagScalar
-definitionBy t nothing = blank tagNothing
-definitionBy t (definition i) = getD t i (blank tagNothing)
+definitionBy t builtIn = blankDefinition tagScalar
+definitionBy t noMeaning = blankDefinition tagNothing
+definitionBy t (definition i) = getD t i (blankDefinition tagNothing)
 
 -- the definition that a name means
 abbrev pub meant : Table → List ℕ → Definition

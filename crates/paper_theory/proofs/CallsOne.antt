@@ -9,15 +9,15 @@ use Rattle.paper.specs.Language.{Document}
 use Rattle.paper.specs.Tokens.{Text, Tokens}
 use Rattle.paper.specs.Rows.{Row, flat}
 use Rattle.paper.specs.Refusals.{numberOf}
-use Rattle.paper.specs.Reading.{Answer, rows-are, refuses, Said}
+use Rattle.paper.specs.Reading.{Answer, rows-are, refuses, TextAnswer}
 use Rattle.paper.specs.Calls.{filled, tells, Parsed, short-report, short-rows, over-length, refuses-text, reads}
 use Rattle.paper.specs.declared.Refusal.{Refusal}
 use Rattle.paper_theory.proofs.SaidOne.{said-one}
 use Rattle.paper_theory.proofs.TokensLaws.{tokens-one}
 
 -- what the text says, for two ways of having its tokens
-said-same : {document : List ℕ} {t t′ : Text} {a a′ : Answer} → Tokens 0 document t → Tokens 0 document t′ → Said Document t a → Said Document t′ a′ → a ≡ a′
-said-same {a′} k k′ s s′ = said-one s (subst (λ (z : Text). Said Document z a′) (tokens-one k′ k) s′)
+said-same : {document : List ℕ} {t t′ : Text} {a a′ : Answer} → Tokens 0 document t → Tokens 0 document t′ → TextAnswer Document t a → TextAnswer Document t′ a′ → a ≡ a′
+said-same {a′} k k′ s s′ = said-one s (subst (λ (z : Text). TextAnswer Document z a′) (tokens-one k′ k) s′)
 
 refuses-inj : {r r′ : Refusal} → refuses r ≡ refuses r′ → r ≡ r′
 refuses-inj q = cc

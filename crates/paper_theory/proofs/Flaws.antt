@@ -10,9 +10,9 @@ use lib.Dec.{T}
 use lib.ListN.{length, length-map}
 use Rattle.paper.specs.Grammar.{nt, Ev}
 use Rattle.paper.specs.Language.{Class, Terminal, Mark, Part}
-use Rattle.paper.specs.Tokens.{Tok, Text, over, bad, token}
-use Rattle.paper.specs.Sizes.{Sums, nothing, sums, overLevels, overRows, overCounts}
-use Rattle.paper.specs.Reading.{tokensOf, classesOf, placeOf, Whole, whole-over, whole-token, BadAt, bad-here, bad-later, Summed, Fault, no-token, no-going, no-end, too-deep, too-many-rows, too-many, offsetOf}
+use Rattle.paper.specs.Tokens.{Tok, Text, atEnd, bad, token}
+use Rattle.paper.specs.Sizes.{Sums, nothingCounted, sums, overLevels, overRows, overCounts}
+use Rattle.paper.specs.Reading.{tokensOf, classesOf, placeOf, EndsWell, ends-well-here, ends-well-later, BadAt, bad-here, bad-later, Summed, Fault, no-token, no-going, no-end, too-deep, too-many-rows, too-many, offsetOf}
 use Rattle.paper.specs.declared.Refusal.{Refusal}
 use Rattle.paper.specs.declared.Refusal.the-variants.{NoToken, NoGoing, TooDeep, TooManyRows, TooMany}
 use Rattle.paper.proofs.Machine.{Step, took, emptied, refused, spent, Answer, accepted, stopped, step, run, ended, went, _▹_}
@@ -39,7 +39,7 @@ NotEmptied r = (fs : Evs) → r ≡ emptied fs → ⊥
 -- what is wrong with a text where the stack σ is expected and the sums are m
 pub data Flaw : Sums → Stack → Text → Refusal → Type 0 where
   stray : {m : Sums} {σ : Stack} {t : Text} {at : ℕ} → BadAt at t → Flaw m σ t (NoToken at)
-  short : {m : Sums} {σ : Stack} {n : ℕ} → NotEmptied (step graphql σ none) → Flaw m σ (over n) (NoGoing n)
+  short : {m : Sums} {σ : Stack} {n : ℕ} → NotEmptied (step graphql σ none) → Flaw m σ (atEnd n) (NoGoing n)
   unfit : {m : Sums} {σ : Stack} {k : Tok} {t : Text} → NotTook (step graphql σ (some (k .class))) → Flaw m σ (token k t) (NoGoing (k .start))
   deeper : {m : Sums} {σ : Stack} {k : Tok} {t : Text} (fs : Evs) (σ′ : Stack) → step graphql σ (some (k .class)) ≡ took fs σ′ → T (overLevels (sums fs m)) → Flaw m σ (token k t) (TooDeep (k .start))
   rowed : {m : Sums} {σ : Stack} {k : Tok} {t : Text} (fs : Evs) (σ′ : Stack) → step graphql σ (some (k .class)) ≡ took fs σ′ → T (overRows (sums fs m)) → Flaw m σ (token k t) (TooManyRows (k .start))
@@ -67,7 +67,7 @@ flaw-place (onward fs σ′ q h) = let r = flaw-place h in (suc (r .0), (let i =
 data Told (m : Sums) (σ : Stack) (t : Text) : Refusal → Type 0 where
   told-token : {at : ℕ} → BadAt at t → Told m σ t (NoToken at)
   told-going : (k : ℕ) → k < length (tokensOf t) → run graphql σ (classesOf t) ≡ stopped k → Told m σ t (NoGoing (placeOf k t))
-  told-end : Whole t → run graphql σ (classesOf t) ≡ stopped (length (tokensOf t)) → Told m σ t (NoGoing (placeOf (length (tokensOf t)) t))
+  told-end : EndsWell t → run graphql σ (classesOf t) ≡ stopped (length (tokensOf t)) → Told m σ t (NoGoing (placeOf (length (tokensOf t)) t))
   told-deep : (k : ℕ) {s : Sums} → SummedBy σ m (classesOf t) k s → T (overLevels s) → Told m σ t (TooDeep (placeOf k t))
   told-rows : (k : ℕ) {s : Sums} → SummedBy σ m (classesOf t) k s → T (overRows s) → Told m σ t (TooManyRows (placeOf k t))
   told-many : (k : ℕ) {s : Sums} → SummedBy σ m (classesOf t) k s → T (overCounts (s .counts)) → Told m σ t (TooMany (placeOf k t))
@@ -100,7 +100,7 @@ told-onward : (m : Sums) (σ σ′ : Stack) (fs : Evs) (k : Tok) (t : Text) {r :
 unfolding tokensOf placeOf
 told-onward m σ σ′ fs k t q (told-token b) = told-token (bad-later b)
 told-onward m σ σ′ fs k t q (told-going j h e) = told-going (suc j) (omega arith) (run-on σ σ′ fs (k .class) (classesOf t) q ∙ ap (λ (a : Answer Class Mark). fs ▹ a) e)
-told-onward m σ σ′ fs k t q (told-end w e) = told-end (whole-token w) (run-on σ σ′ fs (k .class) (classesOf t) q ∙ ap (λ (a : Answer Class Mark). fs ▹ a) e)
+told-onward m σ σ′ fs k t q (told-end w e) = told-end (ends-well-later w) (run-on σ σ′ fs (k .class) (classesOf t) q ∙ ap (λ (a : Answer Class Mark). fs ▹ a) e)
 told-onward m σ σ′ fs k t q (told-deep j {s} h o) = told-deep (suc j) (summed-later (k .class) (classesOf t) σ σ′ fs m s j q h) o
 told-onward m σ σ′ fs k t q (told-rows j {s} h o) = told-rows (suc j) (summed-later (k .class) (classesOf t) σ σ′ fs m s j q h) o
 told-onward m σ σ′ fs k t q (told-many j {s} h o) = told-many (suc j) (summed-later (k .class) (classesOf t) σ σ′ fs m s j q h) o
@@ -108,7 +108,7 @@ told-onward m σ σ′ fs k t q (told-many j {s} h o) = told-many (suc j) (summe
 flaw-told : {m : Sums} {σ : Stack} {t : Text} {r : Refusal} → Flaw m σ t r → Told m σ t r
 unfolding tokensOf placeOf
 flaw-told (stray b) = told-token b
-flaw-told (short {m} {σ} {n} f) = told-end whole-over (run-end σ f)
+flaw-told (short {m} {σ} {n} f) = told-end ends-well-here (run-end σ f)
 flaw-told (unfit {m} {σ} {k} {t} f) = told-going 0 (omega arith) (run-here σ (k .class) (classesOf t) f)
 flaw-told (deeper {m} {σ} {k} {t} fs σ′ q h) = told-deep 0 (summed-here (k .class) (classesOf t) σ σ′ fs m q) h
 flaw-told (rowed {m} {σ} {k} {t} fs σ′ q h) = told-rows 0 (summed-here (k .class) (classesOf t) σ σ′ fs m q) h
@@ -122,7 +122,7 @@ data Reached : Sums → Stack → Text → ℕ → Sums → Type 0 where
 
 summed-reached : (t : Text) (m s : Sums) (σ : Stack) (k : ℕ) → Kept graphql follow σ → SummedBy σ m (classesOf t) k s → Reached m σ t k s
 unfolding tokensOf
-summed-reached (over n) m s σ k kp h = absurd (not-suc-le-zero (h .inside))
+summed-reached (atEnd n) m s σ k kp h = absurd (not-suc-le-zero (h .inside))
 summed-reached (bad n) m s σ k kp h = absurd (not-suc-le-zero (h .inside))
 summed-reached (token x t) m s σ zero kp h =
     let r = summed-first (x .class) (classesOf t) σ m s kp h in
@@ -147,21 +147,21 @@ reached-many (reached fs σ′ q) h = many fs σ′ q h
 reached-many (reaches fs σ′ q r) h = onward fs σ′ q (reached-many r h)
 
 -- where the machine stops
-not-whole : {n : ℕ} → Whole (bad n) → ⊥
+not-whole : {n : ℕ} → EndsWell (bad n) → ⊥
 not-whole w = elim w [ ]
 
 stopped-on : (fs : Evs) {k : ℕ} (a : Answer Class Mark) → fs ▹ a ≡ stopped k → (j : ℕ) × (a ≡ stopped j) × (suc j ≡ k)
 stopped-on fs (accepted es) e = absurd (accepted≢stopped e)
 stopped-on fs (stopped j) e = (j, refl, cc)
 
-whole-later : {k : Tok} {t : Text} → Whole (token k t) → Whole t
-whole-later (whole-token w) = w
+whole-later : {k : Tok} {t : Text} → EndsWell (token k t) → EndsWell t
+whole-later (ends-well-later w) = w
 
-going-flaw : (t : Text) (m : Sums) (σ : Stack) (k : ℕ) → run graphql σ (classesOf t) ≡ stopped k → (k < length (tokensOf t)) ⊎ Whole t → Flaw m σ t (NoGoing (placeOf k t))
+going-flaw : (t : Text) (m : Sums) (σ : Stack) (k : ℕ) → run graphql σ (classesOf t) ≡ stopped k → (k < length (tokensOf t)) ⊎ EndsWell t → Flaw m σ t (NoGoing (placeOf k t))
 unfolding tokensOf placeOf run
-going-flaw (over n) m σ k e w = go (step graphql σ none) refl e
+going-flaw (atEnd n) m σ k e w = go (step graphql σ none) refl e
   where
-    go : (r : Steps) → step graphql σ none ≡ r → ended graphql r ≡ stopped k → Flaw m σ (over n) (NoGoing n)
+    go : (r : Steps) → step graphql σ none ≡ r → ended graphql r ≡ stopped k → Flaw m σ (atEnd n) (NoGoing n)
     go (took fs σ′) q z = short (λ gs p. took≢emptied (sym q ∙ p))
     go (emptied fs) q z = absurd (accepted≢stopped z)
     go refused q z = short (λ gs p. refused≢emptied (sym q ∙ p))
@@ -170,17 +170,17 @@ going-flaw (bad n) m σ k e (inl w) = absurd (not-suc-le-zero w)
 going-flaw (bad n) m σ k e (inr w) = absurd (not-whole w)
 going-flaw (token x t) m σ k e w =
     go (step graphql σ (some (x .class))) refl e
-    (λ (m′ : Sums) (σ′ : Stack) (j : ℕ) (z : run graphql σ′ (classesOf t) ≡ stopped j) (v : (j < length (tokensOf t)) ⊎ Whole t). going-flaw t m′ σ′ j z v)
+    (λ (m′ : Sums) (σ′ : Stack) (j : ℕ) (z : run graphql σ′ (classesOf t) ≡ stopped j) (v : (j < length (tokensOf t)) ⊎ EndsWell t). going-flaw t m′ σ′ j z v)
   where
     here : NotTook (step graphql σ (some (x .class))) → 0 ≡ k → Flaw m σ (token x t) (NoGoing (placeOf k (token x t)))
     here f z = subst (λ (n : ℕ). Flaw m σ (token x t) (NoGoing (placeOf n (token x t)))) z (unfit f)
 
-    down : (j : ℕ) → suc j ≡ k → (k < suc (length (tokensOf t))) ⊎ Whole (token x t) → (j < length (tokensOf t)) ⊎ Whole t
+    down : (j : ℕ) → suc j ≡ k → (k < suc (length (tokensOf t))) ⊎ EndsWell (token x t) → (j < length (tokensOf t)) ⊎ EndsWell t
     down j z (inl h) = inl (omega arith)
     down j z (inr h) = inr (whole-later h)
 
     go : (r : Steps) → step graphql σ (some (x .class)) ≡ r → went graphql (λ σ′. run graphql σ′ (classesOf t)) r ≡ stopped k →
-        ((m′ : Sums) (σ′ : Stack) (j : ℕ) → run graphql σ′ (classesOf t) ≡ stopped j → (j < length (tokensOf t)) ⊎ Whole t → Flaw m′ σ′ t (NoGoing (placeOf j t))) →
+        ((m′ : Sums) (σ′ : Stack) (j : ℕ) → run graphql σ′ (classesOf t) ≡ stopped j → (j < length (tokensOf t)) ⊎ EndsWell t → Flaw m′ σ′ t (NoGoing (placeOf j t))) →
         Flaw m σ (token x t) (NoGoing (placeOf k (token x t)))
     go (took fs σ′) q z f =
         let s = stopped-on fs (run graphql σ′ (classesOf t)) z in
@@ -193,13 +193,13 @@ going-flaw (token x t) m σ k e w =
 part-kept : (n : Part) → Kept graphql follow (nt n ∷ [])
 part-kept n = (λ t h. absurd h, tt)
 
-to-summed : (n : Part) (ts : List Class) (k : ℕ) (s : Sums) → SummedBy (nt n ∷ []) nothing ts k s → Summed n ts k s
+to-summed : (n : Part) (ts : List Class) (k : ℕ) (s : Sums) → SummedBy (nt n ∷ []) nothingCounted ts k s → Summed n ts k s
 to-summed n ts k s h = record { inside = h .inside; later = h .later; events = h .events; reads = (factored→language (h .derives), h .reads); are = h .are }
 
-of-summed : (n : Part) (ts : List Class) (k : ℕ) (s : Sums) → Summed n ts k s → SummedBy (nt n ∷ []) nothing ts k s
+of-summed : (n : Part) (ts : List Class) (k : ℕ) (s : Sums) → Summed n ts k s → SummedBy (nt n ∷ []) nothingCounted ts k s
 of-summed n ts k s h = record { inside = h .inside; later = h .later; events = h .events; derives = language→factored (h .reads .0); reads = h .reads .1; are = h .are }
 
-told-fault : (n : Part) (t : Text) {r : Refusal} → Told nothing (nt n ∷ []) t r → Fault n t r
+told-fault : (n : Part) (t : Text) {r : Refusal} → Told nothingCounted (nt n ∷ []) t r → Fault n t r
 told-fault n t (told-token b) = no-token b
 told-fault n t (told-going k h e) = no-going k h (stops n (classesOf t) k e)
 told-fault n t (told-end w e) = no-end w (stops n (classesOf t) (length (tokensOf t)) e)
@@ -207,16 +207,16 @@ told-fault n t (told-deep k {s} h o) = too-deep k (to-summed n (classesOf t) k s
 told-fault n t (told-rows k {s} h o) = too-many-rows k (to-summed n (classesOf t) k s h) o
 told-fault n t (told-many k {s} h o) = too-many k (to-summed n (classesOf t) k s h) o
 
-pub flaw-fault : (n : Part) (t : Text) (r : Refusal) → Flaw nothing (nt n ∷ []) t r → Fault n t r
+pub flaw-fault : (n : Part) (t : Text) (r : Refusal) → Flaw nothingCounted (nt n ∷ []) t r → Fault n t r
 flaw-fault n t r f = told-fault n t (flaw-told f)
 
 classes-length : (t : Text) → length (classesOf t) ≡ length (tokensOf t)
 classes-length t = length-map (tokensOf t) (λ k. k .class)
 
-pub fault-flaw : (n : Part) (t : Text) {r : Refusal} → Fault n t r → Flaw nothing (nt n ∷ []) t r
+pub fault-flaw : (n : Part) (t : Text) {r : Refusal} → Fault n t r → Flaw nothingCounted (nt n ∷ []) t r
 fault-flaw n t (no-token b) = stray b
-fault-flaw n t (no-going k h s) = going-flaw t nothing (nt n ∷ []) k (stops-only n (classesOf t) k (let e = classes-length t in omega arith) s) (inl h)
-fault-flaw n t (no-end w s) = going-flaw t nothing (nt n ∷ []) (length (tokensOf t)) (stops-only n (classesOf t) (length (tokensOf t)) (let e = classes-length t in omega arith) s) (inr w)
-fault-flaw n t (too-deep k {s} h o) = reached-deep (summed-reached t nothing s (nt n ∷ []) k (part-kept n) (of-summed n (classesOf t) k s h)) o
-fault-flaw n t (too-many-rows k {s} h o) = reached-rows (summed-reached t nothing s (nt n ∷ []) k (part-kept n) (of-summed n (classesOf t) k s h)) o
-fault-flaw n t (too-many k {s} h o) = reached-many (summed-reached t nothing s (nt n ∷ []) k (part-kept n) (of-summed n (classesOf t) k s h)) o
+fault-flaw n t (no-going k h s) = going-flaw t nothingCounted (nt n ∷ []) k (stops-only n (classesOf t) k (let e = classes-length t in omega arith) s) (inl h)
+fault-flaw n t (no-end w s) = going-flaw t nothingCounted (nt n ∷ []) (length (tokensOf t)) (stops-only n (classesOf t) (length (tokensOf t)) (let e = classes-length t in omega arith) s) (inr w)
+fault-flaw n t (too-deep k {s} h o) = reached-deep (summed-reached t nothingCounted s (nt n ∷ []) k (part-kept n) (of-summed n (classesOf t) k s h)) o
+fault-flaw n t (too-many-rows k {s} h o) = reached-rows (summed-reached t nothingCounted s (nt n ∷ []) k (part-kept n) (of-summed n (classesOf t) k s h)) o
+fault-flaw n t (too-many k {s} h o) = reached-many (summed-reached t nothingCounted s (nt n ∷ []) k (part-kept n) (of-summed n (classesOf t) k s h)) o

@@ -10,7 +10,7 @@ use lib.ListN.{length, drop, length-drop}
 use lib.Seq.{drop-drop}
 use Rattle.paper.specs.Grammar.{Sym, nt, Ev}
 use Rattle.paper.specs.Lexical.{What, is, ignored, comment, Piece}
-use Rattle.paper.specs.Tokens.{Tok, Text, over, bad, token, whatOf, lineEnd}
+use Rattle.paper.specs.Tokens.{Tok, Text, atEnd, bad, token, whatOf, lineEnd}
 use Rattle.paper.specs.Reading.{tokensOf, placeOf}
 use Rattle.paper.proofs.Machine.{Tables, Step, took, emptied, refused, spent, step}
 use Rattle.paper.proofs.Longest.{scan, Match, here, longer, further}
@@ -53,12 +53,12 @@ piece-within bs m q = subst (λ (o : Option (Match ℕ What)). Within lexer (len
 
 -- what is at the offset p or later, in the bytes s
 abbrev Laid : List ℕ → ℕ → Text → Type 0
-Laid s p (over n) = n ≡ length s
+Laid s p (atEnd n) = n ≡ length s
 Laid s p (bad n) = (p ≤ n) × (n < length s)
 Laid s p (token k t) = (p ≤ k .start) × (k .start < k .stop) × (k .stop ≤ length s) × (t ≡ from s (k .stop))
 
 laid-before : (s : List ℕ) (p q : ℕ) (t : Text) → p ≤ q → Laid s q t → Laid s p t
-laid-before s p q (over n) h l = l
+laid-before s p q (atEnd n) h l = l
 laid-before s p q (bad n) h l = (omega (arith, l .0), l .1)
 laid-before s p q (token k t) h l = (omega (arith, l .0), l .1, l .2, l .3)
 
@@ -106,33 +106,33 @@ from-laid s p t h e = subst (λ (t : Text). Laid s p t) e (laid (suc (length s))
 pub from-token : (s : List ℕ) (p : ℕ) (k : Tok) (t : Text) → p ≤ length s → from s p ≡ token k t → (p ≤ k .start) × (k .start < k .stop) × (k .stop ≤ length s) × (t ≡ from s (k .stop))
 from-token s p k t h e = from-laid s p (token k t) h e
 
-pub from-over : (s : List ℕ) (p n : ℕ) → p ≤ length s → from s p ≡ over n → n ≡ length s
-from-over s p n h e = from-laid s p (over n) h e
+pub from-over : (s : List ℕ) (p n : ℕ) → p ≤ length s → from s p ≡ atEnd n → n ≡ length s
+from-over s p n h e = from-laid s p (atEnd n) h e
 
 pub from-bad : (s : List ℕ) (p n : ℕ) → p ≤ length s → from s p ≡ bad n → (p ≤ n) × (n < length s)
 from-bad s p n h e = from-laid s p (bad n) h e
 
 -- one after another, from p on, and not behind the end
 abbrev Ordered : ℕ → ℕ → Text → Type 0
-Ordered e p (over n) = (p ≤ n) × (n ≤ e)
+Ordered e p (atEnd n) = (p ≤ n) × (n ≤ e)
 Ordered e p (bad n) = (p ≤ n) × (n ≤ e)
 Ordered e p (token k t) = (p ≤ k .start) × (k .start < k .stop) × Ordered e (k .stop) t
 
 ordered : (s : List ℕ) (t : Text) (p : ℕ) → p ≤ length s → from s p ≡ t → Ordered (length s) p t
-ordered s (over n) p h e = let r = from-over s p n h e in (omega arith, omega arith)
+ordered s (atEnd n) p h e = let r = from-over s p n h e in (omega arith, omega arith)
 ordered s (bad n) p h e = let r = from-bad s p n h e in (r .0, omega (arith, r .1))
 ordered s (token k t) p h e = let r = from-token s p k t h e in (r .0, r .1, ordered s t (k .stop) (r .2) (sym (r .3)))
 
 place-in : (e : ℕ) (t : Text) (p j : ℕ) → Ordered e p t → (p ≤ placeOf j t) × (placeOf j t ≤ e)
 unfolding placeOf
-place-in e (over n) p j r = r
+place-in e (atEnd n) p j r = r
 place-in e (bad n) p j r = r
 place-in e (token k t) p zero r = let z = place-in e t (k .stop) 0 (r .2) in (r .0, omega (arith, z .0, z .1, r .1))
 place-in e (token k t) p (suc j) r = let z = place-in e t (k .stop) j (r .2) in (omega (arith, z .0, r .0, r .1), z .1)
 
 rises : (e : ℕ) (t : Text) (p j k : ℕ) → Ordered e p t → j < k → k ≤ length (tokensOf t) → placeOf j t < placeOf k t
 unfolding placeOf tokensOf
-rises e (over n) p j k r h h′ = let z : ⊥ = omega arith in absurd z
+rises e (atEnd n) p j k r h h′ = let z : ⊥ = omega arith in absurd z
 rises e (bad n) p j k r h h′ = let z : ⊥ = omega arith in absurd z
 rises e (token x t) p j zero r h h′ = absurd (not-suc-le-zero h)
 rises e (token x t) p zero (suc k) r h h′ = let z = place-in e t (x .stop) k (r .2) in omega (arith, z .0, r .1)

@@ -9,7 +9,7 @@ use Rattle.paper.specs.Grammar.{Ev, tok, mark, toks}
 use Rattle.paper.specs.Numbers.{mostLevels, mostRows}
 use Rattle.paper.specs.Language.{Class, Mark, row, kind, named, wrapper, wrap, end}
 use Rattle.paper.specs.Tokens.{Tok, Text}
-use Rattle.paper.specs.Sizes.{Sums, opens, closes, kinded, wrapperMore, leveled, counted, sums, overLevels, overRows, overCounts}
+use Rattle.paper.specs.Sizes.{Sums, opensLevel, closesLevel, kinded, wrapperMore, leveled, counted, sums, overLevels, overRows, overCounts}
 use Rattle.paper.specs.declared.Refusal.the-variants.{TooDeep, TooManyRows, TooMany}
 use Rattle.paper.proofs.Going.{State, st, Out, halt, noted, marked, deep, many, heed}
 
@@ -55,8 +55,8 @@ pub data Heeded (k : Tok) (s : State) (m : Sums) (f : State → Out) : Out → T
   well : (l : ℕ) → (T (overLevels m) → ⊥) → (T (overRows m) → ⊥) → (T (overCounts (m .counts)) → ⊥) →
       Tracks (st (s .cells) (s .rows) (s .open′) (k .stop) l (s .counts)) m → Heeded k s m f (f (st (s .cells) (s .rows) (s .open′) (k .stop) l (s .counts)))
 
-pub heeds : (k : Tok) (s : State) (m : Sums) (f : State → Out) → Tracks s m → (T (closes (k .class)) → 1 ≤ m .levels) → Heeded k s (counted (tok (k .class)) m) f (heed k s f)
-heeds k s m f h up = by-class (opens (k .class)) (closes (k .class)) (s .left) refl refl refl
+pub heeds : (k : Tok) (s : State) (m : Sums) (f : State → Out) → Tracks s m → (T (closesLevel (k .class)) → 1 ≤ m .levels) → Heeded k s (counted (tok (k .class)) m) f (heed k s f)
+heeds k s m f h up = by-class (opensLevel (k .class)) (closesLevel (k .class)) (s .left) refl refl refl
   where
     next : ℕ → State
     next l = st (s .cells) (s .rows) (s .open′) (k .stop) l (s .counts)
@@ -86,7 +86,7 @@ heeds k s m f h up = by-class (opens (k .class)) (closes (k .class)) (s .left) r
     rest : (l : ℕ) → Out
     rest l = many (ltb mostRows (s .rows)) (TooManyRows (k .start)) (many (overCounts (s .counts)) (TooMany (k .start)) (f (next l)))
 
-    by-class : (o c : Bool) (l : ℕ) → opens (k .class) ≡ o → closes (k .class) ≡ c → s .left ≡ l → Heeded k s m′ f (deep o c l (k .start) (λ l. rest l))
+    by-class : (o c : Bool) (l : ℕ) → opensLevel (k .class) ≡ o → closesLevel (k .class) ≡ c → s .left ≡ l → Heeded k s m′ f (deep o c l (k .start) (λ l. rest l))
     by-class true c zero p q e = over-deep (lt→ltb mostLevels (leveled (k .class) (m .levels)) (rw p (let z = h .levels-are in omega arith)))
     by-class true c (suc l) p q e = by-rows l (rw p (let z = h .levels-are in omega arith)) (ltb mostRows (s .rows)) refl
     by-class false true l p q e = by-rows (suc l) (rw (p, q) (let z = h .levels-are in let u = up (subst T (sym q) tt) in omega arith)) (ltb mostRows (s .rows)) refl

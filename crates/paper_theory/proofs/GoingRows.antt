@@ -11,8 +11,8 @@ use lib.Seq.{sets, length-sets}
 use Rattle.paper.specs.Grammar.{Ev, tok, mark, toks}
 use Rattle.paper.specs.Numbers.{mostRows, rowsSize}
 use Rattle.paper.specs.Language.{Class, Mark, row, kind, named, wrapper, wrap, end}
-use Rattle.paper.specs.Tokens.{Tok, Text, over, token}
-use Rattle.paper.specs.Rows.{Row, Book, blank, change, top, pop, begun, startOf, stopOf, ofKind, withName, stopping, note, taken, book, flat}
+use Rattle.paper.specs.Tokens.{Tok, Text, atEnd, token}
+use Rattle.paper.specs.Rows.{Row, Book, emptyBook, change, top, pop, begun, startOf, stopOf, ofKind, withName, stopping, atMark, taken, book, flat}
 use Rattle.paper.proofs.Going.{State, st, startIn, stopIn, noted, marked}
 use Rattle.paper_theory.proofs.RowCells.{Stand, stand-set, stand-wrap, stand-row, change-change}
 
@@ -34,16 +34,16 @@ loud end = false
 
 -- one field of a row
 oneKind : ℕ → Row → Row
-oneKind k r = record { kind = k; start = r .start; stop = r .stop; parent = r .parent; name = r .name; size = r .size; extra = r .extra }
+oneKind k r = record { kind = k; start = r .start; end = r .end; parent = r .parent; nameStart = r .nameStart; nameLength = r .nameLength; extra = r .extra }
 
 oneExtra : ℕ → Row → Row
-oneExtra x r = record { kind = r .kind; start = r .start; stop = r .stop; parent = r .parent; name = r .name; size = r .size; extra = x }
+oneExtra x r = record { kind = r .kind; start = r .start; end = r .end; parent = r .parent; nameStart = r .nameStart; nameLength = r .nameLength; extra = x }
 
 oneName : ℕ → Row → Row
-oneName a r = record { kind = r .kind; start = r .start; stop = r .stop; parent = r .parent; name = a; size = r .size; extra = r .extra }
+oneName a r = record { kind = r .kind; start = r .start; end = r .end; parent = r .parent; nameStart = a; nameLength = r .nameLength; extra = r .extra }
 
 oneSize : ℕ → Row → Row
-oneSize n r = record { kind = r .kind; start = r .start; stop = r .stop; parent = r .parent; name = r .name; size = n; extra = r .extra }
+oneSize n r = record { kind = r .kind; start = r .start; end = r .end; parent = r .parent; nameStart = r .nameStart; nameLength = n; extra = r .extra }
 
 -- two writes into one row
 stand-kind : (k x i n : ℕ) (cells : List ℕ) (rs : List Row) → Stand n cells rs → Stand n (set (set cells (7 * i) k) (7 * i + 6) x) (change (ofKind k x) i rs)
@@ -61,7 +61,7 @@ stand-name a z i n cells rs s =
 
 -- a mark
 pub holds-noted : (m : Mark) (t : Text) (ts : List Tok) (s : State) (b : Book) → (T (loud m) → (startIn t ≡ startOf ts) × (stopIn t ≡ stopOf ts)) → Holds s b → noted m t s .rows ≤ mostRows →
-    Holds (noted m t s) (note m ts b)
+    Holds (noted m t s) (atMark m ts b)
 holds-noted row t ts s b f h w =
     record {
       size = length-sets (s .cells) (7 * s .rows) (0 ∷ startIn t ∷ 0 ∷ top (s .open′) ∷ 0 ∷ 0 ∷ 0 ∷ []) ∙ h .size;
@@ -129,7 +129,7 @@ unfolding toks book
 holds-marked [] k t ts s b e h w = h
 holds-marked (tok c ∷ ms) k t ts s b e h w = absurd (cons≢nil e)
 holds-marked (mark m ∷ ms) k t ts s b e h w =
-    holds-marked ms k t ts (noted m (token k t) s) (note m (k ∷ ts) b) e
+    holds-marked ms k t ts (noted m (token k t) s) (atMark m (k ∷ ts) b) e
     (holds-noted m (token k t) (k ∷ ts) s b (λ l. (refl, refl)) h (le-trans (rows-grow ms (token k t) (noted m (token k t) s)) w)) w
 
 -- the marks at the end look at no token
@@ -146,13 +146,13 @@ quiet-rows wrapper t s q = refl
 quiet-rows (wrap w) t s q = refl
 quiet-rows end t s q = refl
 
-pub holds-ended : (ms : List (Ev Class Mark)) (n : ℕ) (s : State) (b : Book) → Quiet ms → Holds s b → Holds (marked ms (over n) s) (book ms [] b)
+pub holds-ended : (ms : List (Ev Class Mark)) (n : ℕ) (s : State) (b : Book) → Quiet ms → Holds s b → Holds (marked ms (atEnd n) s) (book ms [] b)
 unfolding Quiet book
 holds-ended [] n s b q h = h
 holds-ended (tok c ∷ ms) n s b q h = absurd q
 holds-ended (mark m ∷ ms) n s b q h =
-    holds-ended ms n (noted m (over n) s) (note m [] b) (q .1)
-    (holds-noted m (over n) [] s b (λ l. absurd (q .0 l)) h (subst (λ (z : ℕ). z ≤ mostRows) (sym (quiet-rows m (over n) s (q .0))) (h .within)))
+    holds-ended ms n (noted m (atEnd n) s) (atMark m [] b) (q .1)
+    (holds-noted m (atEnd n) [] s b (λ l. absurd (q .0 l)) h (subst (λ (z : ℕ). z ≤ mostRows) (sym (quiet-rows m (atEnd n) s (q .0))) (h .within)))
 
 -- the token itself
 pub holds-taken : (k : Tok) (ts : List Tok) (l : ℕ) (s : State) (b : Book) → Holds s b → Holds (st (s .cells) (s .rows) (s .open′) (k .stop) l (s .counts)) (taken (k ∷ ts) b)
@@ -163,7 +163,7 @@ pub book-step : (ms gs : List (Ev Class Mark)) (c : Class) (k : Tok) (ts : List 
 unfolding toks book
 book-step [] gs c k ts b e = refl
 book-step (tok d ∷ ms) gs c k ts b e = absurd (cons≢nil e)
-book-step (mark m ∷ ms) gs c k ts b e = book-step ms gs c k ts (note m (k ∷ ts) b) e
+book-step (mark m ∷ ms) gs c k ts b e = book-step ms gs c k ts (atMark m (k ∷ ts) b) e
 
 pub marked-last : (ms : List (Ev Class Mark)) (c : Class) (t : Text) (s : State) → marked (ms ++ (tok c ∷ [])) t s ≡ marked ms t s
 marked-last [] c t s = refl
@@ -171,7 +171,7 @@ marked-last (tok d ∷ ms) c t s = marked-last ms c t s
 marked-last (mark m ∷ ms) c t s = marked-last ms c t (noted m t s)
 
 -- before anything is read
-pub holds-blank : (s : State) → length (s .cells) ≡ rowsSize → s .rows ≡ 0 → s .open′ ≡ [] → s .stop ≡ 0 → Holds s blank
+pub holds-blank : (s : State) → length (s .cells) ≡ rowsSize → s .rows ≡ 0 → s .open′ ≡ [] → s .stop ≡ 0 → Holds s emptyBook
 unfolding flat
 holds-blank s e r o z =
     record { size = e; within = rw r (omega arith); stand = record { count = r; room = rw r (omega arith); are = rw r refl }; opened = o; last = z }

@@ -11,10 +11,10 @@ use lib.ListN.{length, take}
 use Rattle.paper.specs.Grammar.{nt, Ev, tok, toks, Derives}
 use Rattle.paper.specs.Numbers.{mostRows, rowSize, rowsSize}
 use Rattle.paper.specs.Language.{Class, Terminal, hits, Mark, Part}
-use Rattle.paper.specs.Tokens.{Tok, Text, over, bad, token}
-use Rattle.paper.specs.Rows.{Row, Book, blank, book, taken, rowsOf, flat}
-use Rattle.paper.specs.Sizes.{Sums, nothing, closes, leveled, counted, sums, overLevels, overRows, overCounts}
-use Rattle.paper.specs.Reading.{tokensOf, classesOf, placeOf, Whole, whole-over, whole-token, bad-here, bad-later, offsetOf, NoLater, rows-are, refuses, Said, accepts, refused}
+use Rattle.paper.specs.Tokens.{Tok, Text, atEnd, bad, token}
+use Rattle.paper.specs.Rows.{Row, Book, emptyBook, book, taken, rowsOf, flat}
+use Rattle.paper.specs.Sizes.{Sums, nothingCounted, closesLevel, leveled, counted, sums, overLevels, overRows, overCounts}
+use Rattle.paper.specs.Reading.{tokensOf, classesOf, placeOf, EndsWell, ends-well-here, ends-well-later, bad-here, bad-later, offsetOf, NoLater, rows-are, refuses, TextAnswer, accepts, refused}
 use Rattle.paper.specs.declared.Refusal.{Refusal}
 use Rattle.paper.specs.declared.Refusal.the-variants.{NoToken, NoGoing, TooDeep, TooManyRows, TooMany}
 use Rattle.paper.proofs.Machine.{Step, took, emptied, refused as refuses-it, spent, step}
@@ -53,7 +53,7 @@ record Right (m : Sums) (σ : Stack) (b : Book) (t : Text) (s : State) : Type 0 
   events : Evs
   derives : Derives factored hits σ events
   reads : toks events ≡ classesOf t
-  wholly : Whole t
+  wholly : EndsWell t
   holds : Holds s (book events (tokensOf t) b)
   clean : (r : Refusal) → Flaw m σ t r → ⊥
 
@@ -156,7 +156,7 @@ module _ (m : Sums) (σ σ′ : Stack) (k : Tok) (t : Text) (fs : Evs) (q : step
   levels-are : sums fs m .levels ≡ leveled (k .class) (m .levels)
   levels-are = ap (λ (z : Sums). z .levels) (sym sums-are) ∙ ap (leveled (k .class)) (sums-levels ms m ms-marks)
 
-  sound-level : Steady (m .levels) σ → (gs : Evs) → Derives factored hits σ′ gs → (T (closes (k .class)) → 1 ≤ m .levels) × Level (leveled (k .class) (m .levels)) gs
+  sound-level : Steady (m .levels) σ → (gs : Evs) → Derives factored hits σ′ gs → (T (closesLevel (k .class)) → 1 ≤ m .levels) × Level (leveled (k .class) (m .levels)) gs
   sound-level h gs d =
       level-step ms gs (k .class) (m .levels) ms-marks (subst (λ (z : Evs). Level (m .levels) (z ++ gs)) fs-are (h .levels (fs ++ gs) (took-before (k .class) σ σ′ fs gs q d)))
 
@@ -167,7 +167,7 @@ module _ (m : Sums) (σ σ′ : Stack) (k : Tok) (t : Text) (fs : Evs) (q : step
         sober = λ gs d. sober-later fs gs (h .sober (fs ++ gs) (took-before (k .class) σ σ′ fs gs q d));
       }
 
-  closed-open : Steady (m .levels) σ → T (closes (k .class)) → 1 ≤ sums ms m .levels
+  closed-open : Steady (m .levels) σ → T (closesLevel (k .class)) → 1 ≤ sums ms m .levels
   closed-open h c = let w = some-word σ′ in rw (sums-levels ms m ms-marks) (sound-level h (w .0) (w .1) .0 c)
 
   -- the rows of what comes after are those of the whole
@@ -182,7 +182,7 @@ module _ (m : Sums) (σ σ′ : Stack) (k : Tok) (t : Text) (fs : Evs) (q : step
         events = fs ++ a .events;
         derives = took-before (k .class) σ σ′ fs (a .events) q (a .derives);
         reads = took-reads (k .class) σ σ′ fs (a .events) q ∙ ap (λ (z : List Class). k .class ∷ z) (a .reads);
-        wholly = whole-token (a .wholly);
+        wholly = ends-well-later (a .wholly);
         holds =
             subst (Holds s′) (sym (ap (λ (z : Evs). book (z ++ a .events) (k ∷ tokensOf t) b) fs-are ∙ book-step ms (a .events) (k .class) k (tokensOf t) b ms-marks)) (a .holds);
         clean = λ r z. a .clean r (on-flaw d w c r z);
@@ -213,29 +213,29 @@ module _ (m : Sums) (σ σ′ : Stack) (k : Tok) (t : Text) (fs : Evs) (q : step
           (go (st (s₁ .cells) (s₁ .rows) (s₁ .open′) (k .stop) l (s₁ .counts)) σ′ t) (ih (st (s₁ .cells) (s₁ .rows) (s₁ .open′) (k .stop) l (s₁ .counts)) tr′)
 
 -- the end of the text
-end-least : (m : Sums) (σ : Stack) (n : ℕ) → NotEmptied (step graphql σ none) → Least m σ (over n) (NoGoing n)
+end-least : (m : Sums) (σ : Stack) (n : ℕ) → NotEmptied (step graphql σ none) → Least m σ (atEnd n) (NoGoing n)
 end-least m σ n f = (short f, least)
   where
-    least : (r : Refusal) → Flaw m σ (over n) r → NoLater (NoGoing n) r
+    least : (r : Refusal) → Flaw m σ (atEnd n) r → NoLater (NoGoing n) r
     least r (short g) = inr (refl, le-refl 4)
 
-end-judged : (m : Sums) (σ : Stack) (n : ℕ) (s : State) → Steady (m .levels) σ → Judged m σ (over n) s (ended s n (step graphql σ none))
+end-judged : (m : Sums) (σ : Stack) (n : ℕ) (s : State) → Steady (m .levels) σ → Judged m σ (atEnd n) s (ended s n (step graphql σ none))
 unfolding tokensOf
 end-judged m σ n s snd = by-step (step graphql σ none) refl (step-sound fits σ none)
   where
-    by-step : (r : Steps) → step graphql σ none ≡ r → Sound fits none σ r → Judged m σ (over n) s (ended s n r)
+    by-step : (r : Steps) → step graphql σ none ≡ r → Sound fits none σ r → Judged m σ (atEnd n) s (ended s n r)
     by-step (took fs σ′) q h = λ rise. end-least m σ n (λ gs p. took≢emptied (sym q ∙ p))
     by-step (emptied fs) q h = λ b k.
         record {
           events = fs;
           derives = emptied-derives fits none σ fs h;
           reads = h .0;
-          wholly = whole-over;
+          wholly = ends-well-here;
           holds = holds-ended fs n s b (sober-quiet fs (snd .sober fs (emptied-derives fits none σ fs h)) (h .0)) k;
           clean = clean;
         }
       where
-        clean : (r : Refusal) → Flaw m σ (over n) r → ⊥
+        clean : (r : Refusal) → Flaw m σ (atEnd n) r → ⊥
         clean r (short g) = g fs q
     by-step refuses-it q h = λ rise. end-least m σ n (λ gs p. refused≢emptied (sym q ∙ p))
     by-step spent q h = λ rise. end-least m σ n (λ gs p. spent≢emptied (sym q ∙ p))
@@ -249,7 +249,7 @@ bad-least m σ n = (stray bad-here, least)
 -- WHAT `go` ANSWERS
 judged : (t : Text) (m : Sums) (σ : Stack) (s : State) → Tracks s m → Steady (m .levels) σ → Judged m σ t s (go s σ t)
 unfolding go
-judged (over n) m σ s tr snd = end-judged m σ n s snd
+judged (atEnd n) m σ s tr snd = end-judged m σ n s snd
 judged (bad n) m σ s tr snd = λ rise. bad-least m σ n
 judged (token k t) m σ s tr snd =
     by-step (step graphql σ (some (k .class))) refl (λ (m′ : Sums) (σ′ : Stack) (s′ : State) (tr′ : Tracks s′ m′) (snd′ : Steady (m′ .levels) σ′). judged t m′ σ′ s′ tr′ snd′)
@@ -261,7 +261,7 @@ judged (token k t) m σ s tr snd =
     by-step refuses-it q ih = unfit-least m σ k t (λ gs σ′ p. took≢refused (sym p ∙ q))
     by-step spent q ih = unfit-least m σ k t (λ gs σ′ p. took≢spent (sym p ∙ q))
 
-start-tracks : (cells : List ℕ) → Tracks (start cells) nothing
+start-tracks : (cells : List ℕ) → Tracks (start cells) nothingCounted
 start-tracks cells = record { rows-are = refl; counts-are = refl; levels-are = refl }
 
 part-sound : (n : Part) → Steady 0 (nt n ∷ [])
@@ -269,11 +269,11 @@ part-sound n = record { levels = λ es d. derives-level d; sober = λ es d. deri
 
 -- the rows of a text that is read through
 pub going-whole : (n : Part) (t : Text) (cells : List ℕ) (s : State) → length cells ≡ rowsSize → go (start cells) (nt n ∷ []) t ≡ whole s →
-    (rs : List Row) × Said n t (rows-are rs) × (s .rows ≡ length rs) × (length rs ≤ mostRows) × (take (rowSize * length rs) (s .cells) ≡ flat rs) × (length (s .cells) ≡ rowsSize)
+    (rs : List Row) × TextAnswer n t (rows-are rs) × (s .rows ≡ length rs) × (length rs ≤ mostRows) × (take (rowSize * length rs) (s .cells) ≡ flat rs) × (length (s .cells) ≡ rowsSize)
 unfolding rowsOf
 going-whole n t cells s e q =
-    let j : Judged nothing (nt n ∷ []) t (start cells) (whole s) = subst (λ (o : Out). Judged nothing (nt n ∷ []) t (start cells) o) q (judged t nothing (nt n ∷ []) (start cells) (start-tracks cells) (part-sound n)) in
-    let r = j blank (holds-blank (start cells) e refl refl refl) in
+    let j : Judged nothingCounted (nt n ∷ []) t (start cells) (whole s) = subst (λ (o : Out). Judged nothingCounted (nt n ∷ []) t (start cells) o) q (judged t nothingCounted (nt n ∷ []) (start cells) (start-tracks cells) (part-sound n)) in
+    let r = j emptyBook (holds-blank (start cells) e refl refl refl) in
     let h = r .holds in
     let count = h .stand .count in (
       rowsOf (r .events) (tokensOf t),
@@ -285,8 +285,8 @@ going-whole n t cells s e q =
     )
 
 -- the refusal of a text that is not
-pub going-halt : (n : Part) (t : Text) → Rising t → (cells : List ℕ) (r : Refusal) → go (start cells) (nt n ∷ []) t ≡ halt r → Said n t (refuses r)
+pub going-halt : (n : Part) (t : Text) → Rising t → (cells : List ℕ) (r : Refusal) → go (start cells) (nt n ∷ []) t ≡ halt r → TextAnswer n t (refuses r)
 going-halt n t rise cells r q =
-    let j : Judged nothing (nt n ∷ []) t (start cells) (halt r) = subst (λ (o : Out). Judged nothing (nt n ∷ []) t (start cells) o) q (judged t nothing (nt n ∷ []) (start cells) (start-tracks cells) (part-sound n)) in
+    let j : Judged nothingCounted (nt n ∷ []) t (start cells) (halt r) = subst (λ (o : Out). Judged nothingCounted (nt n ∷ []) t (start cells) o) q (judged t nothingCounted (nt n ∷ []) (start cells) (start-tracks cells) (part-sound n)) in
     let l = j rise in
     refused (flaw-fault n t r (l .0)) (λ r′ f. l .1 r′ (fault-flaw n t f))

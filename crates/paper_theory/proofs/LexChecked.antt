@@ -15,7 +15,7 @@ use Rattle.paper.specs.Grammar.{Sym, nt, Ev, Derives}
 use Rattle.paper.proofs.Machine.{run, choose, enter, step}
 use Rattle.paper_theory.proofs.Theory.{Fit}
 use Rattle.paper_theory.proofs.Test.{Tested, Far, fit, words-of}
-use Rattle.paper.specs.Lexical.{Lex, Set, What, lexical, hitsByte, oneOf}
+use Rattle.paper.specs.Lexical.{Lex, Set, What, lexical, hitsByte, inSet}
 use Rattle.paper.proofs.LexTables.{lexFactored, lexer, allL, numL, atL, followersL, firstsL, sampleL}
 
 abbrev pub followL : Lex → ℕ → Bool

@@ -9,7 +9,7 @@ use Rattle.paper.specs.Grammar.{Sym, nt, tm, act, Ev, tok, mark, Derives, done,
 use Rattle.paper.specs.Language.{int, float}
 use Rattle.paper.specs.Lexical.{Lex, Set, What, is, lexical, hitsByte, quote, zero, nonZero}
 use Rattle.paper.proofs.LexTables.{lexFactored, changedL, look, orThat, sameL, numL, atL, Rules}
-use Rattle.paper.specs.Lexical.{Piece, IntValue, FloatValue, IntegerPart, NegativeSign?, Digit*, FractionalPart, ExponentPart, StringValue, StringCharacter, StringCharacter+, StringCharacter*, Number, NumberRest, ExponentPart?, FloatRest, Whole}
+use Rattle.paper.specs.Lexical.{Piece, IntValue, FloatValue, IntegerPart, NegativeSign?, Digit*, FractionalPart, ExponentPart, StringValue, StringCharacter, StringCharacter+, StringCharacter*, Number, NumberRest, ExponentPart?, FloatRest, UnsignedPart}
 use Rattle.paper_theory.proofs.Same.{simulate, join, split, replace, by-one, by-two, by-three, first-of, second-of, third-of, bracket-none, bracket-some, bracket-out}
 
 abbrev Syms : Type 0
@@ -93,8 +93,8 @@ float-to = (
 integer-to : AdmitsAll lexFactored IntegerPart (lexical IntegerPart)
 unfolding lexical lexFactored
 integer-to = (
-  λ σ es d. by (first-of lexFactored hitsByte {n = IntegerPart} refl) (behind lexFactored NegativeSign? (tm zero ∷ σ) (nt Whole ∷ σ) (λ vs k. by (first-of lexFactored hitsByte {n = Whole} refl) k) d),
-  (λ σ es d. by (first-of lexFactored hitsByte {n = IntegerPart} refl) (behind lexFactored NegativeSign? (tm nonZero ∷ nt Digit* ∷ σ) (nt Whole ∷ σ) (λ vs k. by (second-of lexFactored hitsByte {n = Whole} refl) k) d), tt),
+  λ σ es d. by (first-of lexFactored hitsByte {n = IntegerPart} refl) (behind lexFactored NegativeSign? (tm zero ∷ σ) (nt UnsignedPart ∷ σ) (λ vs k. by (first-of lexFactored hitsByte {n = UnsignedPart} refl) k) d),
+  (λ σ es d. by (first-of lexFactored hitsByte {n = IntegerPart} refl) (behind lexFactored NegativeSign? (tm nonZero ∷ nt Digit* ∷ σ) (nt UnsignedPart ∷ σ) (λ vs k. by (second-of lexFactored hitsByte {n = UnsignedPart} refl) k) d), tt),
 )
 
 string-to : AdmitsAll lexFactored StringValue (lexical StringValue)
@@ -154,7 +154,7 @@ piece-from = (λ σ es d. parted lexical IntegerPart (nt NumberRest ∷ σ) (λ 
 
 integer-from : AdmitsAll lexical IntegerPart (lexFactored IntegerPart)
 unfolding lexical lexFactored
-integer-from = (λ σ es d. parted lexical NegativeSign? (nt Whole ∷ σ) (λ z. Derives lexical hitsByte (nt IntegerPart ∷ σ) z) (λ us vs a e. go σ us vs a (by-two lexical hitsByte {n = Whole} refl e)) d, tt)
+integer-from = (λ σ es d. parted lexical NegativeSign? (nt UnsignedPart ∷ σ) (λ z. Derives lexical hitsByte (nt IntegerPart ∷ σ) z) (λ us vs a e. go σ us vs a (by-two lexical hitsByte {n = UnsignedPart} refl e)) d, tt)
   where
     go : (σ : Syms) (us vs : Evs) → Derives lexical hitsByte (nt NegativeSign? ∷ []) us → Derives lexical hitsByte (tm zero ∷ σ) vs ⊎ Derives lexical hitsByte (tm nonZero ∷ nt Digit* ∷ σ) vs → Derives lexical hitsByte (nt IntegerPart ∷ σ) (us ++ vs)
     go σ us vs a (inl d) = by (first-of lexical hitsByte {n = IntegerPart} refl) (join lexical hitsByte a d)

@@ -9,9 +9,9 @@ use native.Mathlib.Omega.{arith}
 use lib.Dec.{T, eqb, eqb→eq, leb, leb→le, le→leb}
 use lib.ListN.{getElem?}
 use Rattle.paper.specs.Grammar.{Sym, nt, tm, act, Ev, tok, mark, toks, Derives, done, take, note, by}
-use Rattle.paper.specs.Language.{Class, Terminal, hits, the, anyName, nameButOn, nameButLiteral, numC, sameC, oneOf, isName, Mark, Part, language}
+use Rattle.paper.specs.Language.{Class, Terminal, hits, the, anyName, nameButOn, nameButLiteral, numC, sameC, oneOf, isNameClass, Mark, Part, language}
 use Rattle.paper.specs.Language.{bang, dollar, parenL, parenR, spread, colon, equals, atSign, bracketL, bracketR, braceL, bar, braceR, n-query, n-mutation, n-subscription, n-fragment, n-on, n-true, n-false, n-null, n-other, int, float, string}
-use Rattle.paper.specs.Sizes.{opens, closes, leveled}
+use Rattle.paper.specs.Sizes.{opensLevel, closesLevel, leveled}
 use Rattle.paper.proofs.Machine.{nul}
 use Rattle.paper.proofs.Bools.{and-l, and-r}
 use Rattle.paper_theory.proofs.Theory.{derives-null}
@@ -105,17 +105,17 @@ sober-quiet (mark m ∷ es) h e = (λ l. h .0 l e, sober-quiet es (h .1) e)
 -- of events, where l levels are open before: what is closed was open
 unfoldable pub Level : ℕ → Evs → Type 0
 Level l [] = Unit {0}
-Level l (tok c ∷ es) = (T (closes c) → 1 ≤ l) × Level (leveled c l) es
+Level l (tok c ∷ es) = (T (closesLevel c) → 1 ≤ l) × Level (leveled c l) es
 Level l (mark m ∷ es) = Level l es
 
 abbrev opening : Terminal → Bool
-opening (the c) = opens c
+opening (the c) = opensLevel c
 opening anyName = false
 opening nameButOn = false
 opening nameButLiteral = false
 
 abbrev closing : Terminal → Bool
-closing (the c) = closes c
+closing (the c) = closesLevel c
 closing anyName = false
 closing nameButOn = false
 closing nameButLiteral = false
@@ -159,7 +159,7 @@ nested-append k l (tm p ∷ α) ss h i =
     same false false t = refl
 
 -- a terminal opens and closes as the tokens that it hits
-name-plain : (c : Class) → T (isName c) → (opens c ≡ false) × (closes c ≡ false)
+name-plain : (c : Class) → T (isNameClass c) → (opensLevel c ≡ false) × (closesLevel c ≡ false)
 name-plain bang h = absurd h
 name-plain dollar h = absurd h
 name-plain parenL h = absurd h
@@ -191,11 +191,11 @@ same-class c d h =
     let e : some c ≡ some d = sym (atC c) ∙ ap (λ (z : ℕ). getElem? allC z) (eqb→eq (numC c) (numC d) h) ∙ atC d in
     cc
 
-hit-plain : (p : Terminal) (c : Class) → T (hits p c) → (opens c ≡ opening p) × (closes c ≡ closing p)
-hit-plain (the d) c h = let e = same-class d c h in (ap opens (sym e), ap closes (sym e))
+hit-plain : (p : Terminal) (c : Class) → T (hits p c) → (opensLevel c ≡ opening p) × (closesLevel c ≡ closing p)
+hit-plain (the d) c h = let e = same-class d c h in (ap opensLevel (sym e), ap closesLevel (sym e))
 hit-plain anyName c h = name-plain c h
-hit-plain nameButOn c h = name-plain c (and-l (isName c) (not (sameC n-on c)) h)
-hit-plain nameButLiteral c h = name-plain c (and-l (isName c) (not (oneOf (n-true ∷ n-false ∷ n-null ∷ []) c)) h)
+hit-plain nameButOn c h = name-plain c (and-l (isNameClass c) (not (sameC n-on c)) h)
+hit-plain nameButLiteral c h = name-plain c (and-l (isNameClass c) (not (oneOf (n-true ∷ n-false ∷ n-null ∷ []) c)) h)
 
 derives-nested : {ss : Syms} {es : Evs} → Derives factored hits ss es → (l : ℕ) → T (nested l ss) → Level l es
 unfolding Level
@@ -212,7 +212,7 @@ pub derives-level : {n : Part} {es : Evs} → Derives factored hits (nt n ∷ []
 derives-level d = derives-nested d 0 tt
 
 -- marks, a token, and what is left
-pub level-step : (ms gs : Evs) (c : Class) (l : ℕ) → toks ms ≡ [] → Level l ((ms ++ (tok c ∷ [])) ++ gs) → (T (closes c) → 1 ≤ l) × Level (leveled c l) gs
+pub level-step : (ms gs : Evs) (c : Class) (l : ℕ) → toks ms ≡ [] → Level l ((ms ++ (tok c ∷ [])) ++ gs) → (T (closesLevel c) → 1 ≤ l) × Level (leveled c l) gs
 unfolding toks Level
 level-step [] gs c l e h = h
 level-step (tok d ∷ ms) gs c l e h = absurd (cons≢nil e)

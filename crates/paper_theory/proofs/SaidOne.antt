@@ -12,7 +12,7 @@ use Rattle.paper.specs.Numbers.{refuseNoToken, refuseNoGoing, refuseTooDeep, re
 use Rattle.paper.specs.Language.{Part}
 use Rattle.paper.specs.Tokens.{Text}
 use Rattle.paper.specs.Rows.{rowsOf}
-use Rattle.paper.specs.Reading.{tokensOf, classesOf, Fault, no-token, no-going, no-end, too-deep, too-many-rows, too-many, offsetOf, NoLater, Answer, rows-are, refuses, Said, accepts, refused}
+use Rattle.paper.specs.Reading.{tokensOf, classesOf, Fault, no-token, no-going, no-end, too-deep, too-many-rows, too-many, offsetOf, NoLater, Answer, rows-are, refuses, TextAnswer, accepts, refused}
 use Rattle.paper.specs.Refusals.{numberOf}
 use Rattle.paper.specs.declared.Refusal.{Refusal}
 use Rattle.paper.specs.declared.Refusal.the-variants.{NoToken, NoGoing, TooDeep, TooManyRows, TooMany}
@@ -46,19 +46,19 @@ one-refusal r r′ f f′ l l′ =
     let e = both r r′ l l′ in
     fault-numbered f ∙ ap (λ (z : ℕ). numbered z (offsetOf r)) (e .1) ∙ ap (λ (z : ℕ). numbered (numberOf r′) z) (e .0) ∙ sym (fault-numbered f′)
 
-pub said-one : {n : Part} {t : Text} {a a′ : Answer} → Said n t a → Said n t a′ → a ≡ a′
+pub said-one : {n : Part} {t : Text} {a a′ : Answer} → TextAnswer n t a → TextAnswer n t a′ → a ≡ a′
 said-one {n} {t} (accepts {es} w d c) (accepts {es = fs} w′ d′ c′) = ap (λ z. rows-are (rowsOf z (tokensOf t))) (one-reading n (classesOf t) es fs d d′)
 said-one (accepts w d c) (refused {r} f l) = absurd (c r f)
 said-one (refused {r} f l) (accepts w d c) = absurd (c r f)
 said-one (refused {r} f l) (refused {r = r′} f′ l′) = ap refuses (one-refusal r r′ f f′ (l r′ f′) (l′ r f))
 
 -- and something is said of every text: what the machine answers
-pub said-some : (n : Part) (t : Text) → Rising t → (a : Answer) × Said n t a
+pub said-some : (n : Part) (t : Text) → Rising t → (a : Answer) × TextAnswer n t a
 said-some n t rise = of-cells (replicate rowsSize 0) (length-replicate {A = ℕ} rowsSize 0)
   where
-    of-cells : (cells : List ℕ) → length cells ≡ rowsSize → (a : Answer) × Said n t a
+    of-cells : (cells : List ℕ) → length cells ≡ rowsSize → (a : Answer) × TextAnswer n t a
     of-cells cells e = of-answer (go (start cells) (nt n ∷ []) t) refl
       where
-        of-answer : (o : Out) → go (start cells) (nt n ∷ []) t ≡ o → (a : Answer) × Said n t a
+        of-answer : (o : Out) → go (start cells) (nt n ∷ []) t ≡ o → (a : Answer) × TextAnswer n t a
         of-answer (whole s) q = let g = going-whole n t cells s e q in (rows-are (g .0), g .1)
         of-answer (halt r) q = (refuses r, going-halt n t rise cells r q)

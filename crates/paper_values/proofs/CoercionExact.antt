@@ -7,10 +7,11 @@ use mathlib.Core.List.{List, [], _∷_}
 use Rattle.paper.specs.Tokens.{same}
 use Rattle.paper_table.specs.References.{Ref, named, listOf, nonNull, isNonNull}
 use Rattle.paper_values.specs.ValueNumbers.{reasonKind, reasonMissing, reasonNull, reasonUnknown, reasonRepeated}
-use Rattle.paper_values.specs.Values.{Name, At, Value, variable, integer, float, string, boolean, null, enum, list, object, Values, end, item, Entries, close, entry, Due, Tree, Null, Bits, Decimal, Text, Truth, Member, Many, Fields, Token, Trees, no-more, also, Pairs, nothing, pair, Out, Got, No, andThen}
+use Rattle.paper_values.specs.Values.{Name, At, Value, variable, integer, float, string, boolean, null, enum, list, object, Values, no-values, item, Entries, no-entries, entry, Due, Tree, Null, Bits, Decimal, Text, Truth, Member, Many, Fields, Token, Trees, no-more, also, Pairs, no-pairs, pair, Out, Got, No, andThen}
 use Rattle.paper_values.specs.Kinds.{Kind, Int, Float, String, Boolean, ID, Own, Other, Enum, Input}
-use Rattle.paper_values.specs.Coercion.{nullAt, integerAt, floatAt, stringAt, booleanAt, enumAt, objectAt, heads, repeated, unknown, entryOf, missing, field, fields, unless, inObject, single, several, held, leftOut, coerce, coerceAll, givens}
-use Rattle.paper_values.specs.CoercionRules.{plain, one, asInput, valueFor, Coerces, null-kept, null-refused, absent-variable, null-variable, held-variable, at-non-null, a-list, list-of-one, no-list, an-integer, a-float, a-string, a-boolean, an-enum, no-object, entry-repeated, entry-unknown, an-object, Items, no-items, item-refused, item-got, InFields, no-fields, required-missing, left-out, field-refused, field-got}
+use Rattle.paper_values.specs.Computed.{nullAt, objectAt, entryOf, missingDue, dueField, dueFields, unless, inObject, single, several, held, coerce, coerceAll, givens}
+use Rattle.paper_values.specs.Coercion.{integerAt, floatAt, stringAt, booleanAt, enumAt, heads, repeatedEntry, unknownEntry, leftOut}
+use Rattle.paper_values.specs.CoercionRules.{plainValue, singleValue, asInput, valueFor, Coerces, null-kept, null-refused, absent-variable, null-variable, held-variable, at-non-null, a-list, list-of-one, no-list, an-integer, a-float, a-string, a-boolean, an-enum, no-object, entry-repeated, entry-unknown, an-object, Items, no-items, item-refused, item-got, InFields, no-fields, required-missing, left-out, field-refused, field-got}
 
 abbrev Falsity : Bool → Type 0
 Falsity true = ⊥
@@ -51,7 +52,7 @@ module _ (kinds : Name → Kind) (vars : Name → Option Tree) where
   null-barred i (listOf r) q = absurd (differ q)
   null-barred i (nonNull r) q = refl
 
-  inside : (v : Value) (r : Ref) → plain v ≡ true → coerce kinds vars v (nonNull r) ≡ coerce kinds vars v r
+  inside : (v : Value) (r : Ref) → plainValue v ≡ true → coerce kinds vars v (nonNull r) ≡ coerce kinds vars v r
   unfolding coerce
   inside (variable i n) r q = absurd (differ q)
   inside (integer i s) r q = refl
@@ -63,7 +64,7 @@ module _ (kinds : Name → Kind) (vars : Name → Option Tree) where
   inside (list i vs) r q = refl
   inside (object i es) r q = refl
 
-  wrapped : (v : Value) (r : Ref) → one v ≡ true → coerce kinds vars v (listOf r) ≡ andThen (coerce kinds vars v r) (λ t. Got (Many (also t no-more)))
+  wrapped : (v : Value) (r : Ref) → singleValue v ≡ true → coerce kinds vars v (listOf r) ≡ andThen (coerce kinds vars v r) (λ t. Got (Many (also t no-more)))
   unfolding coerce
   wrapped (variable i n) r q = absurd (differ q)
   wrapped (integer i s) r q = refl
@@ -93,7 +94,7 @@ module _ (kinds : Name → Kind) (vars : Name → Option Tree) where
   -- the entry that is looked up is the value's
   pub found : (n : Name) (es : Entries) → entryOf n (givens kinds vars es) ≡ into (valueFor kinds vars n es)
   unfolding coerce
-  found n close = refl
+  found n no-entries = refl
   found n (entry i m v es) = go (same n m) (leftOut kinds vars v) (found n es)
     where
       go : (b c : Bool) → entryOf n (givens kinds vars es) ≡ into (valueFor kinds vars n es)
@@ -117,17 +118,17 @@ module _ (kinds : Name → Kind) (vars : Name → Option Tree) where
   object-tabled (Enum ms) i f = refl
   object-tabled (Input ds) i f = refl
 
-  of-object : (i : At) (es : Entries) (n : Name) → coerce kinds vars (object i es) (named n) ≡ tabled (asInput (kinds n)) i (inObject (missing i) (heads es) (givens kinds vars es))
+  of-object : (i : At) (es : Entries) (n : Name) → coerce kinds vars (object i es) (named n) ≡ tabled (asInput (kinds n)) i (inObject (missingDue i) (heads es) (givens kinds vars es))
   unfolding coerce
-  of-object i es n = object-tabled (kinds n) i (inObject (missing i) (heads es) (givens kinds vars es))
+  of-object i es n = object-tabled (kinds n) i (inObject (missingDue i) (heads es) (givens kinds vars es))
 
   of-input : (i : At) (es : Entries) (n : Name) (ds : List Due) → asInput (kinds n) ≡ some ds
-      → coerce kinds vars (object i es) (named n) ≡ unless (repeated [] (heads es)) reasonRepeated (unless (unknown ds (heads es)) reasonUnknown (andThen (fields (missing i) (givens kinds vars es) ds) (λ ps. Got (Fields ps))))
-  of-input i es n ds q = of-object i es n ∙ ap (λ (m : Option (List Due)). tabled m i (inObject (missing i) (heads es) (givens kinds vars es))) q
+      → coerce kinds vars (object i es) (named n) ≡ unless (repeatedEntry [] (heads es)) reasonRepeated (unless (unknownEntry ds (heads es)) reasonUnknown (andThen (dueFields (missingDue i) (givens kinds vars es) ds) (λ ps. Got (Fields ps))))
+  of-input i es n ds q = of-object i es n ∙ ap (λ (m : Option (List Due)). tabled m i (inObject (missingDue i) (heads es) (givens kinds vars es))) q
 
   of-field : (i : At) (es : Entries) (d : Due) (rest : Out Pairs) (m : Option Value) → valueFor kinds vars (d .name) es ≡ m
-      → field (missing i d rest) d (entryOf (d .name) (givens kinds vars es)) rest ≡ field (missing i d rest) d (into m) rest
-  of-field i es d rest m q = ap (λ (x : Option (Ref → Out Tree)). field (missing i d rest) d x rest) (found (d .name) es ∙ ap into q)
+      → dueField (missingDue i d rest) d (entryOf (d .name) (givens kinds vars es)) rest ≡ dueField (missingDue i d rest) d (into m) rest
+  of-field i es d rest m q = ap (λ (x : Option (Ref → Out Tree)). dueField (missingDue i d rest) d x rest) (found (d .name) es ∙ ap into q)
 
   -- ---- a result by the rules is the computed one
 
@@ -149,15 +150,15 @@ module _ (kinds : Name → Kind) (vars : Name → Option Tree) where
     coerces-is (a-string e) = e
     coerces-is (a-boolean e) = e
     coerces-is (an-enum e) = e
-    coerces-is (no-object {i} {es} {n} q) = of-object i es n ∙ ap (λ (m : Option (List Due)). tabled m i (inObject (missing i) (heads es) (givens kinds vars es))) q
+    coerces-is (no-object {i} {es} {n} q) = of-object i es n ∙ ap (λ (m : Option (List Due)). tabled m i (inObject (missingDue i) (heads es) (givens kinds vars es))) q
     coerces-is (entry-repeated {i} {es} {n} {e} ds q a) = of-input i es n ds q
-        ∙ ap (λ (m : Option At). unless m reasonRepeated (unless (unknown ds (heads es)) reasonUnknown (andThen (fields (missing i) (givens kinds vars es) ds) (λ ps. Got (Fields ps))))) a
+        ∙ ap (λ (m : Option At). unless m reasonRepeated (unless (unknownEntry ds (heads es)) reasonUnknown (andThen (dueFields (missingDue i) (givens kinds vars es) ds) (λ ps. Got (Fields ps))))) a
     coerces-is (entry-unknown {i} {es} {n} {e} ds q a b) = of-input i es n ds q
-        ∙ ap (λ (m : Option At). unless m reasonRepeated (unless (unknown ds (heads es)) reasonUnknown (andThen (fields (missing i) (givens kinds vars es) ds) (λ ps. Got (Fields ps))))) a
-        ∙ ap (λ (m : Option At). unless m reasonUnknown (andThen (fields (missing i) (givens kinds vars es) ds) (λ ps. Got (Fields ps)))) b
+        ∙ ap (λ (m : Option At). unless m reasonRepeated (unless (unknownEntry ds (heads es)) reasonUnknown (andThen (dueFields (missingDue i) (givens kinds vars es) ds) (λ ps. Got (Fields ps))))) a
+        ∙ ap (λ (m : Option At). unless m reasonUnknown (andThen (dueFields (missingDue i) (givens kinds vars es) ds) (λ ps. Got (Fields ps)))) b
     coerces-is (an-object {i} {es} {n} {o} ds q a b c e) = of-input i es n ds q
-        ∙ ap (λ (m : Option At). unless m reasonRepeated (unless (unknown ds (heads es)) reasonUnknown (andThen (fields (missing i) (givens kinds vars es) ds) (λ ps. Got (Fields ps))))) a
-        ∙ ap (λ (m : Option At). unless m reasonUnknown (andThen (fields (missing i) (givens kinds vars es) ds) (λ ps. Got (Fields ps)))) b
+        ∙ ap (λ (m : Option At). unless m reasonRepeated (unless (unknownEntry ds (heads es)) reasonUnknown (andThen (dueFields (missingDue i) (givens kinds vars es) ds) (λ ps. Got (Fields ps))))) a
+        ∙ ap (λ (m : Option At). unless m reasonUnknown (andThen (dueFields (missingDue i) (givens kinds vars es) ds) (λ ps. Got (Fields ps)))) b
         ∙ ap (λ (x : Out Pairs). andThen x (λ ps. Got (Fields ps))) (fields-is c) ∙ e
 
     pub items-is : {vs : Values} {r : Ref} {o : Out Trees} → Items kinds vars vs r o → coerceAll kinds vars vs r ≡ o
@@ -166,15 +167,15 @@ module _ (kinds : Name → Kind) (vars : Name → Option Tree) where
     items-is (item-got {v} {vs} {r} {t} {o} c d e) = ap (λ (x : Out Tree). andThen x (λ t. andThen (coerceAll kinds vars vs r) (λ ts. Got (also t ts)))) (coerces-is c)
         ∙ ap (λ (x : Out Trees). andThen x (λ ts. Got (also t ts))) (items-is d) ∙ e
 
-    pub fields-is : {i : At} {es : Entries} {ds : List Due} {o : Out Pairs} → InFields kinds vars i es ds o → fields (missing i) (givens kinds vars es) ds ≡ o
+    pub fields-is : {i : At} {es : Entries} {ds : List Due} {o : Out Pairs} → InFields kinds vars i es ds o → dueFields (missingDue i) (givens kinds vars es) ds ≡ o
     fields-is no-fields = refl
-    fields-is (required-missing {i} {es} {d} {ds} q h) = of-field i es d (fields (missing i) (givens kinds vars es) ds) none q ∙ ap (λ (b : Bool). cond b (No i reasonMissing) (fields (missing i) (givens kinds vars es) ds)) h
-    fields-is (left-out {i} {es} {d} {ds} {o} q h c) = of-field i es d (fields (missing i) (givens kinds vars es) ds) none q
-        ∙ ap (λ (b : Bool). cond b (No i reasonMissing) (fields (missing i) (givens kinds vars es) ds)) h ∙ fields-is c
-    fields-is (field-refused {i} {es} {d} {ds} {j} {w} v q c) = of-field i es d (fields (missing i) (givens kinds vars es) ds) (some v) q
-        ∙ ap (λ (x : Out Tree). andThen x (λ t. andThen (fields (missing i) (givens kinds vars es) ds) (λ ps. Got (pair (d .name) t ps)))) (coerces-is c)
-    fields-is (field-got {i} {es} {d} {ds} {t} {o} v q c e f) = of-field i es d (fields (missing i) (givens kinds vars es) ds) (some v) q
-        ∙ ap (λ (x : Out Tree). andThen x (λ t. andThen (fields (missing i) (givens kinds vars es) ds) (λ ps. Got (pair (d .name) t ps)))) (coerces-is c)
+    fields-is (required-missing {i} {es} {d} {ds} q h) = of-field i es d (dueFields (missingDue i) (givens kinds vars es) ds) none q ∙ ap (λ (b : Bool). cond b (No i reasonMissing) (dueFields (missingDue i) (givens kinds vars es) ds)) h
+    fields-is (left-out {i} {es} {d} {ds} {o} q h c) = of-field i es d (dueFields (missingDue i) (givens kinds vars es) ds) none q
+        ∙ ap (λ (b : Bool). cond b (No i reasonMissing) (dueFields (missingDue i) (givens kinds vars es) ds)) h ∙ fields-is c
+    fields-is (field-refused {i} {es} {d} {ds} {j} {w} v q c) = of-field i es d (dueFields (missingDue i) (givens kinds vars es) ds) (some v) q
+        ∙ ap (λ (x : Out Tree). andThen x (λ t. andThen (dueFields (missingDue i) (givens kinds vars es) ds) (λ ps. Got (pair (d .name) t ps)))) (coerces-is c)
+    fields-is (field-got {i} {es} {d} {ds} {t} {o} v q c e f) = of-field i es d (dueFields (missingDue i) (givens kinds vars es) ds) (some v) q
+        ∙ ap (λ (x : Out Tree). andThen x (λ t. andThen (dueFields (missingDue i) (givens kinds vars es) ds) (λ ps. Got (pair (d .name) t ps)))) (coerces-is c)
         ∙ ap (λ (x : Out Pairs). andThen x (λ ps. Got (pair (d .name) t ps))) (fields-is e) ∙ f
 
   -- at most one result
@@ -200,7 +201,7 @@ module _ (kinds : Name → Kind) (vars : Name → Option Tree) where
   has-held i n r (some (Fields ps)) q = held-variable (Fields ps) q (λ e. subst isOther e tt)
   has-held i n r (some (Token s)) q = held-variable (Token s) q (λ e. subst isOther e tt)
 
-  has-single : (v : Value) (f : Kind → Out Tree) → one v ≡ true → plain v ≡ true → ((n : Name) → Coerces kinds vars v (named n) (f (kinds n))) → (r : Ref) → Coerces kinds vars v r (single kinds vars f r)
+  has-single : (v : Value) (f : Kind → Out Tree) → singleValue v ≡ true → plainValue v ≡ true → ((n : Name) → Coerces kinds vars v (named n) (f (kinds n))) → (r : Ref) → Coerces kinds vars v r (single kinds vars f r)
   has-single v f q p h (named n) = h n
   has-single v f q p h (listOf r) = list-of-one q (has-single v f q p h r) refl
   has-single v f q p h (nonNull r) = at-non-null p (has-single v f q p h r)
@@ -216,7 +217,7 @@ module _ (kinds : Name → Kind) (vars : Name → Option Tree) where
   Each es = (n : Name) (v : Value) → valueFor kinds vars n es ≡ some v → (r : Ref) → Coerces kinds vars v r (coerce kinds vars v r)
 
   has-field : (i : At) (es : Entries) (d : Due) (ds : List Due) (rest : Out Pairs) → Each es → InFields kinds vars i es ds rest → (m : Option Value) → valueFor kinds vars (d .name) es ≡ m
-      → InFields kinds vars i es (d ∷ ds) (field (missing i d rest) d (into m) rest)
+      → InFields kinds vars i es (d ∷ ds) (dueField (missingDue i d rest) d (into m) rest)
   has-field i es d ds rest h c none q = go (isNonNull (d .type)) refl
     where
       go : (b : Bool) → isNonNull (d .type) ≡ b → InFields kinds vars i es (d ∷ ds) (cond b (No i reasonMissing) rest)
@@ -228,26 +229,26 @@ module _ (kinds : Name → Kind) (vars : Name → Option Tree) where
       go (Got t) e = field-got v q e c refl
       go (No j w) e = field-refused v q e
 
-  has-fields : (i : At) (es : Entries) → Each es → (ds : List Due) → InFields kinds vars i es ds (fields (missing i) (givens kinds vars es) ds)
+  has-fields : (i : At) (es : Entries) → Each es → (ds : List Due) → InFields kinds vars i es ds (dueFields (missingDue i) (givens kinds vars es) ds)
   has-fields i es h [] = no-fields
   has-fields i es h (d ∷ ds) = subst (λ (o : Out Pairs). InFields kinds vars i es (d ∷ ds) o)
-      (sym (of-field i es d (fields (missing i) (givens kinds vars es) ds) (valueFor kinds vars (d .name) es) refl))
-      (has-field i es d ds (fields (missing i) (givens kinds vars es) ds) h (has-fields i es h ds) (valueFor kinds vars (d .name) es) refl)
+      (sym (of-field i es d (dueFields (missingDue i) (givens kinds vars es) ds) (valueFor kinds vars (d .name) es) refl))
+      (has-field i es d ds (dueFields (missingDue i) (givens kinds vars es) ds) h (has-fields i es h ds) (valueFor kinds vars (d .name) es) refl)
 
   has-input : (i : At) (es : Entries) (n : Name) → Each es → (m : Option (List Due)) → asInput (kinds n) ≡ m
-      → Coerces kinds vars (object i es) (named n) (tabled m i (inObject (missing i) (heads es) (givens kinds vars es)))
+      → Coerces kinds vars (object i es) (named n) (tabled m i (inObject (missingDue i) (heads es) (givens kinds vars es)))
   has-input i es n h none q = no-object q
-  has-input i es n h (some ds) q = go (repeated [] (heads es)) refl (unknown ds (heads es)) refl
+  has-input i es n h (some ds) q = go (repeatedEntry [] (heads es)) refl (unknownEntry ds (heads es)) refl
     where
-      go : (a : Option At) → repeated [] (heads es) ≡ a → (b : Option At) → unknown ds (heads es) ≡ b
-          → Coerces kinds vars (object i es) (named n) (unless a reasonRepeated (unless b reasonUnknown (andThen (fields (missing i) (givens kinds vars es) ds) (λ ps. Got (Fields ps)))))
+      go : (a : Option At) → repeatedEntry [] (heads es) ≡ a → (b : Option At) → unknownEntry ds (heads es) ≡ b
+          → Coerces kinds vars (object i es) (named n) (unless a reasonRepeated (unless b reasonUnknown (andThen (dueFields (missingDue i) (givens kinds vars es) ds) (λ ps. Got (Fields ps)))))
       go none e none f = an-object ds q e f (has-fields i es h ds) refl
       go none e (some x) f = entry-unknown ds q e f
       go (some x) e b f = entry-repeated ds q e
 
-  has-object : (i : At) (es : Entries) → Each es → (n : Name) → Coerces kinds vars (object i es) (named n) (objectAt i (inObject (missing i) (heads es) (givens kinds vars es)) (kinds n))
+  has-object : (i : At) (es : Entries) → Each es → (n : Name) → Coerces kinds vars (object i es) (named n) (objectAt i (inObject (missingDue i) (heads es) (givens kinds vars es)) (kinds n))
   has-object i es h n = subst (λ (o : Out Tree). Coerces kinds vars (object i es) (named n) o)
-      (sym (object-tabled (kinds n) i (inObject (missing i) (heads es) (givens kinds vars es)))) (has-input i es n h (asInput (kinds n)) refl)
+      (sym (object-tabled (kinds n) i (inObject (missingDue i) (heads es) (givens kinds vars es)))) (has-input i es n h (asInput (kinds n)) refl)
 
   has-items : (v : Value) (vs : Values) (r : Ref) (o : Out Tree) → Coerces kinds vars v r o → Items kinds vars vs r (coerceAll kinds vars vs r)
       → Items kinds vars (item v vs) r (andThen o (λ t. andThen (coerceAll kinds vars vs r) (λ ts. Got (also t ts))))
@@ -272,12 +273,12 @@ module _ (kinds : Name → Kind) (vars : Name → Option Tree) where
     coerces-has (null i) r = has-null i r
     coerces-has (enum i e) r = has-single (enum i e) (enumAt i e) refl refl (λ n. an-enum refl) r
     coerces-has (list i vs) r = has-several i vs (λ q. items-have vs q) r
-    coerces-has (object i es) r = has-single (object i es) (objectAt i (inObject (missing i) (heads es) (givens kinds vars es))) refl refl (has-object i es (λ n v q r. entries-have es n v q r)) r
+    coerces-has (object i es) r = has-single (object i es) (objectAt i (inObject (missingDue i) (heads es) (givens kinds vars es))) refl refl (has-object i es (λ n v q r. entries-have es n v q r)) r
 
     pub items-have : (vs : Values) (r : Ref) → Items kinds vars vs r (coerceAll kinds vars vs r)
-    items-have end r = no-items
+    items-have no-values r = no-items
     items-have (item v vs) r = has-items v vs r (coerce kinds vars v r) (coerces-has v r) (items-have vs r)
 
     pub entries-have : (es : Entries) (n : Name) (v : Value) → valueFor kinds vars n es ≡ some v → (r : Ref) → Coerces kinds vars v r (coerce kinds vars v r)
-    entries-have close n v q r = absurd (subst isAbsent q tt)
+    entries-have no-entries n v q r = absurd (subst isAbsent q tt)
     entries-have (entry i m w es) n v q r = has-entry m w es (λ r. coerces-has w r) (λ n v q r. entries-have es n v q r) n v (same n m) (leftOut kinds vars w) q r

@@ -10,9 +10,9 @@ use Rattle.paper_table.specs.TableNumbers.{tagScalar, tagEnum, tagInputObject, 
 use Rattle.paper_table.specs.References.{Ref, named, listOf, nonNull}
 use Rattle.paper_table.specs.Types.{Table, builtIns, meaning}
 use Rattle.paper_values.specs.NumberTokens.{valueFrom, intOf, floatContent}
-use Rattle.paper_values.specs.Values.{At, Value, integer, float, string, boolean, null, enum, list, object, end, item, close, entry, Tree, Null, Bits, Decimal, Text, Truth, Member, Many, Fields, Token, no-more, also, nothing, pair, Out, Got, No}
+use Rattle.paper_values.specs.Values.{At, Value, integer, float, string, boolean, null, enum, list, object, no-values, item, no-entries, entry, Tree, Null, Bits, Decimal, Text, Truth, Member, Many, Fields, Token, no-more, also, no-pairs, pair, Out, Got, No}
 use Rattle.paper_values.specs.Kinds.{kindOfType}
-use Rattle.paper_values.specs.Coercion.{coerce}
+use Rattle.paper_values.specs.Computed.{coerce}
 use Rattle.paper_values.specs.Encoding.{encode}
 
 -- input In {b: Int}, scalar S, enum E {A}
@@ -49,8 +49,8 @@ tokens =
     boolean (here 3) true ∷
     null (here 3) ∷
     enum (here 3) (bytes "A") ∷
-    list (here 3) (item (integer (here 4) (bytes "7")) end) ∷
-    object (here 3) (entry (here 4) (bytes "b") (integer (here 5) (bytes "7")) close) ∷
+    list (here 3) (item (integer (here 4) (bytes "7")) no-values) ∷
+    object (here 3) (entry (here 4) (bytes "b") (integer (here 5) (bytes "7")) no-entries) ∷
     []
 
 -- reason 1, and null
@@ -70,18 +70,18 @@ pub every-token-at-every-kind :
     (nil ∷ nil ∷ nil ∷ nil ∷ nil ∷ nil ∷ nil ∷ nil ∷ []) ∷
     (no ∷ no ∷ no ∷ no ∷ no ∷ no ∷ Got (Member (bytes "A")) ∷ no ∷ []) ∷
     (no ∷ no ∷ no ∷ no ∷ no ∷ no ∷ no ∷ no ∷ []) ∷
-    (no ∷ no ∷ no ∷ no ∷ no ∷ no ∷ no ∷ Got (Fields (pair (bytes "b") (Bits 7) nothing)) ∷ []) ∷
+    (no ∷ no ∷ no ∷ no ∷ no ∷ no ∷ no ∷ Got (Fields (pair (bytes "b") (Bits 7) no-pairs)) ∷ []) ∷
     []
 unfolding coerce kindOfType builtIns meaning anyOf firstAt gather intOf floatContent valueFrom
 every-token-at-every-kind = refl
 
 -- a list and an object where they are due, and a value as a list of one
 pub in-lists :
-    give (listOf (named (bytes "Int"))) (list (here 3) (item (integer (here 4) (bytes "7")) (item (null (here 5)) end))) ∷
-    give (listOf (named (bytes "In"))) (object (here 3) close) ∷
+    give (listOf (named (bytes "Int"))) (list (here 3) (item (integer (here 4) (bytes "7")) (item (null (here 5)) no-values))) ∷
+    give (listOf (named (bytes "In"))) (object (here 3) no-entries) ∷
     give (nonNull (listOf (named (bytes "Boolean")))) (boolean (here 3) false) ∷
     [] ≡
-    Got (Many (also (Bits 7) (also Null no-more))) ∷ Got (Many (also (Fields nothing) no-more)) ∷ Got (Many (also (Truth false) no-more)) ∷ []
+    Got (Many (also (Bits 7) (also Null no-more))) ∷ Got (Many (also (Fields no-pairs) no-more)) ∷ Got (Many (also (Truth false) no-more)) ∷ []
 unfolding coerce kindOfType builtIns meaning anyOf firstAt gather intOf floatContent valueFrom
 in-lists = refl
 
@@ -101,10 +101,10 @@ seven i = integer (here i) (bytes "7")
 pub every-reason :
     ask (named (bytes "Int")) (float (here 3) (bytes "1.0")) ∷
     ask (named (bytes "Int")) (integer (here 3) (bytes "2147483648")) ∷
-    ask (named (bytes "In")) (object (here 3) close) ∷
+    ask (named (bytes "In")) (object (here 3) no-entries) ∷
     ask (nonNull (named (bytes "Int"))) (null (here 3)) ∷
-    ask (named (bytes "In")) (object (here 3) (entry (here 4) (bytes "b") (seven 5) (entry (here 6) (bytes "z") (seven 7) close))) ∷
-    ask (named (bytes "In")) (object (here 3) (entry (here 4) (bytes "b") (seven 5) (entry (here 6) (bytes "b") (seven 7) close))) ∷
+    ask (named (bytes "In")) (object (here 3) (entry (here 4) (bytes "b") (seven 5) (entry (here 6) (bytes "z") (seven 7) no-entries))) ∷
+    ask (named (bytes "In")) (object (here 3) (entry (here 4) (bytes "b") (seven 5) (entry (here 6) (bytes "b") (seven 7) no-entries))) ∷
     ask (named (bytes "E")) (enum (here 3) (bytes "B")) ∷
     ask (named (bytes "String")) (string (here 3) (0x22 ∷ 0x5c ∷ (bytes "uD800" ++ (0x22 ∷ []))) none) ∷
     [] ≡
@@ -122,7 +122,7 @@ pub every-tag :
     encode (Truth false) ∷
     encode (Member (bytes "A")) ∷
     encode (Many (also Null (also (Bits 258) no-more))) ∷
-    encode (Fields (pair (bytes "b") Null nothing)) ∷
+    encode (Fields (pair (bytes "b") Null no-pairs)) ∷
     encode (Token (bytes "1.5")) ∷
     [] ≡
     (32 ∷ 0 ∷ 0 ∷ []) ∷

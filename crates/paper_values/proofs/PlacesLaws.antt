@@ -10,9 +10,10 @@ use Rattle.paper.specs.Tokens.{same}
 use Rattle.paper_table.specs.Lists.{anyOf}
 use Rattle.paper_table.specs.References.{Ref, named, listOf, nonNull, isNonNull}
 use Rattle.paper_query.specs.Constructs.{Doc, count, kindOf, parentOf, nameOf}
-use Rattle.paper_values.specs.Values.{Name, At, Value, variable, integer, float, string, boolean, null, enum, list, object, Values, end, item, Entries, close, entry, Due, Tree, Null, Bits, Decimal, Text, Truth, Member, Many, Fields, Token, Trees, Pairs, nothing, pair, Out, Got, No, andThen}
+use Rattle.paper_values.specs.Values.{Name, At, Value, variable, integer, float, string, boolean, null, enum, list, object, Values, no-values, item, Entries, no-entries, entry, Due, Tree, Null, Bits, Decimal, Text, Truth, Member, Many, Fields, Token, Trees, Pairs, no-pairs, pair, Out, Got, No, andThen}
 use Rattle.paper_values.specs.Kinds.{Kind, Int, Float, String, Boolean, ID, Own, Other, Enum, Input}
-use Rattle.paper_values.specs.Coercion.{nullAt, inRange, textAt, memberAt, integerAt, floatAt, stringAt, booleanAt, enumAt, objectAt, Head, Given, heads, repeated, unknown, entryOf, first, missing, field, fields, unless, inObject, single, several, held, leftOut, coerce, coerceAll, givens, constant, orDefault, variablesFrom, variablesOf, argumentsOf, valueIn}
+use Rattle.paper_values.specs.Computed.{nullAt, objectAt, Given, entryOf, pairFirst, missingDue, dueField, dueFields, unless, inObject, single, several, held, coerce, coerceAll, givens, constant, orDefault, variablesFrom, variablesOf, argumentsOf}
+use Rattle.paper_values.specs.Coercion.{inRange, textAt, enumValueAt, integerAt, floatAt, stringAt, booleanAt, enumAt, Head, heads, repeatedEntry, unknownEntry, leftOut, valueIn}
 use Rattle.paper_values.specs.NumberTokens.{intOf, floatContent}
 use Rattle.paper_values.specs.RowValues.{placed, itemsFrom, entriesFrom, valueBy, valueAt}
 use Rattle.paper.specs.Numbers.{kindVariable, kindInteger, kindFloat, kindString, kindBoolean, kindNull, kindEnum, kindList, kindObjectField}
@@ -37,11 +38,11 @@ module _ (P : At → Type 0) where
     Placed (object i es) = P i × PlacedEntries es
 
     pub PlacedAll : Values → Type 0
-    PlacedAll end = Unit
+    PlacedAll no-values = Unit
     PlacedAll (item v vs) = Placed v × PlacedAll vs
 
     pub PlacedEntries : Entries → Type 0
-    PlacedEntries close = Unit
+    PlacedEntries no-entries = Unit
     PlacedEntries (entry i n v es) = P i × Placed v × PlacedEntries es
 
   kept-then : {A B : Type 0} (o : Out A) (f : A → Out B) → Kept o → ((a : A) → Kept (f a)) → Kept (andThen o f)
@@ -151,15 +152,15 @@ module _ (P : At → Type 0) where
   told-unless true i m h k = k
   told-unless false i m h k = h
 
-  kept-repeated : (es : Entries) (seen : List Name) → PlacedEntries es → Told (repeated seen (heads es))
+  kept-repeated : (es : Entries) (seen : List Name) → PlacedEntries es → Told (repeatedEntry seen (heads es))
   unfolding Placed
-  kept-repeated close seen h = tt
-  kept-repeated (entry i n v es) seen h = told-if (anyOf (same n) seen) i (repeated (n ∷ seen) (heads es)) (h .0) (kept-repeated es (n ∷ seen) (h .2))
+  kept-repeated no-entries seen h = tt
+  kept-repeated (entry i n v es) seen h = told-if (anyOf (same n) seen) i (repeatedEntry (n ∷ seen) (heads es)) (h .0) (kept-repeated es (n ∷ seen) (h .2))
 
-  kept-unknown : (es : Entries) (ds : List Due) → PlacedEntries es → Told (unknown ds (heads es))
+  kept-unknown : (es : Entries) (ds : List Due) → PlacedEntries es → Told (unknownEntry ds (heads es))
   unfolding Placed
-  kept-unknown close ds h = tt
-  kept-unknown (entry i n v es) ds h = told-unless (anyOf (λ d. same n (d .name)) ds) i (unknown ds (heads es)) (h .0) (kept-unknown es ds (h .2))
+  kept-unknown no-entries ds h = tt
+  kept-unknown (entry i n v es) ds h = told-unless (anyOf (λ d. same n (d .name)) ds) i (unknownEntry ds (heads es)) (h .0) (kept-unknown es ds (h .2))
 
   -- what is given keeps it at every type
   abbrev Givens : List Given → Type 0
@@ -179,27 +180,27 @@ module _ (P : At → Type 0) where
   kept-entry n [] h = tt
   kept-entry n (g ∷ gs) h = found-if (same n (g .name)) (g .out) (g .at) (entryOf n gs) (h .0) (kept-entry n gs (h .1))
 
-  kept-first : (n : Name) (o : Out Tree) (rest : Out Pairs) → Kept o → Kept rest → Kept (first n o rest)
+  kept-first : (n : Name) (o : Out Tree) (rest : Out Pairs) → Kept o → Kept rest → Kept (pairFirst n o rest)
   kept-first n o rest k h = kept-then o (λ t. andThen rest (λ ps. Got (pair n t ps))) k (λ t. kept-then rest (λ ps. Got (pair n t ps)) h (λ ps. tt))
 
-  kept-field : (lack : Out Pairs) (d : Due) (m : Option (Ref → Out Tree)) (rest : Out Pairs) → Kept lack → Found m → Kept rest → Kept (field lack d m rest)
+  kept-field : (lack : Out Pairs) (d : Due) (m : Option (Ref → Out Tree)) (rest : Out Pairs) → Kept lack → Found m → Kept rest → Kept (dueField lack d m rest)
   kept-field lack d none rest k f h = k
   kept-field lack d (some g) rest k f h = kept-first (d .name) (g (d .type)) rest (f (d .type)) h
 
-  kept-missing : (i : At) (d : Due) (rest : Out Pairs) → P i → Kept rest → Kept (missing i d rest)
+  kept-missing : (i : At) (d : Due) (rest : Out Pairs) → P i → Kept rest → Kept (missingDue i d rest)
   kept-missing i d rest h k = kept-if (isNonNull (d .type)) (No i 3) rest h k
 
-  kept-fields : (lack : Due → Out Pairs → Out Pairs) → ((d : Due) (rest : Out Pairs) → Kept rest → Kept (lack d rest)) → (gs : List Given) → Givens gs → (ds : List Due) → Kept (fields lack gs ds)
+  kept-fields : (lack : Due → Out Pairs → Out Pairs) → ((d : Due) (rest : Out Pairs) → Kept rest → Kept (lack d rest)) → (gs : List Given) → Givens gs → (ds : List Due) → Kept (dueFields lack gs ds)
   kept-fields lack l gs h [] = tt
   kept-fields lack l gs h (d ∷ ds) =
-      kept-field (lack d (fields lack gs ds)) d (entryOf (d .name) gs) (fields lack gs ds) (l d (fields lack gs ds) (kept-fields lack l gs h ds)) (kept-entry (d .name) gs h) (kept-fields lack l gs h ds)
+      kept-field (lack d (dueFields lack gs ds)) d (entryOf (d .name) gs) (dueFields lack gs ds) (l d (dueFields lack gs ds) (kept-fields lack l gs h ds)) (kept-entry (d .name) gs h) (kept-fields lack l gs h ds)
 
   kept-input : (lack : Due → Out Pairs → Out Pairs) → ((d : Due) (rest : Out Pairs) → Kept rest → Kept (lack d rest)) → (es : Entries) → PlacedEntries es → (gs : List Given) → Givens gs → (ds : List Due)
       → Kept (inObject lack (heads es) gs ds)
   kept-input lack l es p gs h ds =
-      kept-unless (repeated [] (heads es)) 6 _ (kept-repeated es [] p)
-      (kept-unless (unknown ds (heads es)) 5 _ (kept-unknown es ds p)
-      (kept-then (fields lack gs ds) (λ ps. Got (Fields ps)) (kept-fields lack l gs h ds) (λ ps. tt)))
+      kept-unless (repeatedEntry [] (heads es)) 6 _ (kept-repeated es [] p)
+      (kept-unless (unknownEntry ds (heads es)) 5 _ (kept-unknown es ds p)
+      (kept-then (dueFields lack gs ds) (λ ps. Got (Fields ps)) (kept-fields lack l gs h ds) (λ ps. tt)))
 
   -- ---- values
 
@@ -239,16 +240,16 @@ module _ (P : At → Type 0) where
       value-kept (enum i n) p r = kept-single (enumAt i n) (λ k. kept-enum i n k p) r
       value-kept (list i vs) p r = kept-several i (λ q. coerceAll kinds vars vs q) (p .0) (λ q. items-kept vs (p .1) q) r
       value-kept (object i es) p r =
-          kept-single (objectAt i (inObject (missing i) (heads es) (givens kinds vars es)))
-          (λ k. kept-object i (inObject (missing i) (heads es) (givens kinds vars es)) k (p .0)
-          (λ ds. kept-input (missing i) (λ d rest h. kept-missing i d rest (p .0) h) es (p .1) (givens kinds vars es) (givens-kept es (p .1)) ds)) r
+          kept-single (objectAt i (inObject (missingDue i) (heads es) (givens kinds vars es)))
+          (λ k. kept-object i (inObject (missingDue i) (heads es) (givens kinds vars es)) k (p .0)
+          (λ ds. kept-input (missingDue i) (λ d rest h. kept-missing i d rest (p .0) h) es (p .1) (givens kinds vars es) (givens-kept es (p .1)) ds)) r
 
       pub items-kept : (vs : Values) → PlacedAll vs → (r : Ref) → Kept (coerceAll kinds vars vs r)
-      items-kept end p r = tt
+      items-kept no-values p r = tt
       items-kept (item v vs) p r = kept-then (coerce kinds vars v r) _ (value-kept v (p .0) r) (λ t. kept-then (coerceAll kinds vars vs r) _ (items-kept vs (p .1) r) (λ ts. tt))
 
       pub givens-kept : (es : Entries) → PlacedEntries es → Givens (givens kinds vars es)
-      givens-kept close p = tt
+      givens-kept no-entries p = tt
       givens-kept (entry i n v es) p = (λ r. value-kept v (p .1) r, givens-kept es (p .2))
 
   -- ---- the calls
@@ -276,12 +277,12 @@ module _ (P : At → Type 0) where
 
     pub variables-kept : (es : Entries) → PlacedEntries es → (vs : List (At × Due)) → PlacedDues vs → Kept (variablesOf kinds es vs)
     variables-kept es p vs q =
-        kept-unless (repeated [] (heads es)) 6 (variablesFrom kinds (givens kinds (λ n. none) es) vs) (kept-repeated es [] p)
+        kept-unless (repeatedEntry [] (heads es)) 6 (variablesFrom kinds (givens kinds (λ n. none) es) vs) (kept-repeated es [] p)
         (kept-variables (givens kinds (λ n. none) es) (givens-kept kinds (λ n. none) es p) vs q)
 
     -- an object's entries, or a field's arguments, where these are due
-    pub object-kept : (vars : Name → Option Tree) (i : At) → P i → (es : Entries) → PlacedEntries es → (ds : List Due) → Kept (inObject (missing i) (heads es) (givens kinds vars es) ds)
-    object-kept vars i p es q ds = kept-input (missing i) (λ d rest h. kept-missing i d rest p h) es q (givens kinds vars es) (givens-kept kinds vars es q) ds
+    pub object-kept : (vars : Name → Option Tree) (i : At) → P i → (es : Entries) → PlacedEntries es → (ds : List Due) → Kept (inObject (missingDue i) (heads es) (givens kinds vars es) ds)
+    object-kept vars i p es q ds = kept-input (missingDue i) (λ d rest h. kept-missing i d rest p h) es q (givens kinds vars es) (givens-kept kinds vars es q) ds
 
 -- ---- rows
 

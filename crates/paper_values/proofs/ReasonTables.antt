@@ -15,7 +15,7 @@ use Rattle.paper_values.specs.NumberTokens.{valueOf, digitsOf, intOf, fl
 use Rattle.paper_values.specs.Signed.{numberWritten, isInt}
 use Rattle.paper_values.specs.Values.{Name, At, Value, variable, integer, float, string, boolean, null, enum, list, object, Tree, Bits, Decimal, Member, Out, Got, No}
 use Rattle.paper_values.specs.Kinds.{Kind, Int, Float, String, Boolean, ID, Own, Other, Enum, Input}
-use Rattle.paper_values.specs.Coercion.{inRange, textAt, memberAt, integerAt, floatAt, stringAt, booleanAt, enumAt}
+use Rattle.paper_values.specs.Coercion.{inRange, textAt, enumValueAt, integerAt, floatAt, stringAt, booleanAt, enumAt}
 use Rattle.paper_values.proofs.IntExact.{int-holds, Holds}
 
 -- ---- the tables
@@ -203,7 +203,7 @@ text-cell : (i : At) (cs : Option (List ℕ)) → Cell i true false false (witho
 text-cell i none = not-a-text
 text-cell i (some s) = taken
 
-member-cell : (i : At) (n : Name) (ms : List Name) → Cell i true false (not (anyOf (same n) ms)) false (memberAt i n ms)
+member-cell : (i : At) (n : Name) (ms : List Name) → Cell i true false (not (anyOf (same n) ms)) false (enumValueAt i n ms)
 member-cell i n ms = go (anyOf (same n) ms)
   where
     go : (b : Bool) → Cell i true false (not b) false (cond b (Got (Member n)) (No i reasonEnum))

@@ -11,8 +11,9 @@ use Rattle.paper_table.specs.References.{Ref, named, listOf, nonNull, isNonNull
 use Rattle.paper_values.specs.ValueNumbers.{reasonKind, reasonRange, reasonMissing, reasonNull, reasonUnknown, reasonRepeated, reasonEnum, reasonSurrogate}
 use Rattle.paper_values.specs.Values.{Name, At, Value, variable, integer, float, string, boolean, null, enum, list, object, Entries, Due, Tree, Null, Bits, Decimal, Text, Truth, Member, Many, Fields, Token, no-more, also, Pairs, pair, Out, Got, No, andThen}
 use Rattle.paper_values.specs.Kinds.{Kind, Int, Float, String, Boolean, ID, Own, Other, Enum, Input}
-use Rattle.paper_values.specs.Coercion.{nullAt, heads, repeated, unknown, held, coerce}
-use Rattle.paper_values.specs.CoercionRules.{plain, one, asInput, valueFor, Coerces, at-non-null, list-of-one, no-object, entry-repeated, entry-unknown, an-object, InFields, no-fields, required-missing, left-out, field-refused, field-got}
+use Rattle.paper_values.specs.Computed.{nullAt, held, coerce}
+use Rattle.paper_values.specs.Coercion.{heads, repeatedEntry, unknownEntry}
+use Rattle.paper_values.specs.CoercionRules.{plainValue, singleValue, asInput, valueFor, Coerces, at-non-null, list-of-one, no-object, entry-repeated, entry-unknown, an-object, InFields, no-fields, required-missing, left-out, field-refused, field-got}
 use Rattle.paper_values.proofs.CoercionExact.{coerces-is, coerces-has}
 use Rattle.paper_values.proofs.PlacesLaws.{Kept, Placed, value-kept}
 use Rattle.paper_values.proofs.ReasonTables.{takes, outside, noMember, noText, placeOf, why, true≢false, AtOwn, Cell, wrong-kind, inside, Judged, kind-told, range-told, enum-told, surrogate-told, integer-cell, float-cell, string-cell, boolean-cell, enum-cell}
@@ -82,9 +83,9 @@ module _ (kinds : Name → Kind) (vars : Name → Option Tree) where
   -- an object, by its rules: at what is no input object; for 6; for 5; for its fields
   pub data Refused (i : At) (es : Entries) (n : Name) : At → ℕ → Type 0 where
     at-another-kind : asInput (kinds n) ≡ none → Refused i es n i reasonKind
-    for-repeated : {e : At} (ds : List Due) → asInput (kinds n) ≡ some ds → repeated [] (heads es) ≡ some e → Refused i es n e reasonRepeated
-    for-unknown : {e : At} (ds : List Due) → asInput (kinds n) ≡ some ds → repeated [] (heads es) ≡ none → unknown ds (heads es) ≡ some e → Refused i es n e reasonUnknown
-    for-a-field : {e : At} {w : ℕ} (ds : List Due) → asInput (kinds n) ≡ some ds → repeated [] (heads es) ≡ none → unknown ds (heads es) ≡ none →
+    for-repeated : {e : At} (ds : List Due) → asInput (kinds n) ≡ some ds → repeatedEntry [] (heads es) ≡ some e → Refused i es n e reasonRepeated
+    for-unknown : {e : At} (ds : List Due) → asInput (kinds n) ≡ some ds → repeatedEntry [] (heads es) ≡ none → unknownEntry ds (heads es) ≡ some e → Refused i es n e reasonUnknown
+    for-a-field : {e : At} {w : ℕ} (ds : List Due) → asInput (kinds n) ≡ some ds → repeatedEntry [] (heads es) ≡ none → unknownEntry ds (heads es) ≡ none →
         InFields kinds vars i es ds (No e w) → Refused i es n e w
 
   no-fields-refused : (o : Out Pairs) {e : At} {w : ℕ} → andThen o (λ ps. Got (Fields ps)) ≡ No e w → o ≡ No e w
@@ -118,7 +119,7 @@ module _ (kinds : Name → Kind) (vars : Name → Option Tree) where
   lacks-refused i (after-got v q c h) = field-got v q c (lacks-refused i h) refl
 
   abbrev Missing : Entries → Name → Type 0
-  Missing es n = (ds : List Due) × (asInput (kinds n) ≡ some ds) × (repeated [] (heads es) ≡ none) × (unknown ds (heads es) ≡ none) × Lacks es ds
+  Missing es n = (ds : List Due) × (asInput (kinds n) ≡ some ds) × (repeatedEntry [] (heads es) ≡ none) × (unknownEntry ds (heads es) ≡ none) × Lacks es ds
 
   missing-from : {i e : At} {es : Entries} {n : Name} {w : ℕ} → Apart kinds vars e es → Refused i es n e w → w ≡ reasonMissing → Missing es n
   missing-from h (at-another-kind q) z = absurd (omega (arith, z))
@@ -133,28 +134,28 @@ module _ (kinds : Name → Kind) (vars : Name → Option Tree) where
   )
 
   unknown-from : {i e : At} {es : Entries} {n : Name} {w : ℕ} → Apart kinds vars e es → Refused i es n e w → w ≡ reasonUnknown →
-      (ds : List Due) × (asInput (kinds n) ≡ some ds) × (repeated [] (heads es) ≡ none) × (unknown ds (heads es) ≡ some e)
+      (ds : List Due) × (asInput (kinds n) ≡ some ds) × (repeatedEntry [] (heads es) ≡ none) × (unknownEntry ds (heads es) ≡ some e)
   unknown-from h (at-another-kind q) z = absurd (omega (arith, z))
   unknown-from h (for-repeated ds q a) z = absurd (omega (arith, z))
   unknown-from h (for-unknown ds q a b) z = (ds, q, a, b)
   unknown-from {e = e} h (for-a-field ds q a b c) z = absurd (omega (arith, z, outer e h c refl .1))
 
   pub unknown-exactly : (i : At) (es : Entries) (n : Name) (e : At) → Apart kinds vars e es →
-      (coerce kinds vars (object i es) (named n) ≡ No e reasonUnknown) ↔ ((ds : List Due) × (asInput (kinds n) ≡ some ds) × (repeated [] (heads es) ≡ none) × (unknown ds (heads es) ≡ some e))
+      (coerce kinds vars (object i es) (named n) ≡ No e reasonUnknown) ↔ ((ds : List Due) × (asInput (kinds n) ≡ some ds) × (repeatedEntry [] (heads es) ≡ none) × (unknownEntry ds (heads es) ≡ some e))
   unknown-exactly i es n e h = (
     λ q. unknown-from h (object-refused-exactly i es n e reasonUnknown .0 q) refl,
     λ m. object-refused-exactly i es n e reasonUnknown .1 (for-unknown (m .0) (m .1) (m .2) (m .3)),
   )
 
   repeated-from : {i e : At} {es : Entries} {n : Name} {w : ℕ} → Apart kinds vars e es → Refused i es n e w → w ≡ reasonRepeated →
-      (ds : List Due) × (asInput (kinds n) ≡ some ds) × (repeated [] (heads es) ≡ some e)
+      (ds : List Due) × (asInput (kinds n) ≡ some ds) × (repeatedEntry [] (heads es) ≡ some e)
   repeated-from h (at-another-kind q) z = absurd (omega (arith, z))
   repeated-from h (for-repeated ds q a) z = (ds, q, a)
   repeated-from h (for-unknown ds q a b) z = absurd (omega (arith, z))
   repeated-from {e = e} h (for-a-field ds q a b c) z = absurd (omega (arith, z, outer e h c refl .1))
 
   pub repeated-exactly : (i : At) (es : Entries) (n : Name) (e : At) → Apart kinds vars e es →
-      (coerce kinds vars (object i es) (named n) ≡ No e reasonRepeated) ↔ ((ds : List Due) × (asInput (kinds n) ≡ some ds) × (repeated [] (heads es) ≡ some e))
+      (coerce kinds vars (object i es) (named n) ≡ No e reasonRepeated) ↔ ((ds : List Due) × (asInput (kinds n) ≡ some ds) × (repeatedEntry [] (heads es) ≡ some e))
   repeated-exactly i es n e h = (
     λ q. repeated-from h (object-refused-exactly i es n e reasonRepeated .0 q) refl,
     λ m. object-refused-exactly i es n e reasonRepeated .1 (for-repeated (m .0) (m .1) (m .2)),
@@ -190,7 +191,7 @@ module _ (kinds : Name → Kind) (vars : Name → Option Tree) where
   object-cell i es (Enum ms) o h = wrong i o h
   object-cell i es (Input ds) o h = inside h
 
-  cell : (v : Value) (n : Name) → plain v ≡ true → ApartInside kinds vars v → Judged v (kinds n) (coerce kinds vars v (named n))
+  cell : (v : Value) (n : Name) → plainValue v ≡ true → ApartInside kinds vars v → Judged v (kinds n) (coerce kinds vars v (named n))
   unfolding coerce
   cell (variable i m) n p h = absurd (true≢false (sym p))
   cell (integer i s) n p h = integer-cell i s (kinds n)
@@ -202,16 +203,16 @@ module _ (kinds : Name → Kind) (vars : Name → Option Tree) where
   cell (list i vs) n p h = wrong-kind
   cell (object i es) n p h = object-cell i es (kinds n) _ (whole h (coerces-has kinds vars (object i es) (named n)))
 
-  pub kind-exactly : (v : Value) (n : Name) → plain v ≡ true → ApartInside kinds vars v → (coerce kinds vars v (named n) ≡ No (placeOf v) reasonKind) ↔ (takes v (kinds n) ≡ false)
+  pub kind-exactly : (v : Value) (n : Name) → plainValue v ≡ true → ApartInside kinds vars v → (coerce kinds vars v (named n) ≡ No (placeOf v) reasonKind) ↔ (takes v (kinds n) ≡ false)
   kind-exactly v n p h = kind-told (cell v n p h)
 
-  pub range-exactly : (v : Value) (n : Name) → plain v ≡ true → ApartInside kinds vars v → (coerce kinds vars v (named n) ≡ No (placeOf v) reasonRange) ↔ (outside v (kinds n) ≡ true)
+  pub range-exactly : (v : Value) (n : Name) → plainValue v ≡ true → ApartInside kinds vars v → (coerce kinds vars v (named n) ≡ No (placeOf v) reasonRange) ↔ (outside v (kinds n) ≡ true)
   range-exactly v n p h = range-told (cell v n p h)
 
-  pub enum-exactly : (v : Value) (n : Name) → plain v ≡ true → ApartInside kinds vars v → (coerce kinds vars v (named n) ≡ No (placeOf v) reasonEnum) ↔ (noMember v (kinds n) ≡ true)
+  pub enum-exactly : (v : Value) (n : Name) → plainValue v ≡ true → ApartInside kinds vars v → (coerce kinds vars v (named n) ≡ No (placeOf v) reasonEnum) ↔ (noMember v (kinds n) ≡ true)
   enum-exactly v n p h = enum-told (cell v n p h)
 
-  pub surrogate-exactly : (v : Value) (n : Name) → plain v ≡ true → ApartInside kinds vars v → (coerce kinds vars v (named n) ≡ No (placeOf v) reasonSurrogate) ↔ (noText v (kinds n) ≡ true)
+  pub surrogate-exactly : (v : Value) (n : Name) → plainValue v ≡ true → ApartInside kinds vars v → (coerce kinds vars v (named n) ≡ No (placeOf v) reasonSurrogate) ↔ (noText v (kinds n) ≡ true)
   surrogate-exactly v n p h = surrogate-told (cell v n p h)
 
   -- ---- null, and the wrappers
@@ -242,14 +243,14 @@ module _ (kinds : Name → Kind) (vars : Name → Option Tree) where
   null-variable-exactly i n r = held-told i r (vars n)
 
   -- what is neither null nor a variable is at a Non-Null type what it is inside; what is no list is refused as a list of one as it is itself
-  pub non-null-same : (v : Value) (r : Ref) → plain v ≡ true → coerce kinds vars v (nonNull r) ≡ coerce kinds vars v r
+  pub non-null-same : (v : Value) (r : Ref) → plainValue v ≡ true → coerce kinds vars v (nonNull r) ≡ coerce kinds vars v r
   non-null-same v r p = coerces-is kinds vars (at-non-null p (coerces-has kinds vars v r))
 
   one-refused : (o : Out Tree) {e : At} {w : ℕ} → (andThen o (λ t. Got (Many (also t no-more))) ≡ No e w) ↔ (o ≡ No e w)
   one-refused (Got t) = (λ q. let z : _≡_ {A = ℕ} 0 1 = cc in absurd (omega (arith, z)), λ q. let z : _≡_ {A = ℕ} 0 1 = cc in absurd (omega (arith, z)))
   one-refused (No j x) = (λ q. cc, λ q. cc)
 
-  pub list-of-one-refused : (v : Value) (r : Ref) (e : At) (w : ℕ) → one v ≡ true → (coerce kinds vars v (listOf r) ≡ No e w) ↔ (coerce kinds vars v r ≡ No e w)
+  pub list-of-one-refused : (v : Value) (r : Ref) (e : At) (w : ℕ) → singleValue v ≡ true → (coerce kinds vars v (listOf r) ≡ No e w) ↔ (coerce kinds vars v r ≡ No e w)
   list-of-one-refused v r e w p =
       let s = coerces-is kinds vars (list-of-one p (coerces-has kinds vars v r) refl) in
       (λ q. one-refused (coerce kinds vars v r) .0 (sym s ∙ q), λ q. s ∙ one-refused (coerce kinds vars v r) .1 q)

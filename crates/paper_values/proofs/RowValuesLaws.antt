@@ -10,8 +10,8 @@ use Rattle.paper_table.specs.References.{Ref, named, listOf, nonNull, baseOf}
 use Rattle.paper_query.specs.Constructs.{Doc, kindOf, parentOf, nameOf}
 use Rattle.paper_query.specs.PlaceTypes.{wrappersOf}
 use Rattle.paper_values.specs.Characters.{utf8, unicodeEscape, escape, written, charactersFrom, charactersOf}
-use Rattle.paper_values.specs.Values.{Value, integer, string, list, object, end, item, close, entry}
-use Rattle.paper_values.specs.RowValues.{refFrom, placed, itemsFrom, entriesFrom, valueBy, valueAt, argumentsAt}
+use Rattle.paper_values.specs.Values.{Value, integer, string, list, object, no-values, item, no-entries, entry}
+use Rattle.paper_values.specs.RowValues.{refOfWrappers, placed, itemsFrom, entriesFrom, valueBy, valueAt, argumentsAt}
 use mathlib.Core.Option.{some}
 
 module _ (text : ℕ) (d : Doc) (read : ℕ → Value) (h m c : ℕ) where
@@ -49,8 +49,8 @@ non-null-bits : (w : ℕ) → ((4 * w + 2) % 4 ≡ 2) × ((4 * w + 2) / 4 ≡ w)
 non-null-bits w = (omega arith, omega arith)
 
 -- a type is read back from its base and wrappers
-pub ref-back : (r : Ref) (k : ℕ) → depth r ≤ k → refFrom k (baseOf r) (wrappersOf r) ≡ r
-unfolding refFrom wrappersOf
+pub ref-back : (r : Ref) (k : ℕ) → depth r ≤ k → refOfWrappers k (baseOf r) (wrappersOf r) ≡ r
+unfolding refOfWrappers wrappersOf
 ref-back (named n) zero h = refl
 ref-back (named n) (suc k) h = refl
 ref-back (listOf r) zero h = absurd (omega (arith, h))
@@ -64,7 +64,7 @@ ref-back (nonNull r) (suc k) h =
 
 -- `{f(i:{n:1} k:["a"])}`: operation 0, field 1, argument 2 with object 3, its field 4 and integer 5, argument 6 with list 7 and string 8
 abbrev line : ℕ → ℕ → ℕ → ℕ → ℕ → ℕ → Row
-line k a e p n s = record { kind = k; start = a; stop = e; parent = p; name = n; size = s; extra = 0 }
+line k a e p n s = record { kind = k; start = a; end = e; parent = p; nameStart = n; nameLength = s; extra = 0 }
 
 abbrev sample : Doc
 sample = record {
@@ -75,7 +75,7 @@ sample = record {
 
 pub sample-arguments :
     argumentsAt 0 sample 1 ≡
-    entry (placed 0 sample 2) (bytes "i") (object (placed 0 sample 3) (entry (placed 0 sample 4) (bytes "n") (integer (placed 0 sample 5) (bytes "1")) close))
-    (entry (placed 0 sample 6) (bytes "k") (list (placed 0 sample 7) (item (string (placed 0 sample 8) (0x22 ∷ 97 ∷ 0x22 ∷ []) (some (bytes "a"))) end)) close)
+    entry (placed 0 sample 2) (bytes "i") (object (placed 0 sample 3) (entry (placed 0 sample 4) (bytes "n") (integer (placed 0 sample 5) (bytes "1")) no-entries))
+    (entry (placed 0 sample 6) (bytes "k") (list (placed 0 sample 7) (item (string (placed 0 sample 8) (0x22 ∷ 97 ∷ 0x22 ∷ []) (some (bytes "a"))) no-values)) no-entries)
 unfolding itemsFrom entriesFrom valueBy valueAt utf8 unicodeEscape escape written charactersFrom charactersOf
 sample-arguments = refl

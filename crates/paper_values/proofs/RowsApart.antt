@@ -9,7 +9,7 @@ use lib.Dec.{eqb}
 use Rattle.paper.specs.Numbers.{kindVariable, kindInteger, kindFloat, kindString, kindBoolean, kindNull, kindEnum, kindList, kindObjectField}
 use Rattle.paper.specs.Tokens.{same}
 use Rattle.paper_query.specs.Constructs.{Doc, count, kindOf, parentOf, nameOf}
-use Rattle.paper_values.specs.Values.{Name, At, Value, Values, item, Entries, close, entry, Tree}
+use Rattle.paper_values.specs.Values.{Name, At, Value, Values, item, Entries, no-entries, entry, Tree}
 use Rattle.paper_values.specs.Kinds.{Kind}
 use Rattle.paper_values.specs.Coercion.{leftOut}
 use Rattle.paper_values.specs.CoercionRules.{valueFor}
@@ -42,7 +42,7 @@ module _ (P : At → Type 0) where
 
     entry-placed : (es : Entries) → PlacedEntries P es → (n : Name) (v : Value) → valueFor kinds vars n es ≡ some v → Placed P v
     unfolding Placed
-    entry-placed close p n v q = absurd (none≢some q)
+    entry-placed no-entries p n v q = absurd (none≢some q)
     entry-placed (entry i m w es) p n v q = found-if (same n m) (leftOut kinds vars w) v w (valueFor kinds vars n es) (p .1) (λ z. entry-placed es (p .2) n v z) q
 
   module _ (text : ℕ) (d : Doc) (i : ℕ) (later : (c : ℕ) → i < c → P (placed text d c)) where

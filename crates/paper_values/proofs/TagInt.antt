@@ -14,7 +14,8 @@ use Rattle.paper_values.specs.NumberTokens.{intOf}
 use Rattle.paper_values.specs.Signed.{numberWritten, numberHeld, isInt}
 use Rattle.paper_values.specs.Values.{Name, At, integer, Tree, Bits, Got, No}
 use Rattle.paper_values.specs.Kinds.{Kind, Int}
-use Rattle.paper_values.specs.Coercion.{inRange, integerAt, coerce}
+use Rattle.paper_values.specs.Coercion.{inRange, integerAt}
+use Rattle.paper_values.specs.Computed.{coerce}
 use Rattle.paper_values.specs.Encoding.{encode}
 use Rattle.paper_values.proofs.IntExact.{int-number, int-outside, int-refused}
 

@@ -12,9 +12,10 @@ use Rattle.paper.specs.Tokens.{same}
 use Rattle.paper_table.specs.Lists.{bytes, anyOf, firstAt, gather}
 use Rattle.paper_table.specs.References.{Ref, named}
 use Rattle.paper_table.specs.Types.{builtIns, meaning}
-use Rattle.paper_values.specs.Values.{Name, At, variable, boolean, Values, end, item, close, entry, Due, Tree, Null, Trees, no-more, also, Pairs, nothing, pair, Out, Got, No, andThen}
+use Rattle.paper_values.specs.Values.{Name, At, variable, boolean, Values, no-values, item, no-entries, entry, Due, Tree, Null, Trees, no-more, also, Pairs, no-pairs, pair, Out, Got, No, andThen}
 use Rattle.paper_values.specs.Kinds.{Kind, kindOfType}
-use Rattle.paper_values.specs.Coercion.{Given, missing, entryOf, fields, leftOut, coerce, coerceAll, givens}
+use Rattle.paper_values.specs.Computed.{Given, missingDue, entryOf, dueFields, coerce, coerceAll, givens}
+use Rattle.paper_values.specs.Coercion.{leftOut}
 
 abbrev int : Ref
 int = named (bytes "Int")
@@ -53,17 +54,17 @@ lesser n (No i w) (Got ps) = No i w
 lesser n (No i w) (No j v) = cond (leb (i .row) (j .row)) (No i w) (No j v)
 
 abbrev lesserField : At → Due → Option (Ref → Out Tree) → Out Pairs → Out Pairs
-lesserField i d none rest = missing i d rest
+lesserField i d none rest = missingDue i d rest
 lesserField i d (some f) rest = lesser (d .name) (f (d .type)) rest
 
 -- `table_fields`, but that the least row is told
 abbrev pub leastRow : At → List Given → List Due → Out Pairs
-leastRow i gs [] = Got nothing
+leastRow i gs [] = Got no-pairs
 leastRow i gs (d ∷ ds) = lesserField i d (entryOf (d .name) gs) (leastRow i gs ds)
 
 -- `{b: true, a: true}` where a: Int and b: Int are due
 abbrev given : List Given
-given = givens kinds unset (entry (here 1) (bytes "b") (boolean (here 2) true) (entry (here 3) (bytes "a") (boolean (here 4) true) close))
+given = givens kinds unset (entry (here 1) (bytes "b") (boolean (here 2) true) (entry (here 3) (bytes "a") (boolean (here 4) true) no-entries))
 
 abbrev due : Name → Due
 due n = record { name = n; type = int; default = none }
@@ -72,7 +73,7 @@ abbrev dues : List Due
 dues = due (bytes "a") ∷ due (bytes "b") ∷ []
 
 abbrev pub right : List Given → List Due → Out Pairs
-right gs ds = fields (missing (here 0)) gs ds
+right gs ds = dueFields (missingDue (here 0)) gs ds
 
 -- a is told, which is defined first; both wrong programs tell b
 pub definition-order : right given dues ∷ writtenFirst (right given dues) given dues ∷ leastRow (here 0) given dues ∷ [] ≡ No (here 4) 1 ∷ No (here 2) 1 ∷ No (here 2) 1 ∷ []
@@ -95,12 +96,12 @@ least-differs h = let z : _≡_ {A = ℕ} 2 4 = ap rowTold (h given dues) in ome
 
 -- `coerceAll`, but that an absent variable leaves its item out
 abbrev pub itemsLeft : Values → Ref → Out Trees
-itemsLeft end r = Got no-more
+itemsLeft no-values r = Got no-more
 itemsLeft (item v vs) r = cond (leftOut kinds unset v) (itemsLeft vs r) (andThen (coerce kinds unset v r) (λ t. andThen (itemsLeft vs r) (λ ts. Got (also t ts))))
 
 -- `[$v]` at [Int], where $v is absent: null stands there
 abbrev items : Values
-items = item (variable (here 1) (bytes "v")) end
+items = item (variable (here 1) (bytes "v")) no-values
 
 pub absent-item : coerceAll kinds unset items int ∷ itemsLeft items int ∷ [] ≡ Got (also Null no-more) ∷ Got no-more ∷ []
 unfolding coerce

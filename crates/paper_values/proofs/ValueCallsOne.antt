@@ -9,7 +9,7 @@ use Rattle.paper.specs.Language.{VariablesText}
 use Rattle.paper.specs.Tokens.{Text, Tokens}
 use Rattle.paper.specs.Rows.{Row}
 use Rattle.paper.specs.Refusals.{numberOf, shownInText}
-use Rattle.paper.specs.Reading.{rows-are, refuses, Said}
+use Rattle.paper.specs.Reading.{rows-are, refuses, TextAnswer}
 use Rattle.paper.specs.Calls.{filled, tells}
 use Rattle.paper.specs.declared.Refusal.{Refusal}
 use Rattle.paper.specs.declared.Refusal.the-variants.{Buffer, OverLength}
@@ -27,7 +27,7 @@ use Rattle.paper_values.specs.Kinds.{kindOfType}
 use Rattle.paper_values.specs.RowValues.{placed, argumentsAt}
 use Rattle.paper_values.specs.DocumentDues.{variableDues, givenIn, argumentDues, ReachedField}
 use Rattle.paper_values.specs.CallRules.{CoercesVariables, CoercesArguments}
-use Rattle.paper_values.specs.ValueCalls.{Ending, ends, yields, ended, asObject, VariablesEnd, nothing-opened, text-refused, variables-coerced, ArgumentsEnd, no-operation-opened, no-field-reached, variables-unread, arguments-coerced, Lent, Short, Coerced, short-report, short-value, long-document, long-variables, long-table, refused, answered, CoercedVariables, CoercedArguments}
+use Rattle.paper_values.specs.ValueCalls.{Ending, ends, yields, ended, asObject, VariablesEnd, nothing-opened, text-refused, variables-coerced, ArgumentsEnd, no-operation-opened, no-field-reached, variables-unread, arguments-coerced, ValueLent, ValueShort, Coerced, short-report, short-value, long-document, long-variables, long-table, refused, answered, CoercedVariables, CoercedArguments}
 use Rattle.paper_values.proofs.CallsExact.{variables-one, arguments-one}
 
 -- ---- how the call ends
@@ -123,11 +123,11 @@ module _ (End : Ending → Type 0) (one : (e f : Ending) → End e → End f →
   abbrev DocumentShort : Left → Type 0
   DocumentShort = Checks (mostText < length document) (length document ≤ mostText) (left (numberOf (OverLength inputDocument)) value (tells (OverLength inputDocument) report)) VariablesShort
 
-  abbrev ValueLent : Left → Type 0
-  ValueLent = Checks (length value < mostCoerced) (mostCoerced ≤ length value) (left (numberOf Buffer) value (tells Buffer report)) DocumentShort
+  abbrev ValueBuffer : Left → Type 0
+  ValueBuffer = Checks (length value < mostCoerced) (mostCoerced ≤ length value) (left (numberOf Buffer) value (tells Buffer report)) DocumentShort
 
   abbrev ReportLent : Left → Type 0
-  ReportLent = Checks (length report < reportSize) (reportSize ≤ length report) (left (numberOf Buffer) value report) ValueLent
+  ReportLent = Checks (length report < reportSize) (reportSize ≤ length report) (left (numberOf Buffer) value report) ValueBuffer
 
   report-lent-one : One ReportLent
   report-lent-one =

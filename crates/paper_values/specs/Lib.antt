@@ -13,3 +13,5 @@ pub mod RowValues
 pub mod DocumentDues
 pub mod CallRules
 pub mod ValueCalls
+-- for proofs and code, not to be believed
+pub mod Computed

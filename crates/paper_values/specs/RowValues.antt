@@ -11,15 +11,15 @@ use Rattle.paper_table.specs.References.{Ref, named, listOf, nonNull}
 use Rattle.paper_query.specs.Constructs.{Doc, count, rowOf, kindOf, parentOf, extraOf, nameOf}
 use Rattle.paper_query.specs.PlaceTypes.{Shape}
 use Rattle.paper_values.specs.Characters.{charactersOf}
-use Rattle.paper_values.specs.Values.{At, Value, variable, integer, float, string, boolean, null, enum, list, object, Values, end, item, Entries, close, entry}
+use Rattle.paper_values.specs.Values.{At, Value, variable, integer, float, string, boolean, null, enum, list, object, Values, no-values, item, Entries, no-entries, entry}
 
 -- a type reference's row as a type: wrappers from outside in, lowest two bits first; the first number bounds how many
-unfoldable pub refFrom : ℕ → List ℕ → ℕ → Ref
-refFrom zero n w = named n
-refFrom (suc k) n w = cond (eqb w 0) (named n) (cond (eqb (w % 4) wrapList) (listOf (refFrom k n (w / 4))) (nonNull (refFrom k n (w / 4))))
+unfoldable pub refOfWrappers : ℕ → List ℕ → ℕ → Ref
+refOfWrappers zero n w = named n
+refOfWrappers (suc k) n w = cond (eqb w 0) (named n) (cond (eqb (w % 4) wrapList) (listOf (refOfWrappers k n (w / 4))) (nonNull (refOfWrappers k n (w / 4))))
 
 abbrev pub refIn : Shape → Ref
-refIn p = refFrom mostWrappers (p .base) (p .wrappers)
+refIn p = refOfWrappers mostWrappers (p .base) (p .wrappers)
 
 module _ (text : ℕ) (d : Doc) where
   -- a row of this text
@@ -28,16 +28,16 @@ module _ (text : ℕ) (d : Doc) where
 
   -- the bytes of a row
   abbrev pub tokenAt : ℕ → List ℕ
-  tokenAt i = take (rowOf d i .stop - rowOf d i .start) (drop (rowOf d i .start) (d .bytes))
+  tokenAt i = take (rowOf d i .end - rowOf d i .start) (drop (rowOf d i .start) (d .bytes))
 
   -- the values right below row h among the m rows from c on
   unfoldable pub itemsFrom : (ℕ → Value) → ℕ → ℕ → ℕ → Values
-  itemsFrom read h zero c = end
+  itemsFrom read h zero c = no-values
   itemsFrom read h (suc m) c = cond (eqb (parentOf d c) h) (item (read c) (itemsFrom read h m (c + 1))) (itemsFrom read h m (c + 1))
 
   -- the entries of this kind (6 arguments, 10 an object's fields) right below row h among the m rows from c on
   unfoldable pub entriesFrom : (ℕ → Value) → ℕ → ℕ → ℕ → ℕ → Entries
-  entriesFrom read k h zero c = close
+  entriesFrom read k h zero c = no-entries
   entriesFrom read k h (suc m) c =
       cond (eqb (parentOf d c) h && eqb (kindOf d c) k) (entry (placed c) (nameOf d c) (read (c + 1)) (entriesFrom read k h m (c + 1))) (entriesFrom read k h m (c + 1))
 

@@ -13,7 +13,7 @@ use Rattle.paper.specs.Language.{VariablesText}
 use Rattle.paper.specs.Tokens.{Text, Tokens}
 use Rattle.paper.specs.Rows.{Row}
 use Rattle.paper.specs.Refusals.{numberOf, shownInText}
-use Rattle.paper.specs.Reading.{rows-are, refuses, Said}
+use Rattle.paper.specs.Reading.{rows-are, refuses, TextAnswer}
 use Rattle.paper.specs.Calls.{filled, tells}
 use Rattle.paper.specs.declared.Refusal.{Refusal}
 use Rattle.paper.specs.declared.Refusal.the-variants.{Buffer, OverLength}
@@ -51,10 +51,10 @@ pub data VariablesEnd (table document name variables : List ℕ) : Ending → Ty
   nothing-opened : {k : ℕ} {shown : List ℕ} → Opened table document name (stops k shown) → VariablesEnd table document name variables (ends k shown)
   -- the variables text is refused
   text-refused : {rs : List Row} {op : ℕ} {t : Text} {r : Refusal} → Opened table document name (opens rs op) →
-      Tokens 0 variables t → Said VariablesText t (refuses r) → VariablesEnd table document name variables (ends (numberOf r) (shownInText inputVariables r))
+      Tokens 0 variables t → TextAnswer VariablesText t (refuses r) → VariablesEnd table document name variables (ends (numberOf r) (shownInText inputVariables r))
   -- the variables are coerced
   variables-coerced : {rs vs : List Row} {op : ℕ} {t : Text} {o : Out Pairs} → Opened table document name (opens rs op) →
-      Tokens 0 variables t → Said VariablesText t (rows-are vs) →
+      Tokens 0 variables t → TextAnswer VariablesText t (rows-are vs) →
       CoercesVariables (kindOfType (tableOf table)) (givenIn (read variables vs)) (variableDues (read document rs) op) o →
       VariablesEnd table document name variables (ended (asObject o))
 
@@ -65,19 +65,19 @@ pub data ArgumentsEnd (table document name variables : List ℕ) (row : ℕ) : E
   no-field-reached : {rs : List Row} {op : ℕ} → Opened table document name (opens rs op) → (ReachedField (read document rs) op row → ⊥) →
       ArgumentsEnd table document name variables row (ends refuseNoOperation [])
   variables-unread : {rs : List Row} {op : ℕ} {t : Text} {r : Refusal} → Opened table document name (opens rs op) → ReachedField (read document rs) op row →
-      Tokens 0 variables t → Said VariablesText t (refuses r) → ArgumentsEnd table document name variables row (ends (numberOf r) (shownInText inputVariables r))
+      Tokens 0 variables t → TextAnswer VariablesText t (refuses r) → ArgumentsEnd table document name variables row (ends (numberOf r) (shownInText inputVariables r))
   arguments-coerced : {rs vs : List Row} {op : ℕ} {t : Text} {o : Out Tree} → Opened table document name (opens rs op) → ReachedField (read document rs) op row →
-      Tokens 0 variables t → Said VariablesText t (rows-are vs) →
+      Tokens 0 variables t → TextAnswer VariablesText t (rows-are vs) →
       CoercesArguments (kindOfType (tableOf table)) (givenIn (read variables vs)) (variableDues (read document rs) op) (placed inputDocument (read document rs) row)
       (argumentsAt inputDocument (read document rs) row) (argumentDues (fieldAt (tableOf table) (read document rs) row)) o →
       ArgumentsEnd table document name variables row (ended o)
 
 -- the buffers are long enough; the inputs are not over their lengths
-abbrev pub Lent : List ℕ → List ℕ → Type 0
-Lent value report = (reportSize ≤ length report) × (mostCoerced ≤ length value)
+abbrev pub ValueLent : List ℕ → List ℕ → Type 0
+ValueLent value report = (reportSize ≤ length report) × (mostCoerced ≤ length value)
 
-abbrev pub Short : List ℕ → List ℕ → List ℕ → Type 0
-Short table document variables = (length document ≤ mostText) × (length variables ≤ mostText) × (length table ≤ mostTable)
+abbrev pub ValueShort : List ℕ → List ℕ → List ℕ → Type 0
+ValueShort table document variables = (length document ≤ mostText) × (length variables ≤ mostText) × (length table ≤ mostTable)
 
 -- Either call: its inputs with a length; value and report before and after; the answer.
 pub data Coerced (End : Ending → Type 0) (table document variables value report value′ report′ : List ℕ) : ℕ → Type 0 where
@@ -86,20 +86,20 @@ pub data Coerced (End : Ending → Type 0) (table document variables value repor
   -- refusals 1 and 2 touch no other buffer; of inputs over their lengths the least is told
   short-value : reportSize ≤ length report → length value < mostCoerced →
       value′ ≡ value → report′ ≡ tells Buffer report → Coerced End table document variables value report value′ report′ (numberOf Buffer)
-  long-document : Lent value report → mostText < length document →
+  long-document : ValueLent value report → mostText < length document →
       value′ ≡ value → report′ ≡ tells (OverLength inputDocument) report →
       Coerced End table document variables value report value′ report′ (numberOf (OverLength inputDocument))
-  long-variables : Lent value report → length document ≤ mostText → mostText < length variables →
+  long-variables : ValueLent value report → length document ≤ mostText → mostText < length variables →
       value′ ≡ value → report′ ≡ tells (OverLength inputVariables) report →
       Coerced End table document variables value report value′ report′ (numberOf (OverLength inputVariables))
-  long-table : Lent value report → length document ≤ mostText → length variables ≤ mostText → mostTable < length table →
+  long-table : ValueLent value report → length document ≤ mostText → length variables ≤ mostText → mostTable < length table →
       value′ ≡ value → report′ ≡ tells (OverLength inputTable) report →
       Coerced End table document variables value report value′ report′ (numberOf (OverLength inputTable))
   -- the other refusals zero the fixed size
-  refused : {k : ℕ} {shown : List ℕ} → Lent value report → Short table document variables → End (ends k shown) →
+  refused : {k : ℕ} {shown : List ℕ} → ValueLent value report → ValueShort table document variables → End (ends k shown) →
       value′ ≡ filled mostCoerced [] value → report′ ≡ filled reportSize (k ∷ shown) report → Coerced End table document variables value report value′ report′ k
   -- success: the value's bytes and their count
-  answered : {bs : List ℕ} → Lent value report → Short table document variables → End (yields bs) →
+  answered : {bs : List ℕ} → ValueLent value report → ValueShort table document variables → End (yields bs) →
       value′ ≡ filled mostCoerced bs value → report′ ≡ filled reportSize (accepted ∷ length bs ∷ []) report →
       Coerced End table document variables value report value′ report′ accepted
 

@@ -13,6 +13,7 @@ use lib.Dec.{eqb, ltb}
 use denote.Enum.Declared.{tagOf}
 use types.Run.{OneOf}
 use borrow.Author.Tests.{lt-ltb, le-ltb}
+use Rattle.paper.proofs.Bools.{and-left}
 use Rattle.paper.specs.Numbers.{rowsSize, reportSize, accepted, mostText, kindOperation}
 use Rattle.paper.specs.Language.{Document}
 use Rattle.paper.specs.Rows.{Row}
@@ -31,7 +32,6 @@ use Rattle.call_buffers.specs.declared.Sizes.the-variants.{Met, Unmet}
 use Rattle.table_types.specs.Booked.{Booked}
 use Rattle.query_rows.specs.Rowed.{rowsIn, docOf}
 use Rattle.query_links.proofs.Nexts.{next-passes, next-all}
-use Rattle.query_links.proofs.Walks.{and-left}
 use Rattle.paper_plan.specs.Collecting.{elem}
 use Rattle.paper_plan.specs.Planning.{Plan}
 use Rattle.paper_plan.specs.Selecting.{BlockRows, planFor}

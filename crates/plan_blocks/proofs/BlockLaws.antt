@@ -11,6 +11,7 @@ use lib.ListN.{length, take, getD, set}
 use lib.Seq.{take-suc-set}
 use lib.Dec.{eqb}
 use borrow.Author.Tests.{eqb-true, eq-eqb, ltb-true}
+use Rattle.paper.proofs.Bools.{and-left as and-l, and-right as and-r}
 use Rattle.paper.specs.Numbers.{kindField}
 use Rattle.paper.specs.Rows.{Row}
 use Rattle.paper_table.specs.Lists.{anyOf, firstAt}
@@ -23,7 +24,7 @@ use Rattle.query_links.proofs.Nexts.{next-passes, next-all}
 use Rattle.paper_plan.specs.Collecting.{elem}
 use Rattle.paper_query.specs.Constructs.{numbersWhere}
 use Rattle.paper_plan.specs.Selecting.{setOf, IsBlock, Above, Rising, BlockRows}
-use Rattle.plan_theory.proofs.Same.{clash, and-l, and-r}
+use Rattle.plan_theory.proofs.Same.{clash}
 use Rattle.plan_theory.proofs.NumbersOf.{where-kept, where-keeps, or-l, or-r, or-case}
 use Rattle.plan_theory.proofs.Plannable.{in-range}
 use Rattle.plan_blocks.specs.Blocks.{BlocksTo}

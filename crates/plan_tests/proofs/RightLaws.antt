@@ -37,21 +37,6 @@ pub test-4 : (x : ℕ) → testOf 4 x ≡ if-met x
 unfolding testOf
 test-4 x = refl
 
-pub not-true : (b : Bool) → not b ≡ true → b ≡ false
-not-true true e = absurd (true≢false (sym e))
-not-true false e = refl
-
-pub not-false : (b : Bool) → not b ≡ false → b ≡ true
-not-false true e = refl
-not-false false e = absurd (true≢false e)
-
--- the kinds of selections
-pub selects-low : (k : ℕ) → k < kindField → false ≡ leb kindField k && leb k kindInline
-selects-low k h = rw (lt-leb kindField k h)
-
-pub selects-rest : (k : ℕ) {r : Bool} → kindField ≤ k → r ≡ leb k kindInline → r ≡ leb kindField k && leb k kindInline
-selects-rest k h e = rw (le-leb kindField k h) e
-
 -- what the `if` of a directive is, and what is written then
 pub small-variable : (c : If) (v : ℕ) → Small c → c ≡ Variable v → v ≤ mostRows
 small-variable c v s e = subst Small e s

@@ -49,7 +49,7 @@ type-some t name zero e z = absurd (z refl)
 type-some t name (suc k) e z = let y : suc k - 1 ≡ k = omega arith in y ∙ sym (ap (orCount t) (sym e))
 
 -- a row's name as a part of the bytes
-pub named : (s rows : List ℕ) (n j at l : ℕ) → at ≡ rowIn rows n j .name → l ≡ rowIn rows n j .size → part s at l ≡ nameOf (docOf s rows n) j
+pub named : (s rows : List ℕ) (n j at l : ℕ) → at ≡ rowIn rows n j .nameStart → l ≡ rowIn rows n j .nameLength → part s at l ≡ nameOf (docOf s rows n) j
 named s rows n j at l e f = rw (e, f)
 
 -- a fragment's number, by its rank

@@ -1,7 +1,6 @@
 // The planner's first pass: what each row of a document is to the plan, and what is tested before it, as twelve numbers a row.
 // All reading of names, directives, literals, fragments and types is done here, once for each row.
 use paper::KIND_FIELD;
-use paper::KIND_INLINE;
 use paper::KIND_SPREAD;
 use paper::KIND_TYPE_REFERENCE;
 use paper_plan::STEP_IF_MET;
@@ -10,19 +9,19 @@ use paper_plan::STEP_UNLESS_APPLIES;
 use paper_plan::STEP_UNLESS_TRUE;
 use plan_conditions::If;
 use query_links::link_of;
+use query_rows::is_selection;
 use query_rows::kind_of;
 use query_rows::name_of;
 use query_rows::parent_of;
 use query_rows::size_of;
 use query_siblings::first_below;
 ghost use mathlib.Core.Path.{_≡_};
-ghost use mathlib.Core.Bool.{true, false, _&&_};
+ghost use mathlib.Core.Bool.{true, false};
 ghost use mathlib.Core.List.{[], _∷_, _++_};
 ghost use Prim.Native.Nat.{_+_, _*_, _≤_, _<_};
 ghost use lib.ListN.{length};
 ghost use lib.Seq.{sets};
-ghost use lib.Dec.{leb};
-ghost use Rattle.paper.specs.Numbers.{mostRows, kindField, kindSpread, kindInline};
+ghost use Rattle.paper.specs.Numbers.{mostRows, kindSpread};
 ghost use Rattle.paper_table.specs.Lists.{bytes};
 ghost use Rattle.paper_table.specs.Types.{tableOf};
 ghost use Rattle.paper_query.specs.Constructs.{is, isSelection, nameOf, fragmentNamed};
@@ -121,16 +120,6 @@ fn drops(skip: If, include: If) -> bool
         return true;
     }
     include_drops(include)
-}
-
-// Is it the kind of a selection?
-fn is_selection(kind: u32) -> bool
-    ensures { λ r. ⌜ r ≡ leb kindField kind && leb kind kindInline ⌝ }
-{
-    if kind < KIND_FIELD {
-        return false;
-    }
-    kind <= KIND_INLINE
 }
 
 // The number of the type that row j names; the count of the table's definitions if it is no object, interface or union.

@@ -10,7 +10,7 @@ use Rattle.paper.specs.Numbers.{mostRows, rowsSize, noParent}
 use Rattle.paper.specs.Language.{Part, Document}
 use Rattle.paper.specs.Tokens.{Text, Tokens}
 use Rattle.paper.specs.Rows.{Row}
-use Rattle.paper.specs.Reading.{Answer, rows-are, refuses, Said, accepts}
+use Rattle.paper.specs.Reading.{Answer, rows-are, refuses, TextAnswer, accepts}
 use Rattle.paper.specs.declared.Refusal.{Refusal}
 use Rattle.paper.proofs.Lexing.{from}
 use Rattle.paper.proofs.Going.{State, Out, start, whole, halt, go}
@@ -26,14 +26,14 @@ use Rattle.paper_query.specs.Opening.{AcceptedDocument}
 use Rattle.plan_theory.proofs.Plannable.{Plannable, judged-plannable}
 
 -- a text that has rows has at most 2,048
-pub said-few : (p : Part) (s : List ℕ) (t : Text) (rs : List Row) → Tokens 0 s t → Said p t (rows-are rs) → length rs ≤ mostRows
+pub said-few : (p : Part) (s : List ℕ) (t : Text) (rs : List Row) → Tokens 0 s t → TextAnswer p t (rows-are rs) → length rs ≤ mostRows
 said-few p s t rs k a = on (go (start cells) (nt p ∷ []) (from s 0)) refl
   where
     cells : List ℕ
     cells = replicate rowsSize 0
 
-    said : Said p (from s 0) (rows-are rs)
-    said = subst (λ (x : Text). Said p x (rows-are rs)) (tokens-from k) a
+    said : TextAnswer p (from s 0) (rows-are rs)
+    said = subst (λ (x : Text). TextAnswer p x (rows-are rs)) (tokens-from k) a
 
     on : (o : Out) → go (start cells) (nt p ∷ []) (from s 0) ≡ o → length rs ≤ mostRows
     on (whole m) q =
@@ -45,7 +45,7 @@ said-few p s t rs k a = on (go (start cells) (nt p ∷ []) (from s 0)) refl
         let e : rows-are rs ≡ refuses r = said-one said (going-halt p (from s 0) (from-rising s) cells r q) in
         let z : _≡_ {A = ℕ} 0 1 = cc in absurd (omega arith)
 
-pub said-parents : (p : Part) (s : List ℕ) (t : Text) (rs : List Row) → Tokens 0 s t → Said p t (rows-are rs) → (i : ℕ) → i < count (read s rs) → (parentOf (read s rs) i < i) ⊎ (parentOf (read s rs) i ≡ noParent)
+pub said-parents : (p : Part) (s : List ℕ) (t : Text) (rs : List Row) → Tokens 0 s t → TextAnswer p t (rows-are rs) → (i : ℕ) → i < count (read s rs) → (parentOf (read s rs) i < i) ⊎ (parentOf (read s rs) i ≡ noParent)
 said-parents p s t rs k (accepts {es = es} w r c) i h = text-rows s t es k i h .0
 
 pub accepted-plannable : (table document : List ℕ) (rs : List Row) → AcceptedDocument table document rs → Plannable (read document rs)

@@ -9,6 +9,7 @@ use native.Mathlib.Omega.{arith}
 use lib.ListN.{length}
 use lib.Dec.{T, eqb, leb}
 use borrow.Author.Tests.{eqb-true, leb-true, lt-leb, ne-eqb}
+use Rattle.paper.proofs.Bools.{and-left as and-l, and-right as and-r, eq→T as holds}
 use Rattle.paper.specs.Numbers.{mostRows, noParent, kindOperation, kindFragment, kindField, kindSpread, kindInline}
 use Rattle.paper.specs.Rows.{Row}
 use Rattle.paper_table.specs.Types.{Table}
@@ -20,10 +21,10 @@ use Rattle.paper_plan.specs.Collecting.{Sort, field, spread, inline, View, elem
 use Rattle.paper_query.specs.Constructs.{numbersWhere}
 use Rattle.paper_plan.specs.Selecting.{Name, setOf, typeIf, sortOf, byNames}
 use Rattle.plan_theory.proofs.Depth.{behind, From, among, through, Acyclic, deep}
-use Rattle.plan_theory.proofs.Same.{clash, and-l, and-r}
+use Rattle.plan_theory.proofs.Same.{clash}
 use Rattle.plan_theory.proofs.Enough.{ends}
 use Rattle.plan_theory.proofs.NumbersOf.{where-kept, where-keeps, where-all}
-use Rattle.plan_theory.proofs.Plannable.{Plannable, holds, in-range, spread-of, no-circle}
+use Rattle.plan_theory.proofs.Plannable.{Plannable, in-range, spread-of, no-circle}
 
 -- a selection is no definition
 no-definition : (r : Row) → isSelection r ≡ true → T (not (isDefinition r))

@@ -8,7 +8,7 @@ use Rattle.paper_table.specs.Types.{tableOf}
 use Rattle.paper_query.specs.DocumentCalls.{read}
 use Rattle.paper_plan.specs.Applies.{applies}
 use Rattle.paper_plan.specs.Collecting.{Grouped}
-use Rattle.paper_plan.specs.Planning.{answer}
+use Rattle.paper_plan.specs.Planning.{walkAnswer}
 use Rattle.paper_plan.specs.Selecting.{Name, Collects, pairsOf, blockIn, planFor}
 use Rattle.paper_query.specs.Opening.{Opened, opens, opened, AcceptedDocument}
 use Rattle.plan_theory.proofs.Document.{Among, walk-collects, collects-some}
@@ -25,5 +25,5 @@ module _ (table document : List ℕ) (rs : List Row) (a : AcceptedDocument table
 
   -- and the walk of the plan over the holders' blocks answers its pairs; `rows` are the plan's blocks, op ∷ .., any list that has the holders
   pub walk-answers : (rows holders : List ℕ) → Among rows holders → (g : Grouped Name) → Collects (tableOf table) (read document rs) op vars o holders g
-      → answer vars (λ k. applies (tableOf table) k o) (planFor (tableOf table) (read document rs) op rows) (map (blockIn rows) holders) ≡ pairsOf (read document rs) g
+      → walkAnswer vars (λ k. applies (tableOf table) k o) (planFor (tableOf table) (read document rs) op rows) (map (blockIn rows) holders) ≡ pairsOf (read document rs) g
   walk-answers rows holders w = walk-collects (tableOf table) (read document rs) op (accepted-plannable table document rs a) vars o rows holders w

@@ -17,12 +17,12 @@ use Rattle.paper_query.specs.DocumentCalls.{read}
 use Rattle.paper_query.specs.Opening.{AcceptedDocument}
 use Rattle.paper_plan.specs.Applies.{applies}
 use Rattle.paper_plan.specs.Collecting.{View, Grouped, Pair}
-use Rattle.paper_plan.specs.Planning.{Plan, plan, firsts, answer}
+use Rattle.paper_plan.specs.Planning.{Plan, plan, firsts, walkAnswer}
 use Rattle.paper_plan.specs.PlanNumbers.{planNumbers, blocksIn, WellFormed}
 use Rattle.paper_plan.specs.Selecting.{Name, Collects, pairsOf, setOf, blockIn, planFor}
-use Rattle.paper_plan.specs.LentPlan.{isOne, flat}
+use Rattle.paper_plan.specs.LentPlan.{isOne, pairNumbers}
 use Rattle.paper_plan.specs.WalkNumbers.{mostPairs, mostWalked, pairsSize, variablesSize, refuseTooManyPairs}
-use Rattle.paper_plan.specs.WalkCalls.{CanWalk, listed, Lent, Walked, short-report, short-pairs, long-table, refuses-table, refuses-walk, too-many-pairs, lists}
+use Rattle.paper_plan.specs.WalkCalls.{CanWalk, listed, WalkLent, Walked, short-report, short-pairs, long-table, refuses-table, refuses-walk, too-many-pairs, lists}
 use Rattle.plan_theory.proofs.Document.{Among, block-at}
 use Rattle.plan_theory.proofs.Demand3.{walk-answers}
 use Rattle.plan_walk_blocks.proofs.AnswerLaws.{plan-in}
@@ -42,7 +42,7 @@ holders-known d rows (x ∷ xs) a (suc j) h = holders-known d rows xs (a .1) j (
 -- what the call leaves where the draft's field collection gives these pairs: the pairs and their count; or they are over 512
 abbrev pub Leaves : List Pair → List ℕ → List ℕ → List ℕ → List ℕ → ℕ → Type 0
 Leaves ps pairs report pairs′ report′ n =
-    (length ps ≤ mostPairs) × (n ≡ accepted) × (pairs′ ≡ filled pairsSize (flat ps) pairs) × (report′ ≡ filled reportSize (accepted ∷ length ps ∷ []) report)
+    (length ps ≤ mostPairs) × (n ≡ accepted) × (pairs′ ≡ filled pairsSize (pairNumbers ps) pairs) × (report′ ≡ filled reportSize (accepted ∷ length ps ∷ []) report)
 
 abbrev pub Refuses : List Pair → List ℕ → List ℕ → List ℕ → List ℕ → ℕ → Type 0
 Refuses ps pairs report pairs′ report′ n =
@@ -70,14 +70,14 @@ module _ (table document : List ℕ) (rs : List Row) (a : AcceptedDocument table
     pub listed-collects : (g : Grouped Name) → Collects (tableOf table) (read document rs) op (isOne variables) object holders g →
         listed (tableOf table) lent object blocks variables ≡ pairsOf (read document rs) g
     listed-collects g c =
-        ap (λ (p : Plan). answer (isOne variables) (λ k. applies (tableOf table) k object) p blocks)
+        ap (λ (p : Plan). walkAnswer (isOne variables) (λ k. applies (tableOf table) k object) p blocks)
         (plan-in (planFor (tableOf table) (read document rs) op rows) more (formed .few-blocks))
         ∙ walk-answers table document rs a op (isOne variables) object rows holders among g c
 
     -- and the call leaves that, or refuses it as too much
     pub walked-collects : isObject (definitionAt (tableOf table) object) ≡ true → length holders ≤ mostWalked → variablesSize ≤ length variables →
         (g : Grouped Name) → Collects (tableOf table) (read document rs) op (isOne variables) object holders g →
-        (pairs report pairs′ report′ : List ℕ) (n : ℕ) → Lent pairs report → length table ≤ mostTable → Walked table lent object blocks variables pairs report pairs′ report′ n →
+        (pairs report pairs′ report′ : List ℕ) (n : ℕ) → WalkLent pairs report → length table ≤ mostTable → Walked table lent object blocks variables pairs report pairs′ report′ n →
         Leaves (pairsOf (read document rs) g) pairs report pairs′ report′ n ⊎ Refuses (pairsOf (read document rs) g) pairs report pairs′ report′ n
     walked-collects o f v g c pairs report pairs′ report′ n l s w = go w
       where
@@ -95,6 +95,6 @@ module _ (table document : List ℕ) (rs : List Row) (a : AcceptedDocument table
         go (lists h y z m e k) = inl (
           omega (arith, m, ap length same),
           refl,
-          e ∙ ap (λ (ps : List Pair). filled pairsSize (flat ps) pairs) same,
+          e ∙ ap (λ (ps : List Pair). filled pairsSize (pairNumbers ps) pairs) same,
           k ∙ ap (λ (ps : List Pair). filled reportSize (accepted ∷ length ps ∷ []) report) same,
         )

@@ -7,8 +7,7 @@ use native.Mathlib.Decide.{decLe, decLt, ℕ-discrete}
 use native.Mathlib.Omega.{arith}
 use lib.ListN.{length, getD}
 use Rattle.paper.specs.Numbers.{mostRows, mostFragments, mostVariables}
-use Rattle.paper_table.specs.Types.{Table, isObject}
-use Rattle.paper_table.specs.Rules.{isComposite}
+use Rattle.paper_table.specs.Types.{Table, isObject, isComposite}
 use Rattle.paper_query.specs.Enclosing.{definitionAt}
 use Rattle.paper_plan.specs.PlanNumbers.{planSize, mostBlocks, mostSteps, stepUnlessTrue, stepUnlessApplies, stepIfMet, stepList, blocksIn, stepsIn, firstIn, endIn, kindAt, oneAt, twoAt, Formed, WellFormed}
 use Rattle.paper_plan.specs.WalkNumbers.{mostWalked, variablesSize}

@@ -10,14 +10,13 @@ use lib.ListN.{length, getD, take}
 use lib.Seq.{getD-take, length-take-le}
 use Rattle.paper.specs.Numbers.{reportSize, accepted}
 use Rattle.paper.specs.Calls.{filled}
-use Rattle.paper_table.specs.Types.{Table, tableOf}
-use Rattle.paper_table.specs.Rules.{isComposite}
+use Rattle.paper_table.specs.Types.{Table, tableOf, isComposite}
 use Rattle.paper_query.specs.Enclosing.{definitionAt}
 use Rattle.paper_plan.specs.Applies.{applies}
 use Rattle.paper_plan.specs.Collecting.{Pair}
-use Rattle.paper_plan.specs.Planning.{Step, Plan, answer}
+use Rattle.paper_plan.specs.Planning.{Step, Plan, walkAnswer}
 use Rattle.paper_plan.specs.PlanNumbers.{planSize, mostBlocks, mostSteps, blocksIn, stepsIn, firstIn, endIn, kindAt, oneAt, twoAt, Formed, WellFormed}
-use Rattle.paper_plan.specs.LentPlan.{isOne, stepOf, stepAt, stepsFrom, firstsFrom, planIn, flat}
+use Rattle.paper_plan.specs.LentPlan.{isOne, stepOf, stepAt, stepsFrom, firstsFrom, planIn, pairNumbers}
 use Rattle.paper_plan.specs.WalkNumbers.{pairsSize}
 use Rattle.paper_plan.specs.WalkCalls.{CanWalk, listed, Walked, short-report, short-pairs, long-table, refuses-table, refuses-walk, too-many-pairs, lists}
 use Rattle.plan_walk_formed.proofs.FormedLaws.{end-next, end-last, formed-blocks}
@@ -100,7 +99,7 @@ module _ (p q : List ℕ) (long : planSize ≤ length q) (same : (i : ℕ) → i
 
   pub listed-same : (t : Table) (object : ℕ) (blocks variables : List ℕ) → CanWalk t p object blocks variables → listed t p object blocks variables ≡ listed t q object blocks variables
   listed-same t object blocks variables c =
-      ap (λ (x : Plan). answer (isOne variables) (λ k. applies t k object) x blocks) (plan-same (c .well-formed .few-blocks) (c .well-formed .few-steps))
+      ap (λ (x : Plan). walkAnswer (isOne variables) (λ k. applies t k object) x blocks) (plan-same (c .well-formed .few-blocks) (c .well-formed .few-steps))
 
 -- of a longer plan the first numbers do as well
 module _ (table plan : List ℕ) (object : ℕ) (blocks variables pairs report pairs′ report′ : List ℕ) (long : planSize ≤ length plan) where
@@ -126,5 +125,5 @@ module _ (table plan : List ℕ) (object : ℕ) (blocks variables pairs report p
       let e = listed-same plan (take planSize plan) first-long first-same (tableOf table) object blocks variables c in too-many-pairs l r (to-first c) (omega (arith, m, ap length e)) f g
   walked-first (lists l r c m f g) =
       let e = listed-same plan (take planSize plan) first-long first-same (tableOf table) object blocks variables c in
-      lists l r (to-first c) (omega (arith, m, ap length e)) (f ∙ ap (λ (ps : List Pair). filled pairsSize (flat ps) pairs) e)
+      lists l r (to-first c) (omega (arith, m, ap length e)) (f ∙ ap (λ (ps : List Pair). filled pairsSize (pairNumbers ps) pairs) e)
       (g ∙ ap (λ (ps : List Pair). filled reportSize (accepted ∷ length ps ∷ []) report) e)

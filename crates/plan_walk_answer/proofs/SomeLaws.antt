@@ -16,9 +16,9 @@ use Rattle.paper_table.specs.Judging.{judge, tableNumber}
 use Rattle.paper_table.specs.TableCalls.{tellsTable}
 use Rattle.paper_table.specs.declared.TableAnswer.{TableAnswer}
 use Rattle.paper_table.specs.declared.TableAnswer.the-variants.{Accepted, Framing, TooMany, Breaks}
-use Rattle.paper_plan.specs.LentPlan.{flat}
+use Rattle.paper_plan.specs.LentPlan.{pairNumbers}
 use Rattle.paper_plan.specs.WalkNumbers.{mostPairs, pairsSize, refuseWalk, refuseTooManyPairs}
-use Rattle.paper_plan.specs.WalkCalls.{CanWalk, listed, Lent, Right, Walked, short-report, short-pairs, long-table, refuses-table, refuses-walk, too-many-pairs, lists}
+use Rattle.paper_plan.specs.WalkCalls.{CanWalk, listed, WalkLent, Right, Walked, short-report, short-pairs, long-table, refuses-table, refuses-walk, too-many-pairs, lists}
 use Rattle.plan_walk_answer.proofs.Decided.{can-walk-decided}
 
 accepts-or-not : (a : TableAnswer) → Dec (a ≡ Accepted)
@@ -31,19 +31,19 @@ module _ (table plan : List ℕ) (object : ℕ) (blocks variables pairs report :
   abbrev Some : Type 0
   Some = (pairs′ report′ : List ℕ) × (a : ℕ) × Walked table plan object blocks variables pairs report pairs′ report′ a
 
-  of-pairs : Lent pairs report → Right table → CanWalk (tableOf table) plan object blocks variables → Dec (length (listed (tableOf table) plan object blocks variables) ≤ mostPairs) → Some
+  of-pairs : WalkLent pairs report → Right table → CanWalk (tableOf table) plan object blocks variables → Dec (length (listed (tableOf table) plan object blocks variables) ≤ mostPairs) → Some
   of-pairs l r c (yes f) = (_, _, accepted, lists l r c f refl refl)
   of-pairs l r c (no f) = (_, _, refuseTooManyPairs, too-many-pairs l r c (lt-of-not-le f) refl refl)
 
-  of-walk : Lent pairs report → Right table → Dec (CanWalk (tableOf table) plan object blocks variables) → Some
+  of-walk : WalkLent pairs report → Right table → Dec (CanWalk (tableOf table) plan object blocks variables) → Some
   of-walk l r (yes c) = of-pairs l r c (decLe (length (listed (tableOf table) plan object blocks variables)) mostPairs)
   of-walk l r (no n) = (_, _, refuseWalk, refuses-walk l r n refl refl)
 
-  of-rules : Lent pairs report → length table ≤ mostTable → Dec (judge table ≡ Accepted) → Some
+  of-rules : WalkLent pairs report → length table ≤ mostTable → Dec (judge table ≡ Accepted) → Some
   of-rules l s (yes j) = of-walk l (s, j) (can-walk-decided (tableOf table) plan object blocks variables)
   of-rules l s (no n) = (_, _, tableNumber (judge table), refuses-table l s refl n refl refl)
 
-  of-table : Lent pairs report → Dec (length table ≤ mostTable) → Some
+  of-table : WalkLent pairs report → Dec (length table ≤ mostTable) → Some
   of-table l (yes s) = of-rules l s (accepts-or-not (judge table))
   of-table l (no s) = (_, _, numberOf (OverLength inputTable), long-table l (lt-of-not-le s) refl refl)
 

@@ -14,7 +14,7 @@ ghost use lib.ListN.{length};
 ghost use Rattle.paper_table.specs.TableNumbers.{mostTable};
 ghost use Rattle.table_book.specs.Book.{bookSize};
 ghost use Rattle.paper_plan.specs.WalkNumbers.{pairsSize};
-ghost use Rattle.paper_plan.specs.WalkCalls.{Lent, Walked};
+ghost use Rattle.paper_plan.specs.WalkCalls.{WalkLent, Walked};
 
 // Judges a table, and walks a plan by it. The pairs are of their fixed size; the book is scratch.
 fn walk_with(
@@ -27,7 +27,7 @@ fn walk_with(
     pairs: &mut [u32],
     report: &mut [u32],
 ) -> u32
-    requires { ⌜ Lent (now pairs) (now report) × (length (now t) ≤ mostTable) × (length (now pairs) ≡ pairsSize) × (length (now book) ≡ bookSize) ⌝ }
+    requires { ⌜ WalkLent (now pairs) (now report) × (length (now t) ≤ mostTable) × (length (now pairs) ≡ pairsSize) × (length (now book) ≡ bookSize) ⌝ }
     ensures { λ r. ⌜ Walked (now (t .entry)) (now (plan .entry)) object (now (blocks .entry)) (now (variables .entry)) (now (pairs .entry)) (now (report .entry)) (now (pairs .exit)) (now (report .exit)) r ⌝ }
 {
     let a = table_answer::judge_with(t, book);
@@ -48,7 +48,7 @@ fn walk(
     pairs: &mut [u32],
     report: &mut [u32],
 ) -> u32
-    requires { ⌜ Lent (now pairs) (now report) × (length (now t) ≤ mostTable) × (length (now pairs) ≡ pairsSize) ⌝ }
+    requires { ⌜ WalkLent (now pairs) (now report) × (length (now t) ≤ mostTable) × (length (now pairs) ≡ pairsSize) ⌝ }
     ensures { λ r. ⌜ Walked (now (t .entry)) (now (plan .entry)) object (now (blocks .entry)) (now (variables .entry)) (now (pairs .entry)) (now (report .entry)) (now (pairs .exit)) (now (report .exit)) r ⌝ }
 {
     let mut book = [0u32; BOOK_SIZE];

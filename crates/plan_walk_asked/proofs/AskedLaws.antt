@@ -9,8 +9,7 @@ use lib.ListN.{length, getD}
 use lib.Dec.{eqb}
 use borrow.Author.Tests.{eqb-true}
 use Rattle.paper_table.specs.TableNumbers.{tagObject}
-use Rattle.paper_table.specs.Types.{Table, Definition, tableOf, isObject}
-use Rattle.paper_table.specs.Rules.{isComposite}
+use Rattle.paper_table.specs.Types.{Table, Definition, tableOf, isObject, isComposite}
 use Rattle.paper_query.specs.Enclosing.{definitionAt}
 use Rattle.table_book.specs.Book.{countIn}
 use Rattle.table_types.specs.Booked.{Booked, kindIn}

@@ -9,10 +9,10 @@ use lib.ListN.{length, getD, take, drop, replicate, drop-of-length-le}
 use lib.Seq.{drop-cons}
 use lib.Dec.{eqb}
 use Rattle.paper_plan.specs.Collecting.{Pair, elem, pairs}
-use Rattle.paper_plan.specs.Planning.{Step, Plan, State, grouped, answer}
+use Rattle.paper_plan.specs.Planning.{Step, Plan, State, grouped, walkAnswer}
 use Rattle.paper_plan.specs.PlanNumbers.{mostBlocks, planNumbers, firstIn}
 use Rattle.call_buffers.specs.Buffers.{cleared}
-use Rattle.plan_walk_steps.specs.Numbers.{Marks, Listed, Over, Held, isOne, stepsFrom, flat}
+use Rattle.plan_walk_steps.specs.Numbers.{Marks, Listed, Over, Held, isOne, stepsFrom, pairNumbers}
 use Rattle.plan_walk_steps.proofs.TwoPass.{runs, two-pass}
 use Rattle.plan_walk_steps.proofs.PlanLaws.{plan-steps, plan-first}
 use Rattle.plan_walk_blocks.specs.Answers.{firstsFrom, planIn, afterAll, pairsFrom, Given, answerOf, TooMany, Holds, Answered}
@@ -58,8 +58,8 @@ module _ (p bs vars fits met found : List ℕ) (n : ℕ) (g : Given p bs vars fi
             few = x .few;
             count = answer-length (afterAll p bs vars fits .out) ∙ x .listed .size;
             written =
-                c ∙ ap (λ (l : List ℕ). l ++ replicate (length out - 2 * n) 0) (w .said ∙ ap flat same)
-                ∙ ap (λ (k : ℕ). flat (answerOf p bs vars fits) ++ replicate (k - 2 * n) 0) s;
+                c ∙ ap (λ (l : List ℕ). l ++ replicate (length out - 2 * n) 0) (w .said ∙ ap pairNumbers same)
+                ∙ ap (λ (k : ℕ). pairNumbers (answerOf p bs vars fits) ++ replicate (k - 2 * n) 0) s;
           }
 
 -- a plan's own numbers

@@ -14,7 +14,7 @@ use Rattle.paper_plan.specs.Planning.{Step, Plan, State, blockOf, walk, blocks}
 use Rattle.paper_plan.specs.PlanNumbers.{blocksIn, stepsIn, firstIn, endIn, WellFormed}
 use Rattle.paper_table.specs.Types.{tableOf}
 use Rattle.table_types.specs.Booked.{Booked}
-use Rattle.plan_walk_steps.specs.Numbers.{Formed, Marks, Listed, Over, Held, Ready, Walked, isOne, stepsFrom, stepAt, blockWalk, flat}
+use Rattle.plan_walk_steps.specs.Numbers.{Formed, Marks, Listed, Over, Held, Ready, Walked, isOne, stepsFrom, stepAt, blockWalk, pairNumbers}
 use Rattle.plan_walk_steps.proofs.Laws.{longer}
 use Rattle.plan_walk_steps.proofs.PlanLaws.{steps-part}
 use Rattle.plan_walk_formed.proofs.FormedLaws.{end-next, end-last, formed-blocks, formed-walks}

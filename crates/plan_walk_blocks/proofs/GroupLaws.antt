@@ -10,7 +10,7 @@ use lib.Dec.{eqb}
 use borrow.Author.Tests.{eq-eqb, ne-eqb}
 use Rattle.paper_plan.specs.Collecting.{Grouped, append, Pair, withKey, pairs}
 use Rattle.paper_plan.specs.Planning.{grouped}
-use Rattle.plan_walk_steps.specs.Numbers.{Listed, flat}
+use Rattle.plan_walk_steps.specs.Numbers.{Listed, pairNumbers}
 use Rattle.plan_walk_steps.proofs.Laws.{listed-more}
 use Rattle.plan_walk_steps.proofs.TwoPass.{byKey, runs, two-pass}
 use Rattle.plan_walk_blocks.specs.Answers.{keyIn, pairsFrom, before}
@@ -204,7 +204,7 @@ module _ (f : List ℕ) (n : ℕ) (out₀ : List ℕ) where
       subst (λ (k : ℕ). Listed out k (runs (λ x. false) (pairsFrom f 0 n))) z (subst (Listed out m) all (g .listed))
 
 -- what a buffer lists
-pairs-read : (pre : List ℕ) (l : List Pair) (more : List ℕ) (i : ℕ) → length pre ≡ 2 * i → pairsFrom (pre ++ (flat l ++ more)) i (length l) ≡ l
+pairs-read : (pre : List ℕ) (l : List Pair) (more : List ℕ) (i : ℕ) → length pre ≡ 2 * i → pairsFrom (pre ++ (pairNumbers l ++ more)) i (length l) ≡ l
 unfolding pairsFrom
 pairs-read pre [] more i e = refl
 pairs-read pre (p ∷ l) more i e =
@@ -212,11 +212,11 @@ pairs-read pre (p ∷ l) more i e =
     let b : 2 * i + 1 ≡ length pre + 1 = omega arith in
     let size : length (pre ++ (p .0 ∷ p .1 ∷ [])) ≡ 2 * suc i = omega (arith, length-append pre (p .0 ∷ p .1 ∷ [])) in
     let ih = pairs-read (pre ++ (p .0 ∷ p .1 ∷ [])) l more (suc i) size in
-    let one = ap (λ (k : ℕ). getD (pre ++ (p .0 ∷ p .1 ∷ (flat l ++ more))) k 0) a ∙ getD-append-add pre (p .0 ∷ p .1 ∷ (flat l ++ more)) 0 0 in
-    let two = ap (λ (k : ℕ). getD (pre ++ (p .0 ∷ p .1 ∷ (flat l ++ more))) k 0) b ∙ getD-append-add pre (p .0 ∷ p .1 ∷ (flat l ++ more)) 1 0 in
-    ap (λ (x : ℕ). (x, getD (pre ++ (p .0 ∷ p .1 ∷ (flat l ++ more))) (2 * i + 1) 0) ∷ pairsFrom (pre ++ (p .0 ∷ p .1 ∷ (flat l ++ more))) (suc i) (length l)) one
-    ∙ ap (λ (x : ℕ). (p .0, x) ∷ pairsFrom (pre ++ (p .0 ∷ p .1 ∷ (flat l ++ more))) (suc i) (length l)) two
-    ∙ ap (λ (x : List Pair). p ∷ x) (ap (λ (y : List ℕ). pairsFrom y (suc i) (length l)) (sym (append-assoc pre (p .0 ∷ p .1 ∷ []) (flat l ++ more))) ∙ ih)
+    let one = ap (λ (k : ℕ). getD (pre ++ (p .0 ∷ p .1 ∷ (pairNumbers l ++ more))) k 0) a ∙ getD-append-add pre (p .0 ∷ p .1 ∷ (pairNumbers l ++ more)) 0 0 in
+    let two = ap (λ (k : ℕ). getD (pre ++ (p .0 ∷ p .1 ∷ (pairNumbers l ++ more))) k 0) b ∙ getD-append-add pre (p .0 ∷ p .1 ∷ (pairNumbers l ++ more)) 1 0 in
+    ap (λ (x : ℕ). (x, getD (pre ++ (p .0 ∷ p .1 ∷ (pairNumbers l ++ more))) (2 * i + 1) 0) ∷ pairsFrom (pre ++ (p .0 ∷ p .1 ∷ (pairNumbers l ++ more))) (suc i) (length l)) one
+    ∙ ap (λ (x : ℕ). (p .0, x) ∷ pairsFrom (pre ++ (p .0 ∷ p .1 ∷ (pairNumbers l ++ more))) (suc i) (length l)) two
+    ∙ ap (λ (x : List Pair). p ∷ x) (ap (λ (y : List ℕ). pairsFrom y (suc i) (length l)) (sym (append-assoc pre (p .0 ∷ p .1 ∷ []) (pairNumbers l ++ more))) ∙ ih)
 
 pub pairs-listed : (f : List ℕ) (n : ℕ) (l : List Pair) → Listed f n l → pairsFrom f 0 n ≡ l
 pairs-listed f n l w =

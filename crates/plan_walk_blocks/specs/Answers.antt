@@ -8,11 +8,11 @@ use Prim.Native.Nat.{ℕ, zero, suc, _+_, _*_, _-_, _≤_, _<_}
 use lib.ListN.{length, getD, replicate}
 use lib.Dec.{eqb}
 use Rattle.paper_plan.specs.Collecting.{Pair}
-use Rattle.paper_plan.specs.Planning.{Plan, State, blockOf, walk, blocks, answer}
+use Rattle.paper_plan.specs.Planning.{Plan, State, blockOf, walk, blocks, walkAnswer}
 use Rattle.paper_plan.specs.PlanNumbers.{planSize, mostBlocks, mostSteps, blocksIn, stepsIn, firstIn, endIn}
 pub use Rattle.paper_plan.specs.LentPlan.{planIn}
 unfoldable pub use Rattle.paper_plan.specs.LentPlan.{firstsFrom}
-use Rattle.plan_walk_steps.specs.Numbers.{Formed, Marks, Listed, Over, Held, isOne, stepsFrom, flat}
+use Rattle.plan_walk_steps.specs.Numbers.{Formed, Marks, Listed, Over, Held, isOne, stepsFrom, pairNumbers}
 use Rattle.plan_walk_steps.proofs.TwoPass.{byKey, runs}
 
 -- what a walk asks of a plan's numbers
@@ -68,7 +68,7 @@ Grouped f n out = Listed out n (runs (λ k. false) (pairsFrom f 0 n))
 
 -- the answer of the plan for these blocks, and zeros; or it has over 512 pairs, and all are zeros
 abbrev pub answerOf : List ℕ → List ℕ → List ℕ → List ℕ → List Pair
-answerOf p bs vars fits = answer (isOne vars) (isOne fits) (planIn p) bs
+answerOf p bs vars fits = walkAnswer (isOne vars) (isOne fits) (planIn p) bs
 
 pub record TooMany (p bs vars fits out : List ℕ) (r : ℕ) : Type 0 where
   pub told : r ≡ 513
@@ -78,7 +78,7 @@ pub record TooMany (p bs vars fits out : List ℕ) (r : ℕ) : Type 0 where
 pub record Holds (p bs vars fits out : List ℕ) (r : ℕ) : Type 0 where
   pub few : r ≤ 512
   pub count : length (answerOf p bs vars fits) ≡ r
-  pub written : out ≡ flat (answerOf p bs vars fits) ++ replicate (1024 - 2 * r) 0
+  pub written : out ≡ pairNumbers (answerOf p bs vars fits) ++ replicate (1024 - 2 * r) 0
 
 abbrev pub Answered : List ℕ → List ℕ → List ℕ → List ℕ → List ℕ → ℕ → Type 0
 Answered p bs vars fits out r = TooMany p bs vars fits out r ⊎ Holds p bs vars fits out r

@@ -12,7 +12,7 @@ use Rattle.paper_table.specs.Types.{tableOf}
 use Rattle.paper_query.specs.DocumentCalls.{read}
 use Rattle.paper_plan.specs.Applies.{applies}
 use Rattle.paper_plan.specs.Collecting.{Grouped, pairs}
-use Rattle.paper_plan.specs.Planning.{Step, leave, list, Test, Plan, State, walk, blockOf, blocks, grouped, answer}
+use Rattle.paper_plan.specs.Planning.{Step, leave, list, Test, Plan, State, walk, blockOf, blocks, grouped, walkAnswer}
 use Rattle.paper_plan.specs.PlanNumbers.{mostBlocks, blocksIn, firstIn, endIn, kindAt, oneAt, twoAt, planNumbers, Formed, WellFormed}
 use Rattle.paper_plan.specs.Selecting.{Name, Collects, pairsOf, blockIn, planFor}
 use Rattle.paper_query.specs.Opening.{AcceptedDocument}
@@ -85,7 +85,7 @@ module _ (t book p vars fits : List ℕ) (b : Booked t book) (w : WellFormed (ta
       ∙ blocks-same bs (walk (isOne vars) two (blockOf (planIn p) k) (getD (planIn p .first) k 0) 0 s) (λ j l. h (suc j) (omega arith))
 
   -- the answer for the object type of record o
-  pub lent-answer : (bs : List ℕ) → ((j : ℕ) → j < length bs → getD bs j 0 < blocksIn p) → answerOf p bs vars fits ≡ answer (isOne vars) (λ k. applies (tableOf t) k o) (planIn p) bs
+  pub lent-answer : (bs : List ℕ) → ((j : ℕ) → j < length bs → getD bs j 0 < blocksIn p) → answerOf p bs vars fits ≡ walkAnswer (isOne vars) (λ k. applies (tableOf t) k o) (planIn p) bs
   lent-answer bs h = ap (λ (s : State). pairs (grouped [] (s .out))) (blocks-same bs record { met = []; out = [] } h)
 
 -- a plan that was made of an accepted document: demand 3
@@ -98,5 +98,5 @@ pub lent-collects : (t book document : List ℕ) (rs : List Row) (a : AcceptedDo
     → answerOf (planNumbers (planFor (tableOf t) (read document rs) op rows) ++ more) (map (blockIn rows) holders) vars fits ≡ pairsOf (read document rs) g
 lent-collects t book document rs a op rows more vars fits o b f l w holders m k g c =
     lent-answer t book (planNumbers (planFor (tableOf t) (read document rs) op rows) ++ more) vars fits b w o f (map (blockIn rows) holders) k
-    ∙ ap (λ (p : Plan). answer (isOne vars) (λ i. applies (tableOf t) i o) p (map (blockIn rows) holders)) (plan-in (planFor (tableOf t) (read document rs) op rows) more l)
+    ∙ ap (λ (p : Plan). walkAnswer (isOne vars) (λ i. applies (tableOf t) i o) p (map (blockIn rows) holders)) (plan-in (planFor (tableOf t) (read document rs) op rows) more l)
     ∙ walk-answers t document rs a op (isOne vars) o rows holders m g c

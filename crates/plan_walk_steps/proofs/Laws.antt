@@ -11,8 +11,8 @@ use Rattle.plan_theory.proofs.Same.{arrived, now}
 use lib.Dec.{eqb, ltb}
 use borrow.Author.Tests.{eqb-true, eqb-false, eq-eqb, ne-eqb, le-ltb, lt-ltb}
 use Rattle.paper_plan.specs.Collecting.{elem, Pair}
-use Rattle.paper_plan.specs.Planning.{Test, if-true, unless-true, unless-applies, if-met, Step, leave, list, State, says, marked, does, goal, walk}
-use Rattle.plan_walk_steps.specs.Numbers.{testOf, stepOf, stepAt, stepsFrom, isOne, Marks, flat, Listed, Over, Held, blockWalk, Formed, Ready, Walked}
+use Rattle.paper_plan.specs.Planning.{Test, if-true, unless-true, unless-applies, if-met, Step, leave, list, State, says, marksAfter, does, goal, walk}
+use Rattle.plan_walk_steps.specs.Numbers.{testOf, stepOf, stepAt, stepsFrom, isOne, Marks, pairNumbers, Listed, Over, Held, blockWalk, Formed, Ready, Walked}
 
 pub test-1 : (k a : ℕ) → k ≡ 1 → testOf k a ≡ if-true a
 unfolding testOf
@@ -96,22 +96,22 @@ unfolding stepOf
 step-leave k a b e = ap (λ (t : Bool). cond t (list a b) (leave (testOf k a) b)) (ne-eqb k 5 e)
 
 -- marks change only where a fragment is met for the first time
-pub same-marks : (vs as′ : ℕ → Bool) (t : Test) (m : List ℕ) → says vs as′ t m ≡ true → marked vs as′ t m ≡ m
+pub same-marks : (vs as′ : ℕ → Bool) (t : Test) (m : List ℕ) → says vs as′ t m ≡ true → marksAfter vs as′ t m ≡ m
 same-marks vs as′ (if-true v) m h = refl
 same-marks vs as′ (unless-true v) m h = refl
 same-marks vs as′ (unless-applies v) m h = refl
 same-marks vs as′ (if-met f) m h = ap (λ (b : Bool). cond b m (f ∷ m)) h
 
-pub new-mark : (vs as′ : ℕ → Bool) (f : ℕ) (m : List ℕ) → says vs as′ (if-met f) m ≡ false → marked vs as′ (if-met f) m ≡ f ∷ m
+pub new-mark : (vs as′ : ℕ → Bool) (f : ℕ) (m : List ℕ) → says vs as′ (if-met f) m ≡ false → marksAfter vs as′ (if-met f) m ≡ f ∷ m
 new-mark vs as′ f m h = ap (λ (b : Bool). cond b m (f ∷ m)) h
 
-pub no-mark : (vs as′ : ℕ → Bool) (k a : ℕ) (m : List ℕ) → 1 ≤ k → k ≤ 5 → (k ≡ 5 → ⊥) → (k ≡ 4 → ⊥) → marked vs as′ (testOf k a) m ≡ m
+pub no-mark : (vs as′ : ℕ → Bool) (k a : ℕ) (m : List ℕ) → 1 ≤ k → k ≤ 5 → (k ≡ 5 → ⊥) → (k ≡ 4 → ⊥) → marksAfter vs as′ (testOf k a) m ≡ m
 no-mark vs as′ k a m low high n5 n4 = go (eqb k 1) (eqb k 2) refl refl
   where
-    go : (b c : Bool) → eqb k 1 ≡ b → eqb k 2 ≡ c → marked vs as′ (testOf k a) m ≡ m
-    go true c p q = ap (λ (t : Test). marked vs as′ t m) (test-1 k a (eqb-true k 1 p))
-    go false true p q = ap (λ (t : Test). marked vs as′ t m) (test-2 k a (eqb-true k 2 q))
-    go false false p q = ap (λ (t : Test). marked vs as′ t m) (test-3 k a (omega (arith, eqb-false k 1 p, eqb-false k 2 q)))
+    go : (b c : Bool) → eqb k 1 ≡ b → eqb k 2 ≡ c → marksAfter vs as′ (testOf k a) m ≡ m
+    go true c p q = ap (λ (t : Test). marksAfter vs as′ t m) (test-1 k a (eqb-true k 1 p))
+    go false true p q = ap (λ (t : Test). marksAfter vs as′ t m) (test-2 k a (eqb-true k 2 q))
+    go false false p q = ap (λ (t : Test). marksAfter vs as′ t m) (test-3 k a (omega (arith, eqb-false k 1 p, eqb-false k 2 q)))
 
 -- ---- the buffers
 
@@ -123,7 +123,7 @@ marks-set m l f h k g low = go (eqb g f) refl
         ap (λ (n : ℕ). eqb n 1) (ap (λ (n : ℕ). getD (set m f 1) n 0) e ∙ getD-set-same m f 1 0 h) ∙ ap (λ (b : Bool). b || elem eqb g l) (sym q)
     go false q = ap (λ (n : ℕ). eqb n 1) (getD-set-other m f g 1 0 (eqb-false g f q)) ∙ k g low ∙ ap (λ (b : Bool). b || elem eqb g l) (sym q)
 
-flat-append : (o q : List Pair) → flat (o ++ q) ≡ flat o ++ flat q
+flat-append : (o q : List Pair) → pairNumbers (o ++ q) ≡ pairNumbers o ++ pairNumbers q
 flat-append [] q = refl
 flat-append (p ∷ o) q = ap (λ (x : List ℕ). p .0 ∷ p .1 ∷ x) (flat-append o q)
 
@@ -212,7 +212,7 @@ module _ (p : List ℕ) (from end : ℕ) (vars fits met₀ out₀ : List ℕ) (s
 
     -- a step that does not leave: the marks after it
     goes-on : (met′ : List ℕ) → (kind ≡ 5 → ⊥) → length met′ ≡ length met₀
-        → ((l : List ℕ) → Marks met l → (says (isOne vars) (isOne fits) (testOf kind first) l ≡ false) × Marks met′ (marked (isOne vars) (isOne fits) (testOf kind first) l)) → Goes met′ out (i + 1) n
+        → ((l : List ℕ) → Marks met l → (says (isOne vars) (isOne fits) (testOf kind first) l ≡ false) × Marks met′ (marksAfter (isOne vars) (isOne fits) (testOf kind first) l)) → Goes met′ out (i + 1) n
     goes-on met′ k size w = record {
       above = omega (arith, goes .above);
       below = omega arith;
@@ -220,7 +220,7 @@ module _ (p : List ℕ) (from end : ℕ) (vars fits met₀ out₀ : List ℕ) (s
       met-size = size;
       out-size = goes .out-size;
       state = λ l o q b. let g = goes .state l o q b in let s = g .0 in let t = w (s .met) (g .1) in (
-        record { met = marked (isOne vars) (isOne fits) (testOf kind first) (s .met); out = s .out },
+        record { met = marksAfter (isOne vars) (isOne fits) (testOf kind first) (s .met); out = s .out },
         t .1,
         g .2,
         sym (turn vars fits p end i (i + 1) (leave (testOf kind first) second) s h (omega arith) (omega arith) (step-leave kind first second k) (inr (ap (λ (x : Bool). cond x second 0) (t .0), refl))) ∙ g .3,
@@ -234,7 +234,7 @@ module _ (p : List ℕ) (from end : ℕ) (vars fits met₀ out₀ : List ℕ) (s
         let t = sym (w l q) in let e : testOf kind first ≡ if-met first = test-4 kind first k in (
           t,
           subst (λ (x : List ℕ). Marks (set met first 1) x)
-              (sym (ap (λ (y : Test). marked (isOne vars) (isOne fits) y l) e ∙ new-mark (isOne vars) (isOne fits) first l (ap (λ (y : Test). says (isOne vars) (isOne fits) y l) (sym e) ∙ t)))
+              (sym (ap (λ (y : Test). marksAfter (isOne vars) (isOne fits) y l) e ∙ new-mark (isOne vars) (isOne fits) first l (ap (λ (y : Test). says (isOne vars) (isOne fits) y l) (sym e) ∙ t)))
               (marks-set met l first (omega (arith, formed .index not-3 not-5, goes .met-size, ready .met-long)) q),
         )
 

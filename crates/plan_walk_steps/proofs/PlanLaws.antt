@@ -9,7 +9,7 @@ use lib.ListN.{length, getD, take, drop, replicate, length-append, length-replic
 use lib.Seq.{getD-append-add}
 use lib.Dec.{eqb, ltb}
 use Rattle.paper_table.specs.Lists.{gather}
-use Rattle.paper_plan.specs.Planning.{Test, if-true, unless-true, unless-applies, if-met, Step, leave, list, Plan, State, says, marked, does, goal, walk}
+use Rattle.paper_plan.specs.Planning.{Test, if-true, unless-true, unless-applies, if-met, Step, leave, list, Plan, State, says, marksAfter, does, goal, walk}
 use Rattle.paper_plan.specs.PlanNumbers.{mostBlocks, stepNumbers, planNumbers, firstIn}
 use Rattle.plan_walk_steps.specs.Numbers.{testOf, stepOf, stepAt, stepsFrom}
 

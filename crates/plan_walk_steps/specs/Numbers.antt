@@ -7,7 +7,7 @@ use lib.ListN.{length, getD, take}
 use lib.Dec.{eqb}
 use Rattle.paper_plan.specs.Collecting.{elem, Pair}
 use Rattle.paper_plan.specs.Planning.{State, walk}
-pub use Rattle.paper_plan.specs.LentPlan.{stepAt, isOne, flat}
+pub use Rattle.paper_plan.specs.LentPlan.{stepAt, isOne, pairNumbers}
 unfoldable pub use Rattle.paper_plan.specs.LentPlan.{testOf, stepOf, stepsFrom}
 
 -- a step of a well-formed plan, in a block that ends at `end`
@@ -25,7 +25,7 @@ Marks m l = (f : ℕ) → f < 64 → isOne m f ≡ elem eqb f l
 
 -- the first n pairs of a buffer are o
 pub record Listed (b : List ℕ) (n : ℕ) (o : List Pair) : Type 0 where
-  pub said : take (2 * n) b ≡ flat o
+  pub said : take (2 * n) b ≡ pairNumbers o
   pub size : length o ≡ n
 
 -- what a walk from the state s gives: over 512 pairs, 513 is told; else the count, and the buffers hold the state after

@@ -10,9 +10,9 @@ use Rattle.paper.specs.Calls.{filled}
 use Rattle.paper_table.specs.Types.{tableOf}
 use Rattle.call_buffers.specs.Buffers.{cleared}
 use Rattle.paper_plan.specs.Collecting.{Pair}
-use Rattle.paper_plan.specs.LentPlan.{flat}
+use Rattle.paper_plan.specs.LentPlan.{pairNumbers}
 use Rattle.paper_plan.specs.WalkNumbers.{mostPairs, pairsSize, refuseWalk, refuseTooManyPairs}
-use Rattle.paper_plan.specs.WalkCalls.{CanWalk, listed, Lent, Right, Walked, refuses-walk, too-many-pairs, lists}
+use Rattle.paper_plan.specs.WalkCalls.{CanWalk, listed, WalkLent, Right, Walked, refuses-walk, too-many-pairs, lists}
 use Rattle.plan_walk_told.specs.Walking.{Few, Many, Pairs, Told}
 
 -- pairs of the fixed size have nothing beyond it
@@ -22,12 +22,12 @@ none-beyond xs pairs e = sym (ap (λ (l : List ℕ). xs ++ l) (drop-of-length-le
 pub all-cleared : (pairs pairs′ : List ℕ) → length pairs ≡ pairsSize → pairs′ ≡ cleared 0 pairs → pairs′ ≡ filled pairsSize [] pairs
 all-cleared pairs pairs′ e c = c ∙ ap (λ (n : ℕ). replicate (n - 0) 0) e ∙ none-beyond (replicate pairsSize 0) pairs e
 
-pub flat-length : (l : List Pair) → length (flat l) ≡ 2 * length l
+pub flat-length : (l : List Pair) → length (pairNumbers l) ≡ 2 * length l
 flat-length [] = refl
 flat-length (p ∷ ps) = let z = flat-length ps in omega (arith, z)
 
 -- A walk that is refused, and the pairs of one that is not.
-module _ (table plan : List ℕ) (object : ℕ) (blocks variables pairs report pairs′ report′ : List ℕ) (lent : Lent pairs report) (e : length pairs ≡ pairsSize) where
+module _ (table plan : List ℕ) (object : ℕ) (blocks variables pairs report pairs′ report′ : List ℕ) (lent : WalkLent pairs report) (e : length pairs ≡ pairsSize) where
   pub walk-refused : Right table → (CanWalk (tableOf table) plan object blocks variables → ⊥) →
       pairs′ ≡ cleared 0 pairs → report′ ≡ filled reportSize (refuseWalk ∷ 0 ∷ []) report → Walked table plan object blocks variables pairs report pairs′ report′ refuseWalk
   walk-refused r w c t = refuses-walk lent r w (all-cleared pairs pairs′ e c) t
@@ -43,8 +43,8 @@ module _ (table plan : List ℕ) (object : ℕ) (blocks variables pairs report p
       go (inr x) =
           let q = t .counted (x .few) in
           let size = flat-length (listed (tableOf table) plan object blocks variables) in
-          let rest : pairsSize - 2 * n ≡ pairsSize - length (flat (listed (tableOf table) plan object blocks variables)) = omega (arith, size, x .count) in
+          let rest : pairsSize - 2 * n ≡ pairsSize - length (pairNumbers (listed (tableOf table) plan object blocks variables)) = omega (arith, size, x .count) in
           subst (Walked table plan object blocks variables pairs report pairs′ report′) (sym (q .0))
           (lists lent right w (omega (arith, x .few, x .count))
-          (x .written ∙ ap (λ (k : ℕ). flat (listed (tableOf table) plan object blocks variables) ++ replicate k 0) rest ∙ none-beyond _ pairs e)
+          (x .written ∙ ap (λ (k : ℕ). pairNumbers (listed (tableOf table) plan object blocks variables) ++ replicate k 0) rest ∙ none-beyond _ pairs e)
           (q .1 ∙ ap (λ (k : ℕ). filled reportSize (accepted ∷ k ∷ []) report) (sym (x .count))))

@@ -10,7 +10,7 @@ use Rattle.paper.specs.Calls.{filled}
 use Rattle.paper_table.specs.Types.{tableOf}
 use Rattle.table_types.specs.Booked.{Booked}
 use Rattle.paper_plan.specs.Collecting.{Pair}
-use Rattle.paper_plan.specs.LentPlan.{flat}
+use Rattle.paper_plan.specs.LentPlan.{pairNumbers}
 use Rattle.paper_plan.specs.WalkNumbers.{mostPairs, pairsSize, refuseTooManyPairs}
 use Rattle.paper_plan.specs.WalkCalls.{CanWalk, listed}
 use Rattle.plan_walk_types.specs.Fits.{Fits}
@@ -33,7 +33,7 @@ pairs-listed t book plan o blocks variables fits pairs n b c f a = go a
     go (inr x) = inr record {
       few = x .few;
       count = sym size ∙ x .count;
-      written = x .written ∙ ap (λ (l : List Pair). flat l ++ replicate (pairsSize - 2 * n) 0) same;
+      written = x .written ∙ ap (λ (l : List Pair). pairNumbers l ++ replicate (pairsSize - 2 * n) 0) same;
     }
 
 pub told-many : (n : ℕ) (report report′ : List ℕ) → mostPairs < n → report′ ≡ filled reportSize (refuseTooManyPairs ∷ 0 ∷ []) report → Told n report report′ refuseTooManyPairs

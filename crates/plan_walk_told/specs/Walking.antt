@@ -8,7 +8,7 @@ use lib.ListN.{length, replicate}
 use Rattle.paper.specs.Numbers.{reportSize, accepted}
 use Rattle.paper.specs.Calls.{filled}
 use Rattle.paper_table.specs.Types.{Table}
-use Rattle.paper_plan.specs.LentPlan.{flat}
+use Rattle.paper_plan.specs.LentPlan.{pairNumbers}
 use Rattle.paper_plan.specs.WalkNumbers.{mostPairs, pairsSize, refuseTooManyPairs}
 use Rattle.paper_plan.specs.WalkCalls.{listed}
 
@@ -16,7 +16,7 @@ use Rattle.paper_plan.specs.WalkCalls.{listed}
 pub record Few (t : Table) (plan : List ℕ) (object : ℕ) (blocks variables pairs : List ℕ) (n : ℕ) : Type 0 where
   pub few : n ≤ mostPairs
   pub count : length (listed t plan object blocks variables) ≡ n
-  pub written : pairs ≡ flat (listed t plan object blocks variables) ++ replicate (pairsSize - 2 * n) 0
+  pub written : pairs ≡ pairNumbers (listed t plan object blocks variables) ++ replicate (pairsSize - 2 * n) 0
 
 pub record Many (t : Table) (plan : List ℕ) (object : ℕ) (blocks variables pairs : List ℕ) (n : ℕ) : Type 0 where
   pub over : mostPairs < n

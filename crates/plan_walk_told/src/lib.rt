@@ -12,7 +12,7 @@ ghost use Rattle.paper.specs.Numbers.{reportSize};
 ghost use Rattle.paper_table.specs.Types.{tableOf};
 ghost use Rattle.table_types.specs.Booked.{Booked};
 ghost use Rattle.paper_plan.specs.WalkNumbers.{pairsSize};
-ghost use Rattle.paper_plan.specs.WalkCalls.{CanWalk, Lent, Right, Walked};
+ghost use Rattle.paper_plan.specs.WalkCalls.{CanWalk, WalkLent, Right, Walked};
 ghost use Rattle.plan_walk_told.specs.Walking.{Pairs, Told};
 
 // The pairs of a walk for which all is given, and zeros behind them: how many, or one more than the most where they are too many.
@@ -57,7 +57,7 @@ pub fn walk_plan(
     pairs: &mut [u32],
     report: &mut [u32],
 ) -> u32
-    requires { ⌜ Lent (now pairs) (now report) × Right (now t) × Booked (now t) (now book) × (length (now pairs) ≡ pairsSize) ⌝ }
+    requires { ⌜ WalkLent (now pairs) (now report) × Right (now t) × Booked (now t) (now book) × (length (now pairs) ≡ pairsSize) ⌝ }
     ensures { λ r. ⌜ Walked (now (t .entry)) (now (plan .entry)) object (now (blocks .entry)) (now (variables .entry)) (now (pairs .entry)) (now (report .entry)) (now (pairs .exit)) (now (report .exit)) r ⌝ }
 {
     if can_walk(t, book, plan, object, blocks, variables) {

@@ -22,7 +22,7 @@ use Rattle.paper_plan.specs.PlanCalls.{PlanIs}
 use Rattle.paper_plan.specs.Selecting.{Name, Collects, pairsOf, BlockRows, blockIn, planFor}
 use Rattle.paper_plan.specs.LentPlan.{isOne}
 use Rattle.paper_plan.specs.WalkNumbers.{mostWalked, variablesSize}
-use Rattle.paper_plan.specs.WalkCalls.{Lent, Walked}
+use Rattle.paper_plan.specs.WalkCalls.{WalkLent, Walked}
 use Rattle.plan_theory.proofs.Document.{Among}
 use Rattle.plan_theory.proofs.Accepted.{accepted-plannable}
 use Rattle.plan_theory.proofs.Demand3.{collection-some, collection-one}
@@ -75,7 +75,7 @@ module _ (table document name plan : List ℕ) (rs : List Row) (op : ℕ) (rows 
         (omega (arith, length-append (planNumbers the) (zeros ++ drop planSize plan), length-append zeros (drop planSize plan), length-replicate {A = ℕ} (planSize - length (planNumbers the)) 0))
 
     module _ (short : length table ≤ mostTable) (object : ℕ) (variables : List ℕ) (is-object : isObject (definitionAt (tableOf table) object) ≡ true) (long : variablesSize ≤ length variables)
-        (pairs report pairs′ report′ : List ℕ) (n : ℕ) (lent : Lent pairs report) where
+        (pairs report pairs′ report′ : List ℕ) (n : ℕ) (lent : WalkLent pairs report) where
       made-collects : (holders : List ℕ) → Among rows holders → length holders ≤ mostWalked → Walked table (filled planSize (planNumbers the) plan) object (map (blockIn rows) holders) variables pairs report pairs′ report′ n →
           Collected (tableOf table) doc op object holders variables pairs report pairs′ report′ n
       made-collects holders a f c =
@@ -118,7 +118,7 @@ module _ (table document name plan plan′ : List ℕ) (m : Made table document 
     made-formed = subst (WellFormed (tableOf table)) (sym (left ∙ more-are table document name plan rs op rows o w)) (formed table document name plan rs op rows o w few-steps)
 
     module _ (object : ℕ) (variables : List ℕ) (is-object : isObject (definitionAt (tableOf table) object) ≡ true) (long : variablesSize ≤ length variables)
-        (pairs report pairs′ report′ : List ℕ) (n : ℕ) (lent : Lent pairs report) where
+        (pairs report pairs′ report′ : List ℕ) (n : ℕ) (lent : WalkLent pairs report) where
       -- by the rows of fields, or the operation's, that have blocks
       pub planned-rows : (holders : List ℕ) → Among rows holders → length holders ≤ mostWalked → Walked table plan′ object (map (blockIn rows) holders) variables pairs report pairs′ report′ n →
           Collected (tableOf table) (read document rs) op object holders variables pairs report pairs′ report′ n

@@ -8,22 +8,21 @@ use native.Mathlib.Omega.{arith}
 use lib.ListN.{length}
 use lib.Dec.{T, eqb, leb}
 use borrow.Author.Tests.{leb-true, eq-eqb, ne-eqb}
+use Rattle.paper.proofs.Bools.{and-left as and-l, eq→T as holds}
 use Rattle.paper.specs.Numbers.{mostRows, mostVariables, mostFragments, kindOperation, kindFragment, kindField, kindSpread, kindInline}
 use Rattle.paper.specs.Rows.{Row}
 use Rattle.paper_table.specs.Lists.{bytes}
-use Rattle.paper_table.specs.Types.{Table}
-use Rattle.paper_table.specs.Rules.{isComposite}
+use Rattle.paper_table.specs.Types.{Table, isComposite}
 use Rattle.paper_query.specs.Constructs.{Doc, count, rowOf, nameOf, is, isSelection, called, fragmentNamed}
 use Rattle.paper_query.specs.Enclosing.{definitionAt, conditionOf}
 use Rattle.paper_query.specs.Reaching.{isDefinition, Within, itself, deeper, Reaches, here, through}
 use Rattle.paper_plan.specs.Keys.{keyAt}
 use Rattle.paper_plan.specs.Collecting.{Cond, absent, literal, variable, field, spread, inline, View, elem}
-use Rattle.paper_plan.specs.Planning.{Test, if-true, unless-true, unless-applies, if-met, Step, leave, list, skipTests, includeTests, conditionTests, sortTests, tests, content, dropped, closed, placed, unless, selection, selections, plan, program}
+use Rattle.paper_plan.specs.Planning.{Test, if-true, unless-true, unless-applies, if-met, Step, leave, list, skipTests, includeTests, conditionTests, sortTests, tests, content, dropped, leavesPast, guarded, unlessDropped, selection, selections, plan, program}
 use Rattle.paper_plan.specs.Selecting.{setOf, fragmentNumber, fragmentRow, typeIf, ifOf, numberSort, byNumbers}
 use Rattle.plan_keys.proofs.KeyLaws.{key-most}
-use Rattle.plan_theory.proofs.Same.{and-l}
 use Rattle.plan_theory.proofs.NumbersOf.{where-placed, or-l, or-r}
-use Rattle.plan_theory.proofs.Plannable.{Plannable, holds, fragment-is, spread-of}
+use Rattle.plan_theory.proofs.Plannable.{Plannable, fragment-is, spread-of}
 use Rattle.plan_theory.proofs.Circles.{OfSet, of-set}
 use Rattle.query_conditions.specs.Sane.{Sane}
 
@@ -58,11 +57,11 @@ module _ (t : Table) where
   right-later [] ys a = a
   right-later (x ∷ xs) ys a = right-later xs ys (a .1)
 
-  closed-right : (past : ℕ) (ts : List Test) → RightTests ts → AllRight (closed past ts)
+  closed-right : (past : ℕ) (ts : List Test) → RightTests ts → AllRight (leavesPast past ts)
   closed-right past [] a = tt
   closed-right past (x ∷ ts) a = (a .0, closed-right past ts (a .1))
 
-  unless-right : (b : Bool) (s : List Step) → AllRight s → AllRight (unless b s)
+  unless-right : (b : Bool) (s : List Step) → AllRight s → AllRight (unlessDropped b s)
   unless-right true s a = tt
   unless-right false s a = a
 
@@ -149,8 +148,8 @@ module _ (t : Table) (d : Doc) (op : ℕ) (ok : Plannable d) (sane : Sane t d op
     selection-right inner right at =
         let n = at + length (tests view r) in
         let b = content view inner n r (view .sort r) in
-        unless-right t (dropped (view .skip r) (view .include r)) (placed (tests view r) at b)
-        (steps-both t (closed (n + length b) (tests view r)) b (closed-right t (n + length b) (tests view r) tests-right)
+        unless-right t (dropped (view .skip r) (view .include r)) (guarded (tests view r) at b)
+        (steps-both t (leavesPast (n + length b) (tests view r)) b (closed-right t (n + length b) (tests view r) tests-right)
         (content-right inner right n (is kindField (rowOf d r)) (is kindSpread (rowOf d r)) refl refl))
 
   selections-right : (inner : ℕ → List ℕ → List Step) → ((at : ℕ) (rs : List ℕ) → AllFound rs → AllRight t (inner at rs)) → (at : ℕ) (rs : List ℕ) → AllFound rs → AllRight t (selections view inner at rs)

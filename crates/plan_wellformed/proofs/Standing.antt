@@ -9,8 +9,7 @@ use lib.ListN.{length, getD, replicate, length-append, length-replicate}
 use lib.Seq.{getD-append-add}
 use Rattle.paper.specs.Numbers.{mostVariables, mostFragments}
 use Rattle.paper_table.specs.Lists.{gather}
-use Rattle.paper_table.specs.Types.{Table}
-use Rattle.paper_table.specs.Rules.{isComposite}
+use Rattle.paper_table.specs.Types.{Table, isComposite}
 use Rattle.paper_query.specs.Enclosing.{definitionAt}
 use Rattle.paper_plan.specs.Planning.{if-true, unless-true, unless-applies, if-met, Step, leave, list, Plan}
 use Rattle.paper_plan.specs.PlanNumbers.{mostBlocks, stepIfTrue, stepUnlessTrue, stepUnlessApplies, stepIfMet, stepList, stepNumbers, planNumbers, kindAt, oneAt, twoAt, Formed}

@@ -7,6 +7,7 @@ use native.Mathlib.Decide.{decLt}
 use native.Mathlib.Omega.{arith}
 use lib.Dec.{T, eqb}
 use borrow.Author.Tests.{eqb-true, eqb-false}
+use Rattle.paper.proofs.Bools.{T→eq as held}
 use Rattle.paper.specs.Numbers.{kindOperation, kindVariable}
 use Rattle.paper_table.specs.Types.{Table}
 use Rattle.paper_query.specs.QueryNumbers.{ruleUndefined, ruleVariableType}
@@ -21,10 +22,6 @@ use Rattle.query_alike_pair.specs.Alike.{noRule, verdictOf, Reaching, Said, Uns
 -- what is held is true
 pub holds : {b : Bool} → b ≡ true → T b
 holds e = rw e tt
-
-pub held : (b : Bool) → T b → b ≡ true
-held true h = refl
-held false h = absurd h
 
 module _ (t : Table) (d : Doc) (o i : ℕ) where
   -- a verdict by its two tests

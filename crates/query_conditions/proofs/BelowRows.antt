@@ -10,8 +10,8 @@ use Rattle.paper.specs.Grammar.{Ev, Derives, done, take, note as marks, by}
 use Rattle.paper.specs.Numbers.{kindFragment, kindArgument, kindTypeReference}
 use Rattle.paper.specs.Language.{Class, Document, hits, Mark, row, kind, named, wrapper, wrap, end, language}
 use Rattle.paper.specs.Tokens.{Tok, Text}
-use Rattle.paper.specs.Rows.{Row, Book, blank, change, top, startOf, stopOf, begun, ofKind as withKind, withName, wrapped, stopping, note, taken, rest, book, rowsOf}
-use Rattle.paper.specs.Reading.{rows-are, Said, accepts, tokensOf}
+use Rattle.paper.specs.Rows.{Row, Book, emptyBook, change, top, startOf, stopOf, begun, ofKind as withKind, withName, wrapped, stopping, atMark, taken, rest, book, rowsOf}
+use Rattle.paper.specs.Reading.{rows-are, TextAnswer, accepts, tokensOf}
 use Rattle.paper_query.specs.Constructs.{noRow}
 use Rattle.paper_theory.proofs.RowCells.{change-length}
 use Rattle.query_counts.proofs.Tallies.{at, parent-same}
@@ -116,19 +116,19 @@ unfolding book
 follow done σ ts b t h = bears-below (b .rows) σ (b .open′) t h
 follow (take x d) σ ts b t h = follow d σ (rest ts) (taken ts b) t (taken-bears σ ts b h)
 follow (by {n} {α} {ss} m d) σ ts b t h = follow d σ ts b (run-by n α ss σ m t) h
-follow (marks {a = row} {ss} d) σ ts b t h = follow d (ofRow σ) ts (note row ts b) t (rows-begin (startOf ts) ss (b .rows) σ (b .open′) t h)
-follow (marks {a = kind k x} {ss} d) σ ts b t h = follow d (ofKind k σ) ts (note (kind k x) ts b) t (rows-kind k x ss (b .rows) σ (b .open′) t h)
-follow (marks {a = named} d) σ ts b t h = follow d σ ts (note named ts b) t (rows-same (withName (startOf ts) (stopOf ts)) (λ r. refl) (λ r. refl) (top (b .open′)) (b .rows) σ (b .open′) h)
+follow (marks {a = row} {ss} d) σ ts b t h = follow d (ofRow σ) ts (atMark row ts b) t (rows-begin (startOf ts) ss (b .rows) σ (b .open′) t h)
+follow (marks {a = kind k x} {ss} d) σ ts b t h = follow d (ofKind k σ) ts (atMark (kind k x) ts b) t (rows-kind k x ss (b .rows) σ (b .open′) t h)
+follow (marks {a = named} d) σ ts b t h = follow d σ ts (atMark named ts b) t (rows-same (withName (startOf ts) (stopOf ts)) (λ r. refl) (λ r. refl) (top (b .open′)) (b .rows) σ (b .open′) h)
 follow (marks {a = wrapper} d) σ ts b t h = follow d σ ts b t h
-follow (marks {a = wrap w} d) σ ts b t h = follow d σ ts (note (wrap w) ts b) t (rows-same (wrapped w) (λ r. refl) (λ r. refl) (top (b .open′)) (b .rows) σ (b .open′) h)
+follow (marks {a = wrap w} d) σ ts b t h = follow d σ ts (atMark (wrap w) ts b) t (rows-same (wrapped w) (λ r. refl) (λ r. refl) (top (b .open′)) (b .rows) σ (b .open′) h)
 follow (marks {a = end} {ss} d) σ ts b t h =
-    follow d (ofEnd σ) ts (note end ts b) t
+    follow d (ofEnd σ) ts (atMark end ts b) t
     (rows-same (stopping (b .stop)) (λ r. refl) (λ r. refl) (top (b .open′)) (b .rows) (ofEnd σ) _ (bears-end (kindAt (b .rows)) (parentAt (b .rows)) (length (b .rows)) ss σ (b .open′) t h))
 
-blank-bears : BookBears (base ∷ []) blank
+blank-bears : BookBears (base ∷ []) emptyBook
 blank-bears = record { upper = tt; beyond = λ i l. refl; fragments = λ i e. absurd (omega arith); values = λ j v. absurd v; arguments = λ i j e v p. absurd v; references = λ j e. absurd (omega arith) }
 
 -- the rows that a document is said to have
-pub said-below : {t : Text} {rs : List Row} → Said Document t (rows-are rs) → Below rs
+pub said-below : {t : Text} {rs : List Row} → TextAnswer Document t (rows-are rs) → Below rs
 unfolding rowsOf
-said-below {t} (accepts w r c) = follow (r .0) (base ∷ []) (tokensOf t) blank tt blank-bears
+said-below {t} (accepts w r c) = follow (r .0) (base ∷ []) (tokensOf t) emptyBook tt blank-bears

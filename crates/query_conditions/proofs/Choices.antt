@@ -12,7 +12,7 @@ use borrow.Author.Tests.{ltb-true}
 use Rattle.paper.specs.Numbers.{kindOperation, kindFragment, kindArgument, kindDirective, kindVariable, kindBoolean, kindObject, extraTrue}
 use Rattle.paper.specs.Tokens.{same}
 use Rattle.paper.specs.Rows.{Row}
-use Rattle.paper.proofs.Bools.{and-l, and-r, and-i, or-cases}
+use Rattle.paper.proofs.Bools.{and-l, and-r, and-i, or-cases, eq→T as holds}
 use Rattle.paper_table.specs.Lists.{bytes, anyOf, find}
 use Rattle.paper_table.specs.Types.{Table, builtInDirectives}
 use Rattle.paper_table.proofs.ListsLaws.{find-some}
@@ -25,7 +25,7 @@ use Rattle.paper_query.specs.declared.QueryAnswer.the-variants.{Fits}
 use Rattle.paper_plan.specs.Collecting.{Cond, absent, literal, variable}
 use Rattle.paper_plan.specs.Selecting.{Name, variableNumber, directiveOn, argumentBelow, condFrom, ifOf}
 use Rattle.query_conditions.proofs.BelowRows.{Below}
-use Rattle.query_conditions.proofs.RowLists.{right, holds, any-some, first-passes, first-number}
+use Rattle.query_conditions.proofs.RowLists.{right, any-some, first-passes, first-number}
 use Rattle.query_conditions.proofs.Conditions.{not-broken}
 
 absent≢variable : {v : ℕ} → absent ≡ variable v → ⊥

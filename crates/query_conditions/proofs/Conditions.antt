@@ -7,10 +7,9 @@ use Prim.Native.Nat.{ℕ, suc}
 use lib.Dec.{T, eqb, leb, eqb→eq, eqb-refl}
 use Rattle.paper.specs.Numbers.{kindFragment, kindField, kindInline, kindVariableDefinition, kindTypeReference}
 use Rattle.paper.specs.Rows.{Row}
-use Rattle.paper.proofs.Bools.{and-i, or-cases, or-l, or-r}
+use Rattle.paper.proofs.Bools.{and-i, or-cases, or-l, or-r, eq→T as holds}
 use Rattle.paper_theory.proofs.Theory.{none≢some}
-use Rattle.paper_table.specs.Types.{Table, Meaning, builtIn, nothing, definition, meaning, meant, definitionBy}
-use Rattle.paper_table.specs.Rules.{isComposite}
+use Rattle.paper_table.specs.Types.{Table, Meaning, builtIn, noMeaning, definition, meaning, meant, definitionBy, isComposite}
 use Rattle.paper_table.proofs.ListsLaws.{find-some, find-none}
 use Rattle.paper_query.specs.Constructs.{Doc, noRow, rowOf, parentOf, nameOf, spelt, is, isSelection, below}
 use Rattle.paper_query.specs.Enclosing.{definitionAt, ifComposite, compositeOf, conditionOf}
@@ -20,7 +19,7 @@ use Rattle.paper_query.specs.declared.QueryAnswer.the-variants.{Fits}
 use Rattle.paper_plan.specs.Selecting.{orCount, typeNumber, typeOn, typeIf}
 use Rattle.query_conditions.proofs.Cells.{holder}
 use Rattle.query_conditions.proofs.BelowRows.{Below}
-use Rattle.query_conditions.proofs.RowLists.{right, holds, any-none}
+use Rattle.query_conditions.proofs.RowLists.{right, any-none}
 
 pub not-broken : (t : Table) (d : Doc) → Judged t d Fits → (i k : ℕ) → Broken t d i k → ⊥
 not-broken t d (no-break f) = f
@@ -28,7 +27,7 @@ not-broken t d (no-break f) = f
 -- the number of a name that means an object, interface or union
 output-number : (t : Table) (m : Meaning) → T (isComposite (definitionBy t m)) → isComposite (definitionAt t (orCount t (ifComposite t m))) ≡ true
 output-number t builtIn h = absurd h
-output-number t nothing h = absurd h
+output-number t noMeaning h = absurd h
 output-number t (definition k) h = go (isComposite (definitionAt t k)) refl h
   where
     go : (b : Bool) → isComposite (definitionAt t k) ≡ b → T b → isComposite (definitionAt t (orCount t (cond b (some k) none))) ≡ true

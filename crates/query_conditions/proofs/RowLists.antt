@@ -8,7 +8,7 @@ use native.Mathlib.Omega.{arith}
 use lib.Dec.{T}
 use lib.ListN.{length, getD}
 use Rattle.paper.specs.Rows.{Row}
-use Rattle.paper.proofs.Bools.{or-cases, T→eq}
+use Rattle.paper.proofs.Bools.{or-cases, T→eq, eq→T as holds, or-no-right as or-false}
 use Rattle.paper_table.specs.Lists.{anyOf, firstAt, eachFrom, onlyIf}
 use Rattle.paper_query.specs.Constructs.{noRow}
 
@@ -16,13 +16,6 @@ use Rattle.paper_query.specs.Constructs.{noRow}
 pub right : (b : Bool) → (T (not b) → ⊥) → T b
 right true f = tt
 right false f = f tt
-
-pub holds : (b : Bool) → b ≡ true → T b
-holds b e = subst T (sym e) tt
-
-or-false : (a b : Bool) → a || b ≡ false → b ≡ false
-or-false true b e = absurd (true≢false e)
-or-false false b e = e
 
 pub any-none : (p : Row → Bool) → p noRow ≡ false → (rs : List Row) → anyOf p rs ≡ false → (j : ℕ) → T (p (getD rs j noRow)) → ⊥
 unfolding anyOf

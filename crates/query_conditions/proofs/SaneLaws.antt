@@ -7,8 +7,8 @@ use Rattle.paper.specs.Numbers.{mostVariables, kindOperation}
 use Rattle.paper.specs.Language.{Document}
 use Rattle.paper.specs.Tokens.{Text}
 use Rattle.paper.specs.Rows.{Row}
-use Rattle.paper.specs.Reading.{rows-are, Said}
-use Rattle.paper.proofs.Bools.{T→eq}
+use Rattle.paper.specs.Reading.{rows-are, TextAnswer}
+use Rattle.paper.proofs.Bools.{T→eq, eq→T as holds}
 use Rattle.paper_table.specs.Lists.{bytes}
 use Rattle.paper_table.specs.Types.{Table, tableOf}
 use Rattle.paper_query.specs.Constructs.{Doc, rowOf, nameOf, is}
@@ -23,12 +23,11 @@ use Rattle.paper_plan.specs.Selecting.{Name, ifOf}
 use Rattle.query_counts.proofs.FewNumbers.{said-variable, said-fragment}
 use Rattle.query_conditions.specs.Sane.{Sane}
 use Rattle.query_conditions.proofs.BelowRows.{said-below}
-use Rattle.query_conditions.proofs.RowLists.{holds}
 use Rattle.query_conditions.proofs.Conditions.{on-right, inline-right}
 use Rattle.query_conditions.proofs.Choices.{given-variable, given-defined}
 
 -- the variable that a directive is given
-if-below : (t : Table) (document : List ℕ) {text : Text} {rs : List Row} → Said Document text (rows-are rs) → Judged t (read document rs) Fits → (op : ℕ) → is kindOperation (rowOf (read document rs) op) ≡ true
+if-below : (t : Table) (document : List ℕ) {text : Text} {rs : List Row} → TextAnswer Document text (rows-are rs) → Judged t (read document rs) Fits → (op : ℕ) → is kindOperation (rowOf (read document rs) op) ≡ true
     → (x : Name) (i v : ℕ) → Reaches (read document rs) op i → ifOf (read document rs) op x i ≡ variable v → v < mostVariables
 if-below t document {rs = rs} s j op o x i v r e =
     let d = read document rs in

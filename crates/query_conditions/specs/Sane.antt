@@ -8,8 +8,7 @@ use mathlib.Core.List.{List}
 use Prim.Native.Nat.{ℕ, _<_}
 use Rattle.paper.specs.Numbers.{mostFragments, mostVariables, kindFragment}
 use Rattle.paper_table.specs.Lists.{bytes}
-use Rattle.paper_table.specs.Types.{Table}
-use Rattle.paper_table.specs.Rules.{isComposite}
+use Rattle.paper_table.specs.Types.{Table, isComposite}
 use Rattle.paper_query.specs.Constructs.{Doc, rowOf, is, isSelection, hasFragment}
 use Rattle.paper_query.specs.Enclosing.{definitionAt, conditionOf}
 use Rattle.paper_query.specs.Reaching.{Reaches}

@@ -8,7 +8,7 @@ use Rattle.paper.specs.Numbers.{mostFragments, mostVariables, kindFragment, kin
 use Rattle.paper.specs.Language.{Document}
 use Rattle.paper.specs.Tokens.{Text}
 use Rattle.paper.specs.Rows.{Row}
-use Rattle.paper.specs.Reading.{rows-are, Said}
+use Rattle.paper.specs.Reading.{rows-are, TextAnswer}
 use Rattle.paper_table.specs.Lists.{anyOf, firstAt, gather, onlyIf}
 use Rattle.paper_query.specs.Constructs.{Doc, is, below, called, hasFragment}
 use Rattle.paper_query.specs.Rule10Undefined.{defines}
@@ -56,10 +56,10 @@ module _ (d : Doc) (few : FewDefinitions d) where
       omega arith
 
 -- of the rows that a document is said to have
-pub said-variable : {t : Text} {rs : List Row} → Said Document t (rows-are rs) → (document : List ℕ) (op : ℕ) (x : Name) → defines (read document rs) op x ≡ true → variableNumber (read document rs) op x < mostVariables
+pub said-variable : {t : Text} {rs : List Row} → TextAnswer Document t (rows-are rs) → (document : List ℕ) (op : ℕ) (x : Name) → defines (read document rs) op x ≡ true → variableNumber (read document rs) op x < mostVariables
 said-variable {rs = rs} s document = variable-below (read document rs) (said-few s document)
 
-pub said-fragment : {t : Text} {rs : List Row} → Said Document t (rows-are rs) → (document : List ℕ) (f : Name) → hasFragment (read document rs) f ≡ true → fragmentNumber (read document rs) f < mostFragments
+pub said-fragment : {t : Text} {rs : List Row} → TextAnswer Document t (rows-are rs) → (document : List ℕ) (f : Name) → hasFragment (read document rs) f ≡ true → fragmentNumber (read document rs) f < mostFragments
 said-fragment {rs = rs} s document = fragment-below (read document rs) (said-few s document)
 
 -- of those that the reader leaves

@@ -10,9 +10,9 @@ use Rattle.paper.specs.Grammar.{tok, mark}
 use Rattle.paper.specs.Numbers.{mostFragments, mostVariables, kindFragment, kindVariableDefinition}
 use Rattle.paper.specs.Language.{Document, row, kind, named, wrapper, wrap, end}
 use Rattle.paper.specs.Tokens.{Tok, Text}
-use Rattle.paper.specs.Rows.{Row, Book, blank, change, top, startOf, stopOf, withName, wrapped, stopping, note, taken, rest, book, rowsOf}
-use Rattle.paper.specs.Sizes.{Sums, nothing, counted}
-use Rattle.paper.specs.Reading.{rows-are, Said, accepts, tokensOf}
+use Rattle.paper.specs.Rows.{Row, Book, emptyBook, change, top, startOf, stopOf, withName, wrapped, stopping, atMark, taken, rest, book, rowsOf}
+use Rattle.paper.specs.Sizes.{Sums, nothingCounted, counted}
+use Rattle.paper.specs.Reading.{rows-are, TextAnswer, accepts, tokensOf}
 use Rattle.paper_query.specs.Constructs.{Doc, is, below, numbersWhere}
 use Rattle.paper_query.specs.DocumentCalls.{read}
 use Rattle.query_rows.specs.Rowed.{docOf}
@@ -39,28 +39,28 @@ book-few : (es : Evs) (ts : List Tok) (b : Book) (f : Bool) (d : ℕ) (s : Sums)
 unfolding book Deep AllFew
 book-few [] ts b f d s p a w h = record { fragments = omega (arith, h .fragments, w .0); variables = h .few }
 book-few (tok c ∷ es) ts b f d s p a w h = book-few es (rest ts) (taken ts b) false d (counted (tok c) s) p (a .1) (a .0) (taken-stands f d s ts b h)
-book-few (mark row ∷ es) ts b f d s p a w h = book-few es ts (note row ts b) true (suc d) (counted (mark row) s) p (a .1) (a .0) (stands-row f d (startOf ts) (s .counts) (b .rows) (b .open′) h)
+book-few (mark row ∷ es) ts b f d s p a w h = book-few es ts (atMark row ts b) true (suc d) (counted (mark row) s) p (a .1) (a .0) (stands-row f d (startOf ts) (s .counts) (b .rows) (b .open′) h)
 book-few (mark (kind k x) ∷ es) ts b f d s p a w h =
-    book-few es ts (note (kind k x) ts b) false d (counted (mark (kind k x)) s) (p .1) (a .1) (a .0) (stands-kind k x f (token es) d (s .counts) (b .rows) (p .0) (a .0) (b .open′) h)
+    book-few es ts (atMark (kind k x) ts b) false d (counted (mark (kind k x)) s) (p .1) (a .1) (a .0) (stands-kind k x f (token es) d (s .counts) (b .rows) (p .0) (a .0) (b .open′) h)
 book-few (mark named ∷ es) ts b f d s p a w h =
-    book-few es ts (note named ts b) false d s p (a .1) w (stands-same f d (s .counts) (b .rows) (b .open′) (withName (startOf ts) (stopOf ts)) (λ r. refl) (λ r. refl) (top (b .open′)) h)
+    book-few es ts (atMark named ts b) false d s p (a .1) w (stands-same f d (s .counts) (b .rows) (b .open′) (withName (startOf ts) (stopOf ts)) (λ r. refl) (λ r. refl) (top (b .open′)) h)
 book-few (mark wrapper ∷ es) ts b f d s p a w h = book-few es ts b false d (counted (mark wrapper) s) p (a .1) (a .0) (stands-plain f d (s .counts .wrappers + 1) (s .counts) (b .rows) (b .open′) h)
 book-few (mark (wrap z) ∷ es) ts b f d s p a w h =
-    book-few es ts (note (wrap z) ts b) false d s p (a .1) w (stands-same f d (s .counts) (b .rows) (b .open′) (wrapped z) (λ r. refl) (λ r. refl) (top (b .open′)) h)
+    book-few es ts (atMark (wrap z) ts b) false d s p (a .1) w (stands-same f d (s .counts) (b .rows) (b .open′) (wrapped z) (λ r. refl) (λ r. refl) (top (b .open′)) h)
 book-few (mark end ∷ es) ts b f zero s p a w h = absurd p
 book-few (mark end ∷ es) ts b f (suc d) s p a w h =
-    book-few es ts (note end ts b) false d s p (a .1) w
+    book-few es ts (atMark end ts b) false d s p (a .1) w
     (stands-pop d (s .counts) (change (stopping (b .stop)) (top (b .open′)) (b .rows)) (b .open′) (stands-same f (suc d) (s .counts) (b .rows) (b .open′) (stopping (b .stop)) (λ r. refl) (λ r. refl) (top (b .open′)) h))
 
-blank-stands : Stands false 0 (nothing .counts) [] []
+blank-stands : Stands false 0 (nothingCounted .counts) [] []
 unfolding tally
 blank-stands = record { level = refl; chain = tt; fragments = omega arith; few = λ p. omega arith; now = tt; later = λ p l. refl; fresh = λ t. absurd t }
 
-said-in : {t : Text} {rs : List Row} → Said Document t (rows-are rs) → FewIn rs
+said-in : {t : Text} {rs : List Row} → TextAnswer Document t (rows-are rs) → FewIn rs
 unfolding rowsOf
 said-in {t} (accepts {es = es} w r c) =
     let p = document-deep (r .0) in
-    book-few es (tokensOf t) blank false 0 nothing p (no-fault-few Document t es r c p) (omega arith, omega arith) blank-stands
+    book-few es (tokensOf t) emptyBook false 0 nothingCounted p (no-fault-few Document t es r c p) (omega arith, omega arith) blank-stands
 
 few-definitions : (d : Doc) → FewIn (d .rows) → FewDefinitions d
 few-definitions d h = record {
@@ -69,7 +69,7 @@ few-definitions d h = record {
 }
 
 -- the rows that a document is said to have
-pub said-few : {t : Text} {rs : List Row} → Said Document t (rows-are rs) → (document : List ℕ) → FewDefinitions (read document rs)
+pub said-few : {t : Text} {rs : List Row} → TextAnswer Document t (rows-are rs) → (document : List ℕ) → FewDefinitions (read document rs)
 said-few {rs = rs} s document = few-definitions (read document rs) (said-in s)
 
 -- those that the reader leaves
@@ -77,10 +77,10 @@ pub taken-few : (s rows : List ℕ) (n : ℕ) → Taken Document s rows n → Fe
 taken-few s rows n t = rw (t .are) (said-few (t .said) s)
 
 -- in full: each operation has at most 64 variable definitions, and the document at most 64 fragment definitions
-pub few-variables : {t : Text} {rs : List Row} → Said Document t (rows-are rs) → (document : List ℕ) (op : ℕ) → length (numbersWhere (λ r. is kindVariableDefinition r && below op r) (read document rs)) ≤ mostVariables
+pub few-variables : {t : Text} {rs : List Row} → TextAnswer Document t (rows-are rs) → (document : List ℕ) (op : ℕ) → length (numbersWhere (λ r. is kindVariableDefinition r && below op r) (read document rs)) ≤ mostVariables
 few-variables s document = said-few s document .variables
 
-pub few-fragments : {t : Text} {rs : List Row} → Said Document t (rows-are rs) → (document : List ℕ) → length (numbersWhere (is kindFragment) (read document rs)) ≤ mostFragments
+pub few-fragments : {t : Text} {rs : List Row} → TextAnswer Document t (rows-are rs) → (document : List ℕ) → length (numbersWhere (is kindFragment) (read document rs)) ≤ mostFragments
 few-fragments s document = said-few s document .fragments
 
 pub taken-variables : (s rows : List ℕ) (n : ℕ) → Taken Document s rows n → (op : ℕ) → length (numbersWhere (λ r. is kindVariableDefinition r && below op r) (docOf s rows n)) ≤ mostVariables

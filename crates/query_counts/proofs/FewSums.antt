@@ -12,7 +12,7 @@ use Rattle.paper.specs.Grammar.{tok, mark, toks}
 use Rattle.paper.specs.Numbers.{mostFragments, mostVariables, mostWrappers, kindOperation, kindFragment, kindVariableDefinition}
 use Rattle.paper.specs.Language.{Class, Mark, Part, row, kind, named, wrapper, wrap, end}
 use Rattle.paper.specs.Tokens.{Text}
-use Rattle.paper.specs.Sizes.{Counts, Sums, nothing, kinded, counted, sums, through, overCounts}
+use Rattle.paper.specs.Sizes.{Counts, Sums, nothingCounted, kinded, counted, sums, through, overCounts}
 use Rattle.paper.specs.Reading.{classesOf, Reads, Fault, too-many}
 use Rattle.paper.specs.declared.Refusal.{Refusal}
 use Rattle.paper.proofs.Bools.{or-l, or-r}
@@ -82,10 +82,10 @@ all-few (mark end ∷ es) f zero s p h w = absurd p
 all-few (mark end ∷ es) f (suc d) s p h w = (w, all-few es false d (counted (mark end) s) p (within-mark end es s h) w)
 
 -- so in a text that has no fault
-pub no-fault-few : (n : Part) (t : Text) (es : Evs) → Reads n (classesOf t) es → ((r : Refusal) → Fault n t r → ⊥) → Deep es false 0 → AllFew es nothing
-no-fault-few n t es r c p = all-few es false 0 nothing p within (omega arith, omega arith)
+pub no-fault-few : (n : Part) (t : Text) (es : Evs) → Reads n (classesOf t) es → ((r : Refusal) → Fault n t r → ⊥) → Deep es false 0 → AllFew es nothingCounted
+no-fault-few n t es r c p = all-few es false 0 nothingCounted p within (omega arith, omega arith)
   where
-    within : Within es nothing
+    within : Within es nothingCounted
     within k l u = c _ (too-many k (record {
       inside = subst (λ (z : List Class). k < length z) (r .1) l;
       later = drop (suc k) (classesOf t);

@@ -8,17 +8,16 @@ use native.Mathlib.Decide.{decLt}
 use native.Mathlib.Omega.{arith}
 use lib.ListN.{length, List·getD-eq-default}
 use borrow.Author.Tests.{eq-eqb}
+use Rattle.paper.proofs.Bools.{and-left, and-right}
 use Rattle.paper_table.specs.TableNumbers.{tagInputObject, tagArgument}
 use Rattle.paper_table.specs.Lists.{allOf, find}
-use Rattle.paper_table.specs.Types.{Member, tableOf, isUnion, blank, tagNothing, nameOnly}
-use Rattle.paper_table.specs.Rules.{memberNamed}
+use Rattle.paper_table.specs.Types.{Member, tableOf, isUnion, blankDefinition, tagNothing, nameOnly, memberNamed}
 use Rattle.paper_table.proofs.Every.{Every, no-more, one-more, every-at}
 use Rattle.paper_table.proofs.FramedLaws.{RightMember, RightDefinition, a-scalar, an-object, an-interface, a-union, an-enum, an-input-object, a-directive, the-roots}
 use Rattle.paper_table.proofs.FramedTable.{framing-right}
-use Rattle.paper_query.specs.Enclosing.{FieldIs, typename, member, unknown, definitionAt, isTypename, fieldOf, orMissing, fieldIn}
+use Rattle.paper_query.specs.Enclosing.{FieldIs, typename, member, unknown, definitionAt, isTypename, fieldOf, orMissing, fieldNamed}
 use Rattle.table_types.specs.Sizes.{slimMember, slimDefinition}
 use Rattle.table_types.proofs.Fitting.{references-slim, all-at}
-use Rattle.query_links.proofs.Walks.{and-left, and-right}
 use Rattle.query_place_types.specs.Shapes.{slim, slimArgument, slimInput}
 use Rattle.query_due_types.specs.Dues.{Fitted}
 use Rattle.query_place_types.proofs.FoundLaws.{find-passes}
@@ -34,8 +33,8 @@ module _ (t : List ℕ) (f : Fitted t) where
   slim-at k = go (decLt k (length (tableOf t)))
     where
       go : Dec (k < length (tableOf t)) → slimDefinition (definitionAt (tableOf t) k) ≡ true
-      go (yes h) = all-at slimDefinition (blank tagNothing) (tableOf t) (references-slim t (f .framed) (f .counted)) k h
-      go (no h) = ap slimDefinition (List·getD-eq-default (tableOf t) (blank tagNothing) (omega arith))
+      go (yes h) = all-at slimDefinition (blankDefinition tagNothing) (tableOf t) (references-slim t (f .framed) (f .counted)) k h
+      go (no h) = ap slimDefinition (List·getD-eq-default (tableOf t) (blankDefinition tagNothing) (omega arith))
 
   found-slim : (k : ℕ) (n : List ℕ) (m : Member) → fieldOf (tableOf t) k n ≡ some m → slimMember m ≡ true
   unfolding fieldOf
@@ -46,7 +45,7 @@ module _ (t : List ℕ) (f : Fitted t) where
       go false q = find-passes (memberNamed n) slimMember (nameOnly tagNothing []) (definitionAt (tableOf t) k .members) m (slim-at k) q
 
   -- the arguments of a field that is known
-  pub arguments-slim : (above : Option ℕ) (n : List ℕ) (m : Member) → fieldIn (tableOf t) above n ≡ member m → allOf slimArgument (m .arguments) ≡ true
+  pub arguments-slim : (above : Option ℕ) (n : List ℕ) (m : Member) → fieldNamed (tableOf t) above n ≡ member m → allOf slimArgument (m .arguments) ≡ true
   arguments-slim none n m e = let z : _≡_ {A = FieldIs} unknown (member m) = e in absurd (true≢false cc)
   arguments-slim (some k) n m e = go (isTypename n) e
     where
@@ -63,7 +62,7 @@ module _ (t : List ℕ) (f : Fitted t) where
       (inputs xs rs (and-right (slimMember x) (allOf slimMember xs) e))
 
   pub inputs-slim : (k : ℕ) → k < length (tableOf t) → definitionAt (tableOf t) k .tag ≡ tagInputObject → allOf slimInput (definitionAt (tableOf t) k .members) ≡ true
-  inputs-slim k h e = go (every-at RightDefinition (framing-right t (f .framed)) (blank tagNothing) k h)
+  inputs-slim k h e = go (every-at RightDefinition (framing-right t (f .framed)) (blankDefinition tagNothing) k h)
     where
       other : {A : Type 0} (a : ℕ) → definitionAt (tableOf t) k .tag ≡ a → (a ≡ tagInputObject → ⊥) → A
       other a q z = absurd (z (sym q ∙ e))

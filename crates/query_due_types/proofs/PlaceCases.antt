@@ -11,10 +11,9 @@ use borrow.Author.Tests.{eq-eqb, ne-eqb, eqb-true, eqb-false, le-leb, lt-leb, le
 use Rattle.paper.specs.Numbers.{kindField, kindArgument, kindDirective, kindObjectField, kindList, kindVariable, kindObject}
 use Rattle.paper_table.specs.TableNumbers.{tagInputObject, tagField, tagScalar}
 use Rattle.paper_table.specs.Lists.{bytes, anyOf, allOf, find}
-use Rattle.paper_table.specs.Types.{Member, Definition, Table, tableOf, builtIns, meaning, meant}
-use Rattle.paper_table.specs.Rules.{memberNamed, argumentNamed}
+use Rattle.paper_table.specs.Types.{Member, Definition, Table, tableOf, builtIns, meaning, meant, memberNamed, argumentNamed}
 use Rattle.paper_query.specs.Constructs.{Doc, kindOf, parentOf, nameOf}
-use Rattle.paper_query.specs.Enclosing.{FieldIs, typename, member, missing, unknown, then, definitionAt, fieldAt, enclosing, argumentOf}
+use Rattle.paper_query.specs.Enclosing.{FieldIs, typename, member, missing, unknown, then, definitionAt, fieldAt, enclosing, argumentCalled}
 use Rattle.paper_query.specs.PlaceTypes.{Shape, shape, itemOf, inputFieldOf, argumentPlace, placeFrom}
 use Rattle.table_book.specs.Book.{part, countIn}
 use Rattle.table_members.specs.Members.{membersIn, argumentsIn, memberFrom, fieldFrom}
@@ -47,7 +46,7 @@ module _ (t : Table) (d : Doc) (i : ℕ) where
   pub argument-of-other : (kindOf d (parentOf d i) ≡ kindDirective → ⊥) → (kindOf d (parentOf d i) ≡ kindField → ⊥) → argumentPlace t d i ≡ none
   argument-of-other e f = rw (ne-eqb (kindOf d (parentOf d i)) kindDirective e, ne-eqb (kindOf d (parentOf d i)) kindField f)
 
-  pub argument-of-field : kindOf d (parentOf d i) ≡ kindField → argumentPlace t d i ≡ argumentShape (argumentOf (fieldAt t d (parentOf d i)) (nameOf d i))
+  pub argument-of-field : kindOf d (parentOf d i) ≡ kindField → argumentPlace t d i ≡ argumentShape (argumentCalled (fieldAt t d (parentOf d i)) (nameOf d i))
   argument-of-field e =
       rw (ne-eqb (kindOf d (parentOf d i)) kindDirective (λ z. omega arith), eq-eqb (kindOf d (parentOf d i)) kindField e)
 
@@ -84,12 +83,12 @@ module _ (t : Table) (d : Doc) (i : ℕ) where
               rw (ne-eqb (kindOf d i) kindArgument a, ne-eqb (kindOf d i) kindObjectField b, le-leb kindVariable (kindOf d i) h, le-leb (kindOf d i) kindObject l, ne-eqb (kindOf d (parentOf d i)) kindList e)
 
 -- a field as it is kept: no member
-none-of-leaf : (t : List ℕ) (at to : ℕ) (n : List ℕ) → at ≤ fieldTypename → argumentOf (fieldCoded t at to) n ≡ none
+none-of-leaf : (t : List ℕ) (at to : ℕ) (n : List ℕ) → at ≤ fieldTypename → argumentCalled (fieldCoded t at to) n ≡ none
 unfolding fieldCoded
 none-of-leaf t at to n h = go (eqb at fieldUnknown) refl (eqb at fieldMissing) refl (eqb at fieldTypename) refl
   where
     go : (a : Bool) → eqb at fieldUnknown ≡ a → (b : Bool) → eqb at fieldMissing ≡ b → (c : Bool) → eqb at fieldTypename ≡ c
-        → argumentOf (cond a unknown (cond b missing (cond c typename (member (memberFrom t tagField at to))))) n ≡ none
+        → argumentCalled (cond a unknown (cond b missing (cond c typename (member (memberFrom t tagField at to))))) n ≡ none
     go true p b q c r = refl
     go false p true q c r = refl
     go false p false q true r = refl
@@ -99,7 +98,7 @@ module _ (t : List ℕ) (d : Doc) (i at to : ℕ) (e : kindOf d (parentOf d i) �
   -- an argument of what is no member
   pub argument-of-leaf : at ≤ fieldTypename → (r : Place) → r .at ≡ placeUnknown → Keeps t (argumentPlace (tableOf t) d i) r
   argument-of-leaf h r z =
-      let q : argumentPlace (tableOf t) d i ≡ none = argument-of-field (tableOf t) d i e ∙ ap (λ (f : FieldIs). argumentShape (argumentOf f (nameOf d i))) (k .is) ∙ ap argumentShape (none-of-leaf t at to (nameOf d i) h) in
+      let q : argumentPlace (tableOf t) d i ≡ none = argument-of-field (tableOf t) d i e ∙ ap (λ (f : FieldIs). argumentShape (argumentCalled f (nameOf d i))) (k .is) ∙ ap argumentShape (none-of-leaf t at to (nameOf d i) h) in
       rw q (keeps-unknown t r z)
 
   -- an argument of a member
@@ -112,7 +111,7 @@ module _ (t : List ℕ) (d : Doc) (i at to : ℕ) (e : kindOf d (parentOf d i) �
 
     pub argument-of-member : (r : Place) → Keeps t (argumentShape (find (argumentNamed (nameOf d i)) (argumentsIn t at to))) r → Keeps t (argumentPlace (tableOf t) d i) r
     argument-of-member r y =
-        rw (argument-of-field (tableOf t) d i e ∙ ap (λ (f : FieldIs). argumentShape (argumentOf f (nameOf d i))) member-is) y
+        rw (argument-of-field (tableOf t) d i e ∙ ap (λ (f : FieldIs). argumentShape (argumentCalled f (nameOf d i))) member-is) y
 
 -- an object's field, by the definition that the base means
 module _ (t : Table) (n base : List ℕ) (w : ℕ) where

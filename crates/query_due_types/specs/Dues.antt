@@ -6,8 +6,8 @@ use mathlib.Core.List.{List}
 use Prim.Native.Nat.{ℕ}
 use lib.ListN.{length, getD}
 use Rattle.paper.specs.Numbers.{kindField}
-use Rattle.paper_table.specs.House.{framing}
-use Rattle.paper_table.specs.TableSizes.{counts}
+use Rattle.paper_table.specs.House.{framingOffset}
+use Rattle.paper_table.specs.TableSizes.{countsOffset}
 use Rattle.paper_table.specs.Types.{tableOf}
 use Rattle.paper_query.specs.Enclosing.{fieldAt}
 use Rattle.query_rows.specs.Rowed.{docOf, rowIn, roomOf}
@@ -15,8 +15,8 @@ use Rattle.query_fields.specs.Kept.{FieldKept}
 
 -- what is asked of a table: framing and sizes are right
 pub record Fitted (t : List ℕ) : Type 0 where
-  pub framed : framing t ≡ none
-  pub counted : counts t ≡ none
+  pub framed : framingOffset t ≡ none
+  pub counted : countsOffset t ≡ none
 
 -- what is kept of each field of a document
 pub record FieldsKept (t s rows : List ℕ) (n : ℕ) (at to : List ℕ) : Type 0 where

@@ -10,11 +10,11 @@ use lib.Dec.{eqb, leb}
 use borrow.Author.Tests.{eq-eqb, ne-eqb, eqb-true, eqb-false, leb-true}
 use Rattle.paper_table.specs.TableNumbers.{tagObject, tagInterface, tagUnion, tagField}
 use Rattle.paper_table.specs.Lists.{allOf, find}
-use Rattle.paper_table.specs.Types.{Member, Definition, tableOf, isObject, isInterface, blank, tagNothing, nameOnly, typeIn as typeOf}
-use Rattle.paper_table.specs.Rules.{memberNamed, isField}
+use Rattle.paper_table.specs.Types.{Member, Definition, tableOf, isObject, isInterface, blankDefinition, tagNothing, nameOnly, typeIn as typeOf, memberNamed}
+use Rattle.paper_table.specs.Rule7NoType.{isField}
 use Rattle.paper_table.proofs.ListsLaws.{find-some}
 use Rattle.paper_query.proofs.EnclosingLaws.{Composite}
-use Rattle.paper_query.specs.Enclosing.{FieldIs, typename, member, missing, unknown, definitionAt, compositeOf, fieldOf, isTypename, orMissing, fieldIn, typeIn}
+use Rattle.paper_query.specs.Enclosing.{FieldIs, typename, member, missing, unknown, definitionAt, compositeOf, fieldOf, isTypename, orMissing, fieldNamed, selectionsType}
 use Rattle.table_fields.specs.Fields.{Bounds}
 use Rattle.table_book.specs.Book.{part, room, countIn}
 use Rattle.table_members.specs.Members.{fieldsIn, membersIn, memberFrom, Typed, Finds}
@@ -117,7 +117,7 @@ module _ (t book : List ℕ) (b : Booked t book) (k : ℕ) (o : Composite (table
       module _ (f : Fielded (tableOf t)) (tag from to : ℕ) (s : Finds start end from to (find (memberNamed n) (membersIn t start end)) (memberFrom t tag from to)) where
         is-field : tag ≡ tagField
         is-field =
-            let a : fieldsOnly (definitionAt (tableOf t) k) ≡ true = all-at fieldsOnly (blank tagNothing) (tableOf t) f k (omega (arith, number-below, b .count)) in
+            let a : fieldsOnly (definitionAt (tableOf t) k) ≡ true = all-at fieldsOnly (blankDefinition tagNothing) (tableOf t) f k (omega (arith, number-below, b .count)) in
             let m : allOf isField (membersIn t start end) ≡ true = sym (ap (allOf isField) members-are) ∙ (rw has-fields at a) in
             let z = find-some (memberNamed n) (membersIn t start end) (memberFrom t tag from to) (nameOnly tagNothing []) (s .is) in
             let y : isField (memberFrom t tag from to) ≡ true = subst (λ (e : Member). isField e ≡ true) (z .2) (all-at isField (nameOnly tagNothing []) (membersIn t start end) m (z .0) (z .1)) in
@@ -134,28 +134,28 @@ module _ (t book : List ℕ) (b : Booked t book) (k : ℕ) (o : Composite (table
 
 -- what a field is in the type above
 module _ (t : List ℕ) (above : ℕ) (n : List ℕ) where
-  pub in-none : above ≡ 0 → FieldKept t (fieldIn (tableOf t) (typeCoded above) n) fieldUnknown 0
+  pub in-none : above ≡ 0 → FieldKept t (fieldNamed (tableOf t) (typeCoded above) n) fieldUnknown 0
   in-none e = rw e (kept-unknown t 0)
 
-  pub in-typename : (above ≡ 0 → ⊥) → isTypename n ≡ true → FieldKept t (fieldIn (tableOf t) (typeCoded above) n) fieldTypename 0
+  pub in-typename : (above ≡ 0 → ⊥) → isTypename n ≡ true → FieldKept t (fieldNamed (tableOf t) (typeCoded above) n) fieldTypename 0
   in-typename h e = rw (type-some above h, e) (kept-typename t 0)
 
-  pub in-type : {at to : ℕ} → (above ≡ 0 → ⊥) → isTypename n ≡ false → FieldKept t (orMissing (fieldOf (tableOf t) (above - 1) n)) at to → FieldKept t (fieldIn (tableOf t) (typeCoded above) n) at to
+  pub in-type : {at to : ℕ} → (above ≡ 0 → ⊥) → isTypename n ≡ false → FieldKept t (orMissing (fieldOf (tableOf t) (above - 1) n)) at to → FieldKept t (fieldNamed (tableOf t) (typeCoded above) n) at to
   in-type h e f = rw (type-some above h, e) f
 
 -- the type of a field's selections
 module _ (t : List ℕ) (at to : ℕ) where
-  pub leaf-type : at ≤ fieldTypename → none ≡ typeIn (tableOf t) (fieldCoded t at to)
+  pub leaf-type : at ≤ fieldTypename → none ≡ selectionsType (tableOf t) (fieldCoded t at to)
   unfolding fieldCoded
   leaf-type h = go (eqb at fieldUnknown) refl (eqb at fieldMissing) refl (eqb at fieldTypename) refl
     where
       go : (a : Bool) → eqb at fieldUnknown ≡ a → (b : Bool) → eqb at fieldMissing ≡ b → (c : Bool) → eqb at fieldTypename ≡ c
-          → none ≡ typeIn (tableOf t) (cond a unknown (cond b missing (cond c typename (member (memberFrom t tagField at to)))))
+          → none ≡ selectionsType (tableOf t) (cond a unknown (cond b missing (cond c typename (member (memberFrom t tagField at to)))))
       go true p b q c r = refl
       go false p true q c r = refl
       go false p false q true r = refl
       go false p false q false r = absurd (omega (arith, eqb-false at fieldUnknown p, eqb-false at fieldMissing q, eqb-false at fieldTypename r))
 
-  pub member-type : {r : Option ℕ} → fieldTypename < at → (a s w : ℕ) → Typed t a s w (typeOf (fieldsIn t at to)) → r ≡ compositeOf (tableOf t) (part t a s) → r ≡ typeIn (tableOf t) (fieldCoded t at to)
+  pub member-type : {r : Option ℕ} → fieldTypename < at → (a s w : ℕ) → Typed t a s w (typeOf (fieldsIn t at to)) → r ≡ compositeOf (tableOf t) (part t a s) → r ≡ selectionsType (tableOf t) (fieldCoded t at to)
   member-type h a s w y e =
-      e ∙ ap (compositeOf (tableOf t)) (y .base) ∙ ap (typeIn (tableOf t)) (ap member (sym (field-is t tagField at to refl)) ∙ coded-member t to at h)
+      e ∙ ap (compositeOf (tableOf t)) (y .base) ∙ ap (selectionsType (tableOf t)) (ap member (sym (field-is t tagField at to refl)) ∙ coded-member t to at h)

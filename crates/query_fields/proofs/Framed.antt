@@ -7,9 +7,9 @@ use Prim.Native.Nat.{ℕ}
 use borrow.Author.Tests.{eq-eqb}
 use Rattle.paper_table.specs.TableNumbers.{tagField}
 use Rattle.paper_table.specs.Lists.{allOf}
-use Rattle.paper_table.specs.House.{framing}
+use Rattle.paper_table.specs.House.{framingOffset}
 use Rattle.paper_table.specs.Types.{Definition, tableOf}
-use Rattle.paper_table.specs.Rules.{isField}
+use Rattle.paper_table.specs.Rule7NoType.{isField}
 use Rattle.paper_table.proofs.Every.{Every, no-more, one-more}
 use Rattle.paper_table.proofs.FramedLaws.{RightDefinition, a-scalar, an-object, an-interface, a-union, an-enum, an-input-object, a-directive, the-roots}
 use Rattle.paper_table.proofs.FramedTable.{framing-right}
@@ -30,5 +30,5 @@ fields-alone d (an-input-object e a b c) = rw e
 fields-alone d (a-directive e a b c) = rw e
 fields-alone d (the-roots e a b c) = rw e
 
-pub fielded : (t : List ℕ) → framing t ≡ none → Fielded (tableOf t)
+pub fielded : (t : List ℕ) → framingOffset t ≡ none → Fielded (tableOf t)
 fielded t e = all-pass fieldsOnly fields-alone (framing-right t e)

@@ -8,7 +8,7 @@ use lib.Dec.{eqb}
 use Rattle.paper_table.specs.TableNumbers.{tagField}
 use Rattle.paper_table.specs.Lists.{allOf}
 use Rattle.paper_table.specs.Types.{Definition, Table, isObject, isInterface}
-use Rattle.paper_table.specs.Rules.{isField}
+use Rattle.paper_table.specs.Rule7NoType.{isField}
 use Rattle.paper_query.specs.Enclosing.{FieldIs, typename, member, missing, unknown}
 use Rattle.table_fields.specs.Fields.{Bounds}
 use Rattle.table_members.specs.Members.{memberFrom}

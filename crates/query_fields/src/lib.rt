@@ -9,7 +9,7 @@ ghost use mathlib.Core.Path.{_≡_};
 ghost use Prim.Native.Nat.{_+_, _≤_, _<_};
 ghost use lib.ListN.{length};
 ghost use Rattle.paper_table.specs.Types.{tableOf};
-ghost use Rattle.paper_query.specs.Enclosing.{fieldOf, isTypename, orMissing, fieldIn, typeIn};
+ghost use Rattle.paper_query.specs.Enclosing.{fieldOf, isTypename, orMissing, fieldNamed, selectionsType};
 ghost use Rattle.paper_query.proofs.EnclosingLaws.{Composite};
 ghost use Rattle.table_fields.specs.Fields.{Bounds};
 ghost use Rattle.table_book.specs.Book.{part};
@@ -71,7 +71,7 @@ fn find_field(t: &[u8], book: &[u32], k: usize, s: &[u8], at: usize, n: usize) -
 // What the field of a name is in the type `above`.
 pub fn field_in(t: &[u8], book: &[u32], above: u32, s: &[u8], at: usize, n: usize) -> FieldPlace
     requires { ⌜ Booked (now t) (now book) × Fielded (tableOf (now t)) × TypeKnown (tableOf (now t)) above × (at + n ≤ length (now s)) ⌝ }
-    ensures { λ r. ⌜ FieldKept (now (t .entry)) (fieldIn (tableOf (now (t .entry))) (typeCoded above) (part (now (s .entry)) at n)) (r .at) (r .to) ⌝ }
+    ensures { λ r. ⌜ FieldKept (now (t .entry)) (fieldNamed (tableOf (now (t .entry))) (typeCoded above) (part (now (s .entry)) at n)) (r .at) (r .to) ⌝ }
 {
     if above == NO_TYPE {
         return FieldPlace {
@@ -91,7 +91,7 @@ pub fn field_in(t: &[u8], book: &[u32], above: u32, s: &[u8], at: usize, n: usiz
 // The type that the selections of a field are of.
 pub fn field_type(t: &[u8], book: &[u32], at: u32, to: u32) -> u32
     requires { ⌜ Booked (now t) (now book) × (fieldTypename < at → Bounds (now t) at to) ⌝ }
-    ensures { λ r. ⌜ typeCoded r ≡ typeIn (tableOf (now (t .entry))) (fieldCoded (now (t .entry)) at to) ⌝ }
+    ensures { λ r. ⌜ typeCoded r ≡ selectionsType (tableOf (now (t .entry))) (fieldCoded (now (t .entry)) at to) ⌝ }
 {
     if at <= FIELD_TYPENAME {
         return NO_TYPE;

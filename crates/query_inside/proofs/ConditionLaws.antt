@@ -10,7 +10,7 @@ use Rattle.paper.specs.Rows.{Row}
 use Rattle.paper_table.specs.Lists.{find}
 use Rattle.paper_table.specs.Types.{tableOf}
 use Rattle.paper_query.specs.Constructs.{noRow, is, below}
-use Rattle.paper_query.specs.Enclosing.{then, compositeOf, rootOf, conditionOf, conditioned, insideFrom}
+use Rattle.paper_query.specs.Enclosing.{then, compositeOf, rootOf, conditionOf, conditioned, typeInsideFrom}
 use Rattle.paper_query.proofs.EnclosingLaws.{from-operation, from-fragment, from-inline}
 use Rattle.table_book.specs.Book.{part}
 use Rattle.query_rows.specs.Rowed.{rowIn, rowsIn, docOf}
@@ -38,20 +38,20 @@ module _ (t s rows : List ℕ) (n i j : ℕ) (e : j ≡ firstBelow (rowsIn rows 
       found-at ∙ find-yes (isBelow kindTypeReference i) (rowsIn rows n) noRow 0 (omega (arith, e, rows-count rows n))
       ∙ ap (λ (k : ℕ). some (rowIn rows n k)) (sym e)
 
-  pub condition-typed : {r : Option ℕ} (at size : ℕ) → j < n → at ≡ rowIn rows n j .name → size ≡ rowIn rows n j .size → r ≡ compositeOf (tableOf t) (part s at size)
+  pub condition-typed : {r : Option ℕ} (at size : ℕ) → j < n → at ≡ rowIn rows n j .nameStart → size ≡ rowIn rows n j .nameLength → r ≡ compositeOf (tableOf t) (part s at size)
       → r ≡ conditioned (tableOf t) (docOf s rows n) above (conditionOf (docOf s rows n) i)
   condition-typed at size h p q f = f ∙ rw (condition-is h, p, q)
 
 -- by the row's kind
 module _ (t s rows : List ℕ) (n i above : ℕ) {r : Option ℕ} where
   pub operation-typed : (x : ℕ) → rowIn rows n i .kind ≡ kindOperation → x ≡ rowIn rows n i .extra → r ≡ then (rootOf (tableOf t) x) (λ m. compositeOf (tableOf t) (m .name))
-      → r ≡ insideFrom (tableOf t) (docOf s rows n) i (typeCoded above)
+      → r ≡ typeInsideFrom (tableOf t) (docOf s rows n) i (typeCoded above)
   operation-typed x k p f = f ∙ rw p (sym (from-operation (tableOf t) (docOf s rows n) i (typeCoded above) k))
 
   pub fragment-typed : rowIn rows n i .kind ≡ kindFragment → r ≡ conditioned (tableOf t) (docOf s rows n) none (conditionOf (docOf s rows n) i)
-      → r ≡ insideFrom (tableOf t) (docOf s rows n) i (typeCoded above)
+      → r ≡ typeInsideFrom (tableOf t) (docOf s rows n) i (typeCoded above)
   fragment-typed k f = f ∙ sym (from-fragment (tableOf t) (docOf s rows n) i (typeCoded above) k)
 
   pub inline-typed : rowIn rows n i .kind ≡ kindInline → r ≡ conditioned (tableOf t) (docOf s rows n) (typeCoded above) (conditionOf (docOf s rows n) i)
-      → r ≡ insideFrom (tableOf t) (docOf s rows n) i (typeCoded above)
+      → r ≡ typeInsideFrom (tableOf t) (docOf s rows n) i (typeCoded above)
   inline-typed k f = f ∙ sym (from-inline (tableOf t) (docOf s rows n) i (typeCoded above) k)

@@ -11,7 +11,7 @@ use lib.Seq.{getD-set-same, getD-set-other}
 use Rattle.paper.specs.Numbers.{kindField}
 use Rattle.paper_table.specs.Types.{tableOf}
 use Rattle.paper_query.specs.Constructs.{nameOf}
-use Rattle.paper_query.specs.Enclosing.{inside, insideFrom, enclosing, fieldIn, typeIn, fieldAt}
+use Rattle.paper_query.specs.Enclosing.{typeInside, typeInsideFrom, enclosing, fieldNamed, selectionsType, fieldAt}
 use Rattle.paper_query.proofs.Climbing.{ParentsBefore}
 use Rattle.paper_query.proofs.EnclosingLaws.{inside-step, inside-is, from-other, from-field}
 use Rattle.query_rows.specs.Rowed.{rowIn, docOf, Rowed, roomOf}
@@ -28,15 +28,15 @@ rowed-before s rows n r i h =
     ⊎-elim (λ l. inl l) (λ e. inr (omega (arith, e, r .few, rows-count rows n))) (parent-before s rows n r i (omega (arith, h, rows-count rows n)))
 
 module _ (t s rows : List ℕ) (n : ℕ) (r : Rowed s rows n) where
-  step : (i : ℕ) → inside (tableOf t) (docOf s rows n) i ≡ insideFrom (tableOf t) (docOf s rows n) i (enclosing (tableOf t) (docOf s rows n) i)
+  step : (i : ℕ) → typeInside (tableOf t) (docOf s rows n) i ≡ typeInsideFrom (tableOf t) (docOf s rows n) i (enclosing (tableOf t) (docOf s rows n) i)
   step i = inside-step (tableOf t) (docOf s rows n) (rowed-before s rows n r) i
 
   module _ {m : ℕ} {inner at to : List ℕ} (e : EnclosedTo t s rows n m inner at to) where
     -- the type inside a row that is behind, or is not there
-    pub kept-inside : (p : ℕ) → (p < m) ⊎ (n ≤ p) → inside (tableOf t) (docOf s rows n) p ≡ typeCoded (typeKept rows n inner p)
+    pub kept-inside : (p : ℕ) → (p < m) ⊎ (n ≤ p) → typeInside (tableOf t) (docOf s rows n) p ≡ typeCoded (typeKept rows n inner p)
     kept-inside p h = go (encloses (rowIn rows n p .kind)) refl
       where
-        go : (b : Bool) → encloses (rowIn rows n p .kind) ≡ b → inside (tableOf t) (docOf s rows n) p ≡ typeCoded (cond b (getD inner p 0) 0)
+        go : (b : Bool) → encloses (rowIn rows n p .kind) ≡ b → typeInside (tableOf t) (docOf s rows n) p ≡ typeCoded (cond b (getD inner p 0) 0)
         go true q = e .types p (⊎-elim (λ l. l) (λ l. let z = encloses-there rows n p q in absurd (omega arith)) h) q
         go false q =
             let k = rowIn rows n p .kind in
@@ -48,7 +48,7 @@ module _ (t s rows : List ℕ) (n : ℕ) (r : Rowed s rows n) where
         rw q (kept-inside (rowIn rows n i .parent) (⊎-elim (λ b. inl (omega arith)) (λ z. inr (omega (arith, z, r .few))) (parent-before s rows n r i h)))
 
   -- the type inside a field is that of its selections
-  pub field-inside : (i : ℕ) → rowIn rows n i .kind ≡ kindField → inside (tableOf t) (docOf s rows n) i ≡ typeIn (tableOf t) (fieldAt (tableOf t) (docOf s rows n) i)
+  pub field-inside : (i : ℕ) → rowIn rows n i .kind ≡ kindField → typeInside (tableOf t) (docOf s rows n) i ≡ selectionsType (tableOf t) (fieldAt (tableOf t) (docOf s rows n) i)
   field-inside i k = step i ∙ from-field (tableOf t) (docOf s rows n) i (enclosing (tableOf t) (docOf s rows n) i) k
 
   -- the type above is an object, interface or union
@@ -91,14 +91,14 @@ module _ (t s rows : List ℕ) (n : ℕ) (r : Rowed s rows n) where
       fields = upTo (e .fields) (λ z. absurd (no-field (rowIn rows n i .kind) q z));
     }
 
-    types-kept : (c : ℕ) → inside (tableOf t) (docOf s rows n) i ≡ typeCoded c
-        → (j : ℕ) → j < suc i → encloses (rowIn rows n j .kind) ≡ true → inside (tableOf t) (docOf s rows n) j ≡ typeCoded (getD (set inner i c) j 0)
+    types-kept : (c : ℕ) → typeInside (tableOf t) (docOf s rows n) i ≡ typeCoded c
+        → (j : ℕ) → j < suc i → encloses (rowIn rows n j .kind) ≡ true → typeInside (tableOf t) (docOf s rows n) j ≡ typeCoded (getD (set inner i c) j 0)
     types-kept c q =
-        upTo {P = λ j. encloses (rowIn rows n j .kind) ≡ true → inside (tableOf t) (docOf s rows n) j ≡ typeCoded (getD (set inner i c) j 0)}
+        upTo {P = λ j. encloses (rowIn rows n j .kind) ≡ true → typeInside (tableOf t) (docOf s rows n) j ≡ typeCoded (getD (set inner i c) j 0)}
         (λ j h k. e .types j h k ∙ ap typeCoded (kept-before inner c j h)) (λ k. q ∙ ap typeCoded (kept-here inner c (e .inners)))
 
     pub enclosed-type : (c above : ℕ) → (rowIn rows n i .kind ≡ kindField → ⊥) → enclosing (tableOf t) (docOf s rows n) i ≡ typeCoded above
-        → typeCoded c ≡ insideFrom (tableOf t) (docOf s rows n) i (typeCoded above) → EnclosedTo t s rows n (suc i) (set inner i c) at to
+        → typeCoded c ≡ typeInsideFrom (tableOf t) (docOf s rows n) i (typeCoded above) → EnclosedTo t s rows n (suc i) (set inner i c) at to
     enclosed-type c above k a q = record {
       inners = length-set inner i c ∙ e .inners;
       ats = e .ats;
@@ -108,7 +108,7 @@ module _ (t s rows : List ℕ) (n : ℕ) (r : Rowed s rows n) where
     }
 
     pub enclosed-field : (c a b above : ℕ) → rowIn rows n i .kind ≡ kindField → enclosing (tableOf t) (docOf s rows n) i ≡ typeCoded above
-        → FieldKept t (fieldIn (tableOf t) (typeCoded above) (nameOf (docOf s rows n) i)) a b → typeCoded c ≡ typeIn (tableOf t) (fieldCoded t a b)
+        → FieldKept t (fieldNamed (tableOf t) (typeCoded above) (nameOf (docOf s rows n) i)) a b → typeCoded c ≡ selectionsType (tableOf t) (fieldCoded t a b)
         → EnclosedTo t s rows n (suc i) (set inner i c) (set at i a) (set to i b)
     enclosed-field c a b above k u f q = record {
       inners = length-set inner i c ∙ e .inners;

@@ -8,7 +8,7 @@ use lib.ListN.{length, getD}
 use lib.Dec.{eqb}
 use Rattle.paper.specs.Numbers.{kindOperation, kindFragment, kindField, kindInline}
 use Rattle.paper_table.specs.Types.{tableOf}
-use Rattle.paper_query.specs.Enclosing.{inside, fieldAt}
+use Rattle.paper_query.specs.Enclosing.{typeInside, fieldAt}
 use Rattle.table_types.specs.Booked.{Booked}
 use Rattle.query_rows.specs.Rowed.{rowIn, rowsIn, docOf, Rowed, roomOf}
 use Rattle.query_links.specs.Links.{Family}
@@ -35,7 +35,7 @@ pub record EnclosedTo (t s rows : List ℕ) (n m : ℕ) (inner at to : List ℕ)
   pub inners : length inner ≡ roomOf n
   pub ats : length at ≡ roomOf n
   pub tos : length to ≡ roomOf n
-  pub types : (i : ℕ) → i < m → encloses (rowIn rows n i .kind) ≡ true → inside (tableOf t) (docOf s rows n) i ≡ typeCoded (getD inner i 0)
+  pub types : (i : ℕ) → i < m → encloses (rowIn rows n i .kind) ≡ true → typeInside (tableOf t) (docOf s rows n) i ≡ typeCoded (getD inner i 0)
   pub fields : (i : ℕ) → i < m → rowIn rows n i .kind ≡ kindField → FieldKept t (fieldAt (tableOf t) (docOf s rows n) i) (getD at i 0) (getD to i 0)
 
 -- of all rows

@@ -17,7 +17,7 @@ ghost use Prim.Native.Nat.{suc, _<_};
 ghost use lib.ListN.{length};
 ghost use Rattle.paper.specs.Numbers.{kindField};
 ghost use Rattle.paper_table.specs.Types.{tableOf};
-ghost use Rattle.paper_query.specs.Enclosing.{conditionOf, conditioned, insideFrom, enclosing};
+ghost use Rattle.paper_query.specs.Enclosing.{conditionOf, conditioned, typeInsideFrom, enclosing};
 ghost use Rattle.table_types.specs.Booked.{Booked};
 ghost use Rattle.query_rows.specs.Rowed.{rowIn, docOf, Rowed, Sized, roomOf};
 ghost use Rattle.query_types.specs.Coded.{typeCoded};
@@ -92,7 +92,7 @@ fn other_type(
     above: u32,
 ) -> u32
     requires { ⌜ Asked (now t) (now book) (now s) (now rows) n (now first) (now next) × (i < n) × (encloses (rowIn (now rows) n i .kind) ≡ true) × (rowIn (now rows) n i .kind ≡ kindField → ⊥) ⌝ }
-    ensures { λ r. ⌜ typeCoded r ≡ insideFrom (tableOf (now (t .entry))) (docOf (now (s .entry)) (now (rows .entry)) n) i (typeCoded above) ⌝ }
+    ensures { λ r. ⌜ typeCoded r ≡ typeInsideFrom (tableOf (now (t .entry))) (docOf (now (s .entry)) (now (rows .entry)) n) i (typeCoded above) ⌝ }
 {
     let kind = kind_of(rows, n, i);
     if kind == KIND_OPERATION {

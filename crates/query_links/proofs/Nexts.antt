@@ -10,8 +10,7 @@ use native.Mathlib.Omega.{arith}
 use lib.ListN.{length, drop, getD, getElem?, drop-of-length-le, length-drop}
 use lib.Seq.{drop-cons, drop-drop, getD-drop}
 use borrow.Author.Tests.{lt-ltb, le-ltb}
-use Rattle.paper_table.specs.Lists.{anyOf, firstAt, find}
-use Rattle.paper_table.specs.Rules.{earlier}
+use Rattle.paper_table.specs.Lists.{anyOf, firstAt, find, earlier}
 use Rattle.paper_table.proofs.ListsLaws.{firstAt-here, firstAt-later, firstAt-most, any-take, any-first, find-first, find-any}
 use Rattle.query_links.specs.Links.{nextWith}
 

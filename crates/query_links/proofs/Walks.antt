@@ -9,20 +9,11 @@ use native.Mathlib.Omega.{arith}
 use lib.ListN.{length, drop, getD}
 use lib.Dec.{eqb}
 use borrow.Author.Tests.{eqb-true, eqb-false}
-use Rattle.paper_table.specs.Lists.{anyOf, firstAt, find}
-use Rattle.paper_table.specs.Rules.{earlier}
+use Rattle.paper_table.specs.Lists.{anyOf, firstAt, find, earlier}
 use Rattle.query_links.specs.Links.{nextWith}
 use Rattle.query_links.proofs.Nexts.{next-here, next-step, next-end, next-least, next-most, next-passes, next-skips, next-all, next-jump, any-yes, any-no, find-yes, find-no, earlier-yes, earlier-no}
 
 -- for the field `within` of a walk, and for a test that leaves out what each on the way passes
-pub and-left : (a b : Bool) → a && b ≡ true → a ≡ true
-and-left true b e = refl
-and-left false b e = absurd (true≢false (sym e))
-
-pub and-right : (a b : Bool) → a && b ≡ true → b ≡ true
-and-right true b e = e
-and-right false b e = absurd (true≢false (sym e))
-
 pub and-known : (a b : Bool) → a ≡ true → a && b ≡ b
 and-known true b e = refl
 and-known false b e = absurd (true≢false (sym e))

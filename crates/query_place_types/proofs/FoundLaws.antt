@@ -6,19 +6,19 @@ use mathlib.Core.List.{List, []}
 use Prim.Native.Nat.{ℕ}
 use native.Mathlib.Omega.{arith}
 use lib.Dec.{eqb}
+use Rattle.paper.proofs.Bools.{and-left, and-right}
+use Rattle.table_fields.proofs.BoundsLaws.{narrow}
 use borrow.Author.Tests.{eqb-true}
 use Rattle.paper_table.specs.TableNumbers.{tagArgument}
 use Rattle.paper_table.specs.Lists.{allOf, find}
 use Rattle.paper_table.specs.References.{named}
-use Rattle.paper_table.specs.Types.{Argument, Member, typeIn, nameOnly, tagNothing}
-use Rattle.paper_table.specs.Rules.{memberNamed, argumentNamed}
+use Rattle.paper_table.specs.Types.{Argument, Member, typeIn, nameOnly, tagNothing, memberNamed, argumentNamed}
 use Rattle.paper_table.proofs.ListsLaws.{find-some}
 use Rattle.paper_query.specs.PlaceTypes.{shapeOf}
 use Rattle.table_fields.specs.Fields.{Bounds}
 use Rattle.table_members.specs.Members.{fieldsIn, membersIn, argumentsIn, memberFrom, argumentFrom, inputFrom, Finds}
 use Rattle.table_members.proofs.MemberLaws.{input-is, member-tag}
 use Rattle.table_types.proofs.Fitting.{all-at}
-use Rattle.query_links.proofs.Walks.{and-left, and-right}
 use Rattle.query_place_types.specs.Shapes.{Keeps, slim, slimArgument, slimInput, argumentShape, memberShape}
 use Rattle.query_place_types.specs.declared.Place.{Place}
 use Rattle.query_place_types.proofs.ShapeLaws.{keeps-unknown}
@@ -36,7 +36,7 @@ noArgument = record { name = []; type = named [] }
 module _ (t : List ℕ) (start end : ℕ) (b : Bounds t start end) where
   -- what is found lies in the content
   pub found-bounds : {A : Type 0} {o : Option A} {x : A} (from to : ℕ) → Finds start end from to o x → Bounds t from to
-  found-bounds from to f = record { order = f .lies .order; within = omega (arith, f .lies .within, b .within); most = b .most }
+  found-bounds from to f = narrow b (f .lies .order) (f .lies .within)
 
   module _ (n : List ℕ) (r : Place) where
     pub argument-none : find (argumentNamed n) (argumentsIn t start end) ≡ none → r .at ≡ 0 → Keeps t (argumentShape (find (argumentNamed n) (argumentsIn t start end))) r

@@ -4,6 +4,7 @@ use mathlib.Core.Bool.{Bool, true, false, _||_, true≢false}
 use Prim.Native.Nat.{ℕ}
 use native.Mathlib.Omega.{arith}
 use lib.Dec.{T}
+use Rattle.paper.proofs.Bools.{and-left}
 use Rattle.paper.specs.Numbers.{kindOperation, kindFragment}
 use Rattle.paper.specs.Rows.{Row}
 use Rattle.paper_query.specs.Constructs.{Doc, noRow, is, rowOf, nameOf, called, fragmentCalled, fragmentNamed}
@@ -11,7 +12,6 @@ use Rattle.paper_query.specs.Reaching.{Within, Spreads}
 use Rattle.paper_query.specs.Reaching.Reaches.{here, through}
 use Rattle.query_links.specs.Links.{nextWith}
 use Rattle.query_links.proofs.Nexts.{next-all, next-passes}
-use Rattle.query_links.proofs.Walks.{and-left}
 use Rattle.query_spreads.specs.Owners.{Defines}
 use Rattle.query_reach_pass.specs.Marks.{Draws}
 

@@ -9,7 +9,7 @@ use lib.ListN.{length, getD}
 use borrow.Author.Tests.{ne-eqb, le-ltb}
 use Rattle.paper_table.specs.TableNumbers.{tagQueryRoot}
 use Rattle.paper_table.specs.Lists.{bytes, firstAt, find}
-use Rattle.paper_table.specs.Types.{Member, Definition, tableOf, isRoots, blank, tagNothing, nameOnly, rootsIn, rootsOf}
+use Rattle.paper_table.specs.Types.{Member, Definition, tableOf, isRoots, blankDefinition, tagNothing, nameOnly, rootsIn, rootsOf}
 use Rattle.paper_table.proofs.ListsLaws.{firstAt-later, any-first, find-any}
 use Rattle.paper_query.specs.Enclosing.{then, compositeOf, rootOf}
 use Rattle.table_book.specs.Book.{countIn}
@@ -46,7 +46,7 @@ module _ (t book : List ℕ) (b : Booked t book) (k : ℕ) (e : k ≡ firstAt is
     roots-are : rootsOf (tableOf t) ≡ membersIn t start end
     unfolding rootsOf
     roots-are =
-        ap rootsIn (find-at isRoots (blank tagNothing) (tableOf t) (omega (arith, e, b .count)))
+        ap rootsIn (find-at isRoots (blankDefinition tagNothing) (tableOf t) (omega (arith, e, b .count)))
         ∙ rw (← e, p, q) (ap (λ (d : Definition). d .members) (b .entered k h .is))
 
     pub written-root : (x tag from to : ℕ) → Finds start end from to (find (tagged (tagQueryRoot + x)) (membersIn t start end)) (memberFrom t tag from to) → RootWritten t x tag from to

@@ -15,7 +15,7 @@ use Rattle.paper_query.specs.Rule1OperationRepeated.{operationRepeated}
 use Rattle.paper_query.specs.Rule2OperationUnnamed.{operationUnnamed}
 use Rattle.paper_query.specs.Rule3FragmentRepeated.{fragmentRepeated}
 use Rattle.paper_query.specs.Rule4Condition.{conditionWrong}
-use Rattle.paper_query.specs.Rule5Field.{fieldMissing}
+use Rattle.paper_query.specs.Rule5Field.{fieldNotOfType}
 use Rattle.paper_query.specs.Rule6Leaf.{leafWrong}
 use Rattle.paper_query.specs.Rule7Spread.{spreadOfNone}
 use Rattle.paper_query.specs.Rule9Directive.{directiveWrong}
@@ -23,7 +23,7 @@ use Rattle.paper_query.specs.Rule11VariableType.{noInputType, Differs}
 use Rattle.paper_query.specs.Rule12NameTwice.{nameTwice}
 use Rattle.paper_query.specs.Rule13NoRoot.{noRoot}
 use Rattle.paper_query.specs.Rule14Argument.{argumentUnknown}
-use Rattle.paper_query.specs.QueryRules.{Broken, operation-repeated, operation-unnamed, fragment-repeated, condition, field, leaf, spread, circle, directive, undefined, no-input-type, other-type, name-twice, no-root, argument}
+use Rattle.paper_query.specs.QueryRules.{Broken, operation-repeated, operation-unnamed, fragment-repeated, condition, field-not-of-type, leaf, spread-of-none, circle, directive, undefined, no-input-type, other-type, name-twice, no-root, unknown-argument}
 use Rattle.paper_query.proofs.BrokenAt.{rulesAt, none-broken, operation-repeated-so, operation-unnamed-so, fragment-repeated-so, condition-so, field-so, leaf-so, spread-so, circle-so, directive-so, undefined-so, variable-type-so, name-twice-so, no-root-so, argument-so}
 use Rattle.query_alike.specs.Flags.{Flag}
 use Rattle.query_row_verdict.specs.Least.{LeastAt, none-at}
@@ -80,10 +80,10 @@ module _ {t : Table} {d : Doc} {i : ℕ} where
     fragment-last q {f} g = told-least kindFragment e tt (passed (λ h. not-so p q (fragment-repeated-so h)) (flag-fragment f e g))
 
   -- Rules 5 and 6 at a field.
-  module _ (e : kindOf d i ≡ kindField) {a : Bool} (p : a ≡ fieldMissing t d i) where
+  module _ (e : kindOf d i ≡ kindField) {a : Bool} (p : a ≡ fieldNotOfType t d i) where
     pub field-first : a ≡ true → LeastAt t d i ruleField
     unfolding rulesAt
-    field-first q = told-least kindField e tt (found (field (so p q)))
+    field-first q = told-least kindField e tt (found (field-not-of-type (so p q)))
 
     pub field-last : a ≡ false → (b : Bool) {r : ℕ} → b ≡ leafWrong t d i → r ≡ cond b ruleLeaf 0 → LeastAt t d i r
     unfolding rulesAt
@@ -100,7 +100,7 @@ module _ {t : Table} {d : Doc} {i : ℕ} where
     unfolding rulesAt
     argument-last q b p₂ w =
         told-least kindArgument e tt
-        (passed (λ h. not-so p q (name-twice-so h)) (last ruleArgument b (λ q₂. argument (so p₂ q₂)) (λ q₂ h. not-so p₂ q₂ (argument-so h)) w))
+        (passed (λ h. not-so p q (name-twice-so h)) (last ruleArgument b (λ q₂. unknown-argument (so p₂ q₂)) (λ q₂ h. not-so p₂ q₂ (argument-so h)) w))
 
   -- Rules 11 and 12 at a variable definition.
   definition-not : kindOf d i ≡ kindVariableDefinition → {a : Bool} → a ≡ noInputType t d i → a ≡ false → Broken t d i ruleVariableType → ⊥
@@ -124,7 +124,7 @@ module _ {t : Table} {d : Doc} {i : ℕ} where
   -- Kinds that can break one rule.
   pub spread-only : kindOf d i ≡ kindSpread → (b : Bool) {r : ℕ} → b ≡ spreadOfNone d i → r ≡ cond b ruleSpread 0 → LeastAt t d i r
   unfolding rulesAt
-  spread-only e b p w = told-least kindSpread e tt (last ruleSpread b (λ q. spread (so p q)) (λ q h. not-so p q (spread-so h)) w)
+  spread-only e b p w = told-least kindSpread e tt (last ruleSpread b (λ q. spread-of-none (so p q)) (λ q h. not-so p q (spread-so h)) w)
 
   pub directive-only : kindOf d i ≡ kindDirective → (b : Bool) {r : ℕ} → b ≡ directiveWrong d i → r ≡ cond b ruleDirective 0 → LeastAt t d i r
   unfolding rulesAt

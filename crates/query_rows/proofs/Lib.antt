@@ -4,3 +4,4 @@ pub mod Rooms
 pub mod TextRows
 pub mod FlatRows
 pub mod ReadRows
+pub mod KindLaws

@@ -10,7 +10,7 @@ use Rattle.paper.specs.Numbers.{mostText, mostRows, rowSize, rowsSize}
 use Rattle.paper.specs.Language.{Part}
 use Rattle.paper.specs.Tokens.{Text, Tokens}
 use Rattle.paper.specs.Rows.{Row, flat}
-use Rattle.paper.specs.Reading.{rows-are, Said, accepts}
+use Rattle.paper.specs.Reading.{rows-are, TextAnswer, accepts}
 use Rattle.paper.specs.Calls.{filled}
 use Rattle.paper.proofs.Lexing.{from}
 use Rattle.paper_theory.proofs.TokensLaws.{tokens-are}
@@ -22,7 +22,7 @@ use Rattle.query_rows.proofs.TextRows.{Fine, text-rows}
 use Rattle.query_rows.proofs.FlatRows.{flat-at, flat-rows}
 
 -- the rows that a text is said to have, in the lent numbers
-pub rowed : (p : Part) (s : List ℕ) (t : Text) (rs : List Row) (rows : List ℕ) → Tokens 0 s t → Said p t (rows-are rs) → length s ≤ mostText → length rows ≡ rowsSize → length rs ≤ mostRows
+pub rowed : (p : Part) (s : List ℕ) (t : Text) (rs : List Row) (rows : List ℕ) → Tokens 0 s t → TextAnswer p t (rows-are rs) → length s ≤ mostText → length rows ≡ rowsSize → length rs ≤ mostRows
     → take (rowSize * length rs) rows ≡ flat rs → Rowed s rows (length rs)
 rowed p s t rs rows k (accepts {es = es} w r c) l e m q = record {
   short = l;
@@ -36,7 +36,7 @@ rowed p s t rs rows k (accepts {es = es} w r c) l e m q = record {
     fine i h = subst (Fine (length s) i) (sym (flat-at rows rs q i h)) (text-rows s t es k i h)
 
 -- the same where they fill it
-pub filled-rowed : (p : Part) (s : List ℕ) (t : Text) (rs : List Row) (rows rows′ : List ℕ) → Tokens 0 s t → Said p t (rows-are rs) → length s ≤ mostText → length rows ≡ rowsSize → length rs ≤ mostRows
+pub filled-rowed : (p : Part) (s : List ℕ) (t : Text) (rs : List Row) (rows rows′ : List ℕ) → Tokens 0 s t → TextAnswer p t (rows-are rs) → length s ≤ mostText → length rows ≡ rowsSize → length rs ≤ mostRows
     → rows′ ≡ filled rowsSize (flat rs) rows → (rowsIn rows′ (length rs) ≡ rs) × Rowed s rows′ (length rs)
 filled-rowed p s t rs rows rows′ k a l e m q = (flat-rows rows′ rs first, rowed p s t rs rows′ k a l size m first)
   where
@@ -57,7 +57,7 @@ filled-rowed p s t rs rows rows′ k a l e m q = (flat-rows rows′ rs first, ro
 -- n rows of a text of the part p, as the reader leaves them
 pub record Taken (p : Part) (s rows : List ℕ) (n : ℕ) : Type 0 where
   pub list : List Row
-  pub said : Said p (from s 0) (rows-are list)
+  pub said : TextAnswer p (from s 0) (rows-are list)
   pub count : n ≡ length list
   pub cells : take (rowSize * n) rows ≡ flat list
   pub are : rowsIn rows n ≡ list

@@ -42,10 +42,10 @@ rowed-sized r = record { size = r .size; few = r .few }
 
 module _ (s rows : List ℕ) (n : ℕ) (r : Rowed s rows n) where
   -- a name lies in the bytes, also that of a row that is not there
-  pub name-within : (i : ℕ) → rowIn rows n i .name + rowIn rows n i .size ≤ length s
+  pub name-within : (i : ℕ) → rowIn rows n i .nameStart + rowIn rows n i .nameLength ≤ length s
   name-within i = go (decLt i n)
     where
-      go : Dec (i < n) → rowIn rows n i .name + rowIn rows n i .size ≤ length s
+      go : Dec (i < n) → rowIn rows n i .nameStart + rowIn rows n i .nameLength ≤ length s
       go (yes h) = rw (row-at rows n i h) (r .names i h)
       go (no h) = rw (row-none rows n i (omega arith)) (omega arith)
 

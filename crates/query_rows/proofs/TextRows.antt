@@ -12,7 +12,7 @@ use Rattle.paper.specs.Numbers.{noParent}
 use Rattle.paper.specs.Language.{Class, Mark, row, kind, named, wrapper, wrap, end}
 use Rattle.paper.specs.Lexical.{What}
 use Rattle.paper.specs.Tokens.{Tok, Text, Longest, Tokens, ends, starts-none, skips, comments, bad-comment, tokens}
-use Rattle.paper.specs.Rows.{Row, Book, blank, change, top, pop, startOf, stopOf, begun, ofKind, withName, wrapped, stopping, note, taken, rest, book, rowsOf}
+use Rattle.paper.specs.Rows.{Row, Book, emptyBook, change, top, pop, startOf, stopOf, begun, ofKind, withName, wrapped, stopping, atMark, taken, rest, book, rowsOf}
 use Rattle.paper.specs.Reading.{tokensOf}
 use Rattle.paper_theory.proofs.RowCells.{change-length}
 use Rattle.paper_query.specs.Constructs.{noRow}
@@ -38,7 +38,7 @@ tokens-lie {bs = bs} l h (tokens p c g r) = (omega arith, omega (arith, piece-si
 
 -- row i of a text of l bytes
 abbrev pub Fine : ℕ → ℕ → Row → Type 0
-Fine l i r = ((r .parent < i) ⊎ (r .parent ≡ noParent)) × (r .name + r .size ≤ l)
+Fine l i r = ((r .parent < i) ⊎ (r .parent ≡ noParent)) × (r .nameStart + r .nameLength ≤ l)
 
 -- the rows from number i on
 abbrev AllFine : ℕ → ℕ → List Row → Type 0
@@ -93,7 +93,7 @@ name-lies : (l : ℕ) (ts : List Tok) → Lie l ts → startOf ts + (stopOf ts -
 name-lies l [] h = omega arith
 name-lies l (k ∷ ts) h = let a = h .0 in let b = h .1 in omega arith
 
-note-keeps : (l : ℕ) (m : Mark) (ts : List Tok) (b : Book) → Lie l ts → Kept l b → Kept l (note m ts b)
+note-keeps : (l : ℕ) (m : Mark) (ts : List Tok) (b : Book) → Lie l ts → Kept l b → Kept l (atMark m ts b)
 note-keeps l row ts b t h = record {
   fine = append-fine l 0 (b .rows) (begun (startOf ts) (top (b .open′))) (h .fine) (rw (zero-add (length (b .rows))) (under-top (length (b .rows)) (b .open′) (h .under), omega arith));
   under =
@@ -118,11 +118,11 @@ book-keeps : (l : ℕ) (es : List (Ev Class Mark)) (ts : List Tok) (b : Book) �
 unfolding book
 book-keeps l [] ts b t h = h
 book-keeps l (tok c ∷ es) ts b t h = book-keeps l es (rest ts) (taken ts b) (rest-lies l ts t) (taken-keeps l ts b h)
-book-keeps l (mark m ∷ es) ts b t h = book-keeps l es ts (note m ts b) t (note-keeps l m ts b t h)
+book-keeps l (mark m ∷ es) ts b t h = book-keeps l es ts (atMark m ts b) t (note-keeps l m ts b t h)
 
 -- so for each row of a text
 pub text-rows : (s : List ℕ) (t : Text) (es : List (Ev Class Mark)) → Tokens 0 s t → (i : ℕ) → i < length (rowsOf es (tokensOf t)) → Fine (length s) i (getD (rowsOf es (tokensOf t)) i noRow)
 unfolding rowsOf
 text-rows s t es k i h =
-    let b : Kept (length s) (book es (tokensOf t) blank) = book-keeps (length s) es (tokensOf t) blank (tokens-lie (length s) (omega arith) k) (record { fine = tt; under = tt }) in
-    rw zero-add at (fine-at (length s) 0 (book es (tokensOf t) blank .rows) i (b .fine) h)
+    let b : Kept (length s) (book es (tokensOf t) emptyBook) = book-keeps (length s) es (tokensOf t) emptyBook (tokens-lie (length s) (omega arith) k) (record { fine = tt; under = tt }) in
+    rw zero-add at (fine-at (length s) 0 (book es (tokensOf t) emptyBook .rows) i (b .fine) h)

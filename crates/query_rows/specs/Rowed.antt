@@ -17,7 +17,7 @@ cell rows i k = getD rows (rowSize * i + k) 0
 
 abbrev pub rowAt : List ℕ → ℕ → Row
 rowAt rows i =
-    record { kind = cell rows i 0; start = cell rows i 1; stop = cell rows i 2; parent = cell rows i 3; name = cell rows i 4; size = cell rows i 5; extra = cell rows i 6 }
+    record { kind = cell rows i 0; start = cell rows i 1; end = cell rows i 2; parent = cell rows i 3; nameStart = cell rows i 4; nameLength = cell rows i 5; extra = cell rows i 6 }
 
 -- the n rows from number i on
 unfoldable pub rowsFrom : List ℕ → ℕ → ℕ → List Row

@@ -1,9 +1,14 @@
 // A document's rows, read from the lent numbers. A row that is not there has no kind and no parent.
+use paper::KIND_FIELD;
+use paper::KIND_INLINE;
 use paper::NO_PARENT;
 use paper::ROW_SIZE;
 ghost use mathlib.Core.Path.{_≡_};
+ghost use mathlib.Core.Bool.{_&&_};
 ghost use Prim.Native.Nat.{_+_, _≤_, _<_};
 ghost use lib.ListN.{length};
+ghost use lib.Dec.{leb};
+ghost use Rattle.paper.specs.Numbers.{kindField, kindInline};
 ghost use Rattle.paper.specs.Tokens.{same};
 ghost use Rattle.table_book.specs.Book.{part};
 ghost use Rattle.paper_query.specs.Constructs.{nameOf};
@@ -42,7 +47,7 @@ pub fn parent_of(rows: &[u32], n: usize, i: usize) -> u32
 // Where row i's name begins; 0 if there is no such row.
 pub fn name_of(rows: &[u32], n: usize, i: usize) -> u32
     requires { ⌜ Sized (now rows) n ⌝ }
-    ensures { λ r. ⌜ r ≡ rowIn (now (rows .entry)) n i .name ⌝ }
+    ensures { λ r. ⌜ r ≡ rowIn (now (rows .entry)) n i .nameStart ⌝ }
 {
     if i < n {
         return rows[ROW_SIZE * i + CELL_NAME];
@@ -53,7 +58,7 @@ pub fn name_of(rows: &[u32], n: usize, i: usize) -> u32
 // How long row i's name is; 0 if there is no such row.
 pub fn size_of(rows: &[u32], n: usize, i: usize) -> u32
     requires { ⌜ Sized (now rows) n ⌝ }
-    ensures { λ r. ⌜ r ≡ rowIn (now (rows .entry)) n i .size ⌝ }
+    ensures { λ r. ⌜ r ≡ rowIn (now (rows .entry)) n i .nameLength ⌝ }
 {
     if i < n {
         return rows[ROW_SIZE * i + CELL_LENGTH];
@@ -101,4 +106,14 @@ pub fn same_names(s: &[u8], rows: &[u32], n: usize, i: usize, j: usize) -> bool
         name_of(rows, n, j) as usize,
         size_of(rows, n, j) as usize,
     )
+}
+
+// Is it the kind of a selection?
+pub fn is_selection(kind: u32) -> bool
+    ensures { λ r. ⌜ r ≡ leb kindField kind && leb kind kindInline ⌝ }
+{
+    if kind < KIND_FIELD {
+        return false;
+    }
+    kind <= KIND_INLINE
 }

@@ -9,10 +9,9 @@ use lib.Dec.{eqb}
 use borrow.Author.Tests.{eqb-true, eqb-false}
 use Rattle.paper_table.specs.TableNumbers.{tagField}
 use Rattle.paper_table.specs.References.{found}
-use Rattle.paper_table.specs.Types.{Argument}
-use Rattle.paper_table.specs.Rules.{argumentNamed}
-use Rattle.paper_query.specs.Enclosing.{argumentOf}
-use Rattle.paper_query.specs.Rule14Argument.{lacks}
+use Rattle.paper_table.specs.Types.{Argument, argumentNamed}
+use Rattle.paper_query.specs.Enclosing.{argumentCalled}
+use Rattle.paper_query.specs.Rule14Argument.{hasNoArgument}
 use Rattle.table_members.specs.Members.{memberFrom}
 use Rattle.table_types.proofs.Objects.{any-found}
 use Rattle.query_fields.specs.Kept.{fieldTypename, fieldCoded}
@@ -22,13 +21,13 @@ use Rattle.query_place_types.specs.declared.Place.{Place}
 use Rattle.query_place_types.proofs.ShapeLaws.{coded-unknown, coded-boolean, coded-base}
 
 module _ (t : List ℕ) (at to : ℕ) (n : List ℕ) where
-  pub lacks-unknown : at < fieldTypename → lacks (fieldCoded t at to) n ≡ false
-  lacks-unknown = by-number t to (λ k f. k < fieldTypename → lacks f n ≡ false) (λ h. refl) (λ h. refl) (λ h. absurd (omega arith)) (λ k l h. absurd (omega arith)) at
+  pub lacks-unknown : at < fieldTypename → hasNoArgument (fieldCoded t at to) n ≡ false
+  lacks-unknown = by-number t to (λ k f. k < fieldTypename → hasNoArgument f n ≡ false) (λ h. refl) (λ h. refl) (λ h. absurd (omega arith)) (λ k l h. absurd (omega arith)) at
 
   -- a known field has the arguments that are found; `__typename` has none
-  pub lacks-known : fieldTypename ≤ at → lacks (fieldCoded t at to) n ≡ not (found (argumentOf (fieldCoded t at to) n))
+  pub lacks-known : fieldTypename ≤ at → hasNoArgument (fieldCoded t at to) n ≡ not (found (argumentCalled (fieldCoded t at to) n))
   lacks-known =
-      by-number t to (λ k f. fieldTypename ≤ k → lacks f n ≡ not (found (argumentOf f n))) (λ h. absurd (omega arith)) (λ h. absurd (omega arith)) (λ h. refl)
+      by-number t to (λ k f. fieldTypename ≤ k → hasNoArgument f n ≡ not (found (argumentCalled f n))) (λ h. absurd (omega arith)) (λ h. absurd (omega arith)) (λ h. refl)
       (λ k l h. ap not (any-found (argumentNamed n) (memberFrom t tagField k to .arguments))) at
 
 -- an argument that is found has a type

@@ -12,9 +12,9 @@ use Rattle.paper.specs.Numbers.{kindField, kindArgument}
 use Rattle.paper_table.specs.References.{found}
 use Rattle.paper_table.specs.Types.{tableOf}
 use Rattle.paper_query.specs.Constructs.{parentOf, nameOf}
-use Rattle.paper_query.specs.Enclosing.{FieldIs, fieldAt, argumentOf}
+use Rattle.paper_query.specs.Enclosing.{FieldIs, fieldAt, argumentCalled}
 use Rattle.paper_query.specs.PlaceTypes.{Shape, place}
-use Rattle.paper_query.specs.Rule14Argument.{lacks}
+use Rattle.paper_query.specs.Rule14Argument.{hasNoArgument}
 use Rattle.paper_query.proofs.PlaceLaws.{place-step}
 use Rattle.query_rows.specs.Rowed.{docOf, rowIn, Rowed}
 use Rattle.query_rows.proofs.RowsIn.{row-none}
@@ -40,29 +40,29 @@ module _ (t s rows : List ℕ) (n : ℕ) (at to inside : List ℕ) (r : Rowed s 
   field : FieldKept t (fieldAt (tableOf t) (docOf s rows n) p) (getD at p 0) (getD to p 0)
   field = k .enclosed .fields p (field-there rows n p f) f
 
-  pub unknown-field : getD at p 0 < fieldTypename → false ≡ lacks (fieldAt (tableOf t) (docOf s rows n) p) (nameOf (docOf s rows n) i)
+  pub unknown-field : getD at p 0 < fieldTypename → false ≡ hasNoArgument (fieldAt (tableOf t) (docOf s rows n) p) (nameOf (docOf s rows n) i)
   unknown-field h =
-      sym (ap (λ (x : FieldIs). lacks x (nameOf (docOf s rows n) i)) (field .is) ∙ lacks-unknown t (getD at p 0) (getD to p 0) (nameOf (docOf s rows n) i) h)
+      sym (ap (λ (x : FieldIs). hasNoArgument x (nameOf (docOf s rows n) i)) (field .is) ∙ lacks-unknown t (getD at p 0) (getD to p 0) (nameOf (docOf s rows n) i) h)
 
   no-inside : encloses (rowIn rows n i .kind) ≡ false
   no-inside = ap encloses a
 
   -- the type due at the argument, as it is kept
-  place-is : place (tableOf t) (docOf s rows n) i ≡ argumentShape (argumentOf (fieldAt (tableOf t) (docOf s rows n) p) (nameOf (docOf s rows n) i))
+  place-is : place (tableOf t) (docOf s rows n) i ≡ argumentShape (argumentCalled (fieldAt (tableOf t) (docOf s rows n) p) (nameOf (docOf s rows n) i))
   place-is =
       place-step (tableOf t) (docOf s rows n) (rowed-before s rows n r) i
       ∙ from-argument (tableOf t) (docOf s rows n) i (place (tableOf t) (docOf s rows n) (parentOf (docOf s rows n) i)) a
       ∙ argument-of-field (tableOf t) (docOf s rows n) i (ap (λ (x : ℕ). rowIn rows n x .kind) (sym q) ∙ f)
-      ∙ ap (λ (x : ℕ). argumentShape (argumentOf (fieldAt (tableOf t) (docOf s rows n) x) (nameOf (docOf s rows n) i))) (sym q)
+      ∙ ap (λ (x : ℕ). argumentShape (argumentCalled (fieldAt (tableOf t) (docOf s rows n) x) (nameOf (docOf s rows n) i))) (sym q)
 
   place-kept : place (tableOf t) (docOf s rows n) i ≡ coded t (record { at = getD at i 0; size = getD to i 0; wrappers = getD inside i 0 })
   place-kept =
       let h : i < n = argument-there rows n i a in
       k .kept i h .is ∙ ap (coded t) (in-row rows n at to inside i h no-inside)
 
-  lacks-is : fieldTypename ≤ getD at p 0 → lacks (fieldAt (tableOf t) (docOf s rows n) p) (nameOf (docOf s rows n) i) ≡ not (found (argumentOf (fieldAt (tableOf t) (docOf s rows n) p) (nameOf (docOf s rows n) i)))
+  lacks-is : fieldTypename ≤ getD at p 0 → hasNoArgument (fieldAt (tableOf t) (docOf s rows n) p) (nameOf (docOf s rows n) i) ≡ not (found (argumentCalled (fieldAt (tableOf t) (docOf s rows n) p) (nameOf (docOf s rows n) i)))
   lacks-is h = rw (field .is) (lacks-known t (getD at p 0) (getD to p 0) (nameOf (docOf s rows n) i) h)
 
-  pub known-field : fieldTypename ≤ getD at p 0 → eqb (getD at i 0) placeUnknown ≡ lacks (fieldAt (tableOf t) (docOf s rows n) p) (nameOf (docOf s rows n) i)
+  pub known-field : fieldTypename ≤ getD at p 0 → eqb (getD at i 0) placeUnknown ≡ hasNoArgument (fieldAt (tableOf t) (docOf s rows n) p) (nameOf (docOf s rows n) i)
   known-field h =
-      sym (lacks-is h ∙ ap not (sym (shape-found (argumentOf (fieldAt (tableOf t) (docOf s rows n) p) (nameOf (docOf s rows n) i)))) ∙ ap (λ (o : Option Shape). not (found o)) (sym place-is ∙ place-kept) ∙ coded-found t (record { at = getD at i 0; size = getD to i 0; wrappers = getD inside i 0 }))
+      sym (lacks-is h ∙ ap not (sym (shape-found (argumentCalled (fieldAt (tableOf t) (docOf s rows n) p) (nameOf (docOf s rows n) i)))) ∙ ap (λ (o : Option Shape). not (found o)) (sym place-is ∙ place-kept) ∙ coded-found t (record { at = getD at i 0; size = getD to i 0; wrappers = getD inside i 0 }))

@@ -7,7 +7,7 @@ use Rattle.paper.specs.Numbers.{kindField, kindArgument}
 use Rattle.paper_table.specs.Types.{Table}
 use Rattle.paper_query.specs.Constructs.{Doc, kindOf, parentOf, nameOf}
 use Rattle.paper_query.specs.Enclosing.{fieldAt}
-use Rattle.paper_query.specs.Rule14Argument.{lacks, argumentUnknown}
+use Rattle.paper_query.specs.Rule14Argument.{hasNoArgument, argumentUnknown}
 
 module _ (x : Table) (d : Doc) (i : ℕ) where
   pub argument-other : (kindOf d i ≡ kindArgument → ⊥) → false ≡ argumentUnknown x d i
@@ -19,6 +19,6 @@ module _ (x : Table) (d : Doc) (i : ℕ) where
     unfolding argumentUnknown
     argument-elsewhere f = rw (eq-eqb (kindOf d i) kindArgument k, ne-eqb (kindOf d (parentOf d i)) kindField f)
 
-    pub argument-judged : {r : Bool} → kindOf d (parentOf d i) ≡ kindField → r ≡ lacks (fieldAt x d (parentOf d i)) (nameOf d i) → r ≡ argumentUnknown x d i
+    pub argument-judged : {r : Bool} → kindOf d (parentOf d i) ≡ kindField → r ≡ hasNoArgument (fieldAt x d (parentOf d i)) (nameOf d i) → r ≡ argumentUnknown x d i
     unfolding argumentUnknown
     argument-judged f e = rw (eq-eqb (kindOf d i) kindArgument k, eq-eqb (kindOf d (parentOf d i)) kindField f) e

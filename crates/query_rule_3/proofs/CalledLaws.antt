@@ -4,10 +4,11 @@ use mathlib.Core.Bool.{true, false}
 use mathlib.Core.List.{List}
 use Prim.Native.Nat.{ℕ, _<_, _≤_}
 use lib.ListN.{getD}
+use Rattle.paper.proofs.Bools.{and-left}
 use Rattle.paper_query.specs.Constructs.{noRow, is, called}
 use Rattle.query_rows.specs.Rowed.{rowsIn, rowIn, docOf}
 use Rattle.query_links.specs.Links.{kindsSize, Kinds}
-use Rattle.query_links.proofs.Walks.{and-left, and-known, walk-first, end-first}
+use Rattle.query_links.proofs.Walks.{and-known, walk-first, end-first}
 use Rattle.query_links.proofs.ChainWalks.{RowWalk, kinds-start, kinds-less, kinds-next}
 use Rattle.query_siblings.specs.Alike.{kindCalled}
 use Rattle.query_rule_3.specs.Called.{firstCalled}

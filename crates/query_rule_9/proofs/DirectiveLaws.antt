@@ -7,12 +7,12 @@ use native.Mathlib.Omega.{arith}
 use lib.ListN.{getD}
 use lib.Dec.{ltb}
 use borrow.Author.Tests.{eq-eqb, ne-eqb, lt-ltb, le-ltb}
+use Rattle.paper.proofs.Bools.{and-right}
 use Rattle.paper.specs.Numbers.{kindArgument, kindDirective, kindVariable, kindBoolean}
 use Rattle.paper.specs.Rows.{Row}
 use Rattle.paper.specs.Tokens.{same}
-use Rattle.paper_table.specs.Lists.{bytes, anyOf}
+use Rattle.paper_table.specs.Lists.{bytes, anyOf, earlier}
 use Rattle.paper_table.specs.Types.{builtInDirectives}
-use Rattle.paper_table.specs.Rules.{earlier}
 use Rattle.table_book.specs.Book.{part}
 use Rattle.paper_query.specs.Constructs.{Doc, count, noRow, rowOf, kindOf, parentOf, nameOf, is, isSelection, called, below}
 use Rattle.paper_query.specs.Rule9Directive.{rowsBelow, isIf, onlyIfs, repeatedThere, directiveRight, directiveWrong}
@@ -20,7 +20,6 @@ use Rattle.query_rows.specs.Rowed.{rowsIn, rowIn, docOf}
 use Rattle.query_rows.proofs.RowsIn.{rows-count}
 use Rattle.query_links.specs.Links.{nextWith, Family}
 use Rattle.query_links.proofs.Nexts.{next-passes, next-most}
-use Rattle.query_links.proofs.Walks.{and-right}
 use Rattle.query_links.proofs.ChainWalks.{family-after}
 use Rattle.query_siblings.specs.Alike.{isLike, isBelow, firstBelow, nextBeside}
 use Rattle.query_siblings.proofs.BesideLaws.{beside-below}
@@ -79,7 +78,7 @@ module _ (d : Doc) (a : ℕ) where
     if-variable h n q = sym (either ∙ rw (e, le-ltb (firstBelow (d .rows) kindBoolean a) (count d) h, q))
 
 -- a directive's name as a part of the bytes, and its parent
-pub known-name : (s rows : List ℕ) (n i at l : ℕ) → at ≡ rowIn rows n i .name → l ≡ rowIn rows n i .size → anyOf (same (nameOf (docOf s rows n) i)) builtInDirectives ≡ anyOf (same (part s at l)) builtInDirectives
+pub known-name : (s rows : List ℕ) (n i at l : ℕ) → at ≡ rowIn rows n i .nameStart → l ≡ rowIn rows n i .nameLength → anyOf (same (nameOf (docOf s rows n) i)) builtInDirectives ≡ anyOf (same (part s at l)) builtInDirectives
 known-name s rows n i at l e f = rw (e, f)
 
 pub parent-selection : (rows : List ℕ) (n i p : ℕ) → p ≡ rowIn rows n i .parent → isSelection (rowIn rows n (rowIn rows n i .parent)) ≡ isSelection (rowIn rows n p)

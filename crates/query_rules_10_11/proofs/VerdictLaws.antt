@@ -7,6 +7,7 @@ use Prim.Native.Nat.{ℕ, _-_, _≤_, _<_}
 use native.Mathlib.Omega.{arith}
 use lib.Dec.{eqb}
 use borrow.Author.Tests.{eq-eqb, ne-eqb, eqb-true, eqb-false, lt-ltb, le-ltb}
+use Rattle.paper.proofs.Bools.{and-left, and-right}
 use Rattle.paper.specs.Numbers.{kindTypeReference, kindVariableDefinition}
 use Rattle.paper.specs.Rows.{Row}
 use Rattle.paper.specs.Tokens.{same}
@@ -15,11 +16,11 @@ use Rattle.paper_table.specs.Types.{Table}
 use Rattle.paper_table.proofs.ListsLaws.{any-first}
 use Rattle.paper_query.specs.QueryNumbers.{ruleUndefined, ruleVariableType}
 use Rattle.paper_query.specs.Constructs.{Doc, count, is, called, below, rowOf, nameOf}
-use Rattle.paper_query.specs.PlaceTypes.{Shape, shape, shapeIn, nullable, fits, place}
+use Rattle.paper_query.specs.PlaceTypes.{Shape, shape, shapeIn, nullable, sameButNonNull, place}
 use Rattle.paper_query.specs.Rule10Undefined.{definesIt, defines}
 use Rattle.paper_query.specs.Rule11VariableType.{declared, declaredBy, differ}
 use Rattle.table_book.specs.Book.{part}
-use Rattle.query_links.proofs.Walks.{and-left, and-right, and-known}
+use Rattle.query_links.proofs.Walks.{and-known}
 use Rattle.query_siblings.specs.Alike.{firstBelow}
 use Rattle.query_place_types.specs.Shapes.{placeUnknown, placeBoolean, placeFirst, coded}
 use Rattle.query_place_types.specs.declared.Place.{Place}
@@ -29,16 +30,16 @@ use Rattle.query_alike_pair.specs.Alike.{noRule, verdictOf}
 
 -- two types: wrappers first
 module _ (q x : Shape) where
-  fits-not : (nullable (q .wrappers) ≡ nullable (x .wrappers) → ⊥) → fits q x ≡ false
-  unfolding fits
+  fits-not : (nullable (q .wrappers) ≡ nullable (x .wrappers) → ⊥) → sameButNonNull q x ≡ false
+  unfolding sameButNonNull
   fits-not h = rw (ne-eqb (nullable (q .wrappers)) (nullable (x .wrappers)) h) (and-false (same (q .base) (x .base)))
     where
       and-false : (b : Bool) → b && false ≡ false
       and-false true = refl
       and-false false = refl
 
-  fits-base : nullable (q .wrappers) ≡ nullable (x .wrappers) → fits q x ≡ same (q .base) (x .base)
-  unfolding fits
+  fits-base : nullable (q .wrappers) ≡ nullable (x .wrappers) → sameButNonNull q x ≡ same (q .base) (x .base)
+  unfolding sameButNonNull
   fits-base h = rw (eq-eqb (nullable (q .wrappers)) (nullable (x .wrappers)) h) (and-true (same (q .base) (x .base)))
     where
       and-true : (b : Bool) → b && true ≡ b

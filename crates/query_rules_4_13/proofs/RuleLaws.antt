@@ -6,8 +6,7 @@ use lib.Dec.{eqb}
 use borrow.Author.Tests.{eq-eqb, ne-eqb}
 use Rattle.paper.specs.Numbers.{kindOperation, kindFragment, kindInline, kindTypeReference}
 use Rattle.paper_table.specs.References.{found}
-use Rattle.paper_table.specs.Types.{Table, meant}
-use Rattle.paper_table.specs.Rules.{isComposite}
+use Rattle.paper_table.specs.Types.{Table, meant, isComposite}
 use Rattle.paper_query.specs.Constructs.{Doc, rowOf, kindOf, parentOf, extraOf, nameOf}
 use Rattle.paper_query.specs.Enclosing.{rootOf}
 use Rattle.paper_query.specs.Rule4Condition.{isFragment, conditionWrong}

@@ -9,7 +9,7 @@ use borrow.Author.Tests.{ne-eqb}
 use Rattle.paper_table.specs.TableNumbers.{tagField}
 use Rattle.paper_table.specs.References.{baseOf, found}
 use Rattle.paper_table.specs.Types.{Member, Table}
-use Rattle.paper_query.specs.Enclosing.{member, typeIn}
+use Rattle.paper_query.specs.Enclosing.{member, selectionsType}
 use Rattle.paper_query.specs.Rule5Field.{isMissing}
 use Rattle.paper_query.specs.Rule6Leaf.{unlike}
 use Rattle.paper_query.proofs.EnclosingLaws.{composite-found}
@@ -27,16 +27,16 @@ module _ (t : List ℕ) (at to : ℕ) where
   leaf-unknown x selects = by-number t to (λ k f. k < fieldTypename → unlike x f selects ≡ false) (λ h. refl) (λ h. refl) (λ h. absurd (omega arith)) (λ k l h. absurd (omega arith)) at
 
   pub leaf-known : (x : Table) (selects : Bool) → fieldTypename ≤ at
-      → unlike x (fieldCoded t at to) selects ≡ cond selects (not (found (typeIn x (fieldCoded t at to)))) (found (typeIn x (fieldCoded t at to)))
+      → unlike x (fieldCoded t at to) selects ≡ cond selects (not (found (selectionsType x (fieldCoded t at to)))) (found (selectionsType x (fieldCoded t at to)))
   leaf-known x selects =
-      by-number t to (λ k f. fieldTypename ≤ k → unlike x f selects ≡ cond selects (not (found (typeIn x f))) (found (typeIn x f))) (λ h. absurd (omega arith)) (λ h. absurd (omega arith)) (λ h. alone selects)
+      by-number t to (λ k f. fieldTypename ≤ k → unlike x f selects ≡ cond selects (not (found (selectionsType x f))) (found (selectionsType x f))) (λ h. absurd (omega arith)) (λ h. absurd (omega arith)) (λ h. alone selects)
       (λ k l h. of-member (memberFrom t tagField k to) selects) at
     where
       alone : (b : Bool) → b ≡ cond b true false
       alone true = refl
       alone false = refl
 
-      of-member : (m : Member) (b : Bool) → unlike x (member m) b ≡ cond b (not (found (typeIn x (member m)))) (found (typeIn x (member m)))
+      of-member : (m : Member) (b : Bool) → unlike x (member m) b ≡ cond b (not (found (selectionsType x (member m)))) (found (selectionsType x (member m)))
       of-member m true = ap not (sym (composite-found x (baseOf (m .type))))
       of-member m false = sym (composite-found x (baseOf (m .type)))
 

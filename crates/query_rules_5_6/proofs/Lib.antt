@@ -1,4 +1,3 @@
 -- Laws of this crate.
-pub mod KindLaws
 pub mod CodedLaws
 pub mod RuleLaws

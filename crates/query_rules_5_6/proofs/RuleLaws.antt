@@ -12,8 +12,8 @@ use Rattle.paper_table.specs.Lists.{anyOf}
 use Rattle.paper_table.specs.References.{found}
 use Rattle.paper_table.specs.Types.{Table}
 use Rattle.paper_query.specs.Constructs.{Doc, isSelection, below, kindOf}
-use Rattle.paper_query.specs.Enclosing.{typeIn, fieldAt}
-use Rattle.paper_query.specs.Rule5Field.{fieldMissing}
+use Rattle.paper_query.specs.Enclosing.{selectionsType, fieldAt}
+use Rattle.paper_query.specs.Rule5Field.{fieldNotOfType}
 use Rattle.paper_query.specs.Rule6Leaf.{hasSelections, leafWrong}
 use Rattle.query_types.specs.Coded.{typeCoded}
 use Rattle.query_fields.specs.Kept.{fieldMissing as numberMissing, fieldTypename, FieldKept}
@@ -21,8 +21,8 @@ use Rattle.query_rules_5_6.proofs.CodedLaws.{coded-misses, leaf-unknown
 
 module _ (x : Table) (d : Doc) (i : ℕ) where
   -- of a field by its numbers
-  pub field-other : (kindOf d i ≡ kindField → ⊥) → false ≡ fieldMissing x d i
-  unfolding fieldMissing
+  pub field-other : (kindOf d i ≡ kindField → ⊥) → false ≡ fieldNotOfType x d i
+  unfolding fieldNotOfType
   field-other k = rw (ne-eqb (kindOf d i) kindField k)
 
   pub leaf-other : (kindOf d i ≡ kindField → ⊥) → false ≡ leafWrong x d i
@@ -30,20 +30,20 @@ module _ (x : Table) (d : Doc) (i : ℕ) where
   leaf-other k = rw (ne-eqb (kindOf d i) kindField k)
 
   module _ (k : kindOf d i ≡ kindField) (t : List ℕ) (at to : ℕ) (f : FieldKept t (fieldAt x d i) at to) where
-    pub field-judged : eqb at numberMissing ≡ fieldMissing x d i
-    unfolding fieldMissing
+    pub field-judged : eqb at numberMissing ≡ fieldNotOfType x d i
+    unfolding fieldNotOfType
     field-judged = rw (eq-eqb (kindOf d i) kindField k, f .is) (sym (coded-misses t at to))
 
     pub leaf-nowhere : at < fieldTypename → false ≡ leafWrong x d i
     unfolding leafWrong
     leaf-nowhere h = rw (eq-eqb (kindOf d i) kindField k, f .is) (sym (leaf-unknown t at to x (hasSelections d i) h))
 
-    module _ (h : fieldTypename ≤ at) (c : ℕ) (e : typeIn x (fieldAt x d i) ≡ typeCoded c) where
+    module _ (h : fieldTypename ≤ at) (c : ℕ) (e : selectionsType x (fieldAt x d i) ≡ typeCoded c) where
       by-type : (b : Bool) → hasSelections d i ≡ b → leafWrong x d i ≡ cond b (not (not (eqb c 0))) (not (eqb c 0))
       unfolding leafWrong
       by-type b q =
           rw (eq-eqb (kindOf d i) kindField k, f .is, q)
-          (leaf-known t at to x b h ∙ ap (λ (o : Bool). cond b (not o) o) (ap found (ap (typeIn x) (sym (f .is)) ∙ e) ∙ type-found c))
+          (leaf-known t at to x b h ∙ ap (λ (o : Bool). cond b (not o) o) (ap found (ap (selectionsType x) (sym (f .is)) ∙ e) ∙ type-found c))
 
       pub leaf-selects : true ≡ hasSelections d i → eqb c 0 ≡ leafWrong x d i
       leaf-selects q = twice (eqb c 0) ∙ sym (by-type true (sym q))

@@ -1,18 +1,15 @@
 // The query rules 5 and 6: what a table says of fields and their selections. They are judged where the enclosing type is known.
 use paper::KIND_FIELD;
-use paper::KIND_INLINE;
 use query_fields::FIELD_MISSING;
 use query_fields::FIELD_TYPENAME;
 use query_links::link_of;
+use query_rows::is_selection;
 use query_rows::kind_of;
 use query_types::NO_TYPE;
 ghost use mathlib.Core.Path.{_≡_};
-ghost use mathlib.Core.Bool.{_&&_};
 ghost use Prim.Native.Nat.{_<_};
-ghost use lib.Dec.{leb};
-ghost use Rattle.paper.specs.Numbers.{kindField, kindInline};
 ghost use Rattle.paper_table.specs.Types.{tableOf};
-ghost use Rattle.paper_query.specs.Rule5Field.{fieldMissing};
+ghost use Rattle.paper_query.specs.Rule5Field.{fieldNotOfType};
 ghost use Rattle.paper_query.specs.Rule6Leaf.{hasSelections, leafWrong};
 ghost use Rattle.query_rows.specs.Rowed.{rowsIn, docOf, Rowed};
 ghost use Rattle.query_links.specs.Links.{Family};
@@ -30,7 +27,7 @@ pub fn field_missing(
     i: usize,
 ) -> bool
     requires { ⌜ Rowed (now s) (now rows) n × Enclosed (now t) (now s) (now rows) n (now inside) (now at) (now to) × (i < n) ⌝ }
-    ensures { λ r. ⌜ r ≡ fieldMissing (tableOf (now (t .entry))) (docOf (now (s .entry)) (now (rows .entry)) n) i ⌝ }
+    ensures { λ r. ⌜ r ≡ fieldNotOfType (tableOf (now (t .entry))) (docOf (now (s .entry)) (now (rows .entry)) n) i ⌝ }
 {
     if kind_of(rows, n, i) != KIND_FIELD {
         return false;
@@ -38,18 +35,15 @@ pub fn field_missing(
     at[i] == FIELD_MISSING
 }
 
-// Is it the kind of a selection?
-fn is_selection(kind: u32) -> bool
-    ensures { λ r. ⌜ r ≡ leb kindField kind && leb kind kindInline ⌝ }
-{
-    if kind < KIND_FIELD {
-        return false;
-    }
-    kind <= KIND_INLINE
-}
-
 // Does a selection stand right below row i?
-fn has_selections(s: &[u8], rows: &[u32], n: usize, first: &[u32], next: &[u32], i: usize) -> bool
+pub fn has_selections(
+    s: &[u8],
+    rows: &[u32],
+    n: usize,
+    first: &[u32],
+    next: &[u32],
+    i: usize,
+) -> bool
     requires { ⌜ Rowed (now s) (now rows) n × Family (rowsIn (now rows) n) (now first) (now next) × (i < n) ⌝ }
     ensures { λ r. ⌜ r ≡ hasSelections (docOf (now (s .entry)) (now (rows .entry)) n) i ⌝ }
 {

@@ -8,6 +8,7 @@ use native.Mathlib.Decide.{decLt}
 use native.Mathlib.Omega.{arith}
 use lib.ListN.{getD}
 use borrow.Author.Tests.{eqb-true, eq-eqb, ne-eqb}
+use Rattle.paper.proofs.Bools.{and-left, and-right}
 use Rattle.paper.specs.Numbers.{mostRows}
 use Rattle.paper.specs.Rows.{Row}
 use Rattle.table_book.specs.Book.{part}
@@ -16,7 +17,7 @@ use Rattle.query_rows.specs.Rowed.{rowsIn, rowIn, docOf, Rowed}
 use Rattle.query_rows.proofs.RowsIn.{rows-count, parent-before}
 use Rattle.query_links.specs.Links.{nextWith, Family}
 use Rattle.query_links.proofs.Nexts.{next-here, next-end, next-passes, next-jump, next-most}
-use Rattle.query_links.proofs.Walks.{and-left, and-right, walk-start, walk-at, end-at, walk-first, end-first}
+use Rattle.query_links.proofs.Walks.{walk-start, walk-at, end-at, walk-first, end-first}
 use Rattle.query_links.proofs.ChainWalks.{RowWalk, family-start, family-next, family-first}
 use Rattle.query_siblings.specs.Alike.{kindCalled, isLike, firstLike, isBelow, firstBelow, nextBeside}
 
@@ -26,7 +27,7 @@ parent-most s rows n i r h =
     ⊎-elim (λ l. omega (arith, r .few)) (λ e. omega arith) (parent-before s rows n r i h)
 
 -- row i's kind, and its name as a part of the bytes
-pub as-called : (s rows : List ℕ) (n i k at l j : ℕ) → k ≡ rowIn rows n i .kind → at ≡ rowIn rows n i .name → l ≡ rowIn rows n i .size
+pub as-called : (s rows : List ℕ) (n i k at l j : ℕ) → k ≡ rowIn rows n i .kind → at ≡ rowIn rows n i .nameStart → l ≡ rowIn rows n i .nameLength
     → kindCalled (docOf s rows n) (kindOf (docOf s rows n) i) (nameOf (docOf s rows n) i) (rowIn rows n j) ≡ kindCalled (docOf s rows n) k (part s at l) (rowIn rows n j)
 as-called s rows n i k at l j e f g = rw (e, f, g)
 

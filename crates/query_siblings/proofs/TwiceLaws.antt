@@ -5,7 +5,7 @@ use Prim.Native.Nat.{ℕ, _≤_}
 use lib.Dec.{ltb}
 use borrow.Author.Tests.{eq-eqb, ne-eqb}
 use Rattle.paper.specs.Numbers.{kindArgument, kindVariableDefinition}
-use Rattle.paper_table.specs.Rules.{earlier}
+use Rattle.paper_table.specs.Lists.{earlier}
 use Rattle.paper_table.proofs.ListsLaws.{any-take}
 use Rattle.paper_query.specs.Constructs.{Doc, count, rowOf, kindOf, is}
 use Rattle.paper_query.specs.Rule12NameTwice.{nameTwice}

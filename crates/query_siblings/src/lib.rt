@@ -10,7 +10,7 @@ use query_rows::size_of;
 ghost use mathlib.Core.Path.{_≡_};
 ghost use Prim.Native.Nat.{_+_, _≤_, _<_};
 ghost use lib.ListN.{length};
-ghost use Rattle.paper_table.specs.Rules.{earlier};
+ghost use Rattle.paper_table.specs.Lists.{earlier};
 ghost use Rattle.table_book.specs.Book.{part};
 ghost use Rattle.paper_query.specs.Rule12NameTwice.{nameTwice};
 ghost use Rattle.query_rows.specs.Rowed.{rowIn, rowsIn, docOf, Rowed, Sized};

@@ -11,8 +11,8 @@ use Rattle.paper.specs.Grammar.{Ev, tok, mark}
 use Rattle.paper.specs.Numbers.{mostRows, noParent}
 use Rattle.paper.specs.Language.{Class, Mark, Part, row, kind, named, wrapper, wrap, end}
 use Rattle.paper.specs.Tokens.{Tok, Text}
-use Rattle.paper.specs.Rows.{Row, Book, blank, change, top, pop, startOf, stopOf, begun, ofKind, withName, wrapped, stopping, note, taken, rest, book, rowsOf}
-use Rattle.paper.specs.Reading.{rows-are, Said, accepts, tokensOf}
+use Rattle.paper.specs.Rows.{Row, Book, emptyBook, change, top, pop, startOf, stopOf, begun, ofKind, withName, wrapped, stopping, atMark, taken, rest, book, rowsOf}
+use Rattle.paper.specs.Reading.{rows-are, TextAnswer, accepts, tokensOf}
 use Rattle.paper_query.specs.Constructs.{noRow}
 use Rattle.query_rows.specs.Rowed.{rowsIn}
 use Rattle.query_rows.proofs.ReadRows.{Taken}
@@ -129,7 +129,7 @@ KeptBook b = Kept (parents (b .rows)) (b .open′)
 kept-same : (ps qs os : List ℕ) → ps ≡ qs → Kept qs os → Kept ps os
 kept-same ps qs os e h = rw e h
 
-note-keeps : (m : Mark) (ts : List Tok) (b : Book) → KeptBook b → KeptBook (note m ts b)
+note-keeps : (m : Mark) (ts : List Tok) (b : Book) → KeptBook b → KeptBook (atMark m ts b)
 note-keeps row ts b h =
     rw (parents-append (b .rows) (begun (startOf ts) (top (b .open′))), ← (parents-length (b .rows))) (kept-more (parents (b .rows)) (b .open′) h)
 note-keeps (kind k x) ts b h = kept-same _ _ _ (parents-change (ofKind k x) (λ r. refl) (top (b .open′)) (b .rows)) h
@@ -147,7 +147,7 @@ book-keeps : (es : List (Ev Class Mark)) (ts : List Tok) (b : Book) → KeptBook
 unfolding book
 book-keeps [] ts b h = h
 book-keeps (tok c ∷ es) ts b h = book-keeps es (rest ts) (taken ts b) (taken-keeps ts b h)
-book-keeps (mark m ∷ es) ts b h = book-keeps es ts (note m ts b) (note-keeps m ts b h)
+book-keeps (mark m ∷ es) ts b h = book-keeps es ts (atMark m ts b) (note-keeps m ts b h)
 
 inner-nested : (rs : List Row) → Inner (parents rs) → Nested rs
 inner-nested rs h j k l m u v =
@@ -156,10 +156,10 @@ inner-nested rs h j k l m u v =
 
 pub text-nested : (es : List (Ev Class Mark)) (ts : List Tok) → Nested (rowsOf es ts)
 unfolding rowsOf
-text-nested es ts = inner-nested (book es ts blank .rows) (book-keeps es ts blank (record { inner = λ j k l. absurd (omega arith); opens = tt }) .inner)
+text-nested es ts = inner-nested (book es ts emptyBook .rows) (book-keeps es ts emptyBook (record { inner = λ j k l. absurd (omega arith); opens = tt }) .inner)
 
 -- the rows that a text is said to have
-pub said-nested : (p : Part) (t : Text) (rs : List Row) → Said p t (rows-are rs) → Nested rs
+pub said-nested : (p : Part) (t : Text) (rs : List Row) → TextAnswer p t (rows-are rs) → Nested rs
 said-nested p t rs (accepts {es = es} w r c) = text-nested es (tokensOf t)
 
 -- those that the reader leaves

@@ -9,8 +9,7 @@ use native.Mathlib.Decide.{decLt}
 use native.Mathlib.Omega.{arith}
 use lib.ListN.{List·getD-eq-default}
 use borrow.Author.Tests.{lt-ltb, le-ltb}
-use Rattle.paper_table.specs.Types.{Definition, Meaning, builtIn, nothing, definition, meaning, tableOf, blank, tagNothing}
-use Rattle.paper_table.specs.Rules.{isComposite}
+use Rattle.paper_table.specs.Types.{Definition, Meaning, builtIn, noMeaning, definition, meaning, tableOf, blankDefinition, tagNothing, isComposite}
 use Rattle.paper_query.specs.Enclosing.{definitionAt, ifComposite, compositeOf}
 use Rattle.table_book.specs.Book.{countIn, room}
 use Rattle.table_types.specs.Booked.{Booked, spoken, kindIn, isCompositeTag}
@@ -25,7 +24,7 @@ module _ (t book : List ℕ) (b : Booked t book) where
       go (yes h) = rw (lt-ltb k (countIn book) h) (sym (ap (λ (d : Definition). d .tag) (b .entered k h .is)))
       go (no h) =
           let n : countIn book ≤ k = omega arith in
-          rw (le-ltb k (countIn book) n) (sym (ap (λ (d : Definition). d .tag) (List·getD-eq-default (tableOf t) (blank tagNothing) (omega (arith, b .count)))))
+          rw (le-ltb k (countIn book) n) (sym (ap (λ (d : Definition). d .tag) (List·getD-eq-default (tableOf t) (blankDefinition tagNothing) (omega (arith, b .count)))))
 
   -- an object, interface or union is a definition of the table
   pub output-below : (k : ℕ) → isComposite (definitionAt (tableOf t) k) ≡ true → k < countIn book
@@ -34,7 +33,7 @@ module _ (t book : List ℕ) (b : Booked t book) where
       go : Dec (k < countIn book) → k < countIn book
       go (yes h) = h
       go (no h) =
-          let q : definitionAt (tableOf t) k ≡ blank tagNothing = List·getD-eq-default (tableOf t) (blank tagNothing) (omega (arith, b .count)) in
+          let q : definitionAt (tableOf t) k ≡ blankDefinition tagNothing = List·getD-eq-default (tableOf t) (blankDefinition tagNothing) (omega (arith, b .count)) in
           absurd (true≢false (sym e ∙ ap isComposite q))
 
   module _ (k : ℕ) {r : Bool} (e : r ≡ isCompositeTag (kindIn book k)) where
@@ -54,13 +53,13 @@ module _ (t book : List ℕ) (b : Booked t book) where
 module _ (t n : List ℕ) where
   means : (m k : Meaning) → spoken k ≡ spoken m → m ≡ k
   means builtIn builtIn e = refl
-  means builtIn nothing e = absurd (true≢false cc)
+  means builtIn noMeaning e = absurd (true≢false cc)
   means builtIn (definition k) e = absurd (true≢false cc)
-  means nothing builtIn e = absurd (true≢false cc)
-  means nothing nothing e = refl
-  means nothing (definition k) e = absurd (true≢false cc)
+  means noMeaning builtIn e = absurd (true≢false cc)
+  means noMeaning noMeaning e = refl
+  means noMeaning (definition k) e = absurd (true≢false cc)
   means (definition i) builtIn e = absurd (true≢false cc)
-  means (definition i) nothing e = absurd (true≢false cc)
+  means (definition i) noMeaning e = absurd (true≢false cc)
   means (definition i) (definition k) e = let z : i ≡ k = cc in ap definition z
 
   pub composite-by : (k : Meaning) {r : Option ℕ} → spoken k ≡ spoken (meaning (tableOf t) n) → r ≡ ifComposite (tableOf t) k → r ≡ compositeOf (tableOf t) n

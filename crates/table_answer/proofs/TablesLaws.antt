@@ -5,10 +5,10 @@ use mathlib.Core.List.{List, head?}
 use Prim.Native.Nat.{ℕ, zero, suc, _≤_}
 use lib.ListN.{length, getD, replicate, length-replicate}
 use Rattle.paper_table.specs.TableNumbers.{mostTable}
-use Rattle.paper_table.specs.House.{framing}
-use Rattle.paper_table.specs.TableSizes.{counts}
+use Rattle.paper_table.specs.House.{framingOffset}
+use Rattle.paper_table.specs.TableSizes.{countsOffset}
 use Rattle.paper_table.specs.Types.{tableOf}
-use Rattle.paper_table.specs.Judging.{judge, answer, breaks}
+use Rattle.paper_table.specs.Judging.{judge, tableAnswer, breaks}
 use Rattle.paper_table.specs.declared.TableAnswer.the-variants.{Framing, TooMany}
 use Rattle.paper_table.proofs.TableFits.{judged-first}
 use Rattle.table_book.specs.Book.{bookSize}
@@ -41,36 +41,36 @@ within-none none e = refl
 within-none (some x) e = let z : _≡_ {A = ℕ} 0 1 = cc in absurd (omega native.Mathlib.Omega.arith)
 
 module _ (s : List ℕ) where
-  framing-is : (r : Framed) (at : ℕ) → r ≡ told (framing s) → r ≡ Wrong at → Framing at ≡ judge s
-  unfolding judge answer
-  framing-is r at p q = rw (wrong-some (framing s) at (sym q ∙ p)) refl
+  framing-is : (r : Framed) (at : ℕ) → r ≡ told (framingOffset s) → r ≡ Wrong at → Framing at ≡ judge s
+  unfolding judge tableAnswer
+  framing-is r at p q = rw (wrong-some (framingOffset s) at (sym q ∙ p)) refl
 
-  pub framing-wrong : (book : List ℕ) (r : Framed) (at : ℕ) → r ≡ told (framing s) → r ≡ Wrong at → Judges s book (Framing at)
+  pub framing-wrong : (book : List ℕ) (r : Framed) (at : ℕ) → r ≡ told (framingOffset s) → r ≡ Wrong at → Judges s book (Framing at)
   framing-wrong book r at p q = record { is = framing-is r at p q; booked = λ e. let z : _≡_ {A = ℕ} 0 1 = cc in absurd (omega native.Mathlib.Omega.arith) }
 
-  pub framing-right : (r : Framed) → r ≡ told (framing s) → r ≡ Right → framing s ≡ none
-  framing-right r p q = right-none (framing s) (sym q ∙ p)
+  pub framing-right : (r : Framed) → r ≡ told (framingOffset s) → r ≡ Right → framingOffset s ≡ none
+  framing-right r p q = right-none (framingOffset s) (sym q ∙ p)
 
-  counts-is : (r : Counted) (at : ℕ) → framing s ≡ none → r ≡ toldOver (counts s) → r ≡ Over at → TooMany at ≡ judge s
-  unfolding judge answer
-  counts-is r at f p q = rw (f, over-some (counts s) at (sym q ∙ p)) refl
+  counts-is : (r : Counted) (at : ℕ) → framingOffset s ≡ none → r ≡ toldOver (countsOffset s) → r ≡ Over at → TooMany at ≡ judge s
+  unfolding judge tableAnswer
+  counts-is r at f p q = rw (f, over-some (countsOffset s) at (sym q ∙ p)) refl
 
-  pub counts-over : (book : List ℕ) (r : Counted) (at : ℕ) → framing s ≡ none → r ≡ toldOver (counts s) → r ≡ Over at → Judges s book (TooMany at)
+  pub counts-over : (book : List ℕ) (r : Counted) (at : ℕ) → framingOffset s ≡ none → r ≡ toldOver (countsOffset s) → r ≡ Over at → Judges s book (TooMany at)
   counts-over book r at f p q = record { is = counts-is r at f p q; booked = λ e. let z : _≡_ {A = ℕ} 0 1 = cc in absurd (omega native.Mathlib.Omega.arith) }
 
-  pub counts-within : (r : Counted) → r ≡ toldOver (counts s) → r ≡ Within → counts s ≡ none
-  counts-within r p q = within-none (counts s) (sym q ∙ p)
+  pub counts-within : (r : Counted) → r ≡ toldOver (countsOffset s) → r ≡ Within → countsOffset s ≡ none
+  counts-within r p q = within-none (countsOffset s) (sym q ∙ p)
 
-  pub rules-judge : length s ≤ mostTable → framing s ≡ none → counts s ≡ none → answer none none (head? (breaks (tableOf s))) ≡ judge s
+  pub rules-judge : length s ≤ mostTable → framingOffset s ≡ none → countsOffset s ≡ none → tableAnswer none none (head? (breaks (tableOf s))) ≡ judge s
   unfolding judge
   rules-judge h f c = rw (f, c, judged-first s h) refl
 
 -- a table within its sizes has room in a book, and its rules can be judged
 module _ (t book : List ℕ) where
-  pub bookable : length t ≤ mostTable → framing t ≡ none → counts t ≡ none → length book ≡ bookSize → Bookable t book
+  pub bookable : length t ≤ mostTable → framingOffset t ≡ none → countsOffset t ≡ none → length book ≡ bookSize → Bookable t book
   bookable h f c l = record { short = h; cells = l; few = records-few t f c }
 
-  pub checkable : framing t ≡ none → counts t ≡ none → Booked t book → Checkable t book
+  pub checkable : framingOffset t ≡ none → countsOffset t ≡ none → Booked t book → Checkable t book
   checkable f c b = record { booked = b; slim = references-slim t f c; few = members-fit t f c }
 
 -- no bit of zeros is set

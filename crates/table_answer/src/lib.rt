@@ -15,8 +15,8 @@ ghost use mathlib.Core.Option.{none};
 ghost use Prim.Native.Nat.{_≤_};
 ghost use lib.ListN.{length};
 ghost use Rattle.paper_table.specs.TableNumbers.{mostTable};
-ghost use Rattle.paper_table.specs.House.{framing};
-ghost use Rattle.paper_table.specs.TableSizes.{counts};
+ghost use Rattle.paper_table.specs.House.{framingOffset};
+ghost use Rattle.paper_table.specs.TableSizes.{countsOffset};
 ghost use Rattle.paper_table.specs.Judging.{judge};
 ghost use Rattle.paper_table.specs.TableCalls.{Checked};
 ghost use Rattle.table_framing.specs.Framing.{told};
@@ -28,7 +28,7 @@ ghost use Rattle.table_answer.specs.Judges.{Judges};
 // The schema rules of a table whose framing and sizes are right. Two are scratch: which object can be which type, the book of one definition's
 // members.
 fn judge_rules(t: &[u8], book: &mut [u32], bits: &mut [u32], listed: &mut [u32]) -> TableAnswer
-    requires { ⌜ (length (now t) ≤ mostTable) × (framing (now t) ≡ none) × (counts (now t) ≡ none) × (length (now book) ≡ bookSize) × Blank (now bits) × (length (now listed) ≡ bookSize) ⌝ }
+    requires { ⌜ (length (now t) ≤ mostTable) × (framingOffset (now t) ≡ none) × (countsOffset (now t) ≡ none) × (length (now book) ≡ bookSize) × Blank (now bits) × (length (now listed) ≡ bookSize) ⌝ }
     ensures { λ r. ⌜ Judges (now (t .entry)) (now (book .exit)) r ⌝ }
 {
     table_types::fill(t, book);
@@ -38,8 +38,8 @@ fn judge_rules(t: &[u8], book: &mut [u32], bits: &mut [u32], listed: &mut [u32])
 
 // Refusal 7, where it is not known that there is none.
 fn framing_unless(t: &[u8], usual: bool) -> Framed
-    requires { ⌜ (length (now t) ≤ mostTable) × (usual ≡ true → framing (now t) ≡ none) ⌝ }
-    ensures { λ r. ⌜ r ≡ told (framing (now (t .entry))) ⌝ }
+    requires { ⌜ (length (now t) ≤ mostTable) × (usual ≡ true → framingOffset (now t) ≡ none) ⌝ }
+    ensures { λ r. ⌜ r ≡ told (framingOffset (now (t .entry))) ⌝ }
 {
     if usual {
         return Framed::Right;
@@ -49,8 +49,8 @@ fn framing_unless(t: &[u8], usual: bool) -> Framed
 
 // Refusal 8, where it is not known that there is none.
 fn over_unless(t: &[u8], usual: bool) -> Counted
-    requires { ⌜ (length (now t) ≤ mostTable) × (usual ≡ true → counts (now t) ≡ none) ⌝ }
-    ensures { λ r. ⌜ r ≡ toldOver (counts (now (t .entry))) ⌝ }
+    requires { ⌜ (length (now t) ≤ mostTable) × (usual ≡ true → countsOffset (now t) ≡ none) ⌝ }
+    ensures { λ r. ⌜ r ≡ toldOver (countsOffset (now (t .entry))) ⌝ }
 {
     if usual {
         return Counted::Within;
@@ -60,7 +60,7 @@ fn over_unless(t: &[u8], usual: bool) -> Counted
 
 // The sizes and the schema rules of a table whose framing is right. The scratch is made at one place, so that it is on the stack once.
 fn judge_framed(t: &[u8], book: &mut [u32], usual: bool) -> TableAnswer
-    requires { ⌜ (length (now t) ≤ mostTable) × (framing (now t) ≡ none) × (length (now book) ≡ bookSize) × (usual ≡ true → counts (now t) ≡ none) ⌝ }
+    requires { ⌜ (length (now t) ≤ mostTable) × (framingOffset (now t) ≡ none) × (length (now book) ≡ bookSize) × (usual ≡ true → countsOffset (now t) ≡ none) ⌝ }
     ensures { λ r. ⌜ Judges (now (t .entry)) (now (book .exit)) r ⌝ }
 {
     let c = over_unless(t, usual);

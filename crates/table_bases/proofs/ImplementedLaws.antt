@@ -6,7 +6,8 @@ use borrow.Author.Tests.{eq-eqb, ne-eqb}
 use Rattle.paper.specs.Tokens.{same}
 use Rattle.paper_table.specs.TableNumbers.{ruleImplementedTwice}
 use Rattle.paper_table.specs.Types.{Table}
-use Rattle.paper_table.specs.Rules.{earlier, noInterface}
+use Rattle.paper_table.specs.Lists.{earlier}
+use Rattle.paper_table.specs.Rule9NotObjectOrInterface.{noInterface}
 use Rattle.table_bases.specs.Meanings.{implementedFails}
 
 module _ (rule : ℕ) (t : Table) (ns : List (List ℕ)) (m : ℕ) (n : List ℕ) where

@@ -7,7 +7,8 @@ use lib.Dec.{eqb}
 use Rattle.paper.specs.Tokens.{same}
 use Rattle.paper_table.specs.TableNumbers.{ruleImplementedTwice}
 use Rattle.paper_table.specs.Types.{Table}
-use Rattle.paper_table.specs.Rules.{earlier, noInterface}
+use Rattle.paper_table.specs.Lists.{earlier}
+use Rattle.paper_table.specs.Rule9NotObjectOrInterface.{noInterface}
 
 -- implemented name m, one of these, breaks the rule of this number: 10; of any other, it is no interface's
 unfoldable pub implementedFails : ℕ → Table → List (List ℕ) → ℕ → List ℕ → Bool

@@ -5,7 +5,7 @@ use paper_table::RULE_IMPLEMENTED_TWICE;
 ghost use mathlib.Core.Path.{_≡_};
 ghost use Prim.Native.Nat.{_-_};
 ghost use Rattle.paper_table.specs.Types.{tableOf, typeIn};
-ghost use Rattle.paper_table.specs.Rules.{baseMeant};
+ghost use Rattle.paper_table.specs.Rule7NoType.{baseMeant};
 ghost use Rattle.table_fields.specs.Fields.{Bounds};
 ghost use Rattle.table_book.specs.Book.{part};
 ghost use Rattle.table_members.specs.Members.{fieldsIn, implementedIn};

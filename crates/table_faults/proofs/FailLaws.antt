@@ -5,12 +5,16 @@ use mathlib.Core.List.{List}
 use Prim.Native.Nat.{ℕ}
 use borrow.Author.Tests.{eq-eqb, ne-eqb}
 use Rattle.paper_table.specs.TableNumbers.{ruleNameRepeated, ruleReservedMember, ruleEnumValue, ruleNoType, ruleBase}
-use Rattle.paper_table.specs.Types.{Argument, Member, Table, isUnknown}
-use Rattle.paper_table.specs.Rules.{earlier, isReserved, memberNamed, argumentNamed, isNoEnumValue, baseMeant, memberUnknown, isComposite, memberBaseWrong, memberNoObject}
+use Rattle.paper_table.specs.Types.{Argument, Member, Table, isUnknown, isReserved, memberNamed, argumentNamed, isComposite}
+use Rattle.paper_table.specs.Lists.{earlier}
+use Rattle.paper_table.specs.Rule6EnumValue.{isNoEnumValue}
+use Rattle.paper_table.specs.Rule7NoType.{baseMeant, memberTypeUnknown}
+use Rattle.paper_table.specs.Rule8Base.{memberBaseWrong}
+use Rattle.paper_table.specs.Rule9NotObjectOrInterface.{memberNoObject}
 use Rattle.table_faults.specs.Faults.{memberFails, argumentFails}
 
 module _ (rule : ℕ) (t : Table) (ms : List Member) (m : ℕ) (e : Member) where
-  pub member-seven : rule ≡ ruleNoType → memberUnknown t m e ≡ memberFails rule t ms m e
+  pub member-seven : rule ≡ ruleNoType → memberTypeUnknown t m e ≡ memberFails rule t ms m e
   unfolding memberFails
   member-seven k = sym (rw (eq-eqb rule ruleNoType k) refl)
 

@@ -5,13 +5,17 @@ use mathlib.Core.List.{List}
 use Prim.Native.Nat.{ℕ}
 use lib.Dec.{eqb}
 use Rattle.paper_table.specs.TableNumbers.{ruleNameRepeated, ruleReservedMember, ruleEnumValue, ruleNoType, ruleBase}
-use Rattle.paper_table.specs.Types.{Argument, Member, Table, isUnknown}
-use Rattle.paper_table.specs.Rules.{earlier, isReserved, memberNamed, argumentNamed, isNoEnumValue, baseMeant, memberUnknown, isComposite, memberBaseWrong, memberNoObject}
+use Rattle.paper_table.specs.Types.{Argument, Member, Table, isUnknown, isReserved, memberNamed, argumentNamed, isComposite}
+use Rattle.paper_table.specs.Lists.{earlier}
+use Rattle.paper_table.specs.Rule6EnumValue.{isNoEnumValue}
+use Rattle.paper_table.specs.Rule7NoType.{baseMeant, memberTypeUnknown}
+use Rattle.paper_table.specs.Rule8Base.{memberBaseWrong}
+use Rattle.paper_table.specs.Rule9NotObjectOrInterface.{memberNoObject}
 
 -- member m, one of these, breaks the rule of this number: 4 to 8; of any other, its name is no object's
 unfoldable pub memberFails : ℕ → Table → List Member → ℕ → Member → Bool
 memberFails rule t ms m e =
-    cond (eqb rule ruleNoType) (memberUnknown t m e)
+    cond (eqb rule ruleNoType) (memberTypeUnknown t m e)
     (cond (eqb rule ruleBase) (memberBaseWrong t m e)
     (cond (eqb rule ruleNameRepeated) (earlier (memberNamed (e .name)) m ms)
     (cond (eqb rule ruleReservedMember) (isReserved (e .name))

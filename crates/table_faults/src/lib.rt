@@ -11,7 +11,8 @@ use paper_table::TAG_ARGUMENT;
 use paper_table::TAG_FIELD;
 ghost use mathlib.Core.Path.{_≡_};
 ghost use Rattle.paper_table.specs.Types.{tableOf};
-ghost use Rattle.paper_table.specs.Rules.{memberUnknown, memberBaseWrong};
+ghost use Rattle.paper_table.specs.Rule7NoType.{memberTypeUnknown};
+ghost use Rattle.paper_table.specs.Rule8Base.{memberBaseWrong};
 ghost use Rattle.table_fields.specs.Fields.{Bounds};
 ghost use Rattle.table_members.specs.Members.{membersIn, argumentsIn, memberFrom, argumentFrom};
 ghost use Rattle.table_types.specs.Booked.{Booked};
@@ -23,7 +24,7 @@ const NO_TYPE: u32 = 0;
 // Rule 7, of the member with this tag and content.
 fn is_member_unknown(t: &[u8], book: &[u32], tag: u8, start: usize, end: usize) -> bool
     requires { ⌜ Booked (now t) (now book) × Bounds (now t) start end ⌝ }
-    ensures { λ r. ⌜ r ≡ memberUnknown (tableOf (now (t .entry))) 0 (memberFrom (now (t .entry)) tag start end) ⌝ }
+    ensures { λ r. ⌜ r ≡ memberTypeUnknown (tableOf (now (t .entry))) 0 (memberFrom (now (t .entry)) tag start end) ⌝ }
 {
     if tag == TAG_FIELD {
         return table_bases::base_tag(t, book, start, end) == NO_TYPE;

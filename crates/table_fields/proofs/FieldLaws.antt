@@ -8,7 +8,7 @@ use lib.ListN.{length, take, drop, getD, drop-of-length-le}
 use lib.Seq.{slice, slice-cons, length-slice, take-nil, length-take-le, take-take, drop-drop}
 use lib.Dec.{leb, ltb}
 use borrow.Author.Tests.{ltb-true, ltb-false, leb-true, leb-false}
-use Rattle.paper_table.specs.House.{piece, cut, pieces}
+use Rattle.paper_table.specs.House.{houseField, cut, houseFields}
 use Rattle.paper_table.proofs.PiecesLaws.{pieces-nil, pieces-one, pieces-two, pieces-cut, pieces-field as pieces-whole}
 use Rattle.table_fields.specs.declared.FieldRead.{FieldRead}
 use Rattle.table_fields.specs.declared.FieldRead.the-variants.{Field, Cut}
@@ -44,53 +44,53 @@ module _ (t : List ℕ) (at end : ℕ) (w : end ≤ length t) where
       let f : at + 2 + 1 ≡ at + 3 = omega arith in
       rw (slice-next t at end (omega arith) w, slice-next t (at + 1) end (omega arith) w, e, slice-next t (at + 2) end (omega arith) w, f)
 
-  cut-one : at + 1 ≡ end → pieces at (slice at end t) ≡ cut at ∷ []
-  cut-one e = ap (pieces at) (slice-next t at end (omega arith) w ∙ ap (λ (l : List ℕ). getD t at 0 ∷ l) (slice-none t (at + 1) end (omega arith) w)) ∙ pieces-one at (getD t at 0)
+  cut-one : at + 1 ≡ end → houseFields at (slice at end t) ≡ cut at ∷ []
+  cut-one e = ap (houseFields at) (slice-next t at end (omega arith) w ∙ ap (λ (l : List ℕ). getD t at 0 ∷ l) (slice-none t (at + 1) end (omega arith) w)) ∙ pieces-one at (getD t at 0)
 
-  cut-two : at + 2 ≡ end → pieces at (slice at end t) ≡ cut at ∷ []
+  cut-two : at + 2 ≡ end → houseFields at (slice at end t) ≡ cut at ∷ []
   cut-two e =
       let f : at + 1 + 1 ≡ at + 2 = omega arith in
       let q : slice at end t ≡ getD t at 0 ∷ getD t (at + 1) 0 ∷ [] = rw (slice-next t at end (omega arith) w, slice-next t (at + 1) end (omega arith) w, f, slice-none t (at + 2) end (omega arith) w) in
-      ap (pieces at) q ∙ pieces-two at (getD t at 0) (getD t (at + 1) 0)
+      ap (houseFields at) q ∙ pieces-two at (getD t at 0) (getD t (at + 1) 0)
 
   -- of bytes there are, the first field
-  pub pieces-field : at < end → pieces at (slice at end t) ≡ piecesBy t at end (fieldAt t at end)
+  pub pieces-field : at < end → houseFields at (slice at end t) ≡ piecesBy t at end (fieldAt t at end)
   pieces-field h = go (ltb (end - at) 3) refl
     where
       long : at + 3 ≤ end → (b : Bool) → leb (sizeAt t at) (end - at - 3) ≡ b
-          → pieces at (slice at end t) ≡ piecesBy t at end (cond b (Field (getD t at 0) (at + 3) (at + 3 + sizeAt t at)) Cut)
+          → houseFields at (slice at end t) ≡ piecesBy t at end (cond b (Field (getD t at 0) (at + 3) (at + 3 + sizeAt t at)) Cut)
       long k true q =
           let m : sizeAt t at ≤ end - at - 3 = leb-true (sizeAt t at) (end - at - 3) q in
-          ap (pieces at) (three k)
+          ap (houseFields at) (three k)
           ∙ pieces-whole at (getD t at 0) (getD t (at + 1) 0) (getD t (at + 2) 0) (sizeAt t at) (slice (at + 3) end t) refl (omega (arith, length-slice (at + 3) end t w))
           ∙ rw (slice-take t (at + 3) end (sizeAt t at) (omega arith), slice-drop t (at + 3) end (sizeAt t at))
       long k false q =
           let m : end - at - 3 < sizeAt t at = leb-false (sizeAt t at) (end - at - 3) q in
-          ap (pieces at) (three k)
+          ap (houseFields at) (three k)
           ∙ pieces-cut at (getD t at 0) (getD t (at + 1) 0) (getD t (at + 2) 0) (slice (at + 3) end t) (omega (arith, length-slice (at + 3) end t w))
 
-      short : (n : ℕ) → end - at ≡ n → n < 3 → pieces at (slice at end t) ≡ cut at ∷ []
+      short : (n : ℕ) → end - at ≡ n → n < 3 → houseFields at (slice at end t) ≡ cut at ∷ []
       short zero e k = absurd (omega arith)
       short (suc zero) e k = cut-one (omega arith)
       short (suc (suc zero)) e k = cut-two (omega arith)
       short (suc (suc (suc n))) e k = absurd (omega arith)
 
       go : (b : Bool) → ltb (end - at) 3 ≡ b
-          → pieces at (slice at end t) ≡ piecesBy t at end (cond b Cut (cond (leb (sizeAt t at) (end - at - 3)) (Field (getD t at 0) (at + 3) (at + 3 + sizeAt t at)) Cut))
+          → houseFields at (slice at end t) ≡ piecesBy t at end (cond b Cut (cond (leb (sizeAt t at) (end - at - 3)) (Field (getD t at 0) (at + 3) (at + 3 + sizeAt t at)) Cut))
       go true q = short (end - at) refl (ltb-true (end - at) 3 q)
       go false q = long (let m : 3 ≤ end - at = ltb-false (end - at) 3 q in omega arith) (leb (sizeAt t at) (end - at - 3)) refl
 
   -- so a field read is the first, and bytes that are no whole field are all there is
   pub pieces-read : at < end → (tag start stop : ℕ) → fieldAt t at end ≡ Field tag start stop
-      → pieces at (slice at end t) ≡ piece at tag (slice start stop t) ∷ pieces stop (slice stop end t)
+      → houseFields at (slice at end t) ≡ houseField at tag (slice start stop t) ∷ houseFields stop (slice stop end t)
   pieces-read h tag start stop q = pieces-field h ∙ ap (piecesBy t at end) q
 
-  pub pieces-torn : at < end → fieldAt t at end ≡ Cut → pieces at (slice at end t) ≡ cut at ∷ []
+  pub pieces-torn : at < end → fieldAt t at end ≡ Cut → houseFields at (slice at end t) ≡ cut at ∷ []
   pieces-torn h q = pieces-field h ∙ ap (piecesBy t at end) q
 
 -- no byte, no field
-pub pieces-none : (t : List ℕ) (at end : ℕ) → end ≤ at → end ≤ length t → pieces at (slice at end t) ≡ []
-pieces-none t at end h w = ap (pieces at) (slice-none t at end h w) ∙ pieces-nil at
+pub pieces-none : (t : List ℕ) (at end : ℕ) → end ≤ at → end ≤ length t → houseFields at (slice at end t) ≡ []
+pieces-none t at end h w = ap (houseFields at) (slice-none t at end h w) ∙ pieces-nil at
 
 -- where a field lies: right behind its tag and length, and not past the end
 pub record Lies (at end start stop : ℕ) : Type 0 where

@@ -7,7 +7,7 @@ use native.Mathlib.Nat.{le-refl}
 use lib.ListN.{length}
 use lib.Seq.{slice}
 use borrow.Author.Tests.{eq-eqb, ne-eqb}
-use Rattle.paper_table.specs.House.{pieces}
+use Rattle.paper_table.specs.House.{houseFields}
 use Rattle.paper_table.specs.Types.{textOf}
 use Rattle.table_fields.specs.declared.FieldRead.the-variants.{Field, Cut}
 use Rattle.table_fields.specs.Fields.{fieldAt, Finds}
@@ -15,7 +15,7 @@ use Rattle.table_fields.proofs.FieldLaws.{field-lies, pieces-read, piec
 
 -- from a place i on the text found is the one from `at` on
 pub record Seeks (t : List ℕ) (at end tag i : ℕ) : Type 0 where
-  pub text : textOf tag (pieces i (slice i end t)) ≡ textOf tag (pieces at (slice at end t))
+  pub text : textOf tag (houseFields i (slice i end t)) ≡ textOf tag (houseFields at (slice at end t))
   pub begins : at ≤ i
   pub order : i ≤ end
 
@@ -23,7 +23,7 @@ pub seeks-start : (t : List ℕ) (at end tag : ℕ) → at ≤ end → Seeks t a
 seeks-start t at end tag h = record { text = refl; begins = le-refl at; order = h }
 
 module _ (t : List ℕ) (at end tag i : ℕ) (w : end ≤ length t) (s : Seeks t at end tag i) where
-  none-found : [] ≡ textOf tag (pieces i (slice i end t)) → Finds t at end tag end end
+  none-found : [] ≡ textOf tag (houseFields i (slice i end t)) → Finds t at end tag end end
   none-found e = record {
     text = slice-none t end end (le-refl end) w ∙ e ∙ s .text;
     begins = omega (arith, s .begins, s .order);

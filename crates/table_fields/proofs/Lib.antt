@@ -1,4 +1,5 @@
 -- Laws of the readers of a table's parts.
+pub mod BoundsLaws
 pub mod FieldLaws
 pub mod NameLaws
 pub mod FindLaws

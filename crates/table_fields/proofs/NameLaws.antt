@@ -8,7 +8,7 @@ use lib.ListN.{length, take, getD}
 use lib.Seq.{slice, length-slice}
 use lib.Dec.{eqb}
 use borrow.Author.Tests.{eq-eqb, ne-eqb, eqb-true, eqb-false}
-use Rattle.paper.specs.Lexical.{letter, letterOrDigit, oneOf, within, span}
+use Rattle.paper.specs.Lexical.{letter, letterOrDigit, inSet, within, span}
 use Rattle.paper_table.specs.Lists.{allOf, firstAt}
 use Rattle.paper_table.specs.References.{isName, nameSize}
 use Rattle.table_fields.proofs.FieldLaws.{slice-none, slice-next}
@@ -55,10 +55,10 @@ all-run q (b ∷ s) = go (q b) (all-run q s)
     go false r = ne-eqb 0 (suc (length s)) (λ e. omega arith)
 
 -- what begins a name may stand in one
-pub letter-goes : (b : ℕ) → oneOf letter b ≡ true → oneOf letterOrDigit b ≡ true
+pub letter-goes : (b : ℕ) → inSet letter b ≡ true → inSet letterOrDigit b ≡ true
 letter-goes b e = go (within (span 0x30 0x39) b)
   where
-    go : (c : Bool) → c || oneOf letter b ≡ true
+    go : (c : Bool) → c || inSet letter b ≡ true
     go true = refl
     go false = e
 
@@ -67,14 +67,14 @@ module _ (t : List ℕ) (start end : ℕ) (w : end ≤ length t) where
   unfolding isName
   name-none h = rw (slice-none t start end h w)
 
-  pub name-no : start < end → oneOf letter (getD t start 0) ≡ false → false ≡ isName (slice start end t)
+  pub name-no : start < end → inSet letter (getD t start 0) ≡ false → false ≡ isName (slice start end t)
   unfolding isName
   name-no h e = rw (slice-next t start end h w, e)
 
-  pub name-by : start < end → oneOf letter (getD t start 0) ≡ true → (stop : ℕ) → stop ≡ start + 1 + nameSize (slice (start + 1) end t)
+  pub name-by : start < end → inSet letter (getD t start 0) ≡ true → (stop : ℕ) → stop ≡ start + 1 + nameSize (slice (start + 1) end t)
       → eqb stop end ≡ isName (slice start end t)
   unfolding isName
   name-by h e stop q =
       let m = nameSize (slice (start + 1) end t) in
       eq-same stop end m (length (slice (start + 1) end t)) (λ k. omega (arith, length-slice (start + 1) end t w)) (λ k. omega (arith, length-slice (start + 1) end t w))
-      ∙ all-run (oneOf letterOrDigit) (slice (start + 1) end t) ∙ rw (slice-next t start end h w, e)
+      ∙ all-run (inSet letterOrDigit) (slice (start + 1) end t) ∙ rw (slice-next t start end h w, e)

@@ -10,9 +10,9 @@ use lib.ListN.{length, take, drop, getD}
 use lib.Seq.{slice, length-slice}
 use lib.Dec.{eqb, eqb·suc-zero}
 use borrow.Author.Tests.{eq-eqb, ne-eqb, eqb-true, eqb-false}
-use Rattle.paper.specs.Lexical.{letter, letterOrDigit, oneOf}
+use Rattle.paper.specs.Lexical.{letter, letterOrDigit, inSet}
 use Rattle.paper_table.specs.Lists.{firstAt}
-use Rattle.paper_table.specs.References.{isName, Ref, named, listOf, nonNull, baseOf, isNonNull, byteBang, byteBracketL, byteBracketR, ReadRef, got, bad, marked, closed, nameSize, readName, refFrom, wholeRef, refOf, found, isReference}
+use Rattle.paper_table.specs.References.{isName, Ref, named, listOf, nonNull, baseOf, isNonNull, byteBang, byteBracketL, byteBracketR, ReadRef, got, noReference, marked, closed, nameSize, readName, refFrom, wholeRef, refOf, found, isReference}
 use Rattle.paper_table.proofs.ListsLaws.{firstAt-most}
 use Rattle.table_fields.specs.Wrappers.{packOf, packLimit, isMarked, bracketSize, wrapperOf, Refers, RefersRead}
 use Rattle.table_fields.specs.declared.RefRead.{RefRead}
@@ -25,7 +25,7 @@ unfoldable closedTimes : ℕ → ReadRef → ReadRef
 closedTimes zero x = x
 closedTimes (suc d) x = closedTimes d (closed x)
 
-closed-bad : (d : ℕ) → closedTimes d bad ≡ bad
+closed-bad : (d : ℕ) → closedTimes d noReference ≡ noReference
 unfolding closedTimes closed
 closed-bad zero = refl
 closed-bad (suc d) = closed-bad d
@@ -104,21 +104,21 @@ whole (b ∷ s) = (λ d r n. mark-first d r b s (whole s) n, λ d r n. behind d 
     no-mark false = refl
 
 -- The name that a text begins with.
-name-none : readName [] ≡ bad
+name-none : readName [] ≡ noReference
 unfolding readName isName firstAt
 name-none = refl
 
-name-no : (b : ℕ) (s : List ℕ) → oneOf letter b ≡ false → readName (b ∷ s) ≡ bad
+name-no : (b : ℕ) (s : List ℕ) → inSet letter b ≡ false → readName (b ∷ s) ≡ noReference
 unfolding readName isName firstAt
-name-no b s e = go (not (oneOf letterOrDigit b))
+name-no b s e = go (not (inSet letterOrDigit b))
   where
-    go : (x : Bool) → cond (isName (take (cond x 0 (suc (nameSize s))) (b ∷ s))) (marked (named (take (cond x 0 (suc (nameSize s))) (b ∷ s))) (drop (cond x 0 (suc (nameSize s))) (b ∷ s))) bad ≡ bad
+    go : (x : Bool) → cond (isName (take (cond x 0 (suc (nameSize s))) (b ∷ s))) (marked (named (take (cond x 0 (suc (nameSize s))) (b ∷ s))) (drop (cond x 0 (suc (nameSize s))) (b ∷ s))) noReference ≡ noReference
     go true = refl
     go false = rw e
 
-name-yes : (b : ℕ) (s : List ℕ) → oneOf letter b ≡ true → readName (b ∷ s) ≡ marked (named (b ∷ take (nameSize s) s)) (drop (nameSize s) s)
+name-yes : (b : ℕ) (s : List ℕ) → inSet letter b ≡ true → readName (b ∷ s) ≡ marked (named (b ∷ take (nameSize s) s)) (drop (nameSize s) s)
 unfolding readName isName firstAt
-name-yes b s e = rw (letter-goes b e, e, run-all (oneOf letterOrDigit) s)
+name-yes b s e = rw (letter-goes b e, e, run-all (inSet letterOrDigit) s)
 
 -- What is read from `start` on, if the `[` end at `from`.
 module _ (t : List ℕ) (start end from : ℕ) (o : start ≤ end) (w : end ≤ length t) (q : from ≡ start + bracketSize (slice start end t)) where
@@ -132,19 +132,19 @@ module _ (t : List ℕ) (start end from : ℕ) (o : start ≤ end) (w : end ≤ 
   pub brackets-within : (start ≤ from) × (from ≤ end)
   brackets-within = (omega arith, omega (arith, firstAt-most (λ b. not (eqb b byteBracketL)) (slice start end t), length-slice start end t w))
 
-  bad-none : readName (slice from end t) ≡ bad → refOf (slice start end t) ≡ none
+  bad-none : readName (slice from end t) ≡ noReference → refOf (slice start end t) ≡ none
   unfolding wholeRef
   bad-none e = ref-from ∙ ap wholeRef (ap (closedTimes (from - start)) e ∙ closed-bad (from - start))
 
   pub ref-none : end ≤ from → refOf (slice start end t) ≡ none
   ref-none h = bad-none (ap readName (slice-none t from end h w) ∙ name-none)
 
-  pub ref-no : from < end → oneOf letter (getD t from 0) ≡ false → refOf (slice start end t) ≡ none
+  pub ref-no : from < end → inSet letter (getD t from 0) ≡ false → refOf (slice start end t) ≡ none
   ref-no h e = bad-none (ap readName (slice-next t from end h w) ∙ name-no (getD t from 0) (slice (from + 1) end t) e)
 
-  module _ (to : ℕ) (h : from < end) (l : oneOf letter (getD t from 0) ≡ true) (z : to ≡ from + 1 + nameSize (slice (from + 1) end t)) where
+  module _ (to : ℕ) (h : from < end) (l : inSet letter (getD t from 0) ≡ true) (z : to ≡ from + 1 + nameSize (slice (from + 1) end t)) where
     pub to-order : (from < to) × (to ≤ end)
-    to-order = (omega arith, omega (arith, firstAt-most (λ b. not (oneOf letterOrDigit b)) (slice (from + 1) end t), length-slice (from + 1) end t w))
+    to-order = (omega arith, omega (arith, firstAt-most (λ b. not (inSet letterOrDigit b)) (slice (from + 1) end t), length-slice (from + 1) end t w))
 
     name-is : getD t from 0 ∷ take (nameSize (slice (from + 1) end t)) (slice (from + 1) end t) ≡ slice from to t
     name-is =
@@ -189,7 +189,7 @@ pub record Wrapped (t : List ℕ) (start end from to wrappers lists i : ℕ) : T
   pub within : i ≤ end
 
 pub wrapped-start : (t : List ℕ) (start end from to : ℕ) → start ≤ end → end ≤ length t → from ≡ start + bracketSize (slice start end t)
-    → from < end → oneOf letter (getD t from 0) ≡ true → to ≡ from + 1 + nameSize (slice (from + 1) end t)
+    → from < end → inSet letter (getD t from 0) ≡ true → to ≡ from + 1 + nameSize (slice (from + 1) end t)
     → Wrapped t start end from to 0 (from - start) to
 unfolding packOf
 wrapped-start t start end from to o w q h l z =

@@ -8,7 +8,7 @@ use lib.ListN.{length, getD}
 use lib.Seq.{slice}
 use lib.Dec.{leb, ltb}
 use Rattle.paper_table.specs.TableNumbers.{mostTable}
-use Rattle.paper_table.specs.House.{Piece, piece, cut, pieces}
+use Rattle.paper_table.specs.House.{HouseField, houseField, cut, houseFields}
 use Rattle.paper_table.specs.Types.{textOf}
 use Rattle.table_fields.specs.declared.FieldRead.{FieldRead}
 use Rattle.table_fields.specs.declared.FieldRead.the-variants.{Field, Cut}
@@ -30,13 +30,13 @@ fieldAt t at end =
     (cond (leb (sizeAt t at) (end - at - 3)) (Field (getD t at 0) (at + 3) (at + 3 + sizeAt t at)) Cut)
 
 -- the fields from a place on, by what is read there
-abbrev pub piecesBy : List ℕ → ℕ → ℕ → FieldRead → List Piece
-piecesBy t at end (Field tag start stop) = piece at tag (slice start stop t) ∷ pieces stop (slice stop end t)
+abbrev pub piecesBy : List ℕ → ℕ → ℕ → FieldRead → List HouseField
+piecesBy t at end (Field tag start stop) = houseField at tag (slice start stop t) ∷ houseFields stop (slice stop end t)
 piecesBy t at end Cut = cut at ∷ []
 
 -- from `from` up to `to` stands the content of the first field of a tag, among those from `at` on; no bytes if there is none
 pub record Finds (t : List ℕ) (at end tag from to : ℕ) : Type 0 where
-  pub text : slice from to t ≡ textOf tag (pieces at (slice at end t))
+  pub text : slice from to t ≡ textOf tag (houseFields at (slice at end t))
   pub begins : at ≤ from
   pub order : from ≤ to
   pub within : to ≤ end

@@ -6,17 +6,10 @@ use Prim.Native.Nat.{ℕ, suc, _+_, _≤_, _<_}
 use native.Mathlib.Omega.{arith}
 use lib.Dec.{leb, eqb}
 use borrow.Author.Tests.{le-leb, lt-leb, leb-true, eqb-true, eq-eqb}
+use Rattle.paper.proofs.Bools.{and-left, and-right}
 use Rattle.paper_table.specs.Lists.{anyOf}
 use Rattle.paper_table.specs.House.{Slot, one, atMostOne, many, isFor, inPlace, openAfter}
 use Rattle.table_framing.specs.Holders.{rank, isMany, leastAfter, slotTag, slotMany, agrees, ranked, openFrom}
-
-pub and-left : (a b : Bool) → a && b ≡ true → a ≡ true
-and-left true b e = refl
-and-left false b e = e
-
-pub and-right : (a b : Bool) → a && b ≡ true → b ≡ true
-and-right true b e = e
-and-right false b e = absurd (false≢true e)
 
 -- a slot by its tag and whether it is for many
 for-tag : (k : ℕ) (s : Slot) → isFor k s ≡ eqb k (slotTag s)

@@ -13,9 +13,10 @@ use lib.Dec.{eqb, leb}
 use borrow.Author.Tests.{eq-eqb, ne-eqb}
 use types.Run.{OneOf}
 use denote.Enum.Declared.{tagOf}
+use Rattle.paper.proofs.Bools.{and-left, and-right}
 use Rattle.paper_table.specs.Lists.{anyOf, onlyIf}
 use Rattle.paper_table.specs.References.{isName, isReference}
-use Rattle.paper_table.specs.House.{Piece, piece, pieces, Slot, contentOf, inPlace, openAfter, tagIs, lacks, inOrder, orLacking, byContent, wrongs, mostDeep, recordInPlace, tableWrongs, framing}
+use Rattle.paper_table.specs.House.{HouseField, houseField, houseFields, Slot, contentOf, inPlace, openAfter, tagIs, lacksHouseField, inOrder, orLacking, byContent, wrongs, mostDeep, recordInPlace, tableWrongs, framingOffset}
 use Rattle.paper_table.proofs.ListsLaws.{head-nil}
 use Rattle.paper_table.proofs.HolderLaws.{order-on, order-inside, order-out, order-cut, order-end, lacking-first, lacking-end, table-on, table-inside, table-out, table-cut, table-end}
 use Rattle.paper_table.proofs.Rising.{framing-first}
@@ -29,24 +30,24 @@ use Rattle.table_framing.specs.declared.Holding.the-variants.{Name, Refe
 use Rattle.table_framing.specs.Holders.{rank, leastAfter, placed, openFrom, Holder, HoldsAs}
 use Rattle.table_framing.specs.Framing.{told, isLeaf, rootsAfter}
 use Rattle.table_framing.proofs.Holding.{the-type}
-use Rattle.table_framing.proofs.OpenLaws.{and-left, and-right, in-open, open-after, open-start}
+use Rattle.table_framing.proofs.OpenLaws.{in-open, open-after, open-start}
 
 -- A tag among fields, from each place on.
 module _ (t : List ℕ) (i end tag : ℕ) (w : end ≤ length t) where
-  pub seen-none : end ≤ i → false ≡ anyOf (tagIs tag) (pieces i (slice i end t))
+  pub seen-none : end ≤ i → false ≡ anyOf (tagIs tag) (houseFields i (slice i end t))
   unfolding anyOf
   seen-none h = rw (pieces-none t i end h w)
 
-  pub seen-torn : i < end → fieldAt t i end ≡ Cut → false ≡ anyOf (tagIs tag) (pieces i (slice i end t))
+  pub seen-torn : i < end → fieldAt t i end ≡ Cut → false ≡ anyOf (tagIs tag) (houseFields i (slice i end t))
   unfolding anyOf
   seen-torn h q = rw (pieces-torn t i end w h q)
 
   module _ (h : i < end) (k from to : ℕ) (q : fieldAt t i end ≡ Field k from to) where
-    pub seen-here : k ≡ tag → true ≡ anyOf (tagIs tag) (pieces i (slice i end t))
+    pub seen-here : k ≡ tag → true ≡ anyOf (tagIs tag) (houseFields i (slice i end t))
     unfolding anyOf
     seen-here e = rw (pieces-read t i end w h k from to q, eq-eqb k tag e)
 
-    pub seen-on : (k ≡ tag → ⊥) → anyOf (tagIs tag) (pieces to (slice to end t)) ≡ anyOf (tagIs tag) (pieces i (slice i end t))
+    pub seen-on : (k ≡ tag → ⊥) → anyOf (tagIs tag) (houseFields to (slice to end t)) ≡ anyOf (tagIs tag) (houseFields i (slice i end t))
     unfolding anyOf
     seen-on e = rw (pieces-read t i end w h k from to q, ne-eqb k tag e)
 
@@ -95,8 +96,8 @@ leaf-is depth at tag s h b r n a l q e = sym (leaf-by depth at tag s h n a l ∙
 -- A holder up to the place i: what comes decides, among the slots from the least rank on.
 pub record Ordered (t : List ℕ) (at tag end depth first second from to least i : ℕ) : Type 0 where
   pub holder : Holder tag first second from to
-  pub rest : head? (inOrder (wrongs (depth - 1)) (openFrom least (holder .slots)) (pieces i (slice i end t))) ≡
-      head? (inOrder (wrongs (depth - 1)) (holder .slots) (pieces (at + 3) (slice (at + 3) end t)))
+  pub rest : head? (inOrder (wrongs (depth - 1)) (openFrom least (holder .slots)) (houseFields i (slice i end t))) ≡
+      head? (inOrder (wrongs (depth - 1)) (holder .slots) (houseFields (at + 3) (slice (at + 3) end t)))
   pub begins : at + 3 ≤ i
   pub order : i ≤ end
 
@@ -104,15 +105,15 @@ pub ordered-start : (t : List ℕ) (at tag end depth first second from to : ℕ)
     → Ordered t at tag end depth first second from to 0 (at + 3)
 ordered-start t at tag end depth first second from to a h = record {
   holder = a;
-  rest = ap (λ (ss : List Slot). head? (inOrder (wrongs (depth - 1)) ss (pieces (at + 3) (slice (at + 3) end t)))) (sym (open-start (a .slots)));
+  rest = ap (λ (ss : List Slot). head? (inOrder (wrongs (depth - 1)) ss (houseFields (at + 3) (slice (at + 3) end t)))) (sym (open-start (a .slots)));
   begins = le-refl (at + 3);
   order = h;
 }
 
 module _ (t : List ℕ) (at tag end depth first second from to least i : ℕ) (w : end ≤ length t) (n : depth ≡ 0 → ⊥) (o : Ordered t at tag end depth first second from to least i) where
   -- all the fields of the holder, its slots; and those that are left
-  abbrev all : List Piece
-  all = pieces (at + 3) (slice (at + 3) end t)
+  abbrev all : List HouseField
+  all = houseFields (at + 3) (slice (at + 3) end t)
 
   abbrev slots : List Slot
   slots = o .holder .slots
@@ -120,34 +121,34 @@ module _ (t : List ℕ) (at tag end depth first second from to least i : ℕ) (w
   abbrev open′ : List Slot
   open′ = openFrom least slots
 
-  whole : wrongs depth at tag (slice (at + 3) end t) ≡ orLacking at (lacks slots all) (inOrder (wrongs (depth - 1)) slots all)
+  whole : wrongs depth at tag (slice (at + 3) end t) ≡ orLacking at (lacksHouseField slots all) (inOrder (wrongs (depth - 1)) slots all)
   unfolding byContent
   whole = deeper depth at tag (slice (at + 3) end t) n ∙ rw (o .holder .is)
 
-  shown : (v : ℕ) → head? (inOrder (wrongs (depth - 1)) open′ (pieces i (slice i end t))) ≡ some v → told (head? (wrongs depth at tag (slice (at + 3) end t))) ≡ Wrong v
-  shown v e = ap told (ap head? whole ∙ lacking-first at (lacks slots all) (inOrder (wrongs (depth - 1)) slots all) v (sym (o .rest) ∙ e))
+  shown : (v : ℕ) → head? (inOrder (wrongs (depth - 1)) open′ (houseFields i (slice i end t))) ≡ some v → told (head? (wrongs depth at tag (slice (at + 3) end t))) ≡ Wrong v
+  shown v e = ap told (ap head? whole ∙ lacking-first at (lacksHouseField slots all) (inOrder (wrongs (depth - 1)) slots all) v (sym (o .rest) ∙ e))
 
   pub ordered-torn : i < end → fieldAt t i end ≡ Cut → Wrong i ≡ told (head? (wrongs depth at tag (slice (at + 3) end t)))
-  ordered-torn h q = sym (shown i (ap (λ (ps : List Piece). head? (inOrder (wrongs (depth - 1)) open′ ps)) (pieces-torn t i end w h q) ∙ order-cut (wrongs (depth - 1)) open′ i []))
+  ordered-torn h q = sym (shown i (ap (λ (ps : List HouseField). head? (inOrder (wrongs (depth - 1)) open′ ps)) (pieces-torn t i end w h q) ∙ order-cut (wrongs (depth - 1)) open′ i []))
 
   module _ (h : i < end) (k a e : ℕ) (q : fieldAt t i end ≡ Field k a e) (r : Bool) (p : r ≡ placed first from to least k) where
     in-is : inPlace k open′ ≡ r
     in-is = in-open least k slots ∙ ap (λ (b : Bool). leb least (rank k) && b) (o .holder .known k) ∙ sym p
 
-    split : inOrder (wrongs (depth - 1)) open′ (pieces i (slice i end t)) ≡ inOrder (wrongs (depth - 1)) open′ (piece i k (slice a e t) ∷ pieces e (slice e end t))
+    split : inOrder (wrongs (depth - 1)) open′ (houseFields i (slice i end t)) ≡ inOrder (wrongs (depth - 1)) open′ (houseField i k (slice a e t) ∷ houseFields e (slice e end t))
     split = ap (inOrder (wrongs (depth - 1)) open′) (pieces-read t i end w h k a e q)
 
     content : slice (i + 3) e t ≡ slice a e t
     content = let l = field-lies t i end k a e (o .order) q in rw (l .begins)
 
     pub ordered-out : r ≡ false → Wrong i ≡ told (head? (wrongs depth at tag (slice (at + 3) end t)))
-    ordered-out f = sym (shown i (ap head? split ∙ order-out (wrongs (depth - 1)) open′ i k (slice a e t) (pieces e (slice e end t)) (in-is ∙ f)))
+    ordered-out f = sym (shown i (ap head? split ∙ order-out (wrongs (depth - 1)) open′ i k (slice a e t) (houseFields e (slice e end t)) (in-is ∙ f)))
 
     pub ordered-inside : r ≡ true → (x : Framed) (v : ℕ) → x ≡ told (head? (wrongs (depth - 1) i k (slice (i + 3) e t))) → x ≡ Wrong v
         → x ≡ told (head? (wrongs depth at tag (slice (at + 3) end t)))
     ordered-inside f x v g z =
         let y : head? (wrongs (depth - 1) i k (slice a e t)) ≡ some v = rw content at (told-wrong (head? (wrongs (depth - 1) i k (slice (i + 3) e t))) v (sym g ∙ z)) in
-        z ∙ sym (shown v (ap head? split ∙ order-inside (wrongs (depth - 1)) open′ i k (slice a e t) (pieces e (slice e end t)) v (in-is ∙ f) y))
+        z ∙ sym (shown v (ap head? split ∙ order-inside (wrongs (depth - 1)) open′ i k (slice a e t) (houseFields e (slice e end t)) v (in-is ∙ f) y))
 
     pub ordered-on : r ≡ true → (x : Framed) → x ≡ told (head? (wrongs (depth - 1) i k (slice (i + 3) e t))) → x ≡ Right → (m : ℕ) → m ≡ leastAfter k
         → Ordered t at tag end depth first second from to m e
@@ -162,8 +163,8 @@ module _ (t : List ℕ) (at tag end depth first second from to least i : ℕ) (w
           rest =
               sym
               (ap head?
-              (split ∙ order-on (wrongs (depth - 1)) open′ i k (slice a e t) (pieces e (slice e end t)) (in-is ∙ f) y
-              ∙ ap (λ (ss : List Slot). inOrder (wrongs (depth - 1)) ss (pieces e (slice e end t))) v))
+              (split ∙ order-on (wrongs (depth - 1)) open′ i k (slice a e t) (houseFields e (slice e end t)) (in-is ∙ f) y
+              ∙ ap (λ (ss : List Slot). inOrder (wrongs (depth - 1)) ss (houseFields e (slice e end t))) v))
               ∙ o .rest;
           begins = omega (arith, o .begins, l .begins, l .order);
           order = l .within;
@@ -173,11 +174,11 @@ module _ (t : List ℕ) (at tag end depth first second from to least i : ℕ) (w
       → cond (not x || not y) (Wrong at) Right ≡ told (head? (wrongs depth at tag (slice (at + 3) end t)))
   ordered-lacks h x y f g =
       let none-left : head? (inOrder (wrongs (depth - 1)) slots all) ≡ none =
-      sym (o .rest) ∙ ap (λ (ps : List Piece). head? (inOrder (wrongs (depth - 1)) open′ ps)) (pieces-none t i end h w) ∙ ap head? (order-end (wrongs (depth - 1)) open′) in
-      let lack : not x || not y ≡ lacks slots all = rw (f, g) (sym (o .holder .dues all)) in
+      sym (o .rest) ∙ ap (λ (ps : List HouseField). head? (inOrder (wrongs (depth - 1)) open′ ps)) (pieces-none t i end h w) ∙ ap head? (order-end (wrongs (depth - 1)) open′) in
+      let lack : not x || not y ≡ lacksHouseField slots all = rw (f, g) (sym (o .holder .dues all)) in
       sym
       (ap told
-      (ap head? (whole ∙ ap (orLacking at (lacks slots all)) (head-nil (inOrder (wrongs (depth - 1)) slots all) none-left)) ∙ lacking-end at (lacks slots all))
+      (ap head? (whole ∙ ap (orLacking at (lacksHouseField slots all)) (head-nil (inOrder (wrongs (depth - 1)) slots all) none-left)) ∙ lacking-end at (lacksHouseField slots all))
       ∙ ap (λ (b : Bool). told (cond b (some at) none)) (sym lack) ∙ by (not x || not y))
     where
       by : (b : Bool) → told (cond b (some at) none) ≡ cond b (Wrong at) Right
@@ -198,36 +199,36 @@ module _ (t : List ℕ) (at tag end depth first second from to least i : ℕ) (w
 
 -- A table up to the place i.
 pub record Framing (t : List ℕ) (roots : Bool) (i : ℕ) : Type 0 where
-  pub rest : head? (tableWrongs roots (pieces i (slice i (length t) t))) ≡ framing t
+  pub rest : head? (tableWrongs roots (houseFields i (slice i (length t) t))) ≡ framingOffset t
   pub order : i ≤ length t
 
 pub framing-start : (t : List ℕ) → Framing t true 0
 framing-start t = record {
-  rest = ap (λ (s : List ℕ). head? (tableWrongs true (pieces 0 s))) (take-length t) ∙ sym (framing-first t);
+  rest = ap (λ (s : List ℕ). head? (tableWrongs true (houseFields 0 s))) (take-length t) ∙ sym (framing-first t);
   order = omega arith;
 }
 
 module _ (t : List ℕ) (roots : Bool) (i : ℕ) (o : Framing t roots i) where
-  pub framing-end : length t ≤ i → Right ≡ told (framing t)
-  framing-end h = ap told (sym (ap head? (table-end roots)) ∙ ap (λ (ps : List Piece). head? (tableWrongs roots ps)) (sym (pieces-none t i (length t) h (le-refl (length t)))) ∙ o .rest)
+  pub framing-end : length t ≤ i → Right ≡ told (framingOffset t)
+  framing-end h = ap told (sym (ap head? (table-end roots)) ∙ ap (λ (ps : List HouseField). head? (tableWrongs roots ps)) (sym (pieces-none t i (length t) h (le-refl (length t)))) ∙ o .rest)
 
-  pub framing-torn : i < length t → fieldAt t i (length t) ≡ Cut → Wrong i ≡ told (framing t)
-  framing-torn h q = ap told (sym (table-cut roots i []) ∙ ap (λ (ps : List Piece). head? (tableWrongs roots ps)) (sym (pieces-torn t i (length t) (le-refl (length t)) h q)) ∙ o .rest)
+  pub framing-torn : i < length t → fieldAt t i (length t) ≡ Cut → Wrong i ≡ told (framingOffset t)
+  framing-torn h q = ap told (sym (table-cut roots i []) ∙ ap (λ (ps : List HouseField). head? (tableWrongs roots ps)) (sym (pieces-torn t i (length t) (le-refl (length t)) h q)) ∙ o .rest)
 
   module _ (h : i < length t) (k a e : ℕ) (q : fieldAt t i (length t) ≡ Field k a e) (r : Bool) (p : r ≡ recordInPlace roots k) where
-    split-table : tableWrongs roots (pieces i (slice i (length t) t)) ≡ tableWrongs roots (piece i k (slice a e t) ∷ pieces e (slice e (length t) t))
+    split-table : tableWrongs roots (houseFields i (slice i (length t) t)) ≡ tableWrongs roots (houseField i k (slice a e t) ∷ houseFields e (slice e (length t) t))
     split-table = ap (tableWrongs roots) (pieces-read t i (length t) (le-refl (length t)) h k a e q)
 
     content-table : slice (i + 3) e t ≡ slice a e t
     content-table = let l = field-lies t i (length t) k a e (o .order) q in rw (l .begins)
 
-    pub framing-out : r ≡ false → Wrong i ≡ told (framing t)
-    framing-out f = ap told (sym (table-out roots i k (slice a e t) (pieces e (slice e (length t) t)) (sym p ∙ f)) ∙ sym (ap head? split-table) ∙ o .rest)
+    pub framing-out : r ≡ false → Wrong i ≡ told (framingOffset t)
+    framing-out f = ap told (sym (table-out roots i k (slice a e t) (houseFields e (slice e (length t) t)) (sym p ∙ f)) ∙ sym (ap head? split-table) ∙ o .rest)
 
-    pub framing-inside : r ≡ true → (x : Framed) (v : ℕ) → x ≡ told (head? (wrongs mostDeep i k (slice (i + 3) e t))) → x ≡ Wrong v → x ≡ told (framing t)
+    pub framing-inside : r ≡ true → (x : Framed) (v : ℕ) → x ≡ told (head? (wrongs mostDeep i k (slice (i + 3) e t))) → x ≡ Wrong v → x ≡ told (framingOffset t)
     framing-inside f x v g z =
         let y : head? (wrongs mostDeep i k (slice a e t)) ≡ some v = rw content-table at (told-wrong (head? (wrongs mostDeep i k (slice (i + 3) e t))) v (sym g ∙ z)) in
-        z ∙ ap told (sym (table-inside roots i k (slice a e t) (pieces e (slice e (length t) t)) v (sym p ∙ f) y) ∙ sym (ap head? split-table) ∙ o .rest)
+        z ∙ ap told (sym (table-inside roots i k (slice a e t) (houseFields e (slice e (length t) t)) v (sym p ∙ f) y) ∙ sym (ap head? split-table) ∙ o .rest)
 
     pub framing-on : r ≡ true → (x : Framed) → x ≡ told (head? (wrongs mostDeep i k (slice (i + 3) e t))) → x ≡ Right → (b : Bool) → b ≡ rootsAfter roots k → Framing t b e
     framing-on f x g z b c =
@@ -235,7 +236,7 @@ module _ (t : List ℕ) (roots : Bool) (i : ℕ) (o : Framing t roots i) where
         let l = field-lies t i (length t) k a e (o .order) q in
         record {
           rest =
-              ap (λ (d : Bool). head? (tableWrongs d (pieces e (slice e (length t) t)))) c
-              ∙ sym (ap head? (split-table ∙ table-on roots i k (slice a e t) (pieces e (slice e (length t) t)) (sym p ∙ f) y)) ∙ o .rest;
+              ap (λ (d : Bool). head? (tableWrongs d (houseFields e (slice e (length t) t)))) c
+              ∙ sym (ap head? (split-table ∙ table-on roots i k (slice a e t) (houseFields e (slice e (length t) t)) (sym p ∙ f) y)) ∙ o .rest;
           order = l .within;
         }

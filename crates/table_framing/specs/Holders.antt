@@ -7,7 +7,7 @@ use Prim.Native.Nat.{ℕ, suc, _+_, _*_}
 use lib.Dec.{leb, eqb}
 use Rattle.paper_table.specs.TableNumbers.{tagReference, tagImplements, tagEnumValue}
 use Rattle.paper_table.specs.Lists.{anyOf}
-use Rattle.paper_table.specs.House.{Piece, Slot, one, atMostOne, many, aName, aReference, noTag, holds, contentOf, inPlace, tagIs, lacks}
+use Rattle.paper_table.specs.House.{HouseField, Slot, one, atMostOne, many, aName, aReference, noTag, holds, contentOf, inPlace, tagIs, lacksHouseField}
 use Rattle.table_framing.specs.declared.Holding.{Holding}
 use Rattle.table_framing.specs.declared.Holding.the-variants.{Name, Reference, Fields, Nothing}
 
@@ -56,7 +56,7 @@ pub record Holder (tag first second from to : ℕ) : Type 0 where
   pub slots : List Slot
   pub is : contentOf tag ≡ holds slots
   pub known : (k : ℕ) → inPlace k slots ≡ eqb k first || leb from k && leb k to
-  pub dues : (ps : List Piece) → lacks slots ps ≡ not (anyOf (tagIs first) ps) || not (anyOf (tagIs second) ps)
+  pub dues : (ps : List HouseField) → lacksHouseField slots ps ≡ not (anyOf (tagIs first) ps) || not (anyOf (tagIs second) ps)
   pub rises : ranked 0 slots ≡ true
 
 abbrev pub HoldsAs : ℕ → Holding → Type 0

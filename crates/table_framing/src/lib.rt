@@ -28,7 +28,7 @@ ghost use lib.ListN.{length};
 ghost use lib.Seq.{slice};
 ghost use Rattle.paper_table.specs.TableNumbers.{mostTable, tagName, tagReference};
 ghost use Rattle.paper_table.specs.Lists.{anyOf};
-ghost use Rattle.paper_table.specs.House.{pieces, tagIs, wrongs, recordInPlace, framing};
+ghost use Rattle.paper_table.specs.House.{houseFields, tagIs, wrongs, recordInPlace, framingOffset};
 ghost use Rattle.table_fields.specs.Fields.{Bounds};
 ghost use Rattle.table_framing.specs.declared.Holding.the-variants.{Fields};
 ghost use Rattle.table_framing.specs.Holders.{HoldsAs, rank, leastAfter, placed};
@@ -111,7 +111,7 @@ pub fn content_of(tag: u8) -> Holding
 // Is there a field with this tag?
 pub fn has_tag(t: &[u8], start: usize, end: usize, tag: u8) -> bool
     requires { ⌜ Bounds (now t) start end ⌝ }
-    ensures { λ r. ⌜ r ≡ anyOf (tagIs tag) (pieces start (slice start end (now (t .entry)))) ⌝ }
+    ensures { λ r. ⌜ r ≡ anyOf (tagIs tag) (houseFields start (slice start end (now (t .entry)))) ⌝ }
 {
     let mut i = start;
     while i < end {
@@ -281,7 +281,7 @@ const MOST_DEEP: u32 = 4;
 // Refusal 7: the smallest wrong offset of a table.
 pub fn framing(t: &[u8]) -> Framed
     requires { ⌜ length (now t) ≤ mostTable ⌝ }
-    ensures { λ r. ⌜ r ≡ told (framing (now (t .entry))) ⌝ }
+    ensures { λ r. ⌜ r ≡ told (framingOffset (now (t .entry))) ⌝ }
 {
     let mut roots = true;
     let mut i = 0;

@@ -31,8 +31,8 @@ ghost use Prim.Native.Nat.{_+_, _≤_};
 ghost use lib.ListN.{length};
 ghost use lib.Seq.{slice};
 ghost use Rattle.paper_table.specs.TableNumbers.{mostTable};
-ghost use Rattle.paper_table.specs.House.{aName, contentOf, mostDeep, framing};
-ghost use Rattle.paper_table.specs.TableSizes.{counts};
+ghost use Rattle.paper_table.specs.House.{aName, contentOf, mostDeep, framingOffset};
+ghost use Rattle.paper_table.specs.TableSizes.{countsOffset};
 ghost use Rattle.table_fields.specs.Fields.{Bounds};
 ghost use Rattle.table_framing.specs.Holders.{Holder};
 ghost use Rattle.table_framing_quick_types.specs.Fine.{Fine};
@@ -136,7 +136,7 @@ fn is_usual_record(t: &[u8], at: usize, tag: u8, end: usize) -> bool
 // No refusal 7 and no refusal 8.
 pub fn is_usual(t: &[u8]) -> bool
     requires { ⌜ length (now t) ≤ mostTable ⌝ }
-    ensures { λ r. ⌜ (r ≡ true → (framing (now (t .entry)) ≡ none) × (counts (now (t .entry)) ≡ none)) ⌝ }
+    ensures { λ r. ⌜ (r ≡ true → (framingOffset (now (t .entry)) ≡ none) × (countsOffset (now (t .entry)) ≡ none)) ⌝ }
 {
     let mut roots = true;
     let mut left = MOST_RECORDS;

@@ -9,12 +9,12 @@ use lib.ListN.{length, length-append}
 use lib.Seq.{slice, length-slice}
 use lib.Dec.{eqb}
 use borrow.Author.Tests.{ne-eqb, eqb-true}
-use Rattle.paper.specs.Lexical.{letterOrDigit, oneOf}
+use Rattle.paper.specs.Lexical.{letterOrDigit, inSet}
 use Rattle.paper.specs.Numbers.{mostWrappers}
 use Rattle.paper_table.specs.TableNumbers.{mostArguments, tagName, tagReference, tagArgument, tagField}
 use Rattle.paper_table.specs.Lists.{anyOf, allOf, onlyIf}
 use Rattle.paper_table.specs.References.{isName, Ref, baseOf, byteBang, byteBracketL, byteBracketR, found}
-use Rattle.paper_table.specs.House.{piece, pieces, many, lookUp, contents, openAfter, inOrder, byContent, wrongs}
+use Rattle.paper_table.specs.House.{houseField, houseFields, many, lookUp, contents, openAfter, inOrder, byContent, wrongs}
 use Rattle.paper_table.specs.TableSizes.{room, roomIn, oversIn, isWrapper, wrappersOver, oversBy, overs}
 use Rattle.paper_table.proofs.ListsLaws.{head-nil}
 use Rattle.paper_table.proofs.ReferenceTexts.{refText, Written, a-name, a-list, a-non-null, name-all, refOf-sound}
@@ -53,7 +53,7 @@ wrapped-both [] b = omega arith
 wrapped-both (x ∷ a) b = let e = wrapped-both a b in omega (arith, e)
 
 -- no byte of a name is a wrapper
-plain : (b : ℕ) → oneOf letterOrDigit b ≡ true → isWrapper b ≡ false
+plain : (b : ℕ) → inSet letterOrDigit b ≡ true → isWrapper b ≡ false
 plain b h = go (eqb b byteBracketL) refl (eqb b byteBang) refl
   where
     go : (x : Bool) → eqb b byteBracketL ≡ x → (y : Bool) → eqb b byteBang ≡ y → x || y ≡ false
@@ -61,12 +61,12 @@ plain b h = go (eqb b byteBracketL) refl (eqb b byteBang) refl
     go false p true q = absurd (false≢true (rw (eqb-true b byteBang q) at h))
     go false p false q = refl
 
-wrapped-none : (n : List ℕ) → allOf (oneOf letterOrDigit) n ≡ true → wrapped n ≡ 0
+wrapped-none : (n : List ℕ) → allOf (inSet letterOrDigit) n ≡ true → wrapped n ≡ 0
 unfolding wrapped allOf
 wrapped-none [] h = refl
-wrapped-none (b ∷ n) h = go (oneOf letterOrDigit b) refl h (wrapped-none n)
+wrapped-none (b ∷ n) h = go (inSet letterOrDigit b) refl h (wrapped-none n)
   where
-    go : (c : Bool) → oneOf letterOrDigit b ≡ c → c && allOf (oneOf letterOrDigit) n ≡ true → (allOf (oneOf letterOrDigit) n ≡ true → wrapped n ≡ 0) → cond (isWrapper b) 1 0 + wrapped n ≡ 0
+    go : (c : Bool) → inSet letterOrDigit b ≡ c → c && allOf (inSet letterOrDigit) n ≡ true → (allOf (inSet letterOrDigit) n ≡ true → wrapped n ≡ 0) → cond (isWrapper b) 1 0 + wrapped n ≡ 0
     go true q h ih = rw (plain b q, ih h)
     go false q h ih = absurd (false≢true h)
 
@@ -99,7 +99,7 @@ module _ (t : List ℕ) (start end from to wrappers : ℕ) (w : end ≤ length t
 
 -- A field that is read in a part is its first.
 first : (t : List ℕ) (at end k from to : ℕ) → at ≤ end → end ≤ length t → fieldAt t at end ≡ Field k from to
-    → pieces at (slice at end t) ≡ piece at k (slice from to t) ∷ pieces to (slice to end t)
+    → houseFields at (slice at end t) ≡ houseField at k (slice from to t) ∷ houseFields to (slice to end t)
 first t at end k from to o w q = let l = field-lies t at end k from to o q in pieces-read t at end w (omega (arith, l .begins, l .order, l .within)) k from to q
 
 -- a name and a type are read
@@ -130,13 +130,13 @@ module _ (t : List ℕ) (at end stop : ℕ) (w : end ≤ length t) (b : Begins t
   pub argument-fine : stop ≡ end → (d : ℕ) → Fine (suc (suc d)) at tagArgument (slice (at + 3) end t)
   unfolding wrongs byContent lookUp contents openAfter inOrder anyOf overs oversBy oversIn roomIn
   argument-fine e d =
-      let q : pieces (at + 3) (slice (at + 3) end t) ≡ piece (at + 3) tagName (b .name) ∷ piece (b .second) tagReference (b .reference) ∷ [] = b .parts ∙ rw (pieces-none t stop end (omega arith) w) in
+      let q : houseFields (at + 3) (slice (at + 3) end t) ≡ houseField (at + 3) tagName (b .name) ∷ houseField (b .second) tagReference (b .reference) ∷ [] = b .parts ∙ rw (pieces-none t stop end (omega arith) w) in
       (rw (q, b .named, b .refers .0), rw (q, b .refers .1))
 
 -- A field up to the place i, behind its name and its type: so many arguments may still come, and if they are fine it is.
 pub record Usual (t : List ℕ) (at end left i : ℕ) : Type 0 where
-  pub rest : (d : ℕ) → inOrder (wrongs (suc (suc d))) (many tagArgument ∷ []) (pieces i (slice i end t)) ≡ []
-      → oversIn (overs (suc (suc d))) (room tagArgument tagArgument left ∷ []) (pieces i (slice i end t)) ≡ []
+  pub rest : (d : ℕ) → inOrder (wrongs (suc (suc d))) (many tagArgument ∷ []) (houseFields i (slice i end t)) ≡ []
+      → oversIn (overs (suc (suc d))) (room tagArgument tagArgument left ∷ []) (houseFields i (slice i end t)) ≡ []
       → Fine (suc (suc (suc d))) at tagField (slice (at + 3) end t)
   pub order : i ≤ end
 
@@ -156,7 +156,7 @@ module _ (t : List ℕ) (at end left i : ℕ) (w : end ≤ length t) (o : Usual 
   unfolding inOrder oversIn anyOf openAfter
   usual-on k from to q e n v =
       let l = field-lies t i end k from to (o .order) q in
-      let p : pieces i (slice i end t) ≡ piece i tagArgument (slice (i + 3) to t) ∷ pieces to (slice to end t) = first t i end k from to (o .order) w q ∙ rw (e, l .begins) in
+      let p : houseFields i (slice i end t) ≡ houseField i tagArgument (slice (i + 3) to t) ∷ houseFields to (slice to end t) = first t i end k from to (o .order) w q ∙ rw (e, l .begins) in
       record {
         rest = λ d f g. o .rest d (rw (p, v d .0) f) (rw (p, v d .1, ne-eqb left 0 n, pred-is left) g);
         order = l .within;

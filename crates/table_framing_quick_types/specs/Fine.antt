@@ -8,7 +8,7 @@ use lib.Seq.{slice}
 use Rattle.paper.specs.Numbers.{mostWrappers}
 use Rattle.paper_table.specs.TableNumbers.{tagName, tagReference}
 use Rattle.paper_table.specs.References.{isName, isReference}
-use Rattle.paper_table.specs.House.{piece, pieces, wrongs}
+use Rattle.paper_table.specs.House.{houseField, houseFields, wrongs}
 use Rattle.paper_table.specs.TableSizes.{wrappersOver, overs}
 use Rattle.table_framing_quick_types.specs.declared.Typed.{Typed}
 use Rattle.table_framing_quick_types.specs.declared.Typed.the-variants.{Ends, Unusual}
@@ -26,7 +26,7 @@ pub record Begins (t : List ℕ) (start end stop : ℕ) : Type 0 where
   pub name : List ℕ
   pub second : ℕ
   pub reference : List ℕ
-  pub parts : pieces start (slice start end t) ≡ piece start tagName name ∷ piece second tagReference reference ∷ pieces stop (slice stop end t)
+  pub parts : houseFields start (slice start end t) ≡ houseField start tagName name ∷ houseField second tagReference reference ∷ houseFields stop (slice stop end t)
   pub named : isName name ≡ true
   pub refers : FewWrappers (second + 3) reference
   pub order : start ≤ stop

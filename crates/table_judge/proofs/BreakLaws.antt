@@ -14,8 +14,9 @@ use Rattle.paper_table.proofs.TableAnswer.{the-type}
 use Rattle.paper_table.specs.TableNumbers.{noPlace, ruleRoot}
 use Rattle.paper_table.specs.Lists.{bytes, anyOf, gather}
 use Rattle.paper_table.specs.Types.{Definition, Table, isRoots, meant}
-use Rattle.paper_table.specs.Rules.{Place, queryNotObject}
-use Rattle.paper_table.specs.Judging.{Break, break, rules, breaksOf, breaks, answer}
+use Rattle.paper_table.specs.Places.{Place}
+use Rattle.paper_table.specs.Rule16Root.{queryNotObject}
+use Rattle.paper_table.specs.Judging.{Break, break, rules, breaksOf, breaks, tableAnswer}
 use Rattle.paper_table.specs.declared.TableAnswer.{TableAnswer}
 use Rattle.paper_table.specs.declared.TableAnswer.the-variants.{Accepted, Breaks}
 use Rattle.paper_table.proofs.Walk.{breaksFrom, definitionAt, breaks-start, breaks-on, breaks-here, breaks-end}
@@ -28,7 +29,7 @@ use Rattle.table_judge.specs.Schema.{earlyRule, promiseRule, lateRule, r
 
 -- what is said where a first break is all there may be
 abbrev pub said : Option Break → TableAnswer
-said o = answer none none o
+said o = tableAnswer none none o
 
 -- the breaks of n rules, from number k on
 unfoldable pub breaksBy : Table → ℕ → Definition → ℕ → ℕ → List Break
@@ -48,7 +49,7 @@ unfolding breaksBy
 one-rule t i d k n = refl
 
 told : (i k : ℕ) (qs : List Place) (bs : List Break) (r : PlaceRead) (m p a : ℕ) → r ≡ placed (head? qs) → r ≡ At m p a → shownAt i k r ≡ said (head? (map (break i k) qs ++ bs))
-unfolding answer
+unfolding tableAnswer
 told i k [] bs r m p a e f = let z : At m p a ≡ Kept = sym f ∙ e in cc
 told i k (q ∷ qs) bs r m p a e f = ap (shownAt i k) e
 
@@ -68,7 +69,7 @@ module _ (t : Table) (i : ℕ) (d : Definition) where
 
   module _ (k : ℕ) (w : InTurn t i d k) where
     pub turn-end : 16 < k → Accepted ≡ said (head? (breaksOf t i d))
-    unfolding answer
+    unfolding tableAnswer
     turn-end h =
         sym (w .same ∙ ap (λ (n : ℕ). said (head? (breaksBy t i d k n))) (let e : 17 - k ≡ 0 = omega arith in e) ∙ ap (λ (bs : List Break). said (head? bs)) (no-rule t i d k))
 
@@ -129,7 +130,7 @@ pub record InOrder (t : Table) (i : ℕ) : Type 0 where
   pub same : said (head? (breaks t)) ≡ said (head? (breaksFrom t i))
 
 said-none : (o : Option Break) → Accepted ≡ said o → o ≡ none
-unfolding answer
+unfolding tableAnswer
 said-none none e = refl
 said-none (some b) e = let z : Accepted ≡ Breaks (b .definition) (b .rule) (b .place .member) (b .place .part) (b .place .argument) = e in cc
 
@@ -139,7 +140,7 @@ module _ (t : Table) where
 
   module _ (i : ℕ) (w : InOrder t i) where
     pub order-end : length t ≤ i → queryAnswer t ≡ said (head? (breaks t))
-    unfolding answer
+    unfolding tableAnswer
     order-end h =
         sym (w .same ∙ ap (λ (n : ℕ). said (head? (breaksFrom t n))) (let e : i ≡ length t = omega (arith, w .within) in e) ∙ ap said (breaks-end t) ∙ go (queryNotObject t))
       where
@@ -149,7 +150,7 @@ module _ (t : Table) where
 
     module _ (h : i < length t) (r : TableAnswer) (e : r ≡ said (head? (breaksOf t i (definitionAt t i)))) where
       pub order-here : (r ≡ Accepted → ⊥) → r ≡ said (head? (breaks t))
-      unfolding answer
+      unfolding tableAnswer
       order-here f = go (head? (breaksOf t i (definitionAt t i))) refl
         where
           go : (o : Option Break) → head? (breaksOf t i (definitionAt t i)) ≡ o → r ≡ said (head? (breaks t))

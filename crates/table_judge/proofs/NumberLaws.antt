@@ -5,7 +5,23 @@ use mathlib.Core.List.{[]}
 use Prim.Native.Nat.{ℕ, _≤_, _<_}
 use lib.Dec.{eqb}
 use borrow.Author.Tests.{eq-eqb, ne-eqb, le-leb, lt-leb}
-use Rattle.paper_table.specs.Rules.{reservedName, nameKnown, noMembers, nameRepeated, reservedMember, enumValue, noType, wrongBase, notObjectOrInterface, implementedTwice, fieldMissing, fieldType, argumentMissing, argumentType, argumentExtra, rootNotObject, promised, promisedBy, missingBreaks, typeBreaks, argumentBreaks, argumentTypeBreaks, extraBreaks}
+use Rattle.paper_table.specs.Promises.{promised, promisedBy}
+use Rattle.paper_table.specs.Rule1ReservedName.{reservedName}
+use Rattle.paper_table.specs.Rule2NameKnown.{nameKnown}
+use Rattle.paper_table.specs.Rule3NoMembers.{noMembers}
+use Rattle.paper_table.specs.Rule4NameRepeated.{nameRepeated}
+use Rattle.paper_table.specs.Rule5ReservedMember.{reservedMember}
+use Rattle.paper_table.specs.Rule6EnumValue.{enumValue}
+use Rattle.paper_table.specs.Rule7NoType.{noType}
+use Rattle.paper_table.specs.Rule8Base.{wrongBase}
+use Rattle.paper_table.specs.Rule9NotObjectOrInterface.{notObjectOrInterface}
+use Rattle.paper_table.specs.Rule10ImplementedTwice.{implementedTwice}
+use Rattle.paper_table.specs.Rule11FieldMissing.{interfaceFieldMissing, missingBreaks}
+use Rattle.paper_table.specs.Rule12FieldType.{fieldType, typeBreaks}
+use Rattle.paper_table.specs.Rule13ArgumentMissing.{interfaceArgumentMissing, argumentBreaks}
+use Rattle.paper_table.specs.Rule14ArgumentType.{argumentType, argumentTypeBreaks}
+use Rattle.paper_table.specs.Rule15ArgumentExtra.{argumentExtra, extraBreaks}
+use Rattle.paper_table.specs.Rule16Root.{rootNotObject}
 use Rattle.paper_table.specs.Types.{Definition, Table}
 use Rattle.paper_table.proofs.ListsLaws.{eachFrom-nil}
 use Rattle.table_rules_11_15_quick.specs.Keeping.{AllKept}
@@ -45,7 +61,7 @@ module _ (k : ℕ) where
   early-8 n1 n2 n3 n4 n5 n6 n7 = rw (ne-eqb k 1 n1, ne-eqb k 2 n2, ne-eqb k 3 n3, ne-eqb k 4 n4, ne-eqb k 5 n5, ne-eqb k 6 n6, ne-eqb k 7 n7) refl
 
 module _ (k : ℕ) where
-  pub promise-11 : k ≡ 11 → promiseRule k ≡ fieldMissing
+  pub promise-11 : k ≡ 11 → promiseRule k ≡ interfaceFieldMissing
   unfolding promiseRule
   promise-11 e = rw (eq-eqb k 11 e) refl
 
@@ -53,7 +69,7 @@ module _ (k : ℕ) where
   unfolding promiseRule
   promise-12 n11 e = rw (ne-eqb k 11 n11, eq-eqb k 12 e) refl
 
-  pub promise-13 : (k ≡ 11 → ⊥) → (k ≡ 12 → ⊥) → k ≡ 13 → promiseRule k ≡ argumentMissing
+  pub promise-13 : (k ≡ 11 → ⊥) → (k ≡ 12 → ⊥) → k ≡ 13 → promiseRule k ≡ interfaceArgumentMissing
   unfolding promiseRule
   promise-13 n11 n12 e = rw (ne-eqb k 11 n11, ne-eqb k 12 n12, eq-eqb k 13 e) refl
 
@@ -96,7 +112,7 @@ pub promise-kept : (k : ℕ) (t : Table) (i : ℕ) (d : Definition) → AllKept 
 unfolding promiseRule
 promise-kept k t i d h = go (eqb k 11) (eqb k 12) (eqb k 13) (eqb k 14)
   where
-    go : (a b c e : Bool) → (cond a fieldMissing (cond b fieldType (cond c argumentMissing (cond e argumentType argumentExtra)))) t i d ≡ []
+    go : (a b c e : Bool) → (cond a interfaceFieldMissing (cond b fieldType (cond c interfaceArgumentMissing (cond e argumentType argumentExtra)))) t i d ≡ []
     go true b c e = h .field-missing
     go false true c e = h .field-type
     go false false true e = h .argument-missing
@@ -104,7 +120,7 @@ promise-kept k t i d h = go (eqb k 11) (eqb k 12) (eqb k 13) (eqb k 14)
     go false false false false = h .argument-extra
 
 pub nothing-promised : (t : Table) (i : ℕ) (d : Definition) → d .implements ≡ [] → AllKept t i d
-unfolding fieldMissing fieldType argumentMissing argumentType argumentExtra promised
+unfolding interfaceFieldMissing fieldType interfaceArgumentMissing argumentType argumentExtra promised
 nothing-promised t i d e = record {
   field-missing = rw e (eachFrom-nil 0 (promisedBy (missingBreaks d) t));
   field-type = rw e (eachFrom-nil 0 (promisedBy (typeBreaks t d) t));

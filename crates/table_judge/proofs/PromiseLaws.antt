@@ -7,7 +7,7 @@ use native.Mathlib.Omega.{arith}
 use lib.ListN.{length}
 use borrow.Author.Tests.{leb-true, not-false}
 use Rattle.paper_table.specs.TableNumbers.{mostMembers}
-use Rattle.paper_table.specs.Types.{Member, tableOf, blank, tagNothing}
+use Rattle.paper_table.specs.Types.{Member, tableOf, blankDefinition, tagNothing}
 use Rattle.table_book.specs.Book.{room, bookSize, countIn}
 use Rattle.table_members.specs.Members.{implementedIn}
 use Rattle.table_types.specs.Booked.{definitionOn, startIn, endIn}
@@ -21,7 +21,7 @@ use Rattle.table_judge.proofs.NumberLaws.{nothing-promised}
 
 module _ (t book : List ℕ) (k : Checkable t book) (i : ℕ) (h : i < countIn book) where
   few-members : length (definitionOn t i .members) ≤ mostMembers
-  few-members = leb-true (length (definitionOn t i .members)) mostMembers (all-at fewMembers (blank tagNothing) (tableOf t) (k .few) i (omega (arith, k .booked .count)))
+  few-members = leb-true (length (definitionOn t i .members)) mostMembers (all-at fewMembers (blankDefinition tagNothing) (tableOf t) (k .few) i (omega (arith, k .booked .count)))
 
   module _ (s e : ℕ) (p : s ≡ startIn book i) (q : e ≡ endIn book i) where
     pub listable : (l : List ℕ) → length l ≡ bookSize → Listable t l s e

@@ -10,7 +10,23 @@ use lib.Dec.{leb, eqb}
 use Rattle.paper_table.specs.TableNumbers.{noPlace, ruleReservedName, ruleNameKnown, ruleNoMembers, ruleNameRepeated, ruleReservedMember, ruleEnumValue, ruleNoType, ruleBase, ruleNotObjectOrInterface, ruleImplementedTwice, ruleFieldMissing, ruleFieldType, ruleArgumentMissing, ruleArgumentType, ruleRoot}
 use Rattle.paper_table.specs.Lists.{allOf}
 use Rattle.paper_table.specs.Types.{Table, tableOf}
-use Rattle.paper_table.specs.Rules.{Rule, reservedName, nameKnown, noMembers, nameRepeated, reservedMember, enumValue, noType, wrongBase, notObjectOrInterface, implementedTwice, fieldMissing, fieldType, argumentMissing, argumentType, argumentExtra, rootNotObject, queryNotObject}
+use Rattle.paper_table.specs.Places.{Rule}
+use Rattle.paper_table.specs.Rule1ReservedName.{reservedName}
+use Rattle.paper_table.specs.Rule2NameKnown.{nameKnown}
+use Rattle.paper_table.specs.Rule3NoMembers.{noMembers}
+use Rattle.paper_table.specs.Rule4NameRepeated.{nameRepeated}
+use Rattle.paper_table.specs.Rule5ReservedMember.{reservedMember}
+use Rattle.paper_table.specs.Rule6EnumValue.{enumValue}
+use Rattle.paper_table.specs.Rule7NoType.{noType}
+use Rattle.paper_table.specs.Rule8Base.{wrongBase}
+use Rattle.paper_table.specs.Rule9NotObjectOrInterface.{notObjectOrInterface}
+use Rattle.paper_table.specs.Rule10ImplementedTwice.{implementedTwice}
+use Rattle.paper_table.specs.Rule11FieldMissing.{interfaceFieldMissing}
+use Rattle.paper_table.specs.Rule12FieldType.{fieldType}
+use Rattle.paper_table.specs.Rule13ArgumentMissing.{interfaceArgumentMissing}
+use Rattle.paper_table.specs.Rule14ArgumentType.{argumentType}
+use Rattle.paper_table.specs.Rule15ArgumentExtra.{argumentExtra}
+use Rattle.paper_table.specs.Rule16Root.{rootNotObject, queryNotObject}
 use Rattle.paper_table.specs.declared.TableAnswer.{TableAnswer}
 use Rattle.paper_table.specs.declared.TableAnswer.the-variants.{Accepted, Breaks}
 use Rattle.table_book.specs.Book.{bookSize}
@@ -36,9 +52,9 @@ earlyRule k =
 -- 11 to 15
 unfoldable pub promiseRule : ℕ → Rule
 promiseRule k =
-    cond (eqb k ruleFieldMissing) fieldMissing
+    cond (eqb k ruleFieldMissing) interfaceFieldMissing
     (cond (eqb k ruleFieldType) fieldType
-    (cond (eqb k ruleArgumentMissing) argumentMissing
+    (cond (eqb k ruleArgumentMissing) interfaceArgumentMissing
     (cond (eqb k ruleArgumentType) argumentType
     argumentExtra)))
 

@@ -29,7 +29,7 @@ ghost use lib.ListN.{length};
 ghost use Rattle.paper_table.specs.TableNumbers.{ruleRoot};
 ghost use Rattle.paper_table.specs.Lists.{anyOf};
 ghost use Rattle.paper_table.specs.Types.{tableOf, isRoots};
-ghost use Rattle.paper_table.specs.Judging.{breaksOf, breaks, answer};
+ghost use Rattle.paper_table.specs.Judging.{breaksOf, breaks, tableAnswer};
 ghost use Rattle.table_places.specs.Placed.{placed};
 ghost use Rattle.table_book.specs.Book.{room, bookSize, countIn};
 ghost use Rattle.table_types.specs.Booked.{Booked, definitionOn, startIn, endIn};
@@ -185,7 +185,7 @@ fn rules_in_turn(
     i: usize,
 ) -> TableAnswer
     requires { ⌜ Booked (now t) (now book) × Slim (tableOf (now t)) × (i < countIn (now book)) × Promising (now t) (now book) (now listed) i promising × (clean ≡ true → Sound (tableOf (now t)) i (definitionOn (now t) i)) ⌝ }
-    ensures { λ r. ⌜ r ≡ answer none none (head? (breaksOf (tableOf (now (t .entry))) i (definitionOn (now (t .entry)) i))) ⌝ }
+    ensures { λ r. ⌜ r ≡ tableAnswer none none (head? (breaksOf (tableOf (now (t .entry))) i (definitionOn (now (t .entry)) i))) ⌝ }
 {
     let mut rule = RULE_RESERVED_NAME;
     while rule <= RULE_ROOT {
@@ -226,7 +226,7 @@ fn definition_breaks(
     i: usize,
 ) -> TableAnswer
     requires { ⌜ Checkable (now t) (now book) × Possible (now t) (now book) (now bits) × (i < countIn (now book)) × (length (now listed) ≡ bookSize) ⌝ }
-    ensures { λ r. ⌜ Answered (now (listed .exit)) r (answer none none (head? (breaksOf (tableOf (now (t .entry))) i (definitionOn (now (t .entry)) i)))) ⌝ }
+    ensures { λ r. ⌜ Answered (now (listed .exit)) r (tableAnswer none none (head? (breaksOf (tableOf (now (t .entry))) i (definitionOn (now (t .entry)) i)))) ⌝ }
 {
     let promising = list_promises(t, book, bits, listed, i);
     let clean = table_rules_4_8_quick::is_sound(t, book, i);
@@ -264,7 +264,7 @@ fn query_break(t: &[u8], book: &[u32]) -> TableAnswer
 // The first break of a table; `listed` is room for the list of one definition's members.
 pub fn first_break(t: &[u8], book: &[u32], bits: &[u32], listed: &mut [u32]) -> TableAnswer
     requires { ⌜ Checkable (now t) (now book) × Possible (now t) (now book) (now bits) × (length (now listed) ≡ bookSize) ⌝ }
-    ensures { λ r. ⌜ r ≡ answer none none (head? (breaks (tableOf (now (t .entry))))) ⌝ }
+    ensures { λ r. ⌜ r ≡ tableAnswer none none (head? (breaks (tableOf (now (t .entry))))) ⌝ }
 {
     let count = table_book::count_of(book);
     let mut i = 0;

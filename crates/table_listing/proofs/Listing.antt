@@ -11,8 +11,7 @@ use lib.Dec.{ltb}
 use borrow.Author.Tests.{ltb-true, ltb-false, le-leb}
 use Rattle.paper.specs.Tokens.{same}
 use Rattle.paper_table.specs.Lists.{firstAt, find}
-use Rattle.paper_table.specs.Types.{Member, nameOnly, tagNothing}
-use Rattle.paper_table.specs.Rules.{memberNamed}
+use Rattle.paper_table.specs.Types.{Member, nameOnly, tagNothing, memberNamed}
 use Rattle.table_book.specs.Book.{noKey, room, cellName, cellSize, cellStart, cellEnd, cellCount, bookSize, countIn, keysOf, keyed, Held, Linked}
 use Rattle.table_book.proofs.Keys.{keys-count, keys-at, count-kept}
 use Rattle.table_members.specs.Members.{membersIn, memberFrom, First, Named, Finds}

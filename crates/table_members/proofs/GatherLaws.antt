@@ -5,7 +5,7 @@ use Prim.Native.Nat.{ℕ, _≤_, _<_}
 use lib.ListN.{length}
 use lib.Seq.{slice}
 use Rattle.paper_table.specs.Lists.{gather}
-use Rattle.paper_table.specs.House.{Piece, piece, cut}
+use Rattle.paper_table.specs.House.{HouseField, houseField, cut}
 use Rattle.table_fields.specs.Fields.{fieldAt}
 use Rattle.table_fields.specs.declared.FieldRead.the-variants.{Field, Cut}
 use Rattle.table_fields.proofs.FieldLaws.{pieces-read, pieces-torn, pieces-none}
@@ -20,7 +20,7 @@ module _ {A B : Type 0} (f : A → List B) where
   unfolding gather
   gather-cons x xs = refl
 
-module _ {B : Type 0} (f : Piece → List B) (g : (at : ℕ) → f (cut at) ≡ []) (t : List ℕ) (at end : ℕ) (w : end ≤ length t) where
+module _ {B : Type 0} (f : HouseField → List B) (g : (at : ℕ) → f (cut at) ≡ []) (t : List ℕ) (at end : ℕ) (w : end ≤ length t) where
   pub gather-none : end ≤ at → gather f (fieldsIn t at end) ≡ []
   gather-none l = ap (gather f) (pieces-none t at end l w) ∙ gather-nil f
 
@@ -30,5 +30,5 @@ module _ {B : Type 0} (f : Piece → List B) (g : (at : ℕ) → f (cut at) ≡ 
       ∙ ap (λ (m : List B). m ++ gather f []) (g at) ∙ gather-nil f
 
   pub gather-field : at < end → (tag start stop : ℕ) → fieldAt t at end ≡ Field tag start stop
-      → gather f (fieldsIn t at end) ≡ f (piece at tag (slice start stop t)) ++ gather f (fieldsIn t stop end)
-  gather-field l tag start stop q = ap (gather f) (pieces-read t at end w l tag start stop q) ∙ gather-cons f (piece at tag (slice start stop t)) (fieldsIn t stop end)
+      → gather f (fieldsIn t at end) ≡ f (houseField at tag (slice start stop t)) ++ gather f (fieldsIn t stop end)
+  gather-field l tag start stop q = ap (gather f) (pieces-read t at end w l tag start stop q) ∙ gather-cons f (houseField at tag (slice start stop t)) (fieldsIn t stop end)

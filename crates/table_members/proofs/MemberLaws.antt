@@ -10,7 +10,7 @@ use lib.Dec.{eqb, leb}
 use borrow.Author.Tests.{eq-eqb, ne-eqb, eqb-true, eqb-false}
 use Rattle.paper_table.specs.TableNumbers.{tagField, tagArgument, tagUnionMember}
 use Rattle.paper_table.specs.Lists.{onlyIf}
-use Rattle.paper_table.specs.House.{piece, cut}
+use Rattle.paper_table.specs.House.{houseField, cut}
 use Rattle.paper_table.specs.Types.{Member, fieldIn, inputIn, nameOnly, memberOf}
 use Rattle.table_fields.specs.Fields.{fieldAt}
 use Rattle.table_fields.specs.declared.FieldRead.the-variants.{Field, Cut}
@@ -22,7 +22,7 @@ pub member-cut : (at : ℕ) → memberOf (cut at) ≡ []
 unfolding memberOf
 member-cut at = refl
 
-pub member-is : (t : List ℕ) (at tag start stop : ℕ) → start ≡ at + 3 → isMember tag ≡ true → memberOf (piece at tag (slice start stop t)) ≡ memberFrom t tag start stop ∷ []
+pub member-is : (t : List ℕ) (at tag start stop : ℕ) → start ≡ at + 3 → isMember tag ≡ true → memberOf (houseField at tag (slice start stop t)) ≡ memberFrom t tag start stop ∷ []
 unfolding memberOf memberFrom
 member-is t at tag start stop e q =
     rw (← e)
@@ -34,7 +34,7 @@ member-is t at tag start stop e q =
     go false false true x y z q = refl
     go false false false x y z q = absurd (false≢true q)
 
-pub member-not : (at tag : ℕ) (s : List ℕ) → isMember tag ≡ false → memberOf (piece at tag s) ≡ []
+pub member-not : (at tag : ℕ) (s : List ℕ) → isMember tag ≡ false → memberOf (houseField at tag s) ≡ []
 unfolding memberOf
 member-not at tag s q =
     go (eqb tag tagField) (eqb tag tagArgument) (leb tagUnionMember tag) (fieldIn at s) (inputIn at s) (nameOnly tag s) q

@@ -8,6 +8,7 @@ use native.Mathlib.Omega.{arith}
 use lib.ListN.{length}
 use lib.Seq.{slice}
 use lib.Dec.{eqb}
+use Rattle.table_fields.proofs.BoundsLaws.{later}
 use borrow.Author.Tests.{ne-eqb}
 use Rattle.paper_table.specs.TableNumbers.{tagField, tagArgument}
 use Rattle.paper_table.specs.Types.{argumentOf, nameOnly}
@@ -34,4 +35,4 @@ module _ (t : List ℕ) (tag start end : ℕ) (w : start ≤ end) (l : end ≤ l
   type-of-name e f = rw (name-is t tag start end e f) (record { base = refl; packs = refl; within = omega arith })
 
 pub from-bounds : {t : List ℕ} {tag start end r : ℕ} → ArgumentsFrom t tag start end r → Bounds t start end → Bounds t r end
-from-bounds f b = record { order = f .order; within = b .within; most = b .most }
+from-bounds f b = later b (f .order)

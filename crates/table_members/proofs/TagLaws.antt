@@ -10,7 +10,7 @@ use lib.Dec.{eqb}
 use borrow.Author.Tests.{eq-eqb, ne-eqb}
 use Rattle.paper_table.specs.TableNumbers.{tagName, tagImplements, tagArgument}
 use Rattle.paper_table.specs.Lists.{gather}
-use Rattle.paper_table.specs.House.{Piece, piece, cut}
+use Rattle.paper_table.specs.House.{HouseField, houseField, cut}
 use Rattle.paper_table.specs.Types.{textOf, nameIn, argumentOf, implementedOf}
 use Rattle.table_fields.specs.Fields.{fieldAt}
 use Rattle.table_fields.specs.declared.FieldRead.the-variants.{Field, Cut}
@@ -31,11 +31,11 @@ from-cut : (k at : ℕ) → fromTag k (cut at ∷ []) ≡ []
 unfolding fromTag
 from-cut k at = refl
 
-from-here : (k at : ℕ) (s : List ℕ) (ps : List Piece) → fromTag k (piece at k s ∷ ps) ≡ piece at k s ∷ ps
+from-here : (k at : ℕ) (s : List ℕ) (ps : List HouseField) → fromTag k (houseField at k s ∷ ps) ≡ houseField at k s ∷ ps
 unfolding fromTag
 from-here k at s ps = rw (eq-eqb k k refl)
 
-from-on : (k at tag : ℕ) (s : List ℕ) (ps : List Piece) → (tag ≡ k → ⊥) → fromTag k (piece at tag s ∷ ps) ≡ fromTag k ps
+from-on : (k at tag : ℕ) (s : List ℕ) (ps : List HouseField) → (tag ≡ k → ⊥) → fromTag k (houseField at tag s ∷ ps) ≡ fromTag k ps
 unfolding fromTag
 from-on k at tag s ps e = rw (ne-eqb tag k e)
 
@@ -47,7 +47,7 @@ module _ (t : List ℕ) (at end k i : ℕ) (w : end ≤ length t) (h : Walked at
   tags-torn l q = h .same ∙ ap (fromTag k) (pieces-torn t i end w l q) ∙ from-cut k i
 
   module _ (l : i < end) (tag start stop : ℕ) (q : fieldAt t i end ≡ Field tag start stop) where
-    pub tags-here : tag ≡ k → First at end start stop (fromTag k (fieldsIn t at end)) (piece (start - 3) k (slice start stop t)) (fieldsIn t stop end)
+    pub tags-here : tag ≡ k → First at end start stop (fromTag k (fieldsIn t at end)) (houseField (start - 3) k (slice start stop t)) (fieldsIn t stop end)
     tags-here e =
         let f = field-lies t i end tag start stop (h .within) q in
         let z : start - 3 ≡ i = omega (arith, f .begins) in
@@ -73,28 +73,28 @@ module _ (t : List ℕ) (at end k i : ℕ) (w : end ≤ length t) (h : Walked at
     tags-move = let f = field-lies t i end tag start stop (h .within) q in omega (arith, f .begins, f .order)
 
 -- what is taken from fields of one tag alone
-module _ {B : Type 0} (f : Piece → List B) (k : ℕ) (g : (at : ℕ) → f (cut at) ≡ []) (o : (at tag : ℕ) (s : List ℕ) → eqb tag k ≡ false → f (piece at tag s) ≡ []) where
-  pub gather-tag : (ps : List Piece) → gather f (fromTag k ps) ≡ gather f ps
+module _ {B : Type 0} (f : HouseField → List B) (k : ℕ) (g : (at : ℕ) → f (cut at) ≡ []) (o : (at tag : ℕ) (s : List ℕ) → eqb tag k ≡ false → f (houseField at tag s) ≡ []) where
+  pub gather-tag : (ps : List HouseField) → gather f (fromTag k ps) ≡ gather f ps
   unfolding fromTag
   gather-tag [] = refl
   gather-tag (cut at ∷ ps) = gather-tag ps ∙ sym (gather-cons f (cut at) ps ∙ ap (λ (l : List B). l ++ gather f ps) (g at))
-  gather-tag (piece at tag s ∷ ps) = go (eqb tag k) refl (gather-tag ps)
+  gather-tag (houseField at tag s ∷ ps) = go (eqb tag k) refl (gather-tag ps)
     where
-      go : (b : Bool) → eqb tag k ≡ b → gather f (fromTag k ps) ≡ gather f ps → gather f (cond b (piece at tag s ∷ ps) (fromTag k ps)) ≡ gather f (piece at tag s ∷ ps)
+      go : (b : Bool) → eqb tag k ≡ b → gather f (fromTag k ps) ≡ gather f ps → gather f (cond b (houseField at tag s ∷ ps) (fromTag k ps)) ≡ gather f (houseField at tag s ∷ ps)
       go true q e = refl
-      go false q e = e ∙ sym (gather-cons f (piece at tag s) ps ∙ ap (λ (l : List B). l ++ gather f ps) (o at tag s q))
+      go false q e = e ∙ sym (gather-cons f (houseField at tag s) ps ∙ ap (λ (l : List B). l ++ gather f ps) (o at tag s q))
 
-text-tag : (k : ℕ) (ps : List Piece) → textOf k (fromTag k ps) ≡ textOf k ps
+text-tag : (k : ℕ) (ps : List HouseField) → textOf k (fromTag k ps) ≡ textOf k ps
 unfolding fromTag textOf
 text-tag k [] = refl
 text-tag k (cut at ∷ ps) = text-tag k ps
-text-tag k (piece at tag s ∷ ps) = go (eqb tag k) refl (text-tag k ps)
+text-tag k (houseField at tag s ∷ ps) = go (eqb tag k) refl (text-tag k ps)
   where
-    go : (b : Bool) → eqb tag k ≡ b → textOf k (fromTag k ps) ≡ textOf k ps → textOf k (cond b (piece at tag s ∷ ps) (fromTag k ps)) ≡ cond b s (textOf k ps)
+    go : (b : Bool) → eqb tag k ≡ b → textOf k (fromTag k ps) ≡ textOf k ps → textOf k (cond b (houseField at tag s ∷ ps) (fromTag k ps)) ≡ cond b s (textOf k ps)
     go true q e = rw q
     go false q e = e
 
-text-here : (k at : ℕ) (s : List ℕ) (ps : List Piece) → textOf k (piece at k s ∷ ps) ≡ s
+text-here : (k at : ℕ) (s : List ℕ) (ps : List HouseField) → textOf k (houseField at k s ∷ ps) ≡ s
 unfolding textOf
 text-here k at s ps = rw (eq-eqb k k refl)
 
@@ -102,10 +102,10 @@ text-nil : (k : ℕ) → textOf k [] ≡ []
 unfolding textOf
 text-nil k = refl
 
-argument-other : (at tag : ℕ) (s : List ℕ) → eqb tag tagArgument ≡ false → argumentOf (piece at tag s) ≡ []
+argument-other : (at tag : ℕ) (s : List ℕ) → eqb tag tagArgument ≡ false → argumentOf (houseField at tag s) ≡ []
 argument-other at tag s q = rw q
 
-implemented-other : (at tag : ℕ) (s : List ℕ) → eqb tag tagImplements ≡ false → implementedOf (piece at tag s) ≡ []
+implemented-other : (at tag : ℕ) (s : List ℕ) → eqb tag tagImplements ≡ false → implementedOf (houseField at tag s) ≡ []
 implemented-other at tag s q = rw q
 
 -- a part by its size is the one by its end
@@ -131,7 +131,7 @@ module _ (t : List ℕ) (at end : ℕ) where
         lies = f .lies;
         all-are =
             sym (gather-tag argumentOf tagArgument (λ i. refl) argument-other (fieldsIn t at end)) ∙ ap (gather argumentOf) (f .all-are)
-            ∙ gather-cons argumentOf (piece (start - 3) tagArgument (slice start stop t)) (fieldsIn t stop end)
+            ∙ gather-cons argumentOf (houseField (start - 3) tagArgument (slice start stop t)) (fieldsIn t stop end)
             ∙ rw z;
       }
 
@@ -142,7 +142,7 @@ module _ (t : List ℕ) (at end : ℕ) where
         lies = f .lies;
         all-are =
             sym (gather-tag implementedOf tagImplements (λ i. refl) implemented-other (fieldsIn t at end)) ∙ ap (gather implementedOf) (f .all-are)
-            ∙ gather-cons implementedOf (piece (start - 3) tagImplements (slice start stop t)) (fieldsIn t stop end)
+            ∙ gather-cons implementedOf (houseField (start - 3) tagImplements (slice start stop t)) (fieldsIn t stop end)
             ∙ ap (λ (n : List ℕ). n ∷ implementedIn t stop end) (sym (part-slice t start stop));
       }
 

@@ -11,17 +11,16 @@ use lib.Dec.{leb, eqb}
 use Rattle.paper_table.specs.TableNumbers.{tagField, tagArgument, tagUnionMember}
 use Rattle.paper_table.specs.Lists.{find, gather}
 use Rattle.paper_table.specs.References.{Ref, baseOf}
-use Rattle.paper_table.specs.House.{Piece, piece, cut, pieces}
-use Rattle.paper_table.specs.Types.{Argument, Member, Definition, nameIn, typeIn, nameOnly, argumentOf, memberOf, implementedOf}
-use Rattle.paper_table.specs.Rules.{memberNamed, argumentNamed}
+use Rattle.paper_table.specs.House.{HouseField, houseField, cut, houseFields}
+use Rattle.paper_table.specs.Types.{Argument, Member, Definition, nameIn, typeIn, nameOnly, argumentOf, memberOf, implementedOf, memberNamed, argumentNamed}
 use Rattle.table_fields.specs.Wrappers.{packOf, packLimit}
 use Rattle.table_book.specs.Book.{part}
 use Rattle.table_members.specs.declared.FieldFound.{FieldFound}
 use Rattle.table_members.specs.declared.FieldFound.the-variants.{Found, Nothing}
 
 -- the fields of the content from `start` up to `end`
-abbrev pub fieldsIn : List ℕ → ℕ → ℕ → List Piece
-fieldsIn t start end = pieces start (slice start end t)
+abbrev pub fieldsIn : List ℕ → ℕ → ℕ → List HouseField
+fieldsIn t start end = houseFields start (slice start end t)
 
 -- what they are as a record's, a member's, a definition's
 abbrev pub membersIn : List ℕ → ℕ → ℕ → List Member
@@ -55,10 +54,10 @@ abbrev pub isMember : ℕ → Bool
 isMember tag = eqb tag tagField || (eqb tag tagArgument || leb tagUnionMember tag)
 
 -- the fields from the first of this tag on
-unfoldable pub fromTag : ℕ → List Piece → List Piece
+unfoldable pub fromTag : ℕ → List HouseField → List HouseField
 fromTag k [] = []
 fromTag k (cut at ∷ ps) = fromTag k ps
-fromTag k (piece at tag s ∷ ps) = cond (eqb tag k) (piece at tag s ∷ ps) (fromTag k ps)
+fromTag k (houseField at tag s ∷ ps) = cond (eqb tag k) (houseField at tag s ∷ ps) (fromTag k ps)
 
 -- where a content lies that was found from `at` on
 pub record Lies (at end start stop : ℕ) : Type 0 where
@@ -72,7 +71,7 @@ pub record First {A : Type 0} (at end start stop : ℕ) (all : List A) (one : A)
   pub all-are : all ≡ one ∷ others
 
 abbrev pub NextTag : List ℕ → ℕ → ℕ → ℕ → FieldFound → Type 0
-NextTag t at end k (Found tag start stop) = First at end start stop (fromTag k (fieldsIn t at end)) (piece (start - 3) k (slice start stop t)) (fieldsIn t stop end)
+NextTag t at end k (Found tag start stop) = First at end start stop (fromTag k (fieldsIn t at end)) (houseField (start - 3) k (slice start stop t)) (fieldsIn t stop end)
 NextTag t at end k Nothing = fromTag k (fieldsIn t at end) ≡ []
 
 abbrev pub NextMember : List ℕ → ℕ → ℕ → FieldFound → Type 0

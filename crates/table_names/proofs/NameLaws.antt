@@ -9,7 +9,7 @@ use lib.Seq.{drop-cons}
 use lib.Dec.{eqb}
 use borrow.Author.Tests.{eq-eqb, ne-eqb}
 use Rattle.paper_table.specs.Lists.{anyOf}
-use Rattle.paper_table.specs.Rules.{isReserved}
+use Rattle.paper_table.specs.Types.{isReserved}
 use Rattle.table_book.specs.Book.{part}
 
 -- the first two bytes of a part

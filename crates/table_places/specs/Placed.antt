@@ -1,7 +1,7 @@
 -- What an answer on a definition's places means.
 -- Assumes nothing.
 use mathlib.Core.Option.{Option, none, some}
-use Rattle.paper_table.specs.Rules.{Place}
+use Rattle.paper_table.specs.Places.{Place}
 use Rattle.table_places.specs.declared.PlaceRead.{PlaceRead}
 use Rattle.table_places.specs.declared.PlaceRead.the-variants.{At, Kept}
 

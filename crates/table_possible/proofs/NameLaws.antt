@@ -8,13 +8,13 @@ use native.Mathlib.Omega.{arith}
 use lib.ListN.{length, getD}
 use lib.Dec.{ltb}
 use borrow.Author.Tests.{ltb-true}
+use Rattle.paper.proofs.Bools.{and-right}
 use Rattle.paper.specs.Tokens.{same}
 use Rattle.paper_table.specs.TableNumbers.{tagObject, tagInterface, tagUnion, tagScalar}
 use Rattle.paper_table.specs.Lists.{anyOf, firstAt}
-use Rattle.paper_table.specs.Types.{Definition, Table, tableOf, isType, typeNamed, isBuiltIn, builtIn, nothing, definition, meaning, blank, tagNothing, definitionBy, meant}
+use Rattle.paper_table.specs.Types.{Definition, Table, tableOf, isType, typeNamed, isBuiltIn, builtIn, noMeaning, definition, meaning, blankDefinition, tagNothing, definitionBy, meant, memberNamed}
 use Rattle.paper_table.proofs.MeaningLaws.{meaning-first}
 use Rattle.paper_table.proofs.TextLaws.{same-sound}
-use Rattle.paper_table.specs.Rules.{memberNamed}
 use Rattle.table_book.specs.Book.{countIn}
 use Rattle.table_members.specs.Members.{First}
 use Rattle.table_types.specs.Booked.{Booked, NumberMeant, kindIn, definitionOn}
@@ -31,21 +31,17 @@ passes p (x ∷ xs) d h = go (p x) refl h (λ k. passes p xs d k)
     go true e h ih = e
     go false e h ih = ih (omega arith)
 
-and-right : (a b : Bool) → a && b ≡ true → b ≡ true
-and-right true b e = e
-and-right false b e = cc
-
 -- a name that means a type which is no scalar is that type's
 pub meant-name : (t : Table) (n : List ℕ) → tagScalar < meant t n .tag → meant t n .name ≡ n
 meant-name t n h = go (isBuiltIn n) (ltb (firstAt (typeNamed n) t) (length t)) refl (meaning-first t n)
   where
-    go : (b c : Bool) → ltb (firstAt (typeNamed n) t) (length t) ≡ c → meaning t n ≡ cond b builtIn (cond c (definition (firstAt (typeNamed n) t)) nothing) → meant t n .name ≡ n
+    go : (b c : Bool) → ltb (firstAt (typeNamed n) t) (length t) ≡ c → meaning t n ≡ cond b builtIn (cond c (definition (firstAt (typeNamed n) t)) noMeaning) → meant t n .name ≡ n
     go true c q f = let e = ap (λ (d : Definition). d .tag) (ap (definitionBy t) f) in absurd (omega (arith, h, e))
     go false false q f = let e = ap (λ (d : Definition). d .tag) (ap (definitionBy t) f) in absurd (omega (arith, h, e))
     go false true q f =
         let l = ltb-true (firstAt (typeNamed n) t) (length t) q in
         ap (λ (d : Definition). d .name) (ap (definitionBy t) f)
-        ∙ same-sound (getD t (firstAt (typeNamed n) t) (blank tagNothing) .name) n (and-right (isType (getD t (firstAt (typeNamed n) t) (blank tagNothing))) (same (getD t (firstAt (typeNamed n) t) (blank tagNothing) .name) n) (passes (typeNamed n) t (blank tagNothing) l))
+        ∙ same-sound (getD t (firstAt (typeNamed n) t) (blankDefinition tagNothing) .name) n (and-right (isType (getD t (firstAt (typeNamed n) t) (blankDefinition tagNothing))) (same (getD t (firstAt (typeNamed n) t) (blankDefinition tagNothing) .name) n) (passes (typeNamed n) t (blankDefinition tagNothing) l))
 
 module _ (t book : List ℕ) (b : Booked t book) where
   -- two names of one type that is no scalar are the same

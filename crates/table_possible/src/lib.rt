@@ -12,7 +12,7 @@ ghost use lib.Dec.{eqb};
 ghost use Rattle.paper_table.specs.TableNumbers.{tagObject, tagUnion};
 ghost use Rattle.paper.specs.Tokens.{same};
 ghost use Rattle.paper_table.specs.Lists.{anyOf};
-ghost use Rattle.paper_table.specs.Rules.{memberNamed};
+ghost use Rattle.paper_table.specs.Types.{memberNamed};
 ghost use Rattle.table_book.specs.Book.{part, room, countIn};
 ghost use Rattle.table_types.specs.Booked.{Booked, kindIn, definitionOn};
 ghost use Rattle.table_possible.specs.Possible.{bitsSize, bitAt, Possible, Blank, Marked};

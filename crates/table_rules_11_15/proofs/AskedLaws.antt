@@ -8,8 +8,14 @@ use lib.Dec.{eqb}
 use Rattle.paper_table.specs.TableNumbers.{ruleFieldMissing, ruleFieldType, ruleArgumentMissing, ruleArgumentType, ruleArgumentExtra}
 use Rattle.paper_table.specs.Lists.{anyOf, find, each, eachFrom, onlyIf}
 use Rattle.paper_table.specs.References.{isNonNull}
-use Rattle.paper_table.specs.Types.{Argument, Member, Definition, Table, isInterface, meant}
-use Rattle.paper_table.specs.Rules.{Place, partAt, partArgumentAt, memberNamed, argumentNamed, FieldBreaks, promisedBy, promised, own, ifAny, missingBreaks, typeBreaks, argumentBreaks, argumentTypeBreaks, extraBreaks, fieldMissing, fieldType, argumentMissing, argumentType, argumentExtra, lacksArgument, ownArgument, differs, isExtra, noSubType}
+use Rattle.paper_table.specs.Types.{Argument, Member, Definition, Table, isInterface, meant, memberNamed, argumentNamed}
+use Rattle.paper_table.specs.Places.{Place, partAt, partArgumentAt}
+use Rattle.paper_table.specs.Promises.{FieldBreaks, promisedBy, promised, own, ifAny}
+use Rattle.paper_table.specs.Rule11FieldMissing.{missingBreaks, interfaceFieldMissing}
+use Rattle.paper_table.specs.Rule12FieldType.{typeBreaks, fieldType, noSubType}
+use Rattle.paper_table.specs.Rule13ArgumentMissing.{argumentBreaks, interfaceArgumentMissing, lacksArgument}
+use Rattle.paper_table.specs.Rule14ArgumentType.{argumentTypeBreaks, argumentType, ownArgument, typesDiffer}
+use Rattle.paper_table.specs.Rule15ArgumentExtra.{extraBreaks, argumentExtra, isExtra}
 use Rattle.table_rules_13_15.specs.Asked.{failing}
 use Rattle.table_rules_11_15_field.specs.Asked.{ruleAsked}
 use Rattle.table_rules_11_15.specs.Asked.{ownAsked, askedOf}
@@ -50,8 +56,8 @@ any-find {A = A} p (y ∷ xs) o e = go (p y) o e (λ (q : Option A) (f : find p 
     go false q f ih = ih q f
 
 module _ (t : Table) (i : ℕ) (d : Definition) where
-  pub asks-field : fieldMissing t i d ≡ promised (askedOf ruleFieldMissing t (d .members)) t d
-  unfolding fieldMissing ownAsked ruleAsked
+  pub asks-field : interfaceFieldMissing t i d ≡ promised (askedOf ruleFieldMissing t (d .members)) t d
+  unfolding interfaceFieldMissing ownAsked ruleAsked
   asks-field = promised-same (missingBreaks d) (askedOf ruleFieldMissing t (d .members)) at t d
     where
       at : (m p : ℕ) (f : Member) → missingBreaks d m p f ≡ askedOf ruleFieldMissing t (d .members) m p f
@@ -72,8 +78,8 @@ module _ (t : Table) (i : ℕ) (d : Definition) where
           go none = refl
           go (some e) = refl
 
-  pub asks-argument : argumentMissing t i d ≡ promised (askedOf ruleArgumentMissing t (d .members)) t d
-  unfolding argumentMissing ownAsked ruleAsked
+  pub asks-argument : interfaceArgumentMissing t i d ≡ promised (askedOf ruleArgumentMissing t (d .members)) t d
+  unfolding interfaceArgumentMissing ownAsked ruleAsked
   asks-argument = promised-same (argumentBreaks d) (askedOf ruleArgumentMissing t (d .members)) at t d
     where
       one : (e : Member) (m p a : ℕ) (x : Argument) → onlyIf (lacksArgument e x) (partArgumentAt m p a) ≡ onlyIf (failing ruleArgumentMissing x (find (argumentNamed (x .name)) (e .arguments))) (partArgumentAt m p a)
@@ -95,17 +101,17 @@ module _ (t : Table) (i : ℕ) (d : Definition) where
   asks-argument-type = promised-same (argumentTypeBreaks d) (askedOf ruleArgumentType t (d .members)) at t d
     where
       one : (e : Member) (m p a : ℕ) (x : Argument)
-          → ifAny (ownArgument e x) (λ y. onlyIf (differs x y) (partArgumentAt m p a)) ≡ onlyIf (failing ruleArgumentType x (find (argumentNamed (x .name)) (e .arguments))) (partArgumentAt m p a)
+          → ifAny (ownArgument e x) (λ y. onlyIf (typesDiffer x y) (partArgumentAt m p a)) ≡ onlyIf (failing ruleArgumentType x (find (argumentNamed (x .name)) (e .arguments))) (partArgumentAt m p a)
       one e m p a x = go (find (argumentNamed (x .name)) (e .arguments))
         where
-          go : (o : Option Argument) → ifAny o (λ y. onlyIf (differs x y) (partArgumentAt m p a)) ≡ onlyIf (failing ruleArgumentType x o) (partArgumentAt m p a)
+          go : (o : Option Argument) → ifAny o (λ y. onlyIf (typesDiffer x y) (partArgumentAt m p a)) ≡ onlyIf (failing ruleArgumentType x o) (partArgumentAt m p a)
           go none = refl
           go (some y) = refl
 
       at : (m p : ℕ) (f : Member) → argumentTypeBreaks d m p f ≡ askedOf ruleArgumentType t (d .members) m p f
       at m p f = go (own d f)
         where
-          go : (o : Option Member) → ifAny o (λ e. each (λ a x. ifAny (ownArgument e x) (λ y. onlyIf (differs x y) (partArgumentAt m p a))) (f .arguments)) ≡ ownAsked ruleArgumentType t m p f o
+          go : (o : Option Member) → ifAny o (λ e. each (λ a x. ifAny (ownArgument e x) (λ y. onlyIf (typesDiffer x y) (partArgumentAt m p a))) (f .arguments)) ≡ ownAsked ruleArgumentType t m p f o
           go none = refl
           go (some e) = each-same _ _ (one e m p) 0 (f .arguments)
 

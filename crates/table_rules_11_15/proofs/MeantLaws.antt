@@ -10,7 +10,7 @@ use borrow.Author.Tests.{eq-eqb, ne-eqb, ltb-true, ltb-false, lt-ltb}
 use Rattle.paper_table.specs.TableNumbers.{tagInterface}
 use Rattle.paper_table.specs.Lists.{each}
 use Rattle.paper_table.specs.Types.{Definition, tableOf, meant}
-use Rattle.paper_table.specs.Rules.{FieldBreaks, promisedBy, promised}
+use Rattle.paper_table.specs.Promises.{FieldBreaks, promisedBy, promised}
 use Rattle.table_places.specs.Placed.{placed}
 use Rattle.table_places.specs.declared.PlaceRead.the-variants.{Kept}
 use Rattle.table_fields.specs.Fields.{Bounds}

@@ -6,8 +6,9 @@ use Prim.Native.Nat.{ℕ}
 use lib.Dec.{eqb}
 use Rattle.paper_table.specs.TableNumbers.{ruleFieldMissing}
 use Rattle.paper_table.specs.Lists.{find, onlyIf}
-use Rattle.paper_table.specs.Types.{Member, Table}
-use Rattle.paper_table.specs.Rules.{Place, partAt, memberNamed, FieldBreaks}
+use Rattle.paper_table.specs.Types.{Member, Table, memberNamed}
+use Rattle.paper_table.specs.Places.{Place, partAt}
+use Rattle.paper_table.specs.Promises.{FieldBreaks}
 use Rattle.table_rules_11_15_field.specs.Asked.{ruleAsked}
 
 -- what is asked of the interface's field f, given the definition's own

@@ -13,7 +13,12 @@ ghost use mathlib.Core.Bool.{true};
 ghost use mathlib.Core.List.{head?};
 ghost use Prim.Native.Nat.{_-_, _<_};
 ghost use Rattle.paper_table.specs.Lists.{allOf, each};
-ghost use Rattle.paper_table.specs.Rules.{promisedBy, promised, fieldMissing, fieldType, argumentMissing, argumentType, argumentExtra};
+ghost use Rattle.paper_table.specs.Promises.{promisedBy, promised};
+ghost use Rattle.paper_table.specs.Rule11FieldMissing.{interfaceFieldMissing};
+ghost use Rattle.paper_table.specs.Rule12FieldType.{fieldType};
+ghost use Rattle.paper_table.specs.Rule13ArgumentMissing.{interfaceArgumentMissing};
+ghost use Rattle.paper_table.specs.Rule14ArgumentType.{argumentType};
+ghost use Rattle.paper_table.specs.Rule15ArgumentExtra.{argumentExtra};
 ghost use Rattle.paper_table.specs.Types.{tableOf};
 ghost use Rattle.table_places.specs.Placed.{placed};
 ghost use Rattle.table_fields.specs.Fields.{Bounds};
@@ -182,7 +187,7 @@ fn broken(t: &[u8], book: &[u32], listed: &[u32], rule: u32, i: usize) -> PlaceR
 // 11. Interface field missing.
 pub fn field_missing(t: &[u8], book: &[u32], listed: &[u32], i: usize) -> PlaceRead
     requires { ⌜ Booked (now t) (now book) × Slim (tableOf (now t)) × (i < countIn (now book)) × Listed (now t) (now listed) (startIn (now book) i) (endIn (now book) i) ⌝ }
-    ensures { λ r. ⌜ r ≡ placed (head? (fieldMissing (tableOf (now (t .entry))) i (definitionOn (now (t .entry)) i))) ⌝ }
+    ensures { λ r. ⌜ r ≡ placed (head? (interfaceFieldMissing (tableOf (now (t .entry))) i (definitionOn (now (t .entry)) i))) ⌝ }
 {
     broken(t, book, listed, RULE_FIELD_MISSING, i)
 }
@@ -198,7 +203,7 @@ pub fn field_type(t: &[u8], book: &[u32], listed: &[u32], i: usize) -> PlaceRead
 // 13. Interface argument missing.
 pub fn argument_missing(t: &[u8], book: &[u32], listed: &[u32], i: usize) -> PlaceRead
     requires { ⌜ Booked (now t) (now book) × Slim (tableOf (now t)) × (i < countIn (now book)) × Listed (now t) (now listed) (startIn (now book) i) (endIn (now book) i) ⌝ }
-    ensures { λ r. ⌜ r ≡ placed (head? (argumentMissing (tableOf (now (t .entry))) i (definitionOn (now (t .entry)) i))) ⌝ }
+    ensures { λ r. ⌜ r ≡ placed (head? (interfaceArgumentMissing (tableOf (now (t .entry))) i (definitionOn (now (t .entry)) i))) ⌝ }
 {
     broken(t, book, listed, RULE_ARGUMENT_MISSING, i)
 }

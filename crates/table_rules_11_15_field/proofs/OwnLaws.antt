@@ -7,7 +7,8 @@ use borrow.Author.Tests.{eq-eqb, ne-eqb}
 use Rattle.paper_table.specs.TableNumbers.{noPlace, ruleFieldMissing, ruleFieldType, ruleArgumentExtra}
 use Rattle.paper_table.specs.Lists.{allOf}
 use Rattle.paper_table.specs.Types.{Argument, Member, Table}
-use Rattle.paper_table.specs.Rules.{Place, noSubType}
+use Rattle.paper_table.specs.Places.{Place}
+use Rattle.paper_table.specs.Rule12FieldType.{noSubType}
 use Rattle.table_places.specs.Placed.{placed}
 use Rattle.table_places.specs.declared.PlaceRead.{PlaceRead}
 use Rattle.table_places.specs.declared.PlaceRead.the-variants.{At, Kept}

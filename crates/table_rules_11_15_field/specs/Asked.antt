@@ -7,7 +7,8 @@ use lib.Dec.{eqb}
 use Rattle.paper_table.specs.TableNumbers.{ruleFieldMissing, ruleFieldType, ruleArgumentExtra}
 use Rattle.paper_table.specs.Lists.{onlyIf}
 use Rattle.paper_table.specs.Types.{Member, Table}
-use Rattle.paper_table.specs.Rules.{Place, partAt, noSubType}
+use Rattle.paper_table.specs.Places.{Place, partAt}
+use Rattle.paper_table.specs.Rule12FieldType.{noSubType}
 use Rattle.table_rules_13_15.specs.Asked.{argumentsAsked}
 
 -- what a rule asks of the interface's field f and the definition's own, e

@@ -10,7 +10,7 @@ ghost use mathlib.Core.Bool.{true};
 ghost use mathlib.Core.List.{head?};
 ghost use lib.Dec.{eqb};
 ghost use Rattle.paper_table.specs.Lists.{onlyIf};
-ghost use Rattle.paper_table.specs.Rules.{partAt};
+ghost use Rattle.paper_table.specs.Places.{partAt};
 ghost use Rattle.paper_table.specs.Types.{tableOf};
 ghost use Rattle.paper_table.specs.TableNumbers.{ruleFieldMissing, ruleFieldType};
 ghost use Rattle.table_places.specs.Placed.{placed};

@@ -15,9 +15,15 @@ use Rattle.paper.specs.Tokens.{same}
 use Rattle.paper_table.specs.TableNumbers.{tagField, tagReference}
 use Rattle.paper_table.specs.Lists.{anyOf, firstAt, find, eachFrom}
 use Rattle.paper_table.specs.References.{Ref, isNonNull, refOf, found}
-use Rattle.paper_table.specs.Types.{Argument, Member, Definition, Table, tableOf, orNone, typeIn, isInterface, meant, canBe}
-use Rattle.paper_table.specs.Rules.{memberNamed, argumentNamed, FieldBreaks, promisedBy, promised, ifAny, isExtra, lacksArgument, differs, noSubType, partArgumentAt, missingBreaks, typeBreaks, argumentBreaks, argumentTypeBreaks, extraBreaks, fieldMissing, fieldType, argumentMissing, argumentType, argumentExtra}
-use Rattle.paper_table.specs.SubTypes.{SubType, equal, object-of, list, non-null, subTest}
+use Rattle.paper_table.specs.Types.{Argument, Member, Definition, Table, tableOf, orNone, typeIn, isInterface, meant, canBe, memberNamed, argumentNamed}
+use Rattle.paper_table.specs.Places.{partArgumentAt}
+use Rattle.paper_table.specs.Promises.{FieldBreaks, promisedBy, promised, ifAny}
+use Rattle.paper_table.specs.Rule11FieldMissing.{missingBreaks, interfaceFieldMissing}
+use Rattle.paper_table.specs.Rule12FieldType.{noSubType, typeBreaks, fieldType}
+use Rattle.paper_table.specs.Rule13ArgumentMissing.{lacksArgument, argumentBreaks, interfaceArgumentMissing}
+use Rattle.paper_table.specs.Rule14ArgumentType.{typesDiffer, argumentTypeBreaks, argumentType}
+use Rattle.paper_table.specs.Rule15ArgumentExtra.{isExtra, extraBreaks, argumentExtra}
+use Rattle.paper_table.specs.SubTypes.{SubType, equal, object-of, list-of, non-null, subTest}
 use Rattle.paper_table.proofs.SubTypesLaws.{subTest-complete, subTest-sound}
 use Rattle.paper_table.proofs.TextLaws.{same-sound, same-refl, sameRef-refl}
 use Rattle.table_fields.specs.Fields.{Finds}
@@ -33,10 +39,6 @@ use Rattle.table_rules_11_15_quick.specs.Numbered.{FirstOf}
 use Rattle.table_possible.proofs.BitLaws.{lone, bit-or, one-shifted}
 use Rattle.table_possible.proofs.NameLaws.{passes, Inside, inside-start, inside-one, inside-on}
 use Rattle.table_rules_11_15_quick.specs.Keeping.{Every, ArgumentKept, ExtraKept, OwnKept, FieldKept, NameKept, AllKept, SubKept, noArgument, bitOf, Marks, MatchedBy}
-
-pub not-false : (b : Bool) → not b ≡ false → b ≡ true
-not-false true e = refl
-not-false false e = sym e
 
 -- nothing is shown of what is kept
 every-each : {A B : Type 0} (P : A → Type 0) (f : ℕ → A → List B) → ((i : ℕ) (x : A) → P x → f i x ≡ []) → (i : ℕ) (xs : List A) → Every P xs → eachFrom i f xs ≡ []
@@ -64,16 +66,16 @@ module _ (t : Table) (i : ℕ) (d : Definition) (k : Every (NameKept t (d .membe
   unfolding promised
   by ask h = promised-none t (d .members) ask h 0 (d .implements) k
 
-  field-kept : fieldMissing t i d ≡ []
-  unfolding fieldMissing
+  field-kept : interfaceFieldMissing t i d ≡ []
+  unfolding interfaceFieldMissing
   field-kept = by (missingBreaks d) (λ m p f e. rw (any-some (memberNamed (f .name)) (d .members) (e .own) (e .own-is)))
 
   type-kept : fieldType t i d ≡ []
   unfolding fieldType
   type-kept = by (typeBreaks t d) (λ m p f e. rw (e .own-is, e .keeps .type-is))
 
-  argument-kept : argumentMissing t i d ≡ []
-  unfolding argumentMissing
+  argument-kept : interfaceArgumentMissing t i d ≡ []
+  unfolding interfaceArgumentMissing
   argument-kept =
       by (argumentBreaks d) (λ m p f e. rw (e .own-is) (every-each (ArgumentKept (e .own .arguments)) (λ a x. cond (lacksArgument (e .own) x) (partArgumentAt m p a ∷ []) [])
       (λ a x q. rw (any-some (argumentNamed (x .name)) (e .own .arguments) (q .other) (q .other-is))) 0 (f .arguments) (e .keeps .arguments)))
@@ -81,7 +83,7 @@ module _ (t : Table) (i : ℕ) (d : Definition) (k : Every (NameKept t (d .membe
   argument-type-kept : argumentType t i d ≡ []
   unfolding argumentType
   argument-type-kept =
-      by (argumentTypeBreaks d) (λ m p f e. rw (e .own-is) (every-each (ArgumentKept (e .own .arguments)) (λ a x. ifAny (find (argumentNamed (x .name)) (e .own .arguments)) (λ y. cond (differs x y) (partArgumentAt m p a ∷ []) []))
+      by (argumentTypeBreaks d) (λ m p f e. rw (e .own-is) (every-each (ArgumentKept (e .own .arguments)) (λ a x. ifAny (find (argumentNamed (x .name)) (e .own .arguments)) (λ y. cond (typesDiffer x y) (partArgumentAt m p a ∷ []) []))
       (λ a x q. rw (q .other-is, q .type-is)) 0 (f .arguments) (e .keeps .arguments)))
 
   extra-kept : argumentExtra t i d ≡ []
@@ -140,7 +142,7 @@ sub-type t f e q = ap not q
 sub-false : {can : List ℕ → List ℕ → Bool} {r s : Ref} → SubType (λ a b. false) r s → SubType can r s
 sub-false equal = equal
 sub-false (object-of e) = absurd (false≢true e)
-sub-false (list x) = list (sub-false x)
+sub-false (list-of x) = list-of (sub-false x)
 sub-false (non-null x) = non-null (sub-false x)
 
 module _ (t : List ℕ) (at n o at′ n′ i : ℕ) {alike : Bool} (e : alike ≡ same (part t at n) (part t at′ n′)) where

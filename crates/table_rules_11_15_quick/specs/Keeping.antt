@@ -10,8 +10,12 @@ use lib.ListN.{getD}
 use Rattle.paper.specs.Numbers.{mostWrappers}
 use Rattle.paper_table.specs.Lists.{anyOf, find}
 use Rattle.paper_table.specs.References.{Ref, named, isNonNull, sameRef}
-use Rattle.paper_table.specs.Types.{Argument, Member, Definition, Table, tableOf, isInterface, meant, canBe}
-use Rattle.paper_table.specs.Rules.{memberNamed, argumentNamed, noSubType, fieldMissing, fieldType, argumentMissing, argumentType, argumentExtra}
+use Rattle.paper_table.specs.Types.{Argument, Member, Definition, Table, tableOf, isInterface, meant, canBe, memberNamed, argumentNamed}
+use Rattle.paper_table.specs.Rule11FieldMissing.{interfaceFieldMissing}
+use Rattle.paper_table.specs.Rule12FieldType.{noSubType, fieldType}
+use Rattle.paper_table.specs.Rule13ArgumentMissing.{interfaceArgumentMissing}
+use Rattle.paper_table.specs.Rule14ArgumentType.{argumentType}
+use Rattle.paper_table.specs.Rule15ArgumentExtra.{argumentExtra}
 use Rattle.paper_table.specs.SubTypes.{subTest}
 use Rattle.paper_table.proofs.ReferenceSizes.{wrappers as wrapperCount}
 use Rattle.table_members.specs.Members.{Typed}
@@ -51,9 +55,9 @@ NameKept t es n = isInterface (meant t n) ≡ true → Every (FieldKept t es) (m
 
 -- none of the five rules is broken
 pub record AllKept (t : Table) (i : ℕ) (d : Definition) : Type 0 where
-  pub field-missing : fieldMissing t i d ≡ []
+  pub field-missing : interfaceFieldMissing t i d ≡ []
   pub field-type : fieldType t i d ≡ []
-  pub argument-missing : argumentMissing t i d ≡ []
+  pub argument-missing : interfaceArgumentMissing t i d ≡ []
   pub argument-type : argumentType t i d ≡ []
   pub argument-extra : argumentExtra t i d ≡ []
 

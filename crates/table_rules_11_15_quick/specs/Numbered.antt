@@ -7,8 +7,7 @@ use mathlib.Core.List.{List}
 use Prim.Native.Nat.{ℕ, _<_}
 use lib.ListN.{length}
 use Rattle.paper_table.specs.Lists.{firstAt, find}
-use Rattle.paper_table.specs.Types.{Argument}
-use Rattle.paper_table.specs.Rules.{argumentNamed}
+use Rattle.paper_table.specs.Types.{Argument, argumentNamed}
 use Rattle.table_fields.specs.Fields.{Bounds}
 use Rattle.table_members.specs.Members.{argumentFrom}
 use Rattle.table_rules_11_15_quick.specs.declared.ArgumentFound.{ArgumentFound}

@@ -12,7 +12,7 @@ ghost use Prim.Native.Nat.{_+_, _-_, _≤_, _<_};
 ghost use lib.ListN.{length};
 ghost use Rattle.paper_table.specs.Lists.{allOf};
 ghost use Rattle.paper_table.specs.References.{isNonNull};
-ghost use Rattle.paper_table.specs.Rules.{noSubType};
+ghost use Rattle.paper_table.specs.Rule12FieldType.{noSubType};
 ghost use Rattle.paper_table.specs.Types.{tableOf, typeIn, canBe};
 ghost use Rattle.table_fields.specs.Fields.{Bounds};
 ghost use Rattle.table_book.specs.Book.{part, countIn};

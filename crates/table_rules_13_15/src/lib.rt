@@ -10,7 +10,7 @@ ghost use mathlib.Core.Bool.{true};
 ghost use mathlib.Core.Option.{none, some};
 ghost use mathlib.Core.List.{head?};
 ghost use Rattle.paper_table.specs.Lists.{allOf, find};
-ghost use Rattle.paper_table.specs.Rules.{argumentNamed};
+ghost use Rattle.paper_table.specs.Types.{argumentNamed};
 ghost use Rattle.table_places.specs.Placed.{placed};
 ghost use Rattle.table_fields.specs.Fields.{Bounds};
 ghost use Rattle.table_members.specs.Members.{argumentsIn, argumentFrom};

@@ -8,9 +8,9 @@ use lib.ListN.{length}
 use lib.Dec.{ltb, eqb}
 use borrow.Author.Tests.{ne-eqb}
 use Rattle.paper.specs.Tokens.{same}
-use Rattle.paper_table.specs.Lists.{anyOf, firstAt}
+use Rattle.paper_table.specs.Lists.{anyOf, firstAt, earlier}
 use Rattle.paper_table.specs.Types.{Member, Definition, tableOf, typeNamed, directiveNamed, isBuiltIn, builtInDirectives}
-use Rattle.paper_table.specs.Rules.{earlier, typeKnown, directiveKnown}
+use Rattle.paper_table.specs.Rule2NameKnown.{typeKnown, directiveKnown}
 use Rattle.paper_table.proofs.ListsLaws.{any-take}
 use Rattle.table_book.specs.Book.{countIn}
 use Rattle.table_types.specs.Booked.{Booked}

@@ -8,8 +8,19 @@ use lib.Dec.{eqb}
 use native.Mathlib.Omega.{arith}
 use borrow.Author.Tests.{eq-eqb, ne-eqb, eqb-true, le-leb, lt-leb}
 use Rattle.paper_table.specs.Lists.{eachFrom, each, onlyIf}
-use Rattle.paper_table.specs.Types.{Argument, Member, Definition, Table}
-use Rattle.paper_table.specs.Rules.{Place, wholeOf, memberAt, argumentAt, argumentPlaces, memberPlaces, typeKnown, directiveKnown, reservedName, nameKnown, noMembers, nameRepeated, reservedMember, isNoEnumValue, enumValue, noType, wrongBase, memberNoObject, notObjectOrInterface, implementedTwice, rootNotObject, isReserved}
+use Rattle.paper_table.specs.Types.{Argument, Member, Definition, Table, isReserved}
+use Rattle.paper_table.specs.Places.{Place, wholeOf, memberAt, argumentAt, argumentPlaces, memberPlaces}
+use Rattle.paper_table.specs.Rule1ReservedName.{reservedName}
+use Rattle.paper_table.specs.Rule2NameKnown.{typeKnown, directiveKnown, nameKnown}
+use Rattle.paper_table.specs.Rule3NoMembers.{noMembers}
+use Rattle.paper_table.specs.Rule4NameRepeated.{nameRepeated}
+use Rattle.paper_table.specs.Rule5ReservedMember.{reservedMember}
+use Rattle.paper_table.specs.Rule6EnumValue.{isNoEnumValue, enumValue}
+use Rattle.paper_table.specs.Rule7NoType.{noType}
+use Rattle.paper_table.specs.Rule8Base.{wrongBase}
+use Rattle.paper_table.specs.Rule9NotObjectOrInterface.{memberNoObject, notObjectOrInterface}
+use Rattle.paper_table.specs.Rule10ImplementedTwice.{implementedTwice}
+use Rattle.paper_table.specs.Rule16Root.{rootNotObject}
 use Rattle.table_bases.specs.Meanings.{implementedFails}
 use Rattle.table_faults.specs.Faults.{memberFails, argumentFails}
 use Rattle.table_walks.specs.Walks.{membersAt, implementedAt}

@@ -13,8 +13,13 @@ use borrow.Author.Tests.{eq-eqb, ne-eqb, lt-ltb, le-ltb, eqb-true, eqb-false, no
 use Rattle.paper.specs.Tokens.{same}
 use Rattle.paper_table.specs.Lists.{anyOf, eachFrom, each, onlyIf}
 use Rattle.paper_table.specs.TableNumbers.{tagField, tagArgument}
-use Rattle.paper_table.specs.Types.{Argument, Member, Definition, Table, tableOf, typeIn, isRoots, isEnum, isObject, isInterface}
-use Rattle.paper_table.specs.Rules.{Place, memberAt, argumentAt, argumentPlaces, memberPlaces, memberRepeats, argumentRepeats, isReserved, memberReserved, argumentReserved, noEnumValues, isNoEnumValue, baseMeant, memberUnknown, argumentUnknown, memberBaseWrong, argumentBaseWrong, nameRepeated, reservedMember, enumValue, noType, wrongBase}
+use Rattle.paper_table.specs.Types.{Argument, Member, Definition, Table, tableOf, typeIn, isRoots, isEnum, isObject, isInterface, isReserved}
+use Rattle.paper_table.specs.Places.{Place, memberAt, argumentAt, argumentPlaces, memberPlaces}
+use Rattle.paper_table.specs.Rule4NameRepeated.{memberRepeats, argumentRepeats, nameRepeated}
+use Rattle.paper_table.specs.Rule5ReservedMember.{memberReserved, argumentReserved, reservedMember}
+use Rattle.paper_table.specs.Rule6EnumValue.{noEnumValues, isNoEnumValue, enumValue}
+use Rattle.paper_table.specs.Rule7NoType.{baseMeant, memberTypeUnknown, argumentTypeUnknown, noType}
+use Rattle.paper_table.specs.Rule8Base.{memberBaseWrong, argumentBaseWrong, wrongBase}
 use Rattle.paper_table.proofs.TextLaws.{same-sound}
 use Rattle.table_book.specs.Book.{part}
 use Rattle.table_book.proofs.Texts.{length-part}
@@ -59,7 +64,7 @@ all-sound t i d k = record {
   name-repeated = unless-none (isRoots d) _ (members-none t (d .members) k (memberRepeats d) argumentRepeats (λ m e s. s .first) (λ e a x s. s .first));
   reserved-member = if-none (isObject d || isInterface d) _ (members-none t (d .members) k memberReserved argumentReserved (λ m e s. s .own) (λ e a x s. s .own));
   enum-value = if-none (isEnum d) _ (values-none t (d .members) k);
-  no-type = members-none t (d .members) k (memberUnknown t) (argumentUnknown t) (λ m e s. s .base .known) (λ e a x s. s .known);
+  no-type = members-none t (d .members) k (memberTypeUnknown t) (argumentTypeUnknown t) (λ m e s. s .base .known) (λ e a x s. s .known);
   wrong-base = members-none t (d .members) k (memberBaseWrong t) (argumentBaseWrong t) (λ m e s. s .base .right) (λ e a x s. s .input);
 }
 

@@ -9,8 +9,13 @@ use Prim.Native.Nat.{ℕ, suc, _+_, _-_, _*_, _%_}
 use lib.ListN.{length, getD}
 use lib.Dec.{eqb, ltb}
 use Rattle.paper.specs.Tokens.{same}
-use Rattle.paper_table.specs.Types.{Argument, Member, Definition, Table, isUnknown}
-use Rattle.paper_table.specs.Rules.{earlier, isReserved, isNoEnumValue, baseMeant, memberUnknown, isComposite, memberBaseWrong, nameRepeated, reservedMember, enumValue, noType, wrongBase}
+use Rattle.paper_table.specs.Types.{Argument, Member, Definition, Table, isUnknown, isReserved, isComposite}
+use Rattle.paper_table.specs.Lists.{earlier}
+use Rattle.paper_table.specs.Rule4NameRepeated.{nameRepeated}
+use Rattle.paper_table.specs.Rule5ReservedMember.{reservedMember}
+use Rattle.paper_table.specs.Rule6EnumValue.{isNoEnumValue, enumValue}
+use Rattle.paper_table.specs.Rule7NoType.{baseMeant, memberTypeUnknown, noType}
+use Rattle.paper_table.specs.Rule8Base.{memberBaseWrong, wrongBase}
 use Rattle.table_types.specs.Booked.{isCompositeTag}
 
 -- each element of a list, with its number, counted from i
@@ -37,7 +42,7 @@ pub record ArgumentSound (t : Table) (xs : List Argument) (a : ℕ) (x : Argumen
 
 -- the type of a member: 7, 8
 pub record BaseSound (t : Table) (e : Member) : Type 0 where
-  pub known : memberUnknown t 0 e ≡ false
+  pub known : memberTypeUnknown t 0 e ≡ false
   pub right : memberBaseWrong t 0 e ≡ false
 
 -- member m, one of these: 4 to 8

@@ -15,8 +15,8 @@ use types.Run.{OneOf}
 use denote.Enum.Declared.{tagOf}
 use Rattle.paper_table.specs.TableNumbers.{mostImplemented, mostRecords, tagScalar, tagRoots, tagName}
 use Rattle.paper_table.specs.Lists.{anyOf}
-use Rattle.paper_table.specs.House.{piece, pieces, lookUp, contents, contentOf, mostDeep}
-use Rattle.paper_table.specs.TableSizes.{Room, room, isOver, lessRoom, roomInTable, oversIn, oversBy, overs, counts}
+use Rattle.paper_table.specs.House.{houseField, houseFields, lookUp, contents, contentOf, mostDeep}
+use Rattle.paper_table.specs.TableSizes.{Room, room, isOver, lessRoom, roomInTable, oversIn, oversBy, overs, countsOffset}
 use Rattle.paper_table.proofs.ListsLaws.{head-nil}
 use Rattle.paper_table.proofs.HolderLaws.{over-on, over-here, over-inside}
 use Rattle.paper_table.proofs.Rising.{counts-first}
@@ -80,7 +80,7 @@ leaf-over depth at tag s Nothing n a l = rw (deeper depth at tag s n, a)
 
 -- A holder up to the place i, so many names and others left.
 pub record Counting (t : List ℕ) (at tag end depth names others i : ℕ) : Type 0 where
-  pub rest : head? (oversIn (overs (depth - 1)) (roomsOf tag names others) (pieces i (slice i end t))) ≡ head? (overs depth at tag (slice (at + 3) end t))
+  pub rest : head? (oversIn (overs (depth - 1)) (roomsOf tag names others) (houseFields i (slice i end t))) ≡ head? (overs depth at tag (slice (at + 3) end t))
   pub begins : at + 3 ≤ i
   pub order : i ≤ end
 
@@ -103,8 +103,8 @@ module _ (t : List ℕ) (at tag end depth names others i : ℕ) (w : end ≤ len
   counting-torn h q = ap toldOver (rw (pieces-torn t i end w h q) at (o .rest))
 
   module _ (h : i < end) (k a e : ℕ) (q : fieldAt t i end ≡ Field k a e) (n : ℕ) (p : n ≡ roomFor tag k) where
-    split : oversIn (overs (depth - 1)) (roomsOf tag names others) (pieces i (slice i end t)) ≡
-        oversIn (overs (depth - 1)) (roomsOf tag names others) (piece i k (slice a e t) ∷ pieces e (slice e end t))
+    split : oversIn (overs (depth - 1)) (roomsOf tag names others) (houseFields i (slice i end t)) ≡
+        oversIn (overs (depth - 1)) (roomsOf tag names others) (houseField i k (slice a e t) ∷ houseFields e (slice e end t))
     split = ap (oversIn (overs (depth - 1)) (roomsOf tag names others)) (pieces-read t i end w h k a e q)
 
     content : slice (i + 3) e t ≡ slice a e t
@@ -114,7 +114,7 @@ module _ (t : List ℕ) (at tag end depth names others i : ℕ) (w : end ≤ len
     full b f = room-over names others k tag n p ∙ f
 
     here : ltb names (n % 2) || ltb others (n / 2) ≡ true → Over i ≡ toldOver (head? (overs depth at tag (slice (at + 3) end t)))
-    here f = ap toldOver (sym (over-here (overs (depth - 1)) (roomsOf tag names others) i k (slice a e t) (pieces e (slice e end t)) (full true f)) ∙ sym (ap head? split) ∙ o .rest)
+    here f = ap toldOver (sym (over-here (overs (depth - 1)) (roomsOf tag names others) i k (slice a e t) (houseFields e (slice e end t)) (full true f)) ∙ sym (ap head? split) ∙ o .rest)
 
     pub counting-names : names < n % 2 → Over i ≡ toldOver (head? (overs depth at tag (slice (at + 3) end t)))
     counting-names l = here (rw (lt-ltb names (n % 2) l))
@@ -130,7 +130,7 @@ module _ (t : List ℕ) (at tag end depth names others i : ℕ) (w : end ≤ len
           → x ≡ toldOver (head? (overs depth at tag (slice (at + 3) end t)))
       counting-inside x v g z =
           let y : head? (overs (depth - 1) i k (slice a e t)) ≡ some v = rw content at (told-over (head? (overs (depth - 1) i k (slice (i + 3) e t))) v (sym g ∙ z)) in
-          z ∙ ap toldOver (sym (over-inside (overs (depth - 1)) (roomsOf tag names others) i k (slice a e t) (pieces e (slice e end t)) v left y) ∙ sym (ap head? split) ∙ o .rest)
+          z ∙ ap toldOver (sym (over-inside (overs (depth - 1)) (roomsOf tag names others) i k (slice a e t) (houseFields e (slice e end t)) v left y) ∙ sym (ap head? split) ∙ o .rest)
 
       pub counting-on : (x : Counted) → x ≡ toldOver (head? (overs (depth - 1) i k (slice (i + 3) e t))) → x ≡ Within
           → Counting t at tag end depth (names - n % 2) (others - n / 2) e
@@ -139,29 +139,29 @@ module _ (t : List ℕ) (at tag end depth names others i : ℕ) (w : end ≤ len
           let f = field-lies t i end k a e (o .order) q in
           record {
             rest =
-                ap (λ (rs : List Room). head? (oversIn (overs (depth - 1)) rs (pieces e (slice e end t)))) (sym (room-less names others k tag n p))
-                ∙ sym (ap head? (split ∙ over-on (overs (depth - 1)) (roomsOf tag names others) i k (slice a e t) (pieces e (slice e end t)) left y)) ∙ o .rest;
+                ap (λ (rs : List Room). head? (oversIn (overs (depth - 1)) rs (houseFields e (slice e end t)))) (sym (room-less names others k tag n p))
+                ∙ sym (ap head? (split ∙ over-on (overs (depth - 1)) (roomsOf tag names others) i k (slice a e t) (houseFields e (slice e end t)) left y)) ∙ o .rest;
             begins = omega (arith, o .begins, f .begins, f .order);
             order = f .within;
           }
 
 -- A table up to the place i, so many records left.
 pub record Recording (t : List ℕ) (left i : ℕ) : Type 0 where
-  pub rest : head? (oversIn (overs mostDeep) (room tagScalar tagRoots left ∷ []) (pieces i (slice i (length t) t))) ≡ counts t
+  pub rest : head? (oversIn (overs mostDeep) (room tagScalar tagRoots left ∷ []) (houseFields i (slice i (length t) t))) ≡ countsOffset t
   pub order : i ≤ length t
 
 pub recording-start : (t : List ℕ) → Recording t mostRecords 0
 recording-start t = record {
-  rest = ap (λ (s : List ℕ). head? (oversIn (overs mostDeep) roomInTable (pieces 0 s))) (take-length t) ∙ sym (counts-first t);
+  rest = ap (λ (s : List ℕ). head? (oversIn (overs mostDeep) roomInTable (houseFields 0 s))) (take-length t) ∙ sym (counts-first t);
   order = omega arith;
 }
 
 module _ (t : List ℕ) (left i : ℕ) (o : Recording t left i) where
-  pub recording-end : length t ≤ i → Within ≡ toldOver (counts t)
+  pub recording-end : length t ≤ i → Within ≡ toldOver (countsOffset t)
   unfolding oversIn
   recording-end h = ap toldOver (rw (pieces-none t i (length t) h (le-refl (length t))) at (o .rest))
 
-  pub recording-torn : i < length t → fieldAt t i (length t) ≡ Cut → Within ≡ toldOver (counts t)
+  pub recording-torn : i < length t → fieldAt t i (length t) ≡ Cut → Within ≡ toldOver (countsOffset t)
   unfolding oversIn
   recording-torn h q = ap toldOver (rw (pieces-torn t i (length t) (le-refl (length t)) h q) at (o .rest))
 
@@ -169,7 +169,7 @@ module _ (t : List ℕ) (left i : ℕ) (o : Recording t left i) where
     abbrev rooms : List Room
     rooms = room tagScalar tagRoots left ∷ []
 
-    split-table : oversIn (overs mostDeep) rooms (pieces i (slice i (length t) t)) ≡ oversIn (overs mostDeep) rooms (piece i k (slice a e t) ∷ pieces e (slice e (length t) t))
+    split-table : oversIn (overs mostDeep) rooms (houseFields i (slice i (length t) t)) ≡ oversIn (overs mostDeep) rooms (houseField i k (slice a e t) ∷ houseFields e (slice e (length t) t))
     split-table = ap (oversIn (overs mostDeep) rooms) (pieces-read t i (length t) (le-refl (length t)) h k a e q)
 
     content-table : slice (i + 3) e t ≡ slice a e t
@@ -190,14 +190,14 @@ module _ (t : List ℕ) (left i : ℕ) (o : Recording t left i) where
         go true = rw (pred-is left)
         go false = rw (less-none left)
 
-    pub recording-over : left < n → Over i ≡ toldOver (counts t)
-    recording-over l = ap toldOver (sym (over-here (overs mostDeep) rooms i k (slice a e t) (pieces e (slice e (length t) t)) (full-table true (lt-ltb left n l))) ∙ sym (ap head? split-table) ∙ o .rest)
+    pub recording-over : left < n → Over i ≡ toldOver (countsOffset t)
+    recording-over l = ap toldOver (sym (over-here (overs mostDeep) rooms i k (slice a e t) (houseFields e (slice e (length t) t)) (full-table true (lt-ltb left n l))) ∙ sym (ap head? split-table) ∙ o .rest)
 
     module _ (l : n ≤ left) where
-      pub recording-inside : (x : Counted) (v : ℕ) → x ≡ toldOver (head? (overs mostDeep i k (slice (i + 3) e t))) → x ≡ Over v → x ≡ toldOver (counts t)
+      pub recording-inside : (x : Counted) (v : ℕ) → x ≡ toldOver (head? (overs mostDeep i k (slice (i + 3) e t))) → x ≡ Over v → x ≡ toldOver (countsOffset t)
       recording-inside x v g z =
           let y : head? (overs mostDeep i k (slice a e t)) ≡ some v = rw content-table at (told-over (head? (overs mostDeep i k (slice (i + 3) e t))) v (sym g ∙ z)) in
-          z ∙ ap toldOver (sym (over-inside (overs mostDeep) rooms i k (slice a e t) (pieces e (slice e (length t) t)) v (full-table false (le-ltb left n l)) y) ∙ sym (ap head? split-table) ∙ o .rest)
+          z ∙ ap toldOver (sym (over-inside (overs mostDeep) rooms i k (slice a e t) (houseFields e (slice e (length t) t)) v (full-table false (le-ltb left n l)) y) ∙ sym (ap head? split-table) ∙ o .rest)
 
       pub recording-on : (x : Counted) → x ≡ toldOver (head? (overs mostDeep i k (slice (i + 3) e t))) → x ≡ Within → Recording t (left - n) e
       recording-on x g z =
@@ -205,7 +205,7 @@ module _ (t : List ℕ) (left i : ℕ) (o : Recording t left i) where
           let f = field-lies t i (length t) k a e (o .order) q in
           record {
             rest =
-                ap (λ (rs : List Room). head? (oversIn (overs mostDeep) rs (pieces e (slice e (length t) t)))) (sym less-table)
-                ∙ sym (ap head? (split-table ∙ over-on (overs mostDeep) rooms i k (slice a e t) (pieces e (slice e (length t) t)) (full-table false (le-ltb left n l)) y)) ∙ o .rest;
+                ap (λ (rs : List Room). head? (oversIn (overs mostDeep) rs (houseFields e (slice e (length t) t)))) (sym less-table)
+                ∙ sym (ap head? (split-table ∙ over-on (overs mostDeep) rooms i k (slice a e t) (houseFields e (slice e (length t) t)) (full-table false (le-ltb left n l)) y)) ∙ o .rest;
             order = f .within;
           }

@@ -20,7 +20,7 @@ ghost use lib.ListN.{length};
 ghost use lib.Seq.{slice};
 ghost use lib.Dec.{eqb};
 ghost use Rattle.paper_table.specs.TableNumbers.{mostTable, tagName};
-ghost use Rattle.paper_table.specs.TableSizes.{overs, counts};
+ghost use Rattle.paper_table.specs.TableSizes.{overs, countsOffset};
 ghost use Rattle.table_fields.specs.Fields.{Bounds};
 ghost use Rattle.table_rooms.specs.Rooms.{toldOver};
 ghost use Rattle.table_sizes.specs.Counts.{leafOvers, recordBy};
@@ -119,7 +119,7 @@ const MOST_DEEP: u32 = 4;
 // Refusal 8: the first over a size.
 pub fn over(t: &[u8]) -> Counted
     requires { ⌜ length (now t) ≤ mostTable ⌝ }
-    ensures { λ r. ⌜ r ≡ toldOver (counts (now (t .entry))) ⌝ }
+    ensures { λ r. ⌜ r ≡ toldOver (countsOffset (now (t .entry))) ⌝ }
 {
     let mut left = MOST_RECORDS;
     let mut i = 0;

@@ -5,20 +5,13 @@ use Prim.Native.Nat.{ℕ, _%_, _/_}
 use native.Mathlib.Omega.{arith}
 use lib.Dec.{eqb}
 use borrow.Author.Tests.{eq-eqb, eqb-true}
+use Rattle.paper.proofs.Bools.{and-left, and-right}
 use Rattle.paper.specs.Tokens.{same}
 use Rattle.paper_table.specs.References.{Ref, named, listOf, nonNull, baseOf, sameRef}
 use Rattle.paper_table.specs.SubTypes.{subTest}
 use Rattle.table_fields.specs.Wrappers.{packOf}
 use Rattle.table_fields.proofs.PackLaws.{same-ref, same-pack, same-base}
 use Rattle.table_subtypes.specs.SubAnswers.{SubAnswer}
-
-and-left : (a b : Bool) → a && b ≡ true → a ≡ true
-and-left true b e = refl
-and-left false b e = e
-
-and-right : (a b : Bool) → a && b ≡ true → b ≡ true
-and-right true b e = e
-and-right false b e = absurd (false≢true e)
 
 -- equal wrappers and the same base: a reference is a sub-type of itself
 refl-test : (can : Bool) (r s : Ref) → packOf r ≡ packOf s → same (baseOf r) (baseOf s) ≡ true → true ≡ subTest (λ a b. can) r s

@@ -9,7 +9,7 @@ use lib.Dec.{leb, eqb}
 use borrow.Author.Tests.{le-leb, le-ltb, lt-ltb, eqb-true, eqb-false, leb-true, leb-false}
 use Rattle.paper.specs.Tokens.{same}
 use Rattle.paper_table.specs.Lists.{firstAt}
-use Rattle.paper_table.specs.Types.{Definition, tableOf, typeNamed, directiveNamed, isBuiltIn, builtIn, nothing, definition, meaning, blank, tagNothing, meant}
+use Rattle.paper_table.specs.Types.{Definition, tableOf, typeNamed, directiveNamed, isBuiltIn, builtIn, noMeaning, definition, meaning, blankDefinition, tagNothing, meant}
 use Rattle.paper_table.proofs.ListsLaws.{firstAt-map}
 use Rattle.paper_table.proofs.MeaningLaws.{meaning-first, meant-first}
 use Rattle.table_book.specs.Book.{countIn, keysOf, keyed}
@@ -48,7 +48,7 @@ module _ (t book : List ℕ) (b : Booked t book) (n : List ℕ) where
 
     pub means-nothing : isBuiltIn n ≡ false → countIn book ≤ k → Nothing ≡ spoken (meaning (tableOf t) n)
     means-nothing q l =
-        let f : meaning (tableOf t) n ≡ nothing = meaning-first (tableOf t) n ∙ rw (q, ← e, le-ltb k (length (tableOf t)) (omega (arith, b .count))) in
+        let f : meaning (tableOf t) n ≡ noMeaning = meaning-first (tableOf t) n ∙ rw (q, ← e, le-ltb k (length (tableOf t)) (omega (arith, b .count))) in
         sym (ap spoken f)
 
     pub tag-definition : isBuiltIn n ≡ false → k < countIn book → getD book k 0 ≡ meant (tableOf t) n .tag
@@ -58,7 +58,7 @@ module _ (t book : List ℕ) (b : Booked t book) (n : List ℕ) where
     pub tag-nothing : isBuiltIn n ≡ false → countIn book ≤ k → 0 ≡ meant (tableOf t) n .tag
     tag-nothing q l =
         sym (ap (λ (d : Definition). d .tag) (meant-first (tableOf t) n)
-        ∙ rw (q, ← e) (ap (λ (d : Definition). d .tag) (List·getD-eq-default (tableOf t) (blank tagNothing) (omega (arith, b .count)))))
+        ∙ rw (q, ← e) (ap (λ (d : Definition). d .tag) (List·getD-eq-default (tableOf t) (blankDefinition tagNothing) (omega (arith, b .count)))))
 
   pub means-built-in : isBuiltIn n ≡ true → BuiltIn ≡ spoken (meaning (tableOf t) n)
   means-built-in q =

@@ -12,8 +12,7 @@ use Rattle.paper.specs.Tokens.{same}
 use Rattle.paper_table.specs.TableNumbers.{tagObject, tagInterface, tagUnion, tagScalar}
 use Rattle.paper_table.specs.Lists.{anyOf, find}
 use Rattle.paper_table.specs.References.{found}
-use Rattle.paper_table.specs.Types.{Member, Definition, Table, tableOf, isObject, isInterface, isUnion, tagNothing, meant, canBe}
-use Rattle.paper_table.specs.Rules.{memberNamed}
+use Rattle.paper_table.specs.Types.{Member, Definition, Table, tableOf, isObject, isInterface, isUnion, tagNothing, meant, canBe, memberNamed}
 use Rattle.paper_table.proofs.TextLaws.{same-sound, same-refl}
 use Rattle.table_fields.specs.Fields.{Bounds}
 use Rattle.table_book.specs.Book.{room, countIn}

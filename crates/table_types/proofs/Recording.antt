@@ -10,8 +10,8 @@ use lib.Dec.{ltb}
 use borrow.Author.Tests.{ltb-true, ltb-false}
 use Rattle.paper_table.specs.TableNumbers.{mostTable}
 use Rattle.paper_table.specs.Lists.{gather}
-use Rattle.paper_table.specs.House.{piece, cut, pieces}
-use Rattle.paper_table.specs.Types.{Definition, definitionOf, tableOf, nameIn, blank, tagNothing}
+use Rattle.paper_table.specs.House.{houseField, cut, houseFields}
+use Rattle.paper_table.specs.Types.{Definition, definitionOf, tableOf, nameIn, blankDefinition, tagNothing}
 use Rattle.table_fields.specs.Fields.{fieldAt}
 use Rattle.table_fields.specs.declared.FieldRead.the-variants.{Field, Cut}
 use Rattle.table_fields.proofs.FieldLaws.{field-lies}
@@ -126,13 +126,13 @@ pub record Recording (t book : List ℕ) (at i : ℕ) : Type 0 where
 
 table-is : (t : List ℕ) → tableOf t ≡ gather definitionOf (fieldsIn t 0 (length t))
 unfolding tableOf
-table-is t = ap (λ (s : List ℕ). gather definitionOf (pieces 0 s)) (sym (take-length t))
+table-is t = ap (λ (s : List ℕ). gather definitionOf (houseFields 0 s)) (sym (take-length t))
 
 definition-cut : (at : ℕ) → definitionOf (cut at) ≡ []
 unfolding definitionOf
 definition-cut at = refl
 
-definition-is : (t : List ℕ) (at tag start stop : ℕ) → start ≡ at + 3 → definitionOf (piece at tag (slice start stop t)) ≡ definitionFrom t tag start stop ∷ []
+definition-is : (t : List ℕ) (at tag start stop : ℕ) → start ≡ at + 3 → definitionOf (houseField at tag (slice start stop t)) ≡ definitionFrom t tag start stop ∷ []
 unfolding definitionOf
 definition-is t at tag start stop e = rw (← e)
 
@@ -181,8 +181,8 @@ module _ (t book : List ℕ) (at i : ℕ) (r : Recording t book at i) where
     here : definitionOn t i ≡ d
     here =
         let z : i + 0 ≡ i = omega arith in
-        ap (λ (k : ℕ). getD (tableOf t) k (blank tagNothing)) (sym z) ∙ sym (getD-drop i (tableOf t) 0 (blank tagNothing))
-        ∙ ap (λ (m : List Definition). getD m 0 (blank tagNothing)) next-is
+        ap (λ (k : ℕ). getD (tableOf t) k (blankDefinition tagNothing)) (sym z) ∙ sym (getD-drop i (tableOf t) 0 (blankDefinition tagNothing))
+        ∙ ap (λ (m : List Definition). getD m 0 (blankDefinition tagNothing)) next-is
 
     behind : drop (i + 1) (tableOf t) ≡ gather definitionOf (fieldsIn t stop (length t))
     behind = sym (drop-drop 1 i (tableOf t)) ∙ ap (drop 1) next-is
@@ -205,7 +205,7 @@ module _ (t book : List ℕ) (at i : ℕ) (r : Recording t book at i) where
             let v : j ≡ i = omega arith in
             rw (v, here) (e .entered)
 
-map-keys : (xs : List Definition) (i : ℕ) → getD (map keyOf xs) i noKey ≡ keyOf (getD xs i (blank tagNothing))
+map-keys : (xs : List Definition) (i : ℕ) → getD (map keyOf xs) i noKey ≡ keyOf (getD xs i (blankDefinition tagNothing))
 map-keys [] i = refl
 map-keys (x ∷ xs) zero = refl
 map-keys (x ∷ xs) (suc i) = map-keys xs i

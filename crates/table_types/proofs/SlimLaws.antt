@@ -8,6 +8,7 @@ use native.Mathlib.Omega.{arith}
 use lib.ListN.{length, getD}
 use lib.Dec.{leb}
 use borrow.Author.Tests.{leb-true}
+use Rattle.paper.proofs.Bools.{and-left, and-right}
 use Rattle.paper.specs.Numbers.{mostWrappers}
 use Rattle.paper_table.specs.Lists.{allOf, find}
 use Rattle.paper_table.specs.Types.{Argument, Member, Definition, tableOf}
@@ -16,14 +17,6 @@ use Rattle.table_book.specs.Book.{countIn}
 use Rattle.table_members.specs.Members.{membersIn}
 use Rattle.table_types.specs.Booked.{Booked, startIn, endIn}
 use Rattle.table_types.specs.Sizes.{slimArgument, slimMember, slimDefinition, Slim}
-
-pub and-left : (a b : Bool) → a && b ≡ true → a ≡ true
-and-left true b e = refl
-and-left false b e = e
-
-pub and-right : (a b : Bool) → a && b ≡ true → b ≡ true
-and-right true b e = e
-and-right false b e = absurd (false≢true e)
 
 module _ {A : Type 0} (p : A → Bool) where
   pub all-head : (x : A) (xs : List A) → allOf p (x ∷ xs) ≡ true → p x ≡ true

@@ -9,7 +9,7 @@ use lib.Dec.{leb, ltb}
 use Rattle.paper.specs.Numbers.{mostWrappers}
 use Rattle.paper_table.specs.TableNumbers.{mostTable, tagScalar, tagObject, tagUnion}
 use Rattle.paper_table.specs.References.{Ref}
-use Rattle.paper_table.specs.Types.{Definition, tableOf, blank, tagNothing, Meaning, builtIn, nothing, definition, meant, canBe}
+use Rattle.paper_table.specs.Types.{Definition, tableOf, blankDefinition, tagNothing, Meaning, builtIn, noMeaning, definition, meant, canBe}
 use Rattle.paper_table.specs.SubTypes.{subTest}
 use Rattle.paper_table.proofs.ReferenceSizes.{wrappers as wrapperCount}
 use Rattle.table_book.specs.Book.{Key, key, part, room, cellName, cellSize, cellStart, cellEnd, bookSize, countIn, keysOf, Indexed}
@@ -29,7 +29,7 @@ endIn book i = getD book (cellEnd + i) 0
 
 -- the table's definition of a number
 abbrev pub definitionOn : List ℕ → ℕ → Definition
-definitionOn t i = getD (tableOf t) i (blank tagNothing)
+definitionOn t i = getD (tableOf t) i (blankDefinition tagNothing)
 
 -- entry i of the book is this definition of the table t: its tag, its content, its name
 pub record Entered (t book : List ℕ) (i : ℕ) (d : Definition) : Type 0 where
@@ -86,7 +86,7 @@ pub record Recorded (t book : List ℕ) (count : ℕ) : Type 0 where
 -- a meaning as the code has it
 abbrev pub spoken : Meaning → Meant
 spoken builtIn = BuiltIn
-spoken nothing = Nothing
+spoken noMeaning = Nothing
 spoken (definition i) = Defined i
 
 -- entry i's kind, 0 if there is no such entry

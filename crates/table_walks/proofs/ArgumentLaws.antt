@@ -9,7 +9,7 @@ use borrow.Author.Tests.{eq-eqb, ne-eqb}
 use Rattle.paper_table.specs.TableNumbers.{tagField, tagArgument}
 use Rattle.paper_table.specs.Lists.{each, onlyIf}
 use Rattle.paper_table.specs.Types.{Argument, Table, nameOnly}
-use Rattle.paper_table.specs.Rules.{Place, argumentAt}
+use Rattle.paper_table.specs.Places.{Place, argumentAt}
 use Rattle.paper_table.proofs.ListsLaws.{eachFrom-nil}
 use Rattle.table_members.specs.Members.{argumentsIn, inputFrom, memberFrom}
 use Rattle.table_places.specs.Placed.{placed}

@@ -6,7 +6,7 @@ use mathlib.Core.List.{List, [], _∷_, _++_, head?}
 use Prim.Native.Nat.{ℕ, suc, _+_, _≤_}
 use native.Mathlib.Omega.{arith}
 use Rattle.paper_table.specs.Lists.{eachFrom, each, onlyIf}
-use Rattle.paper_table.specs.Rules.{Place}
+use Rattle.paper_table.specs.Places.{Place}
 use Rattle.paper_table.proofs.ListsLaws.{head-right, eachFrom-nil, eachFrom-cons}
 use Rattle.table_members.specs.Members.{First}
 use Rattle.table_places.specs.Placed.{placed}

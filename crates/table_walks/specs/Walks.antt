@@ -4,7 +4,7 @@ use mathlib.Core.List.{List}
 use Prim.Native.Nat.{ℕ}
 use Rattle.paper_table.specs.Lists.{each, onlyIf}
 use Rattle.paper_table.specs.Types.{Member, Table}
-use Rattle.paper_table.specs.Rules.{Place, memberAt, argumentPlaces, memberPlaces}
+use Rattle.paper_table.specs.Places.{Place, memberAt, argumentPlaces, memberPlaces}
 use Rattle.table_bases.specs.Meanings.{implementedFails}
 use Rattle.table_faults.specs.Faults.{memberFails, argumentFails}
 

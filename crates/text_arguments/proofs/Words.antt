@@ -11,10 +11,10 @@ use Rattle.paper.specs.Grammar.{nt, tm}
 use Rattle.paper.specs.Numbers.{mostRows}
 use Rattle.paper.specs.Language.{Class, numC, Terminal, hits, Part}
 use Rattle.paper.specs.Tokens.{Text, token, nameClass}
-use Rattle.paper.specs.Sizes.{Counts, opens, closes, overCounts}
+use Rattle.paper.specs.Sizes.{Counts, opensLevel, closesLevel, overCounts}
 use Rattle.paper.proofs.Lexing.{from}
 use Rattle.paper.proofs.Machine.{fst, step}
-use Rattle.paper.proofs.Bools.{T→eq, and-l, and-r}
+use Rattle.paper.proofs.Bools.{T→eq, and-l, and-r, not-eq}
 use Rattle.paper_theory.proofs.Theory.{choose-first, step-by}
 use Rattle.paper_theory.proofs.Test.{all, implies, implies-out, all-at}
 use Rattle.paper.proofs.Tables.{graphql, factored, allC, atC}
@@ -47,14 +47,10 @@ class-first : (S : State) (σ : Stack) (p : Part) {α : Stack} (k : Class) (a e 
 unfolding go
 class-first S σ p k a e t m h = ap (goes S (tokenOf k a e) t (λ s′ τ. go s′ τ t)) (step-by fits p (some k) σ (choose-first fits p k m h))
 
-not-eq : (b : Bool) → T (not b) → b ≡ false
-not-eq true h = absurd h
-not-eq false h = refl
-
-class-taken : (cells : List ℕ) (n : ℕ) (o : List ℕ) (stop left : ℕ) (q : Counts) (σ : Stack) (w : Terminal) (k : Class) (a e : ℕ) (t : Text) → T (hits w k) → T (not (opens k)) → T (not (closes k)) → n ≤ mostRows → overCounts q ≡ false →
+class-taken : (cells : List ℕ) (n : ℕ) (o : List ℕ) (stop left : ℕ) (q : Counts) (σ : Stack) (w : Terminal) (k : Class) (a e : ℕ) (t : Text) → T (hits w k) → T (not (opensLevel k)) → T (not (closesLevel k)) → n ≤ mostRows → overCounts q ≡ false →
     go (st cells n o stop left q) (tm w ∷ σ) (token (tokenOf k a e) t) ≡ go (st cells n o e left q) σ t
 unfolding go step
-class-taken cells n o stop left q σ w k a e t h u v r z = rw (T→eq (hits w k) h, not-eq (opens k) u, not-eq (closes k) v, le-ltb mostRows n r, z) refl
+class-taken cells n o stop left q σ w k a e t h u v r z = rw (T→eq (hits w k) h, not-eq (opensLevel k) u, not-eq (closesLevel k) v, le-ltb mostRows n r, z) refl
 
 module _ (s : List ℕ) (c : Cursor) (h : c .stop ≤ length s) (l : Looks s c) (e : c .kind ≡ 1) (cells : List ℕ) (n : ℕ) (o : List ℕ) (left : ℕ) (q : Counts) where
   abbrev here : Stack → Out
@@ -71,17 +67,17 @@ module _ (s : List ℕ) (c : Cursor) (h : c .stop ≤ length s) (l : Looks s c) 
       (by-word (fst graphql α) g a (nameClass (bytesAt s c)) 1 (wordOf (bytesAt s c)) (f .0) refl t))
 
   -- a word that is there
-  pub word-taken : (σ : Stack) (w : Terminal) (g : ℕ → ℕ → Bool) → T (g 1 (wordOf (bytesAt s c))) → T (all (λ k. implies (g (kindOf k) (wordNumber k)) (hits w k && (not (opens k) && not (closes k)))) allC) →
+  pub word-taken : (σ : Stack) (w : Terminal) (g : ℕ → ℕ → Bool) → T (g 1 (wordOf (bytesAt s c))) → T (all (λ k. implies (g (kindOf k) (wordNumber k)) (hits w k && (not (opensLevel k) && not (closesLevel k)))) allC) →
       n ≤ mostRows → overCounts q ≡ false → here (tm w ∷ σ) ≡ go (st cells n o (c .end) left q) σ (from s (c .end))
   unfolding wordOf
   word-taken σ w g t a r z =
       let f = at-name s c h l e in
       let k : Class = nameClass (bytesAt s c) in
-      let v : T (hits w k && (not (opens k) && not (closes k))) = by-word (λ k. hits w k && (not (opens k) && not (closes k))) g a k 1 (wordOf (bytesAt s c)) (f .0) refl t in
-      let u : T (not (opens k) && not (closes k)) = and-r (hits w k) (not (opens k) && not (closes k)) v in
+      let v : T (hits w k && (not (opensLevel k) && not (closesLevel k))) = by-word (λ k. hits w k && (not (opensLevel k) && not (closesLevel k))) g a k 1 (wordOf (bytesAt s c)) (f .0) refl t in
+      let u : T (not (opensLevel k) && not (closesLevel k)) = and-r (hits w k) (not (opensLevel k) && not (closesLevel k)) v in
       rw (f .1)
       (class-taken cells n o (c .stop) left q σ w k (c .start) (c .end) (from s (c .end))
-      (and-l (hits w k) (not (opens k) && not (closes k)) v) (and-l (not (opens k)) (not (closes k)) u) (and-r (not (opens k)) (not (closes k)) u) r z)
+      (and-l (hits w k) (not (opensLevel k) && not (closesLevel k)) v) (and-l (not (opensLevel k)) (not (closesLevel k)) u) (and-r (not (opensLevel k)) (not (closesLevel k)) u) r z)
 
 -- the name `on`
 abbrev pub is-on : ℕ → ℕ → Bool

@@ -11,7 +11,7 @@ use lib.Dec.{T, ltb, leb}
 use lib.ListN.{length, getD, drop}
 use lib.Seq.{drop-cons}
 use borrow.Author.Tests.{le-leb, lt-leb, ltb-false}
-use Rattle.paper.specs.Lexical.{span, oneOf, hitsByte, letter, letterOrDigit, digit}
+use Rattle.paper.specs.Lexical.{span, inSet, hitsByte, letter, letterOrDigit, digit}
 use Rattle.paper.proofs.Bools.{and-l, and-r}
 
 -- the bytes from i on are the one at i and those from i + 1 on
@@ -47,7 +47,7 @@ bytes-agree f g lo n t b l h = agree→eq (f b) (g b) (from-all lo n (λ k. agre
 
 -- a name goes on with digits and letters
 pub digit-in-name : (b : ℕ) → hitsByte digit b ≡ true → hitsByte letterOrDigit b ≡ true
-digit-in-name b q = go (ltb b 256) (leb 48 b && leb b 57) (oneOf (span 0x41 0x5a ∷ span 0x5f 0x5f ∷ span 0x61 0x7a ∷ []) b) q
+digit-in-name b q = go (ltb b 256) (leb 48 b && leb b 57) (inSet (span 0x41 0x5a ∷ span 0x5f 0x5f ∷ span 0x61 0x7a ∷ []) b) q
   where
     go : (near low other : Bool) → near && (low || false) ≡ true → near && (low || other) ≡ true
     go true true other h = refl
@@ -55,7 +55,7 @@ digit-in-name b q = go (ltb b 256) (leb 48 b && leb b 57) (oneOf (span 0x41 0x5a
     go false low other h = h
 
 pub letter-in-name : (b : ℕ) → hitsByte digit b ≡ false → hitsByte letterOrDigit b ≡ hitsByte letter b
-letter-in-name b q = go (ltb b 256) (leb 48 b && leb b 57) (oneOf (span 0x41 0x5a ∷ span 0x5f 0x5f ∷ span 0x61 0x7a ∷ []) b) q
+letter-in-name b q = go (ltb b 256) (leb 48 b && leb b 57) (inSet (span 0x41 0x5a ∷ span 0x5f 0x5f ∷ span 0x61 0x7a ∷ []) b) q
   where
     go : (near low other : Bool) → near && (low || false) ≡ false → near && (low || other) ≡ near && other
     go true true other h = let z : _≡_ {A = ℕ} 0 1 = cc in let y : ⊥ = omega arith in absurd y
@@ -70,8 +70,8 @@ byte-only b x f = go (ltb b 256) refl
     go true e = refl
     go false e = sym (f (ltb-false b 256 e))
 
-pub letter-byte : (b : ℕ) → hitsByte letter b ≡ oneOf letter b
-letter-byte b = byte-only b (oneOf letter b) (λ h. rw (lt-leb b 90 (omega arith), lt-leb b 95 (omega arith), lt-leb b 122 (omega arith), le-leb 65 b (omega arith), le-leb 95 b (omega arith), le-leb 97 b (omega arith)))
+pub letter-byte : (b : ℕ) → hitsByte letter b ≡ inSet letter b
+letter-byte b = byte-only b (inSet letter b) (λ h. rw (lt-leb b 90 (omega arith), lt-leb b 95 (omega arith), lt-leb b 122 (omega arith), le-leb 65 b (omega arith), le-leb 95 b (omega arith), le-leb 97 b (omega arith)))
 
-pub name-byte : (b : ℕ) → hitsByte letterOrDigit b ≡ oneOf letterOrDigit b
-name-byte b = byte-only b (oneOf letterOrDigit b) (λ h. rw (lt-leb b 57 (omega arith), lt-leb b 90 (omega arith), lt-leb b 95 (omega arith), lt-leb b 122 (omega arith), le-leb 48 b (omega arith), le-leb 65 b (omega arith), le-leb 95 b (omega arith), le-leb 97 b (omega arith)))
+pub name-byte : (b : ℕ) → hitsByte letterOrDigit b ≡ inSet letterOrDigit b
+name-byte b = byte-only b (inSet letterOrDigit b) (λ h. rw (lt-leb b 57 (omega arith), lt-leb b 90 (omega arith), lt-leb b 95 (omega arith), lt-leb b 122 (omega arith), le-leb 48 b (omega arith), le-leb 65 b (omega arith), le-leb 95 b (omega arith), le-leb 97 b (omega arith)))

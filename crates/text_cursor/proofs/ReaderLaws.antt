@@ -5,7 +5,7 @@ use Prim.Native.Nat.{ℕ, _≤_, _<_}
 use native.Mathlib.Omega.{arith}
 use lib.ListN.{length}
 use Rattle.paper.specs.Numbers.{mostText}
-use Rattle.paper.specs.Tokens.{Tok, Text, over, bad, token}
+use Rattle.paper.specs.Tokens.{Tok, Text, atEnd, bad, token}
 use Rattle.paper.proofs.Lexing.{from}
 use Rattle.paper_theory.proofs.FromLaws.{from-token, from-over, from-bad}
 use Rattle.text_scan.specs.Head.{headOf, kindOf}
@@ -23,7 +23,7 @@ pub head-lies : (s : List ℕ) (p : ℕ) → p ≤ length s → Lies s p (headOf
 head-lies s p h = go (from s p) refl
   where
     go : (t : Text) → from s p ≡ t → Lies s p (headOf t)
-    go (over n) e = let q = from-over s p n h e in omega arith
+    go (atEnd n) e = let q = from-over s p n h e in omega arith
     go (bad n) e = let q = from-bad s p n h e in omega arith
     go (token k t) e = let q = from-token s p k t h e in (q .0, omega arith, q .2)
 

@@ -13,14 +13,14 @@ use borrow.Author.Tests.{eq-eqb, ne-eqb, le-ltb, lt-ltb}
 use Rattle.paper.specs.Grammar.{Sym, nt, tm, act, Ev, tok, mark}
 use Rattle.paper.specs.Numbers.{mostRows}
 use Rattle.paper.specs.Language.{Class, Terminal, hits, Mark, Part}
-use Rattle.paper.specs.Tokens.{Tok, Text, over, bad, token}
-use Rattle.paper.specs.Sizes.{Counts, opens, closes, overCounts}
+use Rattle.paper.specs.Tokens.{Tok, Text, atEnd, bad, token}
+use Rattle.paper.specs.Sizes.{Counts, opensLevel, closesLevel, overCounts}
 use Rattle.paper.specs.declared.Refusal.{Refusal}
 use Rattle.paper.specs.declared.Refusal.the-variants.{NoGoing, TooDeep, TooManyRows, TooMany}
 use Rattle.paper.proofs.Lexing.{from}
 use Rattle.paper_theory.proofs.FromLaws.{from-token, from-over, from-bad}
 use Rattle.paper.proofs.Machine.{fst, nul, choose, step, takeIf, Step, took, refused, over as over-stack}
-use Rattle.paper.proofs.Bools.{T→eq, and-l, and-r}
+use Rattle.paper.proofs.Bools.{T→eq, and-l, and-r, not-eq}
 use Rattle.paper_theory.proofs.Theory.{choose-first, choose-null, step-by, step-none}
 use Rattle.paper_theory.proofs.Test.{all, implies, implies-out, all-at}
 use Rattle.paper.proofs.Tables.{graphql, factored, allC, atC}
@@ -58,13 +58,13 @@ tokenOf k a e = record { class = k; start = a; stop = e }
 -- what a cursor looks at: a token of its kind, or the end of the text
 pub data Front (s : List ℕ) (c : Cursor) : Type 0 where
   a-token : (k : Class) → kindOf k ≡ c .kind → from s (c .stop) ≡ token (tokenOf k (c .start) (c .end)) (from s (c .end)) → c .stop ≤ c .start → c .start < c .end → c .end ≤ length s → Front s c
-  the-end : c .kind ≡ 0 → from s (c .stop) ≡ over (c .start) → c .start ≡ length s → c .end ≡ c .start → Front s c
+  the-end : c .kind ≡ 0 → from s (c .stop) ≡ atEnd (c .start) → c .start ≡ length s → c .end ≡ c .start → Front s c
 
 pub front : (s : List ℕ) (c : Cursor) → c .stop ≤ length s → Looks s c → Front s c
 front s c h l = go′ (from s (c .stop)) refl
   where
     go′ : (t : Text) → from s (c .stop) ≡ t → Front s c
-    go′ (over n) e = let q : Token 0 n n ≡ Token (c .kind) (c .start) (c .end) = ap headOf (sym e) ∙ l in let z = from-over s (c .stop) n h e in the-end (cc) (e ∙ ap over (cc)) (cc) (cc)
+    go′ (atEnd n) e = let q : Token 0 n n ≡ Token (c .kind) (c .start) (c .end) = ap headOf (sym e) ∙ l in let z = from-over s (c .stop) n h e in the-end (cc) (e ∙ ap atEnd (cc)) (cc) (cc)
     go′ (bad n) e = let q : Bad n ≡ Token (c .kind) (c .start) (c .end) = ap headOf (sym e) ∙ l in let z : _≡_ {A = ℕ} 0 1 = cc in let w : ⊥ = omega arith in absurd w
     go′ (token k t) e =
         let q : Token (kindOf (k .class)) (k .start) (k .stop) ≡ Token (c .kind) (c .start) (c .end) = ap headOf (sym e) ∙ l in
@@ -87,19 +87,19 @@ front-token s c h l n = go′ (front s c h l)
 -- WHICH PRODUCTION. At a token, or at the end
 
 lookAt : Text → Option Class
-lookAt (over n) = none
+lookAt (atEnd n) = none
 lookAt (bad n) = none
 lookAt (token k t) = some (k .class)
 
 -- the text does not end at bad bytes
 abbrev Good : Text → Type 0
-Good (over n) = Unit {0}
+Good (atEnd n) = Unit {0}
 Good (bad n) = ⊥
 Good (token k t) = Unit {0}
 
 go-step : (S : State) (σ σ′ : Stack) (t : Text) → step graphql σ (lookAt t) ≡ step graphql σ′ (lookAt t) → go S σ t ≡ go S σ′ t
 unfolding go lookAt
-go-step S σ σ′ (over n) e = ap (Rattle.paper.proofs.Going.ended S n) e
+go-step S σ σ′ (atEnd n) e = ap (Rattle.paper.proofs.Going.ended S n) e
 go-step S σ σ′ (bad n) e = refl
 go-step S σ σ′ (token k t) e = ap (goes S k t (λ s′ τ. go s′ τ t)) e
 
@@ -120,10 +120,6 @@ refuses n k = isNone (choose graphql n (some k))
 
 unfoldable pub refusesEnd : Part → Bool
 refusesEnd n = isNone (choose graphql n none)
-
-not-eq : (b : Bool) → T (not b) → b ≡ false
-not-eq true h = absurd h
-not-eq false h = refl
 
 abbrev pub same-bool : Bool → Bool → Bool
 same-bool true b = b
@@ -162,7 +158,7 @@ module _ (s : List ℕ) (c : Cursor) (h : c .stop ≤ length s) (l : Looks s c) 
       go′ : Front s c → here (nt p ∷ σ) ≡ here (α ++ σ)
       go′ (a-token k d f i j m′) =
           rw f (expand (st cells n o (c .stop) left q) p σ (token (tokenOf k (c .start) (c .end)) (from s (c .end))) (choose-null fits p k m z (nope (graphql .first p k) (by-kind (λ k. not (graphql .first p k)) g a k (c .kind) d t))))
-      go′ (the-end d f i j) = rw f (expand (st cells n o (c .stop) left q) p σ (over (c .start)) e)
+      go′ (the-end d f i j) = rw f (expand (st cells n o (c .stop) left q) p σ (atEnd (c .start)) e)
 
   -- tokens, or the end, with which the part cannot go on
   pub refuse : (σ : Stack) (p : Part) (g : ℕ → Bool) → T (g (c .kind)) → T (all (λ k. implies (g (kindOf k)) (refuses p k)) allC) → T (refusesEnd p) → here (nt p ∷ σ) ≡ halt (NoGoing (c .start))
@@ -184,35 +180,35 @@ module _ (s : List ℕ) (c : Cursor) (h : c .stop ≤ length s) (l : Looks s c) 
 
   -- a terminal that is there, where the sizes are kept: a plain token, one that opens a level, one that closes it
   module _ (σ : Stack) (w : Terminal) (x : ℕ) (e : c .kind ≡ suc x) (t : T (all (λ k. implies (is (suc x) (kindOf k)) (hits w k)) allC)) where
-    take-with : (b d : Bool) → T (all (λ k. implies (is (suc x) (kindOf k)) (same-bool (opens k) b && same-bool (closes k) d)) allC) →
+    take-with : (b d : Bool) → T (all (λ k. implies (is (suc x) (kindOf k)) (same-bool (opensLevel k) b && same-bool (closesLevel k) d)) allC) →
         here (tm w ∷ σ) ≡ deep b d left (c .start) (λ m. many (ltb mostRows n) (TooManyRows (c .start)) (many (overCounts q) (TooMany (c .start)) (go (st cells n o (c .end) m q) σ (from s (c .end)))))
     unfolding go step
     take-with b d u =
         let f = front-token s c h l (λ z. let y : ⊥ = omega arith in y) in
-        let v : T (same-bool (opens (f .0)) b && same-bool (closes (f .0)) d) = by-kind (λ k. same-bool (opens k) b && same-bool (closes k) d) (is (suc x)) u (f .0) (suc x) (f .1 ∙ e) (is-T (suc x)) in
-        rw (f .2, T→eq (hits w (f .0)) (by-kind (hits w) (is (suc x)) t (f .0) (suc x) (f .1 ∙ e) (is-T (suc x))), bool-is (opens (f .0)) b (and-l (same-bool (opens (f .0)) b) (same-bool (closes (f .0)) d) v), bool-is (closes (f .0)) d (and-r (same-bool (opens (f .0)) b) (same-bool (closes (f .0)) d) v)) refl
+        let v : T (same-bool (opensLevel (f .0)) b && same-bool (closesLevel (f .0)) d) = by-kind (λ k. same-bool (opensLevel k) b && same-bool (closesLevel k) d) (is (suc x)) u (f .0) (suc x) (f .1 ∙ e) (is-T (suc x)) in
+        rw (f .2, T→eq (hits w (f .0)) (by-kind (hits w) (is (suc x)) t (f .0) (suc x) (f .1 ∙ e) (is-T (suc x))), bool-is (opensLevel (f .0)) b (and-l (same-bool (opensLevel (f .0)) b) (same-bool (closesLevel (f .0)) d) v), bool-is (closesLevel (f .0)) d (and-r (same-bool (opensLevel (f .0)) b) (same-bool (closesLevel (f .0)) d) v)) refl
 
-    pub plain : T (all (λ k. implies (is (suc x) (kindOf k)) (same-bool (opens k) false && same-bool (closes k) false)) allC) → n ≤ mostRows → overCounts q ≡ false → here (tm w ∷ σ) ≡ go (st cells n o (c .end) left q) σ (from s (c .end))
+    pub plain : T (all (λ k. implies (is (suc x) (kindOf k)) (same-bool (opensLevel k) false && same-bool (closesLevel k) false)) allC) → n ≤ mostRows → overCounts q ≡ false → here (tm w ∷ σ) ≡ go (st cells n o (c .end) left q) σ (from s (c .end))
     plain u r k = take-with false false u ∙ rw (le-ltb mostRows n r, k) refl
 
-    pub opening : T (all (λ k. implies (is (suc x) (kindOf k)) (same-bool (opens k) true && same-bool (closes k) false)) allC) → (m : ℕ) → left ≡ suc m → n ≤ mostRows → overCounts q ≡ false → here (tm w ∷ σ) ≡ go (st cells n o (c .end) m q) σ (from s (c .end))
+    pub opening : T (all (λ k. implies (is (suc x) (kindOf k)) (same-bool (opensLevel k) true && same-bool (closesLevel k) false)) allC) → (m : ℕ) → left ≡ suc m → n ≤ mostRows → overCounts q ≡ false → here (tm w ∷ σ) ≡ go (st cells n o (c .end) m q) σ (from s (c .end))
     opening u m v r k = take-with true false u ∙ rw (v, le-ltb mostRows n r, k) refl
 
-    pub closing : T (all (λ k. implies (is (suc x) (kindOf k)) (same-bool (opens k) false && same-bool (closes k) true)) allC) → n ≤ mostRows → overCounts q ≡ false → here (tm w ∷ σ) ≡ go (st cells n o (c .end) (suc left) q) σ (from s (c .end))
+    pub closing : T (all (λ k. implies (is (suc x) (kindOf k)) (same-bool (opensLevel k) false && same-bool (closesLevel k) true)) allC) → n ≤ mostRows → overCounts q ≡ false → here (tm w ∷ σ) ≡ go (st cells n o (c .end) (suc left) q) σ (from s (c .end))
     closing u r k = take-with false true u ∙ rw (le-ltb mostRows n r, k) refl
 
     -- where a size is not kept
-    pub too-deep : T (all (λ k. implies (is (suc x) (kindOf k)) (same-bool (opens k) true && same-bool (closes k) false)) allC) → left ≡ 0 → here (tm w ∷ σ) ≡ halt (TooDeep (c .start))
+    pub too-deep : T (all (λ k. implies (is (suc x) (kindOf k)) (same-bool (opensLevel k) true && same-bool (closesLevel k) false)) allC) → left ≡ 0 → here (tm w ∷ σ) ≡ halt (TooDeep (c .start))
     too-deep u v = take-with true false u ∙ rw v refl
 
-    pub too-many-rows : T (all (λ k. implies (is (suc x) (kindOf k)) (same-bool (opens k) false && same-bool (closes k) false)) allC) → mostRows < n → here (tm w ∷ σ) ≡ halt (TooManyRows (c .start))
+    pub too-many-rows : T (all (λ k. implies (is (suc x) (kindOf k)) (same-bool (opensLevel k) false && same-bool (closesLevel k) false)) allC) → mostRows < n → here (tm w ∷ σ) ≡ halt (TooManyRows (c .start))
     too-many-rows u r = take-with false false u ∙ rw (lt-ltb mostRows n r) refl
 
-    pub too-many-rows-open : T (all (λ k. implies (is (suc x) (kindOf k)) (same-bool (opens k) true && same-bool (closes k) false)) allC) → (m : ℕ) → left ≡ suc m → mostRows < n → here (tm w ∷ σ) ≡ halt (TooManyRows (c .start))
+    pub too-many-rows-open : T (all (λ k. implies (is (suc x) (kindOf k)) (same-bool (opensLevel k) true && same-bool (closesLevel k) false)) allC) → (m : ℕ) → left ≡ suc m → mostRows < n → here (tm w ∷ σ) ≡ halt (TooManyRows (c .start))
     too-many-rows-open u m v r = take-with true false u ∙ rw (v, lt-ltb mostRows n r) refl
 
-    pub too-many : T (all (λ k. implies (is (suc x) (kindOf k)) (same-bool (opens k) false && same-bool (closes k) false)) allC) → n ≤ mostRows → overCounts q ≡ true → here (tm w ∷ σ) ≡ halt (TooMany (c .start))
+    pub too-many : T (all (λ k. implies (is (suc x) (kindOf k)) (same-bool (opensLevel k) false && same-bool (closesLevel k) false)) allC) → n ≤ mostRows → overCounts q ≡ true → here (tm w ∷ σ) ≡ halt (TooMany (c .start))
     too-many u r k = take-with false false u ∙ rw (le-ltb mostRows n r, k) refl
 
-    pub too-many-open : T (all (λ k. implies (is (suc x) (kindOf k)) (same-bool (opens k) true && same-bool (closes k) false)) allC) → (m : ℕ) → left ≡ suc m → n ≤ mostRows → overCounts q ≡ true → here (tm w ∷ σ) ≡ halt (TooMany (c .start))
+    pub too-many-open : T (all (λ k. implies (is (suc x) (kindOf k)) (same-bool (opensLevel k) true && same-bool (closesLevel k) false)) allC) → (m : ℕ) → left ≡ suc m → n ≤ mostRows → overCounts q ≡ true → here (tm w ∷ σ) ≡ halt (TooMany (c .start))
     too-many-open u m v r k = take-with true false u ∙ rw (v, le-ltb mostRows n r, k) refl

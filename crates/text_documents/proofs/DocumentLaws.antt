@@ -9,13 +9,13 @@ use lib.ListN.{length}
 use Rattle.paper.specs.Grammar.{nt, act}
 use Rattle.paper.specs.Numbers.{mostText, mostLevels, mostRows, rowsSize, noParent, kindObject}
 use Rattle.paper.specs.Language.{Class, numC, Part, language, row, kind, end, Document, Definition+, Definition*, Definition, VariablesText, ConstValue, ConstObjectValue}
-use Rattle.paper.specs.Tokens.{Tok, Text, over, bad, token}
+use Rattle.paper.specs.Tokens.{Tok, Text, atEnd, bad, token}
 use Rattle.paper.specs.Sizes.{Counts, overCounts}
 use Rattle.paper.specs.declared.Refusal.{Refusal}
 use Rattle.paper.specs.declared.Refusal.the-variants.{NoGoing}
 use Rattle.paper.proofs.Lexing.{from}
 use Rattle.paper.proofs.Machine.{fst, choose, step, enter}
-use Rattle.paper.proofs.Bools.{T→eq}
+use Rattle.paper.proofs.Bools.{T→eq, eq→T-not as T-not, eq→T as T-of}
 use Rattle.paper_theory.proofs.Test.{all, implies, implies-out, all-at}
 use Rattle.paper.proofs.Tables.{graphql, factored, allC, atC}
 use Rattle.paper.proofs.Going.{Stack, State, st, start, whole, halt, go}
@@ -42,14 +42,6 @@ moreStack = nt Definition ∷ nt Definition* ∷ []
 abbrev begins : Class → Bool
 begins k = graphql .first Definition k
 
-T-of : (b : Bool) → b ≡ true → T b
-T-of true e = tt
-T-of false e = let z : _≡_ {A = ℕ} 0 1 = cc in let w : ⊥ = omega arith in absurd w
-
-T-not : (b : Bool) → b ≡ false → T (not b)
-T-not false e = tt
-T-not true e = let z : _≡_ {A = ℕ} 0 1 = cc in let w : ⊥ = omega arith in absurd w
-
 -- a test of classes, where a definition begins with them, or does not
 by-begin : (f : Class → Bool) → T (all (λ k. implies (begins k) (f k)) allC) → (k : Class) → T (begins k) → T (f k)
 by-begin f h k t = implies-out (begins k) (f k) (all-at (λ k. implies (begins k) (f k)) allC (numC k) h (atC k)) t
@@ -60,7 +52,7 @@ by-other f h k t = implies-out (not (begins k)) (f k) (all-at (λ k. implies (no
 -- a document is one more definition: if none begins, the machine halts either way
 document-more : (S : State) (t : Text) → go S (nt Document ∷ []) t ≡ go S moreStack t
 unfolding go step enter choose factored language refuses
-document-more S (over n) = refl
+document-more S (atEnd n) = refl
 document-more S (bad n) = refl
 document-more S (token x t) = by (begins (x .class)) refl
   where
@@ -89,7 +81,7 @@ star-more S x t = by (begins (x .class)) refl
         ∙ empty-halts S x t
         ∙ sym (class-refuse (x .class) (x .start) (x .stop) t S (nt Definition* ∷ []) Definition (by-other (refuses Definition) tt (x .class) (T-not (begins (x .class)) e)))
 
-star-ends : (S : State) (n : ℕ) → go S (nt Definition* ∷ []) (over n) ≡ whole S
+star-ends : (S : State) (n : ℕ) → go S (nt Definition* ∷ []) (atEnd n) ≡ whole S
 unfolding go step enter choose factored language
 star-ends S n = refl
 

@@ -7,12 +7,13 @@ use native.Mathlib.Omega.{arith}
 use lib.Dec.{T, eqb}
 use lib.ListN.{length}
 use borrow.Author.Tests.{lt-ltb, le-ltb, eqb-true, eqb-false, eq-eqb, not-false}
+use Rattle.paper.proofs.Bools.{eq→T-not as false-T, eq→T as true-T}
 use Rattle.paper.specs.Grammar.{nt, tm, act}
 use Rattle.paper.specs.Numbers.{mostLevels, mostRows, mostFragments, noParent, kindFragment}
 use Rattle.paper.specs.Language.{Class, sameC, language, the, hits, nameButOn, n-fragment, row, kind, named, Definition, FragmentDefinition, FragmentName, TypeCondition}
 use Rattle.paper.specs.Tokens.{Text, token}
 use Rattle.paper.specs.Rows.{top, pop}
-use Rattle.paper.specs.Sizes.{Counts, kinded, opens, closes, overCounts}
+use Rattle.paper.specs.Sizes.{Counts, kinded, opensLevel, closesLevel, overCounts}
 use Rattle.paper.specs.declared.Refusal.{Refusal}
 use Rattle.paper.specs.declared.Refusal.the-variants.{NoGoing, TooManyRows, TooMany}
 use Rattle.paper.proofs.Lexing.{from}
@@ -47,14 +48,6 @@ names-test s c = by (eqb (c .kind) 1) refl
     by true e = rw e refl
     by false e = rw e refl
 
-true-T : (b : Bool) → b ≡ true → T b
-true-T true e = tt
-true-T false e = let z : _≡_ {A = ℕ} 0 1 = cc in let w : ⊥ = omega arith in absurd w
-
-false-T : (b : Bool) → b ≡ false → T (not b)
-false-T false e = tt
-false-T true e = let z : _≡_ {A = ℕ} 0 1 = cc in let w : ⊥ = omega arith in absurd w
-
 names-kind : (s : List ℕ) (c : Cursor) → namesFragment s c ≡ true → c .kind ≡ 1
 names-kind s c h = by (eqb (c .kind) 1) refl
   where
@@ -77,8 +70,8 @@ module _ (s : List ℕ) (c : Cursor) (h : c .stop ≤ length s) (l : Looks s c) 
       (class-first (w .class) (c .start) (c .end) (from s (c .end)) (st rows (c .rows) o (c .stop) left q) σ FragmentName {α = tm nameButOn ∷ []} (List·Memᴰ·head refl) (by-word (fst graphql (tm nameButOn ∷ [])) butOn tt (w .class) (c .kind) (wordAt s c) (w .kind) (w .word) t)
       ∙ class-take (w .class) (c .start) (c .end) (from s (c .end)) rows (c .rows) o (c .stop) left q σ nameButOn
       (by-word (hits nameButOn) butOn tt (w .class) (c .kind) (wordAt s c) (w .kind) (w .word) t)
-      (by-word (λ k. not (opens k)) butOn tt (w .class) (c .kind) (wordAt s c) (w .kind) (w .word) t)
-      (by-word (λ k. not (closes k)) butOn tt (w .class) (c .kind) (wordAt s c) (w .kind) (w .word) t)
+      (by-word (λ k. not (opensLevel k)) butOn tt (w .class) (c .kind) (wordAt s c) (w .kind) (w .word) t)
+      (by-word (λ k. not (closesLevel k)) butOn tt (w .class) (c .kind) (wordAt s c) (w .kind) (w .word) t)
       ∙ rw (le-ltb mostRows (c .rows) k, f) refl)
 
   -- what is no fragment's name is refused

@@ -12,7 +12,7 @@ use Rattle.paper.specs.Numbers.{mostLevels, mostRows, noParent, kindOperation, 
 use Rattle.paper.specs.Language.{Class, sameC, language, the, hits, anyName, n-query, n-mutation, n-subscription, braceL, braceR, row, kind, named, end, Name, Definition, OperationDefinition, OperationType, OperationName?, SelectionSet, Selection+}
 use Rattle.paper.specs.Tokens.{Text, token}
 use Rattle.paper.specs.Rows.{top, pop}
-use Rattle.paper.specs.Sizes.{Counts, kinded, opens, closes, overCounts}
+use Rattle.paper.specs.Sizes.{Counts, kinded, opensLevel, closesLevel, overCounts}
 use Rattle.paper.specs.declared.Refusal.{Refusal}
 use Rattle.paper.specs.declared.Refusal.the-variants.{TooManyRows}
 use Rattle.paper.proofs.Lexing.{from}
@@ -73,7 +73,7 @@ operation-first (suc (suc zero)) h S σ a e t =
     ∙ class-first n-subscription a e t S (nt OperationName? ∷ (restStack ++ σ)) OperationType {α = act row ∷ act (kind kindOperation 2) ∷ tm (the n-subscription) ∷ []} (List·Memᴰ·tail (List·Memᴰ·tail (List·Memᴰ·head refl))) tt
 operation-first (suc (suc (suc x))) h S σ a e t = let z : ⊥ = omega arith in absurd z
 
-type-hits : (x : ℕ) → T (hits (the (typeClass x)) (typeClass x)) × T (not (opens (typeClass x))) × T (not (closes (typeClass x)))
+type-hits : (x : ℕ) → T (hits (the (typeClass x)) (typeClass x)) × T (not (opensLevel (typeClass x))) × T (not (closesLevel (typeClass x)))
 type-hits zero = (tt, tt, tt)
 type-hits (suc zero) = (tt, tt, tt)
 type-hits (suc (suc x)) = (tt, tt, tt)

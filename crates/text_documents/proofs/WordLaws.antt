@@ -12,11 +12,11 @@ use Rattle.paper.specs.Grammar.{nt, tm}
 use Rattle.paper.specs.Numbers.{mostRows}
 use Rattle.paper.specs.Language.{Class, numC, sameC, Terminal, hits, Part}
 use Rattle.paper.specs.Tokens.{Tok, Text, token, nameClass}
-use Rattle.paper.specs.Sizes.{Counts, opens, closes, overCounts}
+use Rattle.paper.specs.Sizes.{Counts, opensLevel, closesLevel, overCounts}
 use Rattle.paper.specs.declared.Refusal.the-variants.{NoGoing, TooManyRows, TooMany}
 use Rattle.paper.proofs.Lexing.{from}
 use Rattle.paper.proofs.Machine.{fst, nul, choose, step}
-use Rattle.paper.proofs.Bools.{T→eq}
+use Rattle.paper.proofs.Bools.{T→eq, not-eq}
 use Rattle.paper_theory.proofs.Theory.{choose-first, choose-null, step-by, step-none}
 use Rattle.paper_theory.proofs.Test.{all, implies, implies-out, all-at}
 use Rattle.paper.proofs.Tables.{graphql, factored, allC, atC}
@@ -72,10 +72,6 @@ none-is : {X : Type 0} (o : Option X) → T (isNone o) → o ≡ none
 none-is none h = refl
 none-is (some x) h = absurd h
 
-not-eq : (b : Bool) → T (not b) → b ≡ false
-not-eq true h = absurd h
-not-eq false h = refl
-
 -- AT A CLASS
 module _ (k : Class) (a e : ℕ) (t : Text) where
   pub class-first : (S : State) (σ : Stack) (p : Part) {α : Stack} → List·Memᴰ α (factored p) → T (fst graphql α k) → go S (nt p ∷ σ) (token (tokenOf k a e) t) ≡ go S (α ++ σ) (token (tokenOf k a e) t)
@@ -90,10 +86,10 @@ module _ (k : Class) (a e : ℕ) (t : Text) where
   unfolding go refuses
   class-refuse S σ p h = rw (step-none fits p (some k) σ (none-is (choose graphql p (some k)) h)) refl
 
-  pub class-take : (cells : List ℕ) (n : ℕ) (o : List ℕ) (stop left : ℕ) (q : Counts) (σ : Stack) (w : Terminal) → T (hits w k) → T (not (opens k)) → T (not (closes k)) →
+  pub class-take : (cells : List ℕ) (n : ℕ) (o : List ℕ) (stop left : ℕ) (q : Counts) (σ : Stack) (w : Terminal) → T (hits w k) → T (not (opensLevel k)) → T (not (closesLevel k)) →
       go (st cells n o stop left q) (tm w ∷ σ) (token (tokenOf k a e) t) ≡ many (ltb mostRows n) (TooManyRows a) (many (overCounts q) (TooMany a) (go (st cells n o e left q) σ t))
   unfolding go step
-  class-take cells n o stop left q σ w h i j = rw (T→eq (hits w k) h, not-eq (opens k) i, not-eq (closes k) j) refl
+  class-take cells n o stop left q σ w h i j = rw (T→eq (hits w k) h, not-eq (opensLevel k) i, not-eq (closesLevel k) j) refl
 
 -- a word is one of a name
 pub word-name : (s : List ℕ) (c : Cursor) (w : ℕ) → wordAt s c ≡ suc w → (c .kind ≡ 1) × (wordOf (bytesAt s c) ≡ suc w)

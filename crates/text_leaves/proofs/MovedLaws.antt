@@ -7,7 +7,7 @@ use Prim.Native.Nat.{ℕ, _+_, _≤_, _<_}
 use native.Mathlib.Omega.{arith}
 use lib.ListN.{length}
 use Rattle.paper.specs.Numbers.{mostRows, rowsSize}
-use Rattle.paper.specs.Tokens.{Text, over, bad, token}
+use Rattle.paper.specs.Tokens.{Text, atEnd, bad, token}
 use Rattle.paper.specs.Rows.{top}
 use Rattle.paper.specs.Sizes.{Counts, overCounts}
 use Rattle.paper.specs.declared.Refusal.{Refusal}
@@ -29,7 +29,7 @@ pub start-in : (s : List ℕ) (c : Cursor) → Looks s c → startIn (from s (c 
 start-in s c l = cases (from s (c .stop)) l
   where
     cases : (t : Text) → headOf t ≡ Token (c .kind) (c .start) (c .end) → startIn t ≡ c .start
-    cases (over n) e = cc
+    cases (atEnd n) e = cc
     cases (bad n) e = let z : _≡_ {A = ℕ} 0 1 = cc in let w : ⊥ = omega arith in absurd w
     cases (token k t) e = cc
 
@@ -37,7 +37,7 @@ pub stop-in : (s : List ℕ) (c : Cursor) → Looks s c → stopIn (from s (c .s
 stop-in s c l = cases (from s (c .stop)) l
   where
     cases : (t : Text) → headOf t ≡ Token (c .kind) (c .start) (c .end) → stopIn t ≡ c .end
-    cases (over n) e = cc
+    cases (atEnd n) e = cc
     cases (bad n) e = let z : _≡_ {A = ℕ} 0 1 = cc in let w : ⊥ = omega arith in absurd w
     cases (token k t) e = cc
 
@@ -85,7 +85,7 @@ moved-halts s e n r x q p S σ = cases (from s e) refl
         omega arith
 
     cases : (t : Text) → from s e ≡ t → go S σ (from s e) ≡ halt x
-    cases (over m) f = absurd (apart 0 m m (ap headOf f))
+    cases (atEnd m) f = absurd (apart 0 m m (ap headOf f))
     cases (bad m) f = let z : Refused x ≡ Refused (NoToken m) = sym p ∙ q ∙ ap (λ (t : Text). movedTo e n (headOf t)) f in rw f (ap halt (cc))
     cases (token k t) f = absurd (apart (Rattle.text_scan.specs.Head.kindOf (k .class)) (k .start) (k .stop) (ap headOf f))
 

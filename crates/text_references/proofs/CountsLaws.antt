@@ -5,17 +5,10 @@ use Prim.Native.Nat.{ℕ, _≤_, _<_}
 use native.Mathlib.Omega.{arith}
 use lib.Dec.{ltb}
 use borrow.Author.Tests.{ltb-false, lt-ltb, le-ltb}
+use Rattle.paper.proofs.Bools.{or-no-left as or-left, or-no-right as or-right}
 use Rattle.paper.specs.Numbers.{mostFragments, mostVariables, mostWrappers}
 use Rattle.paper.specs.Sizes.{Counts, overCounts}
 use Rattle.text_references.specs.Types.{wrappedBy}
-
-or-left : (a b : Bool) → (a || b) ≡ false → a ≡ false
-or-left true b e = e
-or-left false b e = refl
-
-or-right : (a b : Bool) → (a || b) ≡ false → b ≡ false
-or-right true b e = let z : _≡_ {A = ℕ} 0 1 = cc in let w : ⊥ = omega arith in absurd w
-or-right false b e = e
 
 -- the counts are not over if and only if each is not
 pub fine-parts : (q : Counts) → overCounts q ≡ false → (q .fragments ≤ mostFragments) × (q .variables ≤ mostVariables) × (q .wrappers ≤ mostWrappers)

@@ -4,7 +4,7 @@ use mathlib.Core.List.{List}
 use Prim.Native.Nat.{ℕ, _≤_, _<_}
 use native.Mathlib.Omega.{arith}
 use lib.ListN.{length}
-use Rattle.paper.specs.Tokens.{Text, over, bad, token}
+use Rattle.paper.specs.Tokens.{Text, atEnd, bad, token}
 use Rattle.paper.specs.declared.Refusal.{Refusal}
 use Rattle.paper.specs.declared.Refusal.the-variants.{NoToken}
 use Rattle.paper.proofs.Lexing.{from}
@@ -44,7 +44,7 @@ unfolding go
 moved-halts s e n r x p q S σ = by-text (from s e) (sym q ∙ p)
   where
     by-text : (t : Text) → Refused x ≡ movedTo e n (headOf t) → go S σ t ≡ halt x
-    by-text (over m) z = let y : _≡_ {A = ℕ} 0 1 = cc in let w : ⊥ = omega arith in absurd w
+    by-text (atEnd m) z = let y : _≡_ {A = ℕ} 0 1 = cc in let w : ⊥ = omega arith in absurd w
     by-text (token k t) z = let y : _≡_ {A = ℕ} 0 1 = cc in let w : ⊥ = omega arith in absurd w
     by-text (bad o) z = let y : NoToken o ≡ x = cc in ap halt y
 
@@ -69,7 +69,7 @@ pub start-in : (s : List ℕ) (c : Cursor) → Looks s c → startIn (from s (c 
 start-in s c l = by-text (from s (c .stop)) l
   where
     by-text : (t : Text) → headOf t ≡ Token (c .kind) (c .start) (c .end) → startIn t ≡ c .start
-    by-text (over m) z = cc
+    by-text (atEnd m) z = cc
     by-text (bad o) z = let y : _≡_ {A = ℕ} 0 1 = cc in let w : ⊥ = omega arith in absurd w
     by-text (token k t) z = cc
 
@@ -77,6 +77,6 @@ pub stop-in : (s : List ℕ) (c : Cursor) → Looks s c → stopIn (from s (c .s
 stop-in s c l = by-text (from s (c .stop)) l
   where
     by-text : (t : Text) → headOf t ≡ Token (c .kind) (c .start) (c .end) → stopIn t ≡ c .end
-    by-text (over m) z = cc
+    by-text (atEnd m) z = cc
     by-text (bad o) z = let y : _≡_ {A = ℕ} 0 1 = cc in let w : ⊥ = omega arith in absurd w
     by-text (token k t) z = cc

@@ -61,7 +61,7 @@ Before f next stop a = (a < stop) ⊎ (T f × (a ≡ next))
 
 -- row i with the parent p and the end e
 abbrev Within : List Row → List ℕ → ℕ → ℕ → ℕ → Type 0
-Within rs os i p e = (p ≡ noParent) ⊎ ((p < i) × (Open p os ⊎ (e ≤ at rs p .stop)))
+Within rs os i p e = (p ≡ noParent) ⊎ ((p < i) × (Open p os ⊎ (e ≤ at rs p .end)))
 
 -- d rows are open, f: with no token since the last began; the next token begins at `next`, the last one ended at `stop`
 pub record Held (f : Bool) (next d stop : ℕ) (rs : List Row) (os : List ℕ) : Type 0 where
@@ -69,9 +69,9 @@ pub record Held (f : Bool) (next d stop : ℕ) (rs : List Row) (os : List ℕ) :
   pub chain : Chain rs os
   pub ordered : (i j : ℕ) → i < j → j < length rs → at rs i .start ≤ at rs j .start
   pub before : (i : ℕ) → i < length rs → Before f next stop (at rs i .start)
-  pub low : (i : ℕ) → i < length rs → at rs i .stop ≤ stop
-  pub shut : (i : ℕ) → i < length rs → Open i os ⊎ (at rs i .start < at rs i .stop)
-  pub within : (i : ℕ) → i < length rs → Within rs os i (at rs i .parent) (at rs i .stop)
+  pub low : (i : ℕ) → i < length rs → at rs i .end ≤ stop
+  pub shut : (i : ℕ) → i < length rs → Open i os ⊎ (at rs i .start < at rs i .end)
+  pub within : (i : ℕ) → i < length rs → Within rs os i (at rs i .parent) (at rs i .end)
 
 pub held-blank : (next : ℕ) → Held false next 0 0 [] []
 held-blank next =
@@ -102,7 +102,7 @@ held-token f a e next d stop rs os l m h = record {
     go x (inr u) = inl (let q = u .1 in omega arith)
 
 -- a row changes in what is none of its ends and not its parent
-pub held-same : (f : Bool) (next d stop : ℕ) (rs : List Row) (os : List ℕ) (g : Row → Row) → ((r : Row) → g r .start ≡ r .start) → ((r : Row) → g r .stop ≡ r .stop) → ((r : Row) → g r .parent ≡ r .parent) → (k : ℕ)
+pub held-same : (f : Bool) (next d stop : ℕ) (rs : List Row) (os : List ℕ) (g : Row → Row) → ((r : Row) → g r .start ≡ r .start) → ((r : Row) → g r .end ≡ r .end) → ((r : Row) → g r .parent ≡ r .parent) → (k : ℕ)
     → Held f next d stop rs os → Held f next d stop (change g k rs) os
 held-same f next d stop rs os g gs ge gp k h = record {
   level = h .level;
@@ -120,8 +120,8 @@ held-same f next d stop rs os g gs ge gp k h = record {
     starts : (i : ℕ) → at (change g k rs) i .start ≡ at rs i .start
     starts i = seen-same (λ r. r .start) g gs k i rs
 
-    stops : (i : ℕ) → at (change g k rs) i .stop ≡ at rs i .stop
-    stops i = seen-same (λ r. r .stop) g ge k i rs
+    stops : (i : ℕ) → at (change g k rs) i .end ≡ at rs i .end
+    stops i = seen-same (λ r. r .end) g ge k i rs
 
     parents : (i : ℕ) → at (change g k rs) i .parent ≡ at rs i .parent
     parents i = seen-same (λ r. r .parent) g gp k i rs
@@ -155,7 +155,7 @@ module _ (f : Bool) (next d stop : ℕ) (rs : List Row) (os : List ℕ) (l : sto
   before-more a (inl u) = inl u
   before-more a (inr u) = inr (tt, u .1)
 
-  shut-more : (i : ℕ) (r : Row) → Open i os ⊎ (r .start < r .stop) → Open i (length rs ∷ os) ⊎ (r .start < r .stop)
+  shut-more : (i : ℕ) (r : Row) → Open i os ⊎ (r .start < r .end) → Open i (length rs ∷ os) ⊎ (r .start < r .end)
   shut-more i r (inl u) = inl (inr u)
   shut-more i r (inr u) = inr u
 
@@ -175,9 +175,9 @@ module _ (f : Bool) (next d stop : ℕ) (rs : List Row) (os : List ℕ) (l : sto
     ordered = λ i j a b. each (λ j r. (i : ℕ) → i < j → at more i .start ≤ r .start)
         (λ j u i a. rw (old-at i (omega arith)) (h .ordered i j a u)) (λ i a. rw (old-at i a) (before-next (at rs i .start) (h .before i a))) j b i a;
     before = each (λ i r. Before true next stop (r .start)) (λ i b. before-more (at rs i .start) (h .before i b)) (inr (tt, refl));
-    low = each (λ i r. r .stop ≤ stop) (h .low) (omega arith);
-    shut = each (λ i r. Open i (length rs ∷ os) ⊎ (r .start < r .stop)) (λ i b. shut-more i (at rs i) (h .shut i b)) (inl (inl refl));
-    within = each (λ i r. Within more (length rs ∷ os) i (r .parent) (r .stop)) (λ i b. within-more i (at rs i .parent) (at rs i .stop) b (h .within i b)) (within-new os (h .chain));
+    low = each (λ i r. r .end ≤ stop) (h .low) (omega arith);
+    shut = each (λ i r. Open i (length rs ∷ os) ⊎ (r .start < r .end)) (λ i b. shut-more i (at rs i) (h .shut i b)) (inl (inl refl));
+    within = each (λ i r. Within more (length rs ∷ os) i (r .parent) (r .end)) (λ i b. within-more i (at rs i .parent) (at rs i .end) b (h .within i b)) (within-new os (h .chain));
   }
 
 -- THE INNERMOST ROW ENDS with the last token
@@ -194,36 +194,36 @@ module _ (next d stop : ℕ) (rs : List Row) (o : ℕ) (os : List ℕ) (h : Held
   parents : (i : ℕ) → at then′ i .parent ≡ at rs i .parent
   parents i = seen-same (λ r. r .parent) (stopping stop) (λ r. refl) o i rs
 
-  stops-now : at then′ o .stop ≡ stop
-  stops-now = ap (λ (r : Row). r .stop) (change-at (stopping stop) o rs (h .chain .0))
+  stops-now : at then′ o .end ≡ stop
+  stops-now = ap (λ (r : Row). r .end) (change-at (stopping stop) o rs (h .chain .0))
 
-  stops-else : (i : ℕ) → (i ≡ o → ⊥) → at then′ i .stop ≡ at rs i .stop
-  stops-else i n = ap (λ (r : Row). r .stop) (change-off (stopping stop) o i rs n)
+  stops-else : (i : ℕ) → (i ≡ o → ⊥) → at then′ i .end ≡ at rs i .end
+  stops-else i n = ap (λ (r : Row). r .end) (change-off (stopping stop) o i rs n)
 
-  low-then : (i : ℕ) → i < length rs → at then′ i .stop ≤ stop
+  low-then : (i : ℕ) → i < length rs → at then′ i .end ≤ stop
   low-then i b = go (ℕ-discrete i o)
     where
-      go : Dec (i ≡ o) → at then′ i .stop ≤ stop
-      go (yes e) = subst (λ (j : ℕ). at then′ j .stop ≤ stop) (sym e) (omega (arith, stops-now))
+      go : Dec (i ≡ o) → at then′ i .end ≤ stop
+      go (yes e) = subst (λ (j : ℕ). at then′ j .end ≤ stop) (sym e) (omega (arith, stops-now))
       go (no n) = rw (stops-else i n) (h .low i b)
 
   still-open : (i : ℕ) → (i ≡ o → ⊥) → Open i (o ∷ os) → Open i os
   still-open i n (inl e) = absurd (n e)
   still-open i n (inr u) = u
 
-  shut-then : (i : ℕ) → i < length rs → Open i os ⊎ (at then′ i .start < at then′ i .stop)
+  shut-then : (i : ℕ) → i < length rs → Open i os ⊎ (at then′ i .start < at then′ i .end)
   shut-then i b = go (ℕ-discrete i o)
     where
-      now : Before false next stop (at rs o .start) → at then′ o .start < at then′ o .stop
+      now : Before false next stop (at rs o .start) → at then′ o .start < at then′ o .end
       now (inl u) = omega (arith, starts o, stops-now)
       now (inr u) = absurd (u .0)
 
-      else′ : (i ≡ o → ⊥) → Open i (o ∷ os) ⊎ (at rs i .start < at rs i .stop) → Open i os ⊎ (at then′ i .start < at then′ i .stop)
+      else′ : (i ≡ o → ⊥) → Open i (o ∷ os) ⊎ (at rs i .start < at rs i .end) → Open i os ⊎ (at then′ i .start < at then′ i .end)
       else′ n (inl u) = inl (still-open i n u)
       else′ n (inr u) = inr (omega (arith, starts i, stops-else i n))
 
-      go : Dec (i ≡ o) → Open i os ⊎ (at then′ i .start < at then′ i .stop)
-      go (yes e) = inr (subst (λ (j : ℕ). at then′ j .start < at then′ j .stop) (sym e) (now (h .before o (h .chain .0))))
+      go : Dec (i ≡ o) → Open i os ⊎ (at then′ i .start < at then′ i .end)
+      go (yes e) = inr (subst (λ (j : ℕ). at then′ j .start < at then′ j .end) (sym e) (now (h .before o (h .chain .0))))
       go (no n) = else′ n (h .shut i b)
 
   -- the parent of the row that ends is the next open one
@@ -236,19 +236,19 @@ module _ (next d stop : ℕ) (rs : List Row) (o : ℕ) (os : List ℕ) (h : Held
   within-else i p e l (inl u) = inl u
   within-else i p e l (inr (u, w)) = inr (u, go (ℕ-discrete p o) w)
     where
-      go : Dec (p ≡ o) → Open p (o ∷ os) ⊎ (e ≤ at rs p .stop) → Open p os ⊎ (e ≤ at then′ p .stop)
-      go (yes q) x = inr (subst (λ (j : ℕ). e ≤ at then′ j .stop) (sym q) (omega (arith, stops-now)))
+      go : Dec (p ≡ o) → Open p (o ∷ os) ⊎ (e ≤ at rs p .end) → Open p os ⊎ (e ≤ at then′ p .end)
+      go (yes q) x = inr (subst (λ (j : ℕ). e ≤ at then′ j .end) (sym q) (omega (arith, stops-now)))
       go (no n) (inl x) = inl (still-open p n x)
       go (no n) (inr x) = inr (rw (stops-else p n) x)
 
-  within-then : (i : ℕ) → i < length rs → Within then′ os i (at rs i .parent) (at then′ i .stop)
+  within-then : (i : ℕ) → i < length rs → Within then′ os i (at rs i .parent) (at then′ i .end)
   within-then i b = go (ℕ-discrete i o)
     where
-      go : Dec (i ≡ o) → Within then′ os i (at rs i .parent) (at then′ i .stop)
+      go : Dec (i ≡ o) → Within then′ os i (at rs i .parent) (at then′ i .end)
       go (yes e) =
-          subst (λ (j : ℕ). Within then′ os j (at rs j .parent) (at then′ j .stop)) (sym e)
-          (rw stops-now (within-now os (at rs o .parent) (at rs o .stop) (h .chain .1) (h .within o (h .chain .0))))
-      go (no n) = rw (stops-else i n) (within-else i (at rs i .parent) (at rs i .stop) (h .low i b) (h .within i b))
+          subst (λ (j : ℕ). Within then′ os j (at rs j .parent) (at then′ j .end)) (sym e)
+          (rw stops-now (within-now os (at rs o .parent) (at rs o .end) (h .chain .1) (h .within o (h .chain .0))))
+      go (no n) = rw (stops-else i n) (within-else i (at rs i .parent) (at rs i .end) (h .low i b) (h .within i b))
 
   held-pop : Held false next d stop then′ os
   held-pop = record {

@@ -10,9 +10,9 @@ use lib.ListN.{length, getD, length-map}
 use Rattle.paper.specs.Grammar.{tok, mark, toks}
 use Rattle.paper.specs.Numbers.{noParent}
 use Rattle.paper.specs.Language.{Part, Document, VariablesText, row, kind, named, wrapper, wrap, end}
-use Rattle.paper.specs.Tokens.{Tok, Text, over, bad, token, Tokens}
-use Rattle.paper.specs.Rows.{Row, Book, blank, top, startOf, stopOf, ofKind, withName, wrapped, note, taken, book, rowsOf}
-use Rattle.paper.specs.Reading.{tokensOf, rows-are, Said, accepts}
+use Rattle.paper.specs.Tokens.{Tok, Text, atEnd, bad, token, Tokens}
+use Rattle.paper.specs.Rows.{Row, Book, emptyBook, top, startOf, stopOf, ofKind, withName, wrapped, atMark, taken, book, rowsOf}
+use Rattle.paper.specs.Reading.{tokensOf, rows-are, TextAnswer, accepts}
 use Rattle.paper.proofs.Lexing.{from}
 use Rattle.paper_query.specs.Constructs.{noRow}
 use Rattle.paper_theory.proofs.TokensLaws.{tokens-from}
@@ -27,7 +27,7 @@ Lined l p (k ∷ ts) = (p ≤ k .start) × (k .start < k .stop) × (k .stop ≤ 
 
 from-lined : (s : List ℕ) (t : Text) (p : ℕ) → p ≤ length s → from s p ≡ t → Lined (length s) p (tokensOf t)
 unfolding tokensOf
-from-lined s (over n) p h e = tt
+from-lined s (atEnd n) p h e = tt
 from-lined s (bad n) p h e = tt
 from-lined s (token k t) p h e = let r = from-token s p k t h e in (r .0, r .1, r .2, from-lined s t (k .stop) (r .2) (sym (r .3)))
 
@@ -38,22 +38,22 @@ next-behind l p (k ∷ ts) h n = h .0
 -- what is so at the end
 pub record Lie (l : ℕ) (rs : List Row) : Type 0 where
   pub ordered : (i j : ℕ) → i < j → j < length rs → at rs i .start ≤ at rs j .start
-  pub ends : (i : ℕ) → i < length rs → (at rs i .start < at rs i .stop) × (at rs i .stop ≤ l)
-  pub within : (i : ℕ) → i < length rs → (at rs i .parent ≡ noParent → ⊥) → (at rs i .parent < i) × (at rs i .stop ≤ at rs (at rs i .parent) .stop)
+  pub ends : (i : ℕ) → i < length rs → (at rs i .start < at rs i .end) × (at rs i .end ≤ l)
+  pub within : (i : ℕ) → i < length rs → (at rs i .parent ≡ noParent → ⊥) → (at rs i .parent < i) × (at rs i .end ≤ at rs (at rs i .parent) .end)
 
 held-lie : (l next stop : ℕ) (rs : List Row) (os : List ℕ) → stop ≤ l → Held false next 0 stop rs os → Lie l rs
 held-lie l next stop rs (o ∷ os) u h = let e = h .level in let z : ⊥ = omega arith in absurd z
 held-lie l next stop rs [] u h = record {
   ordered = h .ordered;
   ends = λ i b. (shut i (h .shut i b), let q = h .low i b in omega arith);
-  within = λ i b n. inner (at rs i .parent) i (at rs i .stop) n (h .within i b);
+  within = λ i b n. inner (at rs i .parent) i (at rs i .end) n (h .within i b);
 }
   where
-    shut : (i : ℕ) → ⊥ ⊎ (at rs i .start < at rs i .stop) → at rs i .start < at rs i .stop
+    shut : (i : ℕ) → ⊥ ⊎ (at rs i .start < at rs i .end) → at rs i .start < at rs i .end
     shut i (inl x) = absurd x
     shut i (inr x) = x
 
-    inner : (p i e : ℕ) → (p ≡ noParent → ⊥) → (p ≡ noParent) ⊎ ((p < i) × (⊥ ⊎ (e ≤ at rs p .stop))) → (p < i) × (e ≤ at rs p .stop)
+    inner : (p i e : ℕ) → (p ≡ noParent → ⊥) → (p ≡ noParent) ⊎ ((p < i) × (⊥ ⊎ (e ≤ at rs p .end))) → (p < i) × (e ≤ at rs p .end)
     inner p i e n (inl x) = absurd (n x)
     inner p i e n (inr (x, inl y)) = absurd y
     inner p i e n (inr (x, inr y)) = (x, y)
@@ -70,38 +70,38 @@ book-lie l (tok c ∷ es) [] b f d p q k u h = absurd (omega arith)
 book-lie l (tok c ∷ es) (t ∷ ts) b f d p q k u h =
     book-lie l es ts (taken (t ∷ ts) b) false d p (omega arith) (k .3) (k .2) (held-token f (t .start) (t .stop) (startOf ts) d (b .stop) (b .rows) (b .open′) (k .0) (k .1) h)
 book-lie l (mark row ∷ es) ts b f d p q k u h =
-    book-lie l es ts (note row ts b) true (suc d) p q k u
+    book-lie l es ts (atMark row ts b) true (suc d) p q k u
     (held-row f (startOf ts) d (b .stop) (b .rows) (b .open′) (next-behind l (b .stop) ts k (omega (arith, nested-token es (suc d) p))) h)
 book-lie l (mark (kind x y) ∷ es) ts b f d p q k u h =
-    book-lie l es ts (note (kind x y) ts b) f d p q k u (held-same f (startOf ts) d (b .stop) (b .rows) (b .open′) (ofKind x y) (λ r. refl) (λ r. refl) (λ r. refl) (top (b .open′)) h)
+    book-lie l es ts (atMark (kind x y) ts b) f d p q k u (held-same f (startOf ts) d (b .stop) (b .rows) (b .open′) (ofKind x y) (λ r. refl) (λ r. refl) (λ r. refl) (top (b .open′)) h)
 book-lie l (mark named ∷ es) ts b f d p q k u h =
-    book-lie l es ts (note named ts b) f d p q k u (held-same f (startOf ts) d (b .stop) (b .rows) (b .open′) (withName (startOf ts) (stopOf ts)) (λ r. refl) (λ r. refl) (λ r. refl) (top (b .open′)) h)
+    book-lie l es ts (atMark named ts b) f d p q k u (held-same f (startOf ts) d (b .stop) (b .rows) (b .open′) (withName (startOf ts) (stopOf ts)) (λ r. refl) (λ r. refl) (λ r. refl) (top (b .open′)) h)
 book-lie l (mark wrapper ∷ es) ts b f d p q k u h = book-lie l es ts b f d p q k u h
 book-lie l (mark (wrap w) ∷ es) ts b f d p q k u h =
-    book-lie l es ts (note (wrap w) ts b) f d p q k u (held-same f (startOf ts) d (b .stop) (b .rows) (b .open′) (wrapped w) (λ r. refl) (λ r. refl) (λ r. refl) (top (b .open′)) h)
+    book-lie l es ts (atMark (wrap w) ts b) f d p q k u (held-same f (startOf ts) d (b .stop) (b .rows) (b .open′) (wrapped w) (λ r. refl) (λ r. refl) (λ r. refl) (top (b .open′)) h)
 book-lie l (mark end ∷ es) ts b f zero p q k u h = absurd p
 book-lie l (mark end ∷ es) ts b f (suc d) p q k u h =
-    book-lie l es ts (note end ts b) false d (p .1) q k u (held-end f (startOf ts) d (b .stop) (b .rows) (b .open′) (p .0) h)
+    book-lie l es ts (atMark end ts b) false d (p .1) q k u (held-end f (startOf ts) d (b .stop) (b .rows) (b .open′) (p .0) h)
 
-said-lie : (n : Part) {s : List ℕ} {t : Text} {rs : List Row} → (n ≡ Document) ⊎ (n ≡ VariablesText) → Tokens 0 s t → Said n t (rows-are rs) → Lie (length s) rs
+said-lie : (n : Part) {s : List ℕ} {t : Text} {rs : List Row} → (n ≡ Document) ⊎ (n ≡ VariablesText) → Tokens 0 s t → TextAnswer n t (rows-are rs) → Lie (length s) rs
 unfolding rowsOf
 said-lie n {s} {t} c k (accepts {es = es} w r g) =
-    book-lie (length s) es (tokensOf t) blank false 0 (part-nested n c (r .0)) (ap (λ (z : List _). length z) (r .1) ∙ length-map (tokensOf t) (λ x. x .class))
+    book-lie (length s) es (tokensOf t) emptyBook false 0 (part-nested n c (r .0)) (ap (λ (z : List _). length z) (r .1) ∙ length-map (tokensOf t) (λ x. x .class))
     (from-lined s t 0 (omega arith) (sym (tokens-from k))) (omega arith) (held-blank (startOf (tokensOf t)))
 
 -- in full
-pub rows-ordered : (n : Part) {s : List ℕ} {t : Text} {rs : List Row} → (n ≡ Document) ⊎ (n ≡ VariablesText) → Tokens 0 s t → Said n t (rows-are rs) →
+pub rows-ordered : (n : Part) {s : List ℕ} {t : Text} {rs : List Row} → (n ≡ Document) ⊎ (n ≡ VariablesText) → Tokens 0 s t → TextAnswer n t (rows-are rs) →
     (i j : ℕ) → i < j → j < length rs → getD rs i noRow .start ≤ getD rs j noRow .start
 rows-ordered n c k a = said-lie n c k a .ordered
 
-pub rows-end : (n : Part) {s : List ℕ} {t : Text} {rs : List Row} → (n ≡ Document) ⊎ (n ≡ VariablesText) → Tokens 0 s t → Said n t (rows-are rs) →
-    (i : ℕ) → i < length rs → (getD rs i noRow .start < getD rs i noRow .stop) × (getD rs i noRow .stop ≤ length s)
+pub rows-end : (n : Part) {s : List ℕ} {t : Text} {rs : List Row} → (n ≡ Document) ⊎ (n ≡ VariablesText) → Tokens 0 s t → TextAnswer n t (rows-are rs) →
+    (i : ℕ) → i < length rs → (getD rs i noRow .start < getD rs i noRow .end) × (getD rs i noRow .end ≤ length s)
 rows-end n c k a = said-lie n c k a .ends
 
-pub parents-enclose : (n : Part) {s : List ℕ} {t : Text} {rs : List Row} → (n ≡ Document) ⊎ (n ≡ VariablesText) → Tokens 0 s t → Said n t (rows-are rs) →
+pub parents-enclose : (n : Part) {s : List ℕ} {t : Text} {rs : List Row} → (n ≡ Document) ⊎ (n ≡ VariablesText) → Tokens 0 s t → TextAnswer n t (rows-are rs) →
     (i p : ℕ) → i < length rs → getD rs i noRow .parent ≡ p → (p ≡ noParent → ⊥) →
-    (p < i) × (getD rs p noRow .start ≤ getD rs i noRow .start) × (getD rs i noRow .stop ≤ getD rs p noRow .stop)
+    (p < i) × (getD rs p noRow .start ≤ getD rs i noRow .start) × (getD rs i noRow .end ≤ getD rs p noRow .end)
 parents-enclose n {rs = rs} c k a i p b e q =
     let h = said-lie n c k a in
-    subst (λ (x : ℕ). (x < i) × (at rs x .start ≤ at rs i .start) × (at rs i .stop ≤ at rs x .stop)) e
+    subst (λ (x : ℕ). (x < i) × (at rs x .start ≤ at rs i .start) × (at rs i .end ≤ at rs x .end)) e
     (let w = h .within i b (λ z. q (sym e ∙ z)) in (w .0, h .ordered (at rs i .parent) i (w .0) b, w .1))

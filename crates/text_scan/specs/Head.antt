@@ -2,7 +2,7 @@
 use mathlib.Core.List.{List}
 use Prim.Native.Nat.{ℕ}
 use Rattle.paper.specs.Language.{Class, bang, dollar, parenL, parenR, spread, colon, equals, atSign, bracketL, bracketR, braceL, bar, braceR, n-query, n-mutation, n-subscription, n-fragment, n-on, n-true, n-false, n-null, n-other, int, float, string}
-use Rattle.paper.specs.Tokens.{Text, over, bad, token, nameClass}
+use Rattle.paper.specs.Tokens.{Text, atEnd, bad, token, nameClass}
 use Rattle.text_scan.specs.declared.TokenRead.{TokenRead}
 use Rattle.text_scan.specs.declared.TokenRead.the-variants.{Token, Bad}
 
@@ -67,6 +67,6 @@ wordOf w = wordNumber (nameClass w)
 
 -- the first token, or the end, or the bad bytes
 abbrev pub headOf : Text → TokenRead
-headOf (over n) = Token 0 n n
+headOf (atEnd n) = Token 0 n n
 headOf (bad n) = Bad n
 headOf (token k t) = Token (kindOf (k .class)) (k .start) (k .stop)

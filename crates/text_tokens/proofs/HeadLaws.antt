@@ -12,7 +12,7 @@ use lib.ListN.{length, take, drop}
 use Rattle.paper.specs.Grammar.{nt}
 use Rattle.paper.specs.Language.{Class}
 use Rattle.paper.specs.Lexical.{What, is, ignored, comment, Piece}
-use Rattle.paper.specs.Tokens.{Text, over, bad, token, nameClass, whatOf, lineEnd}
+use Rattle.paper.specs.Tokens.{Text, atEnd, bad, token, nameClass, whatOf, lineEnd}
 use Rattle.paper.proofs.Longest.{Match, scan}
 use Rattle.paper.proofs.LexTables.{lexer}
 use Rattle.paper.proofs.Lexing.{from, found, shown, orBad}
@@ -31,7 +31,7 @@ pub head-token : (s : List ℕ) (p k a e : ℕ) → p ≤ length s → headOf (f
 head-token s p k a e h q z = go (from s p) refl q
   where
     go : (t : Text) → from s p ≡ t → headOf t ≡ Token k a e → (c : Class) × (kindOf c ≡ k) × (from s p ≡ token (record { class = c; start = a; stop = e }) (from s e)) × (p ≤ a) × (a < e) × (e ≤ length s)
-    go (over n) f g = absurd (z (cc))
+    go (atEnd n) f g = absurd (z (cc))
     go (bad n) f g = let x : _≡_ {A = ℕ} 0 1 = cc in let y : ⊥ = omega arith in absurd y
     go (token x t) f g =
         let l = from-token s p x t h f in
@@ -40,11 +40,11 @@ head-token s p k a e h q z = go (from s p) refl q
         (x .class, cc, rw (← ka, ← ke, ← (l .3)) f, omega (arith, l .0), omega (arith, l .1), omega (arith, l .2))
 
 -- the end of the text
-pub head-end : (s : List ℕ) (p a e : ℕ) → p ≤ length s → headOf (from s p) ≡ Token 0 a e → (from s p ≡ over a) × (a ≡ length s) × (e ≡ a)
+pub head-end : (s : List ℕ) (p a e : ℕ) → p ≤ length s → headOf (from s p) ≡ Token 0 a e → (from s p ≡ atEnd a) × (a ≡ length s) × (e ≡ a)
 head-end s p a e h q = go (from s p) refl q
   where
-    go : (t : Text) → from s p ≡ t → headOf t ≡ Token 0 a e → (from s p ≡ over a) × (a ≡ length s) × (e ≡ a)
-    go (over n) f g = let ka : n ≡ a = cc in (rw ka at f, sym ka ∙ from-over s p n h f, cc)
+    go : (t : Text) → from s p ≡ t → headOf t ≡ Token 0 a e → (from s p ≡ atEnd a) × (a ≡ length s) × (e ≡ a)
+    go (atEnd n) f g = let ka : n ≡ a = cc in (rw ka at f, sym ka ∙ from-over s p n h f, cc)
     go (bad n) f g = let x : _≡_ {A = ℕ} 0 1 = cc in let y : ⊥ = omega arith in absurd y
     go (token x t) f g = let z : kindOf (x .class) ≡ 0 = cc in let y : ⊥ = omega (arith, kind-some (x .class)) in absurd y
 
@@ -53,7 +53,7 @@ pub head-bad : (s : List ℕ) (p o : ℕ) → p ≤ length s → headOf (from s 
 head-bad s p o h q = go (from s p) refl q
   where
     go : (t : Text) → from s p ≡ t → headOf t ≡ Bad o → (from s p ≡ bad o) × (p ≤ o) × (o < length s)
-    go (over n) f g = let x : _≡_ {A = ℕ} 0 1 = cc in let y : ⊥ = omega arith in absurd y
+    go (atEnd n) f g = let x : _≡_ {A = ℕ} 0 1 = cc in let y : ⊥ = omega arith in absurd y
     go (bad n) f g = let ko : n ≡ o = cc in let l = from-bad s p n h f in (rw ko at f, omega (arith, l .0), omega (arith, l .1))
     go (token x t) f g = let y : _≡_ {A = ℕ} 0 1 = cc in let z : ⊥ = omega arith in absurd z
 
@@ -62,13 +62,13 @@ pub head-order : (s : List ℕ) (p k a e : ℕ) → p ≤ length s → headOf (f
 head-order s p k a e h q = go (from s p) refl q
   where
     go : (t : Text) → from s p ≡ t → headOf t ≡ Token k a e → (p ≤ a) × (a ≤ e) × (e ≤ length s)
-    go (over n) f g = let l = from-over s p n h f in let ka : n ≡ a = cc in let ke : n ≡ e = cc in omega arith
+    go (atEnd n) f g = let l = from-over s p n h f in let ka : n ≡ a = cc in let ke : n ≡ e = cc in omega arith
     go (bad n) f g = let x : _≡_ {A = ℕ} 0 1 = cc in let y : ⊥ = omega arith in absurd y
     go (token x t) f g = let l = from-token s p x t h f in let ka : x .start ≡ a = cc in let ke : x .stop ≡ e = cc in (omega (arith, l .0), omega (arith, l .1), omega (arith, l .2))
 
 -- the class of a token of kind 1 is that of its bytes
 abbrev Named : List ℕ → Text → Type 0
-Named s (over n) = Unit {0}
+Named s (atEnd n) = Unit {0}
 Named s (bad n) = Unit {0}
 Named s (token k t) = kindOf (k .class) ≡ 1 → k .class ≡ nameClass (take (k .stop - k .start) (drop (k .start) s))
 

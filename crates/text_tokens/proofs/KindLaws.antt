@@ -7,7 +7,7 @@ use Prim.Native.Nat.{ℕ, _<_}
 use native.Mathlib.Omega.{arith}
 use lib.Dec.{T}
 use Rattle.paper.specs.Grammar.{Sym, nt, tm, act, Ev, Derives, done, take, note, by}
-use Rattle.paper.specs.Language.{Class, sameC, isName, bang, dollar, parenL, parenR, spread, colon, equals, atSign, bracketL, bracketR, braceL, bar, braceR, n-query, n-mutation, n-subscription, n-fragment, n-on, n-true, n-false, n-null, n-other, int, float, string}
+use Rattle.paper.specs.Language.{Class, sameC, isNameClass, bang, dollar, parenL, parenR, spread, colon, equals, atSign, bracketL, bracketR, braceL, bar, braceR, n-query, n-mutation, n-subscription, n-fragment, n-on, n-true, n-false, n-null, n-other, int, float, string}
 use Rattle.paper.specs.Lexical.{Lex, Set, What, is, ignored, comment, Piece, lexical, hitsByte}
 use Rattle.paper.specs.Tokens.{orElse, same, nameClass, classed, whatOf}
 use Rattle.paper.proofs.Bools.{and-l, and-r, and-i}
@@ -93,7 +93,7 @@ kind-some string = omega arith
 
 -- what a piece may be: a name is told by its bytes alone
 abbrev pub plain : What → Bool
-plain (is c) = not (isName c) || sameC c n-other
+plain (is c) = not (isNameClass c) || sameC c n-other
 plain ignored = true
 plain comment = true
 

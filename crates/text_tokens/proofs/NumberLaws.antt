@@ -13,7 +13,7 @@ use lib.ListN.{length, getD, drop}
 use lib.Seq.{drop-drop}
 use Rattle.paper.specs.Grammar.{nt, act, tok}
 use Rattle.paper.specs.Language.{Class, int, float}
-use Rattle.paper.specs.Lexical.{What, is, Piece, Digit*, Digit+, Sign?, Whole, span, letter, digit, dot, e, sign, zero, lexical, hitsByte}
+use Rattle.paper.specs.Lexical.{What, is, Piece, Digit*, Digit+, Sign?, UnsignedPart, span, letter, digit, dot, e, sign, zero, lexical, hitsByte}
 use Rattle.paper.proofs.Machine.{took, refused, step, enter, choose}
 use Rattle.paper.proofs.LexTables.{lexer, lexFactored}
 use Rattle.text_scan.specs.Head.{kindOf}
@@ -177,7 +177,7 @@ each P lo (suc n) t b g h =
     ⊎-elim (λ e. subst P e (t .0)) (λ l. each P (suc lo) n (t .1) b l (let z : b < lo + suc n = h in omega arith)) (eq-or-lt-of-le g)
 
 abbrev Signed : Stack
-Signed = nt Whole ∷ Rest
+Signed = nt UnsignedPart ∷ Rest
 
 wholes-piece : Wholes (nt Piece ∷ [])
 unfolding step enter choose lexFactored lexical

@@ -7,16 +7,13 @@ use Prim.Native.Nat.{ℕ}
 use lib.Dec.{T}
 use Rattle.paper.specs.Grammar.{nt, tm, act, tok, mark}
 use Rattle.paper.specs.Language.{n-other, int, float}
-use Rattle.paper.specs.Lexical.{Lex, Set, is, Piece, Name, NameRest*, Digit*, Digit+, Sign?, ExponentPart, ExponentPart?, NumberRest, Whole, digit, letter, letterOrDigit, dot, e, sign, lexical, hitsByte}
+use Rattle.paper.specs.Lexical.{Lex, Set, is, Piece, Name, NameRest*, Digit*, Digit+, Sign?, ExponentPart, ExponentPart?, NumberRest, UnsignedPart, digit, letter, letterOrDigit, dot, e, sign, lexical, hitsByte}
 use Rattle.paper.proofs.Machine.{took, emptied, refused, pick, fst, nul, step, enter, choose}
-use Rattle.paper.proofs.Bools.{or-l}
+use Rattle.paper.proofs.Bools.{or-l, eq→T}
 use Rattle.paper_theory.proofs.Theory.{pick-none, step-by, step-none, choose-first, choose-null}
 use Rattle.paper.proofs.LexTables.{lexer, lexFactored}
 use Rattle.paper_theory.proofs.LexChecked.{fitsL}
 use Rattle.text_scan.proofs.ReadLaws.{Stack, Repeats}
-
-eq→T : (b : Bool) → b ≡ true → T b
-eq→T b q = subst T (sym q) tt
 
 not-T : (b : Bool) → b ≡ false → T b → ⊥
 not-T b q t = subst T q t
@@ -90,13 +87,13 @@ module _ (b : ℕ) (σ : Stack) where
   step-no-sign h = step-by fitsL Sign? (some b) σ (choose-null fitsL Sign? b (List·Memᴰ·head refl) tt (not-T (hitsByte sign b) h))
 
 -- an integer part without its sign
-pub step-no-whole : (b : ℕ) (σ : Stack) → hitsByte digit b ≡ false → step lexer (nt Whole ∷ σ) (some b) ≡ refused
+pub step-no-whole : (b : ℕ) (σ : Stack) → hitsByte digit b ≡ false → step lexer (nt UnsignedPart ∷ σ) (some b) ≡ refused
 unfolding lexical lexFactored
-step-no-whole b σ h = step-not-first Whole b σ refl (not-T (hitsByte digit b) h)
+step-no-whole b σ h = step-not-first UnsignedPart b σ refl (not-T (hitsByte digit b) h)
 
-pub end-whole : (σ : Stack) → step lexer (nt Whole ∷ σ) none ≡ refused
+pub end-whole : (σ : Stack) → step lexer (nt UnsignedPart ∷ σ) none ≡ refused
 unfolding lexical lexFactored choose
-end-whole σ = step-none fitsL Whole none σ refl
+end-whole σ = step-none fitsL UnsignedPart none σ refl
 
 pub end-digit : (σ : Stack) → step lexer (nt Digit+ ∷ σ) none ≡ refused
 unfolding lexical lexFactored choose

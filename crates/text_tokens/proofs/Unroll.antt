@@ -9,7 +9,7 @@ use lib.ListN.{length, drop, length-drop, drop-of-length-le}
 use lib.Seq.{drop-drop}
 use Rattle.paper.specs.Grammar.{nt}
 use Rattle.paper.specs.Lexical.{What, is, ignored, comment, Piece}
-use Rattle.paper.specs.Tokens.{Text, over, whatOf, lineEnd}
+use Rattle.paper.specs.Tokens.{Text, atEnd, whatOf, lineEnd}
 use Rattle.paper.proofs.Longest.{Match, scan}
 use Rattle.paper.proofs.LexTables.{lexer}
 use Rattle.paper.proofs.Lexing.{text, from, found, shown, orBad}
@@ -38,7 +38,7 @@ unroll s p h = go (drop p s) refl
     go (b ∷ bs) e = pick b bs e (scan lexer (nt Piece ∷ []) (b ∷ bs)) refl
 
 -- at the end there is none
-pub from-end : (s : List ℕ) (p : ℕ) → length s ≤ p → from s p ≡ over p
+pub from-end : (s : List ℕ) (p : ℕ) → length s ≤ p → from s p ≡ atEnd p
 unfolding from text
 from-end s p h = rw (drop-of-length-le s h)
 

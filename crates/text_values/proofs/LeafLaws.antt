@@ -13,7 +13,7 @@ use Rattle.paper.specs.Numbers.{mostRows, kindInteger, kindFloat, kindString, k
 use Rattle.paper.specs.Language.{Class, numC, Terminal, the, nameButLiteral, hits, row, kind, named, end, Part, Value, ConstValue, EnumValue, language, dollar, int, float, string, n-true, n-false, n-null, n-other, bracketL, braceL}
 use Rattle.paper.specs.Tokens.{token, nameClass}
 use Rattle.paper.specs.Rows.{top}
-use Rattle.paper.specs.Sizes.{Counts, kinded, overCounts, opens, closes}
+use Rattle.paper.specs.Sizes.{Counts, kinded, overCounts, opensLevel, closesLevel}
 use Rattle.paper.specs.declared.Refusal.the-variants.{TooManyRows}
 use Rattle.paper.proofs.Lexing.{from}
 use Rattle.paper_theory.proofs.FromLaws.{from-token}
@@ -88,7 +88,7 @@ module _ (s rows : List ℕ) (c : Cursor) (parent : ℕ) (ready : Ready s rows c
     begins : (σ : Stack) (o : List ℕ) (left : ℕ) (q : Counts) → top o ≡ parent →
         at s rows c o left q (nt p ∷ σ) ≡ go (st (put rows (c .rows) K (c .start) 0 parent 0 0 x) (c .rows + 1) (c .rows ∷ o) (c .stop) left q) (tm w ∷ act end ∷ σ) (token (tokenOf k (c .start) (c .end)) (from s (c .end)))
     begins σ o left q e =
-        rw l (class-first rows (c .rows) o (c .stop) left q σ k (c .start) (c .end) (from s (c .end)) p mem (and-l (hits w k) (not (opens k) && not (closes k)) hit))
+        rw l (class-first rows (c .rows) o (c .stop) left q σ k (c .start) (c .end) (from s (c .end)) p mem (and-l (hits w k) (not (opensLevel k) && not (closesLevel k)) hit))
         ∙ row-opens rows (c .rows) o (c .stop) left q (tm w ∷ act end ∷ σ) (token (tokenOf k (c .start) (c .end)) (from s (c .end))) K x
         ∙ rw (same q, e) refl
 
@@ -112,7 +112,7 @@ module _ (s rows : List ℕ) (c : Cursor) (parent : ℕ) (ready : Ready s rows c
         ∙ row-opens rows (c .rows) o (c .stop) left q (act named ∷ nt EnumValue ∷ act end ∷ σ) (token (tokenOf k (c .start) (c .end)) (from s (c .end))) kindEnum 0
         ∙ rw e (name-told rows (c .rows + 1) o (c .stop) left q (nt EnumValue ∷ act end ∷ σ) (token (tokenOf k (c .start) (c .end)) (from s (c .end))) (c .rows) kindEnum (c .start) 0 parent 0 0 0)
         ∙ class-first (put rows (c .rows) kindEnum (c .start) 0 parent (c .start) (c .end - c .start) 0) (c .rows + 1) (c .rows ∷ o) (c .stop) left q (act end ∷ σ) k (c .start) (c .end) (from s (c .end)) EnumValue enum-in
-        (and-l (hits nameButLiteral k) (not (opens k) && not (closes k)) hit)
+        (and-l (hits nameButLiteral k) (not (opensLevel k) && not (closesLevel k)) hit)
 
     pub enum-said : (left : ℕ) (rows′ : List ℕ) (r : Read) → Leaf s rows rows′ c parent kindEnum (c .start) (c .end - c .start) 0 r → Said 1 s rows rows′ c parent left (nt p ∷ []) r
     enum-said left rows′ r =

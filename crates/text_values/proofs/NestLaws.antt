@@ -13,7 +13,7 @@ use Rattle.paper.specs.Grammar.{nt, tm, act}
 use Rattle.paper.specs.Numbers.{mostRows, rowsSize}
 use Rattle.paper.specs.Language.{Class, Part, the, hits, row, kind, end}
 use Rattle.paper.specs.Rows.{top}
-use Rattle.paper.specs.Sizes.{Counts, kinded, opens, closes, overCounts}
+use Rattle.paper.specs.Sizes.{Counts, kinded, opensLevel, closesLevel, overCounts}
 use Rattle.paper.specs.declared.Refusal.{Refusal}
 use Rattle.paper.specs.declared.Refusal.the-variants.{TooDeep, TooManyRows}
 use Rattle.paper.proofs.Lexing.{from}
@@ -42,9 +42,9 @@ pub record Nest (p : Part) (K x y : ℕ) (A B : Class) (inner item star : Part) 
   pub uncounted : (q : Counts) → kinded K q ≡ q
   pub outer-first : T (all (λ k. implies (is (suc x) (kindOf k)) (fst graphql (act row ∷ act (kind K 0) ∷ nt inner ∷ act end ∷ []) k)) allC)
   pub opening-hit : T (all (λ k. implies (is (suc x) (kindOf k)) (hits (the A) k)) allC)
-  pub opening-opens : T (all (λ k. implies (is (suc x) (kindOf k)) (same-bool (opens k) true && same-bool (closes k) false)) allC)
+  pub opening-opens : T (all (λ k. implies (is (suc x) (kindOf k)) (same-bool (opensLevel k) true && same-bool (closesLevel k) false)) allC)
   pub closing-hit : T (all (λ k. implies (is (suc y) (kindOf k)) (hits (the B) k)) allC)
-  pub closing-closes : T (all (λ k. implies (is (suc y) (kindOf k)) (same-bool (opens k) false && same-bool (closes k) true)) allC)
+  pub closing-closes : T (all (λ k. implies (is (suc y) (kindOf k)) (same-bool (opensLevel k) false && same-bool (closesLevel k) true)) allC)
   pub closing-none : T (all (λ k. implies (is (suc y) (kindOf k)) (not (graphql .first star k))) allC)
   pub none-end : choose graphql star none ≡ some []
   pub no-item-end : T (refusesEnd item)

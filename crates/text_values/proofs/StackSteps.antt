@@ -11,11 +11,11 @@ use Rattle.paper.specs.Grammar.{nt, tm}
 use Rattle.paper.specs.Numbers.{mostRows}
 use Rattle.paper.specs.Language.{Class, Terminal, hits, Part}
 use Rattle.paper.specs.Tokens.{Text, token}
-use Rattle.paper.specs.Sizes.{Counts, opens, closes, overCounts}
+use Rattle.paper.specs.Sizes.{Counts, opensLevel, closesLevel, overCounts}
 use Rattle.paper.specs.declared.Refusal.the-variants.{TooManyRows}
 use Rattle.paper.proofs.Lexing.{from}
 use Rattle.paper.proofs.Machine.{fst, choose, step}
-use Rattle.paper.proofs.Bools.{T→eq, and-l, and-r}
+use Rattle.paper.proofs.Bools.{T→eq, and-l, and-r, not-eq}
 use Rattle.paper_theory.proofs.Theory.{choose-first, choose-null, step-by, step-none}
 use Rattle.paper_theory.proofs.Test.{all, implies}
 use Rattle.paper.proofs.Tables.{graphql, factored, allC}
@@ -26,17 +26,13 @@ use Rattle.text_cursor.specs.Reader.{Looks}
 use Rattle.text_cursor.proofs.Steps.{tokenOf, refuses, refusesEnd, isNone, Front, a-token, the-end, front, by-kind}
 use Rattle.text_scan.specs.Head.{kindOf}
 
-not-eq : (b : Bool) → T (not b) → b ≡ false
-not-eq true h = absurd h
-not-eq false h = refl
-
 none-is : {X : Type 0} (o : Option X) → T (isNone o) → o ≡ none
 none-is none h = refl
 none-is (some x) h = absurd h
 
 -- a token that a terminal hits, and that neither opens nor closes a level
 abbrev pub plainHit : Terminal → Class → Bool
-plainHit w k = hits w k && (not (opens k) && not (closes k))
+plainHit w k = hits w k && (not (opensLevel k) && not (closesLevel k))
 
 -- AT A TOKEN OF CLASS k
 module _ (cells : List ℕ) (n : ℕ) (o : List ℕ) (stop left : ℕ) (q : Counts) (σ : Stack) (k : Class) (a e : ℕ) (t : Text) where
@@ -48,13 +44,13 @@ module _ (cells : List ℕ) (n : ℕ) (o : List ℕ) (stop left : ℕ) (q : Coun
 
   module _ (w : Terminal) (h : T (plainHit w k)) where
     hit : hits w k ≡ true
-    hit = T→eq (hits w k) (and-l (hits w k) (not (opens k) && not (closes k)) h)
+    hit = T→eq (hits w k) (and-l (hits w k) (not (opensLevel k) && not (closesLevel k)) h)
 
-    shut : opens k ≡ false
-    shut = not-eq (opens k) (and-l (not (opens k)) (not (closes k)) (and-r (hits w k) (not (opens k) && not (closes k)) h))
+    shut : opensLevel k ≡ false
+    shut = not-eq (opensLevel k) (and-l (not (opensLevel k)) (not (closesLevel k)) (and-r (hits w k) (not (opensLevel k) && not (closesLevel k)) h))
 
-    apart : closes k ≡ false
-    apart = not-eq (closes k) (and-r (not (opens k)) (not (closes k)) (and-r (hits w k) (not (opens k) && not (closes k)) h))
+    apart : closesLevel k ≡ false
+    apart = not-eq (closesLevel k) (and-r (not (opensLevel k)) (not (closesLevel k)) (and-r (hits w k) (not (opensLevel k) && not (closesLevel k)) h))
 
     -- it is taken
     pub class-plain : n ≤ mostRows → overCounts q ≡ false → go (st cells n o stop left q) (tm w ∷ σ) (token (tokenOf k a e) t) ≡ go (st cells n o e left q) σ t

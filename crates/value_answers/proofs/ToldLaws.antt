@@ -12,7 +12,7 @@ use Rattle.paper_table.specs.TableNumbers.{mostTable}
 use Rattle.call_buffers.specs.declared.Sizes.{Sizes}
 use Rattle.call_buffers.specs.declared.Sizes.the-variants.{Met, Unmet}
 use Rattle.paper_values.specs.ValueNumbers.{mostCoerced}
-use Rattle.paper_values.specs.ValueCalls.{Ending, ends, yields, Lent, Short, Coerced, short-value, long-document, long-variables, long-table, refused, answered}
+use Rattle.paper_values.specs.ValueCalls.{Ending, ends, yields, ValueLent, ValueShort, Coerced, short-value, long-document, long-variables, long-table, refused, answered}
 use Rattle.value_endings.specs.Endings.{Asks, Sized, Leaves}
 use Rattle.value_endings.specs.Endings.{short-value as asks-value, long-document as asks-document, long-variables as asks-variables, long-table as asks-table}
 use Rattle.value_answers.specs.Answers.{Ends}
@@ -33,7 +33,7 @@ module _ (End : Ending → Type 0) (table document variables value report report
       go _ (asks-table w l m k) f = long-table (h, w) l m k refl f
 
   -- what is done to the fixed size of a longer value is done to this, and nothing beyond
-  module _ (value₁ value′ : List ℕ) (lent : Lent value report) (short : Short table document variables) (e : value′ ≡ value₁ ++ drop mostCoerced value) where
+  module _ (value₁ value′ : List ℕ) (lent : ValueLent value report) (short : ValueShort table document variables) (e : value′ ≡ value₁ ++ drop mostCoerced value) where
     beyond : (bs before : List ℕ) → length before ≡ mostCoerced → value₁ ≡ filled mostCoerced bs before → value′ ≡ filled mostCoerced bs value
     beyond bs before l q =
         let filling : List ℕ = bs ++ replicate (mostCoerced - length bs) 0 in

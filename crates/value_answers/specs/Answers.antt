@@ -9,7 +9,7 @@ use Rattle.paper.specs.Language.{Document, VariablesText}
 use Rattle.paper.specs.Tokens.{Text, Tokens}
 use Rattle.paper.specs.Rows.{Row}
 use Rattle.paper.specs.Refusals.{numberOf, shownInText}
-use Rattle.paper.specs.Reading.{rows-are, refuses, Said}
+use Rattle.paper.specs.Reading.{rows-are, refuses, TextAnswer}
 use Rattle.paper.specs.declared.Refusal.{Refusal}
 use Rattle.paper_table.specs.Judging.{judge}
 use Rattle.paper_table.specs.declared.TableAnswer.the-variants.{Accepted}
@@ -60,8 +60,8 @@ pub record Standing (t book s rows : List ℕ) (n op : ℕ) : Type 0 where
 
 -- where its task is known: the variables text is refused, or there is a result
 pub data ReadEnd (t : List ℕ) (d : Doc) (op : ℕ) (task : Task) (variables : List ℕ) : Ending → Type 0 where
-  unread : {k : Text} {r : Refusal} → Tokens 0 variables k → Said VariablesText k (refuses r) → ReadEnd t d op task variables (ends (numberOf r) (shownInText inputVariables r))
-  done : {k : Text} {vs : List Row} → Tokens 0 variables k → Said VariablesText k (rows-are vs) → ReadEnd t d op task variables (ended (resultOf t d op (read variables vs) task))
+  unread : {k : Text} {r : Refusal} → Tokens 0 variables k → TextAnswer VariablesText k (refuses r) → ReadEnd t d op task variables (ends (numberOf r) (shownInText inputVariables r))
+  done : {k : Text} {vs : List Row} → Tokens 0 variables k → TextAnswer VariablesText k (rows-are vs) → ReadEnd t d op task variables (ended (resultOf t d op (read variables vs) task))
 
 -- where an operation is opened: the field is not reached, or its task is known
 pub data FieldEnd (t : List ℕ) (d : Doc) (op row : ℕ) (variables : List ℕ) : Ending → Type 0 where

@@ -27,7 +27,7 @@ ghost use Rattle.table_book.specs.Book.{bookSize};
 ghost use Rattle.query_rows.specs.Rowed.{docOf, fewRows, roomOf};
 ghost use Rattle.query_rows.proofs.ReadRows.{Taken};
 ghost use Rattle.paper_values.specs.ValueNumbers.{mostCoerced};
-ghost use Rattle.paper_values.specs.ValueCalls.{Short, Coerced as CoercedBy, CoercedVariables, CoercedArguments};
+ghost use Rattle.paper_values.specs.ValueCalls.{ValueShort, Coerced as CoercedBy, CoercedVariables, CoercedArguments};
 ghost use Rattle.value_endings.specs.Endings.{endingOf};
 ghost use Rattle.value_results.specs.Results.{heldRoom, resultOf, Serves};
 ghost use Rattle.value_answers.specs.Answers.{EndFor, endedOf, Gives, ReadEnd, OpenEnd, Stands, Standing, Ends};
@@ -341,7 +341,7 @@ fn end_with(
     call: Call,
     out: &mut [u8],
 ) -> Ended
-    requires { ⌜ Short (now table) (now document) (now variables) × (length (now book) ≡ bookSize) × (length (now rows) ≡ rowsSize) × (length (now out) ≡ mostCoerced) ⌝ }
+    requires { ⌜ ValueShort (now table) (now document) (now variables) × (length (now book) ≡ bookSize) × (length (now rows) ≡ rowsSize) × (length (now out) ≡ mostCoerced) ⌝ }
     ensures { λ r. ⌜ EndFor call (now (table .entry)) (now (document .entry)) (now (operation .entry)) (now (variables .entry)) (endingOf r (now (out .exit))) ⌝ }
 {
     let o = query_opening::open(table, book, document, operation, rows);
@@ -363,7 +363,7 @@ fn end_call(
     call: Call,
     out: &mut [u8],
 ) -> Ended
-    requires { ⌜ Short (now table) (now document) (now variables) × (length (now out) ≡ mostCoerced) ⌝ }
+    requires { ⌜ ValueShort (now table) (now document) (now variables) × (length (now out) ≡ mostCoerced) ⌝ }
     ensures { λ r. ⌜ EndFor call (now (table .entry)) (now (document .entry)) (now (operation .entry)) (now (variables .entry)) (endingOf r (now (out .exit))) ⌝ }
 {
     let mut book = [0u32; BOOK_SIZE];
@@ -390,7 +390,7 @@ fn tell_call(
     value: &mut [u8],
     report: &mut [u32],
 ) -> u32
-    requires { ⌜ Short (now table) (now document) (now variables) × (reportSize ≤ length (now report)) × (length (now value) ≡ mostCoerced) ⌝ }
+    requires { ⌜ ValueShort (now table) (now document) (now variables) × (reportSize ≤ length (now report)) × (length (now value) ≡ mostCoerced) ⌝ }
     ensures { λ r. ⌜ Ends (EndFor call (now (table .entry)) (now (document .entry)) (now (operation .entry)) (now (variables .entry))) (now (report .entry)) (now (value .exit)) (now (report .exit)) r ⌝ }
 {
     let e = end_call(table, document, operation, variables, call, value);

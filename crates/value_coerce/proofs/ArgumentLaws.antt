@@ -12,17 +12,18 @@ use Rattle.table_types.proofs.SlimLaws.{all-head, all-tail}
 use Rattle.paper_values.specs.ValueNumbers.{reasonRepeated, reasonUnknown}
 use Rattle.paper_values.specs.Values.{Name, At, Due, Fields, Pairs, Out, Got, andThen}
 use Rattle.paper_values.specs.Kinds.{Kind, dueArgument}
-use Rattle.paper_values.specs.Coercion.{Head, Given, repeated, unknown, missing, field, fields, entryOf, unless, inObject, orDefault}
+use Rattle.paper_values.specs.Coercion.{Head, repeatedEntry, unknownEntry}
+use Rattle.paper_values.specs.Computed.{Given, missingDue, dueField, dueFields, entryOf, unless, inObject, orDefault}
 use Rattle.value_entries.specs.Entered.{duesBy}
 use Rattle.value_coerce.specs.Coercing.{slimDue}
 
 module _ (kinds : Name → Kind) (i : At) (gs : List Given) where
-  lacks-same : (xs : List Argument) → fields (λ d rest. orDefault kinds i d (d .default) rest) gs (map dueArgument xs) ≡ fields (missing i) gs (map dueArgument xs)
+  lacks-same : (xs : List Argument) → dueFields (λ d rest. orDefault kinds i d (d .default) rest) gs (map dueArgument xs) ≡ dueFields (missingDue i) gs (map dueArgument xs)
   lacks-same [] = refl
-  lacks-same (x ∷ xs) = ap (λ (r : Out Pairs). field (missing i (dueArgument x) r) (dueArgument x) (entryOf (x .name) gs) r) (lacks-same xs)
+  lacks-same (x ∷ xs) = ap (λ (r : Out Pairs). dueField (missingDue i (dueArgument x) r) (dueArgument x) (entryOf (x .name) gs) r) (lacks-same xs)
 
-  pub arguments-same : (hs : List Head) (xs : List Argument) → inObject (λ d rest. orDefault kinds i d (d .default) rest) hs gs (map dueArgument xs) ≡ inObject (missing i) hs gs (map dueArgument xs)
-  arguments-same hs xs = ap (λ (o : Out Pairs). unless (repeated [] hs) reasonRepeated (unless (unknown (map dueArgument xs) hs) reasonUnknown (andThen o (λ (ps : Pairs). Got (Fields ps))))) (lacks-same xs)
+  pub arguments-same : (hs : List Head) (xs : List Argument) → inObject (λ d rest. orDefault kinds i d (d .default) rest) hs gs (map dueArgument xs) ≡ inObject (missingDue i) hs gs (map dueArgument xs)
+  arguments-same hs xs = ap (λ (o : Out Pairs). unless (repeatedEntry [] hs) reasonRepeated (unless (unknownEntry (map dueArgument xs) hs) reasonUnknown (andThen o (λ (ps : Pairs). Got (Fields ps))))) (lacks-same xs)
 
 -- what the arguments in a content make due
 gathered : (xs : List Argument) → gather (λ a. dueArgument a ∷ []) xs ≡ map dueArgument xs

@@ -17,8 +17,9 @@ use Rattle.paper_values.specs.ValueNumbers.{reasonEnum, reasonRepeated, reasonU
 use Rattle.paper_values.specs.NumberTokens.{intOf, floatContent}
 use Rattle.paper_values.specs.Values.{Name, At, Value, variable, integer, float, string, boolean, null, enum, list, object, Due, Tree, Null, Bits, Decimal, Text, Truth, Member, Many, Fields, Token, Trees, no-more, also, Pairs, Out, Got, No, andThen}
 use Rattle.paper_values.specs.Kinds.{Kind, Int, Float, String, Boolean, ID, Own, Other, Enum, Input}
-use Rattle.paper_values.specs.Coercion.{nullAt, inRange, textAt, memberAt, table, integerAt, floatAt, stringAt, booleanAt, enumAt, objectAt, Head, Given, heads, repeated, unknown, missing, fields, unless, inObject, single, several, coerce, coerceAll, givens, constant}
-use Rattle.paper_values.specs.CoercionRules.{plain}
+use Rattle.paper_values.specs.Computed.{nullAt, objectAt, Given, missingDue, dueFields, unless, inObject, single, several, coerce, coerceAll, givens, constant}
+use Rattle.paper_values.specs.Coercion.{inRange, textAt, enumValueAt, byType, integerAt, floatAt, stringAt, booleanAt, enumAt, Head, heads, repeatedEntry, unknownEntry}
+use Rattle.paper_values.specs.CoercionRules.{plainValue}
 use Rattle.paper_values.specs.Encoding.{encode}
 use Rattle.paper_values.specs.RowValues.{placed, valueAt, valueBy, valueOfRow}
 use Rattle.value_writing.specs.Writing.{placeOf}
@@ -54,7 +55,7 @@ text-filled : (i : At) (o : Option (List ℕ)) → filled (textAt i o) ≡ true
 text-filled i none = refl
 text-filled i (some s) = refl
 
-member-filled : (i : At) (n : Name) (ms : List Name) → filled (memberAt i n ms) ≡ true
+member-filled : (i : At) (n : Name) (ms : List Name) → filled (enumValueAt i n ms) ≡ true
 member-filled i n ms = go (anyOf (same n) ms)
   where
     go : (b : Bool) → filled (cond b (Got (Member n)) (No i reasonEnum)) ≡ true
@@ -66,7 +67,7 @@ unless-filled none why r e = e
 unless-filled (some i) why r e = refl
 
 object-filled : (lack : Due → Out Pairs → Out Pairs) (es : List Head) (gs : List Given) (ds : List Due) → filled (inObject lack es gs ds) ≡ true
-object-filled lack es gs ds = unless-filled (repeated [] es) reasonRepeated _ (unless-filled (unknown ds es) reasonUnknown _ (go (fields lack gs ds)))
+object-filled lack es gs ds = unless-filled (repeatedEntry [] es) reasonRepeated _ (unless-filled (unknownEntry ds es) reasonUnknown _ (go (dueFields lack gs ds)))
   where
     go : (o : Out Pairs) → filled (andThen o (λ ps. Got (Fields ps))) ≡ true
     go (Got ps) = refl
@@ -75,7 +76,7 @@ object-filled lack es gs ds = unless-filled (repeated [] es) reasonRepeated _ (u
 -- an answer for each kind of type is filled if all are
 module _ (x i f s b d o : Out Tree) (e : List Name → Out Tree) (n : List Due → Out Tree) where
   table-filled : filled x ≡ true → filled i ≡ true → filled f ≡ true → filled s ≡ true → filled b ≡ true → filled d ≡ true → filled o ≡ true → ((ms : List Name) → filled (e ms) ≡ true) → ((ds : List Due) → filled (n ds) ≡ true) →
-      (k : Kind) → filled (table x i f s b d o e n k) ≡ true
+      (k : Kind) → filled (byType x i f s b d o e n k) ≡ true
   table-filled x′ i′ f′ s′ b′ d′ o′ e′ n′ Int = i′
   table-filled x′ i′ f′ s′ b′ d′ o′ e′ n′ Float = f′
   table-filled x′ i′ f′ s′ b′ d′ o′ e′ n′ String = s′
@@ -105,7 +106,7 @@ module _ (kinds : Name → Kind) (vars : Vars) where
   several-filled i items (listOf r) = list-filled (items r)
   several-filled i items (nonNull r) = several-filled i items r
 
-  plain-filled : (v : Value) (r : Ref) → plain v ≡ true → filled (coerce kinds vars v r) ≡ true
+  plain-filled : (v : Value) (r : Ref) → plainValue v ≡ true → filled (coerce kinds vars v r) ≡ true
   unfolding coerce
   plain-filled (variable i n) r e = absurd (let z : _≡_ {A = ℕ} 0 1 = cc in omega arith)
   plain-filled (integer i s) r e = single-filled (integerAt i s) (table-filled _ _ _ _ _ _ _ _ _ refl (range-filled i Bits (intOf s) (λ x. refl)) (range-filled i Decimal (floatContent true s) (λ x. refl)) refl refl refl refl (λ ms. refl) (λ ds. refl)) r
@@ -115,7 +116,7 @@ module _ (kinds : Name → Kind) (vars : Vars) where
   plain-filled (null i) r e = absurd (let z : _≡_ {A = ℕ} 0 1 = cc in omega arith)
   plain-filled (enum i n) r e = single-filled (enumAt i n) (table-filled _ _ _ _ _ _ _ _ _ refl refl refl refl refl refl refl (λ ms. member-filled i n ms) (λ ds. refl)) r
   plain-filled (list i vs) r e = several-filled i (λ q. coerceAll kinds vars vs q) r
-  plain-filled (object i es) r e = single-filled (objectAt i (inObject (missing i) (heads es) (givens kinds vars es))) (table-filled _ _ _ _ _ _ _ _ _ refl refl refl refl refl refl refl (λ ms. refl) (λ ds. object-filled (missing i) (heads es) (givens kinds vars es) ds)) r
+  plain-filled (object i es) r e = single-filled (objectAt i (inObject (missingDue i) (heads es) (givens kinds vars es))) (table-filled _ _ _ _ _ _ _ _ _ refl refl refl refl refl refl refl (λ ms. refl) (λ ds. object-filled (missingDue i) (heads es) (givens kinds vars es) ds)) r
 
 -- ---- a variable's place
 
@@ -156,7 +157,7 @@ module _ (t : List ℕ) (vars : Vars) (text there : ℕ) (d : Doc) (n row i limi
 
   module _ (q : (kindOf d row ≡ kindNull) ⊎ (kindOf d row ≡ kindVariable) → ⊥) where
     is-filled : filled (Got tree) ≡ true
-    is-filled = ap filled (sym (k .is)) ∙ plain-filled (kindsIn t) (λ m. none) (valueOfRow there d row) ref (ap plain level ∙ row-plain there d (valueAt there d 32) row (λ (e : kindOf d row ≡ kindVariable). q (inr e)) (λ (e : kindOf d row ≡ kindNull). q (inl e)))
+    is-filled = ap filled (sym (k .is)) ∙ plain-filled (kindsIn t) (λ m. none) (valueOfRow there d row) ref (ap plainValue level ∙ row-plain there d (valueAt there d 32) row (λ (e : kindOf d row ≡ kindVariable). q (inr e)) (λ (e : kindOf d row ≡ kindNull). q (inl e)))
 
     by-tree : Told text limit (Got tree) from p p′ c → Goal
     by-tree g = subst (λ (o : Out Tree). Told text limit o from p p′ c) (sym (stood-is t vars text i r tree is-filled)) g

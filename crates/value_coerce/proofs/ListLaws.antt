@@ -6,9 +6,9 @@ use native.Mathlib.Omega.{arith}
 use Rattle.paper_table.specs.References.{Ref}
 use Rattle.paper_query.specs.Constructs.{Doc, parentOf}
 use Rattle.paper_values.specs.ValueNumbers.{tagList}
-use Rattle.paper_values.specs.Values.{Name, Value, null, Values, end, item, Tree, Many, Trees, no-more, also, Out, Got, No, andThen}
+use Rattle.paper_values.specs.Values.{Name, Value, null, Values, no-values, item, Tree, Many, Trees, no-more, also, Out, Got, No, andThen}
 use Rattle.paper_values.specs.Kinds.{Kind}
-use Rattle.paper_values.specs.Coercion.{coerce, coerceAll}
+use Rattle.paper_values.specs.Computed.{coerce, coerceAll}
 use Rattle.paper_values.specs.Encoding.{encode, encodeAll}
 use Rattle.paper_values.proofs.EncodingLaws.{behind}
 use Rattle.paper_values.specs.RowValues.{itemsFrom, valueAt}

@@ -7,6 +7,7 @@ use Prim.Native.Nat.{ℕ, _+_, _-_, _≤_, _<_}
 use native.Mathlib.Omega.{arith}
 use lib.ListN.{length, take, drop}
 use borrow.Author.Tests.{leb-true}
+use Rattle.paper.proofs.Bools.{and-left}
 use Rattle.paper.specs.Numbers.{mostWrappers}
 use Rattle.paper_table.specs.TableNumbers.{tagName}
 use Rattle.paper_table.specs.Lists.{gather, allOf}
@@ -21,13 +22,14 @@ use Rattle.table_members.specs.Members.{membersIn, Typed}
 use Rattle.table_members.specs.declared.FieldFound.{FieldFound}
 use Rattle.table_members.specs.declared.FieldFound.the-variants.{Found, Nothing}
 use Rattle.table_types.specs.Sizes.{slimArgument, slimMember, Slim}
-use Rattle.table_types.proofs.SlimLaws.{and-left, all-head, all-tail, entry-slim}
+use Rattle.table_types.proofs.SlimLaws.{all-head, all-tail, entry-slim}
 use Rattle.table_types.specs.Booked.{Booked, startIn, endIn, definitionOn}
 use Rattle.paper_values.specs.ValueNumbers.{tagInput, tagPair, reasonMissing, reasonRepeated, reasonUnknown}
-use Rattle.paper_values.specs.Written.{fieldOf}
-use Rattle.paper_values.specs.Values.{Name, At, Due, Tree, Fields, Pairs, nothing, pair, Out, Got, No, andThen}
+use Rattle.paper_values.specs.Written.{houseFieldBytes}
+use Rattle.paper_values.specs.Values.{Name, At, Due, Tree, Fields, Pairs, no-pairs, pair, Out, Got, No, andThen}
 use Rattle.paper_values.specs.Kinds.{dueOf}
-use Rattle.paper_values.specs.Coercion.{Given, heads, repeated, unknown, missing, first, field, fields, entryOf, unless}
+use Rattle.paper_values.specs.Computed.{Given, missingDue, pairFirst, dueField, dueFields, entryOf, unless}
+use Rattle.paper_values.specs.Coercion.{heads, repeatedEntry, unknownEntry}
 use Rattle.paper_values.specs.Encoding.{encode, encodePairs}
 use Rattle.value_writing.specs.Writing.{placeOf, Put, Room, Closed, Behind}
 use Rattle.value_writing.proofs.PlaceLaws.{place-least, put-as, put-then, put-place, room-after, behind-order}
@@ -44,49 +46,49 @@ use Rattle.value_ones.proofs.ToldLaws.{told-up, told-no}
 -- ---- one that is due
 
 module _ (t : List ℕ) (vars : Vars) (text : ℕ) (s held : List ℕ) (many : ℕ) (d : Doc) (n k kind h : ℕ) (δ : Due) (limit from : ℕ) (p : List ℕ) (c : ℕ) (g : Gives s held many d n k kind h (δ .name) c) (knows : Knows s held many vars) where
-  pub step-lacks : (x : Coerced) → n ≤ c → ToldPairs text limit (missing (placedAt text h) δ (Got nothing)) from p p x → ToldPairs text limit (stepped t vars text d n k kind h δ) from p p x
-  step-lacks x l a = subst (λ (o : Option (Ref → Out Tree)). ToldPairs text limit (field (missing (placedAt text h) δ (Got nothing)) δ o (Got nothing)) from p p x) (sym (g .none-is l t vars text knows)) a
+  pub step-lacks : (x : Coerced) → n ≤ c → ToldPairs text limit (missingDue (placedAt text h) δ (Got no-pairs)) from p p x → ToldPairs text limit (stepped t vars text d n k kind h δ) from p p x
+  step-lacks x l a = subst (λ (o : Option (Ref → Out Tree)). ToldPairs text limit (dueField (missingDue (placedAt text h) δ (Got no-pairs)) δ o (Got no-pairs)) from p p x) (sym (g .none-is l t vars text knows)) a
 
   module _ (l : c < n) (p₂ : List ℕ) (middle : ℕ) (p₁ : List ℕ) (x : Coerced) (a : Told text limit (coerced t vars text d k (c + 1) (δ .type)) middle p₁ p₂ x) where
-    step-is : (o : Out Tree) → coerced t vars text d k (c + 1) (δ .type) ≡ o → stepped t vars text d n k kind h δ ≡ andThen o (λ (y : Tree). Got (pair (δ .name) y nothing))
-    step-is o e = ap (λ (z : Option (Ref → Out Tree)). field (missing (placedAt text h) δ (Got nothing)) δ z (Got nothing)) (g .some-is l t vars text knows) ∙ ap (λ (z : Out Tree). andThen z (λ (y : Tree). Got (pair (δ .name) y nothing))) e
+    step-is : (o : Out Tree) → coerced t vars text d k (c + 1) (δ .type) ≡ o → stepped t vars text d n k kind h δ ≡ andThen o (λ (y : Tree). Got (pair (δ .name) y no-pairs))
+    step-is o e = ap (λ (z : Option (Ref → Out Tree)). dueField (missingDue (placedAt text h) δ (Got no-pairs)) δ z (Got no-pairs)) (g .some-is l t vars text knows) ∙ ap (λ (z : Out Tree). andThen z (λ (y : Tree). Got (pair (δ .name) y no-pairs))) e
 
     pub step-stop : (row why : ℕ) → x ≡ Refused row why → ToldPairs text limit (stepped t vars text d n k kind h δ) from p p₂ x
     step-stop row why u =
         let z = told-no text limit middle p₁ p₂ x (coerced t vars text d k (c + 1) (δ .type)) row why a u in
         subst (λ (o : Out Pairs). ToldPairs text limit o from p p₂ x) (sym (step-is (No (z .0) (z .1)) (z .2))) (z .3, z .4)
 
-    module _ (at : ℕ) (u : x ≡ UpTo at) (q : Put limit (fieldOf tagName (δ .name)) (placeOf limit (from + 3)) p p₁ middle) where
+    module _ (at : ℕ) (u : x ≡ UpTo at) (q : Put limit (houseFieldBytes tagName (δ .name)) (placeOf limit (from + 3)) p p₁ middle) where
       pub step-put : (p₃ : List ℕ) (e : ℕ) → from ≤ limit + 1 → Closed limit from tagPair at p₂ p₃ e → ToldPairs text limit (stepped t vars text d n k kind h δ) from p p₃ (UpTo e)
       step-put p₃ e m w =
           let z = told-up text limit middle p₁ p₂ x (coerced t vars text d k (c + 1) (δ .type)) at a u in
           subst (λ (o : Out Pairs). ToldPairs text limit o from p p₃ (UpTo e)) (sym (step-is (Got (z .0)) (z .1)))
-          (e, refl, pairs-put limit nothing (δ .name) (z .0) from from e p p p₃ (no-pairs-put limit from p m) (pair-put limit (δ .name) (z .0) from (placeOf limit (from + 3)) middle at e p p₁ p₂ p₃ refl q (z .2) w))
+          (e, refl, pairs-put limit no-pairs (δ .name) (z .0) from from e p p p₃ (no-pairs-put limit from p m) (pair-put limit (δ .name) (z .0) from (placeOf limit (from + 3)) middle at e p p₁ p₂ p₃ refl q (z .2) w))
 
       pub step-behind : Room limit (placeOf limit (from + 3)) p → length p₁ ≡ length p → length p₂ ≡ length p₁ → Behind limit from at p₂
       step-behind w m₁ m₂ =
           let z = told-up text limit middle p₁ p₂ x (coerced t vars text d k (c + 1) (δ .type)) at a u in
-          let b : Put limit (fieldOf tagName (δ .name) ++ encode (z .0)) (placeOf limit (from + 3)) p p₂ at = put-then limit (fieldOf tagName (δ .name)) (encode (z .0)) (placeOf limit (from + 3)) middle at p p₁ p₂ q (z .2) in
-          record { least = w .least; end = put-place limit (encode (z .0)) middle p₁ p₂ at (z .2); order = λ h. behind-order limit (fieldOf tagName (δ .name) ++ encode (z .0)) from (placeOf limit (from + 3)) at p p₂ refl b h; size = m₂ ∙ m₁ ∙ w .size }
+          let b : Put limit (houseFieldBytes tagName (δ .name) ++ encode (z .0)) (placeOf limit (from + 3)) p p₂ at = put-then limit (houseFieldBytes tagName (δ .name)) (encode (z .0)) (placeOf limit (from + 3)) middle at p p₁ p₂ q (z .2) in
+          record { least = w .least; end = put-place limit (encode (z .0)) middle p₁ p₂ at (z .2); order = λ h. behind-order limit (houseFieldBytes tagName (δ .name) ++ encode (z .0)) from (placeOf limit (from + 3)) at p p₂ refl b h; size = m₂ ∙ m₁ ∙ w .size }
 
 -- ---- pairs one after the other
 
 abbrev pub joinPairs : Pairs → Pairs → Pairs
-joinPairs nothing qs = qs
+joinPairs no-pairs qs = qs
 joinPairs (pair n t ps) qs = pair n t (joinPairs ps qs)
 
-pub join-nothing : (ps : Pairs) → joinPairs ps nothing ≡ ps
-join-nothing nothing = refl
+pub join-nothing : (ps : Pairs) → joinPairs ps no-pairs ≡ ps
+join-nothing no-pairs = refl
 join-nothing (pair n t ps) = ap (pair n t) (join-nothing ps)
 
 join-join : (xs ys zs : Pairs) → joinPairs (joinPairs xs ys) zs ≡ joinPairs xs (joinPairs ys zs)
-join-join nothing ys zs = refl
+join-join no-pairs ys zs = refl
 join-join (pair n t xs) ys zs = ap (pair n t) (join-join xs ys zs)
 
 pub encode-join : (xs ys : Pairs) → encodePairs (joinPairs xs ys) ≡ encodePairs xs ++ encodePairs ys
 unfolding encode
-encode-join nothing ys = refl
-encode-join (pair n t xs) ys = ap (λ (l : List ℕ). fieldOf tagPair (fieldOf tagName n ++ encode t) ++ l) (encode-join xs ys) ∙ sym (append-assoc (fieldOf tagPair (fieldOf tagName n ++ encode t)) (encodePairs xs) (encodePairs ys))
+encode-join no-pairs ys = refl
+encode-join (pair n t xs) ys = ap (λ (l : List ℕ). houseFieldBytes tagPair (houseFieldBytes tagName n ++ encode t) ++ l) (encode-join xs ys) ∙ sym (append-assoc (houseFieldBytes tagPair (houseFieldBytes tagName n ++ encode t)) (encodePairs xs) (encodePairs ys))
 
 pub and-got : {A : Type 0} (o : Out A) → andThen o (λ (x : A). Got x) ≡ o
 and-got (Got x) = refl
@@ -94,18 +96,18 @@ and-got (No i w) = refl
 
 -- the first that is due, and the others
 fields-first : (i : At) (gs : List Given) (δ : Due) (ds : List Due) →
-    fields (missing i) gs (δ ∷ ds) ≡ andThen (field (missing i δ (Got nothing)) δ (entryOf (δ .name) gs) (Got nothing)) (λ (ps : Pairs). andThen (fields (missing i) gs ds) (λ (qs : Pairs). Got (joinPairs ps qs)))
-fields-first i gs δ ds = go (entryOf (δ .name) gs) (fields (missing i) gs ds)
+    dueFields (missingDue i) gs (δ ∷ ds) ≡ andThen (dueField (missingDue i δ (Got no-pairs)) δ (entryOf (δ .name) gs) (Got no-pairs)) (λ (ps : Pairs). andThen (dueFields (missingDue i) gs ds) (λ (qs : Pairs). Got (joinPairs ps qs)))
+fields-first i gs δ ds = go (entryOf (δ .name) gs) (dueFields (missingDue i) gs ds)
   where
-    lacks : (b : Bool) (rest : Out Pairs) → cond b (No i reasonMissing) rest ≡ andThen (cond b (No i reasonMissing) (Got nothing)) (λ (ps : Pairs). andThen rest (λ (qs : Pairs). Got (joinPairs ps qs)))
+    lacks : (b : Bool) (rest : Out Pairs) → cond b (No i reasonMissing) rest ≡ andThen (cond b (No i reasonMissing) (Got no-pairs)) (λ (ps : Pairs). andThen rest (λ (qs : Pairs). Got (joinPairs ps qs)))
     lacks true rest = refl
     lacks false rest = sym (and-got rest)
 
-    has : (o : Out Tree) (rest : Out Pairs) → andThen o (λ (t : Tree). andThen rest (λ (ps : Pairs). Got (pair (δ .name) t ps))) ≡ andThen (andThen o (λ (t : Tree). Got (pair (δ .name) t nothing))) (λ (ps : Pairs). andThen rest (λ (qs : Pairs). Got (joinPairs ps qs)))
+    has : (o : Out Tree) (rest : Out Pairs) → andThen o (λ (t : Tree). andThen rest (λ (ps : Pairs). Got (pair (δ .name) t ps))) ≡ andThen (andThen o (λ (t : Tree). Got (pair (δ .name) t no-pairs))) (λ (ps : Pairs). andThen rest (λ (qs : Pairs). Got (joinPairs ps qs)))
     has (Got t) rest = refl
     has (No j w) rest = refl
 
-    go : (o : Option (Ref → Out Tree)) (rest : Out Pairs) → field (missing i δ rest) δ o rest ≡ andThen (field (missing i δ (Got nothing)) δ o (Got nothing)) (λ (ps : Pairs). andThen rest (λ (qs : Pairs). Got (joinPairs ps qs)))
+    go : (o : Option (Ref → Out Tree)) (rest : Out Pairs) → dueField (missingDue i δ rest) δ o rest ≡ andThen (dueField (missingDue i δ (Got no-pairs)) δ o (Got no-pairs)) (λ (ps : Pairs). andThen rest (λ (qs : Pairs). Got (joinPairs ps qs)))
     go none rest = lacks (isNonNull (δ .type)) rest
     go (some f) rest = has (f (δ .type)) rest
 
@@ -138,7 +140,7 @@ module _ (text limit at : ℕ) (p p′ : List ℕ) (x : Coerced) where
 
 module _ (t : List ℕ) (vars : Vars) (text : ℕ) (d : Doc) (n k kind h : ℕ) (dues : ℕ → List Due) (start limit from : ℕ) (p₀ : List ℕ) where
   abbrev pub fieldsFrom : ℕ → Out Pairs
-  fieldsFrom a = fields (missing (placedAt text h)) (givensAt t vars text d n k kind h) (dues a)
+  fieldsFrom a = dueFields (missingDue (placedAt text h)) (givensAt t vars text d n k kind h) (dues a)
 
   -- before the members from a on: the pairs of those before stand behind the three bytes kept free, as far as there is room
   pub record Fielded (p : List ℕ) (at a : ℕ) : Type 0 where
@@ -148,15 +150,15 @@ module _ (t : List ℕ) (vars : Vars) (text : ℕ) (d : Doc) (n k kind h : ℕ) 
 
   pub fields-start : (at : ℕ) → at ≡ placeOf limit (from + 3) → Fielded p₀ at start
   fields-start at a = record {
-    done = nothing;
-    put = subst (λ (x : ℕ). Put limit (encodePairs nothing) (placeOf limit (from + 3)) p₀ p₀ x) (sym a) (no-pairs-put limit (placeOf limit (from + 3)) p₀ (place-least limit (from + 3) (placeOf limit (from + 3)) refl));
+    done = no-pairs;
+    put = subst (λ (x : ℕ). Put limit (encodePairs no-pairs) (placeOf limit (from + 3)) p₀ p₀ x) (sym a) (no-pairs-put limit (placeOf limit (from + 3)) p₀ (place-least limit (from + 3) (placeOf limit (from + 3)) refl));
     rest = sym (and-got (fieldsFrom start));
   }
 
   module _ (p : List ℕ) (at a : ℕ) (g : Fielded p at a) where
     module _ (δ : Due) (stop : ℕ) (e : dues a ≡ δ ∷ dues stop) where
       turned : fieldsFrom a ≡ andThen (stepped t vars text d n k kind h δ) (λ (ps : Pairs). andThen (fieldsFrom stop) (λ (qs : Pairs). Got (joinPairs ps qs)))
-      turned = ap (fields (missing (placedAt text h)) (givensAt t vars text d n k kind h)) e ∙ fields-first (placedAt text h) (givensAt t vars text d n k kind h) δ (dues stop)
+      turned = ap (dueFields (missingDue (placedAt text h)) (givensAt t vars text d n k kind h)) e ∙ fields-first (placedAt text h) (givensAt t vars text d n k kind h) δ (dues stop)
 
       by-step : (o : Out Pairs) → stepped t vars text d n k kind h δ ≡ o → fieldsFrom start ≡ andThen (andThen o (λ (ps : Pairs). andThen (fieldsFrom stop) (λ (qs : Pairs). Got (joinPairs ps qs)))) (λ (ps : Pairs). Got (joinPairs (g .done) ps))
       by-step o q = g .rest ∙ ap (λ (y : Out Pairs). andThen y (λ (ps : Pairs). Got (joinPairs (g .done) ps))) (turned ∙ ap (λ (y : Out Pairs). andThen y (λ (ps : Pairs). andThen (fieldsFrom stop) (λ (qs : Pairs). Got (joinPairs ps qs)))) q)
@@ -180,7 +182,7 @@ module _ (t : List ℕ) (vars : Vars) (text : ℕ) (d : Doc) (n k kind h : ℕ) 
     pub fields-end : (p′ : List ℕ) (e : ℕ) → dues a ≡ [] → Closed limit from tagInput at p p′ e → Told text limit (andThen (fieldsFrom start) (λ (ps : Pairs). Got (Fields ps))) from p₀ p′ (UpTo e)
     fields-end p′ e q m =
         let o : fieldsFrom start ≡ Got (g .done)
-        = g .rest ∙ ap (λ (y : Out Pairs). andThen y (λ (ps : Pairs). Got (joinPairs (g .done) ps))) (ap (fields (missing (placedAt text h)) (givensAt t vars text d n k kind h)) q) ∙ ap Got (join-nothing (g .done)) in
+        = g .rest ∙ ap (λ (y : Out Pairs). andThen y (λ (ps : Pairs). Got (joinPairs (g .done) ps))) (ap (dueFields (missingDue (placedAt text h)) (givensAt t vars text d n k kind h)) q) ∙ ap Got (join-nothing (g .done)) in
         subst (λ (y : Out Pairs). Told text limit (andThen y (λ (ps : Pairs). Got (Fields ps))) from p₀ p′ (UpTo e)) (sym o)
         (e, refl, object-put limit (g .done) from (placeOf limit (from + 3)) at e p₀ p p′ refl (g .put) m)
 
@@ -202,23 +204,23 @@ module _ (t : List ℕ) (vars : Vars) (text : ℕ) (d : Doc) (n k kind h : ℕ) 
   es = heads (entriesAt text d n k kind h)
 
   abbrev given : Out Tree
-  given = andThen (fields (missing (placedAt text h)) (givensAt t vars text d n k kind h) (dues start)) (λ (ps : Pairs). Got (Fields ps))
+  given = andThen (dueFields (missingDue (placedAt text h)) (givensAt t vars text d n k kind h) (dues start)) (λ (ps : Pairs). Got (Fields ps))
 
-  pub object-repeated : Marks n text (repeated [] es) i → i < n → Told text limit (objected t vars text d n k kind h (dues start)) from p p (Refused i reasonRepeated)
-  object-repeated m l = subst (λ (o : Option At). Told text limit (unless o reasonRepeated (unless (unknown (dues start) es) reasonUnknown given)) from p p (Refused i reasonRepeated))
-      (sym (marked n text (repeated [] es) i m l)) (refl, refl)
+  pub object-repeated : Marks n text (repeatedEntry [] es) i → i < n → Told text limit (objected t vars text d n k kind h (dues start)) from p p (Refused i reasonRepeated)
+  object-repeated m l = subst (λ (o : Option At). Told text limit (unless o reasonRepeated (unless (unknownEntry (dues start) es) reasonUnknown given)) from p p (Refused i reasonRepeated))
+      (sym (marked n text (repeatedEntry [] es) i m l)) (refl, refl)
 
-  module _ (m : Marks n text (repeated [] es) i) (l : n ≤ i) (j : ℕ) (w : Marks n text (unknown (dues start) es) j) where
-    opened : (o : Option At) → unknown (dues start) es ≡ o → objected t vars text d n k kind h (dues start) ≡ unless o reasonUnknown given
+  module _ (m : Marks n text (repeatedEntry [] es) i) (l : n ≤ i) (j : ℕ) (w : Marks n text (unknownEntry (dues start) es) j) where
+    opened : (o : Option At) → unknownEntry (dues start) es ≡ o → objected t vars text d n k kind h (dues start) ≡ unless o reasonUnknown given
     opened o q =
-        ap (λ (x : Option At). unless x reasonRepeated (unless (unknown (dues start) es) reasonUnknown given)) (unmarked n text (repeated [] es) i m l)
+        ap (λ (x : Option At). unless x reasonRepeated (unless (unknownEntry (dues start) es) reasonUnknown given)) (unmarked n text (repeatedEntry [] es) i m l)
         ∙ ap (λ (x : Option At). unless x reasonUnknown given) q
 
     pub object-unknown : j < n → Told text limit (objected t vars text d n k kind h (dues start)) from p p (Refused j reasonUnknown)
-    object-unknown z = subst (λ (o : Out Tree). Told text limit o from p p (Refused j reasonUnknown)) (sym (opened (some (placedAt text j)) (marked n text (unknown (dues start) es) j w z))) (refl, refl)
+    object-unknown z = subst (λ (o : Out Tree). Told text limit o from p p (Refused j reasonUnknown)) (sym (opened (some (placedAt text j)) (marked n text (unknownEntry (dues start) es) j w z))) (refl, refl)
 
     pub object-fields : n ≤ j → (p′ : List ℕ) (x : Coerced) → Told text limit (andThen (fieldsFrom t vars text d n k kind h dues start limit from p start) (λ (ps : Pairs). Got (Fields ps))) from p p′ x → Told text limit (objected t vars text d n k kind h (dues start)) from p p′ x
-    object-fields z p′ x a = subst (λ (o : Out Tree). Told text limit o from p p′ x) (sym (opened none (unmarked n text (unknown (dues start) es) j w z))) a
+    object-fields z p′ x a = subst (λ (o : Out Tree). Told text limit o from p p′ x) (sym (opened none (unmarked n text (unknownEntry (dues start) es) j w z))) a
 
 -- what the members of an entry make due, where its bounds were read
 pub dues-here : (t book : List ℕ) (b : Booked t book) (number start end : ℕ) → number < countIn book → start ≡ startIn book number → end ≡ endIn book number → duesIn t start end ≡ duesOf (definitionOn t number .members)
@@ -256,8 +258,8 @@ next-none kind t at end f n e = subst (NextDue kind t at end) e n
 pub gives-name : (s held : List ℕ) (many : ℕ) (d : Doc) (n k kind h : ℕ) (x y : Name) (c : ℕ) → x ≡ y → Gives s held many d n k kind h x c → Gives s held many d n k kind h y c
 gives-name s held many d n k kind h x y c e g = subst (λ (z : Name). Gives s held many d n k kind h z c) e g
 
-pub name-put : (limit from first middle : ℕ) (p p₁ t : List ℕ) (at l : ℕ) (name : Name) → part t at l ≡ name → first ≡ placeOf limit (from + 3) → Put limit (fieldOf tagName (take (at + l - at) (drop at t))) first p p₁ middle →
-    Put limit (fieldOf tagName name) (placeOf limit (from + 3)) p p₁ middle
-name-put limit from first middle p p₁ t at l name e f q =
+pub name-put : (limit from pairFirst middle : ℕ) (p p₁ t : List ℕ) (at l : ℕ) (name : Name) → part t at l ≡ name → pairFirst ≡ placeOf limit (from + 3) → Put limit (houseFieldBytes tagName (take (at + l - at) (drop at t))) pairFirst p p₁ middle →
+    Put limit (houseFieldBytes tagName name) (placeOf limit (from + 3)) p p₁ middle
+name-put limit from pairFirst middle p p₁ t at l name e f q =
     let z : at + l - at ≡ l = omega arith in
-    subst (λ (x : ℕ). Put limit (fieldOf tagName name) x p p₁ middle) f (subst (λ (x : List ℕ). Put limit (fieldOf tagName x) first p p₁ middle) (ap (λ (m : ℕ). take m (drop at t)) z ∙ e) q)
+    subst (λ (x : ℕ). Put limit (houseFieldBytes tagName name) x p p₁ middle) f (subst (λ (x : List ℕ). Put limit (houseFieldBytes tagName x) pairFirst p p₁ middle) (ap (λ (m : ℕ). take m (drop at t)) z ∙ e) q)

@@ -18,8 +18,9 @@ use Rattle.query_rows.proofs.RowsIn.{row-none}
 use Rattle.paper_values.specs.ValueNumbers.{reasonKind}
 use Rattle.paper_values.specs.Values.{Name, At, Value, variable, integer, float, string, boolean, null, enum, list, object, Values, Entries, Due, Tree, Many, no-more, also, Out, Got, No, andThen}
 use Rattle.paper_values.specs.Kinds.{Kind, Input}
-use Rattle.paper_values.specs.Coercion.{nullAt, objectAt, inObject, missing, heads, coerce, coerceAll, givens}
-use Rattle.paper_values.specs.CoercionRules.{plain, one as alone}
+use Rattle.paper_values.specs.Computed.{nullAt, objectAt, inObject, missingDue, coerce, coerceAll, givens}
+use Rattle.paper_values.specs.Coercion.{heads}
+use Rattle.paper_values.specs.CoercionRules.{plainValue, singleValue as alone}
 use Rattle.paper_values.specs.RowValues.{placed, itemsFrom, entriesFrom, valueBy, valueAt}
 use Rattle.value_leaves.specs.Leaves.{sortOf}
 use Rattle.value_leaves.specs.declared.Wrote.{Wrote}
@@ -38,7 +39,7 @@ use Rattle.value_coerce.specs.Coercing.{Meant, listed, stood, objected}
 use Rattle.value_ones.proofs.PackLaws.{pack-list, pack-named, base-nullable}
 use Rattle.value_held.proofs.LevelLaws.{pick, at-level}
 
-alone-plain : (v : Value) → alone v ≡ true → plain v ≡ true
+alone-plain : (v : Value) → alone v ≡ true → plainValue v ≡ true
 alone-plain (variable i n) e = e
 alone-plain (integer i s) e = refl
 alone-plain (float i s) e = refl
@@ -50,7 +51,7 @@ alone-plain (list i vs) e = refl
 alone-plain (object i es) e = refl
 
 module _ (kinds : Name → Kind) (vars : Vars) where
-  at-non-null : (v : Value) (r : Ref) → plain v ≡ true → coerce kinds vars v (nonNull r) ≡ coerce kinds vars v r
+  at-non-null : (v : Value) (r : Ref) → plainValue v ≡ true → coerce kinds vars v (nonNull r) ≡ coerce kinds vars v r
   unfolding coerce
   at-non-null (variable i n) r e = absurd (let z : _≡_ {A = ℕ} 0 1 = cc in omega arith)
   at-non-null (integer i s) r e = refl
@@ -76,7 +77,7 @@ module _ (kinds : Name → Kind) (vars : Vars) where
 
 module _ (kinds : Name → Kind) (vars : Vars) (v : Value) where
   -- Non-Null outside says nothing of what is not null
-  plain-nullable : plain v ≡ true → (r : Ref) → coerce kinds vars v r ≡ coerce kinds vars v (nullableOf r)
+  plain-nullable : plainValue v ≡ true → (r : Ref) → coerce kinds vars v r ≡ coerce kinds vars v (nullableOf r)
   plain-nullable e (named n) = refl
   plain-nullable e (listOf r) = refl
   plain-nullable e (nonNull r) = at-non-null kinds vars v r e ∙ plain-nullable e r
@@ -95,16 +96,16 @@ list-at : (kinds : Name → Kind) (vars : Vars) (i : At) (vs : Values) (s : Ref)
 unfolding coerce
 list-at kinds vars i vs s = refl
 
-object-at : (kinds : Name → Kind) (vars : Vars) (i : At) (es : Entries) (m : Name) (ds : List Due) → kinds m ≡ Input ds → coerce kinds vars (object i es) (named m) ≡ inObject (missing i) (heads es) (givens kinds vars es) ds
+object-at : (kinds : Name → Kind) (vars : Vars) (i : At) (es : Entries) (m : Name) (ds : List Due) → kinds m ≡ Input ds → coerce kinds vars (object i es) (named m) ≡ inObject (missingDue i) (heads es) (givens kinds vars es) ds
 unfolding coerce
-object-at kinds vars i es m ds e = ap (objectAt i (inObject (missing i) (heads es) (givens kinds vars es))) e
+object-at kinds vars i es m ds e = ap (objectAt i (inObject (missingDue i) (heads es) (givens kinds vars es))) e
 
 module _ (text : ℕ) (d : Doc) (read : ℕ → Value) (i : ℕ) where
-  pub row-plain : (kindOf d i ≡ kindVariable → ⊥) → (kindOf d i ≡ kindNull → ⊥) → plain (valueBy text d read i) ≡ true
+  pub row-plain : (kindOf d i ≡ kindVariable → ⊥) → (kindOf d i ≡ kindNull → ⊥) → plainValue (valueBy text d read i) ≡ true
   unfolding valueBy
   row-plain a b = rw (ne-eqb (kindOf d i) kindVariable a, ne-eqb (kindOf d i) kindNull b)
-      (pick plain (eqb (kindOf d i) kindInteger) _ _ refl (pick plain (eqb (kindOf d i) kindFloat) _ _ refl (pick plain (eqb (kindOf d i) kindString) _ _ refl
-      (pick plain (eqb (kindOf d i) kindBoolean) _ _ refl (pick plain (eqb (kindOf d i) kindEnum) _ _ refl (pick plain (eqb (kindOf d i) kindList) _ _ refl refl))))))
+      (pick plainValue (eqb (kindOf d i) kindInteger) _ _ refl (pick plainValue (eqb (kindOf d i) kindFloat) _ _ refl (pick plainValue (eqb (kindOf d i) kindString) _ _ refl
+      (pick plainValue (eqb (kindOf d i) kindBoolean) _ _ refl (pick plainValue (eqb (kindOf d i) kindEnum) _ _ refl (pick plainValue (eqb (kindOf d i) kindList) _ _ refl refl))))))
 
   row-alone : (kindOf d i ≡ kindVariable → ⊥) → (kindOf d i ≡ kindNull → ⊥) → (kindOf d i ≡ kindList → ⊥) → alone (valueBy text d read i) ≡ true
   unfolding valueBy
@@ -148,8 +149,8 @@ module _ (t book : List ℕ) (vars : Vars) (text : ℕ) (d : Doc) (k i sort numb
   told-variable q e f = by-out (stood t vars text i r (vars (nameOf d i))) (ap (λ (v : Value). coerce (kindsIn t) vars v r) (at-level text d k i q ∙ value-variable text d (valueAt text d (k - 1)) i e)) f
 
   module _ (q : k ≡ 0 → ⊥) (nn : kindOf d i ≡ kindNull → ⊥) (nv : kindOf d i ≡ kindVariable → ⊥) where
-    is-plain : plain (valueAt text d k i) ≡ true
-    is-plain = ap plain (at-level text d k i q) ∙ row-plain text d (valueAt text d (k - 1)) i nv nn
+    is-plain : plainValue (valueAt text d k i) ≡ true
+    is-plain = ap plainValue (at-level text d k i q) ∙ row-plain text d (valueAt text d (k - 1)) i nv nn
 
     -- the list of a type that is none is refused
     pub told-kind : (u : ℕ) → packOf (nullableOf r) ≡ u → (u % 4 ≡ 2 → ⊥) → (u % 4 ≡ 1 → ⊥) → kindOf d i ≡ kindList → c ≡ Refused i reasonKind → Goal

@@ -10,8 +10,9 @@ use Rattle.paper.specs.Numbers.{kindVariable, kindNull, kindList, mostWrappers}
 use Rattle.paper_table.specs.References.{Ref}
 use Rattle.paper_table.proofs.ReferenceSizes.{wrappers as wrapperCount}
 use Rattle.paper_query.specs.Constructs.{Doc}
-use Rattle.paper_values.specs.Values.{Due, Tree, Many, Trees, Pairs, nothing, Out, Got, andThen}
-use Rattle.paper_values.specs.Coercion.{heads, missing, field, entryOf, inObject, held, coerceAll}
+use Rattle.paper_values.specs.Values.{Due, Tree, Many, Trees, Pairs, no-pairs, Out, Got, andThen}
+use Rattle.paper_values.specs.Coercion.{heads}
+use Rattle.paper_values.specs.Computed.{missingDue, dueField, entryOf, inObject, held, coerceAll}
 use Rattle.paper_values.specs.RowValues.{itemsFrom, valueAt}
 use Rattle.value_kinds.specs.Dues.{placedAt, DueIs}
 use Rattle.value_held.specs.Given.{Vars, kindsIn, entriesAt, givensAt}
@@ -45,8 +46,8 @@ stood t vars text i r o = held (kindsIn t) vars (placedAt text i) r o
 
 -- the object of row h, where these are due
 abbrev pub objected : List ℕ → Vars → ℕ → Doc → ℕ → ℕ → ℕ → ℕ → List Due → Out Tree
-objected t vars text d n k kind h ds = inObject (missing (placedAt text h)) (heads (entriesAt text d n k kind h)) (givensAt t vars text d n k kind h) ds
+objected t vars text d n k kind h ds = inObject (missingDue (placedAt text h)) (heads (entriesAt text d n k kind h)) (givensAt t vars text d n k kind h) ds
 
 -- one that is due in it
 abbrev pub stepped : List ℕ → Vars → ℕ → Doc → ℕ → ℕ → ℕ → ℕ → Due → Out Pairs
-stepped t vars text d n k kind h δ = field (missing (placedAt text h) δ (Got nothing)) δ (entryOf (δ .name) (givensAt t vars text d n k kind h)) (Got nothing)
+stepped t vars text d n k kind h δ = dueField (missingDue (placedAt text h) δ (Got no-pairs)) δ (entryOf (δ .name) (givensAt t vars text d n k kind h)) (Got no-pairs)

@@ -21,7 +21,7 @@ use Rattle.query_rows.proofs.RowsIn.{rows-count, row-none}
 use Rattle.query_rows.proofs.ReadRows.{Taken}
 use Rattle.query_links.specs.Links.{nextWith}
 use Rattle.query_links.proofs.Nexts.{next-all, find-yes, find-no}
-use Rattle.paper_values.specs.RowValues.{refFrom}
+use Rattle.paper_values.specs.RowValues.{refOfWrappers}
 use Rattle.paper_values.specs.DocumentDues.{refOr, declaredRef}
 use Rattle.paper_values.proofs.RowValuesLaws.{depth, ref-back}
 use Rattle.value_kinds.specs.Dues.{Sorted, DueIs, Fits}
@@ -72,23 +72,23 @@ wrappers-fit (nonNull r) (suc k) h = omega (arith, wrappers-fit r k (omega arith
 
 -- a row's wrappers, read back
 module _ (n : List ℕ) (w : ℕ) (p : Packs mostWrappers w) where
-  read-back : refFrom mostWrappers n w ≡ rebased n (p .0)
+  read-back : refOfWrappers mostWrappers n w ≡ rebased n (p .0)
   read-back =
-      subst (λ (x : ℕ). refFrom mostWrappers n x ≡ rebased n (p .0)) (rebased-wrappers n (p .0) ∙ p .2)
-      (subst (λ (m : List ℕ). refFrom mostWrappers m (wrappersOf (rebased n (p .0))) ≡ rebased n (p .0)) (rebased-base n (p .0))
+      subst (λ (x : ℕ). refOfWrappers mostWrappers n x ≡ rebased n (p .0)) (rebased-wrappers n (p .0) ∙ p .2)
+      (subst (λ (m : List ℕ). refOfWrappers mostWrappers m (wrappersOf (rebased n (p .0))) ≡ rebased n (p .0)) (rebased-base n (p .0))
       (ref-back (rebased n (p .0)) mostWrappers (omega (arith, rebased-depth n (p .0), p .1))))
 
-  pub packs-back : packOf (refFrom mostWrappers n w) ≡ w
+  pub packs-back : packOf (refOfWrappers mostWrappers n w) ≡ w
   packs-back = ap packOf read-back ∙ pack-wrappers (rebased n (p .0)) ∙ rebased-wrappers n (p .0) ∙ p .2
 
-  pub base-back : baseOf (refFrom mostWrappers n w) ≡ n
+  pub base-back : baseOf (refOfWrappers mostWrappers n w) ≡ n
   base-back = ap baseOf read-back ∙ rebased-base n (p .0)
 
   pub few-back : w < packLimit
   few-back = omega (arith, wrappers-fit (p .0) mostWrappers (p .1), p .2)
 
-none-back : (s rows : List ℕ) (n i : ℕ) → n ≤ i → named [] ≡ refFrom mostWrappers (spelt (docOf s rows n) (rowIn rows n i)) (rowIn rows n i .extra)
-unfolding refFrom
+none-back : (s rows : List ℕ) (n i : ℕ) → n ≤ i → named [] ≡ refOfWrappers mostWrappers (spelt (docOf s rows n) (rowIn rows n i)) (rowIn rows n i .extra)
+unfolding refOfWrappers
 none-back s rows n i h = rw (row-none rows n i h) refl
 
 -- the declared type is that of the row found, also where there is none
@@ -96,14 +96,14 @@ module _ (s rows : List ℕ) (n v i : ℕ) (e : i ≡ firstAt (isDeclared v) (ro
   abbrev there : Row
   there = rowIn rows n i
 
-  declared-row : declaredRef (docOf s rows n) v ≡ refFrom mostWrappers (spelt (docOf s rows n) there) (there .extra)
+  declared-row : declaredRef (docOf s rows n) v ≡ refOfWrappers mostWrappers (spelt (docOf s rows n) there) (there .extra)
   unfolding declared
   declared-row = go (decLt i n)
     where
       first : nextWith (isDeclared v) (rowsIn rows n) 0 ≡ i
       first = next-all (isDeclared v) (rowsIn rows n) ∙ sym e
 
-      go : Dec (i < n) → declaredRef (docOf s rows n) v ≡ refFrom mostWrappers (spelt (docOf s rows n) there) (there .extra)
+      go : Dec (i < n) → declaredRef (docOf s rows n) v ≡ refOfWrappers mostWrappers (spelt (docOf s rows n) there) (there .extra)
       go (yes h) =
           ap (λ (o : Option Row). refOr (then o (λ r. some (shapeIn (docOf s rows n) r))))
           (find-yes (isDeclared v) (rowsIn rows n) noRow 0 (omega (arith, first, rows-count rows n)) ∙ ap (λ (j : ℕ). some (rowIn rows n j)) first)
@@ -111,12 +111,12 @@ module _ (s rows : List ℕ) (n v i : ℕ) (e : i ≡ firstAt (isDeclared v) (ro
           ap (λ (o : Option Row). refOr (then o (λ r. some (shapeIn (docOf s rows n) r)))) (find-no (isDeclared v) (rowsIn rows n) 0 (omega (arith, first, rows-count rows n)))
           ∙ none-back s rows n i (omega arith)
 
-  pub declared-due : (t book : List ℕ) (at size sort number wrappers : ℕ) → Taken Document s rows n → at ≡ there .name → size ≡ there .size → Sorted t book (part s at size) sort number → wrappers ≡ there .extra →
+  pub declared-due : (t book : List ℕ) (at size sort number wrappers : ℕ) → Taken Document s rows n → at ≡ there .nameStart → size ≡ there .nameLength → Sorted t book (part s at size) sort number → wrappers ≡ there .extra →
       DueIs t book (declaredRef (docOf s rows n) v) sort number wrappers × Fits book sort number wrappers
   declared-due t book at size sort number wrappers k a z h q =
       let p = taken-packs Document tt s rows n k i in
       let d = spelt (docOf s rows n) there in
-      let m : part s at size ≡ d = ap (λ (x : ℕ). part s x size) a ∙ ap (part s (there .name)) z in (
+      let m : part s at size ≡ d = ap (λ (x : ℕ). part s x size) a ∙ ap (part s (there .nameStart)) z in (
         rw declared-row
             (record { sorted = subst (λ (x : List ℕ). Sorted t book x sort number) (m ∙ sym (base-back d (there .extra) p)) h; packs = packs-back d (there .extra) p ∙ sym q }),
         record { there = h .there; few = subst (λ (x : ℕ). x < packLimit) (sym q) (few-back d (there .extra) p) },

@@ -8,6 +8,7 @@ use native.Mathlib.Decide.{decLt}
 use native.Mathlib.Omega.{arith}
 use lib.Dec.{eqb}
 use borrow.Author.Tests.{eqb-true, lt-ltb, le-ltb, eq-eqb, ne-eqb, lt-leb, le-leb}
+use Rattle.paper.proofs.Bools.{and-right as and-second}
 use Rattle.paper.specs.Numbers.{noParent, kindTypeReference, kindVariable, kindObject}
 use Rattle.paper.specs.Rows.{Row}
 use Rattle.paper_table.specs.Lists.{firstAt}
@@ -75,10 +76,6 @@ module _ (p : Row → Bool) (v : ℕ) (only : (r : Row) → p r ≡ true → r .
           let m = only (rowIn rows n i) (next-passes p (rowsIn rows n) noRow j (omega (arith, rows-count rows n))) in
           absurd (omega (arith, u, q, k .after, next-least p (rowsIn rows n) j, past-child (rowsIn rows n) v t (omega (arith, rows-count rows n, w .few)) i (omega (arith, rows-count rows n)) (omega (arith, k .after, next-least p (rowsIn rows n) j)) m))
       go (no l) = omega (arith, k .same, k .most, next-most p (rowsIn rows n) j (omega (arith, rows-count rows n, k .most)), rows-count rows n)
-
-and-second : (a b : Bool) → (a && b) ≡ true → b ≡ true
-and-second true b e = e
-and-second false b e = absurd (true≢false (sym e))
 
 pub default-below : (v : ℕ) (r : Row) → isDefault v r ≡ true → r .parent ≡ v
 default-below v r e = eqb-true (r .parent) v (and-second (isValue r) (below v r) e)

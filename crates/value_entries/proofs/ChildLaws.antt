@@ -18,7 +18,7 @@ use Rattle.query_rows.proofs.RowsIn.{rows-count, parent-before}
 use Rattle.query_subtrees.specs.Past.{pastOf, Parented}
 use Rattle.query_subtrees.proofs.PastLaws.{past-after, past-most, past-parents, past-child, past-hop, past-first}
 use Rattle.paper_values.specs.Values.{Name, Value, Due}
-use Rattle.paper_values.specs.Coercion.{heads, repeated, unknown}
+use Rattle.paper_values.specs.Coercion.{heads, repeatedEntry, unknownEntry}
 use Rattle.paper_values.specs.RowValues.{entriesFrom}
 use Rattle.value_entries.specs.Entered.{Treed, isEntry, namesBefore, entryAt, childAt, dueNamed}
 use Rattle.value_entries.proofs.EntryLaws.{seen-later, seen-step, seen-start, repeated-on, repeated-start, unknown-on, entry-on, child-on, child-here, child-end, child-reached, passed}
@@ -117,18 +117,18 @@ module _ (d : Doc) (h n c r : ℕ) (e : r ≡ childAt d h (n - (c + 1)) (c + 1))
     seen-next x i f g = sym (seen-hop x) ∙ seen-step d k h x c i ∙ rw (f, g) refl
 
     module _ (text : ℕ) (read : ℕ → Value) where
-      repeated-hop : repeated (namesBefore d k h (c + 1 - (h + 1))) (heads (entriesFrom text d read k h (n - (c + 1)) (c + 1))) ≡ repeated (namesBefore d k h (r - (h + 1))) (heads (entriesFrom text d read k h (n - r) r))
-      repeated-hop = hop (λ (j : ℕ). repeated (namesBefore d k h (j - (h + 1))) (heads (entriesFrom text d read k h (n - j) j))) (λ j i m q. repeated-on d k h text read n j (omega arith) m (no-entry d k h j (anyOf (same (nameOf d j)) (namesBefore d k h (j - (h + 1)))) q))
+      repeated-hop : repeatedEntry (namesBefore d k h (c + 1 - (h + 1))) (heads (entriesFrom text d read k h (n - (c + 1)) (c + 1))) ≡ repeatedEntry (namesBefore d k h (r - (h + 1))) (heads (entriesFrom text d read k h (n - r) r))
+      repeated-hop = hop (λ (j : ℕ). repeatedEntry (namesBefore d k h (j - (h + 1))) (heads (entriesFrom text d read k h (n - j) j))) (λ j i m q. repeated-on d k h text read n j (omega arith) m (no-entry d k h j (anyOf (same (nameOf d j)) (namesBefore d k h (j - (h + 1)))) q))
 
       pub repeated-next : h < c → c < n → isEntry d k h c && anyOf (same (nameOf d c)) (namesBefore d k h (c - (h + 1))) ≡ false →
-          repeated (namesBefore d k h (c - (h + 1))) (heads (entriesFrom text d read k h (n - c) c)) ≡ repeated (namesBefore d k h (r - (h + 1))) (heads (entriesFrom text d read k h (n - r) r))
+          repeatedEntry (namesBefore d k h (c - (h + 1))) (heads (entriesFrom text d read k h (n - c) c)) ≡ repeatedEntry (namesBefore d k h (r - (h + 1))) (heads (entriesFrom text d read k h (n - r) r))
       repeated-next i m f = repeated-on d k h text read n c i m f ∙ repeated-hop
 
-      pub unknown-hop : (ds : List Due) → unknown ds (heads (entriesFrom text d read k h (n - (c + 1)) (c + 1))) ≡ unknown ds (heads (entriesFrom text d read k h (n - r) r))
-      unknown-hop ds = hop (λ (j : ℕ). unknown ds (heads (entriesFrom text d read k h (n - j) j))) (λ j i m q. unknown-on d k h text read ds (anyOf (dueNamed (nameOf d j)) ds) j refl n m (no-entry d k h j (not (anyOf (dueNamed (nameOf d j)) ds)) q))
+      pub unknown-hop : (ds : List Due) → unknownEntry ds (heads (entriesFrom text d read k h (n - (c + 1)) (c + 1))) ≡ unknownEntry ds (heads (entriesFrom text d read k h (n - r) r))
+      unknown-hop ds = hop (λ (j : ℕ). unknownEntry ds (heads (entriesFrom text d read k h (n - j) j))) (λ j i m q. unknown-on d k h text read ds (anyOf (dueNamed (nameOf d j)) ds) j refl n m (no-entry d k h j (not (anyOf (dueNamed (nameOf d j)) ds)) q))
 
       pub unknown-next : (ds : List Due) → c < n → isEntry d k h c && not (anyOf (dueNamed (nameOf d c)) ds) ≡ false →
-          unknown ds (heads (entriesFrom text d read k h (n - c) c)) ≡ unknown ds (heads (entriesFrom text d read k h (n - r) r))
+          unknownEntry ds (heads (entriesFrom text d read k h (n - c) c)) ≡ unknownEntry ds (heads (entriesFrom text d read k h (n - r) r))
       unknown-next ds m f = unknown-on d k h text read ds (anyOf (dueNamed (nameOf d c)) ds) c refl n m f ∙ unknown-hop ds
 
     pub entry-hop : (x : Name) → entryAt d k h x (n - (c + 1)) (c + 1) ≡ entryAt d k h x (n - r) r
@@ -142,7 +142,7 @@ module _ (d : Doc) (k h n r : ℕ) (e : r ≡ childAt d h (n - (h + 1)) (h + 1))
   pub seen-first : (x : Name) → anyOf (same x) (namesBefore d k h (r - (h + 1))) ≡ false
   seen-first x = sym (seen-hop d h n h r e k (omega arith) x) ∙ seen-start d k h x
 
-  pub repeated-first : (text : ℕ) (read : ℕ → Value) → repeated [] (heads (entriesFrom text d read k h (n - (h + 1)) (h + 1))) ≡ repeated (namesBefore d k h (r - (h + 1))) (heads (entriesFrom text d read k h (n - r) r))
+  pub repeated-first : (text : ℕ) (read : ℕ → Value) → repeatedEntry [] (heads (entriesFrom text d read k h (n - (h + 1)) (h + 1))) ≡ repeatedEntry (namesBefore d k h (r - (h + 1))) (heads (entriesFrom text d read k h (n - r) r))
   repeated-first text read = repeated-start d k h text read n ∙ repeated-hop d h n h r e k (omega arith) text read
 
 -- whether a name is seen before row c, from whether it is before row j

@@ -7,8 +7,7 @@ use borrow.Author.Tests.{eq-eqb, ne-eqb}
 use Rattle.paper.specs.Numbers.{kindArgument}
 use Rattle.paper_table.specs.TableNumbers.{tagArgument}
 use Rattle.paper_table.specs.Lists.{anyOf, gather}
-use Rattle.paper_table.specs.Types.{Argument, Member}
-use Rattle.paper_table.specs.Rules.{memberNamed, argumentNamed}
+use Rattle.paper_table.specs.Types.{Argument, Member, memberNamed, argumentNamed}
 use Rattle.table_members.specs.Members.{First, membersIn, argumentsIn, memberFrom, argumentFrom, NextMember}
 use Rattle.table_members.specs.declared.FieldFound.{FieldFound}
 use Rattle.table_members.specs.declared.FieldFound.the-variants.{Found, Nothing}

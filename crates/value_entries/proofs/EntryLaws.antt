@@ -7,24 +7,18 @@ use Prim.Native.Nat.{ℕ, zero, suc, _+_, _-_, _≤_, _<_}
 use native.Mathlib.Omega.{arith}
 use lib.Dec.{eqb}
 use borrow.Author.Tests.{eqb-true, eqb-false, eq-eqb, ne-eqb}
+use Rattle.paper.proofs.Bools.{or-true-right as or-true}
 use Rattle.paper.specs.Tokens.{same}
 use Rattle.paper_table.specs.Lists.{anyOf}
 use Rattle.paper_table.specs.References.{Ref}
 use Rattle.paper_query.specs.Constructs.{Doc, parentOf, nameOf}
 use Rattle.paper_values.specs.Values.{Name, At, Value, Due, entry, Tree, Out}
 use Rattle.paper_values.specs.Kinds.{Kind}
-use Rattle.paper_values.specs.Coercion.{heads, repeated, unknown, entryOf, leftOut, coerce, givens}
+use Rattle.paper_values.specs.Coercion.{heads, repeatedEntry, unknownEntry, leftOut}
+use Rattle.paper_values.specs.Computed.{entryOf, coerce, givens}
 use Rattle.paper_values.specs.RowValues.{placed, itemsFrom, entriesFrom}
 use Rattle.value_kinds.proofs.KindLaws.{same-sym}
 use Rattle.value_entries.specs.Entered.{isEntry, namesBefore, entryAt, childAt, Marks}
-
-and-true-left : (a b : Bool) → a && b ≡ true → a ≡ true
-and-true-left true b e = refl
-and-true-left false b e = e
-
-or-true : (a b : Bool) → b ≡ true → a || b ≡ true
-or-true true b e = refl
-or-true false b e = e
 
 -- one row less
 pub one-less : (n c : ℕ) → c < n → n - c ≡ suc (n - (c + 1))
@@ -89,70 +83,70 @@ module _ (d : Doc) (k h : ℕ) where
 
     -- a row that repeats no name is passed over
     pub repeated-on : (n c : ℕ) → h < c → c < n → isEntry d k h c && anyOf (same (nameOf d c)) (namesBefore d k h (c - (h + 1))) ≡ false →
-        repeated (namesBefore d k h (c - (h + 1))) (heads (entriesFrom text d read k h (n - c) c)) ≡ repeated (namesBefore d k h (c + 1 - (h + 1))) (heads (entriesFrom text d read k h (n - (c + 1)) (c + 1)))
+        repeatedEntry (namesBefore d k h (c - (h + 1))) (heads (entriesFrom text d read k h (n - c) c)) ≡ repeatedEntry (namesBefore d k h (c + 1 - (h + 1))) (heads (entriesFrom text d read k h (n - (c + 1)) (c + 1)))
     repeated-on n c l i e = go (isEntry d k h c) refl e
       where
         go : (b : Bool) → isEntry d k h c ≡ b → b && anyOf (same (nameOf d c)) (namesBefore d k h (c - (h + 1))) ≡ false →
-            repeated (namesBefore d k h (c - (h + 1))) (heads (entriesFrom text d read k h (n - c) c)) ≡ repeated (namesBefore d k h (c + 1 - (h + 1))) (heads (entriesFrom text d read k h (n - (c + 1)) (c + 1)))
+            repeatedEntry (namesBefore d k h (c - (h + 1))) (heads (entriesFrom text d read k h (n - c) c)) ≡ repeatedEntry (namesBefore d k h (c + 1 - (h + 1))) (heads (entriesFrom text d read k h (n - (c + 1)) (c + 1)))
         go true q f =
-            ap (λ (m : ℕ). repeated (namesBefore d k h (c - (h + 1))) (heads (entriesFrom text d read k h m c))) (one-less n c i)
-            ∙ ap (repeated (namesBefore d k h (c - (h + 1)))) (entries-step (n - (c + 1)) c true q)
-            ∙ ap (λ (b : Bool). cond b (some (placed text d c)) (repeated (nameOf d c ∷ namesBefore d k h (c - (h + 1))) (heads (entriesFrom text d read k h (n - (c + 1)) (c + 1))))) f
-            ∙ ap (λ (x : List Name). repeated x (heads (entriesFrom text d read k h (n - (c + 1)) (c + 1)))) (sym (names-more c true l q))
+            ap (λ (m : ℕ). repeatedEntry (namesBefore d k h (c - (h + 1))) (heads (entriesFrom text d read k h m c))) (one-less n c i)
+            ∙ ap (repeatedEntry (namesBefore d k h (c - (h + 1)))) (entries-step (n - (c + 1)) c true q)
+            ∙ ap (λ (b : Bool). cond b (some (placed text d c)) (repeatedEntry (nameOf d c ∷ namesBefore d k h (c - (h + 1))) (heads (entriesFrom text d read k h (n - (c + 1)) (c + 1))))) f
+            ∙ ap (λ (x : List Name). repeatedEntry x (heads (entriesFrom text d read k h (n - (c + 1)) (c + 1)))) (sym (names-more c true l q))
         go false q f =
-            ap (λ (m : ℕ). repeated (namesBefore d k h (c - (h + 1))) (heads (entriesFrom text d read k h m c))) (one-less n c i)
-            ∙ ap (repeated (namesBefore d k h (c - (h + 1)))) (entries-step (n - (c + 1)) c false q)
-            ∙ ap (λ (x : List Name). repeated x (heads (entriesFrom text d read k h (n - (c + 1)) (c + 1)))) (sym (names-more c false l q))
+            ap (λ (m : ℕ). repeatedEntry (namesBefore d k h (c - (h + 1))) (heads (entriesFrom text d read k h m c))) (one-less n c i)
+            ∙ ap (repeatedEntry (namesBefore d k h (c - (h + 1)))) (entries-step (n - (c + 1)) c false q)
+            ∙ ap (λ (x : List Name). repeatedEntry x (heads (entriesFrom text d read k h (n - (c + 1)) (c + 1)))) (sym (names-more c false l q))
 
     pub repeated-here : (n c : ℕ) → c < n → isEntry d k h c && anyOf (same (nameOf d c)) (namesBefore d k h (c - (h + 1))) ≡ true →
-        repeated (namesBefore d k h (c - (h + 1))) (heads (entriesFrom text d read k h (n - c) c)) ≡ some (placed text d c)
+        repeatedEntry (namesBefore d k h (c - (h + 1))) (heads (entriesFrom text d read k h (n - c) c)) ≡ some (placed text d c)
     repeated-here n c i e = go (isEntry d k h c) refl e
       where
         go : (b : Bool) → isEntry d k h c ≡ b → b && anyOf (same (nameOf d c)) (namesBefore d k h (c - (h + 1))) ≡ true →
-            repeated (namesBefore d k h (c - (h + 1))) (heads (entriesFrom text d read k h (n - c) c)) ≡ some (placed text d c)
+            repeatedEntry (namesBefore d k h (c - (h + 1))) (heads (entriesFrom text d read k h (n - c) c)) ≡ some (placed text d c)
         go true q f =
-            ap (λ (m : ℕ). repeated (namesBefore d k h (c - (h + 1))) (heads (entriesFrom text d read k h m c))) (one-less n c i)
-            ∙ ap (repeated (namesBefore d k h (c - (h + 1)))) (entries-step (n - (c + 1)) c true q)
-            ∙ ap (λ (b : Bool). cond b (some (placed text d c)) (repeated (nameOf d c ∷ namesBefore d k h (c - (h + 1))) (heads (entriesFrom text d read k h (n - (c + 1)) (c + 1))))) f
+            ap (λ (m : ℕ). repeatedEntry (namesBefore d k h (c - (h + 1))) (heads (entriesFrom text d read k h m c))) (one-less n c i)
+            ∙ ap (repeatedEntry (namesBefore d k h (c - (h + 1)))) (entries-step (n - (c + 1)) c true q)
+            ∙ ap (λ (b : Bool). cond b (some (placed text d c)) (repeatedEntry (nameOf d c ∷ namesBefore d k h (c - (h + 1))) (heads (entriesFrom text d read k h (n - (c + 1)) (c + 1))))) f
         go false q f = absurd (let z : _≡_ {A = ℕ} 0 1 = cc in omega arith)
 
-    pub repeated-start : (n : ℕ) → repeated [] (heads (entriesFrom text d read k h (n - (h + 1)) (h + 1))) ≡ repeated (namesBefore d k h (h + 1 - (h + 1))) (heads (entriesFrom text d read k h (n - (h + 1)) (h + 1)))
+    pub repeated-start : (n : ℕ) → repeatedEntry [] (heads (entriesFrom text d read k h (n - (h + 1)) (h + 1))) ≡ repeatedEntry (namesBefore d k h (h + 1 - (h + 1))) (heads (entriesFrom text d read k h (n - (h + 1)) (h + 1)))
     unfolding namesBefore
     repeated-start n = let z : h + 1 - (h + 1) ≡ 0 = omega arith in rw z refl
 
-    pub repeated-end : (seen : List Name) (n c : ℕ) → n ≤ c → repeated seen (heads (entriesFrom text d read k h (n - c) c)) ≡ none
+    pub repeated-end : (seen : List Name) (n c : ℕ) → n ≤ c → repeatedEntry seen (heads (entriesFrom text d read k h (n - c) c)) ≡ none
     unfolding entriesFrom
-    repeated-end seen n c l = let z : n - c ≡ 0 = omega arith in ap (λ (m : ℕ). repeated seen (heads (entriesFrom text d read k h m c))) z
+    repeated-end seen n c l = let z : n - c ≡ 0 = omega arith in ap (λ (m : ℕ). repeatedEntry seen (heads (entriesFrom text d read k h m c))) z
 
     -- the same of names that nothing due has
     module _ (ds : List Due) (known : Bool) (c : ℕ) (e : anyOf (λ (x : Due). same (nameOf d c) (x .name)) ds ≡ known) where
-      pub unknown-on : (n : ℕ) → c < n → isEntry d k h c && not known ≡ false → unknown ds (heads (entriesFrom text d read k h (n - c) c)) ≡ unknown ds (heads (entriesFrom text d read k h (n - (c + 1)) (c + 1)))
+      pub unknown-on : (n : ℕ) → c < n → isEntry d k h c && not known ≡ false → unknownEntry ds (heads (entriesFrom text d read k h (n - c) c)) ≡ unknownEntry ds (heads (entriesFrom text d read k h (n - (c + 1)) (c + 1)))
       unknown-on n i f = go (isEntry d k h c) refl known e f
         where
           go : (b : Bool) → isEntry d k h c ≡ b → (x : Bool) → anyOf (λ (x : Due). same (nameOf d c) (x .name)) ds ≡ x → b && not x ≡ false →
-              unknown ds (heads (entriesFrom text d read k h (n - c) c)) ≡ unknown ds (heads (entriesFrom text d read k h (n - (c + 1)) (c + 1)))
+              unknownEntry ds (heads (entriesFrom text d read k h (n - c) c)) ≡ unknownEntry ds (heads (entriesFrom text d read k h (n - (c + 1)) (c + 1)))
           go true q true y g =
-              ap (λ (m : ℕ). unknown ds (heads (entriesFrom text d read k h m c))) (one-less n c i)
-              ∙ ap (unknown ds) (entries-step (n - (c + 1)) c true q)
-              ∙ ap (λ (b : Bool). cond b (unknown ds (heads (entriesFrom text d read k h (n - (c + 1)) (c + 1)))) (some (placed text d c))) y
+              ap (λ (m : ℕ). unknownEntry ds (heads (entriesFrom text d read k h m c))) (one-less n c i)
+              ∙ ap (unknownEntry ds) (entries-step (n - (c + 1)) c true q)
+              ∙ ap (λ (b : Bool). cond b (unknownEntry ds (heads (entriesFrom text d read k h (n - (c + 1)) (c + 1)))) (some (placed text d c))) y
           go true q false y g = absurd (let z : _≡_ {A = ℕ} 0 1 = cc in omega arith)
-          go false q x y g = ap (λ (m : ℕ). unknown ds (heads (entriesFrom text d read k h m c))) (one-less n c i) ∙ ap (unknown ds) (entries-step (n - (c + 1)) c false q)
+          go false q x y g = ap (λ (m : ℕ). unknownEntry ds (heads (entriesFrom text d read k h m c))) (one-less n c i) ∙ ap (unknownEntry ds) (entries-step (n - (c + 1)) c false q)
 
-      pub unknown-here : (n : ℕ) → c < n → isEntry d k h c && not known ≡ true → unknown ds (heads (entriesFrom text d read k h (n - c) c)) ≡ some (placed text d c)
+      pub unknown-here : (n : ℕ) → c < n → isEntry d k h c && not known ≡ true → unknownEntry ds (heads (entriesFrom text d read k h (n - c) c)) ≡ some (placed text d c)
       unknown-here n i f = go (isEntry d k h c) refl known e f
         where
           go : (b : Bool) → isEntry d k h c ≡ b → (x : Bool) → anyOf (λ (x : Due). same (nameOf d c) (x .name)) ds ≡ x → b && not x ≡ true →
-              unknown ds (heads (entriesFrom text d read k h (n - c) c)) ≡ some (placed text d c)
+              unknownEntry ds (heads (entriesFrom text d read k h (n - c) c)) ≡ some (placed text d c)
           go true q true y g = absurd (let z : _≡_ {A = ℕ} 0 1 = cc in omega arith)
           go true q false y g =
-              ap (λ (m : ℕ). unknown ds (heads (entriesFrom text d read k h m c))) (one-less n c i)
-              ∙ ap (unknown ds) (entries-step (n - (c + 1)) c true q)
-              ∙ ap (λ (b : Bool). cond b (unknown ds (heads (entriesFrom text d read k h (n - (c + 1)) (c + 1)))) (some (placed text d c))) y
+              ap (λ (m : ℕ). unknownEntry ds (heads (entriesFrom text d read k h m c))) (one-less n c i)
+              ∙ ap (unknownEntry ds) (entries-step (n - (c + 1)) c true q)
+              ∙ ap (λ (b : Bool). cond b (unknownEntry ds (heads (entriesFrom text d read k h (n - (c + 1)) (c + 1)))) (some (placed text d c))) y
           go false q x y g = absurd (let z : _≡_ {A = ℕ} 0 1 = cc in omega arith)
 
-    pub unknown-end : (ds : List Due) (n c : ℕ) → n ≤ c → unknown ds (heads (entriesFrom text d read k h (n - c) c)) ≡ none
+    pub unknown-end : (ds : List Due) (n c : ℕ) → n ≤ c → unknownEntry ds (heads (entriesFrom text d read k h (n - c) c)) ≡ none
     unfolding entriesFrom
-    unknown-end ds n c l = let z : n - c ≡ 0 = omega arith in ap (λ (m : ℕ). unknown ds (heads (entriesFrom text d read k h m c))) z
+    unknown-end ds n c l = let z : n - c ≡ 0 = omega arith in ap (λ (m : ℕ). unknownEntry ds (heads (entriesFrom text d read k h m c))) z
 
   -- the entry of a name
   pub entry-on : (x : Name) (n c : ℕ) → c < n → isEntry d k h c && same (nameOf d c) x ≡ false → entryAt d k h x (n - c) c ≡ entryAt d k h x (n - (c + 1)) (c + 1)

@@ -11,14 +11,14 @@ ghost use Prim.Native.Nat.{ℕ, _+_, _-_, _≤_, _<_};
 ghost use lib.ListN.{length};
 ghost use Rattle.paper.specs.Tokens.{same};
 ghost use Rattle.paper_table.specs.Lists.{anyOf};
-ghost use Rattle.paper_table.specs.Rules.{argumentNamed};
+ghost use Rattle.paper_table.specs.Types.{argumentNamed};
 ghost use Rattle.paper_query.specs.Constructs.{nameOf};
 ghost use Rattle.table_fields.specs.Fields.{Bounds};
 ghost use Rattle.table_book.specs.Book.{part};
 ghost use Rattle.table_members.specs.Members.{argumentsIn};
 ghost use Rattle.query_rows.specs.Rowed.{rowIn, docOf, Rowed};
 ghost use Rattle.paper_values.specs.Values.{Value};
-ghost use Rattle.paper_values.specs.Coercion.{heads, repeated, unknown};
+ghost use Rattle.paper_values.specs.Coercion.{heads, repeatedEntry, unknownEntry};
 ghost use Rattle.paper_values.specs.RowValues.{entriesFrom};
 ghost use Rattle.value_entries.specs.Entered.{Treed, isEntry, namesBefore, entryAt, childAt, dueNamed, duesBy, NextDue, Marks};
 
@@ -105,7 +105,7 @@ fn is_repeated(
 // The first entry whose name an earlier one has; n if there is none.
 pub fn first_repeated(s: &[u8], rows: &[u32], n: usize, past: &[u32], h: usize, kind: u32) -> usize
     requires { ⌜ Treed (now s) (now rows) n (now past) × (h < n) ⌝ }
-    ensures { λ r. ⌜ ((text : ℕ) (read : ℕ → Value) → Marks n text (repeated [] (heads (entriesFrom text (docOf (now (s .entry)) (now (rows .entry)) n) read kind h (n - (h + 1)) (h + 1)))) r) ⌝ }
+    ensures { λ r. ⌜ ((text : ℕ) (read : ℕ → Value) → Marks n text (repeatedEntry [] (heads (entriesFrom text (docOf (now (s .entry)) (now (rows .entry)) n) read kind h (n - (h + 1)) (h + 1)))) r) ⌝ }
 {
     let mut c = first_child(s, rows, n, past, h);
     while c < n {
@@ -206,7 +206,7 @@ pub fn first_unknown(
     kind: u32,
 ) -> usize
     requires { ⌜ Bounds (now t) start end × Treed (now s) (now rows) n (now past) × (h < n) ⌝ }
-    ensures { λ r. ⌜ ((text : ℕ) (read : ℕ → Value) → Marks n text (unknown (duesBy kind (now (t .entry)) start end) (heads (entriesFrom text (docOf (now (s .entry)) (now (rows .entry)) n) read kind h (n - (h + 1)) (h + 1)))) r) ⌝ }
+    ensures { λ r. ⌜ ((text : ℕ) (read : ℕ → Value) → Marks n text (unknownEntry (duesBy kind (now (t .entry)) start end) (heads (entriesFrom text (docOf (now (s .entry)) (now (rows .entry)) n) read kind h (n - (h + 1)) (h + 1)))) r) ⌝ }
 {
     let mut c = first_child(s, rows, n, past, h);
     while c < n {

@@ -9,11 +9,10 @@ use native.Mathlib.Omega.{arith}
 use lib.ListN.{length, List·getD-eq-default}
 use Rattle.paper_table.specs.TableNumbers.{tagField}
 use Rattle.paper_table.specs.Lists.{allOf, find, gather}
-use Rattle.paper_table.specs.House.{piecesFrom}
-use Rattle.paper_table.specs.Types.{Argument, Member, tableOf, isUnion, blank, tagNothing}
-use Rattle.paper_table.specs.Rules.{memberNamed}
+use Rattle.paper_table.specs.House.{houseFieldsFrom}
+use Rattle.paper_table.specs.Types.{Argument, Member, tableOf, isUnion, blankDefinition, tagNothing, memberNamed}
 use Rattle.paper_query.specs.Constructs.{Doc, nameOf}
-use Rattle.paper_query.specs.Enclosing.{FieldIs, typename, member, missing, unknown, definitionAt, isTypename, fieldOf, orMissing, fieldIn, enclosing, fieldAt}
+use Rattle.paper_query.specs.Enclosing.{FieldIs, typename, member, missing, unknown, definitionAt, isTypename, fieldOf, orMissing, fieldNamed, enclosing, fieldAt}
 use Rattle.table_members.specs.Members.{argumentsIn, fieldFrom}
 use Rattle.table_members.proofs.MemberLaws.{field-is}
 use Rattle.table_types.specs.Sizes.{slimMember, slimDefinition, Slim}
@@ -32,7 +31,7 @@ each-due (x ∷ xs) = ap (λ (l : List Due). dueArgument x ∷ l) (each-due xs)
 
 -- an empty content has no arguments
 no-arguments : (t : List ℕ) → argumentsIn t 0 0 ≡ []
-unfolding gather piecesFrom
+unfolding gather houseFieldsFrom
 no-arguments t = refl
 
 -- a field that is known is a member, of few wrappers
@@ -42,8 +41,8 @@ module _ (t : List ℕ) (s : Slim (tableOf t)) where
   slim-at k = go (decLt k (length (tableOf t)))
     where
       go : Dec (k < length (tableOf t)) → slimDefinition (definitionAt (tableOf t) k) ≡ true
-      go (yes h) = all-at slimDefinition (tableOf t) k (blank tagNothing) h s
-      go (no h) = ap slimDefinition (List·getD-eq-default (tableOf t) (blank tagNothing) (omega arith))
+      go (yes h) = all-at slimDefinition (tableOf t) k (blankDefinition tagNothing) h s
+      go (no h) = ap slimDefinition (List·getD-eq-default (tableOf t) (blankDefinition tagNothing) (omega arith))
 
   found-slim : (k : ℕ) (n : List ℕ) (m : Member) → fieldOf (tableOf t) k n ≡ some m → slimMember m ≡ true
   unfolding fieldOf
@@ -57,7 +56,7 @@ module _ (t : List ℕ) (s : Slim (tableOf t)) where
   missing-slim none m f e = let z : _≡_ {A = FieldIs} missing (member m) = e in let y : true ≡ false = cc in absurd (true≢false y)
   missing-slim (some x) m f e = let z : x ≡ m = cc in rw (← z) (f x refl)
 
-  member-slim : (above : Option ℕ) (n : List ℕ) (m : Member) → fieldIn (tableOf t) above n ≡ member m → slimMember m ≡ true
+  member-slim : (above : Option ℕ) (n : List ℕ) (m : Member) → fieldNamed (tableOf t) above n ≡ member m → slimMember m ≡ true
   member-slim none n m e = let z : _≡_ {A = FieldIs} unknown (member m) = e in let y : true ≡ false = cc in absurd (true≢false y)
   member-slim (some k) n m e = go (isTypename n) e
     where

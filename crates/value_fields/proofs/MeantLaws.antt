@@ -8,6 +8,7 @@ use native.Mathlib.Omega.{arith}
 use lib.ListN.{length, getD}
 use lib.Dec.{ltb}
 use borrow.Author.Tests.{ltb-true, eqb-true}
+use Rattle.paper.proofs.Bools.{and-left}
 use Rattle.paper.specs.Numbers.{kindOperation}
 use Rattle.paper.specs.Rows.{Row}
 use Rattle.paper_table.specs.Lists.{firstAt, eachFrom, onlyIf}
@@ -16,7 +17,6 @@ use Rattle.paper_query.specs.DocumentCalls.{read}
 use Rattle.paper_query.specs.Opening.{onlyOne, ifBelow, operationMeant, opens, Opened}
 use Rattle.paper_query.specs.Opening.Opened.{opened}
 use Rattle.query_links.proofs.Nexts.{next-passes, next-all}
-use Rattle.query_links.proofs.Walks.{and-left}
 
 clash : {A : Type 0} (op : ℕ) → _≡_ {A = Option ℕ} none (some op) → A
 clash op e = let z : _≡_ {A = ℕ} 0 1 = cc in absurd (omega arith)

@@ -6,6 +6,7 @@ use Prim.Native.Nat.{ℕ, _<_}
 use native.Mathlib.Omega.{arith}
 use lib.Dec.{T, eqb}
 use borrow.Author.Tests.{eqb-true, eq-eqb}
+use Rattle.paper.proofs.Bools.{T→eq as T-true}
 use Rattle.paper.specs.Numbers.{kindField}
 use Rattle.paper_table.specs.Types.{tableOf}
 use Rattle.paper_query.specs.Constructs.{Doc, is, kindOf}
@@ -16,10 +17,6 @@ use Rattle.query_rows.proofs.RowsIn.{rows-count}
 use Rattle.query_spreads.proofs.OwnerLaws.{row-within}
 use Rattle.value_fields.specs.Wants.{Holds, Wants}
 use Rattle.value_fields.specs.declared.Wanted.the-variants.{Field, NotReached}
-
-T-true : (b : Bool) → T b → b ≡ true
-T-true true x = refl
-T-true false x = absurd x
 
 -- a field's row is one of the document's
 pub field-there : (s rows : List ℕ) (n i : ℕ) → rowIn rows n i .kind ≡ kindField → i < n

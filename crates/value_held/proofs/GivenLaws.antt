@@ -9,9 +9,10 @@ use lib.Dec.{eqb}
 use borrow.Author.Tests.{eqb-true, eqb-false, eq-eqb, ne-eqb}
 use Rattle.paper.specs.Numbers.{kindVariable}
 use Rattle.paper_query.specs.Constructs.{Doc, kindOf, nameOf}
-use Rattle.paper_values.specs.Values.{Name, Value, Entries, close, Due, Tree}
+use Rattle.paper_values.specs.Values.{Name, Value, Entries, no-entries, Due, Tree}
 use Rattle.paper_values.specs.Kinds.{Kind}
-use Rattle.paper_values.specs.Coercion.{heads, repeated, unknown, entryOf, gone, leftOut}
+use Rattle.paper_values.specs.Coercion.{heads, repeatedEntry, unknownEntry, gone, leftOut}
+use Rattle.paper_values.specs.Computed.{entryOf}
 use Rattle.paper_values.specs.RowValues.{entriesFrom, valueBy, valueAt}
 use Rattle.value_entries.specs.Entered.{entryAt, Marks}
 use Rattle.value_entries.proofs.EntryLaws.{entry-least, given-none, given-here, givenAt, marks-none}
@@ -88,13 +89,13 @@ module _ (s held : List ℕ) (many : ℕ) (d : Doc) (n k kind h : ℕ) (x : Name
 
 -- ---- below a row that is not there
 
-none-below : (text : ℕ) (d : Doc) (read : ℕ → Value) (kind h n : ℕ) → n ≤ h → entriesFrom text d read kind h (n - (h + 1)) (h + 1) ≡ close
+none-below : (text : ℕ) (d : Doc) (read : ℕ → Value) (kind h n : ℕ) → n ≤ h → entriesFrom text d read kind h (n - (h + 1)) (h + 1) ≡ no-entries
 unfolding entriesFrom
 none-below text d read kind h n l = let z : n - (h + 1) ≡ 0 = omega arith in rw z refl
 
 module _ (d : Doc) (kind h n : ℕ) (l : n ≤ h) (text : ℕ) (read : ℕ → Value) where
-  pub repeated-past : Marks n text (repeated [] (heads (entriesFrom text d read kind h (n - (h + 1)) (h + 1)))) n
-  repeated-past = marks-none n text _ (ap (λ (es : Entries). repeated [] (heads es)) (none-below text d read kind h n l))
+  pub repeated-past : Marks n text (repeatedEntry [] (heads (entriesFrom text d read kind h (n - (h + 1)) (h + 1)))) n
+  repeated-past = marks-none n text _ (ap (λ (es : Entries). repeatedEntry [] (heads es)) (none-below text d read kind h n l))
 
-  pub unknown-past : (ds : List Due) → Marks n text (unknown ds (heads (entriesFrom text d read kind h (n - (h + 1)) (h + 1)))) n
-  unknown-past ds = marks-none n text _ (ap (λ (es : Entries). unknown ds (heads es)) (none-below text d read kind h n l))
+  pub unknown-past : (ds : List Due) → Marks n text (unknownEntry ds (heads (entriesFrom text d read kind h (n - (h + 1)) (h + 1)))) n
+  unknown-past ds = marks-none n text _ (ap (λ (es : Entries). unknownEntry ds (heads es)) (none-below text d read kind h n l))

@@ -12,7 +12,7 @@ use borrow.Author.Tests.{le-leb, lt-leb}
 use Rattle.paper.specs.Tokens.{same}
 use Rattle.table_book.specs.Book.{part}
 use Rattle.query_rows.specs.Rowed.{cell, docOf}
-use Rattle.paper_values.specs.Values.{Name, Tree, Pairs, nothing, pair}
+use Rattle.paper_values.specs.Values.{Name, Tree, Pairs, no-pairs, pair}
 use Rattle.paper_values.specs.Coercion.{valueIn}
 use Rattle.value_kinds.specs.declared.Due.{Due}
 use Rattle.value_kinds.specs.Dues.{DueIs, Fits}
@@ -38,11 +38,11 @@ module _ (s held : List ℕ) (x : Name) where
 
 module _ (t book s rows : List ℕ) (n : ℕ) (s1 rows1 : List ℕ) (n1 : ℕ) (held : List ℕ) where
   holds-least : (j many : ℕ) (ps : Pairs) → Holds t book s rows n s1 rows1 n1 held j many ps → j ≤ many
-  holds-least j many nothing h = omega (arith, h)
+  holds-least j many no-pairs h = omega (arith, h)
   holds-least j many (pair x y ps) h = let z : j + 1 ≤ many = holds-least (j + 1) many ps (h .1) in omega (arith, z)
 
   holds-names : (j many : ℕ) (ps : Pairs) → Holds t book s rows n s1 rows1 n1 held j many ps → (i : ℕ) → j ≤ i → i < many → cell held i 0 + cell held i 1 ≤ length s
-  holds-names j many nothing h i a b = absurd (omega (arith, h, a, b))
+  holds-names j many no-pairs h i a b = absurd (omega (arith, h, a, b))
   holds-names j many (pair x y ps) h i a b = go (decLt j i) (λ m. holds-names (j + 1) many ps (h .1) i m b)
     where
       go : Dec (j < i) → (j + 1 ≤ i → cell held i 0 + cell held i 1 ≤ length s) → cell held i 0 + cell held i 1 ≤ length s
@@ -56,8 +56,8 @@ module _ (t book s rows : List ℕ) (n : ℕ) (s1 rows1 : List ℕ) (n1 : ℕ) (
 
   looks : (ps : Pairs) (x : Name) (m j many : ℕ) → j + m ≡ many → Holds t book s rows n s1 rows1 n1 held j many ps → Looked ps x many (heldFrom s held x m j)
   unfolding heldFrom
-  looks nothing x zero j many e h = record { some-is = λ l. absurd (omega (arith, l, e)); none-is = λ l. refl }
-  looks nothing x (suc m) j many e h = absurd (omega (arith, e, h))
+  looks no-pairs x zero j many e h = record { some-is = λ l. absurd (omega (arith, l, e)); none-is = λ l. refl }
+  looks no-pairs x (suc m) j many e h = absurd (omega (arith, e, h))
   looks (pair y tree ps) x zero j many e h = absurd (let z : j + 1 ≤ many = holds-least (j + 1) many ps (h .1) in omega (arith, z, e))
   looks (pair y tree ps) x (suc m) j many e h = go (same x (part s (cell held j 0) (cell held j 1))) (ap (same x) (sym (h .0 .named))) (looks ps x m (j + 1) many (omega (arith, e)) (h .1))
     where

@@ -9,8 +9,8 @@ use Rattle.paper.specs.Numbers.{kindVariable, kindNull}
 use Rattle.paper_table.specs.References.{Ref, named, listOf, nonNull, isNonNull}
 use Rattle.table_fields.specs.Wrappers.{packOf}
 use Rattle.paper_values.specs.ValueNumbers.{reasonMissing}
-use Rattle.paper_values.specs.Values.{Due, nothing, Got, No}
-use Rattle.paper_values.specs.Coercion.{missing}
+use Rattle.paper_values.specs.Values.{Due, no-pairs, Got, No}
+use Rattle.paper_values.specs.Computed.{missingDue}
 use Rattle.value_writing.proofs.EncodedLaws.{no-pairs-put}
 use Rattle.value_kinds.specs.declared.Coerced.the-variants.{UpTo, Refused}
 use Rattle.value_kinds.specs.Dues.{placedAt}
@@ -32,11 +32,11 @@ lack-not (listOf r) e = refl
 lack-not (nonNull r) e = absurd (e (omega arith))
 
 module _ (text limit from h w : ℕ) (δ : Due) (p : List ℕ) (e : packOf (δ .type) ≡ w) where
-  pub lack-refused : w % 4 ≡ 2 → ToldPairs text limit (missing (placedAt text h) δ (Got nothing)) from p p (Refused h reasonMissing)
-  lack-refused q = subst (λ (b : Bool). ToldPairs text limit (cond b (No (placedAt text h) reasonMissing) (Got nothing)) from p p (Refused h reasonMissing)) (sym (lack-is (δ .type) (ap (λ (x : ℕ). x % 4) e ∙ q))) (refl, refl)
+  pub lack-refused : w % 4 ≡ 2 → ToldPairs text limit (missingDue (placedAt text h) δ (Got no-pairs)) from p p (Refused h reasonMissing)
+  lack-refused q = subst (λ (b : Bool). ToldPairs text limit (cond b (No (placedAt text h) reasonMissing) (Got no-pairs)) from p p (Refused h reasonMissing)) (sym (lack-is (δ .type) (ap (λ (x : ℕ). x % 4) e ∙ q))) (refl, refl)
 
-  pub lack-nothing : (w % 4 ≡ 2 → ⊥) → from ≤ limit + 1 → ToldPairs text limit (missing (placedAt text h) δ (Got nothing)) from p p (UpTo from)
-  lack-nothing q l = subst (λ (b : Bool). ToldPairs text limit (cond b (No (placedAt text h) reasonMissing) (Got nothing)) from p p (UpTo from)) (sym (lack-not (δ .type) (λ (z : packOf (δ .type) % 4 ≡ 2). q (ap (λ (x : ℕ). x % 4) (sym e) ∙ z))))
+  pub lack-nothing : (w % 4 ≡ 2 → ⊥) → from ≤ limit + 1 → ToldPairs text limit (missingDue (placedAt text h) δ (Got no-pairs)) from p p (UpTo from)
+  lack-nothing q l = subst (λ (b : Bool). ToldPairs text limit (cond b (No (placedAt text h) reasonMissing) (Got no-pairs)) from p p (UpTo from)) (sym (lack-not (δ .type) (λ (z : packOf (δ .type) % 4 ≡ 2). q (ap (λ (x : ℕ). x % 4) (sym e) ∙ z))))
       (from, refl, no-pairs-put limit from p l)
 
 -- the value of a row is null or a variable, or it is neither

@@ -14,7 +14,7 @@ use Rattle.table_types.specs.Booked.{Booked}
 use Rattle.table_types.specs.Sizes.{Slim}
 use Rattle.paper_values.specs.Values.{Name, Entries, Tree, Pairs, Out, Got, No}
 use Rattle.paper_values.specs.Kinds.{Kind, kindOfType}
-use Rattle.paper_values.specs.Coercion.{Given, coerce, givens}
+use Rattle.paper_values.specs.Computed.{Given, coerce, givens}
 use Rattle.paper_values.specs.Encoding.{encodePairs}
 use Rattle.paper_values.specs.RowValues.{entriesFrom, valueAt}
 use Rattle.value_writing.specs.Writing.{Put}

@@ -15,8 +15,8 @@ use Rattle.paper_table.specs.References.{Ref}
 use Rattle.paper_query.specs.Constructs.{Doc}
 use Rattle.table_book.specs.Book.{part}
 use Rattle.query_rows.specs.Rowed.{cell, docOf}
-use Rattle.paper_values.specs.Values.{Name, Tree, Pairs, nothing, pair, Got}
-use Rattle.paper_values.specs.Coercion.{entryOf, constant}
+use Rattle.paper_values.specs.Values.{Name, Tree, Pairs, no-pairs, pair, Got}
+use Rattle.paper_values.specs.Computed.{entryOf, constant}
 use Rattle.paper_values.specs.RowValues.{valueOfRow}
 use Rattle.value_kinds.specs.Dues.{DueIs, Fits}
 use Rattle.value_held.specs.Given.{Ready, Vars, isNone, kindsIn, coerced, givensAt}
@@ -38,7 +38,7 @@ pub record HeldAt (t book s rows : List ℕ) (n : ℕ) (s1 rows1 : List ℕ) (n1
 
 -- the variables from number j on are these
 abbrev pub Holds : List ℕ → List ℕ → List ℕ → List ℕ → ℕ → List ℕ → List ℕ → ℕ → List ℕ → ℕ → ℕ → Pairs → Type 0
-Holds t book s rows n s1 rows1 n1 held j many nothing = j ≡ many
+Holds t book s rows n s1 rows1 n1 held j many no-pairs = j ≡ many
 Holds t book s rows n s1 rows1 n1 held j many (pair name tree ps) = HeldAt t book s rows n s1 rows1 n1 held j name tree × Holds t book s rows n s1 rows1 n1 held (j + 1) many ps
 
 -- the lent numbers hold `many` variables, whose values stand in these two texts

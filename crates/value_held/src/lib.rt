@@ -20,8 +20,9 @@ ghost use Rattle.table_fields.specs.Fields.{Bounds};
 ghost use Rattle.table_fields.specs.Wrappers.{packOf};
 ghost use Rattle.table_book.specs.Book.{part};
 ghost use Rattle.query_rows.specs.Rowed.{cell, rowIn, docOf, Rowed, Sized, Decides};
-ghost use Rattle.paper_values.specs.Values.{Value, Due as Dues, Got, nothing};
-ghost use Rattle.paper_values.specs.Coercion.{heads, repeated, unknown, missing};
+ghost use Rattle.paper_values.specs.Values.{Value, Due as Dues, Got, no-pairs};
+ghost use Rattle.paper_values.specs.Coercion.{heads, repeatedEntry, unknownEntry};
+ghost use Rattle.paper_values.specs.Computed.{missingDue};
 ghost use Rattle.paper_values.specs.RowValues.{entriesFrom};
 ghost use Rattle.value_kinds.specs.Dues.{placedAt};
 ghost use Rattle.value_entries.specs.Entered.{Treed, Marks, duesBy};
@@ -148,7 +149,7 @@ pub fn given(
 // The first entry of this kind right below row h whose name an earlier one has; n if there is none. Below a row that is not there stands nothing.
 pub fn find_again(s: &[u8], rows: &[u32], n: usize, past: &[u32], h: usize, kind: u32) -> usize
     requires { ⌜ Treed (now s) (now rows) n (now past) × (h ≤ n) ⌝ }
-    ensures { λ r. ⌜ ((text : ℕ) (read : ℕ → Value) → Marks n text (repeated [] (heads (entriesFrom text (docOf (now (s .entry)) (now (rows .entry)) n) read kind h (n - (h + 1)) (h + 1)))) r) ⌝ }
+    ensures { λ r. ⌜ ((text : ℕ) (read : ℕ → Value) → Marks n text (repeatedEntry [] (heads (entriesFrom text (docOf (now (s .entry)) (now (rows .entry)) n) read kind h (n - (h + 1)) (h + 1)))) r) ⌝ }
 {
     if n <= h {
         return n;
@@ -169,7 +170,7 @@ pub fn find_alien(
     kind: u32,
 ) -> usize
     requires { ⌜ Bounds (now t) start end × Treed (now s) (now rows) n (now past) × (h ≤ n) ⌝ }
-    ensures { λ r. ⌜ ((text : ℕ) (read : ℕ → Value) → Marks n text (unknown (duesBy kind (now (t .entry)) start end) (heads (entriesFrom text (docOf (now (s .entry)) (now (rows .entry)) n) read kind h (n - (h + 1)) (h + 1)))) r) ⌝ }
+    ensures { λ r. ⌜ ((text : ℕ) (read : ℕ → Value) → Marks n text (unknownEntry (duesBy kind (now (t .entry)) start end) (heads (entriesFrom text (docOf (now (s .entry)) (now (rows .entry)) n) read kind h (n - (h + 1)) (h + 1)))) r) ⌝ }
 {
     if n <= h {
         return n;
@@ -180,7 +181,7 @@ pub fn find_alien(
 // Nothing is given for what is due in row h.
 pub fn lacking(limit: usize, from: usize, h: usize, wrappers: u32) -> Coerced
     requires { ⌜ from ≤ limit + 1 ⌝ }
-    ensures { λ c. ⌜ ((text : ℕ) (what : Dues) (p : List ℕ) → packOf (what .type) ≡ wrappers → ToldPairs text limit (missing (placedAt text h) what (Got nothing)) from p p c) ⌝ }
+    ensures { λ c. ⌜ ((text : ℕ) (what : Dues) (p : List ℕ) → packOf (what .type) ≡ wrappers → ToldPairs text limit (missingDue (placedAt text h) what (Got no-pairs)) from p p c) ⌝ }
 {
     if wrappers % 4 == 2 {
         return Coerced::Refused {

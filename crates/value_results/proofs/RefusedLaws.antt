@@ -15,9 +15,10 @@ use Rattle.paper_table.specs.References.{Ref, isNonNull}
 use Rattle.paper_query.specs.Constructs.{Doc, count, is, below, numbersWhere}
 use Rattle.paper_query.specs.Opening.{ifBelow}
 use Rattle.paper_values.specs.ValueNumbers.{reasonMissing, reasonRepeated}
-use Rattle.paper_values.specs.Values.{Name, At, Value, Due, Tree, Pairs, nothing, pair, Out, Got, No}
+use Rattle.paper_values.specs.Values.{Name, At, Value, Due, Tree, Pairs, no-pairs, pair, Out, Got, No}
 use Rattle.paper_values.specs.Kinds.{Kind}
-use Rattle.paper_values.specs.Coercion.{Given, heads, repeated, unless, entryOf, first, missing, field, inObject, givens, valueIn, constant, orDefault, variablesFrom}
+use Rattle.paper_values.specs.Computed.{Given, unless, entryOf, pairFirst, missingDue, dueField, inObject, givens, constant, orDefault, variablesFrom}
+use Rattle.paper_values.specs.Coercion.{heads, repeatedEntry, valueIn}
 use Rattle.paper_values.specs.RowValues.{placed, valueOfRow, argumentsAt}
 use Rattle.paper_values.specs.DocumentDues.{valueIf, definitionsOf, dueVariable, variableDues, givenIn}
 use Rattle.paper_values.proofs.PlacesLaws.{Kept, PlacedEntries, PlacedIf, PlacedDues, UpTo, variables-kept, object-kept, value-placed, entries-placed}
@@ -65,13 +66,13 @@ variables-rows t d op d1 l l1 = variables-kept (UpTo mostRows) (kindsIn t) (give
 
 -- the row of an argument that is refused
 pub arguments-rows : (t : List ℕ) (d : Doc) (row : ℕ) (ps : Pairs) (ds : List Due) → count d ≤ mostRows → row ≤ count d →
-    Kept (UpTo mostRows) (inObject (missing (placed inputDocument d row)) (heads (argumentsAt inputDocument d row)) (givens (kindsIn t) (valueIn ps) (argumentsAt inputDocument d row)) ds)
+    Kept (UpTo mostRows) (inObject (missingDue (placed inputDocument d row)) (heads (argumentsAt inputDocument d row)) (givens (kindsIn t) (valueIn ps) (argumentsAt inputDocument d row)) ds)
 arguments-rows t d row ps ds l h = object-kept (UpTo mostRows) (kindsIn t) (valueIn ps) (placed inputDocument d row) (omega arith) (argumentsAt inputDocument d row) (arguments-placed d mostRows l row) ds
 
 -- ---- how many
 
 unfoldable pairCount : Pairs → ℕ
-pairCount nothing = 0
+pairCount no-pairs = 0
 pairCount (pair n t ps) = suc (pairCount ps)
 
 abbrev AtMost : ℕ → Out Pairs → Type 0
@@ -82,7 +83,7 @@ most-more : (k : ℕ) (o : Out Pairs) → AtMost k o → AtMost (suc k) o
 most-more k (Got ps) h = omega arith
 most-more k (No i w) h = tt
 
-most-first : (n : Name) (o : Out Tree) (rest : Out Pairs) (k : ℕ) → AtMost k rest → AtMost (suc k) (first n o rest)
+most-first : (n : Name) (o : Out Tree) (rest : Out Pairs) (k : ℕ) → AtMost k rest → AtMost (suc k) (pairFirst n o rest)
 unfolding pairCount
 most-first n (Got t) (Got ps) k h = omega arith
 most-first n (Got t) (No i w) k h = tt
@@ -97,7 +98,7 @@ module _ (kinds : Name → Kind) where
   most-default i d none rest k h = most-if (isNonNull (d .type)) i rest k h
   most-default i d (some v) rest k h = most-first (d .name) (constant kinds v (d .type)) rest k h
 
-  most-field : (i : At) (d : Due) (m : Option (Ref → Out Tree)) (rest : Out Pairs) (k : ℕ) → AtMost k rest → AtMost (suc k) (field (orDefault kinds i d (d .default) rest) d m rest)
+  most-field : (i : At) (d : Due) (m : Option (Ref → Out Tree)) (rest : Out Pairs) (k : ℕ) → AtMost k rest → AtMost (suc k) (dueField (orDefault kinds i d (d .default) rest) d m rest)
   most-field i d none rest k h = most-default i d (d .default) rest k h
   most-field i d (some f) rest k h = most-first (d .name) (f (d .type)) rest k h
 
@@ -116,11 +117,11 @@ dues-count f (x ∷ xs) = let z = dues-count f xs in omega arith
 
 variables-most : (t : List ℕ) (d : Doc) (op : ℕ) (d1 : Doc) → AtMost (length (variableDues d op)) (coercedVariables t d op d1)
 variables-most t d op d1 =
-    most-unless (kindsIn t) (repeated [] (heads (givenIn d1))) reasonRepeated (length (variableDues d op)) _ (most-variables (kindsIn t) (givens (kindsIn t) (λ n. none) (givenIn d1)) (variableDues d op))
+    most-unless (kindsIn t) (repeatedEntry [] (heads (givenIn d1))) reasonRepeated (length (variableDues d op)) _ (most-variables (kindsIn t) (givens (kindsIn t) (λ n. none) (givenIn d1)) (variableDues d op))
 
 held-count : (t book s rows : List ℕ) (n : ℕ) (s1 rows1 : List ℕ) (n1 : ℕ) (held : List ℕ) (j many : ℕ) (ps : Pairs) → Holds t book s rows n s1 rows1 n1 held j many ps → j + pairCount ps ≡ many
 unfolding pairCount
-held-count t book s rows n s1 rows1 n1 held j many nothing h = omega arith
+held-count t book s rows n s1 rows1 n1 held j many no-pairs h = omega arith
 held-count t book s rows n s1 rows1 n1 held j many (pair x tree ps) h = let z = held-count t book s rows n s1 rows1 n1 held (j + 1) many ps (h .1) in omega arith
 
 -- so many variables have values

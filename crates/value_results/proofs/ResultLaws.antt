@@ -19,7 +19,8 @@ use Rattle.query_rows.proofs.RowsIn.{rows-count}
 use Rattle.paper_values.specs.ValueNumbers.{refuseValue, refuseTooLong, mostCoerced, tagInput}
 use Rattle.paper_values.specs.Values.{At, Tree, Fields, Pairs, Out, Got, No, andThen}
 use Rattle.paper_values.specs.Kinds.{dueArgument}
-use Rattle.paper_values.specs.Coercion.{heads, inObject, givens, valueIn, orDefault, missing}
+use Rattle.paper_values.specs.Coercion.{heads, valueIn}
+use Rattle.paper_values.specs.Computed.{inObject, givens, orDefault, missingDue}
 use Rattle.paper_values.specs.Encoding.{encode, encodePairs}
 use Rattle.paper_values.specs.RowValues.{placed, argumentsAt}
 use Rattle.paper_values.specs.DocumentDues.{definitionsOf, argumentDues}
@@ -175,7 +176,7 @@ module _ (t s rows : List ℕ) (n row start end : ℕ) (f : FieldServes t (docOf
   argued-is ps =
       ap (inObject (λ δ rest. orDefault (kindsIn t) (placed inputDocument d row) δ (δ .default) rest) (heads (argumentsAt inputDocument d row)) (givens (kindsIn t) (valueIn ps) (argumentsAt inputDocument d row))) dues-are
       ∙ arguments-same (kindsIn t) (placed inputDocument d row) (givens (kindsIn t) (valueIn ps) (argumentsAt inputDocument d row)) (heads (argumentsAt inputDocument d row)) (argumentsIn t start end)
-      ∙ ap (inObject (missing (placed inputDocument d row)) (heads (argumentsAt inputDocument d row)) (givens (kindsIn t) (valueIn ps) (argumentsAt inputDocument d row))) (sym (dues-arguments t start end))
+      ∙ ap (inObject (missingDue (placed inputDocument d row)) (heads (argumentsAt inputDocument d row)) (givens (kindsIn t) (valueIn ps) (argumentsAt inputDocument d row))) (sym (dues-arguments t start end))
       ∙ ap (λ (k : ℕ). objected t (valueIn ps) inputDocument d k 33 kindArgument row (duesBy kindArgument t start end)) (rows-count rows n)
 
   pub argued-row : (ps : Pairs) → count d ≤ mostRows → Kept (RowUpTo mostRows) (object ps)

@@ -12,7 +12,8 @@ use Rattle.paper_query.specs.Constructs.{Doc, count}
 use Rattle.paper_query.specs.Enclosing.{fieldAt}
 use Rattle.paper_values.specs.ValueNumbers.{refuseValue, refuseTooLong, mostCoerced}
 use Rattle.paper_values.specs.Values.{Tree, Pairs, Out, andThen}
-use Rattle.paper_values.specs.Coercion.{heads, inObject, givens, valueIn, orDefault, variablesOf}
+use Rattle.paper_values.specs.Coercion.{heads, valueIn}
+use Rattle.paper_values.specs.Computed.{inObject, givens, orDefault, variablesOf}
 use Rattle.paper_values.specs.RowValues.{placed, argumentsAt}
 use Rattle.paper_values.specs.DocumentDues.{definitionsOf, variableDues, givenIn, argumentDues}
 use Rattle.paper_values.specs.ValueCalls.{Ending, ends, yields, ended, asObject}

@@ -10,8 +10,8 @@ use Rattle.paper.specs.Numbers.{kindVariable}
 use Rattle.paper.specs.Language.{Class, hits, Mark, row, kind, named, wrapper, wrap, end, Part, language}
 use Rattle.paper.specs.Language.{ConstValue, ConstListValue, ConstValue+, ConstValue*, ConstObjectValue, ConstObjectField+, ConstObjectField*, ConstObjectField, EnumValue, Name, VariablesText}
 use Rattle.paper.specs.Tokens.{Tok, Text}
-use Rattle.paper.specs.Rows.{Row, Book, blank, change, top, startOf, stopOf, begun, ofKind, withName, wrapped, stopping, note, taken, book, rowsOf}
-use Rattle.paper.specs.Reading.{rows-are, Said, accepts, tokensOf}
+use Rattle.paper.specs.Rows.{Row, Book, emptyBook, change, top, startOf, stopOf, begun, ofKind, withName, wrapped, stopping, atMark, taken, book, rowsOf}
+use Rattle.paper.specs.Reading.{rows-are, TextAnswer, accepts, tokensOf}
 use Rattle.paper.proofs.Bools.{and-l, and-r, and-i}
 use Rattle.paper.proofs.Tables.{allN, numN, atN}
 use Rattle.paper_theory.proofs.Test.{all, all-at, all-mem, implies, implies-out}
@@ -79,18 +79,18 @@ no-variable done t ts b h = h
 no-variable (take v d) t [] b h = no-variable d t [] b h
 no-variable (take v d) t (k ∷ ts) b h = no-variable d t ts (taken (k ∷ ts) b) h
 no-variable (by {n} {α} {ss} m d) t ts b h = no-variable d (constant-append α ss (constant-part n (and-l (isConst n) (constant ss) t) m) (and-r (isConst n) (constant ss) t)) ts b h
-no-variable (marks {a = row} d) t ts b h = no-variable d t ts (note row ts b) (row-none (startOf ts) (top (b .open′)) (b .rows) h)
+no-variable (marks {a = row} d) t ts b h = no-variable d t ts (atMark row ts b) (row-none (startOf ts) (top (b .open′)) (b .rows) h)
 no-variable (marks {a = kind k x} {ss} d) t ts b h =
-    no-variable d (and-r (not (eqb k kindVariable)) (constant ss) t) ts (note (kind k x) ts b)
+    no-variable d (and-r (not (eqb k kindVariable)) (constant ss) t) ts (atMark (kind k x) ts b)
     (change-none (ofKind k x) (λ r u e. T-not (eqb k kindVariable) (and-l (not (eqb k kindVariable)) (constant ss) t) (subst (λ (j : ℕ). T (eqb k j)) e (eqb-refl k))) (top (b .open′)) (b .rows) h)
-no-variable (marks {a = named} d) t ts b h = no-variable d t ts (note named ts b) (change-none (withName (startOf ts) (stopOf ts)) (λ r u. u) (top (b .open′)) (b .rows) h)
+no-variable (marks {a = named} d) t ts b h = no-variable d t ts (atMark named ts b) (change-none (withName (startOf ts) (stopOf ts)) (λ r u. u) (top (b .open′)) (b .rows) h)
 no-variable (marks {a = wrapper} d) t ts b h = no-variable d t ts b h
-no-variable (marks {a = wrap w} d) t ts b h = no-variable d t ts (note (wrap w) ts b) (change-none (wrapped w) (λ r u. u) (top (b .open′)) (b .rows) h)
-no-variable (marks {a = end} d) t ts b h = no-variable d t ts (note end ts b) (change-none (stopping (b .stop)) (λ r u. u) (top (b .open′)) (b .rows) h)
+no-variable (marks {a = wrap w} d) t ts b h = no-variable d t ts (atMark (wrap w) ts b) (change-none (wrapped w) (λ r u. u) (top (b .open′)) (b .rows) h)
+no-variable (marks {a = end} d) t ts b h = no-variable d t ts (atMark end ts b) (change-none (stopping (b .stop)) (λ r u. u) (top (b .open′)) (b .rows) h)
 
-said-constant : (t : Text) (rs : List Row) → Said VariablesText t (rows-are rs) → NoVariable rs
+said-constant : (t : Text) (rs : List Row) → TextAnswer VariablesText t (rows-are rs) → NoVariable rs
 unfolding rowsOf
-said-constant t rs (accepts {es = es} w r c) = no-variable (r .0) tt (tokensOf t) blank (λ i e. omega arith)
+said-constant t rs (accepts {es = es} w r c) = no-variable (r .0) tt (tokensOf t) emptyBook (λ i e. omega arith)
 
 pub taken-constant : (s rows : List ℕ) (n : ℕ) → Taken VariablesText s rows n → (i : ℕ) → rowIn rows n i .kind ≡ kindVariable → ⊥
 taken-constant s rows n t i = subst (λ (rs : List Row). at rs i .kind ≡ kindVariable → ⊥) (sym (t .are)) (said-constant _ (t .list) (t .said) i)

@@ -12,8 +12,8 @@ use Rattle.paper.specs.Grammar.{nt, tm, act, Ev, toks, Derives, done, take, not
 use Rattle.paper.specs.Numbers.{mostRows, noParent, kindVariableDefinition, kindTypeReference}
 use Rattle.paper.specs.Language.{Class, hits, Mark, row, kind, named, wrapper, wrap, end, Part, language}
 use Rattle.paper.specs.Tokens.{Tok, Text, Tokens}
-use Rattle.paper.specs.Rows.{Row, Book, blank, rowsOf, change, top, pop, startOf, stopOf, begun, ofKind, withName, wrapped, stopping, note, taken, book}
-use Rattle.paper.specs.Reading.{rows-are, Said, accepts, tokensOf}
+use Rattle.paper.specs.Rows.{Row, Book, emptyBook, rowsOf, change, top, pop, startOf, stopOf, begun, ofKind, withName, wrapped, stopping, atMark, taken, book}
+use Rattle.paper.specs.Reading.{rows-are, TextAnswer, accepts, tokensOf}
 use Rattle.paper.proofs.Bools.{and-l, and-r, and-i}
 use Rattle.paper.proofs.Tables.{allN, numN, atN}
 use Rattle.paper_theory.proofs.Test.{all, all-at, all-mem, implies, implies-out}
@@ -119,12 +119,12 @@ module _ (l : ℕ) (Good : Tok → Type 0) where
       (step-token ss v u end′ (b .rows) (b .open′) φ t h)
   follow (by {n} {α} {ss} m d) φ ts b v u t q g end′ e h = follow d φ ts b v u (run-by n α ss φ m t) q (going-by l Good n α ss ts b m g) end′ e h
   follow (marks {a = row} {ss} d) φ ts b v u t q g end′ e h =
-      follow d (ofMark row φ) ts (note row ts b) v u t q (going-mark l Good row ss ts b g) end′ e (step-row ss v u end′ (b .rows) (b .open′) (startOf ts) φ t h)
+      follow d (ofMark row φ) ts (atMark row ts b) v u t q (going-mark l Good row ss ts b g) end′ e (step-row ss v u end′ (b .rows) (b .open′) (startOf ts) φ t h)
   follow (marks {a = kind j x} {ss} {es} d) φ ts b v u t q g end′ e h =
-      follow d (ofMark (kind j x) φ) ts (note (kind j x) ts b) v u t q (going-mark l Good (kind j x) ss ts b g) end′ e (step-kind ss v u end′ (b .rows) (b .open′) j x φ t later h)
+      follow d (ofMark (kind j x) φ) ts (atMark (kind j x) ts b) v u t q (going-mark l Good (kind j x) ss ts b g) end′ e (step-kind ss v u end′ (b .rows) (b .open′) j x φ t later h)
     where
-      left : Grows (note (kind j x) ts b) (book es ts (note (kind j x) ts b))
-      left = going-left l Good d ts (note (kind j x) ts b) q (going-mark l Good (kind j x) ss ts b g) .1
+      left : Grows (atMark (kind j x) ts b) (book es ts (atMark (kind j x) ts b))
+      left = going-left l Good d ts (atMark (kind j x) ts b) q (going-mark l Good (kind j x) ss ts b g) .1
 
       later : Later ss v u end′ (b .rows) (b .open′) j x
       later i k n = (
@@ -133,15 +133,15 @@ module _ (l : ℕ) (Good : Tok → Type 0) where
         ap (λ (rs : List Row). at rs i .parent) (sym e) ∙ left .parents i k,
       )
   follow (marks {a = named} {ss} d) φ ts b v u t q g end′ e h =
-      follow d (ofMark named φ) ts (note named ts b) v u t q (going-mark l Good named ss ts b g) end′ e
+      follow d (ofMark named φ) ts (atMark named ts b) v u t q (going-mark l Good named ss ts b g) end′ e
       (sits-change (withName (startOf ts) (stopOf ts)) (λ r. refl) (top (b .open′)) v end′ (b .rows) (b .open′) (ofMark named φ) (step-named ss v u end′ (b .rows) (b .open′) φ t h))
   follow (marks {a = wrapper} {ss} d) φ ts b v u t q g end′ e h =
       follow d (ofMark wrapper φ) ts b v u t q (going-mark l Good wrapper ss ts b g) end′ e (step-wrapper ss v u end′ (b .rows) (b .open′) φ t h)
   follow (marks {a = wrap w} {ss} d) φ ts b v u t q g end′ e h =
-      follow d (ofMark (wrap w) φ) ts (note (wrap w) ts b) v u t q (going-mark l Good (wrap w) ss ts b g) end′ e
+      follow d (ofMark (wrap w) φ) ts (atMark (wrap w) ts b) v u t q (going-mark l Good (wrap w) ss ts b g) end′ e
       (sits-change (wrapped w) (λ r. refl) (top (b .open′)) v end′ (b .rows) (b .open′) (ofMark (wrap w) φ) (step-wrap ss v u end′ (b .rows) (b .open′) w φ t h))
   follow (marks {a = end} {ss} d) φ ts b v u t q g end′ e h =
-      follow d (ofMark end φ) ts (note end ts b) v u t q (going-mark l Good end ss ts b g) end′ e
+      follow d (ofMark end φ) ts (atMark end ts b) v u t q (going-mark l Good end ss ts b g) end′ e
       (sits-change (stopping (b .stop)) (λ r. refl) (top (b .open′)) v end′ (b .rows) (pop (b .open′)) (ofMark end φ) (step-end ss v u end′ (b .rows) (b .open′) φ t h))
 
   -- all definitions among the rows
@@ -166,12 +166,12 @@ module _ (l : ℕ) (Good : Tok → Type 0) where
   defines (take {p} {c} {ss} {es} x d) (k ∷ ts) b t q g end′ e m h =
       defines d ts (taken (k ∷ ts) b) t (tail-eq-of-cons-eq q) (going-token l Good p ss k ts b (subst (λ (y : Class). T (hits p y)) (head-eq-of-cons-eq q) x) g) end′ e m h
   defines (by {n} {α} {ss} x d) ts b t q g end′ e m h = defines d ts b (formed-append α ss (formed-part n x) t) q (going-by l Good n α ss ts b x g) end′ e m h
-  defines (marks {a = row} {ss} d) ts b t q g end′ e m h = defines d ts (note row ts b) t q (going-mark l Good row ss ts b g) end′ e m (put (startOf ts) (top (b .open′)) end′ (b .rows) h)
+  defines (marks {a = row} {ss} d) ts b t q g end′ e m h = defines d ts (atMark row ts b) t q (going-mark l Good row ss ts b g) end′ e m (put (startOf ts) (top (b .open′)) end′ (b .rows) h)
   defines (marks {a = kind j x} {ss} {es} d) ts b t q g end′ e m h =
       defines d ts next (and-r (implies (eqb j kindVariableDefinition) (isGone (run ss opened))) (formed ss) t) q (going-mark l Good (kind j x) ss ts b g) end′ e m (λ v z. go v z (ℕ-discrete v (top (b .open′))))
     where
       next : Book
-      next = note (kind j x) ts b
+      next = atMark (kind j x) ts b
 
       place : (v : ℕ) × (os : List ℕ) × (b .open′ ≡ v ∷ os) × (suc v ≡ length (b .rows)) × Down v os
       place = going-kind l Good j x ss ts b g
@@ -194,17 +194,17 @@ module _ (l : ℕ) (Good : Tok → Type 0) where
           q (going-mark l Good (kind j x) ss ts b g) end′ e
           (omega arith, subst (Over v 0) (sym (place .2)) (sym w, down-out v o (place .1) (omega arith) (place .4)))
   defines (marks {a = named} {ss} d) ts b t q g end′ e m h =
-      defines d ts (note named ts b) t q (going-mark l Good named ss ts b g) end′ e m (kept (withName (startOf ts) (stopOf ts)) (λ r. refl) (top (b .open′)) end′ (b .rows) h)
+      defines d ts (atMark named ts b) t q (going-mark l Good named ss ts b g) end′ e m (kept (withName (startOf ts) (stopOf ts)) (λ r. refl) (top (b .open′)) end′ (b .rows) h)
   defines (marks {a = wrapper} {ss} d) ts b t q g end′ e m h = defines d ts b t q (going-mark l Good wrapper ss ts b g) end′ e m h
   defines (marks {a = wrap w} {ss} d) ts b t q g end′ e m h =
-      defines d ts (note (wrap w) ts b) t q (going-mark l Good (wrap w) ss ts b g) end′ e m (kept (wrapped w) (λ r. refl) (top (b .open′)) end′ (b .rows) h)
+      defines d ts (atMark (wrap w) ts b) t q (going-mark l Good (wrap w) ss ts b g) end′ e m (kept (wrapped w) (λ r. refl) (top (b .open′)) end′ (b .rows) h)
   defines (marks {a = end} {ss} d) ts b t q g end′ e m h =
-      defines d ts (note end ts b) t q (going-mark l Good end ss ts b g) end′ e m (kept (stopping (b .stop)) (λ r. refl) (top (b .open′)) end′ (b .rows) h)
+      defines d ts (atMark end ts b) t q (going-mark l Good end ss ts b g) end′ e m (kept (stopping (b .stop)) (λ r. refl) (top (b .open′)) end′ (b .rows) h)
 
-said-defined : (p : Part) → T (isAlone p) → (s : List ℕ) (t : Text) (rs : List Row) → Tokens 0 s t → Said p t (rows-are rs) → length rs ≤ mostRows → (v : ℕ) → at rs v .kind ≡ kindVariableDefinition → Defined v rs
+said-defined : (p : Part) → T (isAlone p) → (s : List ℕ) (t : Text) (rs : List Row) → Tokens 0 s t → TextAnswer p t (rows-are rs) → length rs ≤ mostRows → (v : ℕ) → at rs v .kind ≡ kindVariableDefinition → Defined v rs
 unfolding rowsOf
 said-defined p a s t rs k (accepts {es = es} w r c) m v e =
-    defines (length s) (Lies s) (r .0) (tokensOf t) blank tt (r .1) (begins-going p a s t k) (book es (tokensOf t) blank .rows) refl m (λ i z. absurd (omega arith)) v e
+    defines (length s) (Lies s) (r .0) (tokensOf t) emptyBook tt (r .1) (begins-going p a s t k) (book es (tokensOf t) emptyBook .rows) refl m (λ i z. absurd (omega arith)) v e
 
 -- of the rows that the reader leaves: behind a definition stands its type reference, and of what follows only the next row may stand right below it, a value
 pub taken-defined : (p : Part) → T (isAlone p) → (s rows : List ℕ) (n : ℕ) → Taken p s rows n → (v : ℕ) → rowIn rows n v .kind ≡ kindVariableDefinition → Defined v (rowsIn rows n)

@@ -15,7 +15,7 @@ use Rattle.paper.specs.Numbers.{noParent}
 use Rattle.paper.specs.Grammar.{nt, tm, act, Ev, toks, Derives, done, take, note as marks, by}
 use Rattle.paper.specs.Language.{Class, numC, sameC, Terminal, hits, the, anyName, nameButOn, nameButLiteral, Mark, row, kind, named, wrapper, wrap, end, Part, language}
 use Rattle.paper.specs.Tokens.{Tok}
-use Rattle.paper.specs.Rows.{Row, Book, blank, change, top, pop, startOf, stopOf, begun, ofKind, withName, wrapped, stopping, note, taken, book}
+use Rattle.paper.specs.Rows.{Row, Book, emptyBook, change, top, pop, startOf, stopOf, begun, ofKind, withName, wrapped, stopping, atMark, taken, book}
 use Rattle.paper.proofs.Tables.{allC, atC}
 use Rattle.paper_theory.proofs.RowCells.{change-length}
 use Rattle.paper_query.specs.Constructs.{noRow}
@@ -24,7 +24,7 @@ use Rattle.value_texts.proofs.Phases.{Syms, isLiteral, literalClass, is
 
 -- what is asked of a row: its kind and its ends
 abbrev core : Row → Row
-core r = record { kind = r .kind; start = r .start; stop = r .stop; parent = 0; name = 0; size = 0; extra = 0 }
+core r = record { kind = r .kind; start = r .start; end = r .end; parent = 0; nameStart = 0; nameLength = 0; extra = 0 }
 
 core-change : (f : Row → Row) → ((r : Row) → core (f r) ≡ core r) → (k i : ℕ) (rs : List Row) → core (at (change f k rs) i) ≡ core (at rs i)
 core-change f g k i [] = refl
@@ -105,11 +105,11 @@ module _ (l : ℕ) (Good : Tok → Type 0) where
 
   -- the token that a number's or string's row is
   abbrev pub Spelt : Row → Type 0
-  Spelt r = (k : Tok) × Good k × (k .class ≡ literalClass (r .kind)) × (k .start ≡ r .start) × (k .stop ≡ r .stop)
+  Spelt r = (k : Tok) × Good k × (k .class ≡ literalClass (r .kind)) × (k .start ≡ r .start) × (k .stop ≡ r .end)
 
   -- a whole row
   abbrev pub Whole : Row → Type 0
-  Whole r = (r .start ≤ r .stop) × (r .stop ≤ l) × (T (isLiteral (r .kind)) → Spelt r)
+  Whole r = (r .start ≤ r .end) × (r .end ≤ l) × (T (isLiteral (r .kind)) → Spelt r)
 
   -- an open row that holds a token
   abbrev Held : ℕ → Row → Type 0
@@ -454,22 +454,22 @@ module _ (l : ℕ) (Good : Tok → Type 0) where
       (r .0, grows-then (grows-same b (taken (k ∷ ts) b) refl) (r .1))
   flows (by {n} {α} {ss} {es} m v) φ d ts b t e q h = flows v φ d ts b (run-by n α ss φ m t) (ends-by n α ss 0 d m e) q h
   flows (marks {a = row} {ss} {es} v) φ d ts b t e q h =
-      let r = flows v (ofMark row φ) (suc d) ts (note row ts b) t e q (step-row ss d ts (b .rows) (b .open′) (b .stop) φ t h) in
+      let r = flows v (ofMark row φ) (suc d) ts (atMark row ts b) t e q (step-row ss d ts (b .rows) (b .open′) (b .stop) φ t h) in
       (r .0, grows-then (grows-row (begun (startOf ts) (top (b .open′))) (length (b .rows) ∷ b .open′) (b .stop) b) (r .1))
   flows (marks {a = kind k x} {ss} {es} v) φ d ts b t e q h =
       let s = step-kind ss d ts (b .rows) (b .open′) (b .stop) k x φ t h in
-      let r = flows v (ofMark (kind k x) φ) d ts (note (kind k x) ts b) t e q (s .0) in
+      let r = flows v (ofMark (kind k x) φ) d ts (atMark (kind k x) ts b) t e q (s .0) in
       (r .0, grows-then (grows-change (ofKind k x) (top (b .open′)) (b .stop) (b .open′) b (λ r. refl) (λ z. absurd (z (s .1)))) (r .1))
   flows (marks {a = named} {ss} {es} v) φ d ts b t e q h =
-      let r = flows v (ofMark named φ) d ts (note named ts b) t e q (step-named ss d ts (b .rows) (b .open′) (b .stop) φ t h) in
+      let r = flows v (ofMark named φ) d ts (atMark named ts b) t e q (step-named ss d ts (b .rows) (b .open′) (b .stop) φ t h) in
       (r .0, grows-then (grows-change (withName (startOf ts) (stopOf ts)) (top (b .open′)) (b .stop) (b .open′) b (λ r. refl) (λ z. refl)) (r .1))
   flows (marks {a = wrapper} {ss} {es} v) φ d ts b t e q h = flows v (ofMark wrapper φ) d ts b t e q (step-wrapper ss d ts (b .rows) (b .open′) (b .stop) φ t h)
   flows (marks {a = wrap w} {ss} {es} v) φ d ts b t e q h =
-      let r = flows v (ofMark (wrap w) φ) d ts (note (wrap w) ts b) t e q (step-wrap ss d ts (b .rows) (b .open′) (b .stop) w φ t h) in
+      let r = flows v (ofMark (wrap w) φ) d ts (atMark (wrap w) ts b) t e q (step-wrap ss d ts (b .rows) (b .open′) (b .stop) w φ t h) in
       (r .0, grows-then (grows-change (wrapped w) (top (b .open′)) (b .stop) (b .open′) b (λ r. refl) (λ z. refl)) (r .1))
   flows (marks {a = end} {ss} {es} v) φ zero ts b t e q h = absurd e
   flows (marks {a = end} {ss} {es} v) φ (suc d) ts b t e q h =
-      let r = flows v (ofMark end φ) d ts (note end ts b) t e q (step-end ss d ts (b .rows) (b .open′) (b .stop) φ t h) in
+      let r = flows v (ofMark end φ) d ts (atMark end ts b) t e q (step-end ss d ts (b .rows) (b .open′) (b .stop) φ t h) in
       (r .0, grows-then (grows-change (stopping (b .stop)) (top (b .open′)) (b .stop) (pop (b .open′)) b (λ r. refl) (λ z. refl)) (r .1))
 
   -- in the end no row is open
@@ -484,12 +484,12 @@ module _ (l : ℕ) (Good : Tok → Type 0) where
   -- the first row, where it begins a text
   pub first-row : (k x : ℕ) {ss : Syms} {es : List (Ev Class Mark)} → Derives language hits (act row ∷ act (kind k x) ∷ ss) es → (ts : List Tok) →
       T (isSettled (run ss (ofMark (kind k x) fresh))) → T (ends 0 ss 1) → toks es ≡ map (λ t. t .class) ts → Rise 0 ts → (k ≡ 0 → ⊥) →
-      (0 < length (book es ts blank .rows)) × (at (book es ts blank .rows) 0 .kind ≡ k) × (at (book es ts blank .rows) 0 .parent ≡ noParent)
+      (0 < length (book es ts emptyBook .rows)) × (at (book es ts emptyBook .rows) 0 .kind ≡ k) × (at (book es ts emptyBook .rows) 0 .parent ≡ noParent)
   unfolding book toks
   first-row k x {ss} (marks (marks v)) ts t e q h z =
-      let start : Stands settled 0 ts blank = record { rise = h; down = tt; whole = λ i u. absurd (omega arith); opens = tt; level = refl; last = λ t. absurd t } in
+      let start : Stands settled 0 ts emptyBook = record { rise = h; down = tt; whole = λ i u. absurd (omega arith); opens = tt; level = refl; last = λ t. absurd t } in
       let begins = row-begins 0 ts [] [] 0 start in
-      let b = note (kind k x) ts (note row ts blank) in
+      let b = atMark (kind k x) ts (atMark row ts emptyBook) in
       let s = step-kind ss 1 ts (begun (startOf ts) noParent ∷ []) (0 ∷ []) 0 k x fresh t begins in
       let g = flows v (ofMark (kind k x) fresh) 1 ts b t e q (s .0) .1 in
       (omega (arith, g .more), g .kinds 0 (omega arith) z, g .parents 0 (omega arith))
@@ -514,11 +514,11 @@ module _ (l : ℕ) (Good : Tok → Type 0) where
     stands = step-token ss p (g .phase) (g .depth) k ts (b .rows) (b .open′) (b .stop) h (g .settles) (g .stands);
   }
 
-  going-end : (ss : Syms) (ts : List Tok) (b : Book) (φ : Phase) (d : ℕ) → T (isSettled (run ss (ofMark end φ))) → T (ends 0 (act end ∷ ss) d) → Stands φ d ts b → Going ss ts (note end ts b)
+  going-end : (ss : Syms) (ts : List Tok) (b : Book) (φ : Phase) (d : ℕ) → T (isSettled (run ss (ofMark end φ))) → T (ends 0 (act end ∷ ss) d) → Stands φ d ts b → Going ss ts (atMark end ts b)
   going-end ss ts b φ zero t e h = absurd e
   going-end ss ts b φ (suc d) t e h = record { phase = ofMark end φ; depth = d; settles = t; closes = e; stands = step-end ss d ts (b .rows) (b .open′) (b .stop) φ t h }
 
-  pub going-mark : (a : Mark) (ss : Syms) (ts : List Tok) (b : Book) → Going (act a ∷ ss) ts b → Going ss ts (note a ts b)
+  pub going-mark : (a : Mark) (ss : Syms) (ts : List Tok) (b : Book) → Going (act a ∷ ss) ts b → Going ss ts (atMark a ts b)
   going-mark row ss ts b g = record {
     phase = ofMark row (g .phase);
     depth = suc (g .depth);

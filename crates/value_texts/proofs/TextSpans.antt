@@ -8,11 +8,11 @@ use lib.Dec.{T, eqb}
 use lib.ListN.{length}
 use Rattle.paper.specs.Grammar.{nt}
 use Rattle.paper.specs.Numbers.{noParent, kindString, kindObject}
-use Rattle.paper.specs.Language.{isName, int, float, string, kind, hits, Part, language, VariablesText}
+use Rattle.paper.specs.Language.{isNameClass, int, float, string, kind, hits, Part, language, VariablesText}
 use Rattle.paper.specs.Lexical.{is}
 use Rattle.paper.specs.Tokens.{Text, Longest, Tokens}
-use Rattle.paper.specs.Rows.{Row, blank, book, rowsOf}
-use Rattle.paper.specs.Reading.{rows-are, Said, accepts, tokensOf}
+use Rattle.paper.specs.Rows.{Row, emptyBook, book, rowsOf}
+use Rattle.paper.specs.Reading.{rows-are, TextAnswer, accepts, tokensOf}
 use Rattle.paper.proofs.Bools.{and-l, and-r}
 use Rattle.paper_theory.proofs.TokensLaws.{tokens-are}
 use Rattle.paper_theory.proofs.Same.{by-one}
@@ -31,11 +31,11 @@ use Rattle.value_texts.proofs.TokenSpans.{bytesOf, Lies, text-rises, li
 abbrev pub isAlone : Part → Bool
 isAlone p = isSettled (run (nt p ∷ []) settled) && ends 0 (nt p ∷ []) 0
 
-blank-stands : (s : List ℕ) (t : Text) → Tokens 0 s t → Stands (length s) (Lies s) settled 0 (tokensOf t) blank
+blank-stands : (s : List ℕ) (t : Text) → Tokens 0 s t → Stands (length s) (Lies s) settled 0 (tokensOf t) emptyBook
 blank-stands s t k = record { rise = text-rises s k; down = tt; whole = λ i h. absurd (omega arith); opens = tt; level = refl; last = λ t. absurd t }
 
 -- where the derivation of a text begins
-pub begins-going : (p : Part) → T (isAlone p) → (s : List ℕ) (t : Text) → Tokens 0 s t → Going (length s) (Lies s) (nt p ∷ []) (tokensOf t) blank
+pub begins-going : (p : Part) → T (isAlone p) → (s : List ℕ) (t : Text) → Tokens 0 s t → Going (length s) (Lies s) (nt p ∷ []) (tokensOf t) emptyBook
 begins-going p a s t k = record {
   phase = settled;
   depth = 0;
@@ -45,19 +45,19 @@ begins-going p a s t k = record {
 }
 
 -- each row of a text
-said-whole : (p : Part) → T (isAlone p) → (s : List ℕ) (t : Text) (rs : List Row) → Tokens 0 s t → Said p t (rows-are rs) → (i : ℕ) → i < length rs → Whole (length s) (Lies s) (at rs i)
+said-whole : (p : Part) → T (isAlone p) → (s : List ℕ) (t : Text) (rs : List Row) → Tokens 0 s t → TextAnswer p t (rows-are rs) → (i : ℕ) → i < length rs → Whole (length s) (Lies s) (at rs i)
 unfolding rowsOf
 said-whole p a s t rs k (accepts {es = es} w r c) i h =
-    left-whole (length s) (Lies s) (book es (tokensOf t) blank) (going-left (length s) (Lies s) (r .0) (tokensOf t) blank (r .1) (begins-going p a s t k) .0) i h
+    left-whole (length s) (Lies s) (book es (tokensOf t) emptyBook) (going-left (length s) (Lies s) (r .0) (tokensOf t) emptyBook (r .1) (begins-going p a s t k) .0) i h
 
 -- a row in the lent numbers is the list's
 pub row-is : (p : Part) (s rows : List ℕ) (n : ℕ) (t : Taken p s rows n) (i : ℕ) → rowIn rows n i ≡ at (t .list) i
 row-is p s rows n t i = ap (λ (rs : List Row). at rs i) (t .are)
 
-literal-no-name : (k : ℕ) → T (isName (literalClass k)) → ⊥
+literal-no-name : (k : ℕ) → T (isNameClass (literalClass k)) → ⊥
 literal-no-name k = go (eqb k 21) (eqb k 22)
   where
-    go : (a b : Bool) → T (isName (cond a int (cond b float string))) → ⊥
+    go : (a b : Bool) → T (isNameClass (cond a int (cond b float string))) → ⊥
     go true b t = t
     go false true t = t
     go false false t = t
@@ -105,7 +105,7 @@ pub record Object (rs : List Row) : Type 0 where
   pub kind-is : at rs 0 .kind ≡ kindObject
   pub parent-is : at rs 0 .parent ≡ noParent
 
-said-object : (s : List ℕ) (t : Text) (rs : List Row) → Tokens 0 s t → Said VariablesText t (rows-are rs) → Object rs
+said-object : (s : List ℕ) (t : Text) (rs : List Row) → Tokens 0 s t → TextAnswer VariablesText t (rows-are rs) → Object rs
 unfolding rowsOf language
 said-object s t rs k (accepts {es = es} w r c) =
     let q = first-row (length s) (Lies s) kindObject 0 (by-one language hits {n = VariablesText} refl (r .0)) (tokensOf t) tt tt (r .1) (text-rises s k) (λ e. absurd (omega arith)) in

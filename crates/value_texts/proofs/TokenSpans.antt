@@ -8,7 +8,7 @@ use lib.Dec.{T}
 use lib.ListN.{length, take, drop, length-append, length-drop}
 use lib.Seq.{take-at, drop-drop}
 use Rattle.paper.specs.Grammar.{Sym, nt, tm, act, Ev, toks, Derives, done, take as take-token, note, by}
-use Rattle.paper.specs.Language.{Class, sameC, isName, n-query, n-mutation, n-subscription, n-fragment, n-on, n-true, n-false, n-null, n-other}
+use Rattle.paper.specs.Language.{Class, sameC, isNameClass, n-query, n-mutation, n-subscription, n-fragment, n-on, n-true, n-false, n-null, n-other}
 use Rattle.paper.specs.Lexical.{Lex, Set, What, is, lexical, hitsByte, quote, StringValue, StringCharacter+}
 use Rattle.paper.specs.Tokens.{Tok, Text, same, orElse, nameClass, classed, Longest, Tokens, ends, starts-none, skips, comments, bad-comment, tokens}
 use Rattle.paper.specs.Reading.{tokensOf}
@@ -72,11 +72,11 @@ module _ (s : List ℕ) where
   text-rises k = tokens-rise 0 (omega arith) (record { is = refl; within = omega arith }) k
 
 -- a token of a number's or string's class is a piece of that class
-or-name : (b : Bool) (x y : Class) → T (isName x) → T (isName y) → T (isName (orElse b x y))
+or-name : (b : Bool) (x y : Class) → T (isNameClass x) → T (isNameClass y) → T (isNameClass (orElse b x y))
 or-name true x y h k = h
 or-name false x y h k = k
 
-name-class : (w : List ℕ) → T (isName (nameClass w))
+name-class : (w : List ℕ) → T (isNameClass (nameClass w))
 name-class w =
     or-name (same w (113 ∷ 117 ∷ 101 ∷ 114 ∷ 121 ∷ [])) n-query _ tt
     (or-name (same w (109 ∷ 117 ∷ 116 ∷ 97 ∷ 116 ∷ 105 ∷ 111 ∷ 110 ∷ [])) n-mutation _ tt
@@ -87,14 +87,14 @@ name-class w =
     (or-name (same w (102 ∷ 97 ∷ 108 ∷ 115 ∷ 101 ∷ [])) n-false _ tt
     (or-name (same w (110 ∷ 117 ∷ 108 ∷ 108 ∷ [])) n-null n-other tt tt)))))))
 
-piece-class : (c d : Class) (w : List ℕ) → (T (isName d) → ⊥) → classed c w ≡ d → c ≡ d
+piece-class : (c d : Class) (w : List ℕ) → (T (isNameClass d) → ⊥) → classed c w ≡ d → c ≡ d
 piece-class c d w h q = go (sameC c n-other) q
   where
     go : (b : Bool) → orElse b (nameClass w) c ≡ d → c ≡ d
-    go true q = absurd (h (subst (λ (x : Class). T (isName x)) q (name-class w)))
+    go true q = absurd (h (subst (λ (x : Class). T (isNameClass x)) q (name-class w)))
     go false q = q
 
-pub lies-piece : (s : List ℕ) (k : Tok) (d : Class) → (T (isName d) → ⊥) → Lies s k → k .class ≡ d → (bs : List ℕ) × Longest bs (bytesOf s (k .start) (k .stop)) (is d)
+pub lies-piece : (s : List ℕ) (k : Tok) (d : Class) → (T (isNameClass d) → ⊥) → Lies s k → k .class ≡ d → (bs : List ℕ) × Longest bs (bytesOf s (k .start) (k .stop)) (is d)
 lies-piece s k d h l q =
     (l .behind, subst (λ (c : Class). Longest (l .behind) (bytesOf s (k .start) (k .stop)) (is c)) (piece-class (l .piece) d (bytesOf s (k .start) (k .stop)) h (sym (l .class-is) ∙ q)) (l .longest))
 

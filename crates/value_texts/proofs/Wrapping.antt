@@ -12,9 +12,9 @@ use Rattle.paper.specs.Grammar.{nt, Ev, tok, mark, toks, Derives, done, take, n
 use Rattle.paper.specs.Numbers.{mostFragments, mostVariables, mostWrappers, kindVariableDefinition, kindTypeReference, wrapList, wrapNonNull}
 use Rattle.paper.specs.Language.{Class, Terminal, hits, Mark, row, kind, named, wrapper, wrap, end, Part, language}
 use Rattle.paper.specs.Tokens.{Tok, Text}
-use Rattle.paper.specs.Rows.{Row, Book, blank, rowsOf, change, top, pop, startOf, stopOf, begun, ofKind, withName, wrapped, stopping, note, taken, rest, book}
-use Rattle.paper.specs.Sizes.{Counts, Sums, nothing, counted, sums, through, overCounts}
-use Rattle.paper.specs.Reading.{rows-are, Said, accepts, tokensOf, classesOf, placeOf, too-many}
+use Rattle.paper.specs.Rows.{Row, Book, emptyBook, rowsOf, change, top, pop, startOf, stopOf, begun, ofKind, withName, wrapped, stopping, atMark, taken, rest, book}
+use Rattle.paper.specs.Sizes.{Counts, Sums, nothingCounted, counted, sums, through, overCounts}
+use Rattle.paper.specs.Reading.{rows-are, TextAnswer, accepts, tokensOf, classesOf, placeOf, too-many}
 use Rattle.paper.specs.declared.Refusal.the-variants.{TooMany}
 use Rattle.paper.proofs.Bools.{or-r}
 use Rattle.paper_table.specs.References.{Ref, named as ref-named, listOf, nonNull}
@@ -209,28 +209,28 @@ wraps (take {p} {c} {ss} {es} x v) φ ts b m t u h =
     takes (k ∷ ts) = step-token ss (b .rows) (b .open′) (m .counts .wrappers) p φ low h
 wraps (by {n} {α} {ss} {es} x v) φ ts b m t u h = wraps v φ ts b m (run-by n α ss φ x t) u h
 wraps (marks {a = row} {ss} {es} v) φ ts b m t u h =
-    wraps v (ofMark row φ) ts (note row ts b) (counted (mark row) m) t (λ k l. u k l) (step-row ss (b .rows) (b .open′) (m .counts .wrappers) (startOf ts) (top (b .open′)) φ t h)
+    wraps v (ofMark row φ) ts (atMark row ts b) (counted (mark row) m) t (λ k l. u k l) (step-row ss (b .rows) (b .open′) (m .counts .wrappers) (startOf ts) (top (b .open′)) φ t h)
 wraps (marks {a = kind j x} {ss} {es} v) φ ts b m t u h =
-    wraps v (ofMark (kind j x) φ) ts (note (kind j x) ts b) (counted (mark (kind j x)) m) t (λ k l. u k l) (step-kind ss (b .rows) (b .open′) (m .counts .wrappers) j x φ t h)
+    wraps v (ofMark (kind j x) φ) ts (atMark (kind j x) ts b) (counted (mark (kind j x)) m) t (λ k l. u k l) (step-kind ss (b .rows) (b .open′) (m .counts .wrappers) j x φ t h)
 wraps (marks {a = named} {ss} {es} v) φ ts b m t u h =
-    wraps v (ofMark named φ) ts (note named ts b) m t (λ k l. u k l) (step-named ss (b .rows) (b .open′) (m .counts .wrappers) (startOf ts) (stopOf ts) φ t h)
+    wraps v (ofMark named φ) ts (atMark named ts b) m t (λ k l. u k l) (step-named ss (b .rows) (b .open′) (m .counts .wrappers) (startOf ts) (stopOf ts) φ t h)
 wraps (marks {a = wrapper} {ss} {es} v) φ ts b m t u h =
     wraps v (ofMark wrapper φ) ts b (counted (mark wrapper) m) t (λ k l. u k l) (step-wrapper ss (b .rows) (b .open′) (m .counts .wrappers) φ t h)
 wraps (marks {a = wrap w} {ss} {es} v) φ ts b m t u h =
-    wraps v (ofMark (wrap w) φ) ts (note (wrap w) ts b) m t (λ k l. u k l) (step-wrap ss (b .rows) (b .open′) (m .counts .wrappers) w φ t h)
+    wraps v (ofMark (wrap w) φ) ts (atMark (wrap w) ts b) m t (λ k l. u k l) (step-wrap ss (b .rows) (b .open′) (m .counts .wrappers) w φ t h)
 wraps (marks {a = end} {ss} {es} v) φ ts b m t u h =
-    wraps v (ofMark end φ) ts (note end ts b) m t (λ k l. u k l) (step-end ss (b .rows) (b .open′) (m .counts .wrappers) (b .stop) φ t h)
+    wraps v (ofMark end φ) ts (atMark end ts b) m t (λ k l. u k l) (step-end ss (b .rows) (b .open′) (m .counts .wrappers) (b .stop) φ t h)
 
 abbrev pub isOutside : Part → Bool
 isOutside p = isDone (run (nt p ∷ []) outside)
 
 -- so for each row of a text, of a part that is none of a type reference
-said-packs : (p : Part) → T (isOutside p) → (t : Text) (rs : List Row) → Said p t (rows-are rs) → (i : ℕ) → Packs mostWrappers (at rs i .extra)
+said-packs : (p : Part) → T (isOutside p) → (t : Text) (rs : List Row) → TextAnswer p t (rows-are rs) → (i : ℕ) → Packs mostWrappers (at rs i .extra)
 unfolding rowsOf
 said-packs p o t rs (accepts {es = es} w r c) =
-    wraps (r .0) outside (tokensOf t) blank nothing o within (record { each = λ i. packs-none mostWrappers; now = omega arith })
+    wraps (r .0) outside (tokensOf t) emptyBook nothingCounted o within (record { each = λ i. packs-none mostWrappers; now = omega arith })
   where
-    within : Within es nothing
+    within : Within es nothingCounted
     within k l v =
         c (TooMany (placeOf k t))
         (too-many k

@@ -24,7 +24,8 @@ use Rattle.paper_values.specs.Characters.{charactersOf}
 use Rattle.paper_values.specs.Values.{Name, At, Value, variable, integer, float, string, boolean, null, enum, list, object, Values, Entries, Due, Tree, Bits, Decimal, Member, Out, Got, No}
 use Rattle.paper_values.specs.Kinds.{Kind, Int, Float, String, Boolean, ID, Own, Other, Enum, Input, kindOfType}
 use Rattle.paper_values.specs.NumberTokens.{intOf, floatContent}
-use Rattle.paper_values.specs.Coercion.{inRange, textAt, memberAt, integerAt, floatAt, stringAt, booleanAt, enumAt, objectAt, coerce}
+use Rattle.paper_values.specs.Coercion.{inRange, textAt, enumValueAt, integerAt, floatAt, stringAt, booleanAt, enumAt}
+use Rattle.paper_values.specs.Computed.{objectAt, coerce}
 use Rattle.paper_values.specs.RowValues.{placed, tokenAt, itemsFrom, entriesFrom, valueBy}
 use Rattle.value_leaves.specs.Leaves.{sortOf, Leaf}
 use Rattle.value_leaves.specs.declared.Wrote.{Wrote}
@@ -38,22 +39,22 @@ use Rattle.value_tokens.specs.Spans.{Spanned, isObjectKind, takesFields,
 pub start-at : (rows : List ℕ) (n i : ℕ) → i < n → getD rows (rowSize * i + 1) 0 ≡ rowIn rows n i .start
 start-at rows n i h = rw (row-at rows n i h) refl
 
-pub stop-at : (rows : List ℕ) (n i : ℕ) → i < n → getD rows (rowSize * i + 2) 0 ≡ rowIn rows n i .stop
+pub stop-at : (rows : List ℕ) (n i : ℕ) → i < n → getD rows (rowSize * i + 2) 0 ≡ rowIn rows n i .end
 stop-at rows n i h = rw (row-at rows n i h) refl
 
 module _ (s rows : List ℕ) (n : ℕ) (r : Spanned s rows n) where
   -- a row lies in the bytes, also one that is not there
-  pub row-span : (i : ℕ) → (rowIn rows n i .start ≤ rowIn rows n i .stop) × (rowIn rows n i .stop ≤ length s)
+  pub row-span : (i : ℕ) → (rowIn rows n i .start ≤ rowIn rows n i .end) × (rowIn rows n i .end ≤ length s)
   row-span i = go (decLt i n)
     where
-      go : Dec (i < n) → (rowIn rows n i .start ≤ rowIn rows n i .stop) × (rowIn rows n i .stop ≤ length s)
+      go : Dec (i < n) → (rowIn rows n i .start ≤ rowIn rows n i .end) × (rowIn rows n i .end ≤ length s)
       go (yes h) = rw (row-at rows n i h) (r .order i h, r .within i h)
       go (no h) = rw (row-none rows n i (omega arith)) (omega arith, omega arith)
 
-  pub row-quotes : (i : ℕ) → rowIn rows n i .kind ≡ kindString → rowIn rows n i .start + 2 ≤ rowIn rows n i .stop
+  pub row-quotes : (i : ℕ) → rowIn rows n i .kind ≡ kindString → rowIn rows n i .start + 2 ≤ rowIn rows n i .end
   row-quotes i q = go (decLt i n)
     where
-      go : Dec (i < n) → rowIn rows n i .start + 2 ≤ rowIn rows n i .stop
+      go : Dec (i < n) → rowIn rows n i .start + 2 ≤ rowIn rows n i .end
       go (yes h) = rw (row-at rows n i h) (r .quotes i h (sym (ap (λ (x : Row). x .kind) (row-at rows n i h)) ∙ q))
       go (no h) = absurd (let z : rowIn rows n i .kind ≡ 0 = ap (λ (x : Row). x .kind) (row-none rows n i (omega arith)) in omega (arith, z, q))
 
@@ -140,7 +141,7 @@ here-text : (i : At) (o : Option (List ℕ)) → Here i (textAt i o)
 here-text i none = refl
 here-text i (some x) = refl
 
-here-member : (i : At) (n : Name) (ms : List Name) → Here i (memberAt i n ms)
+here-member : (i : At) (n : Name) (ms : List Name) → Here i (enumValueAt i n ms)
 here-member i n ms = go (anyOf (same n) ms)
   where
     go : (b : Bool) → Here i (cond b (Got (Member n)) (No i reasonEnum))
@@ -224,11 +225,11 @@ no-high : (x : ℕ) → kindBoolean ≤ x → x ≤ kindList → (x ≡ kindBool
 no-high x l h a b c d = omega arith
 
 -- a name whose place was read
-pub name-is : (s rows : List ℕ) (n i at l : ℕ) → at ≡ rowIn rows n i .name → l ≡ rowIn rows n i .size → part s at l ≡ nameOf (docOf s rows n) i
+pub name-is : (s rows : List ℕ) (n i at l : ℕ) → at ≡ rowIn rows n i .nameStart → l ≡ rowIn rows n i .nameLength → part s at l ≡ nameOf (docOf s rows n) i
 name-is s rows n i at l p q = rw (p, q) refl
 
 -- a token whose place was read
-pub token-is : (s rows : List ℕ) (n i start stop : ℕ) → start ≡ rowIn rows n i .start → stop ≡ rowIn rows n i .stop → take (stop - start) (drop start s) ≡ tokenAt 0 (docOf s rows n) i
+pub token-is : (s rows : List ℕ) (n i start stop : ℕ) → start ≡ rowIn rows n i .start → stop ≡ rowIn rows n i .end → take (stop - start) (drop start s) ≡ tokenAt 0 (docOf s rows n) i
 token-is s rows n i start stop p q = rw (p, q) refl
 
 module _ (d : Doc) (i sort limit from : ℕ) (p p′ : List ℕ) (r : Wrote) (w : List ℕ) (q : w ≡ tokenAt 0 d i) where

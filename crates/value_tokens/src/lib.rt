@@ -30,7 +30,7 @@ ghost use Rattle.table_types.specs.Booked.{Booked};
 ghost use Rattle.query_rows.specs.Rowed.{rowIn, docOf, Rowed, Sized};
 ghost use Rattle.paper_values.specs.Values.{Name, Value, Tree};
 ghost use Rattle.paper_values.specs.Kinds.{kindOfType};
-ghost use Rattle.paper_values.specs.Coercion.{coerce};
+ghost use Rattle.paper_values.specs.Computed.{coerce};
 ghost use Rattle.paper_values.specs.RowValues.{valueBy};
 ghost use Rattle.value_writing.specs.Writing.{Room};
 ghost use Rattle.value_kinds.specs.Dues.{Sorted, told, Told};
@@ -54,7 +54,7 @@ pub fn start_of(rows: &[u32], n: usize, i: usize) -> u32
 // Where row i stops; 0 if there is no such row.
 pub fn stop_of(rows: &[u32], n: usize, i: usize) -> u32
     requires { ⌜ Sized (now rows) n ⌝ }
-    ensures { λ r. ⌜ r ≡ rowIn (now (rows .entry)) n i .stop ⌝ }
+    ensures { λ r. ⌜ r ≡ rowIn (now (rows .entry)) n i .end ⌝ }
 {
     if i < n {
         return rows[ROW_SIZE * i + CELL_STOP];

@@ -11,9 +11,9 @@ use Rattle.paper.specs.Numbers.{rowSize, mostRows}
 use Rattle.paper_table.specs.References.{Ref}
 use Rattle.table_book.specs.Book.{part, countIn}
 use Rattle.table_types.specs.Booked.{Booked, definitionOn}
-use Rattle.paper_values.specs.Kinds.{kindOf}
+use Rattle.paper_values.specs.Kinds.{kindOfDefinition}
 use Rattle.query_rows.specs.Rowed.{cell, docOf}
-use Rattle.paper_values.specs.Values.{Name, Tree, Pairs, nothing, pair}
+use Rattle.paper_values.specs.Values.{Name, Tree, Pairs, no-pairs, pair}
 use Rattle.value_kinds.specs.Dues.{Sorted, DueIs, Fits}
 use Rattle.value_held.specs.Holding.{Kept, HeldAt, Holds}
 use Rattle.value_coerce.proofs.ObjectLaws.{joinPairs}
@@ -43,20 +43,20 @@ module _ (t book s rows : List ℕ) (n : ℕ) (s1 rows1 : List ℕ) (n1 : ℕ) w
         }
 
     pub holds-same : (j : ℕ) (ps : Pairs) → Holds t book s rows n s1 rows1 n1 held j m ps → j ≤ m → Holds t book s rows n s1 rows1 n1 held′ j m ps
-    holds-same j nothing h l = h
+    holds-same j no-pairs h l = h
     holds-same j (pair name tree ps) h l =
         let z : j + 1 ≤ m = later (j + 1) ps (h .1) in
         let k : j < m = omega (arith, z) in
         (held-same j name tree k (h .0), holds-same (j + 1) ps (h .1) (omega (arith, k)))
       where
         later : (i : ℕ) (ps : Pairs) → Holds t book s rows n s1 rows1 n1 held i m ps → i ≤ m
-        later i nothing q = omega (arith, q)
+        later i no-pairs q = omega (arith, q)
         later i (pair x y ps) q = let z = later (i + 1) ps (q .1) in omega (arith, z)
 
   -- one after the other
   pub holds-join : (held : List ℕ) (j m k : ℕ) (xs ys : Pairs) → Holds t book s rows n s1 rows1 n1 held j m xs → Holds t book s rows n s1 rows1 n1 held m k ys →
       Holds t book s rows n s1 rows1 n1 held j k (joinPairs xs ys)
-  holds-join held j m k nothing ys h g = subst (λ (i : ℕ). Holds t book s rows n s1 rows1 n1 held i k ys) (sym h) g
+  holds-join held j m k no-pairs ys h g = subst (λ (i : ℕ). Holds t book s rows n s1 rows1 n1 held i k ys) (sym h) g
   holds-join held j m k (pair name tree xs) ys h g = (h .0, holds-join held (j + 1) m k xs ys (h .1) g)
 
 -- ---- seven numbers stored
@@ -91,7 +91,7 @@ module _ (t book : List ℕ) (b : Booked t book) (ref : Ref) (sort number wrappe
   small-due = record {
     sorted = record {
       sort-is = is .sorted .sort-is;
-      held = λ h. is .sorted .held h ∙ ap (λ (k : ℕ). kindOf (definitionOn t k)) (sym (few-number h));
+      held = λ h. is .sorted .held h ∙ ap (λ (k : ℕ). kindOfDefinition (definitionOn t k)) (sym (few-number h));
       there = λ h. subst (λ (k : ℕ). k < countIn book) (sym (few-number h)) (is .sorted .there h);
     };
     packs = is .packs;

@@ -12,8 +12,9 @@ use Rattle.paper_query.specs.Constructs.{Doc, count, rowOf}
 use Rattle.query_rows.specs.Rowed.{rowIn, docOf}
 use Rattle.query_rows.proofs.RowsIn.{rows-count}
 use Rattle.paper_values.specs.ValueNumbers.{reasonMissing, reasonRepeated}
-use Rattle.paper_values.specs.Values.{Name, At, Value, Due, Tree, Pairs, nothing, pair, Out, Got, No, andThen}
-use Rattle.paper_values.specs.Coercion.{Given, heads, repeated, unless, first, field, missing, orDefault, entryOf, constant, variablesFrom, variablesOf}
+use Rattle.paper_values.specs.Values.{Name, At, Value, Due, Tree, Pairs, no-pairs, pair, Out, Got, No, andThen}
+use Rattle.paper_values.specs.Computed.{Given, unless, pairFirst, dueField, missingDue, orDefault, entryOf, constant, variablesFrom, variablesOf}
+use Rattle.paper_values.specs.Coercion.{heads, repeatedEntry}
 use Rattle.paper_values.specs.Encoding.{encodePairs}
 use Rattle.paper_values.specs.RowValues.{placed, valueOfRow, entriesFrom}
 use Rattle.paper_values.specs.DocumentDues.{definitionsOf, dueVariable, variableDues, givenIn}
@@ -36,16 +37,16 @@ only-first : (t : List ℕ) (gs : List Given) (v : At × Due) (vs : List (At × 
     variablesFrom (kindsIn t) gs (v ∷ vs) ≡ andThen (onlyOf t gs v) (λ (ps : Pairs). andThen (variablesFrom (kindsIn t) gs vs) (λ (qs : Pairs). Got (joinPairs ps qs)))
 only-first t gs v vs = go (entryOf (v .1 .name) gs) (v .1 .default) (variablesFrom (kindsIn t) gs vs)
   where
-    lacks : (b : Bool) (rest : Out Pairs) → cond b (No (v .0) reasonMissing) rest ≡ andThen (cond b (No (v .0) reasonMissing) (Got nothing)) (λ (ps : Pairs). andThen rest (λ (qs : Pairs). Got (joinPairs ps qs)))
+    lacks : (b : Bool) (rest : Out Pairs) → cond b (No (v .0) reasonMissing) rest ≡ andThen (cond b (No (v .0) reasonMissing) (Got no-pairs)) (λ (ps : Pairs). andThen rest (λ (qs : Pairs). Got (joinPairs ps qs)))
     lacks true rest = refl
     lacks false rest = sym (and-got rest)
 
-    has : (o : Out Tree) (rest : Out Pairs) → first (v .1 .name) o rest ≡ andThen (first (v .1 .name) o (Got nothing)) (λ (ps : Pairs). andThen rest (λ (qs : Pairs). Got (joinPairs ps qs)))
+    has : (o : Out Tree) (rest : Out Pairs) → pairFirst (v .1 .name) o rest ≡ andThen (pairFirst (v .1 .name) o (Got no-pairs)) (λ (ps : Pairs). andThen rest (λ (qs : Pairs). Got (joinPairs ps qs)))
     has (Got x) rest = refl
     has (No j w) rest = refl
 
-    go : (o : Option (Ref → Out Tree)) (e : Option Value) (rest : Out Pairs) → field (orDefault (kindsIn t) (v .0) (v .1) e rest) (v .1) o rest ≡
-        andThen (field (orDefault (kindsIn t) (v .0) (v .1) e (Got nothing)) (v .1) o (Got nothing)) (λ (ps : Pairs). andThen rest (λ (qs : Pairs). Got (joinPairs ps qs)))
+    go : (o : Option (Ref → Out Tree)) (e : Option Value) (rest : Out Pairs) → dueField (orDefault (kindsIn t) (v .0) (v .1) e rest) (v .1) o rest ≡
+        andThen (dueField (orDefault (kindsIn t) (v .0) (v .1) e (Got no-pairs)) (v .1) o (Got no-pairs)) (λ (ps : Pairs). andThen rest (λ (qs : Pairs). Got (joinPairs ps qs)))
     go none none rest = lacks (isNonNull (v .1 .type)) rest
     go none (some w) rest = has (constant (kindsIn t) w (v .1 .type)) rest
     go (some f) e rest = has (f (v .1 .type)) rest
@@ -107,7 +108,7 @@ module _ (t book s rows : List ℕ) (n : ℕ) (s1 rows1 : List ℕ) (n1 limit fr
 
   pub going-start : (held : List ℕ) → Room limit from p₀ → length held ≡ rowSize * mostVariables → length (definitionsOf d op) ≤ mostVariables → Going held p₀ from 0 0
   going-start held r l f = record {
-    done = nothing;
+    done = no-pairs;
     put = no-pairs-put limit from p₀ (r .place);
     holds = refl;
     rest = sym (and-got whole) ∙ ap (λ (vs : List ℕ). andThen (behind vs) (λ (ps : Pairs). Got ps)) (sym (from-first d op));
@@ -185,16 +186,16 @@ module _ (t book s rows : List ℕ) (n : ℕ) (s1 rows1 : List ℕ) (n1 limit fr
 -- ---- a repeated name before all else
 
 module _ (t book s rows : List ℕ) (n : ℕ) (s1 rows1 : List ℕ) (n1 limit from op : ℕ) (p p′ held′ : List ℕ) (again : ℕ)
-    (m : (text : ℕ) (read : ℕ → Value) → Marks n1 text (repeated [] (heads (entriesFrom text (docOf s1 rows1 n1) read kindObjectField 0 (n1 - (0 + 1)) (0 + 1)))) again) where
+    (m : (text : ℕ) (read : ℕ → Value) → Marks n1 text (repeatedEntry [] (heads (entriesFrom text (docOf s1 rows1 n1) read kindObjectField 0 (n1 - (0 + 1)) (0 + 1)))) again) where
   abbrev vs : List (At × Due)
   vs = variableDues (docOf s rows n) op
 
   abbrev twice : Option At
-  twice = repeated [] (heads (givenIn (docOf s1 rows1 n1)))
+  twice = repeatedEntry [] (heads (givenIn (docOf s1 rows1 n1)))
 
   marks : Marks n1 inputVariables twice again
   marks =
-      subst (λ (k : ℕ). Marks n1 inputVariables (repeated [] (heads (entriesFrom inputVariables (docOf s1 rows1 n1) (valueOfRow inputVariables (docOf s1 rows1 n1)) kindObjectField 0 (k - 1) 1))) again)
+      subst (λ (k : ℕ). Marks n1 inputVariables (repeatedEntry [] (heads (entriesFrom inputVariables (docOf s1 rows1 n1) (valueOfRow inputVariables (docOf s1 rows1 n1)) kindObjectField 0 (k - 1) 1))) again)
       (sym (rows-count rows1 n1)) (m inputVariables (valueOfRow inputVariables (docOf s1 rows1 n1)))
 
   abbrev rest : Out Pairs

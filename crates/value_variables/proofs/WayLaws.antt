@@ -17,8 +17,8 @@ use Rattle.table_fields.specs.Wrappers.{packOf}
 use Rattle.table_book.specs.Book.{part}
 use Rattle.query_rows.specs.Rowed.{rowIn, docOf}
 use Rattle.query_rows.proofs.RowsIn.{rows-count, name-within}
-use Rattle.paper_values.specs.Values.{Name, At, Value, Due, Tree, Pairs, nothing, Out, Got, No}
-use Rattle.paper_values.specs.Coercion.{Given, first, missing, entryOf, constant, givens}
+use Rattle.paper_values.specs.Values.{Name, At, Value, Due, Tree, Pairs, no-pairs, Out, Got, No}
+use Rattle.paper_values.specs.Computed.{Given, pairFirst, missingDue, entryOf, constant, givens}
 use Rattle.paper_values.specs.RowValues.{placed, valueOfRow, entriesFrom}
 use Rattle.paper_values.specs.DocumentDues.{declaredRef, defaultRow, valueIf, dueVariable, givenIn}
 use Rattle.paper_values.specs.CallRules.{noVariables}
@@ -77,7 +77,7 @@ pub default-there : (s rows : List ℕ) (n v i : ℕ) → defaultRow (docOf s ro
 default-there s rows n v i q = subst (λ (k : ℕ). i < k) (rows-count rows n) (below (count (docOf s rows n)) _ i q)
 
 module _ (t book s rows : List ℕ) (n : ℕ) (past s1 rows1 : List ℕ) (n1 : ℕ) (past1 : List ℕ) (a : Asked t book s rows n past s1 rows1 n1 past1) (v many : ℕ) (held : List ℕ)
-    (room : rowSize * (many + 1) ≤ length held) (limit from : ℕ) (p p′ : List ℕ) (name size sort number wrappers : ℕ) (en : name ≡ rowIn rows n v .name) (es : size ≡ rowIn rows n v .size)
+    (room : rowSize * (many + 1) ≤ length held) (limit from : ℕ) (p p′ : List ℕ) (name size sort number wrappers : ℕ) (en : name ≡ rowIn rows n v .nameStart) (es : size ≡ rowIn rows n v .nameLength)
     (due : DueIs t book (declaredRef (docOf s rows n) v) sort number wrappers) (fits : Fits book sort number wrappers) where
   abbrev d : Doc
   d = docOf s rows n
@@ -131,25 +131,25 @@ module _ (t book s rows : List ℕ) (n : ℕ) (past s1 rows1 : List ℕ) (n1 : �
       same-here = keep-same held held′ many name size text i sort (small number) wrappers k room
 
     pub way-given : (held′ : List ℕ) (c : Coerced) → r < n1 → held′ ≡ sets held (rowSize * many) (name ∷ size ∷ inputVariables ∷ (r + 1) ∷ sort ∷ small number ∷ wrappers ∷ []) →
-        ToldPairs inputVariables limit (first (part s name size) (constant (kindsIn t) (valueOfRow inputVariables d1 (r + 1)) ref) (Got nothing)) from p p′ c → Goal held′ (told inputVariables (many + 1) c)
+        ToldPairs inputVariables limit (pairFirst (part s name size) (constant (kindsIn t) (valueOfRow inputVariables d1 (r + 1)) ref) (Got no-pairs)) from p p′ c → Goal held′ (told inputVariables (many + 1) c)
     way-given held′ c h k w =
-        whole held′ (told inputVariables (many + 1) c) (first (nameOf d v) (constant (kindsIn t) (valueOfRow inputVariables d1 (r + 1)) ref) (Got nothing))
+        whole held′ (told inputVariables (many + 1) c) (pairFirst (nameOf d v) (constant (kindsIn t) (valueOfRow inputVariables d1 (r + 1)) ref) (Got no-pairs))
         (only-given t (givensIn t d1) var (λ q. coerced t noVariables inputVariables d1 33 (r + 1) q) (entry-some h)) (same-here held′ inputVariables (r + 1) k)
         (told-first t book s rows n s1 rows1 n1 limit many from inputVariables p p′ held′ c (nameOf d v) (constant (kindsIn t) (valueOfRow inputVariables d1 (r + 1)) ref)
         (λ tree e. held-here held′ inputVariables (r + 1) k tree (λ z. absurd (omega (arith, z))) (λ z. record { there = omega (arith, h); is = e }))
-        (subst (λ (x : Name). ToldPairs inputVariables limit (first x (constant (kindsIn t) (valueOfRow inputVariables d1 (r + 1)) ref) (Got nothing)) from p p′ c) spelt w))
+        (subst (λ (x : Name). ToldPairs inputVariables limit (pairFirst x (constant (kindsIn t) (valueOfRow inputVariables d1 (r + 1)) ref) (Got no-pairs)) from p p′ c) spelt w))
 
     pub way-default : (held′ : List ℕ) (c : Coerced) (i : ℕ) → n1 ≤ r → defaultRow d v ≡ some i → held′ ≡ sets held (rowSize * many) (name ∷ size ∷ inputDocument ∷ i ∷ sort ∷ small number ∷ wrappers ∷ []) →
-        ToldPairs inputDocument limit (first (part s name size) (constant (kindsIn t) (valueOfRow inputDocument d i) ref) (Got nothing)) from p p′ c → Goal held′ (told inputDocument (many + 1) c)
+        ToldPairs inputDocument limit (pairFirst (part s name size) (constant (kindsIn t) (valueOfRow inputDocument d i) ref) (Got no-pairs)) from p p′ c → Goal held′ (told inputDocument (many + 1) c)
     way-default held′ c i h e k w =
-        whole held′ (told inputDocument (many + 1) c) (first (nameOf d v) (constant (kindsIn t) (valueOfRow inputDocument d i) ref) (Got nothing))
+        whole held′ (told inputDocument (many + 1) c) (pairFirst (nameOf d v) (constant (kindsIn t) (valueOfRow inputDocument d i) ref) (Got no-pairs))
         (only-default t (givensIn t d1) var (valueOfRow inputDocument d i) (entry-none h) (ap (valueIf d) e)) (same-here held′ inputDocument i k)
         (told-first t book s rows n s1 rows1 n1 limit many from inputDocument p p′ held′ c (nameOf d v) (constant (kindsIn t) (valueOfRow inputDocument d i) ref)
         (λ tree q. held-here held′ inputDocument i k tree (λ z. record { there = (let l = default-there s rows n v i e in omega (arith, l)); is = q }) (λ z. absurd (z refl)))
-        (subst (λ (x : Name). ToldPairs inputDocument limit (first x (constant (kindsIn t) (valueOfRow inputDocument d i) ref) (Got nothing)) from p p′ c) spelt w))
+        (subst (λ (x : Name). ToldPairs inputDocument limit (pairFirst x (constant (kindsIn t) (valueOfRow inputDocument d i) ref) (Got no-pairs)) from p p′ c) spelt w))
 
-    pub way-nothing : (c : Coerced) → n1 ≤ r → defaultRow d v ≡ none → ToldPairs inputDocument limit (missing (placed inputDocument d v) (dueVariable d v) (Got nothing)) from p p′ c → Goal held (told inputDocument many c)
+    pub way-nothing : (c : Coerced) → n1 ≤ r → defaultRow d v ≡ none → ToldPairs inputDocument limit (missingDue (placed inputDocument d v) (dueVariable d v) (Got no-pairs)) from p p′ c → Goal held (told inputDocument many c)
     way-nothing c h e w =
-        whole held (told inputDocument many c) (missing (placed inputDocument d v) (dueVariable d v) (Got nothing))
+        whole held (told inputDocument many c) (missingDue (placed inputDocument d v) (dueVariable d v) (Got no-pairs))
         (only-nothing t (givensIn t d1) var (entry-none h) (ap (valueIf d) e)) (record { size = refl; cells = λ j k x y. refl })
         (told-missing t book s rows n s1 rows1 n1 limit many from inputDocument p p′ held c (placed inputDocument d v) (dueVariable d v) w)

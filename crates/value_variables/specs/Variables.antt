@@ -14,8 +14,8 @@ use Rattle.paper_table.specs.Lists.{eachFrom, onlyIf}
 use Rattle.paper_query.specs.Constructs.{Doc, is, below}
 use Rattle.query_rows.specs.Rowed.{cell}
 use Rattle.query_rows.proofs.ReadRows.{Taken}
-use Rattle.paper_values.specs.Values.{At, Due, Tree, Pairs, nothing, Out, Got, No}
-use Rattle.paper_values.specs.Coercion.{Given, entryOf, field, orDefault, givens}
+use Rattle.paper_values.specs.Values.{At, Due, Tree, Pairs, no-pairs, Out, Got, No}
+use Rattle.paper_values.specs.Computed.{Given, entryOf, dueField, orDefault, givens}
 use Rattle.paper_values.specs.Encoding.{encodePairs}
 use Rattle.paper_values.specs.RowValues.{placed}
 use Rattle.paper_values.specs.DocumentDues.{dueVariable, givenIn}
@@ -54,7 +54,7 @@ givensIn t d1 = givens (kindsIn t) noVariables (givenIn d1)
 
 -- one variable alone: its entry's value, its default, reason 3 or nothing
 abbrev pub onlyOf : List ℕ → List Given → At × Due → Out Pairs
-onlyOf t gs v = field (orDefault (kindsIn t) (v .0) (v .1) (v .1 .default) (Got nothing)) (v .1) (entryOf (v .1 .name) gs) (Got nothing)
+onlyOf t gs v = dueField (orDefault (kindsIn t) (v .0) (v .1) (v .1 .default) (Got no-pairs)) (v .1) (entryOf (v .1 .name) gs) (Got no-pairs)
 
 abbrev pub onlyAt : List ℕ → Doc → Doc → ℕ → Out Pairs
 onlyAt t d d1 v = onlyOf t (givensIn t d1) (placed inputDocument d v, dueVariable d v)

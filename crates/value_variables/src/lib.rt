@@ -40,8 +40,8 @@ ghost use Rattle.paper.specs.Numbers.{rowSize, mostVariables};
 ghost use Rattle.paper_table.specs.References.{Ref};
 ghost use Rattle.table_book.specs.Book.{part};
 ghost use Rattle.query_rows.specs.Rowed.{rowIn, docOf, Sized};
-ghost use Rattle.paper_values.specs.Values.{Got, nothing};
-ghost use Rattle.paper_values.specs.Coercion.{first, constant, variablesFrom, variablesOf};
+ghost use Rattle.paper_values.specs.Values.{Got, no-pairs};
+ghost use Rattle.paper_values.specs.Computed.{pairFirst, constant, variablesFrom, variablesOf};
 ghost use Rattle.paper_values.specs.RowValues.{valueOfRow};
 ghost use Rattle.paper_values.specs.DocumentDues.{definitionsOf, givenIn, variableDues};
 ghost use Rattle.value_writing.specs.Writing.{Room};
@@ -108,7 +108,7 @@ fn put_pair(
 ) -> Coerced
     requires { ⌜ Ready (now t) (now book) (now s) (now rows) n (now past) × (i ≤ n) × Fits (now book) (due .sort) (due .number) (due .wrappers) × Meant (now t) (now book) (due .sort) (due .number) (due .wrappers) × (at + l ≤ length (now names)) × Room limit from (now out) ⌝ }
     ensures { λ c. ⌜ ((text : ℕ) (r : Ref) → DueIs (now (t .entry)) (now (book .entry)) r (due .sort) (due .number) (due .wrappers) →
-        ToldPairs text limit (first (part (now (names .entry)) at l) (constant (kindsIn (now (t .entry))) (valueOfRow text (docOf (now (s .entry)) (now (rows .entry)) n) i) r) (Got nothing)) from (now (out .entry)) (now (out .exit)) c) ⌝ }
+        ToldPairs text limit (pairFirst (part (now (names .entry)) at l) (constant (kindsIn (now (t .entry))) (valueOfRow text (docOf (now (s .entry)) (now (rows .entry)) n) i) r) (Got no-pairs)) from (now (out .entry)) (now (out .exit)) c) ⌝ }
 {
     let start = place(limit, from, 3);
     let stop = at + l;

@@ -13,8 +13,5 @@ returns-2 c = long-document (c .before .if1 .left) (c .if2 .taken)
 returns-3 : tie.Need-returns-3
 returns-3 c = long-table (c .before .before .if1 .left) (c .before .if2 .left) (c .if3 .taken)
 
-returns-4 : tie.Need-returns-4
-returns-4 c = search needs
-
 pub sizes-met-spec : {M : Type 1} → statement M
-sizes-met-spec = tie.close (tie.spec returns returns-2 returns-3 returns-4)
+sizes-met-spec = tie.close (tie.spec returns returns-2 returns-3 (λ c. search needs))

@@ -6,9 +6,6 @@ use Rattle.call_report.proofs.ReportLaws.{told}
 use Rattle.call_report.proofs.tell_five.Statement.{statement}
 use Rattle.call_report.proofs.tell_five.Tie as tie
 
-slice-write-report : tie.Need-slice-write-report
-slice-write-report c = search needs
-
 slice-write-report-2 : tie.Need-slice-write-report-2
 slice-write-report-2 c = simp length-set (omega arith)
 
@@ -27,12 +24,6 @@ slice-write-report-6 c = simp length-set (omega arith)
 slice-write-report-7 : tie.Need-slice-write-report-7
 slice-write-report-7 c = simp length-set (omega arith)
 
-slice-write-report-8 : tie.Need-slice-write-report-8
-slice-write-report-8 c = search needs
-
-same-length : tie.Need-same-length
-same-length c = search needs
-
 returns : tie.Need-returns
 returns c = let a = c .args in told (a .report .now) (a .number) (a .a) (a .b) (a .c) (a .d) (a .e) (c .pre)
 
@@ -40,13 +31,13 @@ pub tell-five-spec : {M : Type 1} → statement M
 tell-five-spec =
     tie.close
     (tie.spec
-    slice-write-report
+    (λ c. search needs)
     slice-write-report-2
     slice-write-report-3
     slice-write-report-4
     slice-write-report-5
     slice-write-report-6
     slice-write-report-7
-    slice-write-report-8
-    same-length
+    (λ c. search needs)
+    (λ c. search needs)
     returns)

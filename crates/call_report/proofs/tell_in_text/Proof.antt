@@ -6,31 +6,10 @@ use borrow.Author.Needs.{needs}
 use Rattle.call_report.proofs.tell_in_text.Statement.{statement}
 use Rattle.call_report.proofs.tell_in_text.Tie as tie
 
-number-of-requires : tie.Need-number-of-requires
-number-of-requires c κs = search needs
-
-shown-of-requires : tie.Need-shown-of-requires
-shown-of-requires c κs = search needs
-
-is-of-text-requires : tie.Need-is-of-text-requires
-is-of-text-requires c κs = search needs
-
-tell-five-requires : tie.Need-tell-five-requires
-tell-five-requires c κs = search needs
-
-same-length : tie.Need-same-length
-same-length c = search needs
-
 returns : tie.Need-returns
 returns c =
     text-told (c .before .before .before .before .before .before .before .before .before .args .r) (c .before .before .before .before .before .before .before .before .before .args .text) (c .before .before .before .before .before .before .before .before .before .args .report .now) _ _ _ (c .before .before .before .before .before .before .before .number-of .ensures) (c .before .before .before .before .before .before .shown-of .ensures) true
     (sym (c .before .before .before .before .if1 .taken) ∙ c .before .before .before .before .before .is-of-text .ensures) (c .before .before .tell-five .ensures)
-
-tell-requires : tie.Need-tell-requires
-tell-requires c κs = search needs
-
-same-length-2 : tie.Need-same-length-2
-same-length-2 c = search needs
 
 returns-2 : tie.Need-returns-2
 returns-2 c =
@@ -41,12 +20,12 @@ pub tell-in-text-spec : {M : Type 1} → statement M
 tell-in-text-spec =
     tie.close
     (tie.spec
-    number-of-requires
-    shown-of-requires
-    is-of-text-requires
-    tell-five-requires
-    same-length
+    (λ c κs. search needs)
+    (λ c κs. search needs)
+    (λ c κs. search needs)
+    (λ c κs. search needs)
+    (λ c. search needs)
     returns
-    tell-requires
-    same-length-2
+    (λ c κs. search needs)
+    (λ c. search needs)
     returns-2)

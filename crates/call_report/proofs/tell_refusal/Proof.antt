@@ -4,18 +4,6 @@ use Rattle.call_report.proofs.ReportLaws.{refusal-told}
 use Rattle.call_report.proofs.tell_refusal.Statement.{statement}
 use Rattle.call_report.proofs.tell_refusal.Tie as tie
 
-number-of-requires : tie.Need-number-of-requires
-number-of-requires c κs = search needs
-
-shown-of-requires : tie.Need-shown-of-requires
-shown-of-requires c κs = search needs
-
-tell-requires : tie.Need-tell-requires
-tell-requires c κs = search needs
-
-same-length : tie.Need-same-length
-same-length c = search needs
-
 returns : tie.Need-returns
 returns c =
     let n = c .before .before .before .before .before in
@@ -24,4 +12,4 @@ returns c =
 
 pub tell-refusal-spec : {M : Type 1} → statement M
 tell-refusal-spec =
-    tie.close (tie.spec number-of-requires shown-of-requires tell-requires same-length returns)
+    tie.close (tie.spec (λ c κs. search needs) (λ c κs. search needs) (λ c κs. search needs) (λ c. search needs) returns)

@@ -15,12 +15,6 @@ make-requires c κs = (c .before .before .before .before .before .before .pre .0
 tell-made-requires : tie.Need-tell-made-requires
 tell-made-requires c κs = let p = c .before .before .before .before .before .before .before .before .before .before .before .pre in (c .before .before .before .plan .given ∙ p .1, p .2, made-steps (c .before .before .before .before .make .ensures))
 
-same-length : tie.Need-same-length
-same-length c = search needs
-
-same-length-2 : tie.Need-same-length-2
-same-length-2 c = search needs
-
 returns : tie.Need-returns
 returns c =
     let a = c .before .before .before .before .before .before .before .before .before .before .before .before .before .before .before .before .args in
@@ -28,4 +22,4 @@ returns c =
     left-told (tableOf (a .table .now)) (docOf (a .document .now) (take rowsSize (a .plan .now)) (a .n)) (a .o) (a .plan .now) _ _ (a .report .now) _ (p .1) _ _ (c .before .before .before .before .before .before .before .before .before .make .ensures) (c .before .before .before .before .before .before .before .before .plan .given ∙ p .1) (c .before .before .before .before .tell-made .ensures)
 
 pub plan-opened-spec : {M : Type 1} → statement M
-plan-opened-spec = tie.close (tie.spec make-requires tell-made-requires same-length same-length-2 returns)
+plan-opened-spec = tie.close (tie.spec make-requires tell-made-requires (λ c. search needs) (λ c. search needs) returns)

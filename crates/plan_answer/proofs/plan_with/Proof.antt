@@ -20,9 +20,6 @@ slice-aggregate-open c = sym (length-take-le {A = ℕ} rowsSize (c .before .befo
 open-requires : tie.Need-open-requires
 open-requires c κs = (c .before .before .before .before .before .before .before .before .pre .1, c .before .before .before .before .before .before .before .before .pre .3, length-take-le {A = ℕ} rowsSize (c .before .before .before .before .before .before .before .before .args .plan .now) (omega (arith, c .before .before .before .before .before .before .before .before .pre .2)))
 
-enum-known-start : tie.Need-enum-known-start
-enum-known-start c = search needs
-
 clear-requires : tie.Need-clear-requires
 clear-requires c κs = omega arith
 
@@ -57,4 +54,4 @@ returns-2 : tie.Need-returns-2
 returns-2 c = planned-opened (c .before .before .before .before .before .before .before .before .before .before .before .before .before .before .before .before .before .before .before .before .before .before .before .before .args .table .now) (c .before .before .before .before .before .before .before .before .before .before .before .before .before .before .before .before .before .before .before .before .before .before .before .before .args .document .now) (c .before .before .before .before .before .before .before .before .before .before .before .before .before .before .before .before .before .before .before .before .before .before .before .before .args .name .now) (c .before .before .before .before .before .before .before .before .before .before .before .before .before .before .before .before .before .before .before .before .before .before .before .before .args .plan .now) (c .before .before .before .before .before .before .before .before .before .before .before .before .before .before .before .before .before .before .before .before .before .before .before .before .args .report .now) _ _ (c .before .before .before .before .before .before .before .before .before .before .before .before .before .before .before .before .before .before .before .before .before .before .before .before .pre .0) (c .before .before .before .before .before .before .before .before .before .before .before .before .before .before .before .before .before .before .before .before .before .before .before .before .pre .1) _ _ _ _ _ _ (c .before .before .before .before .before .before .before .before .before .before .before .before .before .before .before .«open» .ensures) (c .before .before .before .before .before .before .before .before .before .start .given .1) (c .before .before .before .before .before .before .before .before .before .before .before .before .before .before .before .before .before .before .before .before .before .before .before .before .pre .2) (c .before .before .before .before .plan-opened .ensures)
 
 pub plan-with-spec : {M : Type 1} → statement M
-plan-with-spec = tie.close (tie.spec slice-relend-prefix-open slice-aggregate-open open-requires enum-known-start clear-requires tell-stop-requires same-length same-length-2 same-length-3 returns plan-opened-requires same-length-4 same-length-5 same-length-6 returns-2)
+plan-with-spec = tie.close (tie.spec slice-relend-prefix-open slice-aggregate-open open-requires (λ c. search needs) clear-requires tell-stop-requires same-length same-length-2 same-length-3 returns plan-opened-requires same-length-4 same-length-5 same-length-6 returns-2)

@@ -11,11 +11,8 @@ use Rattle.plan_endings.proofs.sizes_met.Tie as tie
 returns : tie.Need-returns
 returns c = sized-short (c .before .args .plan) (c .before .args .document) (c .before .args .table) (c .if1 .taken)
 
-sizes-met-requires : tie.Need-sizes-met-requires
-sizes-met-requires c κs = search needs
-
 returns-2 : tie.Need-returns-2
 returns-2 c = sized-rest (c .before .before .args .plan) (c .before .before .args .document) (c .before .before .args .table) (c .sizes-met .result) (c .before .if1 .left) (c .sizes-met .ensures)
 
 pub sizes-met-spec : {M : Type 1} → statement M
-sizes-met-spec = tie.close (tie.spec returns sizes-met-requires returns-2)
+sizes-met-spec = tie.close (tie.spec returns (λ c κs. search needs) returns-2)

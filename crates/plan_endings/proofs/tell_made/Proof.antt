@@ -8,15 +8,6 @@ use Rattle.plan_endings.proofs.tell_made.Tie as tie
 clear-requires : tie.Need-clear-requires
 clear-requires c κs = omega arith
 
-tell-requires : tie.Need-tell-requires
-tell-requires c κs = search needs
-
-same-length : tie.Need-same-length
-same-length c = search needs
-
-same-length-2 : tie.Need-same-length-2
-same-length-2 c = search needs
-
 returns : tie.Need-returns
 returns c = told-many _ _ _ _ _ (c .before .before .before .before .before .before .before .before .if1 .taken) (c .before .before .before .before .before .before .clear .ensures) (c .before .before .tell .ensures)
 
@@ -26,12 +17,6 @@ slice-read-tell-five c = omega (arith, c .before .before .before .before .before
 cast-tell-five : tie.Need-cast-tell-five
 cast-tell-five c = omega (arith, c .before .before .before .before .before .pre .2)
 
-tell-five-requires : tie.Need-tell-five-requires
-tell-five-requires c κs = search needs
-
-same-length-3 : tie.Need-same-length-3
-same-length-3 c = search needs
-
 returns-2 : tie.Need-returns-2
 returns-2 c = told-counts _ _ _ _ (c .before .before .before .before .before .if1 .left) (c .before .before .tell-five .ensures)
 
@@ -40,12 +25,12 @@ tell-made-spec =
     tie.close
     (tie.spec
     clear-requires
-    tell-requires
-    same-length
-    same-length-2
+    (λ c κs. search needs)
+    (λ c. search needs)
+    (λ c. search needs)
     returns
     slice-read-tell-five
     cast-tell-five
-    tell-five-requires
-    same-length-3
+    (λ c κs. search needs)
+    (λ c. search needs)
     returns-2)

@@ -14,17 +14,8 @@ clear-requires c κs = omega arith
 write-plan-requires : tie.Need-write-plan-requires
 write-plan-requires c κs = let z : length (c .before .before .before .before .before .before .before .before .before .before .before .before .before .before .args .plan .now) - 0 ≡ planSize = omega (arith, c .before .before .before .before .before .before .before .before .before .before .before .before .before .before .pre .2) in (c .before .before .before .before .before .before .before .before .before .before .before .before .before .before .pre .0, c .before .before .before .before .before .before .before .before .before .before .before .before .before .before .pre .1, c .before .before .before .before .before .clear .ensures ∙ ap (λ (k : ℕ). replicate k 0) z, c .before .before .before .before .before .before .before .before .before .before .before .before .before .before .pre .3, c .before .before .before .before .before .before .before .before .before .before .before .before .before .before .pre .4)
 
-same-length : tie.Need-same-length
-same-length c = search needs
-
-same-length-2 : tie.Need-same-length-2
-same-length-2 c = search needs
-
-same-length-3 : tie.Need-same-length-3
-same-length-3 c = search needs
-
 returns : tie.Need-returns
 returns c = c .before .before .before .before .before .before .write-plan .ensures
 
 pub write-cleared-spec : {M : Type 1} → statement M
-write-cleared-spec = tie.close (tie.spec clear-requires write-plan-requires same-length same-length-2 same-length-3 returns)
+write-cleared-spec = tie.close (tie.spec clear-requires write-plan-requires (λ c. search needs) (λ c. search needs) (λ c. search needs) returns)

@@ -207,9 +207,6 @@ loop-again-6 c =
 cast-rows : tie.Need-cast-rows Inv-loop μ-loop
 cast-rows c = omega (arith, c .before .before .before .before .before .before .before .before .before .if2 .left, c .before .before .before .before .before .before .before .before .before .before .before .before .before .before .before .before .before .before .before .pre .0 .rows)
 
-mul-rows : tie.Need-mul-rows Inv-loop μ-loop
-mul-rows c = search needs
-
 slice-write-rows : tie.Need-slice-write-rows Inv-loop μ-loop
 slice-write-rows c =
     let a = c .before .before .before .before .before .before .before .before .before .before .before .before .before .before .before .before .before .before .before .args in let q = c .before .before .before .before .before .before .before .before .before .before .before .before .before .before .before .before .before .before .before .pre in let l = c .before .before .before .before .before .before .before .before .before .before .loop in let g = c .before .before .before .before .before .before .before .before .before .before .loop .inv .0 in
@@ -217,9 +214,6 @@ slice-write-rows c =
 
 cast-steps : tie.Need-cast-steps Inv-loop μ-loop
 cast-steps c = omega (arith, c .before .before .before .before .before .before .before .before .before .before .loop .inv .0 .doing .top)
-
-mul-steps : tie.Need-mul-steps Inv-loop μ-loop
-mul-steps c = search needs
 
 slice-write-steps : tie.Need-slice-write-steps Inv-loop μ-loop
 slice-write-steps c =
@@ -251,4 +245,4 @@ loop-again-7 c =
     (go-deeper (a .t .now) (a .n) (a .holder) (a .k) (a .from) (a .p .now) (a .first .now) (a .next .now) (q .1) (l .rows) (l .steps) (l .p) (l .d) (l .h) (l .at) (l .c) g (c .before .before .before .before .before .before .before .before .before .before .before .if2 .left) (sym (c .before .before .before .before .before .before .before .before .before .before .above-of2 .ensures) ∙ c .before .before .before .before .before .before .before .before .before .if4 .left) (λ e. c .before .before .before .before .before .before .before .if5 .left (c .before .before .before .before .before .before .before .before .what-of .ensures ∙ e)) (λ e. c .before .before .before .before .before .before .if6 .left (c .before .before .before .before .before .before .before .before .what-of .ensures ∙ e)) (λ e. c .before .before .before .before .before .if7 .left (c .before .before .before .before .before .before .before .before .what-of .ensures ∙ e)) (c .before .before .before .before .count-of .ensures) (c .before .before .before .if9 .left) (c .before .before .if10 .left) (omega (arith, g .levels, c .before .before .if10 .left, l .inv .1, q .3)) (omega (arith, g .levels, c .before .before .if10 .left, l .inv .2, q .4)) (q .0 .held (l .c) (c .before .before .before .before .before .before .before .before .before .before .before .if2 .left)) (c .before .behind-of .ensures) (c .link-of9 .ensures), length-set (l .rows) (l .d) (l .c) ∙ l .inv .1, length-set (l .steps) (l .d) (l .at) ∙ l .inv .2)
 
 pub expand-spec : {M : Type 1} → statement M
-expand-spec = tie.close (tie.spec Inv-loop μ-loop returns link-of-requires loop-holds same-length same-length-2 same-length-3 returns-2 sub-d link-of-requires-2 link-of-requires-3 put-tests-requires above-of-requires link-of-requires-4 loop-less loop-again above-of-requires-2 add-c loop-less-2 loop-again-2 what-of-requires link-of-requires-5 loop-less-3 loop-again-3 link-of-requires-6 loop-less-4 loop-again-4 put-field-requires same-length-4 same-length-5 same-length-6 returns-3 link-of-requires-7 loop-less-5 loop-again-5 count-of-requires add-if9 same-length-7 same-length-8 same-length-9 returns-4 add-if10 add-put-tests put-tests-requires-2 add-at link-of-requires-8 loop-less-6 loop-again-6 cast-rows mul-rows slice-write-rows cast-steps mul-steps slice-write-steps add-d add-at-2 behind-of-requires link-of-requires-9 loop-less-7 loop-again-7)
+expand-spec = tie.close (tie.spec Inv-loop μ-loop returns link-of-requires loop-holds same-length same-length-2 same-length-3 returns-2 sub-d link-of-requires-2 link-of-requires-3 put-tests-requires above-of-requires link-of-requires-4 loop-less loop-again above-of-requires-2 add-c loop-less-2 loop-again-2 what-of-requires link-of-requires-5 loop-less-3 loop-again-3 link-of-requires-6 loop-less-4 loop-again-4 put-field-requires same-length-4 same-length-5 same-length-6 returns-3 link-of-requires-7 loop-less-5 loop-again-5 count-of-requires add-if9 same-length-7 same-length-8 same-length-9 returns-4 add-if10 add-put-tests put-tests-requires-2 add-at link-of-requires-8 loop-less-6 loop-again-6 cast-rows (λ c. search needs) slice-write-rows cast-steps (λ c. search needs) slice-write-steps add-d add-at-2 behind-of-requires link-of-requires-9 loop-less-7 loop-again-7)

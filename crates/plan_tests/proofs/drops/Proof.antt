@@ -7,17 +7,11 @@ use borrow.Author.Needs.{needs}
 use Rattle.plan_tests.proofs.drops.Statement.{statement}
 use Rattle.plan_tests.proofs.drops.Tie as tie
 
-skip-drops-requires : tie.Need-skip-drops-requires
-skip-drops-requires c κs = search needs
-
 returns : tie.Need-returns
 returns c = drops-first (c .before .before .args .skip) (c .before .before .args .include) (sym (c .before .skip-drops .ensures) ∙ c .if1 .taken)
-
-include-drops-requires : tie.Need-include-drops-requires
-include-drops-requires c κs = search needs
 
 returns-2 : tie.Need-returns-2
 returns-2 c = drops-second (c .before .before .before .args .skip) (c .before .before .before .args .include) _ (sym (c .before .before .skip-drops .ensures) ∙ c .before .if1 .left) (c .include-drops .ensures)
 
 pub drops-spec : {M : Type 1} → statement M
-drops-spec = tie.close (tie.spec skip-drops-requires returns include-drops-requires returns-2)
+drops-spec = tie.close (tie.spec (λ c κs. search needs) returns (λ c κs. search needs) returns-2)

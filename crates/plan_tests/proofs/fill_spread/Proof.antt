@@ -30,29 +30,17 @@ cast-put-test c = let h = c .before .before .before .before .before .before .bef
 put-test-requires : tie.Need-put-test-requires
 put-test-requires c κs = let h = c .before .before .before .before .before .before .before .before .before .before .before .before .before .before .before .pre .0 .spreads (c .before .before .before .before .before .before .before .before .before .before .before .before .before .before .before .args .i) (c .before .before .before .before .before .before .before .before .before .before .before .before .before .before .before .pre .2) in (c .before .before .before .before .before .before .before .before .before .before .before .before .before .before .before .pre .5, omega (arith, c .before .before .before .before .before .before .before .before .before .before .before .before .before .before .before .pre .3), omega (arith, h, c .before .before .before .fragment-named .ensures, c .before .before .before .before .before .before .before .before .before .before .before .before .before .before .before .pre .0 .rowed .few, rank-most isFragment (rowsIn (c .before .before .before .before .before .before .before .before .before .before .before .before .before .before .before .args .rows .now) (c .before .before .before .before .before .before .before .before .before .before .before .before .before .before .before .args .n)) (c .before .before .before .fragment-named .result), fragment-rank-is (docOf (c .before .before .before .before .before .before .before .before .before .before .before .before .before .before .before .args .s .now) (c .before .before .before .before .before .before .before .before .before .before .before .before .before .before .before .args .rows .now) (c .before .before .before .before .before .before .before .before .before .before .before .before .before .before .before .args .n)) _ _ (c .before .before .before .before .before .before .before .before .before .before .before .before .before .before .before .args .n) (c .before .before .before .before .before .before .before .before .before .before .before .before .before .before .before .pre .0 .ranked) h (c .before .before .before .fragment-named .ensures) (c .before .before .link-of .ensures)))
 
-add-put-test : tie.Need-add-put-test
-add-put-test c = search needs
-
 put-test-requires-2 : tie.Need-put-test-requires-2
 put-test-requires-2 c κs = (omega (arith, c .before .before .row .given, c .before .before .before .before .before .before .before .before .before .before .before .before .before .before .before .before .before .before .before .pre .5), omega (arith, c .before .before .before .before .before .before .before .before .before .before .before .before .before .before .before .before .before .before .before .pre .3), omega (arith, c .before .before .before .before .before .type-on .ensures, on-few (c .before .before .before .before .before .before .before .before .before .before .before .before .before .before .before .before .before .before .before .args .t .now) (c .before .before .before .before .before .before .before .before .before .before .before .before .before .before .before .before .before .before .before .args .book .now) (c .before .before .before .before .before .before .before .before .before .before .before .before .before .before .before .before .before .before .before .pre .0 .booked) (docOf (c .before .before .before .before .before .before .before .before .before .before .before .before .before .before .before .before .before .before .before .args .s .now) (c .before .before .before .before .before .before .before .before .before .before .before .before .before .before .before .before .before .before .before .args .rows .now) (c .before .before .before .before .before .before .before .before .before .before .before .before .before .before .before .before .before .before .before .args .n)) (conditionOf (docOf (c .before .before .before .before .before .before .before .before .before .before .before .before .before .before .before .before .before .before .before .args .s .now) (c .before .before .before .before .before .before .before .before .before .before .before .before .before .before .before .before .before .before .before .args .rows .now) (c .before .before .before .before .before .before .before .before .before .before .before .before .before .before .before .before .before .before .before .args .n)) (c .before .before .before .before .before .before .before .fragment-named .result))))
 
 cast-put-head : tie.Need-cast-put-head
 cast-put-head c = omega (arith, c .before .before .before .before .before .before .before .before .before .before .before .before .before .before .before .before .before .before .before .before .before .before .before .pre .0 .spreads (c .before .before .before .before .before .before .before .before .before .before .before .before .before .before .before .before .before .before .before .before .before .before .before .args .i) (c .before .before .before .before .before .before .before .before .before .before .before .before .before .before .before .before .before .before .before .before .before .before .before .pre .2), c .before .before .before .before .before .before .before .before .before .before .before .fragment-named .ensures, c .before .before .before .before .before .before .before .before .before .before .before .before .before .before .before .before .before .before .before .before .before .before .before .pre .0 .rowed .few)
 
-add-put-head : tie.Need-add-put-head
-add-put-head c = search needs
-
-cast-put-head-2 : tie.Need-cast-put-head-2
-cast-put-head-2 c = search needs
-
 put-head-requires : tie.Need-put-head-requires
 put-head-requires c κs = (omega (arith, c .before .before .row2 .given, c .before .before .before .before .before .before .row .given, c .before .before .before .before .before .before .before .before .before .before .before .before .before .before .before .before .before .before .before .before .before .before .before .pre .5), c .before .before .before .before .before .before .before .before .before .before .before .before .before .before .before .before .before .before .before .before .before .before .before .pre .4, omega (arith, c .before .before .before .before .before .before .before .before .before .before .before .before .before .before .before .before .before .before .before .before .before .before .before .pre .0 .spreads (c .before .before .before .before .before .before .before .before .before .before .before .before .before .before .before .before .before .before .before .before .before .before .before .args .i) (c .before .before .before .before .before .before .before .before .before .before .before .before .before .before .before .before .before .before .before .before .before .before .before .pre .2), c .before .before .before .before .before .before .before .before .before .before .before .fragment-named .ensures, c .before .before .before .before .before .before .before .before .before .before .before .before .before .before .before .before .before .before .before .before .before .before .before .pre .0 .rowed .few), omega (arith, c .before .before .before .before .before .before .before .before .before .before .before .before .before .before .before .before .before .before .before .before .before .before .before .pre .3))
-
-same-length : tie.Need-same-length
-same-length c = search needs
 
 returns : tie.Need-returns
 returns c = spread-written (c .before .before .before .before .before .before .before .before .before .before .before .before .before .before .before .before .before .before .before .before .before .before .before .before .before .before .args .row .now) _ _ _ (c .before .before .before .before .before .before .before .before .before .before .before .before .before .before .before .before .before .before .before .before .before .before .before .before .before .before .args .m) (c .before .before .before .before .before .before .before .before .before .before .before .before .before .before .before .before .before .before .before .before .before .before .before .before .before .before .args .above) _ _ _ _ _ _ (fragment-ranked (docOf (c .before .before .before .before .before .before .before .before .before .before .before .before .before .before .before .before .before .before .before .before .before .before .before .before .before .before .args .s .now) (c .before .before .before .before .before .before .before .before .before .before .before .before .before .before .before .before .before .before .before .before .before .before .before .before .before .before .args .rows .now) (c .before .before .before .before .before .before .before .before .before .before .before .before .before .before .before .before .before .before .before .before .before .before .before .before .before .before .args .n)) _ _ (c .before .before .before .before .before .before .before .before .before .before .before .before .before .before .before .before .before .before .before .before .before .before .before .before .before .before .args .n) (c .before .before .before .before .before .before .before .before .before .before .before .before .before .before .before .before .before .before .before .before .before .before .before .before .before .before .pre .0 .ranked) (c .before .before .before .before .before .before .before .before .before .before .before .before .before .before .before .before .before .before .before .before .before .before .before .before .before .before .pre .0 .spreads (c .before .before .before .before .before .before .before .before .before .before .before .before .before .before .before .before .before .before .before .before .before .before .before .before .before .before .args .i) (c .before .before .before .before .before .before .before .before .before .before .before .before .before .before .before .before .before .before .before .before .before .before .before .before .before .before .pre .2)) (c .before .before .before .before .before .before .before .before .before .before .before .before .before .before .fragment-named .ensures) (c .before .before .before .before .before .before .before .before .before .before .before .before .before .link-of .ensures)) (c .before .before .before .before .before .before .before .before .before .before .before .before .type-on .ensures ∙ ap (λ (f : ℕ). typeOn (tableOf (c .before .before .before .before .before .before .before .before .before .before .before .before .before .before .before .before .before .before .before .before .before .before .before .before .before .before .args .t .now)) (docOf (c .before .before .before .before .before .before .before .before .before .before .before .before .before .before .before .before .before .before .before .before .before .before .before .before .before .before .args .s .now) (c .before .before .before .before .before .before .before .before .before .before .before .before .before .before .before .before .before .before .before .before .before .before .before .before .before .before .args .rows .now) (c .before .before .before .before .before .before .before .before .before .before .before .before .before .before .before .before .before .before .before .before .before .before .before .before .before .before .args .n)) (conditionOf (docOf (c .before .before .before .before .before .before .before .before .before .before .before .before .before .before .before .before .before .before .before .before .before .before .before .before .before .before .args .s .now) (c .before .before .before .before .before .before .before .before .before .before .before .before .before .before .before .before .before .before .before .before .before .before .before .before .before .before .args .rows .now) (c .before .before .before .before .before .before .before .before .before .before .before .before .before .before .before .before .before .before .before .before .before .before .before .before .before .before .args .n)) f)) (c .before .before .before .before .before .before .before .before .before .before .before .before .before .before .fragment-named .ensures)) (c .before .before .before .before .before .before .before .before .before .before .before .before .before .before .fragment-named .ensures) (c .before .before .before .before .before .before .before .before .before .before .put-test .ensures) (c .before .before .before .before .before .before .put-test2 .ensures) (c .before .before .put-head .ensures)
 
 pub fill-spread-spec : {M : Type 1} → statement M
-fill-spread-spec = tie.close (tie.spec fragment-named-requires link-of-requires type-on-requires cast-put-test put-test-requires add-put-test put-test-requires-2 cast-put-head add-put-head cast-put-head-2 put-head-requires same-length returns)
+fill-spread-spec = tie.close (tie.spec fragment-named-requires link-of-requires type-on-requires cast-put-test put-test-requires (λ c. search needs) put-test-requires-2 cast-put-head (λ c. search needs) (λ c. search needs) put-head-requires (λ c. search needs) returns)

@@ -23,26 +23,11 @@ mul-from c = omega (arith, c .loop-test .taken, c .before .before .before .befor
 add-to : tie.Need-add-to Inv-loop μ-loop
 add-to c = omega (arith, c .loop-test .taken, c .before .before .before .before .before .before .before .before .before .before .before .before .before .pre .0 .rowed .few)
 
-mul-fill-row : tie.Need-mul-fill-row Inv-loop μ-loop
-mul-fill-row c = search needs
-
-sub-fill-row : tie.Need-sub-fill-row Inv-loop μ-loop
-sub-fill-row c = search needs
-
-part-fill-row-start : tie.Need-part-fill-row-start Inv-loop μ-loop
-part-fill-row-start c = search needs
-
 part-fill-row-end : tie.Need-part-fill-row-end Inv-loop μ-loop
 part-fill-row-end c = omega (arith, c .before .loop .inv .size, c .before .before .before .before .before .before .before .before .before .before .before .before .before .pre .2, c .loop-test .taken)
 
 fill-row-requires : tie.Need-fill-row-requires Inv-loop μ-loop
 fill-row-requires c κs = (c .before .before .before .before .before .before .before .before .before .before .before .before .before .before .pre .0, c .before .loop-test .taken, c .before .before .before .before .before .before .before .before .before .before .before .before .before .before .pre .1, row-size (c .before .before .loop .cells) (c .before .before .loop .i) (omega (arith, c .before .before .loop .inv .size, c .before .before .before .before .before .before .before .before .before .before .before .before .before .before .pre .2, c .before .loop-test .taken)))
-
-add-i : tie.Need-add-i Inv-loop μ-loop
-add-i c = search needs
-
-loop-less : tie.Need-loop-less Inv-loop μ-loop
-loop-less c = search needs
 
 loop-again : tie.Need-loop-again Inv-loop μ-loop
 loop-again c = filling-put (c .before .before .before .before .before .before .before .before .before .before .before .before .before .before .before .before .before .args .t .now) (c .before .before .before .before .before .before .before .before .before .before .before .before .before .before .before .before .before .args .s .now) (c .before .before .before .before .before .before .before .before .before .before .before .before .before .before .before .before .before .args .rows .now) (c .before .before .before .before .before .before .before .before .before .before .before .before .before .before .before .before .before .args .n) (c .before .before .before .before .before .before .before .before .before .before .before .before .before .before .before .before .before .args .o) (c .before .before .before .before .before .before .before .before .before .before .before .before .before .before .before .before .before .args .cells .now) (c .before .before .before .before .before .loop .cells) _ (c .before .before .before .before .before .loop .i) (c .before .before .before .before .before .loop .inv) (c .before .before .before .before .loop-test .taken) (c .before .before .before .before .before .before .before .before .before .before .before .before .before .before .before .before .before .pre .2) (c .before .before .fill-row .ensures)
@@ -54,4 +39,4 @@ returns : tie.Need-returns Inv-loop μ-loop
 returns c = let z : c .before .loop .i ≡ c .before .before .before .before .before .before .before .before .before .before .before .before .before .args .n = omega (arith, c .loop-test .left, c .before .loop .inv .most) in subst (TableTo (c .before .before .before .before .before .before .before .before .before .before .before .before .before .args .t .now) (c .before .before .before .before .before .before .before .before .before .before .before .before .before .args .s .now) (c .before .before .before .before .before .before .before .before .before .before .before .before .before .args .rows .now) (c .before .before .before .before .before .before .before .before .before .before .before .before .before .args .n) (c .before .before .before .before .before .before .before .before .before .before .before .before .before .args .o) (c .before .loop .cells)) z (c .before .loop .inv .right)
 
 pub fill-table-spec : {M : Type 1} → statement M
-fill-table-spec = tie.close (tie.spec Inv-loop μ-loop loop-holds mul-from add-to mul-fill-row sub-fill-row part-fill-row-start part-fill-row-end fill-row-requires add-i loop-less loop-again same-length returns)
+fill-table-spec = tie.close (tie.spec Inv-loop μ-loop loop-holds mul-from add-to (λ c. search needs) (λ c. search needs) (λ c. search needs) part-fill-row-end fill-row-requires (λ c. search needs) (λ c. search needs) loop-again same-length returns)

@@ -12,35 +12,14 @@ use borrow.Author.Needs.{needs}
 use Rattle.plan_tests.proofs.type_named.Statement.{statement}
 use Rattle.plan_tests.proofs.type_named.Tie as tie
 
-name-of-requires : tie.Need-name-of-requires
-name-of-requires c κs = search needs
-
-cast-at : tie.Need-cast-at
-cast-at c = search needs
-
-size-of-requires : tie.Need-size-of-requires
-size-of-requires c κs = search needs
-
-cast-l : tie.Need-cast-l
-cast-l c = search needs
-
 composite-requires : tie.Need-composite-requires
 composite-requires c κs = (c .before .before .before .before .before .before .pre .0, rw (c .before .name-of .ensures, c .size-of .ensures) (name-within (c .before .before .before .before .before .before .args .s .now) (c .before .before .before .before .before .before .args .rows .now) (c .before .before .before .before .before .before .args .n) (c .before .before .before .before .before .before .pre .1) (c .before .before .before .before .before .before .args .j)))
 
-count-of-requires : tie.Need-count-of-requires
-count-of-requires c κs = search needs
-
-cast-result : tie.Need-cast-result
-cast-result c = search needs
-
 returns : tie.Need-returns
 returns c = type-none (tableOf (c .before .before .before .before .before .before .before .before .before .args .t .now)) (nameOf (docOf (c .before .before .before .before .before .before .before .before .before .args .s .now) (c .before .before .before .before .before .before .before .before .before .args .rows .now) (c .before .before .before .before .before .before .before .before .before .args .n)) (c .before .before .before .before .before .before .before .before .before .args .j)) _ _ (c .before .before .composite .ensures ∙ ap (compositeOf (tableOf (c .before .before .before .before .before .before .before .before .before .args .t .now))) (named (c .before .before .before .before .before .before .before .before .before .args .s .now) (c .before .before .before .before .before .before .before .before .before .args .rows .now) (c .before .before .before .before .before .before .before .before .before .args .n) (c .before .before .before .before .before .before .before .before .before .args .j) _ _ (c .before .before .before .before .name-of .ensures) (c .before .before .before .size-of .ensures))) (c .before .if1 .taken) (c .count-of .ensures ∙ c .before .before .before .before .before .before .before .before .before .pre .0 .count)
-
-sub-result : tie.Need-sub-result
-sub-result c = search needs
 
 returns-2 : tie.Need-returns-2
 returns-2 c = type-some (tableOf (c .before .before .before .before .before .before .before .before .args .t .now)) (nameOf (docOf (c .before .before .before .before .before .before .before .before .args .s .now) (c .before .before .before .before .before .before .before .before .args .rows .now) (c .before .before .before .before .before .before .before .before .args .n)) (c .before .before .before .before .before .before .before .before .args .j)) _ (c .before .composite .ensures ∙ ap (compositeOf (tableOf (c .before .before .before .before .before .before .before .before .args .t .now))) (named (c .before .before .before .before .before .before .before .before .args .s .now) (c .before .before .before .before .before .before .before .before .args .rows .now) (c .before .before .before .before .before .before .before .before .args .n) (c .before .before .before .before .before .before .before .before .args .j) _ _ (c .before .before .before .name-of .ensures) (c .before .before .size-of .ensures))) (c .if1 .left)
 
 pub type-named-spec : {M : Type 1} → statement M
-type-named-spec = tie.close (tie.spec name-of-requires cast-at size-of-requires cast-l composite-requires count-of-requires cast-result returns sub-result returns-2)
+type-named-spec = tie.close (tie.spec (λ c κs. search needs) (λ c. search needs) (λ c κs. search needs) (λ c. search needs) composite-requires (λ c κs. search needs) (λ c. search needs) returns (λ c. search needs) returns-2)

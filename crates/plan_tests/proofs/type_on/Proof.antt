@@ -10,23 +10,11 @@ use borrow.Author.Needs.{needs}
 use Rattle.plan_tests.proofs.type_on.Statement.{statement}
 use Rattle.plan_tests.proofs.type_on.Tie as tie
 
-first-below-requires : tie.Need-first-below-requires
-first-below-requires c κs = search needs
-
-count-of-requires : tie.Need-count-of-requires
-count-of-requires c κs = search needs
-
-cast-result : tie.Need-cast-result
-cast-result c = search needs
-
 returns : tie.Need-returns
 returns c = c .count-of .ensures ∙ c .before .before .before .before .before .before .before .before .before .pre .0 .count ∙ sym (ap (typeOn (tableOf (c .before .before .before .before .before .before .before .before .before .args .t .now)) (docOf (c .before .before .before .before .before .before .before .before .before .args .s .now) (c .before .before .before .before .before .before .before .before .before .args .rows .now) (c .before .before .before .before .before .before .before .before .before .args .n))) (condition-none (c .before .before .before .before .before .before .before .before .before .args .s .now) (c .before .before .before .before .before .before .before .before .before .args .rows .now) (c .before .before .before .before .before .before .before .before .before .args .n) (c .before .before .before .before .before .before .before .before .before .args .f) _ (c .before .before .first-below .ensures) (c .before .if1 .taken)))
-
-type-named-requires : tie.Need-type-named-requires
-type-named-requires c κs = search needs
 
 returns-2 : tie.Need-returns-2
 returns-2 c = c .type-named .ensures ∙ sym (ap (typeOn (tableOf (c .before .before .before .before .before .before .before .before .before .args .t .now)) (docOf (c .before .before .before .before .before .before .before .before .before .args .s .now) (c .before .before .before .before .before .before .before .before .before .args .rows .now) (c .before .before .before .before .before .before .before .before .before .args .n))) (condition-some (c .before .before .before .before .before .before .before .before .before .args .s .now) (c .before .before .before .before .before .before .before .before .before .args .rows .now) (c .before .before .before .before .before .before .before .before .before .args .n) (c .before .before .before .before .before .before .before .before .before .args .f) _ (c .before .before .first-below .ensures) (omega (arith, c .before .if1 .left))))
 
 pub type-on-spec : {M : Type 1} → statement M
-type-on-spec = tie.close (tie.spec first-below-requires count-of-requires cast-result returns type-named-requires returns-2)
+type-on-spec = tie.close (tie.spec (λ c κs. search needs) (λ c κs. search needs) (λ c. search needs) returns (λ c κs. search needs) returns-2)

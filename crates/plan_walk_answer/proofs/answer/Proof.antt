@@ -13,30 +13,15 @@ use Rattle.plan_walk_answer.proofs.answer.Tie as tie
 returns : tie.Need-returns
 returns c = short-report (c .if1 .taken) refl refl
 
-tell-refusal-requires : tie.Need-tell-refusal-requires
-tell-refusal-requires c κs = search needs
-
-same-length : tie.Need-same-length
-same-length c = search needs
-
 returns-2 : tie.Need-returns-2
 returns-2 c =
     let t = c .before .before .tell-refusal .ensures in
     pairs-short _ _ _ _ _ _ _ _ _ (c .before .before .before .before .before .if1 .left) (c .before .before .before .before .if2 .taken) (t .0) (t .1)
 
-tell-refusal-requires-2 : tie.Need-tell-refusal-requires-2
-tell-refusal-requires-2 c κs = search needs
-
-same-length-2 : tie.Need-same-length-2
-same-length-2 c = search needs
-
 returns-3 : tie.Need-returns-3
 returns-3 c =
     let t = c .before .before .tell-refusal2 .ensures in
     table-long _ _ _ _ _ _ _ _ _ (c .before .before .before .before .before .before .if1 .left, c .before .before .before .before .before .if2 .left) (c .before .before .before .before .if3 .taken) (t .0) (t .1)
-
-slice-relend-prefix-walk : tie.Need-slice-relend-prefix-walk
-slice-relend-prefix-walk c = search needs
 
 slice-aggregate-walk : tie.Need-slice-aggregate-walk
 slice-aggregate-walk c =
@@ -47,12 +32,6 @@ walk-requires c κs =
     let size = length-take-le {A = ℕ} pairsSize (c .before .before .before .before .before .before .before .before .before .before .before .args .pairs .now) (c .before .before .before .if2 .left) in
     ((c .before .before .before .before .if1 .left, le-of-eq (sym size)), c .before .before .if3 .left, size)
 
-same-length-3 : tie.Need-same-length-3
-same-length-3 c = search needs
-
-same-length-4 : tie.Need-same-length-4
-same-length-4 c = search needs
-
 returns-4 : tie.Need-returns-4
 returns-4 c =
     walked-beyond _ _ _ _ _ _ _ _ _ _ (c .before .before .before .before .before .before .before .before .before .if1 .left, c .before .before .before .before .before .before .before .before .if2 .left) (c .before .before .before .before .before .before .before .if3 .left) refl (c .before .before .before .before .walk .ensures)
@@ -62,15 +41,15 @@ answer-spec =
     tie.close
     (tie.spec
     returns
-    tell-refusal-requires
-    same-length
+    (λ c κs. search needs)
+    (λ c. search needs)
     returns-2
-    tell-refusal-requires-2
-    same-length-2
+    (λ c κs. search needs)
+    (λ c. search needs)
     returns-3
-    slice-relend-prefix-walk
+    (λ c. search needs)
     slice-aggregate-walk
     walk-requires
-    same-length-3
-    same-length-4
+    (λ c. search needs)
+    (λ c. search needs)
     returns-4)

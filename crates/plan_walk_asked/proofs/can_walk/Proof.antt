@@ -6,18 +6,6 @@ use borrow.Author.Needs.{needs}
 use Rattle.plan_walk_asked.proofs.can_walk.Statement.{statement}
 use Rattle.plan_walk_asked.proofs.can_walk.Tie as tie
 
-returns : tie.Need-returns
-returns c = search needs
-
-returns-2 : tie.Need-returns-2
-returns-2 c = search needs
-
-is-object-requires : tie.Need-is-object-requires
-is-object-requires c κs = search needs
-
-is-formed-requires : tie.Need-is-formed-requires
-is-formed-requires c κs = search needs
-
 all-known-requires : tie.Need-all-known-requires
 all-known-requires c κs = decided-yes _ _ (c .before .is-formed .ensures) (c .if4 .taken) .long
 
@@ -36,10 +24,10 @@ pub can-walk-spec : {M : Type 1} → statement M
 can-walk-spec =
     tie.close
     (tie.spec
-    returns
-    returns-2
-    is-object-requires
-    is-formed-requires
+    (λ c. search needs)
+    (λ c. search needs)
+    (λ c κs. search needs)
+    (λ c κs. search needs)
     all-known-requires
     returns-3
     returns-4

@@ -12,35 +12,12 @@ use Rattle.plan_walk_blocks.proofs.AnswerLaws.{no-marks, answer-over, a
 use borrow.Author.Needs.{needs}
 use Rattle.plan_walk_blocks.proofs.answer.Statement.{statement}
 use Rattle.plan_walk_blocks.proofs.answer.Tie as tie
-use Rattle.plan_walk_blocks.proofs.answer.Reads as reads
-use Rattle.plan_walk_blocks.proofs.answer.Lts as lts
-use Rattle.call_buffers.proofs.clear.Reads as clear-reads
-use Rattle.plan_walk_blocks.proofs.group.Reads as group-reads
-use Rattle.plan_walk_blocks.proofs.walk_blocks.Reads as walk-blocks-reads
 
--- src/lib.rt:126:48
-slice-aggregate-walk-blocks : tie.Need-slice-aggregate-walk-blocks
-slice-aggregate-walk-blocks c = search needs
-
--- src/lib.rt:126:58
-slice-aggregate-walk-blocks-2 : tie.Need-slice-aggregate-walk-blocks-2
-slice-aggregate-walk-blocks-2 c = search needs
-
--- src/lib.rt:126:9
 walk-blocks-requires : tie.Need-walk-blocks-requires
 walk-blocks-requires c κs =
     let p = c .before .before .before .before .before .before .before .pre in
     (p .0, p .1, record { vars-long = p .2; fits-long = p .3; met-long = omega arith; out-long = omega arith }, no-marks 64)
 
--- src/lib.rt:128:9
-clear-requires : tie.Need-clear-requires
-clear-requires c κs = search needs
-
--- src/lib.rt:129:9
-same-length : tie.Need-same-length
-same-length c = search needs
-
--- src/lib.rt:129:9
 returns : tie.Need-returns
 returns c =
     let a = c .before .before .before .before .before .before .before .before .before .before .before .before .before .before .before .args in
@@ -48,11 +25,6 @@ returns c =
     let w = c .before .before .before .before .before .before .before .walk-blocks in
     inl (answer-over (a .p .now) (a .blocks .now) (a .vars .now) (a .fits .now) (w .last .1 .1 .1 .1 .0) (w .last .1 .1 .1 .1 .1 .0) (w .result) (w .ensures) (a .out .now) _ (c .before .before .before .before .if1 .taken) (p .4) (c .before .before .clear .ensures))
 
--- src/lib.rt:131:11
-slice-aggregate-group : tie.Need-slice-aggregate-group
-slice-aggregate-group c = search needs
-
--- src/lib.rt:131:5
 group-requires : tie.Need-group-requires
 group-requires c κs =
     let a = c .before .before .before .before .before .before .before .before .before .before .before .before .before .args in
@@ -61,7 +33,6 @@ group-requires c κs =
     let f = answer-few (a .p .now) (a .blocks .now) (a .vars .now) (a .fits .now) (w .last .1 .1 .1 .1 .0) (w .last .1 .1 .1 .1 .1 .0) (w .result) (w .ensures) (c .before .before .if1 .left) in
     (omega (arith, f, w .kept .1 .1 .1 .1 .1 .0), f, omega (arith, p .4))
 
--- src/lib.rt:132:25
 mul-clear : tie.Need-mul-clear
 mul-clear c =
     let a = c .before .before .before .before .before .before .before .before .before .before .before .before .before .before .before .before .before .args in
@@ -70,7 +41,6 @@ mul-clear c =
     let f = answer-few (a .p .now) (a .blocks .now) (a .vars .now) (a .fits .now) (w .last .1 .1 .1 .1 .0) (w .last .1 .1 .1 .1 .1 .0) (w .result) (w .ensures) (c .before .before .before .before .before .before .if1 .left) in
     omega (arith, f)
 
--- src/lib.rt:132:5
 clear-requires-2 : tie.Need-clear-requires-2
 clear-requires-2 c κs =
     let a = c .before .before .before .before .before .before .before .before .before .before .before .before .before .before .before .before .before .args in
@@ -79,11 +49,6 @@ clear-requires-2 c κs =
     let f = answer-few (a .p .now) (a .blocks .now) (a .vars .now) (a .fits .now) (w .last .1 .1 .1 .1 .0) (w .last .1 .1 .1 .1 .1 .0) (w .result) (w .ensures) (c .before .before .before .before .before .before .if1 .left) in
     omega (arith, f, p .4, c .before .before .before .group .kept .1 .1 .0)
 
--- src/lib.rt:120:1
-same-length-2 : tie.Need-same-length-2
-same-length-2 c = search needs
-
--- src/lib.rt:120:1
 returns-2 : tie.Need-returns-2
 returns-2 c =
     let a = c .before .before .before .before .before .before .before .before .before .before .before .before .before .before .before .before .before .before .before .before .args in
@@ -95,15 +60,15 @@ pub answer-spec : {M : Type 1} → statement M
 answer-spec =
     tie.close
     (tie.spec
-    slice-aggregate-walk-blocks
-    slice-aggregate-walk-blocks-2
+    (λ c. search needs)
+    (λ c. search needs)
     walk-blocks-requires
-    clear-requires
-    same-length
+    (λ c κs. search needs)
+    (λ c. search needs)
     returns
-    slice-aggregate-group
+    (λ c. search needs)
     group-requires
     mul-clear
     clear-requires-2
-    same-length-2
+    (λ c. search needs)
     returns-2)

@@ -11,8 +11,6 @@ use Rattle.plan_walk_blocks.proofs.GroupLaws.{before-found, before-on, 
 use borrow.Author.Needs.{needs}
 use Rattle.plan_walk_blocks.proofs.came_before.Statement.{statement}
 use Rattle.plan_walk_blocks.proofs.came_before.Tie as tie
-use Rattle.plan_walk_blocks.proofs.came_before.Reads as reads
-use Rattle.plan_walk_blocks.proofs.came_before.Lts as lts
 
 abbrev Inv-loop : tie.InvT-loop
 Inv-loop found i key j₀ j = (j ≤ i) × (before found i key ≡ before found j key)
@@ -20,45 +18,21 @@ Inv-loop found i key j₀ j = (j ≤ i) × (before found i key ≡ before found 
 abbrev μ-loop : tie.MeasureT-loop
 μ-loop found i key j₀ j = j
 
--- src/lib.rt:72:5
 loop-holds : tie.Need-loop-holds Inv-loop μ-loop
 loop-holds c = (omega arith, refl)
 
--- src/lib.rt:73:9
-sub-j : tie.Need-sub-j Inv-loop μ-loop
-sub-j c = search needs
-
--- src/lib.rt:74:18
-mul-if1 : tie.Need-mul-if1 Inv-loop μ-loop
-mul-if1 c = search needs
-
--- src/lib.rt:74:12
-mul-if1-2 : tie.Need-mul-if1-2 Inv-loop μ-loop
-mul-if1-2 c = search needs
-
--- src/lib.rt:74:12
-shared-slice-read-if1 : tie.Need-shared-slice-read-if1 Inv-loop μ-loop
-shared-slice-read-if1 c = search needs
-
--- src/lib.rt:75:13
 returns : tie.Need-returns Inv-loop μ-loop
 returns c =
     let a = c .before .before .before .before .args in
     let l = c .before .before .before .loop in
     sym (l .inv .1 ∙ before-found (a .found .now) (a .key) (l .j) (c .before .before .loop-test .taken) (c .if1 .taken))
 
--- src/lib.rt:72:5
-loop-less : tie.Need-loop-less Inv-loop μ-loop
-loop-less c = search needs
-
--- src/lib.rt:72:5
 loop-again : tie.Need-loop-again Inv-loop μ-loop
 loop-again c =
     let a = c .before .before .before .before .args in
     let l = c .before .before .before .loop in
     (omega (arith, l .inv .0), l .inv .1 ∙ before-on (a .found .now) (a .key) (l .j) (c .before .before .loop-test .taken) (c .if1 .left))
 
--- src/lib.rt:67:1
 returns-2 : tie.Need-returns-2 Inv-loop μ-loop
 returns-2 c =
     let a = c .before .before .args in
@@ -73,11 +47,11 @@ came-before-spec =
     Inv-loop
     μ-loop
     loop-holds
-    sub-j
-    mul-if1
-    mul-if1-2
-    shared-slice-read-if1
+    (λ c. search needs)
+    (λ c. search needs)
+    (λ c. search needs)
+    (λ c. search needs)
     returns
-    loop-less
+    (λ c. search needs)
     loop-again
     returns-2)

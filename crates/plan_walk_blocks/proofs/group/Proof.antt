@@ -11,10 +11,6 @@ use Rattle.plan_walk_blocks.proofs.GroupLaws.{before-found, before-on, 
 use borrow.Author.Needs.{needs}
 use Rattle.plan_walk_blocks.proofs.group.Statement.{statement}
 use Rattle.plan_walk_blocks.proofs.group.Tie as tie
-use Rattle.plan_walk_blocks.proofs.group.Reads as reads
-use Rattle.plan_walk_blocks.proofs.group.Lts as lts
-use Rattle.plan_walk_blocks.proofs.came_before.Reads as came-before-reads
-use Rattle.plan_walk_blocks.proofs.emit.Reads as emit-reads
 
 abbrev Inv-loop : tie.InvT-loop
 Inv-loop found n out₀ m₀ i₀ out m i = Groups found n out₀ out m i
@@ -22,44 +18,20 @@ Inv-loop found n out₀ m₀ i₀ out m i = Groups found n out₀ out m i
 abbrev μ-loop : tie.MeasureT-loop
 μ-loop found n out₀ m₀ i₀ out m i = n - i
 
--- src/lib.rt:108:5
 loop-holds : tie.Need-loop-holds Inv-loop μ-loop
 loop-holds c = groups-start (c .before .before .args .found .now) (c .before .before .args .n) _
 
--- src/lib.rt:109:25
-mul-key : tie.Need-mul-key Inv-loop μ-loop
-mul-key c = search needs
-
--- src/lib.rt:109:19
-mul-key-2 : tie.Need-mul-key-2 Inv-loop μ-loop
-mul-key-2 c = search needs
-
--- src/lib.rt:109:19
-shared-slice-read-key : tie.Need-shared-slice-read-key Inv-loop μ-loop
-shared-slice-read-key c = search needs
-
--- src/lib.rt:110:12
 came-before-requires : tie.Need-came-before-requires Inv-loop μ-loop
 came-before-requires c κs =
     let l = c .before .before .loop in
     (omega (arith, c .before .before .before .before .before .pre .0, l .inv .high), omega (arith, c .before .before .before .before .before .pre .1, l .inv .high))
 
--- src/lib.rt:111:13
-add-i : tie.Need-add-i Inv-loop μ-loop
-add-i c = search needs
-
--- src/lib.rt:108:5
-loop-less : tie.Need-loop-less Inv-loop μ-loop
-loop-less c = search needs
-
--- src/lib.rt:108:5
 loop-again : tie.Need-loop-again Inv-loop μ-loop
 loop-again c =
     let a = c .before .before .before .before .before .before .before .args in
     let l = c .before .before .before .before .loop in
     groups-past (a .found .now) (a .n) _ _ _ (l .i) (l .inv) (c .before .before .before .loop-test .taken) (sym (c .before .came-before .ensures) ∙ c .if1 .taken)
 
--- src/lib.rt:114:9
 emit-requires : tie.Need-emit-requires Inv-loop μ-loop
 emit-requires c κs =
     let a = c .before .before .before .before .before .before .before .before .args in
@@ -67,26 +39,15 @@ emit-requires c κs =
     let p = c .before .before .before .before .before .before .before .before .pre in
     (p .0, omega (arith, l .inv .high), p .1, omega (arith, p .2, l .inv .size), groups-room (a .found .now) (a .n) _ _ (l .m) (l .i) (l .inv) (c .before .before .before .before .loop-test .taken) (sym (c .before .before .came-before .ensures) ∙ c .before .if1 .left) (p .1))
 
--- src/lib.rt:115:9
-add-i-2 : tie.Need-add-i-2 Inv-loop μ-loop
-add-i-2 c = search needs
-
--- src/lib.rt:108:5
-loop-less-2 : tie.Need-loop-less-2 Inv-loop μ-loop
-loop-less-2 c = search needs
-
--- src/lib.rt:108:5
 loop-again-2 : tie.Need-loop-again-2 Inv-loop μ-loop
 loop-again-2 c =
     let a = c .before .before .before .before .before .before .before .before .before .before .before .args in
     let l = c .before .before .before .before .before .before .before .before .loop in
     groups-more (a .found .now) (a .n) _ _ (l .m) (l .i) (l .inv) (c .before .before .before .before .before .before .before .loop-test .taken) (sym (c .before .before .before .before .before .came-before .ensures) ∙ c .before .before .before .before .if1 .left) _ _ (c .before .before .emit .kept .1 .1 .1 .1 .0) (c .before .before .emit .ensures)
 
--- src/lib.rt:102:1
 same-length : tie.Need-same-length Inv-loop μ-loop
 same-length c = c .before .loop .inv .size
 
--- src/lib.rt:102:1
 returns : tie.Need-returns Inv-loop μ-loop
 returns c =
     let a = c .before .before .before .before .args in
@@ -100,16 +61,16 @@ group-spec =
     Inv-loop
     μ-loop
     loop-holds
-    mul-key
-    mul-key-2
-    shared-slice-read-key
+    (λ c. search needs)
+    (λ c. search needs)
+    (λ c. search needs)
     came-before-requires
-    add-i
-    loop-less
+    (λ c. search needs)
+    (λ c. search needs)
     loop-again
     emit-requires
-    add-i-2
-    loop-less-2
+    (λ c. search needs)
+    (λ c. search needs)
     loop-again-2
     same-length
     returns)

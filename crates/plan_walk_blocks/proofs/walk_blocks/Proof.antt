@@ -11,10 +11,6 @@ use Rattle.plan_walk_blocks.proofs.GroupLaws.{before-found, before-on, 
 use borrow.Author.Needs.{needs}
 use Rattle.plan_walk_blocks.proofs.walk_blocks.Statement.{statement}
 use Rattle.plan_walk_blocks.proofs.walk_blocks.Tie as tie
-use Rattle.plan_walk_blocks.proofs.walk_blocks.Reads as reads
-use Rattle.plan_walk_blocks.proofs.walk_blocks.Lts as lts
-use Rattle.plan_walk_blocks.proofs.walk_one.Reads as walk-one-reads
-use Rattle.plan_walk_formed.proofs.number_at.Reads as number-at-reads
 
 abbrev Inv-loop : tie.InvT-loop
 Inv-loop p blocks vars fits met₀ out₀ n₀ j₀ met out n j = (j ≤ length blocks) × Going p blocks vars fits met out j n × (length met ≡ length met₀) × (length out ≡ length out₀)
@@ -22,17 +18,11 @@ Inv-loop p blocks vars fits met₀ out₀ n₀ j₀ met out n j = (j ≤ length 
 abbrev μ-loop : tie.MeasureT-loop
 μ-loop p blocks vars fits met₀ out₀ n₀ j₀ met out n j = length blocks - j
 
--- src/lib.rt:54:5
 loop-holds : tie.Need-loop-holds Inv-loop μ-loop
 loop-holds c =
     let a = c .before .before .before .before .before .before .args in
     (omega arith, going-start (a .p .now) (a .blocks .now) (a .vars .now) (a .fits .now) _ _ (c .before .before .before .before .before .before .pre .3), refl, refl)
 
--- src/lib.rt:55:13
-number-at-requires : tie.Need-number-at-requires Inv-loop μ-loop
-number-at-requires c κs = search needs
-
--- src/lib.rt:56:13
 walk-one-requires : tie.Need-walk-one-requires Inv-loop μ-loop
 walk-one-requires c κs =
     let p = c .before .before .before .before .before .before .before .before .before .before .before .pre in
@@ -44,15 +34,6 @@ walk-one-requires c κs =
       l .inv .1 .held .few,
     )
 
--- src/lib.rt:58:13
-same-length : tie.Need-same-length Inv-loop μ-loop
-same-length c = search needs
-
--- src/lib.rt:58:13
-same-length-2 : tie.Need-same-length-2 Inv-loop μ-loop
-same-length-2 c = search needs
-
--- src/lib.rt:58:13
 returns : tie.Need-returns Inv-loop μ-loop
 returns c =
     let a = c .before .before .before .before .before .before .before .before .before .before .before .before .before .before .before .before .before .args in
@@ -60,15 +41,6 @@ returns c =
     let e = c .if1 .taken in
     inl (subst (λ (k : ℕ). Over k (afterAll (a .p .now) (a .blocks .now) (a .vars .now) (a .fits .now))) e (going-over (a .p .now) (a .blocks .now) (a .vars .now) (a .fits .now) _ _ (l .j) _ (l .inv .1) (c .before .before .before .before .before .before .before .before .before .loop-test .taken) _ _ _ _ (c .before .before .before .before .before .before .before .before .number-at .ensures) (c .before .before .before .before .before .walk-one .ensures) e))
 
--- src/lib.rt:61:9
-add-j : tie.Need-add-j Inv-loop μ-loop
-add-j c = search needs
-
--- src/lib.rt:54:5
-loop-less : tie.Need-loop-less Inv-loop μ-loop
-loop-less c = search needs
-
--- src/lib.rt:54:5
 loop-again : tie.Need-loop-again Inv-loop μ-loop
 loop-again c =
     let a = c .before .before .before .before .before .before .before .before .before .before .before .before .before .before .before .before .before .args in
@@ -76,15 +48,6 @@ loop-again c =
     let k = c .before .before .before .before .before .walk-one .kept in
     (omega (arith, c .before .before .before .before .before .before .before .before .before .loop-test .taken), going-on (a .p .now) (a .blocks .now) (a .vars .now) (a .fits .now) _ _ (l .j) _ (l .inv .1) (c .before .before .before .before .before .before .before .before .before .loop-test .taken) _ _ _ _ (c .before .before .before .before .before .before .before .before .number-at .ensures) (c .before .before .before .before .before .walk-one .ensures) (c .if1 .left), k .1 .1 .1 .1 .0 ∙ l .inv .2, k .1 .1 .1 .1 .1 .0 ∙ l .inv .3)
 
--- src/lib.rt:41:1
-same-length-3 : tie.Need-same-length-3 Inv-loop μ-loop
-same-length-3 c = search needs
-
--- src/lib.rt:41:1
-same-length-4 : tie.Need-same-length-4 Inv-loop μ-loop
-same-length-4 c = search needs
-
--- src/lib.rt:41:1
 returns-2 : tie.Need-returns-2 Inv-loop μ-loop
 returns-2 c =
     let a = c .before .before .before .before .before .before .before .before .args in
@@ -98,14 +61,14 @@ walk-blocks-spec =
     Inv-loop
     μ-loop
     loop-holds
-    number-at-requires
+    (λ c κs. search needs)
     walk-one-requires
-    same-length
-    same-length-2
+    (λ c. search needs)
+    (λ c. search needs)
     returns
-    add-j
-    loop-less
+    (λ c. search needs)
+    (λ c. search needs)
     loop-again
-    same-length-3
-    same-length-4
+    (λ c. search needs)
+    (λ c. search needs)
     returns-2)

@@ -11,43 +11,22 @@ use Rattle.plan_walk_blocks.proofs.GroupLaws.{before-found, before-on, 
 use borrow.Author.Needs.{needs}
 use Rattle.plan_walk_blocks.proofs.walk_one.Statement.{statement}
 use Rattle.plan_walk_blocks.proofs.walk_one.Tie as tie
-use Rattle.plan_walk_blocks.proofs.walk_one.Reads as reads
-use Rattle.plan_walk_blocks.proofs.walk_one.Lts as lts
-use Rattle.plan_walk_formed.proofs.end_of.Reads as end-of-reads
-use Rattle.plan_walk_formed.proofs.number_at.Reads as number-at-reads
-use Rattle.plan_walk_steps.proofs.walk_block.Reads as walk-block-reads
 
--- src/lib.rt:30:22
-add-number-at : tie.Need-add-number-at
-add-number-at c = search needs
-
--- src/lib.rt:30:9
 number-at-requires : tie.Need-number-at-requires
 number-at-requires c κs =
     let p = c .before .before .before .before .before .pre in
     omega (arith, p .0 .long, p .0 .few-blocks, p .1)
 
--- src/lib.rt:31:9
 end-of-requires : tie.Need-end-of-requires
 end-of-requires c κs =
     let p = c .before .before .before .before .before .before .pre in
     (p .0 .long, omega (arith, p .0 .few-blocks, p .1))
 
--- src/lib.rt:28:5
 walk-block-requires : tie.Need-walk-block-requires
 walk-block-requires c κs =
     let p = c .before .before .before .before .before .before .before .before .before .pre in
     block-ready _ (p .0) _ (p .1) _ _ _ _ _ _ _ (c .before .before .before .number-at .ensures) (c .before .before .end-of .ensures) (p .2) (p .3)
 
--- src/lib.rt:16:1
-same-length : tie.Need-same-length
-same-length c = search needs
-
--- src/lib.rt:16:1
-same-length-2 : tie.Need-same-length-2
-same-length-2 c = search needs
-
--- src/lib.rt:16:1
 returns : tie.Need-returns
 returns c =
     let p = c .before .before .before .before .before .before .before .before .before .before .before .before .before .before .pre in
@@ -58,10 +37,10 @@ pub walk-one-spec : {M : Type 1} → statement M
 walk-one-spec =
     tie.close
     (tie.spec
-    add-number-at
+    (λ c. search needs)
     number-at-requires
     end-of-requires
     walk-block-requires
-    same-length
-    same-length-2
+    (λ c. search needs)
+    (λ c. search needs)
     returns)

@@ -13,43 +13,18 @@ use Rattle.plan_walk_formed.proofs.FormedLaws.{five-two, five-one, too-
 use borrow.Author.Needs.{needs}
 use Rattle.plan_walk_formed.proofs.block_formed.Statement.{statement}
 use Rattle.plan_walk_formed.proofs.block_formed.Tie as tie
-use Rattle.plan_walk_formed.proofs.block_formed.Reads as reads
-use Rattle.plan_walk_formed.proofs.block_formed.Lts as lts
-use Rattle.plan_walk_formed.proofs.end_of.Reads as end-of-reads
-use Rattle.plan_walk_formed.proofs.number_at.Reads as number-at-reads
-use Rattle.plan_walk_formed.proofs.steps_formed.Reads as steps-formed-reads
 
--- src/lib.rt:97:29
-add-number-at : tie.Need-add-number-at
-add-number-at c = search needs
-
--- src/lib.rt:97:9
-number-at-requires : tie.Need-number-at-requires
-number-at-requires c κs = search needs
-
--- src/lib.rt:98:9
-end-of-requires : tie.Need-end-of-requires
-end-of-requires c κs = search needs
-
--- src/lib.rt:100:9
 returns : tie.Need-returns
 returns c = λ w. omega (arith, w .order, c .if1 .taken, c .before .end-of .ensures, c .before .before .number-at .ensures)
 
--- src/lib.rt:102:8
-number-at-requires-2 : tie.Need-number-at-requires-2
-number-at-requires-2 c κs = search needs
-
--- src/lib.rt:103:9
 returns-2 : tie.Need-returns-2
 returns-2 c = λ w. omega (arith, w .top, c .if2 .taken, c .before .before .before .end-of .ensures, c .before .number-at2 .ensures)
 
--- src/lib.rt:105:5
 steps-formed-requires : tie.Need-steps-formed-requires
 steps-formed-requires c κs =
     let p = c .before .before .before .before .before .before .before .before .pre in
     (p .0, p .1, omega (arith, p .3, c .if2 .left, c .before .number-at2 .ensures))
 
--- src/lib.rt:93:1
 returns-3 : tie.Need-returns-3
 returns-3 c =
     let a = c .before .before .before .before .before .before .before .before .before .args in
@@ -59,11 +34,11 @@ pub block-formed-spec : {M : Type 1} → statement M
 block-formed-spec =
     tie.close
     (tie.spec
-    add-number-at
-    number-at-requires
-    end-of-requires
+    (λ c. search needs)
+    (λ c κs. search needs)
+    (λ c κs. search needs)
     returns
-    number-at-requires-2
+    (λ c κs. search needs)
     returns-2
     steps-formed-requires
     returns-3)

@@ -13,10 +13,6 @@ use Rattle.plan_walk_formed.proofs.FormedLaws.{five-two, five-one, too-
 use borrow.Author.Needs.{needs}
 use Rattle.plan_walk_formed.proofs.blocks_formed.Statement.{statement}
 use Rattle.plan_walk_formed.proofs.blocks_formed.Tie as tie
-use Rattle.plan_walk_formed.proofs.blocks_formed.Reads as reads
-use Rattle.plan_walk_formed.proofs.blocks_formed.Lts as lts
-use Rattle.plan_walk_formed.proofs.block_formed.Reads as block-formed-reads
-use Rattle.plan_walk_formed.proofs.number_at.Reads as number-at-reads
 
 abbrev Inv-loop : tie.InvT-loop
 Inv-loop t book p n b₀ b = (n ≡ blocksIn p) × ((j : ℕ) → j < b → BlockFormed (tableOf t) p j)
@@ -24,41 +20,27 @@ Inv-loop t book p n b₀ b = (n ≡ blocksIn p) × ((j : ℕ) → j < b → Bloc
 abbrev μ-loop : tie.MeasureT-loop
 μ-loop t book p n b₀ b = n - b
 
--- src/lib.rt:113:9
 number-at-requires : tie.Need-number-at-requires Inv-loop μ-loop
 number-at-requires c κs = omega (arith, c .before .before .before .pre .1 .long)
 
--- src/lib.rt:115:5
 loop-holds : tie.Need-loop-holds Inv-loop μ-loop
 loop-holds c = (c .number-at .ensures, λ j h. absurd (omega arith))
 
--- src/lib.rt:116:12
 block-formed-requires : tie.Need-block-formed-requires Inv-loop μ-loop
 block-formed-requires c κs =
     let p = c .before .before .before .before .before .before .pre in
     (p .0, p .1 .long, omega (arith, p .1 .few-blocks, c .before .loop .inv .0, c .loop-test .taken), p .1 .few-steps)
 
--- src/lib.rt:117:13
-add-b : tie.Need-add-b Inv-loop μ-loop
-add-b c = search needs
-
--- src/lib.rt:115:5
-loop-less : tie.Need-loop-less Inv-loop μ-loop
-loop-less c = search needs
-
--- src/lib.rt:115:5
 loop-again : tie.Need-loop-again Inv-loop μ-loop
 loop-again c =
     let l = c .before .before .before .loop in
     (l .inv .0, blocks-more _ _ (l .b) (l .inv .1) (decided-yes _ _ (c .before .block-formed .ensures) (c .if1 .taken)))
 
--- src/lib.rt:120:9
 returns : tie.Need-returns Inv-loop μ-loop
 returns c =
     let l = c .before .before .before .loop in
     λ f. decided-no _ _ (c .before .block-formed .ensures) (c .if1 .left) (f (l .b) (omega (arith, l .inv .0, c .before .before .loop-test .taken)))
 
--- src/lib.rt:109:1
 returns-2 : tie.Need-returns-2 Inv-loop μ-loop
 returns-2 c =
     let l = c .before .loop in
@@ -73,8 +55,8 @@ blocks-formed-spec =
     number-at-requires
     loop-holds
     block-formed-requires
-    add-b
-    loop-less
+    (λ c. search needs)
+    (λ c. search needs)
     loop-again
     returns
     returns-2)

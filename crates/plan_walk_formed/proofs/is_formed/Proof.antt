@@ -13,28 +13,17 @@ use Rattle.plan_walk_formed.proofs.FormedLaws.{five-two, five-one, too-
 use borrow.Author.Needs.{needs}
 use Rattle.plan_walk_formed.proofs.is_formed.Statement.{statement}
 use Rattle.plan_walk_formed.proofs.is_formed.Tie as tie
-use Rattle.plan_walk_formed.proofs.is_formed.Reads as reads
-use Rattle.plan_walk_formed.proofs.is_formed.Lts as lts
-use Rattle.plan_walk_formed.proofs.blocks_formed.Reads as blocks-formed-reads
-use Rattle.plan_walk_formed.proofs.is_headed.Reads as is-headed-reads
 
--- src/lib.rt:149:8
-is-headed-requires : tie.Need-is-headed-requires
-is-headed-requires c κs = search needs
-
--- src/lib.rt:150:9
 blocks-formed-requires : tie.Need-blocks-formed-requires
 blocks-formed-requires c κs = (c .before .before .before .before .before .pre, decided-yes _ _ (c .before .is-headed .ensures) (c .if1 .taken))
 
--- src/lib.rt:150:9
 returns : tie.Need-returns
 returns c =
     let a = c .before .before .before .before .before .before .args in
     formed-is (tableOf (a .t .now)) (a .p .now) (decided-yes _ _ (c .before .before .is-headed .ensures) (c .before .if1 .taken)) (c .blocks-formed .result) (c .blocks-formed .ensures)
 
--- src/lib.rt:145:1
 returns-2 : tie.Need-returns-2
 returns-2 c = λ w. decided-no _ _ (c .before .is-headed .ensures) (c .if1 .left) (formed-head _ _ w)
 
 pub is-formed-spec : {M : Type 1} → statement M
-is-formed-spec = tie.close (tie.spec is-headed-requires blocks-formed-requires returns returns-2)
+is-formed-spec = tie.close (tie.spec (λ c κs. search needs) blocks-formed-requires returns returns-2)

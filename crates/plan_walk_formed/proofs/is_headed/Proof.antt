@@ -13,42 +13,7 @@ use Rattle.plan_walk_formed.proofs.FormedLaws.{five-two, five-one, too-
 use borrow.Author.Needs.{needs}
 use Rattle.plan_walk_formed.proofs.is_headed.Statement.{statement}
 use Rattle.plan_walk_formed.proofs.is_headed.Tie as tie
-use Rattle.plan_walk_formed.proofs.is_headed.Reads as reads
-use Rattle.plan_walk_formed.proofs.is_headed.Lts as lts
 
--- src/lib.rt:130:9
-returns : tie.Need-returns
-returns c = search needs
-
--- src/lib.rt:132:8
-shared-slice-read-if2 : tie.Need-shared-slice-read-if2
-shared-slice-read-if2 c = search needs
-
--- src/lib.rt:133:9
-returns-2 : tie.Need-returns-2
-returns-2 c = search needs
-
--- src/lib.rt:135:22
-shared-slice-read-if3 : tie.Need-shared-slice-read-if3
-shared-slice-read-if3 c = search needs
-
--- src/lib.rt:136:9
-returns-3 : tie.Need-returns-3
-returns-3 c = search needs
-
--- src/lib.rt:138:21
-shared-slice-read-if4 : tie.Need-shared-slice-read-if4
-shared-slice-read-if4 c = search needs
-
--- src/lib.rt:139:9
-returns-4 : tie.Need-returns-4
-returns-4 c = search needs
-
--- src/lib.rt:141:5
-shared-slice-read-result : tie.Need-shared-slice-read-result
-shared-slice-read-result c = search needs
-
--- src/lib.rt:126:1
 returns-5 : tie.Need-returns-5
 returns-5 c =
     let p = c .before .before .before .before .before .before .before .before .args .p .now in
@@ -58,12 +23,12 @@ pub is-headed-spec : {M : Type 1} → statement M
 is-headed-spec =
     tie.close
     (tie.spec
-    returns
-    shared-slice-read-if2
-    returns-2
-    shared-slice-read-if3
-    returns-3
-    shared-slice-read-if4
-    returns-4
-    shared-slice-read-result
+    (λ c. search needs)
+    (λ c. search needs)
+    (λ c. search needs)
+    (λ c. search needs)
+    (λ c. search needs)
+    (λ c. search needs)
+    (λ c. search needs)
+    (λ c. search needs)
     returns-5)

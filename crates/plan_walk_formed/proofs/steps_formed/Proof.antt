@@ -13,9 +13,6 @@ use Rattle.plan_walk_formed.proofs.FormedLaws.{five-two, five-one, too-
 use borrow.Author.Needs.{needs}
 use Rattle.plan_walk_formed.proofs.steps_formed.Statement.{statement}
 use Rattle.plan_walk_formed.proofs.steps_formed.Tie as tie
-use Rattle.plan_walk_formed.proofs.steps_formed.Reads as reads
-use Rattle.plan_walk_formed.proofs.steps_formed.Lts as lts
-use Rattle.plan_walk_formed.proofs.step_formed.Reads as step-formed-reads
 
 abbrev Inv-loop : tie.InvT-loop
 Inv-loop t book p from end i₀ i = (from ≤ i) × ((j : ℕ) → from ≤ j → j < i → Formed (tableOf t) p end j)
@@ -23,37 +20,24 @@ Inv-loop t book p from end i₀ i = (from ≤ i) × ((j : ℕ) → from ≤ j �
 abbrev μ-loop : tie.MeasureT-loop
 μ-loop t book p from end i₀ i = end - i
 
--- src/lib.rt:71:5
 loop-holds : tie.Need-loop-holds Inv-loop μ-loop
 loop-holds c = (omega arith, λ j h l. absurd (omega arith))
 
--- src/lib.rt:72:12
 step-formed-requires : tie.Need-step-formed-requires Inv-loop μ-loop
 step-formed-requires c κs =
     let p = c .before .before .before .before .before .pre in
     (p .0, p .1, omega (arith, p .2, c .loop-test .taken))
 
--- src/lib.rt:73:13
-add-i : tie.Need-add-i Inv-loop μ-loop
-add-i c = search needs
-
--- src/lib.rt:71:5
-loop-less : tie.Need-loop-less Inv-loop μ-loop
-loop-less c = search needs
-
--- src/lib.rt:71:5
 loop-again : tie.Need-loop-again Inv-loop μ-loop
 loop-again c =
     let l = c .before .before .before .loop in
     (omega (arith, l .inv .0), steps-more _ _ _ _ (l .i) (l .inv .1) (decided-yes _ _ (c .before .step-formed .ensures) (c .if1 .taken)))
 
--- src/lib.rt:76:9
 returns : tie.Need-returns Inv-loop μ-loop
 returns c =
     let l = c .before .before .before .loop in
     λ f. decided-no _ _ (c .before .step-formed .ensures) (c .if1 .left) (f (l .i) (l .inv .0) (c .before .before .loop-test .taken))
 
--- src/lib.rt:66:1
 returns-2 : tie.Need-returns-2 Inv-loop μ-loop
 returns-2 c =
     let l = c .before .loop in
@@ -67,8 +51,8 @@ steps-formed-spec =
     μ-loop
     loop-holds
     step-formed-requires
-    add-i
-    loop-less
+    (λ c. search needs)
+    (λ c. search needs)
     loop-again
     returns
     returns-2)

@@ -8,25 +8,16 @@ use Rattle.plan_walk_told.proofs.ListedLaws.{pairs-listed}
 use Rattle.plan_walk_told.proofs.list_pairs.Statement.{statement}
 use Rattle.plan_walk_told.proofs.list_pairs.Tie as tie
 
-slice-aggregate-fill-fits : tie.Need-slice-aggregate-fill-fits
-slice-aggregate-fill-fits c = search needs
-
 fill-fits-requires : tie.Need-fill-fits-requires
 fill-fits-requires c κs =
     let p = c .before .before .before .before .before .before .before .pre in
     (p .0, object-below _ _ (p .0) _ (p .1 .object-record), refl)
-
-slice-aggregate-answer : tie.Need-slice-aggregate-answer
-slice-aggregate-answer c = search needs
 
 answer-requires : tie.Need-answer-requires
 answer-requires c κs =
     let p = c .before .before .before .before .before .before .before .before .before .before .before .pre in
     let f = c .before .before .before .fill-fits .ensures in
     (well-walkable _ _ _ (p .0) (p .1 .well-formed), p .1 .known, p .1 .all-variables, omega (arith, f .size), p .2)
-
-same-length : tie.Need-same-length
-same-length c = search needs
 
 returns : tie.Need-returns
 returns c =
@@ -38,9 +29,9 @@ pub list-pairs-spec : {M : Type 1} → statement M
 list-pairs-spec =
     tie.close
     (tie.spec
-    slice-aggregate-fill-fits
+    (λ c. search needs)
     fill-fits-requires
-    slice-aggregate-answer
+    (λ c. search needs)
     answer-requires
-    same-length
+    (λ c. search needs)
     returns)

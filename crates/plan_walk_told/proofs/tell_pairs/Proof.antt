@@ -5,23 +5,8 @@ use Rattle.plan_walk_told.proofs.ListedLaws.{told-many, told-few}
 use Rattle.plan_walk_told.proofs.tell_pairs.Statement.{statement}
 use Rattle.plan_walk_told.proofs.tell_pairs.Tie as tie
 
-tell-requires : tie.Need-tell-requires
-tell-requires c κs = search needs
-
-same-length : tie.Need-same-length
-same-length c = search needs
-
 returns : tie.Need-returns
 returns c = told-many _ _ _ (c .before .before .before .before .if1 .taken) (c .before .before .tell .ensures)
-
-cast-tell : tie.Need-cast-tell
-cast-tell c = search needs
-
-tell-requires-2 : tie.Need-tell-requires-2
-tell-requires-2 c κs = search needs
-
-same-length-2 : tie.Need-same-length-2
-same-length-2 c = search needs
 
 returns-2 : tie.Need-returns-2
 returns-2 c = told-few _ _ _ (omega (arith, c .before .before .before .before .if1 .left)) (c .before .before .tell2 .ensures)
@@ -29,4 +14,4 @@ returns-2 c = told-few _ _ _ (omega (arith, c .before .before .before .before .i
 pub tell-pairs-spec : {M : Type 1} → statement M
 tell-pairs-spec =
     tie.close
-    (tie.spec tell-requires same-length returns cast-tell tell-requires-2 same-length-2 returns-2)
+    (tie.spec (λ c κs. search needs) (λ c. search needs) returns (λ c. search needs) (λ c κs. search needs) (λ c. search needs) returns-2)

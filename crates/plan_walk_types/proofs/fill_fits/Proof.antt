@@ -9,9 +9,6 @@ use Rattle.plan_walk_types.proofs.FitLaws.{fits-none, fits-more}
 use borrow.Author.Needs.{needs}
 use Rattle.plan_walk_types.proofs.fill_fits.Statement.{statement}
 use Rattle.plan_walk_types.proofs.fill_fits.Tie as tie
-use Rattle.plan_walk_types.proofs.fill_fits.Reads as reads
-use Rattle.plan_walk_types.proofs.fill_fits.Lts as lts
-use Rattle.plan_walk_types.proofs.fit_of.Reads as fit-of-reads
 
 abbrev Inv-loop : tie.InvT-loop
 Inv-loop t book o fits₀ k₀ fits k = FitsTo (tableOf t) o fits k × (k ≤ room)
@@ -19,39 +16,22 @@ Inv-loop t book o fits₀ k₀ fits k = FitsTo (tableOf t) o fits k × (k ≤ ro
 abbrev μ-loop : tie.MeasureT-loop
 μ-loop t book o fits₀ k₀ fits k = room - k
 
--- src/lib.rt:52:5
 loop-holds : tie.Need-loop-holds Inv-loop μ-loop
 loop-holds c =
     let a = c .before .before .before .args in
     (fits-none (tableOf (a .t .now)) (a .o) _ (c .before .before .before .pre .2), omega arith)
 
--- src/lib.rt:53:19
-fit-of-requires : tie.Need-fit-of-requires Inv-loop μ-loop
-fit-of-requires c κs = search needs
-
--- src/lib.rt:53:9
 slice-write-fits : tie.Need-slice-write-fits Inv-loop μ-loop
 slice-write-fits c = omega (arith, c .before .before .loop .inv .0 .size, c .before .loop-test .taken)
 
--- src/lib.rt:54:9
-add-k : tie.Need-add-k Inv-loop μ-loop
-add-k c = search needs
-
--- src/lib.rt:52:5
-loop-less : tie.Need-loop-less Inv-loop μ-loop
-loop-less c = search needs
-
--- src/lib.rt:52:5
 loop-again : tie.Need-loop-again Inv-loop μ-loop
 loop-again c =
     let a = c .before .before .before .before .before .before .args in
     (fits-more (tableOf (a .t .now)) (a .o) _ _ (c .before .before .loop .k) _ (c .before .before .loop .inv .0) (c .before .loop-test .taken) (c .fit-of .ensures) refl, omega (arith, c .before .loop-test .taken))
 
--- src/lib.rt:47:1
 same-length : tie.Need-same-length Inv-loop μ-loop
 same-length c = c .before .loop .inv .0 .size ∙ sym (c .before .before .before .before .before .pre .2)
 
--- src/lib.rt:47:1
 returns : tie.Need-returns Inv-loop μ-loop
 returns c =
     let a = c .before .before .before .before .before .args in
@@ -65,10 +45,10 @@ fill-fits-spec =
     Inv-loop
     μ-loop
     loop-holds
-    fit-of-requires
+    (λ c κs. search needs)
     slice-write-fits
-    add-k
-    loop-less
+    (λ c. search needs)
+    (λ c. search needs)
     loop-again
     same-length
     returns)

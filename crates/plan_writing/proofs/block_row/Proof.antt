@@ -11,17 +11,8 @@ use Rattle.plan_writing.proofs.block_row.Tie as tie
 returns : tie.Need-returns
 returns c = block-first (c .before .args .o) (c .before .args .out .now) (c .before .args .b) (c .if1 .taken)
 
-sub-result : tie.Need-sub-result
-sub-result c = search needs
-
-mul-result : tie.Need-mul-result
-mul-result c = search needs
-
-shared-slice-read-result : tie.Need-shared-slice-read-result
-shared-slice-read-result c = search needs
-
 returns-2 : tie.Need-returns-2
 returns-2 c = block-later (c .before .before .args .o) (c .before .before .args .out .now) (c .before .before .args .b) (c .before .if1 .left)
 
 pub block-row-spec : {M : Type 1} → statement M
-block-row-spec = tie.close (tie.spec returns sub-result mul-result shared-slice-read-result returns-2)
+block-row-spec = tie.close (tie.spec returns (λ c. search needs) (λ c. search needs) (λ c. search needs) returns-2)

@@ -29,9 +29,6 @@ cast-plan c = omega (arith, c .before .before .loop .inv .0 .top)
 add-plan : tie.Need-add-plan Inv-loop μ-loop
 add-plan c = omega (arith, c .before .loop-test .taken, c .before .before .before .before .before .before .before .before .before .before .pre .1 .few)
 
-mul-plan : tie.Need-mul-plan Inv-loop μ-loop
-mul-plan c = search needs
-
 slice-write-plan : tie.Need-slice-write-plan Inv-loop μ-loop
 slice-write-plan c = omega (arith, c .before .loop-test .taken, c .before .before .before .before .before .before .before .before .before .before .pre .1 .few, c .before .before .loop .inv .0 .size)
 
@@ -75,4 +72,4 @@ returns-2 : tie.Need-returns-2 Inv-loop μ-loop
 returns-2 c = let z : c .before .loop .b ≡ length (c .before .before .before .before .before .before .before .before .before .args .o ∷ take (c .before .before .before .before .before .before .before .before .before .args .m) (c .before .before .before .before .before .before .before .before .before .args .out .now)) = omega (arith, c .loop-test .left, c .before .loop .inv .0 .most, holders-size (c .before .before .before .before .before .before .before .before .before .args .o) (c .before .before .before .before .before .before .before .before .before .args .m) (c .before .before .before .before .before .before .before .before .before .args .out .now) (c .before .before .before .before .before .before .before .before .before .pre .1 .within)) in inl (subst (Going (c .before .before .before .before .before .before .before .before .before .args .cells .now) (c .before .before .before .before .before .before .before .before .before .args .n) (c .before .before .before .before .before .before .before .before .before .args .o ∷ take (c .before .before .before .before .before .before .before .before .before .args .m) (c .before .before .before .before .before .before .before .before .before .args .out .now)) (c .before .loop .plan) (c .before .loop .at)) z (c .before .loop .inv .0))
 
 pub write-blocks-spec : {M : Type 1} → statement M
-write-blocks-spec = tie.close (tie.spec Inv-loop μ-loop loop-holds block-row-requires cast-plan add-plan mul-plan slice-write-plan add-expand expand-requires same-length same-length-2 same-length-3 returns add-b loop-less loop-again same-length-4 same-length-5 same-length-6 returns-2)
+write-blocks-spec = tie.close (tie.spec Inv-loop μ-loop loop-holds block-row-requires cast-plan add-plan (λ c. search needs) slice-write-plan add-expand expand-requires same-length same-length-2 same-length-3 returns add-b loop-less loop-again same-length-4 same-length-5 same-length-6 returns-2)

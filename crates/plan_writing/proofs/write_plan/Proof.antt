@@ -12,15 +12,6 @@ use Rattle.plan_writing.proofs.write_plan.Tie as tie
 write-blocks-requires : tie.Need-write-blocks-requires
 write-blocks-requires c κs = (c .before .before .before .before .before .before .before .before .before .before .pre .0, c .before .before .before .before .before .before .before .before .before .before .pre .1, c .before .before .before .before .before .before .before .before .before .before .pre .2, c .before .before .before .before .before .before .before .before .before .before .pre .3, c .before .before .before .before .before .before .before .before .before .before .pre .4)
 
-same-length : tie.Need-same-length
-same-length c = search needs
-
-same-length-2 : tie.Need-same-length-2
-same-length-2 c = search needs
-
-same-length-3 : tie.Need-same-length-3
-same-length-3 c = search needs
-
 returns : tie.Need-returns
 returns c = inr (many-by (c .before .before .before .before .before .before .before .write-blocks .ensures) (c .if1 .taken))
 
@@ -39,17 +30,8 @@ cast-plan-2 c = let w = going-by (c .before .before .before .before .before .bef
 slice-write-plan-2 : tie.Need-slice-write-plan-2
 slice-write-plan-2 c = let w = going-by (c .before .before .before .before .before .before .before .write-blocks .ensures) (c .if1 .left) in simp length-set (omega (arith, w .size))
 
-same-length-4 : tie.Need-same-length-4
-same-length-4 c = search needs
-
-same-length-5 : tie.Need-same-length-5
-same-length-5 c = search needs
-
-same-length-6 : tie.Need-same-length-6
-same-length-6 c = search needs
-
 returns-2 : tie.Need-returns-2
 returns-2 c = let z : c .before .before .before .before .before .before .before .before .before .before .before .before .before .before .before .before .before .before .args .m + 1 ≡ length (c .before .before .before .before .before .before .before .before .before .before .before .before .before .before .before .before .before .before .args .o ∷ take (c .before .before .before .before .before .before .before .before .before .before .before .before .before .before .before .before .before .before .args .m) (c .before .before .before .before .before .before .before .before .before .before .before .before .before .before .before .before .before .before .args .out .now)) = omega (arith, holders-size (c .before .before .before .before .before .before .before .before .before .before .before .before .before .before .before .before .before .before .args .o) (c .before .before .before .before .before .before .before .before .before .before .before .before .before .before .before .before .before .before .args .m) (c .before .before .before .before .before .before .before .before .before .before .before .before .before .before .before .before .before .before .args .out .now) (c .before .before .before .before .before .before .before .before .before .before .before .before .before .before .before .before .before .before .pre .1 .within)) in inl (going-fits (c .before .before .before .before .before .before .before .before .before .before .before .before .before .before .before .before .before .before .args .cells .now) (c .before .before .before .before .before .before .before .before .before .before .before .before .before .before .before .before .before .before .args .n) (c .before .before .before .before .before .before .before .before .before .before .before .before .before .before .before .before .before .before .args .o ∷ take (c .before .before .before .before .before .before .before .before .before .before .before .before .before .before .before .before .before .before .args .m) (c .before .before .before .before .before .before .before .before .before .before .before .before .before .before .before .before .before .before .args .out .now)) _ _ (going-by (c .before .before .before .before .before .before .before .write-blocks .ensures) (c .if1 .left)) (c .before .before .before .before .before .before .before .before .before .before .before .before .before .before .before .before .before .before .args .m + 1) (omega (arith, c .before .before .before .before .before .before .before .before .before .before .before .before .before .before .before .before .before .before .pre .1 .few, holders-size (c .before .before .before .before .before .before .before .before .before .before .before .before .before .before .before .before .before .before .args .o) (c .before .before .before .before .before .before .before .before .before .before .before .before .before .before .before .before .before .before .args .m) (c .before .before .before .before .before .before .before .before .before .before .before .before .before .before .before .before .before .before .args .out .now) (c .before .before .before .before .before .before .before .before .before .before .before .before .before .before .before .before .before .before .pre .1 .within))) z)
 
 pub write-plan-spec : {M : Type 1} → statement M
-write-plan-spec = tie.close (tie.spec write-blocks-requires same-length same-length-2 same-length-3 returns add-plan cast-plan slice-write-plan cast-plan-2 slice-write-plan-2 same-length-4 same-length-5 same-length-6 returns-2)
+write-plan-spec = tie.close (tie.spec write-blocks-requires (λ c. search needs) (λ c. search needs) (λ c. search needs) returns add-plan cast-plan slice-write-plan cast-plan-2 slice-write-plan-2 (λ c. search needs) (λ c. search needs) (λ c. search needs) returns-2)

@@ -31,12 +31,6 @@ mul-flag c = omega (arith, room (c .before .before .before .before .before .befo
 slice-write-flag : tie.Need-slice-write-flag
 slice-write-flag c = omega (arith, held (c .before .before .before .before .before .before .before .before .before .before .before .before), c .before .before .before .before .before .before .before .before .before .before .before .before .pre .3)
 
-same-length : tie.Need-same-length
-same-length c = search needs
-
-same-length-2 : tie.Need-same-length-2
-same-length-2 c = search needs
-
 returns : tie.Need-returns
 returns c = copy (c .before .model-of .result) (c .before .model-of .ensures (c .if1 .taken))
 
@@ -54,9 +48,6 @@ slice-write-stack c =
 add-result : tie.Need-add-result
 add-result c = omega (arith, room (c .before .before .before .before .before .before .before .before .before .before .before .before), c .before .before .before .before .before .before .before .before .before .before .before .before .pre .1 .few)
 
-same-length-3 : tie.Need-same-length-3
-same-length-3 c = search needs
-
 returns-2 : tie.Need-returns-2
 returns-2 c = model
 
@@ -69,12 +60,12 @@ liken-one-spec =
     add-flag
     mul-flag
     slice-write-flag
-    same-length
-    same-length-2
+    (λ c. search needs)
+    (λ c. search needs)
     returns
     cast-stack
     mul-stack
     slice-write-stack
     add-result
-    same-length-3
+    (λ c. search needs)
     returns-2)

@@ -6,12 +6,6 @@ use Rattle.query_alike.proofs.LikenLaws.{own-small, own-large}
 use Rattle.query_alike.proofs.own_flag.Statement.{statement}
 use Rattle.query_alike.proofs.own_flag.Tie as tie
 
-mul-f : tie.Need-mul-f
-mul-f c = search needs
-
-shared-slice-read-f : tie.Need-shared-slice-read-f
-shared-slice-read-f c = search needs
-
 returns : tie.Need-returns
 returns c = sym (own-small (c .before .before .args .flag .now) (c .before .before .args .i) (c .if1 .taken))
 
@@ -31,8 +25,8 @@ pub own-flag-spec : {M : Type 1} → statement M
 own-flag-spec =
     tie.close
     (tie.spec
-    mul-f
-    shared-slice-read-f
+    (λ c. search needs)
+    (λ c. search needs)
     returns
     cast-result
     mul-result

@@ -13,12 +13,6 @@ use Rattle.query_answer.proofs.answer.Tie as tie
 returns : tie.Need-returns
 returns c = short-report (c .if1 .taken) refl refl
 
-sizes-met-requires : tie.Need-sizes-met-requires
-sizes-met-requires c κs = search needs
-
-enum-told : tie.Need-enum-told
-enum-told c = search needs
-
 slice-relend-prefix-check : tie.Need-slice-relend-prefix-check
 slice-relend-prefix-check c = sizes-kept (c .before .before .sizes-met .ensures) (c .enum-told .given .1) .0
 
@@ -32,25 +26,10 @@ check-requires c κs =
     let size = length-take-le {A = ℕ} rowsSize (c .before .before .before .before .before .before .before .before .before .before .args .rows .now) (k .0) in
     ((c .before .before .before .before .before .if1 .left, le-of-eq (sym size)), (k .1, k .2), size)
 
-enum-known-s : tie.Need-enum-known-s
-enum-known-s c = search needs
-
-tell-refusal-requires : tie.Need-tell-refusal-requires
-tell-refusal-requires c κs = search needs
-
-same-length : tie.Need-same-length
-same-length c = search needs
-
-same-length-2 : tie.Need-same-length-2
-same-length-2 c = search needs
-
 returns-2 : tie.Need-returns-2
 returns-2 c =
     let k = sizes-kept (c .before .before .before .before .before .before .before .before .before .sizes-met .ensures) (c .before .before .before .before .before .before .before .enum-told .given .1) in
     checked-beyond _ _ _ _ _ _ _ (c .before .before .before .before .before .before .before .before .before .before .if1 .left, k .0) (k .1, k .2) refl (c .before .before .before .before .check .ensures)
-
-same-length-3 : tie.Need-same-length-3
-same-length-3 c = search needs
 
 returns-3 : tie.Need-returns-3
 returns-3 c =
@@ -62,15 +41,15 @@ answer-spec =
     tie.close
     (tie.spec
     returns
-    sizes-met-requires
-    enum-told
+    (λ c κs. search needs)
+    (λ c. search needs)
     slice-relend-prefix-check
     slice-aggregate-check
     check-requires
-    enum-known-s
-    tell-refusal-requires
-    same-length
-    same-length-2
+    (λ c. search needs)
+    (λ c κs. search needs)
+    (λ c. search needs)
+    (λ c. search needs)
     returns-2
-    same-length-3
+    (λ c. search needs)
     returns-3)

@@ -36,9 +36,6 @@ field c =
 parent-of-requires : tie.Need-parent-of-requires
 parent-of-requires c κs = rowed-sized (c .before .before .before .before .before .pre .1)
 
-cast-p : tie.Need-cast-p
-cast-p c = search needs
-
 kind-of-requires : tie.Need-kind-of-requires
 kind-of-requires c κs = rowed-sized (c .before .before .before .before .before .before .pre .1)
 
@@ -46,9 +43,6 @@ returns : tie.Need-returns
 returns c =
     let s = c .before .before .before .before .before .before .before .before in
     rw (argument-of-directive (tableOf (s .args .t .now)) (docOf (s .args .s .now) (s .args .rows .now) (s .args .n)) (s .args .i) (sym (kind (c .before)) ∙ c .if1 .taken)) (keeps-boolean (s .args .t .now) _ refl refl)
-
-unknown-requires : tie.Need-unknown-requires
-unknown-requires c κs = search needs
 
 returns-2 : tie.Need-returns-2
 returns-2 c =
@@ -59,12 +53,6 @@ link-of-requires : tie.Need-link-of-requires
 link-of-requires c κs =
     let s = c .before .before .before .before .before .before .before .before .before in
     omega (arith, field-there (s .args .rows .now) (s .args .n) (rowIn (s .args .rows .now) (s .args .n) (s .args .i) .parent) (is-field c), c .before .before .before .parent-of .ensures, s .pre .2 .ats, room-enough _ (s .pre .1 .few))
-
-cast-if3 : tie.Need-cast-if3
-cast-if3 c = search needs
-
-unknown-requires-2 : tie.Need-unknown-requires-2
-unknown-requires-2 c κs = search needs
 
 returns-3 : tie.Need-returns-3
 returns-3 c =
@@ -91,14 +79,14 @@ argument-place-spec =
     tie.close
     (tie.spec
     parent-of-requires
-    cast-p
+    (λ c. search needs)
     kind-of-requires
     returns
-    unknown-requires
+    (λ c κs. search needs)
     returns-2
     link-of-requires
-    cast-if3
-    unknown-requires-2
+    (λ c. search needs)
+    (λ c κs. search needs)
     returns-3
     link-of-requires-2
     argument-typed-requires

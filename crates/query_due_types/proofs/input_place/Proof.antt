@@ -17,33 +17,15 @@ below c =
     let s = c .before .before .before .before .before .before .before .before .before .before .before in
     input-below (s .args .t .now) (s .args .book .now) (s .pre .1) (nameOf (docOf (s .args .s .now) (s .args .rows .now) (s .args .n)) (s .args .i)) (s .args .p) (s .args .p) (omega arith) (c .before .before .number-meant .result) (c .before .before .number-meant .ensures) (sym (c .before .kind-in .ensures) ∙ c .if2 .left) _ _ refl refl
 
-unknown-requires : tie.Need-unknown-requires
-unknown-requires c κs = search needs
-
 returns : tie.Need-returns
 returns c =
     let s = c .before .before .before .before .before .before .before in
     input-of-none (s .args .t .now) (s .args .book .now) (s .pre .1) (nameOf (docOf (s .args .s .now) (s .args .rows .now) (s .args .n)) (s .args .i)) (s .args .p) (c .unknown .result) (c .before .if1 .taken) (c .unknown .ensures)
 
-cast-number-meant : tie.Need-cast-number-meant
-cast-number-meant c = search needs
-
-cast-number-meant-2 : tie.Need-cast-number-meant-2
-cast-number-meant-2 c = search needs
-
 number-meant-requires : tie.Need-number-meant-requires
 number-meant-requires c κs =
     let s = c .before .before .before .before .before .before .before .before in
     (s .pre .1, s .pre .3 (omega arith))
-
-kind-in-requires : tie.Need-kind-in-requires
-kind-in-requires c κs = search needs
-
-cast-if2 : tie.Need-cast-if2
-cast-if2 c = search needs
-
-unknown-requires-2 : tie.Need-unknown-requires-2
-unknown-requires-2 c κs = search needs
 
 returns-2 : tie.Need-returns-2
 returns-2 c =
@@ -74,14 +56,14 @@ pub input-place-spec : {M : Type 1} → statement M
 input-place-spec =
     tie.close
     (tie.spec
-    unknown-requires
+    (λ c κs. search needs)
     returns
-    cast-number-meant
-    cast-number-meant-2
+    (λ c. search needs)
+    (λ c. search needs)
     number-meant-requires
-    kind-in-requires
-    cast-if2
-    unknown-requires-2
+    (λ c κs. search needs)
+    (λ c. search needs)
+    (λ c κs. search needs)
     returns-2
     start-of-requires
     end-of-requires

@@ -41,16 +41,10 @@ returns-2 c =
     let s = c .before .before .before .before .before .before .before .before .before .before in
     rw (from-object-field (tableOf (s .args .t .now)) (docOf (s .args .s .now) (s .args .rows .now) (s .args .n)) (s .args .i) (coded (s .args .t .now) (s .args .p)) (sym (c .before .before .before .kind-of .ensures) ∙ c .before .if2 .taken)) (c .input-place .ensures)
 
-unknown-requires : tie.Need-unknown-requires
-unknown-requires c κs = search needs
-
 returns-3 : tie.Need-returns-3
 returns-3 c =
     let s = c .before .before .before .before .before .before .before .before .before .before .before in
     rw (from-lower (tableOf (s .args .t .now)) (docOf (s .args .s .now) (s .args .rows .now) (s .args .n)) (s .args .i) (coded (s .args .t .now) (s .args .p)) (λ z. c .before .before .before .if1 .left (c .before .before .before .before .kind-of .ensures ∙ z)) (λ z. c .before .before .if2 .left (c .before .before .before .before .kind-of .ensures ∙ z)) (omega (arith, c .before .before .before .before .kind-of .ensures))) (keeps-unknown (s .args .t .now) (c .unknown .result) (c .unknown .ensures))
-
-unknown-requires-2 : tie.Need-unknown-requires-2
-unknown-requires-2 c κs = search needs
 
 returns-4 : tie.Need-returns-4
 returns-4 c =
@@ -60,14 +54,8 @@ returns-4 c =
 parent-of-requires : tie.Need-parent-of-requires
 parent-of-requires c κs = rowed-sized (c .before .before .before .before .before .before .before .before .before .before .before .pre .2)
 
-cast-kind-of : tie.Need-cast-kind-of
-cast-kind-of c = search needs
-
 kind-of-requires-2 : tie.Need-kind-of-requires-2
 kind-of-requires-2 c κs = rowed-sized (c .before .before .before .before .before .before .before .before .before .before .before .before .pre .2)
-
-item-of-requires : tie.Need-item-of-requires
-item-of-requires c κs = search needs
 
 returns-5 : tie.Need-returns-5
 returns-5 c =
@@ -88,13 +76,13 @@ place-from-spec =
     returns
     input-place-requires
     returns-2
-    unknown-requires
+    (λ c κs. search needs)
     returns-3
-    unknown-requires-2
+    (λ c κs. search needs)
     returns-4
     parent-of-requires
-    cast-kind-of
+    (λ c. search needs)
     kind-of-requires-2
-    item-of-requires
+    (λ c κs. search needs)
     returns-5
     returns-6)

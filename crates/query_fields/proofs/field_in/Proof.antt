@@ -11,16 +11,10 @@ returns c =
     let a = c .before .before .before .before .args in
     in-none (a .t .now) (a .above) (part (a .s .now) (a .at) (a .n)) (c .if1 .taken)
 
-is-typename-requires : tie.Need-is-typename-requires
-is-typename-requires c κs = search needs
-
 returns-2 : tie.Need-returns-2
 returns-2 c =
     let a = c .before .before .before .before .before .before .args in
     in-typename (a .t .now) (a .above) (part (a .s .now) (a .at) (a .n)) (c .before .before .if1 .left) (sym (c .before .is-typename .ensures) ∙ c .if2 .taken)
-
-sub-find-field : tie.Need-sub-find-field
-sub-find-field c = search needs
 
 find-field-requires : tie.Need-find-field-requires
 find-field-requires c κs =
@@ -35,4 +29,4 @@ returns-3 c =
 pub field-in-spec : {M : Type 1} → statement M
 field-in-spec =
     tie.close
-    (tie.spec returns is-typename-requires returns-2 sub-find-field find-field-requires returns-3)
+    (tie.spec returns (λ c κs. search needs) returns-2 (λ c. search needs) find-field-requires returns-3)

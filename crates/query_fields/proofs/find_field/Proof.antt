@@ -6,7 +6,7 @@ use Rattle.table_book.specs.Book.{part}
 use Rattle.table_members.specs.Members.{membersIn, memberFrom, Finds, FindMember}
 use Rattle.table_types.proofs.Objects.{entry-bounds}
 use Rattle.paper_table.specs.Lists.{find}
-use Rattle.paper_table.specs.Rules.{memberNamed}
+use Rattle.paper_table.specs.Types.{memberNamed}
 use Rattle.query_fields.proofs.FieldLaws.{number-below, number-room, union-lacks, field-lacks, found-bounds, field-kept}
 use borrow.Author.Needs.{needs}
 use Rattle.query_fields.proofs.find_field.Statement.{statement}
@@ -31,9 +31,6 @@ kind-of-requires c κs =
     let g = c .before .before .before .pre in
     (g .0 .indexed .held .cells, number-room (a .t .now) (a .book .now) (g .0) (a .k) (g .2))
 
-cast-if1 : tie.Need-cast-if1
-cast-if1 c = search needs
-
 returns : tie.Need-returns
 returns c =
     let a = c .before .before .before .before .before .args in
@@ -57,12 +54,6 @@ find-member-requires c κs =
     let a = c .before .before .before .before .before .before .before .args in
     let g = c .before .before .before .before .before .before .before .pre in
     (entry-bounds (a .t .now) (a .book .now) (g .0) (a .k) (number-below (a .t .now) (a .book .now) (g .0) (a .k) (g .2)) (c .before .start-of .ensures) (c .end-of .ensures), g .3)
-
-enum-known-start : tie.Need-enum-known-start
-enum-known-start c = search needs
-
-enum-told : tie.Need-enum-told
-enum-told c = search needs
 
 returns-2 : tie.Need-returns-2
 returns-2 c =
@@ -91,13 +82,13 @@ find-field-spec =
     tie.close
     (tie.spec
     kind-of-requires
-    cast-if1
+    (λ c. search needs)
     returns
     start-of-requires
     end-of-requires
     find-member-requires
-    enum-known-start
-    enum-told
+    (λ c. search needs)
+    (λ c. search needs)
     returns-2
     cast-t9
     cast-t10

@@ -4,15 +4,9 @@ use borrow.Author.Needs.{needs}
 use Rattle.query_fields.proofs.is_typename.Statement.{statement}
 use Rattle.query_fields.proofs.is_typename.Tie as tie
 
-slice-aggregate-is-text : tie.Need-slice-aggregate-is-text
-slice-aggregate-is-text c = search needs
-
-is-text-requires : tie.Need-is-text-requires
-is-text-requires c κs = search needs
-
 returns : tie.Need-returns
 unfolding isTypename
 returns c = c .is-text .ensures
 
 pub is-typename-spec : {M : Type 1} → statement M
-is-typename-spec = tie.close (tie.spec slice-aggregate-is-text is-text-requires returns)
+is-typename-spec = tie.close (tie.spec (λ c. search needs) (λ c κs. search needs) returns)

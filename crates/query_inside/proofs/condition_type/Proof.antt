@@ -19,14 +19,8 @@ returns c =
 name-of-requires : tie.Need-name-of-requires
 name-of-requires c κs = rowed-sized (c .before .before .before .before .before .before .before .before .pre .0 .rowed)
 
-cast-composite : tie.Need-cast-composite
-cast-composite c = search needs
-
 size-of-requires : tie.Need-size-of-requires
 size-of-requires c κs = rowed-sized (c .before .before .before .before .before .before .before .before .before .pre .0 .rowed)
-
-cast-composite-2 : tie.Need-cast-composite-2
-cast-composite-2 c = search needs
 
 composite-requires : tie.Need-composite-requires
 composite-requires c κs =
@@ -46,8 +40,8 @@ condition-type-spec =
     first-below-requires
     returns
     name-of-requires
-    cast-composite
+    (λ c. search needs)
     size-of-requires
-    cast-composite-2
+    (λ c. search needs)
     composite-requires
     returns-2)

@@ -24,12 +24,6 @@ loop-holds c =
 enclose-row-requires : tie.Need-enclose-row-requires Inv-loop μ-loop
 enclose-row-requires c κs = (c .before .before .before .before .before .before .before .before .before .before .before .before .before .before .pre .0, c .before .before .before .before .loop .inv .1, c .before .before .before .loop-test .taken)
 
-add-i : tie.Need-add-i Inv-loop μ-loop
-add-i c = search needs
-
-loop-less : tie.Need-loop-less Inv-loop μ-loop
-loop-less c = search needs
-
 loop-again : tie.Need-loop-again Inv-loop μ-loop
 loop-again c = (omega (arith, c .before .before .before .before .before .before .before .before .before .before .loop-test .taken), rw (add-one) (c .before .before .before .before .before .before .enclose-row .ensures))
 
@@ -57,8 +51,8 @@ enclose-spec =
     μ-loop
     loop-holds
     enclose-row-requires
-    add-i
-    loop-less
+    (λ c. search needs)
+    (λ c. search needs)
     loop-again
     same-length
     same-length-2

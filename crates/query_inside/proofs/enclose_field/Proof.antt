@@ -10,14 +10,8 @@ use Rattle.query_inside.proofs.enclose_field.Tie as tie
 name-of-requires : tie.Need-name-of-requires
 name-of-requires c κs = rowed-sized (c .before .before .before .before .before .before .before .pre .2)
 
-cast-field-in : tie.Need-cast-field-in
-cast-field-in c = search needs
-
 size-of-requires : tie.Need-size-of-requires
 size-of-requires c κs = rowed-sized (c .before .before .before .before .before .before .before .before .pre .2)
-
-cast-field-in-2 : tie.Need-cast-field-in-2
-cast-field-in-2 c = search needs
 
 field-in-requires : tie.Need-field-in-requires
 field-in-requires c κs =
@@ -28,38 +22,20 @@ field-in-requires c κs =
 field-type-requires : tie.Need-field-type-requires
 field-type-requires c κs = (c .before .before .before .before .before .before .before .before .before .before .pre .0, c .field-in .ensures .bounds)
 
-mul-inside : tie.Need-mul-inside
-mul-inside c = search needs
-
 slice-write-inside : tie.Need-slice-write-inside
 slice-write-inside c =
     let g = c .before .before .before .before .before .before .before .before .before .before .before .pre in
     omega (arith, g .3 .inners, g .4, room-enough _ (g .2 .few))
-
-mul-at : tie.Need-mul-at
-mul-at c = search needs
 
 slice-write-at : tie.Need-slice-write-at
 slice-write-at c =
     let g = c .before .before .before .before .before .before .before .before .before .before .before .pre in
     omega (arith, g .3 .ats, g .4, room-enough _ (g .2 .few))
 
-mul-to : tie.Need-mul-to
-mul-to c = search needs
-
 slice-write-to : tie.Need-slice-write-to
 slice-write-to c =
     let g = c .before .before .before .before .before .before .before .before .before .before .before .pre in
     omega (arith, g .3 .tos, g .4, room-enough _ (g .2 .few))
-
-same-length : tie.Need-same-length
-same-length c = search needs
-
-same-length-2 : tie.Need-same-length-2
-same-length-2 c = search needs
-
-same-length-3 : tie.Need-same-length-3
-same-length-3 c = search needs
 
 returns : tie.Need-returns
 returns c =
@@ -72,18 +48,18 @@ enclose-field-spec =
     tie.close
     (tie.spec
     name-of-requires
-    cast-field-in
+    (λ c. search needs)
     size-of-requires
-    cast-field-in-2
+    (λ c. search needs)
     field-in-requires
     field-type-requires
-    mul-inside
+    (λ c. search needs)
     slice-write-inside
-    mul-at
+    (λ c. search needs)
     slice-write-at
-    mul-to
+    (λ c. search needs)
     slice-write-to
-    same-length
-    same-length-2
-    same-length-3
+    (λ c. search needs)
+    (λ c. search needs)
+    (λ c. search needs)
     returns)

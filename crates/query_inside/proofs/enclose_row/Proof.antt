@@ -29,9 +29,6 @@ above c =
 kind-of-requires : tie.Need-kind-of-requires
 kind-of-requires c κs = rowed-sized (c .before .before .before .before .before .before .before .before .before .pre .0 .rowed)
 
-encloses-requires : tie.Need-encloses-requires
-encloses-requires c κs = search needs
-
 returns : tie.Need-returns
 returns c =
     let a = c .before .before .before .before .before .before .before .before .before .before .before .before .args in
@@ -40,9 +37,6 @@ returns c =
 
 parent-of-requires : tie.Need-parent-of-requires
 parent-of-requires c κs = rowed-sized (c .before .before .before .before .before .before .before .before .before .before .before .before .before .pre .0 .rowed)
-
-cast-type-inside : tie.Need-cast-type-inside
-cast-type-inside c = search needs
 
 type-inside-requires : tie.Need-type-inside-requires
 type-inside-requires c κs =
@@ -54,33 +48,15 @@ enclose-field-requires c κs =
     let g = c .before .before .before .before .before .before .before .before .before .before .before .before .before .before .before .before .before .before .before .pre in
     (g .0 .booked, g .0 .fielded, g .0 .rowed, g .1, g .2, sym (c .before .before .before .before .before .before .before .before .before .kind-of .ensures) ∙ c .before .before .before .if2 .taken, above (c .before .before .before .before))
 
-same-length : tie.Need-same-length
-same-length c = search needs
-
-same-length-2 : tie.Need-same-length-2
-same-length-2 c = search needs
-
-same-length-3 : tie.Need-same-length-3
-same-length-3 c = search needs
-
-returns-2 : tie.Need-returns-2
-returns-2 c = search needs
-
 other-type-requires : tie.Need-other-type-requires
 other-type-requires c κs =
     let g = c .before .before .before .before .before .before .before .before .before .before .before .before .before .before .before .before .pre in
     (g .0, g .2, sym (tested (c .before .before .before .before .before)) ∙ not-false _ (c .before .before .before .before .if1 .left), λ z. c .if2 .left (c .before .before .before .before .before .before .kind-of .ensures ∙ z))
 
-mul-inside : tie.Need-mul-inside
-mul-inside c = search needs
-
 slice-write-inside : tie.Need-slice-write-inside
 slice-write-inside c =
     let g = c .before .before .before .before .before .before .before .before .before .before .before .before .before .before .before .before .before .pre in
     omega (arith, g .1 .inners, g .2, room-enough _ (g .0 .rowed .few))
-
-same-length-4 : tie.Need-same-length-4
-same-length-4 c = search needs
 
 returns-3 : tie.Need-returns-3
 returns-3 c =
@@ -93,18 +69,18 @@ enclose-row-spec =
     tie.close
     (tie.spec
     kind-of-requires
-    encloses-requires
+    (λ c κs. search needs)
     returns
     parent-of-requires
-    cast-type-inside
+    (λ c. search needs)
     type-inside-requires
     enclose-field-requires
-    same-length
-    same-length-2
-    same-length-3
-    returns-2
+    (λ c. search needs)
+    (λ c. search needs)
+    (λ c. search needs)
+    (λ c. search needs)
     other-type-requires
-    mul-inside
+    (λ c. search needs)
     slice-write-inside
-    same-length-4
+    (λ c. search needs)
     returns-3)

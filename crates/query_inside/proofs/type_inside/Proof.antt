@@ -23,12 +23,6 @@ there c =
     let a = c .before .before .before .before .before .args in
     encloses-there (a .rows .now) (a .n) (a .i) (sym (tested (c .before)) ∙ c .if1 .taken)
 
-kind-of-requires : tie.Need-kind-of-requires
-kind-of-requires c κs = search needs
-
-encloses-requires : tie.Need-encloses-requires
-encloses-requires c κs = search needs
-
 mul-result : tie.Need-mul-result
 mul-result c = omega (arith, there c, c .before .before .before .before .before .pre .0 .few)
 
@@ -51,8 +45,8 @@ pub type-inside-spec : {M : Type 1} → statement M
 type-inside-spec =
     tie.close
     (tie.spec
-    kind-of-requires
-    encloses-requires
+    (λ c κs. search needs)
+    (λ c κs. search needs)
     mul-result
     shared-slice-read-result
     returns

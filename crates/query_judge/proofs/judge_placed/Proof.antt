@@ -17,12 +17,6 @@ judge-rows-requires c κs =
     let p = c .before .before .before .before .before .before .before .before .before .before .before .before .before .before .before .before .before .before .before .before .before .before .before .before .pre in
     record { short = p .0; asked = p .1; kinds = p .2; placed = p .3; targeted = c .before .before .before .before .before .before .before .before .before .targets .ensures; flagged = c .before .before .before .before .flags .ensures }
 
-same-length : tie.Need-same-length
-same-length c = search needs
-
-same-length-2 : tie.Need-same-length-2
-same-length-2 c = search needs
-
 returns : tie.Need-returns
 returns c = c .judge-rows .ensures
 
@@ -33,6 +27,6 @@ judge-placed-spec =
     targets-requires
     flags-requires
     judge-rows-requires
-    same-length
-    same-length-2
+    (λ c. search needs)
+    (λ c. search needs)
     returns)

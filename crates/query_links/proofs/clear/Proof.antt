@@ -12,23 +12,8 @@ Inv-loop first₀ n end p₀ first p = ClearedTo first₀ first n p
 abbrev μ-loop : tie.MeasureT-loop
 μ-loop first₀ n end p₀ first p = length first₀ - p
 
-cast-end : tie.Need-cast-end Inv-loop μ-loop
-cast-end c = search needs
-
 loop-holds : tie.Need-loop-holds Inv-loop μ-loop
 loop-holds c = cleared-none (c .args .first .now) (c .args .n)
-
-mul-first : tie.Need-mul-first Inv-loop μ-loop
-mul-first c = search needs
-
-slice-write-first : tie.Need-slice-write-first Inv-loop μ-loop
-slice-write-first c = search needs
-
-add-p : tie.Need-add-p Inv-loop μ-loop
-add-p c = search needs
-
-loop-less : tie.Need-loop-less Inv-loop μ-loop
-loop-less c = search needs
 
 loop-again : tie.Need-loop-again Inv-loop μ-loop
 loop-again c = cleared-more (c .before .before .args .first .now) (c .before .loop .first) (c .before .before .args .n) (c .before .loop .p) (c .before .loop .inv) (c .loop-test .taken)
@@ -40,4 +25,4 @@ returns : tie.Need-returns Inv-loop μ-loop
 returns c = cleared-all (c .before .before .args .first .now) (c .before .loop .first) (c .before .before .args .n) (c .before .loop .p) (c .before .loop .inv) (c .loop-test .left)
 
 pub clear-spec : {M : Type 1} → statement M
-clear-spec = tie.close (tie.spec Inv-loop μ-loop cast-end loop-holds mul-first slice-write-first add-p loop-less loop-again same-length returns)
+clear-spec = tie.close (tie.spec Inv-loop μ-loop (λ c. search needs) loop-holds (λ c. search needs) (λ c. search needs) (λ c. search needs) (λ c. search needs) loop-again same-length returns)

@@ -22,14 +22,8 @@ clear-requires c κs = c .before .before .before .before .before .pre .0 .few
 loop-holds : tie.Need-loop-holds Inv-loop μ-loop
 loop-holds c = linking-start parents firstsSize _ _ _ _ _ (c .before .before .before .before .before .before .before .before .pre .0 .few) (c .before .before .before .before .before .before .before .before .pre .1) (c .before .before .before .before .before .before .before .before .pre .2) (c .before .before .clear .ensures)
 
-sub-j : tie.Need-sub-j Inv-loop μ-loop
-sub-j c = search needs
-
 parent-of-requires : tie.Need-parent-of-requires Inv-loop μ-loop
 parent-of-requires c κs = rowed-sized (c .before .before .before .before .before .before .before .before .before .before .pre .0)
-
-cast-p : tie.Need-cast-p Inv-loop μ-loop
-cast-p c = search needs
 
 put-first-requires : tie.Need-put-first-requires Inv-loop μ-loop
 put-first-requires c κs =
@@ -37,9 +31,6 @@ put-first-requires c κs =
     let l = c .before .before .before .before .loop in
     let r = linking-row parents firstsSize (s .args .rows .now) (s .args .n) (l .first) (l .next) (l .inv) (c .before .before .before .loop-test .taken) in
     (omega (arith, c .before .before .parent-of .ensures, l .inv .firsts, parent-place _ _ _ (s .pre .0) (l .j - 1) r), linking-room parents firstsSize (s .args .rows .now) (s .args .n) (l .first) (l .next) (l .inv) (c .before .before .before .loop-test .taken), linking-most parents firstsSize (s .args .rows .now) (s .args .n) (l .first) (l .next) (l .inv) (c .before .before .before .loop-test .taken))
-
-loop-less : tie.Need-loop-less Inv-loop μ-loop
-loop-less c = search needs
 
 loop-again : tie.Need-loop-again Inv-loop μ-loop
 loop-again c =
@@ -66,11 +57,11 @@ families-spec =
     μ-loop
     clear-requires
     loop-holds
-    sub-j
+    (λ c. search needs)
     parent-of-requires
-    cast-p
+    (λ c. search needs)
     put-first-requires
-    loop-less
+    (λ c. search needs)
     loop-again
     same-length
     same-length-2

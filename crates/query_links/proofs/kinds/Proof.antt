@@ -20,14 +20,8 @@ clear-requires c κs = c .before .before .before .before .pre .0 .few
 loop-holds : tie.Need-loop-holds Inv-loop μ-loop
 loop-holds c = linking-start sorts kindsSize _ _ _ _ _ (c .before .before .before .before .before .before .before .pre .0 .few) (c .before .before .before .before .before .before .before .pre .1) (c .before .before .before .before .before .before .before .pre .2) (c .before .before .clear .ensures)
 
-sub-j : tie.Need-sub-j Inv-loop μ-loop
-sub-j c = search needs
-
 kind-of-requires : tie.Need-kind-of-requires Inv-loop μ-loop
 kind-of-requires c κs = c .before .before .before .before .before .before .before .before .before .pre .0
-
-cast-k : tie.Need-cast-k Inv-loop μ-loop
-cast-k c = search needs
 
 put-first-requires : tie.Need-put-first-requires Inv-loop μ-loop
 put-first-requires c κs =
@@ -35,17 +29,11 @@ put-first-requires c κs =
     let l = c .before .before .before .before .before .loop in
     (c .before .before .if1 .taken, linking-room sorts kindsSize (s .args .rows .now) (s .args .n) (l .first) (l .next) (l .inv) (c .before .before .before .before .loop-test .taken), linking-most sorts kindsSize (s .args .rows .now) (s .args .n) (l .first) (l .next) (l .inv) (c .before .before .before .before .loop-test .taken))
 
-loop-less : tie.Need-loop-less Inv-loop μ-loop
-loop-less c = search needs
-
 loop-again : tie.Need-loop-again Inv-loop μ-loop
 loop-again c =
     let l = c .before .before .before .before .before .before .before .before .before .before .loop in
     linking-more sorts kindsSize _ _ _ _ (l .inv) (c .before .before .before .before .before .before .before .before .before .loop-test .taken) _ _ (c .before .before .before .before .before .before .before .before .kind-of .ensures)
     (omega (arith, c .before .before .before .before .before .before .before .if1 .taken, l .inv .firsts)) (c .before .before .before .before .put-first .ensures .0) (c .before .before .before .before .put-first .ensures .1)
-
-loop-less-2 : tie.Need-loop-less-2 Inv-loop μ-loop
-loop-less-2 c = search needs
 
 loop-again-2 : tie.Need-loop-again-2 Inv-loop μ-loop
 loop-again-2 c =
@@ -69,13 +57,13 @@ kinds-spec =
     μ-loop
     clear-requires
     loop-holds
-    sub-j
+    (λ c. search needs)
     kind-of-requires
-    cast-k
+    (λ c. search needs)
     put-first-requires
-    loop-less
+    (λ c. search needs)
     loop-again
-    loop-less-2
+    (λ c. search needs)
     loop-again-2
     same-length
     same-length-2

@@ -15,9 +15,6 @@ use Rattle.query_opening.proofs.OpeningLaws.{Seeks, seeks-start, seeks-
 use borrow.Author.Needs.{needs}
 use Rattle.query_opening.proofs.first_named.Statement.{statement}
 use Rattle.query_opening.proofs.first_named.Tie as tie
-use Rattle.query_opening.proofs.first_named.Reads as reads
-use Rattle.query_opening.proofs.first_named.Lts as lts
-use Rattle.query_opening.proofs.is_operation_called.Reads as is-operation-called-reads
 
 abbrev Inv-loop : tie.InvT-loop
 Inv-loop s rows n name i₀ i = Seeks rows n (kindCalled (docOf s rows n) kindOperation name) 0 i
@@ -25,39 +22,23 @@ Inv-loop s rows n name i₀ i = Seeks rows n (kindCalled (docOf s rows n) kindOp
 abbrev μ-loop : tie.MeasureT-loop
 μ-loop s rows n name i₀ i = n - i
 
--- src/lib.rt:76:5
 loop-holds : tie.Need-loop-holds Inv-loop μ-loop
 loop-holds c =
     let a = c .before .before .before .args in
     seeks-start (a .rows .now) (a .n) (kindCalled (docOf (a .s .now) (a .rows .now) (a .n)) kindOperation (a .name .now)) 0 (omega arith)
 
--- src/lib.rt:77:12
-is-operation-called-requires : tie.Need-is-operation-called-requires Inv-loop μ-loop
-is-operation-called-requires c κs = search needs
-
--- src/lib.rt:78:13
 returns : tie.Need-returns Inv-loop μ-loop
 returns c =
     let a = c .before .before .before .before .before .before .before .args in
     let p : Row → Bool = kindCalled (docOf (a .s .now) (a .rows .now) (a .n)) kindOperation (a .name .now) in
     seeks-here (a .rows .now) (a .n) p 0 (c .before .before .before .loop .i) (c .before .before .before .loop .inv) (c .before .before .loop-test .taken) (sym (c .before .is-operation-called .ensures) ∙ c .if1 .taken) ∙ next-all p (rowsIn (a .rows .now) (a .n))
 
--- src/lib.rt:80:9
-add-i : tie.Need-add-i Inv-loop μ-loop
-add-i c = search needs
-
--- src/lib.rt:76:5
-loop-less : tie.Need-loop-less Inv-loop μ-loop
-loop-less c = search needs
-
--- src/lib.rt:76:5
 loop-again : tie.Need-loop-again Inv-loop μ-loop
 loop-again c =
     let a = c .before .before .before .before .before .before .before .args in
     let p : Row → Bool = kindCalled (docOf (a .s .now) (a .rows .now) (a .n)) kindOperation (a .name .now) in
     seeks-on (a .rows .now) (a .n) p 0 (c .before .before .before .loop .i) (c .before .before .before .loop .inv) (c .before .before .loop-test .taken) (sym (c .before .is-operation-called .ensures) ∙ c .if1 .left)
 
--- src/lib.rt:71:1
 returns-2 : tie.Need-returns-2 Inv-loop μ-loop
 returns-2 c =
     let a = c .before .before .before .before .before .args in
@@ -71,9 +52,9 @@ first-named-spec =
     Inv-loop
     μ-loop
     loop-holds
-    is-operation-called-requires
+    (λ c κs. search needs)
     returns
-    add-i
-    loop-less
+    (λ c. search needs)
+    (λ c. search needs)
     loop-again
     returns-2)

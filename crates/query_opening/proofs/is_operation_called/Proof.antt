@@ -15,26 +15,15 @@ use Rattle.query_opening.proofs.OpeningLaws.{Seeks, seeks-start, seeks-
 use borrow.Author.Needs.{needs}
 use Rattle.query_opening.proofs.is_operation_called.Statement.{statement}
 use Rattle.query_opening.proofs.is_operation_called.Tie as tie
-use Rattle.query_opening.proofs.is_operation_called.Reads as reads
-use Rattle.query_opening.proofs.is_operation_called.Lts as lts
-use Rattle.query_rows.proofs.is_called.Reads as is-called-reads
-use Rattle.query_rows.proofs.kind_of.Reads as kind-of-reads
 
--- src/lib.rt:64:8
-kind-of-requires : tie.Need-kind-of-requires
-kind-of-requires c κs = search needs
-
--- src/lib.rt:65:9
 returns : tie.Need-returns
 returns c = rw (ne-eqb _ _ (λ q. c .if1 .taken (c .before .kind-of .ensures ∙ q)))
 
--- src/lib.rt:67:5
 is-called-requires : tie.Need-is-called-requires
 is-called-requires c κs =
     let a = c .before .before .before .before .before .args in
     (c .before .before .before .before .before .pre, omega arith)
 
--- src/lib.rt:60:1
 returns-2 : tie.Need-returns-2
 returns-2 c =
     let a = c .before .before .before .before .before .before .args in
@@ -42,4 +31,4 @@ returns-2 c =
 
 pub is-operation-called-spec : {M : Type 1} → statement M
 is-operation-called-spec =
-    tie.close (tie.spec kind-of-requires returns is-called-requires returns-2)
+    tie.close (tie.spec (λ c κs. search needs) returns is-called-requires returns-2)

@@ -15,9 +15,6 @@ use Rattle.query_opening.proofs.OpeningLaws.{Seeks, seeks-start, seeks-
 use borrow.Author.Needs.{needs}
 use Rattle.query_opening.proofs.next_operation.Statement.{statement}
 use Rattle.query_opening.proofs.next_operation.Tie as tie
-use Rattle.query_opening.proofs.next_operation.Reads as reads
-use Rattle.query_opening.proofs.next_operation.Lts as lts
-use Rattle.query_rows.proofs.kind_of.Reads as kind-of-reads
 
 abbrev Inv-loop : tie.InvT-loop
 Inv-loop rows n from i₀ i = Seeks rows n (is kindOperation) from i
@@ -25,35 +22,19 @@ Inv-loop rows n from i₀ i = Seeks rows n (is kindOperation) from i
 abbrev μ-loop : tie.MeasureT-loop
 μ-loop rows n from i₀ i = n - i
 
--- src/lib.rt:50:5
 loop-holds : tie.Need-loop-holds Inv-loop μ-loop
 loop-holds c = seeks-start (c .before .args .rows .now) (c .before .args .n) (is kindOperation) (c .before .args .from) (c .before .pre .1)
 
--- src/lib.rt:51:12
-kind-of-requires : tie.Need-kind-of-requires Inv-loop μ-loop
-kind-of-requires c κs = search needs
-
--- src/lib.rt:52:13
 returns : tie.Need-returns Inv-loop μ-loop
 returns c =
     let a = c .before .before .before .before .before .args in
     seeks-here (a .rows .now) (a .n) (is kindOperation) (a .from) (c .before .before .before .loop .i) (c .before .before .before .loop .inv) (c .before .before .loop-test .taken) (eq-eqb _ _ (sym (c .before .kind-of .ensures) ∙ c .if1 .taken))
 
--- src/lib.rt:54:9
-add-i : tie.Need-add-i Inv-loop μ-loop
-add-i c = search needs
-
--- src/lib.rt:50:5
-loop-less : tie.Need-loop-less Inv-loop μ-loop
-loop-less c = search needs
-
--- src/lib.rt:50:5
 loop-again : tie.Need-loop-again Inv-loop μ-loop
 loop-again c =
     let a = c .before .before .before .before .before .args in
     seeks-on (a .rows .now) (a .n) (is kindOperation) (a .from) (c .before .before .before .loop .i) (c .before .before .before .loop .inv) (c .before .before .loop-test .taken) (ne-eqb _ _ (λ q. c .if1 .left (c .before .kind-of .ensures ∙ q)))
 
--- src/lib.rt:45:1
 returns-2 : tie.Need-returns-2 Inv-loop μ-loop
 returns-2 c =
     let a = c .before .before .before .args in
@@ -66,9 +47,9 @@ next-operation-spec =
     Inv-loop
     μ-loop
     loop-holds
-    kind-of-requires
+    (λ c κs. search needs)
     returns
-    add-i
-    loop-less
+    (λ c. search needs)
+    (λ c. search needs)
     loop-again
     returns-2)

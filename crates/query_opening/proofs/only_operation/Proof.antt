@@ -7,35 +7,23 @@ use Rattle.query_opening.proofs.OpeningLaws.{meant-no, meant-one, meant
 use borrow.Author.Needs.{needs}
 use Rattle.query_opening.proofs.only_operation.Statement.{statement}
 use Rattle.query_opening.proofs.only_operation.Tie as tie
-use Rattle.query_opening.proofs.only_operation.Reads as reads
-use Rattle.query_opening.proofs.only_operation.Lts as lts
-use Rattle.query_opening.proofs.next_operation.Reads as next-operation-reads
 
--- src/lib.rt:90:9
 next-operation-requires : tie.Need-next-operation-requires
 next-operation-requires c κs = (rowed-sized (c .before .before .pre), omega arith)
 
--- src/lib.rt:92:9
 returns : tie.Need-returns
 returns c =
     let a = c .before .before .before .before .args in
     meant-no (a .s .now) (a .rows .now) (a .n) (omega (arith, c .if1 .taken, c .before .next-operation .ensures))
 
--- src/lib.rt:94:32
-add-next-operation : tie.Need-add-next-operation
-add-next-operation c = search needs
-
--- src/lib.rt:94:8
 next-operation-requires-2 : tie.Need-next-operation-requires-2
 next-operation-requires-2 c κs = (rowed-sized (c .before .before .before .before .pre), omega (arith, c .if1 .left))
 
--- src/lib.rt:95:9
 returns-2 : tie.Need-returns-2
 returns-2 c =
     let a = c .before .before .before .before .before .before .args in
     meant-two (a .s .now) (a .rows .now) (a .n) _ (c .before .before .before .next-operation .ensures) (omega (arith, c .before .before .if1 .left)) (omega (arith, c .if2 .taken, c .before .next-operation2 .ensures))
 
--- src/lib.rt:86:1
 returns-3 : tie.Need-returns-3
 returns-3 c =
     let a = c .before .before .before .before .before .before .args in
@@ -47,7 +35,7 @@ only-operation-spec =
     (tie.spec
     next-operation-requires
     returns
-    add-next-operation
+    (λ c. search needs)
     next-operation-requires-2
     returns-2
     returns-3)

@@ -8,46 +8,12 @@ use Rattle.query_opening.proofs.OpeningLaws.{meant-no, meant-one, meant
 use borrow.Author.Needs.{needs}
 use Rattle.query_opening.proofs.open_text.Statement.{statement}
 use Rattle.query_opening.proofs.open_text.Tie as tie
-use Rattle.query_opening.proofs.open_text.Reads as reads
-use Rattle.query_opening.proofs.open_text.Lts as lts
-use Rattle.text_documents.proofs.document.Reads as document-reads
-use Rattle.query_opening.proofs.open_read.Reads as open-read-reads
 
--- src/lib.rt:149:9
-document-requires : tie.Need-document-requires
-document-requires c κs = search needs
-
--- src/lib.rt:151:20
-enum-known-r : tie.Need-enum-known-r
-enum-known-r c = search needs
-
--- src/lib.rt:152:21
-cast-n : tie.Need-cast-n
-cast-n c = search needs
-
--- src/lib.rt:153:13
 open-read-requires : tie.Need-open-read-requires
 open-read-requires c κs =
     let p = c .before .before .before .before .before .before .before .before .before .before .before .before .before .before .pre in
     (p .0, p .1, p .2, ended-rows _ _ _ _ _ (p .0 .0) (p .3) (c .before .before .before .before .before .before .before .document .ensures) (c .before .before .before .r .given .1))
 
--- src/lib.rt:155:23
-enum-known-r-2 : tie.Need-enum-known-r-2
-enum-known-r-2 c = search needs
-
--- src/lib.rt:139:1
-same-length : tie.Need-same-length
-same-length c = search needs
-
--- src/lib.rt:139:1
-returns : tie.Need-returns
-returns c = search needs
-
--- src/lib.rt:139:1
-same-length-2 : tie.Need-same-length-2
-same-length-2 c = search needs
-
--- src/lib.rt:139:1
 returns-2 : tie.Need-returns-2
 returns-2 c =
     let p = c .before .before .before .before .before .before .before .before .before .before .before .before .pre in
@@ -57,12 +23,12 @@ pub open-text-spec : {M : Type 1} → statement M
 open-text-spec =
     tie.close
     (tie.spec
-    document-requires
-    enum-known-r
-    cast-n
+    (λ c κs. search needs)
+    (λ c. search needs)
+    (λ c. search needs)
     open-read-requires
-    enum-known-r-2
-    same-length
-    returns
-    same-length-2
+    (λ c. search needs)
+    (λ c. search needs)
+    (λ c. search needs)
+    (λ c. search needs)
     returns-2)

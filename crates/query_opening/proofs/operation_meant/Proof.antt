@@ -7,32 +7,17 @@ use Rattle.query_opening.proofs.OpeningLaws.{meant-no, meant-one, meant
 use borrow.Author.Needs.{needs}
 use Rattle.query_opening.proofs.operation_meant.Statement.{statement}
 use Rattle.query_opening.proofs.operation_meant.Tie as tie
-use Rattle.query_opening.proofs.operation_meant.Reads as reads
-use Rattle.query_opening.proofs.operation_meant.Lts as lts
-use Rattle.query_opening.proofs.first_named.Reads as first-named-reads
-use Rattle.query_opening.proofs.only_operation.Reads as only-operation-reads
 
--- src/lib.rt:106:9
-only-operation-requires : tie.Need-only-operation-requires
-only-operation-requires c κs = search needs
-
--- src/lib.rt:106:9
 returns : tie.Need-returns
 returns c =
     let a = c .before .before .before .before .before .args in
     c .only-operation .ensures ∙ ap told (by-none (a .s .now) (a .rows .now) (a .n) (a .name .now) (c .before .if1 .taken))
 
--- src/lib.rt:108:9
-first-named-requires : tie.Need-first-named-requires
-first-named-requires c κs = search needs
-
--- src/lib.rt:110:9
 returns-2 : tie.Need-returns-2
 returns-2 c =
     let a = c .before .before .before .before .before .before .args in
     by-name (a .s .now) (a .rows .now) (a .n) (a .name .now) (c .before .before .if1 .left) _ (c .before .first-named .ensures) (c .if2 .taken)
 
--- src/lib.rt:101:1
 returns-3 : tie.Need-returns-3
 returns-3 c =
     let a = c .before .before .before .before .before .before .args in
@@ -40,4 +25,4 @@ returns-3 c =
 
 pub operation-meant-spec : {M : Type 1} → statement M
 operation-meant-spec =
-    tie.close (tie.spec only-operation-requires returns first-named-requires returns-2 returns-3)
+    tie.close (tie.spec (λ c κs. search needs) returns (λ c κs. search needs) returns-2 returns-3)

@@ -25,12 +25,6 @@ flag-with-requires c κs =
     let e = sym (room-few _ (p .6)) in
     (p .0, p .1, p .2, p .3, p .4, e, e, e, e, e, p .5)
 
-same-length : tie.Need-same-length
-same-length c = search needs
-
-returns : tie.Need-returns
-returns c = search needs
-
 pub flag-few-spec : {M : Type 1} → statement M
 flag-few-spec =
     tie.close
@@ -41,5 +35,5 @@ flag-few-spec =
     slice-aggregate-flag-with-4
     slice-aggregate-flag-with-5
     flag-with-requires
-    same-length
-    returns)
+    (λ c. search needs)
+    (λ c. search needs))

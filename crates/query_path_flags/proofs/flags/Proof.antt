@@ -7,9 +7,6 @@ flag-few-requires c κs =
     let p = c .before .before .before .before .before .before .before .before .before .before .before .before .before .before .pre in
     (p .0, p .1, p .2, p .3, p .4, p .5, c .before .if1 .taken)
 
-same-length : tie.Need-same-length
-same-length c = search needs
-
 returns : tie.Need-returns
 returns c = c .before .before .flag-few .ensures
 
@@ -17,9 +14,6 @@ flag-many-requires : tie.Need-flag-many-requires
 flag-many-requires c κs =
     let p = c .before .before .before .before .before .before .before .before .before .before .before .before .before .before .pre in
     (p .0, p .1, p .2, p .3, p .4, p .5, c .before .if1 .left)
-
-same-length-2 : tie.Need-same-length-2
-same-length-2 c = search needs
 
 returns-2 : tie.Need-returns-2
 returns-2 c = c .before .before .flag-many .ensures
@@ -29,8 +23,8 @@ flags-spec =
     tie.close
     (tie.spec
     flag-few-requires
-    same-length
+    (λ c. search needs)
     returns
     flag-many-requires
-    same-length-2
+    (λ c. search needs)
     returns-2)

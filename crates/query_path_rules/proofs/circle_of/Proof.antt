@@ -10,22 +10,10 @@ use Rattle.query_path_rules.proofs.circle_of.Tie as tie
 circles-requires : tie.Need-circles-requires
 circles-requires c κs = c .before .before .before .before .before .before .before .before .before .pre
 
-same-length : tie.Need-same-length
-same-length c = search needs
-
-same-length-2 : tie.Need-same-length-2
-same-length-2 c = search needs
-
 returns : tie.Need-returns
 returns c =
     let s = c .before .before .before .before .before .before .before .before .before .before .before .before .before .before .before in
     (circled-by (docOf (s .args .s .now) (s .args .rows .now) (s .args .n)) (s .args .i) (c .before .before .before .before .before .circles .result) 8 (c .before .before .before .before .before .circles .ensures .0) (λ e. refl) (λ e. absurd (true≢false (sym (c .if1 .taken) ∙ e))), c .before .before .before .before .before .circles .ensures .1)
-
-same-length-3 : tie.Need-same-length-3
-same-length-3 c = search needs
-
-same-length-4 : tie.Need-same-length-4
-same-length-4 c = search needs
 
 returns-2 : tie.Need-returns-2
 returns-2 c =
@@ -37,9 +25,9 @@ circle-of-spec =
     tie.close
     (tie.spec
     circles-requires
-    same-length
-    same-length-2
+    (λ c. search needs)
+    (λ c. search needs)
     returns
-    same-length-3
-    same-length-4
+    (λ c. search needs)
+    (λ c. search needs)
     returns-2)

@@ -35,30 +35,15 @@ no-marks-again : (c : tie.After-clear3)
 no-marks-again c =
     stamped-none _ (c .clear3 .ensures ∙ ap (λ (k : ℕ). replicate k 0) (marks (c .before .before .before .before .before .before .before .before)))
 
-clear-requires : tie.Need-clear-requires
-clear-requires c κs = search needs
-
-clear-requires-2 : tie.Need-clear-requires-2
-clear-requires-2 c κs = search needs
-
 judge-fragments-requires : tie.Need-judge-fragments-requires
 judge-fragments-requires c κs =
     let s = c .before .before .before .before .before .before .before .before .before .before .before .before .before .before .before .before .before .before .before .before .before .before .before .before .before .before .before .before in
     (rowed-sized (s .pre .0 .rowed), s .pre .1, s .pre .2, no-marks (c .before .before .before .before .before), s .pre .4, no-flags ((c .before .before .before .before .before .before .before .before .before)) .size ∙ room-rows _ _)
 
-clear-requires-3 : tie.Need-clear-requires-3
-clear-requires-3 c κs = search needs
-
 judge-uses-requires : tie.Need-judge-uses-requires
 judge-uses-requires c κs =
     let s = c .before .before .before .before .before .before .before .before .before .before .before .before .before .before .before .before .before .before .before .before .before .before .before .before .before .before .before .before .before .before .before .before .before .before .before .before .before .before .before .before .before .before in
     (s .pre .0, s .pre .1, s .pre .2, no-marks-again (c .before .before .before .before .before), c .before .before .before .before .before .before .before .before .before .before .before .before .before .judge-fragments .kept .1 .1 .1 .1 .1 .1 .1 .1 .1 .0 ∙ s .pre .4, c .before .before .before .before .before .before .before .before .before .before .before .before .before .judge-fragments .ensures (tableOf (s .args .t .now)) (flags-none (tableOf (s .args .t .now)) (docOf (s .args .s .now) (s .args .rows .now) (s .args .n)) _ (no-flags (c .before .before .before .before .before .before .before .before .before .before .before .before .before .before .before .before .before .before .before .before .before .before .before))))
-
-same-length : tie.Need-same-length
-same-length c = search needs
-
-same-length-2 : tie.Need-same-length-2
-same-length-2 c = search needs
 
 same-length-3 : tie.Need-same-length-3
 same-length-3 c = c .before .before .before .before .before .before .judge-uses .ensures .size ∙ room-rows _ _ ∙ sym (c .before .before .before .before .before .before .before .before .before .before .before .before .before .before .before .before .before .before .before .before .before .before .before .before .before .before .before .before .before .before .before .before .before .before .before .before .before .before .before .before .before .before .before .before .before .before .before .before .before .pre .5)
@@ -72,12 +57,12 @@ pub flags-spec : {M : Type 1} → statement M
 flags-spec =
     tie.close
     (tie.spec
-    clear-requires
-    clear-requires-2
+    (λ c κs. search needs)
+    (λ c κs. search needs)
     judge-fragments-requires
-    clear-requires-3
+    (λ c κs. search needs)
     judge-uses-requires
-    same-length
-    same-length-2
+    (λ c. search needs)
+    (λ c. search needs)
     same-length-3
     returns)

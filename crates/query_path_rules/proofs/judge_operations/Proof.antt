@@ -34,9 +34,6 @@ kind : (c : tie.In-loop Inv-loop μ-loop)
 kind c =
     c .before .loop .inv .at (below c)
 
-cast-link-of : tie.Need-cast-link-of Inv-loop μ-loop
-cast-link-of c = search needs
-
 link-of-requires : tie.Need-link-of-requires Inv-loop μ-loop
 link-of-requires c κs = omega (arith, c .before .before .before .before .before .before .before .before .before .before .before .before .before .before .before .before .before .pre .1 .firsts)
 
@@ -96,7 +93,7 @@ judge-operations-spec =
     (tie.spec
     Inv-loop
     μ-loop
-    cast-link-of
+    (λ c. search needs)
     link-of-requires
     loop-holds
     reach-requires

@@ -36,9 +36,6 @@ variable c =
     let l = c .before .loop in
     eq-eqb (rowIn (s .args .rows .now) (s .args .n) (l .i) .kind) kindVariable (l .inv .at (below c))
 
-cast-link-of : tie.Need-cast-link-of Inv-loop μ-loop
-cast-link-of c = search needs
-
 link-of-requires : tie.Need-link-of-requires Inv-loop μ-loop
 link-of-requires c κs = omega (arith, c .before .before .before .before .before .before .before .before .before .before .before .before .before .pre .1 .firsts)
 
@@ -104,7 +101,7 @@ judge-variables-spec =
     (tie.spec
     Inv-loop
     μ-loop
-    cast-link-of
+    (λ c. search needs)
     link-of-requires
     loop-holds
     mul-f

@@ -3,7 +3,7 @@ use borrow.Author.Needs.{needs}
 use mathlib.Core.Path.{subst}
 use Rattle.table_members.specs.Members.{membersIn, memberFrom, Finds, FindMember}
 use Rattle.paper_table.specs.Lists.{find}
-use Rattle.paper_table.specs.Rules.{memberNamed}
+use Rattle.paper_table.specs.Types.{memberNamed}
 use Rattle.paper_query.specs.Constructs.{nameOf}
 use Rattle.query_rows.specs.Rowed.{docOf}
 use Rattle.query_rows.proofs.RowsIn.{rowed-sized, name-within}
@@ -20,28 +20,13 @@ found c =
 name-of-requires : tie.Need-name-of-requires
 name-of-requires c κs = rowed-sized (c .before .before .before .pre .1)
 
-cast-find-member : tie.Need-cast-find-member
-cast-find-member c = search needs
-
 size-of-requires : tie.Need-size-of-requires
 size-of-requires c κs = rowed-sized (c .before .before .before .before .pre .1)
-
-cast-find-member-2 : tie.Need-cast-find-member-2
-cast-find-member-2 c = search needs
 
 find-member-requires : tie.Need-find-member-requires
 find-member-requires c κs =
     let s = c .before .before .before .before .before in
     (s .pre .0, rw (c .before .name-of .ensures, c .size-of .ensures) (name-within (s .args .s .now) (s .args .rows .now) (s .args .n) (s .pre .1) (s .args .i)))
-
-enum-known-from : tie.Need-enum-known-from
-enum-known-from c = search needs
-
-enum-told : tie.Need-enum-told
-enum-told c = search needs
-
-unknown-requires : tie.Need-unknown-requires
-unknown-requires c κs = search needs
 
 returns : tie.Need-returns
 returns c =
@@ -64,13 +49,13 @@ input-typed-spec =
     tie.close
     (tie.spec
     name-of-requires
-    cast-find-member
+    (λ c. search needs)
     size-of-requires
-    cast-find-member-2
+    (λ c. search needs)
     find-member-requires
-    enum-known-from
-    enum-told
-    unknown-requires
+    (λ c. search needs)
+    (λ c. search needs)
+    (λ c κs. search needs)
     returns
     typed-requires
     returns-2)

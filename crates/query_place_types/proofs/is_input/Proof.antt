@@ -7,11 +7,8 @@ use Rattle.query_place_types.proofs.is_input.Tie as tie
 returns : tie.Need-returns
 returns c = input-nothing (c .before .args .tag) (c .if1 .taken)
 
-is-composite-requires : tie.Need-is-composite-requires
-is-composite-requires c κs = search needs
-
 returns-2 : tie.Need-returns-2
 returns-2 c = input-type (c .before .before .args .tag) (c .before .if1 .left) (c .is-composite .ensures)
 
 pub is-input-spec : {M : Type 1} → statement M
-is-input-spec = tie.close (tie.spec returns is-composite-requires returns-2)
+is-input-spec = tie.close (tie.spec returns (λ c κs. search needs) returns-2)

@@ -4,12 +4,6 @@ use Rattle.query_place_types.proofs.ShapeLaws.{items-none, items-some}
 use Rattle.query_place_types.proofs.item_of.Statement.{statement}
 use Rattle.query_place_types.proofs.item_of.Tie as tie
 
-nullable-of-requires : tie.Need-nullable-of-requires
-nullable-of-requires c κs = search needs
-
-unknown-requires : tie.Need-unknown-requires
-unknown-requires c κs = search needs
-
 returns : tie.Need-returns
 returns c = items-none (c .before .before .before .args .p) (c .before .before .nullable-of .result) (c .before .before .nullable-of .ensures) (c .before .if1 .taken) (c .unknown .result) (c .unknown .ensures)
 
@@ -17,4 +11,4 @@ returns-2 : tie.Need-returns-2
 returns-2 c = items-some (c .before .before .args .p) (c .before .nullable-of .result) (c .before .nullable-of .ensures) (c .if1 .left)
 
 pub item-of-spec : {M : Type 1} → statement M
-item-of-spec = tie.close (tie.spec nullable-of-requires unknown-requires returns returns-2)
+item-of-spec = tie.close (tie.spec (λ c κs. search needs) (λ c κs. search needs) returns returns-2)

@@ -13,9 +13,6 @@ use Rattle.query_places.proofs.keep_place.Tie as tie
 kind-of-requires : tie.Need-kind-of-requires
 kind-of-requires c κs = rowed-sized (c .before .before .before .before .before .before .before .pre .2)
 
-encloses-requires : tie.Need-encloses-requires
-encloses-requires c κs = search needs
-
 returns : tie.Need-returns
 returns c =
     let s = c .before .before .before .before .before .before .before .before .before .before in
@@ -23,9 +20,6 @@ returns c =
 
 parent-of-requires : tie.Need-parent-of-requires
 parent-of-requires c κs = rowed-sized (c .before .before .before .before .before .before .before .before .before .before .before .before .before .pre .2)
-
-cast-place-of : tie.Need-cast-place-of
-cast-place-of c = search needs
 
 place-of-requires : tie.Need-place-of-requires
 place-of-requires c κs =
@@ -67,15 +61,6 @@ slice-write-wrappers c =
     let s = c .before .before .before .before .before .before .before .before .before .before .before .before .before .before .before .before .before .before in
     omega (arith, s .pre .4, s .pre .3 .enclosed .inners, room-enough _ (s .pre .2 .few))
 
-same-length : tie.Need-same-length
-same-length c = search needs
-
-same-length-2 : tie.Need-same-length-2
-same-length-2 c = search needs
-
-same-length-3 : tie.Need-same-length-3
-same-length-3 c = search needs
-
 returns-2 : tie.Need-returns-2
 returns-2 c =
     let s = c .before .before .before .before .before .before .before .before .before .before .before .before .before .before .before .before .before .before in
@@ -86,10 +71,10 @@ keep-place-spec =
     tie.close
     (tie.spec
     kind-of-requires
-    encloses-requires
+    (λ c κs. search needs)
     returns
     parent-of-requires
-    cast-place-of
+    (λ c. search needs)
     place-of-requires
     place-from-requires
     mul-at
@@ -98,7 +83,7 @@ keep-place-spec =
     slice-write-size
     mul-wrappers
     slice-write-wrappers
-    same-length
-    same-length-2
-    same-length-3
+    (λ c. search needs)
+    (λ c. search needs)
+    (λ c. search needs)
     returns-2)

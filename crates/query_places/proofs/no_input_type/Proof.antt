@@ -30,22 +30,13 @@ returns-2 c =
 name-of-requires : tie.Need-name-of-requires
 name-of-requires c κs = rowed-sized (c .before .before .before .before .before .before .before .before .before .before .pre .1)
 
-cast-tag-meant : tie.Need-cast-tag-meant
-cast-tag-meant c = search needs
-
 size-of-requires : tie.Need-size-of-requires
 size-of-requires c κs = rowed-sized (c .before .before .before .before .before .before .before .before .before .before .before .pre .1)
-
-cast-tag-meant-2 : tie.Need-cast-tag-meant-2
-cast-tag-meant-2 c = search needs
 
 tag-meant-requires : tie.Need-tag-meant-requires
 tag-meant-requires c κs =
     let s = c .before .before .before .before .before .before .before .before .before .before .before .before in
     (s .pre .0, rw (c .before .name-of .ensures, c .size-of .ensures) (name-within (s .args .s .now) (s .args .rows .now) (s .args .n) (s .pre .1) (c .before .before .before .first-below .result)))
-
-is-input-requires : tie.Need-is-input-requires
-is-input-requires c κs = search needs
 
 returns-3 : tie.Need-returns-3
 returns-3 c =
@@ -61,9 +52,9 @@ no-input-type-spec =
     first-below-requires
     returns-2
     name-of-requires
-    cast-tag-meant
+    (λ c. search needs)
     size-of-requires
-    cast-tag-meant-2
+    (λ c. search needs)
     tag-meant-requires
-    is-input-requires
+    (λ c κs. search needs)
     returns-3)

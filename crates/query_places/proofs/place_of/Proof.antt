@@ -16,32 +16,20 @@ returns c =
 kind-of-requires : tie.Need-kind-of-requires
 kind-of-requires c κs = c .before .before .before .before .before .pre .0
 
-encloses-requires : tie.Need-encloses-requires
-encloses-requires c κs = search needs
-
 returns-2 : tie.Need-returns-2
 returns-2 c =
     let s = c .before .before .before .before .before .before .before .before in
     sym (in-enclosing (s .args .rows .now) (s .args .n) (s .args .at .now) (s .args .size .now) (s .args .wrappers .now) (s .args .i) (omega arith) (ap encloses (sym (c .before .before .kind-of .ensures)) ∙ sym (c .before .encloses .ensures) ∙ c .if2 .taken))
-
-mul-t10 : tie.Need-mul-t10
-mul-t10 c = search needs
 
 shared-slice-read-t9 : tie.Need-shared-slice-read-t9
 shared-slice-read-t9 c =
     let g = c .before .before .before .before .before .before .before .before .before .pre in
     omega (arith, g .1, c .before .before .before .before .if1 .left, room-enough _ (g .0 .few))
 
-mul-t12 : tie.Need-mul-t12
-mul-t12 c = search needs
-
 shared-slice-read-t14 : tie.Need-shared-slice-read-t14
 shared-slice-read-t14 c =
     let g = c .before .before .before .before .before .before .before .before .before .before .pre in
     omega (arith, g .2, c .before .before .before .before .before .if1 .left, room-enough _ (g .0 .few))
-
-mul-t15 : tie.Need-mul-t15
-mul-t15 c = search needs
 
 shared-slice-read-t17 : tie.Need-shared-slice-read-t17
 shared-slice-read-t17 c =
@@ -59,12 +47,12 @@ place-of-spec =
     (tie.spec
     returns
     kind-of-requires
-    encloses-requires
+    (λ c κs. search needs)
     returns-2
-    mul-t10
+    (λ c. search needs)
     shared-slice-read-t9
-    mul-t12
+    (λ c. search needs)
     shared-slice-read-t14
-    mul-t15
+    (λ c. search needs)
     shared-slice-read-t17
     returns-3)

@@ -24,9 +24,6 @@ there c =
 below : (c : tie.Else1) → c .before .before .before .before .before .before .before .before .before .args .i < mostRows
 below c = omega (arith, there c, c .before .before .before .before .before .before .before .before .before .pre .1 .few)
 
-kind-of-requires : tie.Need-kind-of-requires
-kind-of-requires c κs = search needs
-
 returns : tie.Need-returns
 returns c = (circle-not _ _ (λ e. c .if1 .taken (c .before .kind-of .ensures ∙ e)), stamped-up (c .before .before .before .before .before .before .before .before .before .pre .2) (omega arith))
 
@@ -45,12 +42,6 @@ cast-result c = omega (arith, below (c .before .before .before .before .before .
 add-result : tie.Need-add-result
 add-result c = omega (arith, below (c .before .before .before .before .before .before .before .before))
 
-same-length : tie.Need-same-length
-same-length c = search needs
-
-same-length-2 : tie.Need-same-length-2
-same-length-2 c = search needs
-
 returns-2 : tie.Need-returns-2
 returns-2 c = (circle-decides _ _ _ (kind (c .before .before .before .before .before .before .before .before)) (c .before .before .before .before .before .reach .ensures), c .before .before .before .before .before .reach .ensures .stamped)
 
@@ -58,13 +49,13 @@ pub circles-spec : {M : Type 1} → statement M
 circles-spec =
     tie.close
     (tie.spec
-    kind-of-requires
+    (λ c κs. search needs)
     returns
     reach-requires
     mul-result
     slice-read-result
     cast-result
     add-result
-    same-length
-    same-length-2
+    (λ c. search needs)
+    (λ c. search needs)
     returns-2)

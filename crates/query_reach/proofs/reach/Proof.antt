@@ -22,9 +22,6 @@ pass-requires c κs = (c .before .before .before .before .before .before .before
 loop-holds : tie.Need-loop-holds Inv-loop μ-loop
 loop-holds c = record { last = c .before .before .before .before .before .before .before .before .before .before .before .before .before .before .args .a; search = c .before .before .before .before .pass .ensures .search }
 
-sub-top : tie.Need-sub-top Inv-loop μ-loop
-sub-top c = search needs
-
 mul-g : tie.Need-mul-g Inv-loop μ-loop
 mul-g c = omega (arith, search-most _ _ _ _ _ _ _ (c .before .loop .inv .search))
 
@@ -60,7 +57,7 @@ reach-spec =
     μ-loop
     pass-requires
     loop-holds
-    sub-top
+    (λ c. search needs)
     mul-g
     slice-read-g
     cast-g

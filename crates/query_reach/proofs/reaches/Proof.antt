@@ -14,9 +14,6 @@ use Rattle.query_reach.proofs.reaches.Tie as tie
 below : (c : tie.Start) → c .args .i < count (docOf (c .args .s .now) (c .args .rows .now) (c .args .n))
 below c = omega (arith, rows-count (c .args .rows .now) (c .args .n), c .pre .4)
 
-mul-w : tie.Need-mul-w
-mul-w c = search needs
-
 shared-slice-read-w : tie.Need-shared-slice-read-w
 shared-slice-read-w c = room-at _ _ _ (c .before .pre .0 .size) (c .before .pre .3) (c .before .pre .4)
 
@@ -56,7 +53,7 @@ pub reaches-spec : {M : Type 1} → statement M
 reaches-spec =
     tie.close
     (tie.spec
-    mul-w
+    (λ c. search needs)
     shared-slice-read-w
     cast-w
     returns

@@ -9,40 +9,13 @@ use Rattle.query_reach_pass.proofs.note.Tie as tie
 returns : tie.Need-returns
 returns c = none (c .if1 .taken)
 
-mul-if2 : tie.Need-mul-if2
-mul-if2 c = search needs
-
-slice-read-if2 : tie.Need-slice-read-if2
-slice-read-if2 c = search needs
-
 returns-2 : tie.Need-returns-2
 returns-2 c = old (c .if2 .taken)
-
-mul-mark : tie.Need-mul-mark
-mul-mark c = search needs
-
-slice-write-mark : tie.Need-slice-write-mark
-slice-write-mark c = search needs
-
-cast-stack : tie.Need-cast-stack
-cast-stack c = search needs
-
-mul-stack : tie.Need-mul-stack
-mul-stack c = search needs
 
 slice-write-stack : tie.Need-slice-write-stack
 slice-write-stack c =
     let a = c .before .before .before .args in
     omega (arith, c .before .before .before .pre .stacked, noted-room (a .stamp) (a .f) (a .mark .now) (a .top) (omega (arith, c .before .before .if1 .left, c .before .before .before .pre .few)) (c .if2 .left) (c .before .before .before .pre .room))
-
-add-result : tie.Need-add-result
-add-result c = search needs
-
-same-length : tie.Need-same-length
-same-length c = search needs
-
-same-length-2 : tie.Need-same-length-2
-same-length-2 c = search needs
 
 returns-3 : tie.Need-returns-3
 returns-3 c = new (c .before .before .if1 .left) (c .if2 .left)
@@ -52,15 +25,15 @@ note-spec =
     tie.close
     (tie.spec
     returns
-    mul-if2
-    slice-read-if2
+    (λ c. search needs)
+    (λ c. search needs)
     returns-2
-    mul-mark
-    slice-write-mark
-    cast-stack
-    mul-stack
+    (λ c. search needs)
+    (λ c. search needs)
+    (λ c. search needs)
+    (λ c. search needs)
     slice-write-stack
-    add-result
-    same-length
-    same-length-2
+    (λ c. search needs)
+    (λ c. search needs)
+    (λ c. search needs)
     returns-3)

@@ -16,12 +16,6 @@ written : (c : tie.Else1)
 written c =
     omega (arith, c .if1 .left, c .before .count-of .ensures)
 
-first-roots-requires : tie.Need-first-roots-requires
-first-roots-requires c κs = search needs
-
-count-of-requires : tie.Need-count-of-requires
-count-of-requires c κs = search needs
-
 returns : tie.Need-returns
 returns c =
     let a = c .before .before .before .before .before .before .args in
@@ -32,28 +26,10 @@ returns-2 c =
     let a = c .before .before .before .before .before .before .args in
     no-root (a .t .now) (a .book .now) (c .before .before .before .before .before .before .pre) (c .before .before .before .first-roots .result) (c .before .before .before .first-roots .ensures) (omega (arith, c .before .if1 .taken, c .before .before .count-of .ensures)) (a .x) (c .if2 .left)
 
-start-of-requires : tie.Need-start-of-requires
-start-of-requires c κs = search needs
-
-end-of-requires : tie.Need-end-of-requires
-end-of-requires c κs = search needs
-
-cast-find-tagged : tie.Need-cast-find-tagged
-cast-find-tagged c = search needs
-
-add-find-tagged : tie.Need-add-find-tagged
-add-find-tagged c = search needs
-
 find-tagged-requires : tie.Need-find-tagged-requires
 find-tagged-requires c κs =
     let a = c .before .before .before .before .before .before .before .args in
     entry-bounds (a .t .now) (a .book .now) (c .before .before .before .before .before .before .before .pre) (c .before .before .before .before .first-roots .result) (written (c .before .before)) (c .before .start-of .ensures) (c .end-of .ensures)
-
-enum-known-tag : tie.Need-enum-known-tag
-enum-known-tag c = search needs
-
-enum-told : tie.Need-enum-told
-enum-told c = search needs
 
 returns-3 : tie.Need-returns-3
 returns-3 c =
@@ -69,16 +45,16 @@ pub find-root-spec : {M : Type 1} → statement M
 find-root-spec =
     tie.close
     (tie.spec
-    first-roots-requires
-    count-of-requires
+    (λ c κs. search needs)
+    (λ c κs. search needs)
     returns
     returns-2
-    start-of-requires
-    end-of-requires
-    cast-find-tagged
-    add-find-tagged
+    (λ c κs. search needs)
+    (λ c κs. search needs)
+    (λ c. search needs)
+    (λ c. search needs)
     find-tagged-requires
-    enum-known-tag
-    enum-told
+    (λ c. search needs)
+    (λ c. search needs)
     returns-3
     returns-4)

@@ -2,6 +2,7 @@
 use mathlib.Core.Path.{sym, subst, _∙_}
 use Prim.Native.Nat.{_-_}
 use native.Mathlib.Omega.{arith}
+use Rattle.table_fields.proofs.BoundsLaws.{later}
 use borrow.Author.Tests.{eq-eqb, ne-eqb}
 use Rattle.paper_table.specs.Lists.{find}
 use Rattle.table_members.specs.Members.{membersIn, NextMember}
@@ -31,22 +32,13 @@ loop-holds c = sought-start _ _ _ (c .before .pre .order)
 next-member-requires : tie.Need-next-member-requires Inv-loop μ-loop
 next-member-requires c κs =
     let g = c .before .before .pre in
-    record { order = c .loop .inv .within; within = g .within; most = g .most }
-
-enum-known-k : tie.Need-enum-known-k Inv-loop μ-loop
-enum-known-k c = search needs
-
-enum-told : tie.Need-enum-told Inv-loop μ-loop
-enum-told c = search needs
+    later g (c .loop .inv .within)
 
 returns : tie.Need-returns Inv-loop μ-loop
 returns c =
     let l = c .before .before .before .loop in
     let a = c .before .before .before .before .before .args in
     find-none (tagged (a .tag)) (a .from) (a .end) (l .i) (membersIn (a .t .now) (a .from) (a .end)) (membersIn (a .t .now) (l .i) (a .end)) (l .inv) (subst (NextMember (a .t .now) (l .i) (a .end)) (c .enum-told .given .1) (c .before .before .next-member .ensures))
-
-cast-if1 : tie.Need-cast-if1 Inv-loop μ-loop
-cast-if1 c = search needs
 
 returns-2 : tie.Need-returns-2 Inv-loop μ-loop
 returns-2 c =
@@ -73,10 +65,10 @@ find-tagged-spec =
     μ-loop
     loop-holds
     next-member-requires
-    enum-known-k
-    enum-told
+    (λ c. search needs)
+    (λ c. search needs)
     returns
-    cast-if1
+    (λ c. search needs)
     returns-2
     loop-less
     loop-again)

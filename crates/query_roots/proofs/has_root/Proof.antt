@@ -6,18 +6,6 @@ use borrow.Author.Needs.{needs}
 use Rattle.query_roots.proofs.has_root.Statement.{statement}
 use Rattle.query_roots.proofs.has_root.Tie as tie
 
-find-root-requires : tie.Need-find-root-requires
-find-root-requires c κs = search needs
-
-enum-told : tie.Need-enum-told
-enum-told c = search needs
-
-enum-told-2 : tie.Need-enum-told-2
-enum-told-2 c = search needs
-
-enum-told-3 : tie.Need-enum-told-3
-enum-told-3 c = search needs
-
 returns : tie.Need-returns
 returns c =
     let a = c .before .before .before .before .before .args in
@@ -36,4 +24,4 @@ returns-3 c =
 pub has-root-spec : {M : Type 1} → statement M
 has-root-spec =
     tie.close
-    (tie.spec find-root-requires enum-told enum-told-2 enum-told-3 returns returns-2 returns-3)
+    (tie.spec (λ c κs. search needs) (λ c. search needs) (λ c. search needs) (λ c. search needs) returns returns-2 returns-3)

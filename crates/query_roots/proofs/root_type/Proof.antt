@@ -13,29 +13,8 @@ written c =
     let a = c .before .before .before .before .before .args in
     subst (RootFinds (a .t .now) (a .x)) (c .r .given .1) (c .before .before .find-root .ensures)
 
-find-root-requires : tie.Need-find-root-requires
-find-root-requires c κs = search needs
-
-enum-known-r : tie.Need-enum-known-r
-enum-known-r c = search needs
-
 member-name-requires : tie.Need-member-name-requires
 member-name-requires c κs = written ((c .before)) .bounds
-
-composite-requires : tie.Need-composite-requires
-composite-requires c κs = search needs
-
-enum-told : tie.Need-enum-told
-enum-told c = search needs
-
-slice-aggregate-composite : tie.Need-slice-aggregate-composite
-slice-aggregate-composite c = search needs
-
-composite-requires-2 : tie.Need-composite-requires-2
-composite-requires-2 c κs = search needs
-
-enum-told-2 : tie.Need-enum-told-2
-enum-told-2 c = search needs
 
 returns : tie.Need-returns
 returns c =
@@ -56,14 +35,14 @@ pub root-type-spec : {M : Type 1} → statement M
 root-type-spec =
     tie.close
     (tie.spec
-    find-root-requires
-    enum-known-r
+    (λ c κs. search needs)
+    (λ c. search needs)
     member-name-requires
-    composite-requires
-    enum-told
-    slice-aggregate-composite
-    composite-requires-2
-    enum-told-2
+    (λ c κs. search needs)
+    (λ c. search needs)
+    (λ c. search needs)
+    (λ c κs. search needs)
+    (λ c. search needs)
     returns
     returns-2
     returns-3)

@@ -3,17 +3,8 @@ use borrow.Author.Needs.{needs}
 use Rattle.query_row_verdict.proofs.argument_rule.Statement.{statement}
 use Rattle.query_row_verdict.proofs.argument_rule.Tie as tie
 
-name-twice-requires : tie.Need-name-twice-requires
-name-twice-requires c κs = search needs
-
 returns : tie.Need-returns
 returns c = argument-first (c .before .before .before .before .before .before .before .before .before .before .pre .4) (c .before .name-twice .ensures) (c .if1 .taken)
-
-argument-unknown-requires : tie.Need-argument-unknown-requires
-argument-unknown-requires c κs = search needs
-
-rule-if-requires : tie.Need-rule-if-requires
-rule-if-requires c κs = search needs
 
 returns-2 : tie.Need-returns-2
 returns-2 c = argument-last (c .before .before .before .before .before .before .before .before .before .before .before .before .pre .4) (c .before .before .before .name-twice .ensures) (c .before .before .if1 .left) _ (c .before .argument-unknown .ensures) (c .rule-if .ensures)
@@ -21,4 +12,4 @@ returns-2 c = argument-last (c .before .before .before .before .before .before .
 pub argument-rule-spec : {M : Type 1} → statement M
 argument-rule-spec =
     tie.close
-    (tie.spec name-twice-requires returns argument-unknown-requires rule-if-requires returns-2)
+    (tie.spec (λ c κs. search needs) returns (λ c κs. search needs) (λ c κs. search needs) returns-2)

@@ -3,17 +3,8 @@ use borrow.Author.Needs.{needs}
 use Rattle.query_row_verdict.proofs.definition_rule.Statement.{statement}
 use Rattle.query_row_verdict.proofs.definition_rule.Tie as tie
 
-no-input-type-requires : tie.Need-no-input-type-requires
-no-input-type-requires c κs = search needs
-
 returns : tie.Need-returns
 returns c = definition-first (c .before .before .before .before .before .before .before .before .pre .4) (c .before .no-input-type .ensures) (c .if1 .taken)
-
-name-twice-requires : tie.Need-name-twice-requires
-name-twice-requires c κs = search needs
-
-rule-if-requires : tie.Need-rule-if-requires
-rule-if-requires c κs = search needs
 
 returns-2 : tie.Need-returns-2
 returns-2 c = definition-last (c .before .before .before .before .before .before .before .before .before .before .pre .4) (c .before .before .before .no-input-type .ensures) (c .before .before .if1 .left) _ (c .before .name-twice .ensures) (c .rule-if .ensures)
@@ -21,4 +12,4 @@ returns-2 c = definition-last (c .before .before .before .before .before .before
 pub definition-rule-spec : {M : Type 1} → statement M
 definition-rule-spec =
     tie.close
-    (tie.spec no-input-type-requires returns name-twice-requires rule-if-requires returns-2)
+    (tie.spec (λ c κs. search needs) returns (λ c κs. search needs) (λ c κs. search needs) returns-2)

@@ -3,17 +3,8 @@ use borrow.Author.Needs.{needs}
 use Rattle.query_row_verdict.proofs.field_rule.Statement.{statement}
 use Rattle.query_row_verdict.proofs.field_rule.Tie as tie
 
-field-missing-requires : tie.Need-field-missing-requires
-field-missing-requires c κs = search needs
-
 returns : tie.Need-returns
 returns c = field-first (c .before .before .before .before .before .before .before .before .before .before .pre .4) (c .before .field-missing .ensures) (c .if1 .taken)
-
-leaf-wrong-requires : tie.Need-leaf-wrong-requires
-leaf-wrong-requires c κs = search needs
-
-rule-if-requires : tie.Need-rule-if-requires
-rule-if-requires c κs = search needs
 
 returns-2 : tie.Need-returns-2
 returns-2 c = field-last (c .before .before .before .before .before .before .before .before .before .before .before .before .pre .4) (c .before .before .before .field-missing .ensures) (c .before .before .if1 .left) _ (c .before .leaf-wrong .ensures) (c .rule-if .ensures)
@@ -21,4 +12,4 @@ returns-2 c = field-last (c .before .before .before .before .before .before .bef
 pub field-rule-spec : {M : Type 1} → statement M
 field-rule-spec =
     tie.close
-    (tie.spec field-missing-requires returns leaf-wrong-requires rule-if-requires returns-2)
+    (tie.spec (λ c κs. search needs) returns (λ c κs. search needs) (λ c κs. search needs) returns-2)

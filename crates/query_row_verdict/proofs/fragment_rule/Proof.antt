@@ -3,17 +3,8 @@ use borrow.Author.Needs.{needs}
 use Rattle.query_row_verdict.proofs.fragment_rule.Statement.{statement}
 use Rattle.query_row_verdict.proofs.fragment_rule.Tie as tie
 
-fragment-repeated-requires : tie.Need-fragment-repeated-requires
-fragment-repeated-requires c κs = search needs
-
 returns : tie.Need-returns
 returns c = λ t f. fragment-first (c .before .before .before .before .before .before .before .pre .4) (c .before .fragment-repeated .ensures) (c .if1 .taken)
-
-mul-result : tie.Need-mul-result
-mul-result c = search needs
-
-shared-slice-read-result : tie.Need-shared-slice-read-result
-shared-slice-read-result c = search needs
 
 returns-2 : tie.Need-returns-2
 returns-2 c =
@@ -23,4 +14,4 @@ returns-2 c =
 pub fragment-rule-spec : {M : Type 1} → statement M
 fragment-rule-spec =
     tie.close
-    (tie.spec fragment-repeated-requires returns mul-result shared-slice-read-result returns-2)
+    (tie.spec (λ c κs. search needs) returns (λ c. search needs) (λ c. search needs) returns-2)

@@ -5,73 +5,25 @@ use borrow.Author.Needs.{needs}
 use Rattle.query_row_verdict.proofs.rule_at.Statement.{statement}
 use Rattle.query_row_verdict.proofs.rule_at.Tie as tie
 
-kind-of-requires : tie.Need-kind-of-requires
-kind-of-requires c κs = search needs
-
-operation-rule-requires : tie.Need-operation-rule-requires
-operation-rule-requires c κs = search needs
-
 fragment-rule-requires : tie.Need-fragment-rule-requires
 fragment-rule-requires c κs =
     let p = c .before .before .before .before .before .before .before .before .before .before .before .before .before .before .before .pre in
     let r = p .0 in
     (r .asked .rowed, r .kinds, room-at _ _ _ (r .flagged .size) (r .asked .rowed .few) (p .1), p .1, sym (c .before .kind-of .ensures) ∙ c .match .keys2)
 
-field-rule-requires : tie.Need-field-rule-requires
-field-rule-requires c κs = search needs
-
-spread-of-none-requires : tie.Need-spread-of-none-requires
-spread-of-none-requires c κs = search needs
-
-rule-if-requires : tie.Need-rule-if-requires
-rule-if-requires c κs = search needs
-
-argument-rule-requires : tie.Need-argument-rule-requires
-argument-rule-requires c κs = search needs
-
-directive-wrong-requires : tie.Need-directive-wrong-requires
-directive-wrong-requires c κs = search needs
-
-rule-if-requires-2 : tie.Need-rule-if-requires-2
-rule-if-requires-2 c κs = search needs
-
-definition-rule-requires : tie.Need-definition-rule-requires
-definition-rule-requires c κs = search needs
-
-condition-wrong-requires : tie.Need-condition-wrong-requires
-condition-wrong-requires c κs = search needs
-
-rule-if-requires-3 : tie.Need-rule-if-requires-3
-rule-if-requires-3 c κs = search needs
-
-mul-result : tie.Need-mul-result
-mul-result c = search needs
-
 shared-slice-read-result : tie.Need-shared-slice-read-result
 shared-slice-read-result c =
     let p = c .before .before .before .before .before .before .before .before .before .before .before .before .before .before .before .before .pre in
     room-at _ _ _ (p .0 .flagged .size) (p .0 .asked .rowed .few) (p .1)
 
-returns : tie.Need-returns
-returns c = search needs
-
 returns-2 : tie.Need-returns-2
 returns-2 c = c .fragment-rule .ensures _ (c .before .before .before .before .before .before .before .before .before .before .before .before .before .before .before .before .pre .0 .flagged)
-
-returns-3 : tie.Need-returns-3
-returns-3 c = search needs
 
 returns-4 : tie.Need-returns-4
 returns-4 c = spread-only (sym (c .before .before .before .kind-of .ensures) ∙ c .before .before .match .keys4) _ (c .before .spread-of-none .ensures) (c .rule-if .ensures)
 
-returns-5 : tie.Need-returns-5
-returns-5 c = search needs
-
 returns-6 : tie.Need-returns-6
 returns-6 c = directive-only (sym (c .before .before .before .kind-of .ensures) ∙ c .before .before .match .keys6) _ (c .before .directive-wrong .ensures) (c .rule-if2 .ensures)
-
-returns-7 : tie.Need-returns-7
-returns-7 c = search needs
 
 returns-8 : tie.Need-returns-8
 returns-8 c = condition-only (sym (c .before .before .before .kind-of .ensures) ∙ c .before .before .match .keys8) _ (c .before .condition-wrong .ensures) (c .rule-if3 .ensures)
@@ -90,27 +42,27 @@ pub rule-at-spec : {M : Type 1} → statement M
 rule-at-spec =
     tie.close
     (tie.spec
-    kind-of-requires
-    operation-rule-requires
+    (λ c κs. search needs)
+    (λ c κs. search needs)
     fragment-rule-requires
-    field-rule-requires
-    spread-of-none-requires
-    rule-if-requires
-    argument-rule-requires
-    directive-wrong-requires
-    rule-if-requires-2
-    definition-rule-requires
-    condition-wrong-requires
-    rule-if-requires-3
-    mul-result
+    (λ c κs. search needs)
+    (λ c κs. search needs)
+    (λ c κs. search needs)
+    (λ c κs. search needs)
+    (λ c κs. search needs)
+    (λ c κs. search needs)
+    (λ c κs. search needs)
+    (λ c κs. search needs)
+    (λ c κs. search needs)
+    (λ c. search needs)
     shared-slice-read-result
-    returns
+    (λ c. search needs)
     returns-2
-    returns-3
+    (λ c. search needs)
     returns-4
-    returns-5
+    (λ c. search needs)
     returns-6
-    returns-7
+    (λ c. search needs)
     returns-8
     returns-9
     returns-10)

@@ -7,14 +7,8 @@ use Rattle.query_rows.proofs.is_called.Tie as tie
 name-of-requires : tie.Need-name-of-requires
 name-of-requires c κs = rowed-sized (c .before .before .before .pre .0)
 
-cast-is-text : tie.Need-cast-is-text
-cast-is-text c = search needs
-
 size-of-requires : tie.Need-size-of-requires
 size-of-requires c κs = rowed-sized (c .before .before .before .before .pre .0)
-
-cast-is-text-2 : tie.Need-cast-is-text-2
-cast-is-text-2 c = search needs
 
 is-text-requires : tie.Need-is-text-requires
 is-text-requires c κs =
@@ -25,4 +19,4 @@ returns : tie.Need-returns
 returns c = rw (← c .before .before .name-of .ensures, ← c .before .size-of .ensures) (c .is-text .ensures)
 
 pub is-called-spec : {M : Type 1} → statement M
-is-called-spec = tie.close (tie.spec name-of-requires cast-is-text size-of-requires cast-is-text-2 is-text-requires returns)
+is-called-spec = tie.close (tie.spec name-of-requires (λ c. search needs) size-of-requires (λ c. search needs) is-text-requires returns)

@@ -6,27 +6,15 @@ use borrow.Author.Needs.{needs}
 use Rattle.query_rows.proofs.name_of.Statement.{statement}
 use Rattle.query_rows.proofs.name_of.Tie as tie
 
-mul-result : tie.Need-mul-result
-mul-result c = search needs
-
-add-result : tie.Need-add-result
-add-result c = search needs
-
-mul-result-2 : tie.Need-mul-result-2
-mul-result-2 c = search needs
-
-shared-slice-read-result : tie.Need-shared-slice-read-result
-shared-slice-read-result c = search needs
-
 returns : tie.Need-returns
 returns c =
     let a = c .before .before .args in
-    sym (ap (λ (r : Row). r .name) (row-at (a .rows .now) (a .n) (a .i) (c .before .if1 .taken)))
+    sym (ap (λ (r : Row). r .nameStart) (row-at (a .rows .now) (a .n) (a .i) (c .before .if1 .taken)))
 
 returns-2 : tie.Need-returns-2
 returns-2 c =
     let a = c .before .args in
-    sym (ap (λ (r : Row). r .name) (row-none (a .rows .now) (a .n) (a .i) (c .if1 .left)))
+    sym (ap (λ (r : Row). r .nameStart) (row-none (a .rows .now) (a .n) (a .i) (c .if1 .left)))
 
 pub name-of-spec : {M : Type 1} → statement M
-name-of-spec = tie.close (tie.spec mul-result add-result mul-result-2 shared-slice-read-result returns returns-2)
+name-of-spec = tie.close (tie.spec (λ c. search needs) (λ c. search needs) (λ c. search needs) (λ c. search needs) returns returns-2)

@@ -6,18 +6,6 @@ use borrow.Author.Needs.{needs}
 use Rattle.query_rows.proofs.parent_of.Statement.{statement}
 use Rattle.query_rows.proofs.parent_of.Tie as tie
 
-mul-result : tie.Need-mul-result
-mul-result c = search needs
-
-add-result : tie.Need-add-result
-add-result c = search needs
-
-mul-result-2 : tie.Need-mul-result-2
-mul-result-2 c = search needs
-
-shared-slice-read-result : tie.Need-shared-slice-read-result
-shared-slice-read-result c = search needs
-
 returns : tie.Need-returns
 returns c =
     let a = c .before .before .args in
@@ -29,4 +17,4 @@ returns-2 c =
     sym (ap (λ (r : Row). r .parent) (row-none (a .rows .now) (a .n) (a .i) (c .if1 .left)))
 
 pub parent-of-spec : {M : Type 1} → statement M
-parent-of-spec = tie.close (tie.spec mul-result add-result mul-result-2 shared-slice-read-result returns returns-2)
+parent-of-spec = tie.close (tie.spec (λ c. search needs) (λ c. search needs) (λ c. search needs) (λ c. search needs) returns returns-2)

@@ -7,14 +7,8 @@ use Rattle.query_rows.proofs.same_names.Tie as tie
 name-of-requires : tie.Need-name-of-requires
 name-of-requires c κs = rowed-sized (c .before .before .pre)
 
-cast-is-called : tie.Need-cast-is-called
-cast-is-called c = search needs
-
 size-of-requires : tie.Need-size-of-requires
 size-of-requires c κs = rowed-sized (c .before .before .before .pre)
-
-cast-is-called-2 : tie.Need-cast-is-called-2
-cast-is-called-2 c = search needs
 
 is-called-requires : tie.Need-is-called-requires
 is-called-requires c κs =
@@ -25,4 +19,4 @@ returns : tie.Need-returns
 returns c = rw (← c .before .before .name-of .ensures, ← c .before .size-of .ensures) (c .is-called .ensures)
 
 pub same-names-spec : {M : Type 1} → statement M
-same-names-spec = tie.close (tie.spec name-of-requires cast-is-called size-of-requires cast-is-called-2 is-called-requires returns)
+same-names-spec = tie.close (tie.spec name-of-requires (λ c. search needs) size-of-requires (λ c. search needs) is-called-requires returns)

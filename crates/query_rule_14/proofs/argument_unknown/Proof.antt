@@ -7,7 +7,7 @@ use Rattle.paper.specs.Numbers.{kindField, kindArgument}
 use Rattle.paper_table.specs.Types.{tableOf}
 use Rattle.paper_query.specs.Constructs.{nameOf}
 use Rattle.paper_query.specs.Enclosing.{fieldAt}
-use Rattle.paper_query.specs.Rule14Argument.{lacks, argumentUnknown}
+use Rattle.paper_query.specs.Rule14Argument.{hasNoArgument, argumentUnknown}
 use Rattle.query_rows.specs.Rowed.{rowIn, docOf}
 use Rattle.query_rows.proofs.RowsIn.{rowed-sized}
 use Rattle.query_rows.proofs.Rooms.{room-enough}
@@ -27,11 +27,11 @@ above c =
     sym (c .before .kind-of2 .ensures) ∙ c .if2 .left
 
 judged : (c : tie.Else2) {r : Bool}
-    → r ≡ lacks (fieldAt (tableOf (c .before .before .before .before .before .before .before .before .before .before .before .args .t .now)) (docOf (c .before .before .before .before .before .before .before .before .before .before .before .args .s .now) (c .before .before .before .before .before .before .before .before .before .before .before .args .rows .now) (c .before .before .before .before .before .before .before .before .before .before .before .args .n)) (c .before .before .parent-of .result)) (nameOf (docOf (c .before .before .before .before .before .before .before .before .before .before .before .args .s .now) (c .before .before .before .before .before .before .before .before .before .before .before .args .rows .now) (c .before .before .before .before .before .before .before .before .before .before .before .args .n)) (c .before .before .before .before .before .before .before .before .before .before .before .args .i))
+    → r ≡ hasNoArgument (fieldAt (tableOf (c .before .before .before .before .before .before .before .before .before .before .before .args .t .now)) (docOf (c .before .before .before .before .before .before .before .before .before .before .before .args .s .now) (c .before .before .before .before .before .before .before .before .before .before .before .args .rows .now) (c .before .before .before .before .before .before .before .before .before .before .before .args .n)) (c .before .before .parent-of .result)) (nameOf (docOf (c .before .before .before .before .before .before .before .before .before .before .before .args .s .now) (c .before .before .before .before .before .before .before .before .before .before .before .args .rows .now) (c .before .before .before .before .before .before .before .before .before .before .before .args .n)) (c .before .before .before .before .before .before .before .before .before .before .before .args .i))
     → r ≡ argumentUnknown (tableOf (c .before .before .before .before .before .before .before .before .before .before .before .args .t .now)) (docOf (c .before .before .before .before .before .before .before .before .before .before .before .args .s .now) (c .before .before .before .before .before .before .before .before .before .before .before .args .rows .now) (c .before .before .before .before .before .before .before .before .before .before .before .args .n)) (c .before .before .before .before .before .before .before .before .before .before .before .args .i)
 judged c e =
     let a = c .before .before .before .before .before .before .before .before .before .before .before .args in
-    argument-judged (tableOf (a .t .now)) (docOf (a .s .now) (a .rows .now) (a .n)) (a .i) (kind (c .before .before .before)) (ap (λ (p : ℕ). rowIn (a .rows .now) (a .n) p .kind) (sym (c .before .before .parent-of .ensures)) ∙ above c) (e ∙ ap (λ (p : ℕ). lacks (fieldAt (tableOf (a .t .now)) (docOf (a .s .now) (a .rows .now) (a .n)) p) (nameOf (docOf (a .s .now) (a .rows .now) (a .n)) (a .i))) (c .before .before .parent-of .ensures))
+    argument-judged (tableOf (a .t .now)) (docOf (a .s .now) (a .rows .now) (a .n)) (a .i) (kind (c .before .before .before)) (ap (λ (p : ℕ). rowIn (a .rows .now) (a .n) p .kind) (sym (c .before .before .parent-of .ensures)) ∙ above c) (e ∙ ap (λ (p : ℕ). hasNoArgument (fieldAt (tableOf (a .t .now)) (docOf (a .s .now) (a .rows .now) (a .n)) p) (nameOf (docOf (a .s .now) (a .rows .now) (a .n)) (a .i))) (c .before .before .parent-of .ensures))
 
 kind-of-requires : tie.Need-kind-of-requires
 kind-of-requires c κs = rowed-sized (c .before .before .before .before .before .before .pre .0)
@@ -44,9 +44,6 @@ returns c =
 parent-of-requires : tie.Need-parent-of-requires
 parent-of-requires c κs = rowed-sized (c .before .before .before .before .before .before .before .before .pre .0)
 
-cast-p : tie.Need-cast-p
-cast-p c = search needs
-
 kind-of-requires-2 : tie.Need-kind-of-requires-2
 kind-of-requires-2 c κs = rowed-sized (c .before .before .before .before .before .before .before .before .before .pre .0)
 
@@ -54,9 +51,6 @@ returns-2 : tie.Need-returns-2
 returns-2 c =
     let a = c .before .before .before .before .before .before .before .before .before .before .before .args in
     argument-elsewhere (tableOf (a .t .now)) (docOf (a .s .now) (a .rows .now) (a .n)) (a .i) (kind (c .before .before .before)) (λ z. c .if2 .taken (c .before .kind-of2 .ensures ∙ ap (λ (p : ℕ). rowIn (a .rows .now) (a .n) p .kind) (c .before .before .parent-of .ensures) ∙ z))
-
-mul-if3 : tie.Need-mul-if3
-mul-if3 c = search needs
 
 shared-slice-read-if3 : tie.Need-shared-slice-read-if3
 shared-slice-read-if3 c =
@@ -90,10 +84,10 @@ argument-unknown-spec =
     kind-of-requires
     returns
     parent-of-requires
-    cast-p
+    (λ c. search needs)
     kind-of-requires-2
     returns-2
-    mul-if3
+    (λ c. search needs)
     shared-slice-read-if3
     returns-3
     mul-result

@@ -26,9 +26,6 @@ loop-holds c =
     let p = c .before .before .before .before .before .before .pre in
     calling-start (a .s .now) (a .rows .now) (a .n) (a .firstk .now) (a .nextk .now) (p .1) (a .k) (p .2) (part (a .t .now) (a .at) (a .l)) (c .link-of .ensures)
 
-is-called-requires : tie.Need-is-called-requires Inv-loop μ-loop
-is-called-requires c κs = search needs
-
 returns : tie.Need-returns Inv-loop μ-loop
 returns c =
     let a = c .before .before .before .before .before .before .before .before .before .before .args in
@@ -66,7 +63,7 @@ first-called-spec =
     μ-loop
     link-of-requires
     loop-holds
-    is-called-requires
+    (λ c κs. search needs)
     returns
     link-of-requires-2
     loop-less

@@ -6,18 +6,6 @@ use Rattle.query_rows.proofs.RowsIn.{name-within}
 use Rattle.query_rule_3.proofs.fragment_named.Statement.{statement}
 use Rattle.query_rule_3.proofs.fragment_named.Tie as tie
 
-name-of-requires : tie.Need-name-of-requires
-name-of-requires c κs = search needs
-
-cast-at : tie.Need-cast-at
-cast-at c = search needs
-
-size-of-requires : tie.Need-size-of-requires
-size-of-requires c κs = search needs
-
-cast-l : tie.Need-cast-l
-cast-l c = search needs
-
 first-called-requires : tie.Need-first-called-requires
 first-called-requires c κs =
     let a = c .before .before .before .before .before .before .args in
@@ -35,4 +23,4 @@ returns c =
 pub fragment-named-spec : {M : Type 1} → statement M
 fragment-named-spec =
     tie.close
-    (tie.spec name-of-requires cast-at size-of-requires cast-l first-called-requires returns)
+    (tie.spec (λ c κs. search needs) (λ c. search needs) (λ c κs. search needs) (λ c. search needs) first-called-requires returns)

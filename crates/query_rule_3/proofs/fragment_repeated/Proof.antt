@@ -10,16 +10,10 @@ use Rattle.query_rule_3.proofs.RuleLaws.{fragment-other, fragment-earli
 use Rattle.query_rule_3.proofs.fragment_repeated.Statement.{statement}
 use Rattle.query_rule_3.proofs.fragment_repeated.Tie as tie
 
-kind-of-requires : tie.Need-kind-of-requires
-kind-of-requires c κs = search needs
-
 returns : tie.Need-returns
 returns c =
     let a = c .before .before .before .before .before .before .args in
     fragment-other (docOf (a .s .now) (a .rows .now) (a .n)) (a .i) (λ q. c .if1 .taken (c .before .kind-of .ensures ∙ q))
-
-fragment-named-requires : tie.Need-fragment-named-requires
-fragment-named-requires c κs = search needs
 
 returns-2 : tie.Need-returns-2
 returns-2 c =
@@ -28,4 +22,4 @@ returns-2 c =
 
 pub fragment-repeated-spec : {M : Type 1} → statement M
 fragment-repeated-spec =
-    tie.close (tie.spec kind-of-requires returns fragment-named-requires returns-2)
+    tie.close (tie.spec (λ c κs. search needs) returns (λ c κs. search needs) returns-2)

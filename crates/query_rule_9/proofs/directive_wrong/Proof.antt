@@ -6,9 +6,6 @@ use Rattle.query_rule_9.proofs.DirectiveLaws.{wrong-other, wrong-right}
 use Rattle.query_rule_9.proofs.directive_wrong.Statement.{statement}
 use Rattle.query_rule_9.proofs.directive_wrong.Tie as tie
 
-kind-of-requires : tie.Need-kind-of-requires
-kind-of-requires c κs = search needs
-
 returns : tie.Need-returns
 returns c =
     let a = c .before .before .before .before .before .before .args in
@@ -25,4 +22,4 @@ returns-2 c =
     rw (c .is-right .ensures) (wrong-right (docOf (a .s .now) (a .rows .now) (a .n)) (a .i) (sym (c .before .before .kind-of .ensures) ∙ c .before .if1 .left))
 
 pub directive-wrong-spec : {M : Type 1} → statement M
-directive-wrong-spec = tie.close (tie.spec kind-of-requires returns is-right-requires returns-2)
+directive-wrong-spec = tie.close (tie.spec (λ c κs. search needs) returns is-right-requires returns-2)

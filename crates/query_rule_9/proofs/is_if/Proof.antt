@@ -9,12 +9,6 @@ use Rattle.query_rule_9.proofs.DirectiveLaws.{if-other, if-boolean, if-
 use Rattle.query_rule_9.proofs.is_if.Statement.{statement}
 use Rattle.query_rule_9.proofs.is_if.Tie as tie
 
-slice-aggregate-is-called : tie.Need-slice-aggregate-is-called
-slice-aggregate-is-called c = search needs
-
-is-called-requires : tie.Need-is-called-requires
-is-called-requires c κs = search needs
-
 returns : tie.Need-returns
 returns c =
     let a = c .before .before .before .before .before .before .before .args in
@@ -44,8 +38,8 @@ pub is-if-spec : {M : Type 1} → statement M
 is-if-spec =
     tie.close
     (tie.spec
-    slice-aggregate-is-called
-    is-called-requires
+    (λ c. search needs)
+    (λ c κs. search needs)
     returns
     first-below-requires
     returns-2

@@ -9,18 +9,6 @@ use Rattle.query_rule_9.proofs.DirectiveLaws.{known-name, parent-select
 use Rattle.query_rule_9.proofs.is_right.Statement.{statement}
 use Rattle.query_rule_9.proofs.is_right.Tie as tie
 
-name-of-requires : tie.Need-name-of-requires
-name-of-requires c κs = search needs
-
-cast-at : tie.Need-cast-at
-cast-at c = search needs
-
-size-of-requires : tie.Need-size-of-requires
-size-of-requires c κs = search needs
-
-cast-l : tie.Need-cast-l
-cast-l c = search needs
-
 is-known-directive-requires : tie.Need-is-known-directive-requires
 is-known-directive-requires c κs =
     let a = c .before .before .before .before .before .before .args in
@@ -31,30 +19,15 @@ returns c =
     let a = c .before .before .before .before .before .before .before .before .args in
     right-unknown (docOf (a .s .now) (a .rows .now) (a .n)) (a .i) (known-name (a .s .now) (a .rows .now) (a .n) (a .i) _ _ (c .before .before .before .name-of .ensures) (c .before .before .size-of .ensures) ∙ sym (c .before .is-known-directive .ensures) ∙ not-true _ (c .if1 .taken))
 
-parent-of-requires : tie.Need-parent-of-requires
-parent-of-requires c κs = search needs
-
-cast-p : tie.Need-cast-p
-cast-p c = search needs
-
-is-selection-requires : tie.Need-is-selection-requires
-is-selection-requires c κs = search needs
-
 returns-2 : tie.Need-returns-2
 returns-2 c =
     let a = c .before .before .before .before .before .before .before .before .before .before .before .args in
     right-elsewhere (docOf (a .s .now) (a .rows .now) (a .n)) (a .i) (known-name (a .s .now) (a .rows .now) (a .n) (a .i) _ _ (c .before .before .before .before .before .before .name-of .ensures) (c .before .before .before .before .before .size-of .ensures) ∙ sym (c .before .before .before .before .is-known-directive .ensures) ∙ not-false _ (c .before .before .before .if1 .left)) (parent-selection (a .rows .now) (a .n) (a .i) _ (c .before .before .parent-of .ensures) ∙ sym (c .before .is-selection .ensures) ∙ not-true _ (c .if2 .taken))
 
-is-repeated-requires : tie.Need-is-repeated-requires
-is-repeated-requires c κs = search needs
-
 returns-3 : tie.Need-returns-3
 returns-3 c =
     let a = c .before .before .before .before .before .before .before .before .before .before .before .before .before .args in
     right-repeated (docOf (a .s .now) (a .rows .now) (a .n)) (a .i) (known-name (a .s .now) (a .rows .now) (a .n) (a .i) _ _ (c .before .before .before .before .before .before .before .before .name-of .ensures) (c .before .before .before .before .before .before .before .size-of .ensures) ∙ sym (c .before .before .before .before .before .before .is-known-directive .ensures) ∙ not-false _ (c .before .before .before .before .before .if1 .left)) (parent-selection (a .rows .now) (a .n) (a .i) _ (c .before .before .before .before .parent-of .ensures) ∙ sym (c .before .before .before .is-selection .ensures) ∙ not-false _ (c .before .before .if2 .left)) (c .before .before .before .before .before .before .before .before .before .before .before .before .before .pre .3) (sym (c .before .is-repeated .ensures) ∙ c .if3 .taken)
-
-is-only-if-requires : tie.Need-is-only-if-requires
-is-only-if-requires c κs = search needs
 
 returns-4 : tie.Need-returns-4
 returns-4 c =
@@ -65,17 +38,17 @@ pub is-right-spec : {M : Type 1} → statement M
 is-right-spec =
     tie.close
     (tie.spec
-    name-of-requires
-    cast-at
-    size-of-requires
-    cast-l
+    (λ c κs. search needs)
+    (λ c. search needs)
+    (λ c κs. search needs)
+    (λ c. search needs)
     is-known-directive-requires
     returns
-    parent-of-requires
-    cast-p
-    is-selection-requires
+    (λ c κs. search needs)
+    (λ c. search needs)
+    (λ c κs. search needs)
     returns-2
-    is-repeated-requires
+    (λ c κs. search needs)
     returns-3
-    is-only-if-requires
+    (λ c κs. search needs)
     returns-4)

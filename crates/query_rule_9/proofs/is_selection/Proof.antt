@@ -7,9 +7,6 @@ use Rattle.query_rows.specs.Rowed.{rowIn}
 use Rattle.query_rule_9.proofs.is_selection.Statement.{statement}
 use Rattle.query_rule_9.proofs.is_selection.Tie as tie
 
-kind-of-requires : tie.Need-kind-of-requires
-kind-of-requires c κs = search needs
-
 returns : tie.Need-returns
 returns c =
     let h = c .if1 .taken in
@@ -23,4 +20,4 @@ returns-2 c =
     rw (le-leb kindField (rowIn (c .before .before .before .args .rows .now) (c .before .before .before .args .n) (c .before .before .before .args .i) .kind) (omega arith), ← e)
 
 pub is-selection-spec : {M : Type 1} → statement M
-is-selection-spec = tie.close (tie.spec kind-of-requires returns returns-2)
+is-selection-spec = tie.close (tie.spec (λ c κs. search needs) returns returns-2)

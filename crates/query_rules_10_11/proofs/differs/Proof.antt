@@ -17,19 +17,10 @@ returns c =
 extra-of-requires : tie.Need-extra-of-requires
 extra-of-requires c κs = rowed-sized (c .before .before .before .before .before .pre .0)
 
-nullable-of-requires : tie.Need-nullable-of-requires
-nullable-of-requires c κs = search needs
-
-nullable-of-requires-2 : tie.Need-nullable-of-requires-2
-nullable-of-requires-2 c κs = search needs
-
 returns-2 : tie.Need-returns-2
 returns-2 c =
     let s = c .before .before .before .before .before .before .before .before .before in
     differ-wrappers (s .args .t .now) (shapeIn (docOf (s .args .s .now) (s .args .rows .now) (s .args .n)) (rowIn (s .args .rows .now) (s .args .n) (s .args .r))) (s .args .p) (c .before .before .before .before .if1 .left) (λ z. c .if2 .taken (c .before .before .nullable-of .ensures ∙ ap nullable (c .before .before .before .extra-of .ensures) ∙ z ∙ sym (c .before .nullable-of2 .ensures)))
-
-slice-aggregate-is-called : tie.Need-slice-aggregate-is-called
-slice-aggregate-is-called c = search needs
 
 is-called-requires : tie.Need-is-called-requires
 is-called-requires c κs = (c .before .before .before .before .before .before .before .before .before .before .before .before .pre .0, omega arith)
@@ -38,15 +29,6 @@ returns-3 : tie.Need-returns-3
 returns-3 c =
     let s = c .before .before .before .before .before .before .before .before .before .before .before .before .before in
     differ-boolean (s .args .t .now) (shapeIn (docOf (s .args .s .now) (s .args .rows .now) (s .args .n)) (rowIn (s .args .rows .now) (s .args .n) (s .args .r))) (s .args .p) (c .before .before .before .before .before .before .before .before .if1 .left) (sym (c .before .before .before .before .before .before .nullable-of .ensures ∙ ap nullable (c .before .before .before .before .before .before .before .extra-of .ensures)) ∙ c .before .before .before .before .if2 .left ∙ c .before .before .before .before .before .nullable-of2 .ensures) (c .before .before .if3 .taken) (c .is-called .ensures)
-
-sub-is-called : tie.Need-sub-is-called
-sub-is-called c = search needs
-
-cast-is-called : tie.Need-cast-is-called
-cast-is-called c = search needs
-
-cast-is-called-2 : tie.Need-cast-is-called-2
-cast-is-called-2 c = search needs
 
 is-called-requires-2 : tie.Need-is-called-requires-2
 is-called-requires-2 c κs =
@@ -64,14 +46,14 @@ differs-spec =
     (tie.spec
     returns
     extra-of-requires
-    nullable-of-requires
-    nullable-of-requires-2
+    (λ c κs. search needs)
+    (λ c κs. search needs)
     returns-2
-    slice-aggregate-is-called
+    (λ c. search needs)
     is-called-requires
     returns-3
-    sub-is-called
-    cast-is-called
-    cast-is-called-2
+    (λ c. search needs)
+    (λ c. search needs)
+    (λ c. search needs)
     is-called-requires-2
     returns-4)

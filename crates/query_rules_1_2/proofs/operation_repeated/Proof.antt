@@ -8,30 +8,15 @@ use Rattle.query_rules_1_2.proofs.OperationLaws.{repeated-other, repeat
 use Rattle.query_rules_1_2.proofs.operation_repeated.Statement.{statement}
 use Rattle.query_rules_1_2.proofs.operation_repeated.Tie as tie
 
-kind-of-requires : tie.Need-kind-of-requires
-kind-of-requires c κs = search needs
-
 returns : tie.Need-returns
 returns c =
     let a = c .before .before .before .before .before .before .args in
     repeated-other (docOf (a .s .now) (a .rows .now) (a .n)) (a .i) (λ q. c .if1 .taken (c .before .kind-of .ensures ∙ q))
 
-size-of-requires : tie.Need-size-of-requires
-size-of-requires c κs = search needs
-
-cast-l : tie.Need-cast-l
-cast-l c = search needs
-
 returns-2 : tie.Need-returns-2
 returns-2 c =
     let a = c .before .before .before .before .before .before .before .before .args in
     repeated-unnamed (docOf (a .s .now) (a .rows .now) (a .n)) (a .i) (sym (c .before .before .before .kind-of .ensures) ∙ c .before .before .if1 .left) (sym (c .before .size-of .ensures) ∙ c .if2 .taken)
-
-name-of-requires : tie.Need-name-of-requires
-name-of-requires c κs = search needs
-
-cast-at : tie.Need-cast-at
-cast-at c = search needs
 
 first-called-requires : tie.Need-first-called-requires
 first-called-requires c κs =
@@ -51,12 +36,12 @@ pub operation-repeated-spec : {M : Type 1} → statement M
 operation-repeated-spec =
     tie.close
     (tie.spec
-    kind-of-requires
+    (λ c κs. search needs)
     returns
-    size-of-requires
-    cast-l
+    (λ c κs. search needs)
+    (λ c. search needs)
     returns-2
-    name-of-requires
-    cast-at
+    (λ c κs. search needs)
+    (λ c. search needs)
     first-called-requires
     returns-3)

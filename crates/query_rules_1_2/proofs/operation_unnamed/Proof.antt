@@ -11,24 +11,15 @@ use Rattle.query_rules_1_2.proofs.OperationLaws.{unnamed-other, unnamed
 use Rattle.query_rules_1_2.proofs.operation_unnamed.Statement.{statement}
 use Rattle.query_rules_1_2.proofs.operation_unnamed.Tie as tie
 
-kind-of-requires : tie.Need-kind-of-requires
-kind-of-requires c κs = search needs
-
 returns : tie.Need-returns
 returns c =
     let a = c .before .before .before .before .before .args in
     λ s. unnamed-other (docOf s (a .rows .now) (a .n)) (a .i) (λ q. c .if1 .taken (c .before .kind-of .ensures ∙ q))
 
-size-of-requires : tie.Need-size-of-requires
-size-of-requires c κs = search needs
-
 returns-2 : tie.Need-returns-2
 returns-2 c =
     let a = c .before .before .before .before .before .before .before .args in
     λ s. unnamed-named (docOf s (a .rows .now) (a .n)) (a .i) (sym (c .before .before .before .kind-of .ensures) ∙ c .before .before .if1 .left) (λ q. c .if2 .taken (c .before .size-of .ensures ∙ q))
-
-cast-link-of : tie.Need-cast-link-of
-cast-link-of c = search needs
 
 link-of-requires : tie.Need-link-of-requires
 link-of-requires c κs = omega (arith, c .before .before .before .before .before .before .before .pre .1 .firsts)
@@ -54,11 +45,11 @@ pub operation-unnamed-spec : {M : Type 1} → statement M
 operation-unnamed-spec =
     tie.close
     (tie.spec
-    kind-of-requires
+    (λ c κs. search needs)
     returns
-    size-of-requires
+    (λ c κs. search needs)
     returns-2
-    cast-link-of
+    (λ c. search needs)
     link-of-requires
     returns-3
     link-of-requires-2

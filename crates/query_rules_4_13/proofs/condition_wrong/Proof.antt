@@ -43,14 +43,8 @@ returns c =
 parent-of-requires : tie.Need-parent-of-requires
 parent-of-requires c κs = rowed-sized (c .before .before .before .before .before .before .pre .1)
 
-cast-kind-of : tie.Need-cast-kind-of
-cast-kind-of c = search needs
-
 kind-of-requires-2 : tie.Need-kind-of-requires-2
 kind-of-requires-2 c κs = rowed-sized (c .before .before .before .before .before .before .before .pre .1)
-
-is-fragment-requires : tie.Need-is-fragment-requires
-is-fragment-requires c κs = search needs
 
 returns-2 : tie.Need-returns-2
 returns-2 c =
@@ -60,23 +54,14 @@ returns-2 c =
 name-of-requires : tie.Need-name-of-requires
 name-of-requires c κs = rowed-sized (c .before .before .before .before .before .before .before .before .before .before .pre .1)
 
-cast-tag-meant : tie.Need-cast-tag-meant
-cast-tag-meant c = search needs
-
 size-of-requires : tie.Need-size-of-requires
 size-of-requires c κs = rowed-sized (c .before .before .before .before .before .before .before .before .before .before .before .pre .1)
-
-cast-tag-meant-2 : tie.Need-cast-tag-meant-2
-cast-tag-meant-2 c = search needs
 
 tag-meant-requires : tie.Need-tag-meant-requires
 tag-meant-requires c κs =
     let a = c .before .before .before .before .before .before .before .before .before .before .before .before .args in
     let g = c .before .before .before .before .before .before .before .before .before .before .before .before .pre in
     (g .0, rw (c .before .name-of .ensures, c .size-of .ensures) (name-within (a .s .now) (a .rows .now) (a .n) (g .1) (a .i)))
-
-is-composite-requires : tie.Need-is-composite-requires
-is-composite-requires c κs = search needs
 
 returns-3 : tie.Need-returns-3
 returns-3 c =
@@ -90,14 +75,14 @@ condition-wrong-spec =
     kind-of-requires
     returns
     parent-of-requires
-    cast-kind-of
+    (λ c. search needs)
     kind-of-requires-2
-    is-fragment-requires
+    (λ c κs. search needs)
     returns-2
     name-of-requires
-    cast-tag-meant
+    (λ c. search needs)
     size-of-requires
-    cast-tag-meant-2
+    (λ c. search needs)
     tag-meant-requires
-    is-composite-requires
+    (λ c κs. search needs)
     returns-3)

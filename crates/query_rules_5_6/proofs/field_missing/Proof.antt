@@ -19,9 +19,6 @@ returns c =
     let a = c .before .before .before .before .before .before .before .before .args in
     field-other (tableOf (a .t .now)) (docOf (a .s .now) (a .rows .now) (a .n)) (a .i) (λ z. c .if1 .taken (c .before .kind-of .ensures ∙ z))
 
-mul-result : tie.Need-mul-result
-mul-result c = search needs
-
 shared-slice-read-result : tie.Need-shared-slice-read-result
 shared-slice-read-result c =
     let g = c .before .before .before .before .before .before .before .before .before .pre in
@@ -36,4 +33,4 @@ returns-2 c =
 
 pub field-missing-spec : {M : Type 1} → statement M
 field-missing-spec =
-    tie.close (tie.spec kind-of-requires returns mul-result shared-slice-read-result returns-2)
+    tie.close (tie.spec kind-of-requires returns (λ c. search needs) shared-slice-read-result returns-2)

@@ -4,11 +4,12 @@ use mathlib.Core.Bool.{_&&_}
 use Prim.Native.Nat.{ℕ, _-_, _<_}
 use native.Mathlib.Omega.{arith}
 use lib.Dec.{leb}
+use Rattle.paper.proofs.Bools.{and-right}
 use Rattle.paper.specs.Numbers.{kindField, kindInline}
 use Rattle.paper_query.specs.Constructs.{noRow, isSelection, below}
 use Rattle.query_rows.specs.Rowed.{rowIn, rowsIn, docOf}
 use Rattle.query_rows.proofs.RowsIn.{rowed-sized}
-use Rattle.query_links.proofs.Walks.{and-right, walk-any, end-any}
+use Rattle.query_links.proofs.Walks.{walk-any, end-any}
 use Rattle.query_links.proofs.ChainWalks.{RowWalk, family-start, family-next, family-less, family-room}
 use Rattle.query_rules_5_6.proofs.RuleLaws.{selects, selects-here, selections-are}
 use borrow.Author.Needs.{needs}
@@ -41,9 +42,6 @@ loop-holds c =
 
 kind-of-requires : tie.Need-kind-of-requires Inv-loop μ-loop
 kind-of-requires c κs = rowed-sized (c .before .before .before .before .before .before .before .pre .0)
-
-is-selection-requires : tie.Need-is-selection-requires Inv-loop μ-loop
-is-selection-requires c κs = search needs
 
 returns : tie.Need-returns Inv-loop μ-loop
 returns c =
@@ -85,7 +83,7 @@ has-selections-spec =
     link-of-requires
     loop-holds
     kind-of-requires
-    is-selection-requires
+    (λ c κs. search needs)
     returns
     link-of-requires-2
     loop-less

@@ -4,7 +4,7 @@ use native.Mathlib.Omega.{arith}
 use lib.ListN.{getD}
 use Rattle.paper.specs.Numbers.{kindField}
 use Rattle.paper_table.specs.Types.{tableOf}
-use Rattle.paper_query.specs.Enclosing.{fieldAt, typeIn}
+use Rattle.paper_query.specs.Enclosing.{fieldAt, selectionsType}
 use Rattle.query_rows.specs.Rowed.{rowIn, docOf}
 use Rattle.query_rows.proofs.RowsIn.{rowed-sized}
 use Rattle.query_rows.proofs.Rooms.{room-enough}
@@ -29,7 +29,7 @@ field c =
     g .2 .fields (c .before .before .before .before .before .before .before .before .before .before .args .i) (g .3) (kind c)
 
 typed : (c : tie.Else1)
-    → typeIn (tableOf (c .before .before .before .before .before .before .before .before .before .before .args .t .now)) (fieldAt (tableOf (c .before .before .before .before .before .before .before .before .before .before .args .t .now)) (docOf (c .before .before .before .before .before .before .before .before .before .before .args .s .now) (c .before .before .before .before .before .before .before .before .before .before .args .rows .now) (c .before .before .before .before .before .before .before .before .before .before .args .n)) (c .before .before .before .before .before .before .before .before .before .before .args .i)) ≡ typeCoded (getD (c .before .before .before .before .before .before .before .before .before .before .args .inside .now) (c .before .before .before .before .before .before .before .before .before .before .args .i) 0)
+    → selectionsType (tableOf (c .before .before .before .before .before .before .before .before .before .before .args .t .now)) (fieldAt (tableOf (c .before .before .before .before .before .before .before .before .before .before .args .t .now)) (docOf (c .before .before .before .before .before .before .before .before .before .before .args .s .now) (c .before .before .before .before .before .before .before .before .before .before .args .rows .now) (c .before .before .before .before .before .before .before .before .before .before .args .n)) (c .before .before .before .before .before .before .before .before .before .before .args .i)) ≡ typeCoded (getD (c .before .before .before .before .before .before .before .before .before .before .args .inside .now) (c .before .before .before .before .before .before .before .before .before .before .args .i) 0)
 typed c =
     let a = c .before .before .before .before .before .before .before .before .before .before .args in
     let g = c .before .before .before .before .before .before .before .before .before .before .pre in
@@ -42,9 +42,6 @@ returns : tie.Need-returns
 returns c =
     let a = c .before .before .before .before .before .before .before .before .before .before .args in
     leaf-other (tableOf (a .t .now)) (docOf (a .s .now) (a .rows .now) (a .n)) (a .i) (λ z. c .if1 .taken (c .before .kind-of .ensures ∙ z))
-
-mul-if2 : tie.Need-mul-if2
-mul-if2 c = search needs
 
 shared-slice-read-if2 : tie.Need-shared-slice-read-if2
 shared-slice-read-if2 c =
@@ -61,9 +58,6 @@ has-selections-requires c κs =
     let g = c .before .before .before .before .before .before .before .before .before .before .before .before .pre in
     (g .0, g .1, g .3)
 
-mul-result : tie.Need-mul-result
-mul-result c = search needs
-
 shared-slice-read-result : tie.Need-shared-slice-read-result
 shared-slice-read-result c =
     let g = c .before .before .before .before .before .before .before .before .before .before .before .before .before .before .before .pre in
@@ -73,9 +67,6 @@ returns-3 : tie.Need-returns-3
 returns-3 c =
     let a = c .before .before .before .before .before .before .before .before .before .before .before .before .before .before .before .args in
     leaf-selects (tableOf (a .t .now)) (docOf (a .s .now) (a .rows .now) (a .n)) (a .i) (kind (c .before .before .before .before .before)) (a .t .now) (getD (a .at .now) (a .i) 0) (getD (a .to .now) (a .i) 0) (field (c .before .before .before .before .before)) (c .before .before .before .if2 .left) (getD (a .inside .now) (a .i) 0) (typed (c .before .before .before .before .before)) (sym (c .before .if3 .taken) ∙ c .before .before .has-selections .ensures)
-
-mul-result-2 : tie.Need-mul-result-2
-mul-result-2 c = search needs
 
 shared-slice-read-result-2 : tie.Need-shared-slice-read-result-2
 shared-slice-read-result-2 c =
@@ -93,13 +84,13 @@ leaf-wrong-spec =
     (tie.spec
     kind-of-requires
     returns
-    mul-if2
+    (λ c. search needs)
     shared-slice-read-if2
     returns-2
     has-selections-requires
-    mul-result
+    (λ c. search needs)
     shared-slice-read-result
     returns-3
-    mul-result-2
+    (λ c. search needs)
     shared-slice-read-result-2
     returns-4)

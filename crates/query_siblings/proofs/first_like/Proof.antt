@@ -16,27 +16,6 @@ Inv-loop s rows n first next i k at l p j₀ j = Liking s rows n i j
 abbrev μ-loop : tie.MeasureT-loop
 μ-loop s rows n first next i k at l p j₀ j = n - j
 
-kind-of-requires : tie.Need-kind-of-requires Inv-loop μ-loop
-kind-of-requires c κs = search needs
-
-name-of-requires : tie.Need-name-of-requires Inv-loop μ-loop
-name-of-requires c κs = search needs
-
-cast-at : tie.Need-cast-at Inv-loop μ-loop
-cast-at c = search needs
-
-size-of-requires : tie.Need-size-of-requires Inv-loop μ-loop
-size-of-requires c κs = search needs
-
-cast-l : tie.Need-cast-l Inv-loop μ-loop
-cast-l c = search needs
-
-parent-of-requires : tie.Need-parent-of-requires Inv-loop μ-loop
-parent-of-requires c κs = search needs
-
-cast-p : tie.Need-cast-p Inv-loop μ-loop
-cast-p c = search needs
-
 link-of-requires : tie.Need-link-of-requires Inv-loop μ-loop
 link-of-requires c κs =
     let a = c .before .before .before .before .before .before .before .before .args in
@@ -86,13 +65,13 @@ first-like-spec =
     (tie.spec
     Inv-loop
     μ-loop
-    kind-of-requires
-    name-of-requires
-    cast-at
-    size-of-requires
-    cast-l
-    parent-of-requires
-    cast-p
+    (λ c κs. search needs)
+    (λ c κs. search needs)
+    (λ c. search needs)
+    (λ c κs. search needs)
+    (λ c. search needs)
+    (λ c κs. search needs)
+    (λ c. search needs)
     link-of-requires
     loop-holds
     is-kind-called-requires

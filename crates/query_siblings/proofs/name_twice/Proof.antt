@@ -6,19 +6,10 @@ use Rattle.query_siblings.proofs.TwiceLaws.{twice-argument, twice-varia
 use Rattle.query_siblings.proofs.name_twice.Statement.{statement}
 use Rattle.query_siblings.proofs.name_twice.Tie as tie
 
-kind-of-requires : tie.Need-kind-of-requires
-kind-of-requires c κs = search needs
-
-is-repeated-requires : tie.Need-is-repeated-requires
-is-repeated-requires c κs = search needs
-
 returns : tie.Need-returns
 returns c =
     let a = c .before .before .before .before .before .before .before .args in
     c .is-repeated .ensures ∙ twice-argument (docOf (a .s .now) (a .rows .now) (a .n)) (a .i) (sym (c .before .before .kind-of .ensures) ∙ c .before .if1 .taken)
-
-is-repeated-requires-2 : tie.Need-is-repeated-requires-2
-is-repeated-requires-2 c κs = search needs
 
 returns-2 : tie.Need-returns-2
 returns-2 c =
@@ -34,9 +25,9 @@ pub name-twice-spec : {M : Type 1} → statement M
 name-twice-spec =
     tie.close
     (tie.spec
-    kind-of-requires
-    is-repeated-requires
+    (λ c κs. search needs)
+    (λ c κs. search needs)
     returns
-    is-repeated-requires-2
+    (λ c κs. search needs)
     returns-2
     returns-3)

@@ -19,9 +19,6 @@ loop-holds c =
     let a = c .before .before .args in
     seeking-start (a .rows .now) (a .n) (a .k) (a .j) (c .before .before .pre .2)
 
-kind-of-requires : tie.Need-kind-of-requires Inv-loop μ-loop
-kind-of-requires c κs = search needs
-
 returns : tie.Need-returns Inv-loop μ-loop
 returns c =
     let a = c .before .before .before .before .before .before .args in
@@ -54,7 +51,7 @@ next-beside-spec =
     Inv-loop
     μ-loop
     loop-holds
-    kind-of-requires
+    (λ c κs. search needs)
     returns
     link-of-requires
     loop-less

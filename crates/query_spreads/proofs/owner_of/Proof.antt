@@ -9,35 +9,17 @@ use Rattle.query_spreads.proofs.OwnerLaws.{operation-defines, fragment-
 use Rattle.query_spreads.proofs.owner_of.Statement.{statement}
 use Rattle.query_spreads.proofs.owner_of.Tie as tie
 
-kind-of-requires : tie.Need-kind-of-requires
-kind-of-requires c κs = search needs
-
-cast-result : tie.Need-cast-result
-cast-result c = search needs
-
 returns : tie.Need-returns
 returns c =
     let a = c .before .before .before .before .before .args in
     let d = docOf (a .s .now) (a .rows .now) (a .n) in
     owner-itself d (a .i) (omega (arith, rows-count (a .rows .now) (a .n), c .before .before .before .before .before .pre .0 .few)) (operation-defines d (a .i) (sym (c .before .kind-of .ensures) ∙ c .if1 .taken))
 
-cast-result-2 : tie.Need-cast-result-2
-cast-result-2 c = search needs
-
 returns-2 : tie.Need-returns-2
 returns-2 c =
     let a = c .before .before .before .before .before .before .args in
     let d = docOf (a .s .now) (a .rows .now) (a .n) in
     owner-itself d (a .i) (omega (arith, rows-count (a .rows .now) (a .n), c .before .before .before .before .before .before .pre .0 .few)) (fragment-defines d (a .i) (sym (c .before .before .kind-of .ensures) ∙ c .if2 .taken))
-
-parent-of-requires : tie.Need-parent-of-requires
-parent-of-requires c κs = search needs
-
-cast-p : tie.Need-cast-p
-cast-p c = search needs
-
-mul-result : tie.Need-mul-result
-mul-result c = search needs
 
 shared-slice-read-result : tie.Need-shared-slice-read-result
 shared-slice-read-result c =
@@ -58,14 +40,14 @@ pub owner-of-spec : {M : Type 1} → statement M
 owner-of-spec =
     tie.close
     (tie.spec
-    kind-of-requires
-    cast-result
+    (λ c κs. search needs)
+    (λ c. search needs)
     returns
-    cast-result-2
+    (λ c. search needs)
     returns-2
-    parent-of-requires
-    cast-p
-    mul-result
+    (λ c κs. search needs)
+    (λ c. search needs)
+    (λ c. search needs)
     shared-slice-read-result
     returns-3
     returns-4)

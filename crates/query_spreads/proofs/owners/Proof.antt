@@ -23,9 +23,6 @@ loop-holds c = owned-none _ _ (c .before .before .before .pre .1 ∙ sym (room-r
 owner-of-requires : tie.Need-owner-of-requires Inv-loop μ-loop
 owner-of-requires c κs = (c .before .before .before .before .before .before .pre .0, c .before .before .loop .inv, c .before .loop-test .taken)
 
-mul-owner : tie.Need-mul-owner Inv-loop μ-loop
-mul-owner c = search needs
-
 slice-write-owner : tie.Need-slice-write-owner Inv-loop μ-loop
 slice-write-owner c = room-at _ _ _ (c .before .before .before .loop .inv .size) (c .before .before .before .before .before .before .before .pre .0 .few) (c .before .before .loop-test .taken)
 
@@ -52,7 +49,7 @@ owners-spec =
     μ-loop
     loop-holds
     owner-of-requires
-    mul-owner
+    (λ c. search needs)
     slice-write-owner
     add-i
     loop-less

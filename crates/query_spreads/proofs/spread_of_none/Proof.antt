@@ -22,9 +22,6 @@ below c =
     let d = docOf (a .s .now) (a .rows .now) (a .n) in
     omega (arith, spread-within d (a .i) (spread-is d (a .i) (kind c)), rows-count (a .rows .now) (a .n))
 
-kind-of-requires : tie.Need-kind-of-requires
-kind-of-requires c κs = search needs
-
 returns : tie.Need-returns
 returns c = lost-not (docOf (c .before .before .before .before .before .args .s .now) (c .before .before .before .before .before .args .rows .now) (c .before .before .before .before .before .args .n)) (c .before .before .before .before .before .args .i) (λ e. c .if1 .taken (c .before .kind-of .ensures ∙ e))
 
@@ -44,7 +41,7 @@ pub spread-of-none-spec : {M : Type 1} → statement M
 spread-of-none-spec =
     tie.close
     (tie.spec
-    kind-of-requires
+    (λ c κs. search needs)
     returns
     mul-result
     shared-slice-read-result

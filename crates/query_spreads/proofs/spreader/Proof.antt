@@ -9,12 +9,6 @@ use Rattle.query_spreads.proofs.SpreaderLaws.{spread-is, spreader-owner
 use Rattle.query_spreads.proofs.spreader.Statement.{statement}
 use Rattle.query_spreads.proofs.spreader.Tie as tie
 
-kind-of-requires : tie.Need-kind-of-requires
-kind-of-requires c κs = search needs
-
-mul-result : tie.Need-mul-result
-mul-result c = search needs
-
 shared-slice-read-result : tie.Need-shared-slice-read-result
 shared-slice-read-result c =
     let p = c .before .before .before .before .before .before .pre in
@@ -29,9 +23,6 @@ returns c =
     let d = docOf (a .s .now) (a .rows .now) (a .n) in
     spreader-owner d (a .j) _ (spread-is d (a .j) (sym (c .before .before .kind-of .ensures) ∙ c .before .if1 .taken)) (c .before .before .before .before .before .before .pre .1 .owns (a .j) (omega (arith, rows-count (a .rows .now) (a .n), c .before .before .before .before .before .before .pre .2)))
 
-cast-result-2 : tie.Need-cast-result-2
-cast-result-2 c = search needs
-
 returns-2 : tie.Need-returns-2
 returns-2 c =
     let a = c .before .before .before .before .before .args in
@@ -42,10 +33,10 @@ pub spreader-spec : {M : Type 1} → statement M
 spreader-spec =
     tie.close
     (tie.spec
-    kind-of-requires
-    mul-result
+    (λ c κs. search needs)
+    (λ c. search needs)
     shared-slice-read-result
     cast-result
     returns
-    cast-result-2
+    (λ c. search needs)
     returns-2)

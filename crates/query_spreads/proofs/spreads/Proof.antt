@@ -27,9 +27,6 @@ loop-holds c =
     let l = ap length e ∙ length-replicate (length (a .first .now)) (a .n) in
     linking-start (docOf (a .s .now) (a .rows .now) (a .n)) _ _ _ _ (rows-count (a .rows .now) (a .n)) (omega (arith, l, c .before .before .before .before .before .before .before .before .before .pre .2)) (e ∙ ap (λ k. replicate k (a .n)) (sym l)) (c .before .before .before .before .before .before .before .before .before .pre .3 ∙ sym (room-rows _ _))
 
-sub-j : tie.Need-sub-j Inv-loop μ-loop
-sub-j c = search needs
-
 spreader-requires : tie.Need-spreader-requires Inv-loop μ-loop
 spreader-requires c κs = (c .before .before .before .before .before .before .before .before .before .before .before .pre .0, c .before .before .before .before .before .before .before .before .before .before .before .pre .1, omega (arith, c .loop-test .taken, c .before .loop .inv .most, rows-count (c .before .before .before .before .before .before .before .before .before .before .before .args .rows .now) (c .before .before .before .before .before .before .before .before .before .before .before .args .n)))
 
@@ -76,7 +73,7 @@ spreads-spec =
     μ-loop
     clear-requires
     loop-holds
-    sub-j
+    (λ c. search needs)
     spreader-requires
     put-first-requires
     loop-less

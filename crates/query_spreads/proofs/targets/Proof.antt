@@ -27,9 +27,6 @@ below c = omega (arith, rows-count (c .before .before .before .before .before .b
 spread : (c : tie.In-loop Inv-loop μ-loop) → is kindSpread (rowIn (c .before .before .before .before .before .before .before .before .args .rows .now) (c .before .before .before .before .before .before .before .before .args .n) (c .before .loop .i)) ≡ true
 spread c = spread-true (docOf (c .before .before .before .before .before .before .before .before .args .s .now) (c .before .before .before .before .before .before .before .before .args .rows .now) (c .before .before .before .before .before .before .before .before .args .n)) (c .before .loop .i) (c .before .loop .inv .at (below c))
 
-cast-link-of : tie.Need-cast-link-of Inv-loop μ-loop
-cast-link-of c = search needs
-
 link-of-requires : tie.Need-link-of-requires Inv-loop μ-loop
 link-of-requires c κs = omega (arith, c .before .before .before .before .before .pre .1 .firsts)
 
@@ -76,7 +73,7 @@ targets-spec =
     (tie.spec
     Inv-loop
     μ-loop
-    cast-link-of
+    (λ c. search needs)
     link-of-requires
     loop-holds
     fragment-named-requires

@@ -12,12 +12,6 @@ tested : (c : tie.After-is-composite)
 tested c =
     c .is-composite .ensures ∙ ap isCompositeTag (c .before .kind-in .ensures)
 
-kind-in-requires : tie.Need-kind-in-requires
-kind-in-requires c κs = search needs
-
-is-composite-requires : tie.Need-is-composite-requires
-is-composite-requires c κs = search needs
-
 cast-result : tie.Need-cast-result
 cast-result c =
     let a = c .before .before .before .before .before .args in
@@ -41,4 +35,4 @@ returns-2 c =
 pub if-composite-spec : {M : Type 1} → statement M
 if-composite-spec =
     tie.close
-    (tie.spec kind-in-requires is-composite-requires cast-result add-result returns returns-2)
+    (tie.spec (λ c κs. search needs) (λ c κs. search needs) cast-result add-result returns returns-2)

@@ -10,35 +10,14 @@ use Rattle.table_answer.proofs.answer.Tie as tie
 returns : tie.Need-returns
 returns c = short-report (c .if1 .taken) refl
 
-sizes-met-requires : tie.Need-sizes-met-requires
-sizes-met-requires c κs = search needs
-
-enum-told : tie.Need-enum-told
-enum-told c = search needs
-
 judge-table-requires : tie.Need-judge-table-requires
 judge-table-requires c κs = sizes-kept (c .before .before .sizes-met .ensures) (c .enum-told .given .1) .2
-
-tell-table-requires : tie.Need-tell-table-requires
-tell-table-requires c κs = search needs
-
-enum-known-s : tie.Need-enum-known-s
-enum-known-s c = search needs
-
-tell-refusal-requires : tie.Need-tell-refusal-requires
-tell-refusal-requires c κs = search needs
-
-same-length : tie.Need-same-length
-same-length c = search needs
 
 returns-2 : tie.Need-returns-2
 returns-2 c =
     let k = sizes-kept (c .before .before .before .before .before .before .before .sizes-met .ensures) (c .before .before .before .before .before .enum-told .given .1) in
     let t = c .before .before .tell-table .ensures in
     checked-judged _ _ _ _ (c .before .before .before .before .before .before .before .before .if1 .left) _ (k .2) (c .before .before .before .before .judge-table .ensures) (t .0) (t .1)
-
-same-length-2 : tie.Need-same-length-2
-same-length-2 c = search needs
 
 returns-3 : tie.Need-returns-3
 returns-3 c =
@@ -50,13 +29,13 @@ answer-spec =
     tie.close
     (tie.spec
     returns
-    sizes-met-requires
-    enum-told
+    (λ c κs. search needs)
+    (λ c. search needs)
     judge-table-requires
-    tell-table-requires
-    enum-known-s
-    tell-refusal-requires
-    same-length
+    (λ c κs. search needs)
+    (λ c. search needs)
+    (λ c κs. search needs)
+    (λ c. search needs)
     returns-2
-    same-length-2
+    (λ c. search needs)
     returns-3)

@@ -5,11 +5,5 @@ use Rattle.table_answer.proofs.framing_unless.Tie as tie
 returns : tie.Need-returns
 returns c = rw (c .before .before .pre .1 (c .if1 .taken))
 
-framing-requires : tie.Need-framing-requires
-framing-requires c κs = search needs
-
-returns-2 : tie.Need-returns-2
-returns-2 c = search needs
-
 pub framing-unless-spec : {M : Type 1} → statement M
-framing-unless-spec = tie.close (tie.spec returns framing-requires returns-2)
+framing-unless-spec = tie.close (tie.spec returns (λ c κs. search needs) (λ c. search needs))

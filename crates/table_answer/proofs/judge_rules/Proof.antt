@@ -14,15 +14,6 @@ fill-requires-2 c κs = (c .before .before .before .before .fill .ensures, c .be
 first-break-requires : tie.Need-first-break-requires
 first-break-requires c κs = (checkable _ _ (c .before .before .before .before .before .before .before .before .before .before .before .before .before .before .before .before .pre .1) (c .before .before .before .before .before .before .before .before .before .before .before .before .before .before .before .before .pre .2) (c .before .before .before .before .before .before .before .before .before .before .fill .ensures), c .before .before .before .before .before .fill2 .ensures, c .before .before .before .before .before .before .before .before .before .before .before .before .before .before .before .before .pre .5)
 
-same-length : tie.Need-same-length
-same-length c = search needs
-
-same-length-2 : tie.Need-same-length-2
-same-length-2 c = search needs
-
-same-length-3 : tie.Need-same-length-3
-same-length-3 c = search needs
-
 returns : tie.Need-returns
 returns c = record { is = c .before .before .first-break .ensures ∙ rules-judge _ (c .before .before .before .before .before .before .before .before .before .before .before .before .before .before .before .before .before .before .before .pre .0) (c .before .before .before .before .before .before .before .before .before .before .before .before .before .before .before .before .before .before .before .pre .1) (c .before .before .before .before .before .before .before .before .before .before .before .before .before .before .before .before .before .before .before .pre .2); booked = λ e. c .before .before .before .before .before .before .before .before .before .before .before .before .before .fill .ensures }
 
@@ -33,7 +24,7 @@ judge-rules-spec =
     fill-requires
     fill-requires-2
     first-break-requires
-    same-length
-    same-length-2
-    same-length-3
+    (λ c. search needs)
+    (λ c. search needs)
+    (λ c. search needs)
     returns)

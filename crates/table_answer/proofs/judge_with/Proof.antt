@@ -3,17 +3,8 @@ use borrow.Author.Needs.{needs}
 use Rattle.table_answer.proofs.judge_with.Statement.{statement}
 use Rattle.table_answer.proofs.judge_with.Tie as tie
 
-is-usual-requires : tie.Need-is-usual-requires
-is-usual-requires c κs = search needs
-
 framing-unless-requires : tie.Need-framing-unless-requires
 framing-unless-requires c κs = (c .before .before .before .pre .0, λ e. c .is-usual .ensures e .0)
-
-enum-known-f : tie.Need-enum-known-f
-enum-known-f c = search needs
-
-enum-told : tie.Need-enum-told
-enum-told c = search needs
 
 judge-framed-requires : tie.Need-judge-framed-requires
 judge-framed-requires c κs = (c .before .before .before .before .before .before .before .pre .0, framing-right _ _ (c .before .before .before .framing-unless .ensures) (c .before .enum-told .given .1), c .before .before .before .before .before .before .before .pre .1, λ e. c .before .before .before .before .is-usual .ensures e .1)
@@ -21,21 +12,15 @@ judge-framed-requires c κs = (c .before .before .before .before .before .before
 returns : tie.Need-returns
 returns c = framing-wrong _ _ _ _ (c .before .before .before .framing-unless .ensures) (c .before .f .given .1)
 
-same-length : tie.Need-same-length
-same-length c = search needs
-
-returns-2 : tie.Need-returns-2
-returns-2 c = search needs
-
 pub judge-with-spec : {M : Type 1} → statement M
 judge-with-spec =
     tie.close
     (tie.spec
-    is-usual-requires
+    (λ c κs. search needs)
     framing-unless-requires
-    enum-known-f
-    enum-told
+    (λ c. search needs)
+    (λ c. search needs)
     judge-framed-requires
     returns
-    same-length
-    returns-2)
+    (λ c. search needs)
+    (λ c. search needs))

@@ -7,12 +7,6 @@ use Rattle.paper_table.specs.Types.{tableOf, meant}
 use Rattle.table_bases.proofs.base_tag.Statement.{statement}
 use Rattle.table_bases.proofs.base_tag.Tie as tie
 
-type-in-requires : tie.Need-type-in-requires
-type-in-requires c κs = search needs
-
-tag-meant-requires : tie.Need-tag-meant-requires
-tag-meant-requires c κs = search needs
-
 returns : tie.Need-returns
 returns c = c .tag-meant .ensures ∙ ap (λ (x : List ℕ). meant (tableOf (c .before .before .before .before .args .t .now)) x .tag) (c .before .type-in .ensures .base)
 
@@ -20,6 +14,6 @@ pub base-tag-spec : {M : Type 1} → statement M
 base-tag-spec =
     tie.close
     (tie.spec
-    type-in-requires
-    tag-meant-requires
+    (λ c κs. search needs)
+    (λ c κs. search needs)
     returns)

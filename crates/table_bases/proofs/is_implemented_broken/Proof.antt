@@ -11,22 +11,10 @@ use Rattle.table_bases.proofs.ImplementedLaws.{implemented-ten, impleme
 use Rattle.table_bases.proofs.is_implemented_broken.Statement.{statement}
 use Rattle.table_bases.proofs.is_implemented_broken.Tie as tie
 
-sub-is-implemented-before : tie.Need-sub-is-implemented-before
-sub-is-implemented-before c = search needs
-
-is-implemented-before-requires : tie.Need-is-implemented-before-requires
-is-implemented-before-requires c κs = search needs
-
 returns : tie.Need-returns
 returns c =
     let a = c .before .before .before .before .args in
     c .is-implemented-before .ensures ∙ implemented-ten (a .rule) (tableOf (a .t .now)) (implementedIn (a .t .now) (a .from) (a .end)) (a .m) (part (a .t .now) (a .start) (a .stop - a .start)) (c .before .if1 .taken)
-
-sub-tag-meant : tie.Need-sub-tag-meant
-sub-tag-meant c = search needs
-
-tag-meant-requires : tie.Need-tag-meant-requires
-tag-meant-requires c κs = search needs
 
 returns-2 : tie.Need-returns-2
 returns-2 c =
@@ -37,9 +25,9 @@ pub is-implemented-broken-spec : {M : Type 1} → statement M
 is-implemented-broken-spec =
     tie.close
     (tie.spec
-    sub-is-implemented-before
-    is-implemented-before-requires
+    (λ c. search needs)
+    (λ c κs. search needs)
     returns
-    sub-tag-meant
-    tag-meant-requires
+    (λ c. search needs)
+    (λ c κs. search needs)
     returns-2)

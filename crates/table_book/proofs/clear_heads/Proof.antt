@@ -14,26 +14,11 @@ Inv-loop book₀ count h₀ book h = HeadsTo book₀ book h × (count ≡ countI
 abbrev μ-loop : tie.MeasureT-loop
 μ-loop book₀ count h₀ book h = room - h
 
-slice-read-count : tie.Need-slice-read-count Inv-loop μ-loop
-slice-read-count c = search needs
-
 loop-holds : tie.Need-loop-holds Inv-loop μ-loop
 loop-holds c = (heads-none (c .before .args .book .now), refl)
 
-add-book : tie.Need-add-book Inv-loop μ-loop
-add-book c = search needs
-
-mul-book : tie.Need-mul-book Inv-loop μ-loop
-mul-book c = search needs
-
 slice-write-book : tie.Need-slice-write-book Inv-loop μ-loop
 slice-write-book c = omega (arith, c .loop-test .taken, c .before .loop .inv .0 .kept .cells, c .before .before .before .pre)
-
-add-h : tie.Need-add-h Inv-loop μ-loop
-add-h c = search needs
-
-loop-less : tie.Need-loop-less Inv-loop μ-loop
-loop-less c = search needs
 
 loop-again : tie.Need-loop-again Inv-loop μ-loop
 loop-again c = (heads-more (c .before .before .before .args .book .now) (c .before .loop .book) (c .before .loop .h) _ (c .before .loop .inv .0) (c .before .before .before .pre) (c .loop-test .taken) (c .before .loop .inv .1), c .before .loop .inv .1)
@@ -50,13 +35,13 @@ clear-heads-spec =
     (tie.spec
     Inv-loop
     μ-loop
-    slice-read-count
+    (λ c. search needs)
     loop-holds
-    add-book
-    mul-book
+    (λ c. search needs)
+    (λ c. search needs)
     slice-write-book
-    add-h
-    loop-less
+    (λ c. search needs)
+    (λ c. search needs)
     loop-again
     same-length
     returns)

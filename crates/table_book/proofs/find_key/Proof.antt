@@ -15,15 +15,6 @@ Inv-loop t book low high s at n count h k₀ k = Sought (hashOf (seedIn book)) (
 abbrev μ-loop : tie.MeasureT-loop
 μ-loop t book low high s at n count h k₀ k = countIn book - k
 
-count-of-requires : tie.Need-count-of-requires Inv-loop μ-loop
-count-of-requires c κs = search needs
-
-shared-slice-read-hash : tie.Need-shared-slice-read-hash Inv-loop μ-loop
-shared-slice-read-hash c = search needs
-
-hash-requires : tie.Need-hash-requires Inv-loop μ-loop
-hash-requires c κs = search needs
-
 head-of-requires : tie.Need-head-of-requires Inv-loop μ-loop
 head-of-requires c κs = (c .before .before .before .before .before .before .pre .0 .held .cells, c .hash .ensures .1)
 
@@ -65,9 +56,9 @@ find-key-spec =
     (tie.spec
     Inv-loop
     μ-loop
-    count-of-requires
-    shared-slice-read-hash
-    hash-requires
+    (λ c κs. search needs)
+    (λ c. search needs)
+    (λ c κs. search needs)
     head-of-requires
     loop-holds
     is-keyed-requires

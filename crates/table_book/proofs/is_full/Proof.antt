@@ -26,17 +26,11 @@ next-of-requires c κs = (c .before .before .before .before .before .pre .0, ome
 sub-left : tie.Need-sub-left Inv-loop μ-loop
 sub-left c = omega (arith, c .before .before .loop .inv)
 
-returns : tie.Need-returns Inv-loop μ-loop
-returns c = search needs
-
 loop-less : tie.Need-loop-less Inv-loop μ-loop
 loop-less c = omega (arith, c .before .before .before .loop .inv)
 
 loop-again : tie.Need-loop-again Inv-loop μ-loop
 loop-again c = omega (arith, c .before .before .before .loop .inv, c .if1 .left)
-
-returns-2 : tie.Need-returns-2 Inv-loop μ-loop
-returns-2 c = search needs
 
 pub is-full-spec : {M : Type 1} → statement M
 is-full-spec =
@@ -49,7 +43,7 @@ is-full-spec =
     loop-holds
     next-of-requires
     sub-left
-    returns
+    (λ c. search needs)
     loop-less
     loop-again
-    returns-2)
+    (λ c. search needs))

@@ -10,20 +10,11 @@ use borrow.Author.Needs.{needs}
 use Rattle.table_book.proofs.is_keyed.Statement.{statement}
 use Rattle.table_book.proofs.is_keyed.Tie as tie
 
-kind-of-requires : tie.Need-kind-of-requires
-kind-of-requires c κs = search needs
-
 returns : tie.Need-returns
 returns c = kind-below _ _ _ _ (c .if1 .taken) (c .before .kind-of .ensures)
 
 returns-2 : tie.Need-returns-2
 returns-2 c = kind-above _ _ _ _ (c .if2 .taken) (c .before .before .kind-of .ensures)
-
-name-of-requires : tie.Need-name-of-requires
-name-of-requires c κs = search needs
-
-size-of-requires : tie.Need-size-of-requires
-size-of-requires c κs = search needs
 
 is-text-requires : tie.Need-is-text-requires
 is-text-requires c κs =
@@ -41,10 +32,10 @@ pub is-keyed-spec : {M : Type 1} → statement M
 is-keyed-spec =
     tie.close
     (tie.spec
-    kind-of-requires
+    (λ c κs. search needs)
     returns
     returns-2
-    name-of-requires
-    size-of-requires
+    (λ c κs. search needs)
+    (λ c κs. search needs)
     is-text-requires
     returns-3)

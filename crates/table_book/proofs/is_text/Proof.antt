@@ -11,11 +11,8 @@ returns c =
     let a = c .before .before .before .args in
     same-lengths (part (a .t .now) (a .a) (a .l)) (part (a .s .now) (a .at) (a .n)) (λ q. c .if1 .taken (sym (length-part (a .t .now) (a .a) (a .l) (c .before .before .before .pre .0)) ∙ q ∙ length-part (a .s .now) (a .at) (a .n) (c .before .before .before .pre .1)))
 
-same-text-requires : tie.Need-same-text-requires
-same-text-requires c κs = search needs
-
 returns-2 : tie.Need-returns-2
 returns-2 c = rw (c .before .if1 .left) (c .same-text .ensures)
 
 pub is-text-spec : {M : Type 1} → statement M
-is-text-spec = tie.close (tie.spec returns same-text-requires returns-2)
+is-text-spec = tie.close (tie.spec returns (λ c κs. search needs) returns-2)

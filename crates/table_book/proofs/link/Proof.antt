@@ -17,9 +17,6 @@ abbrev μ-loop : tie.MeasureT-loop
 slice-read-seed : tie.Need-slice-read-seed Inv-loop μ-loop
 slice-read-seed c = omega (arith, c .before .before .before .pre .cells)
 
-link-by-requires : tie.Need-link-by-requires Inv-loop μ-loop
-link-by-requires c κs = search needs
-
 loop-holds : tie.Need-loop-holds Inv-loop μ-loop
 loop-holds c = (record { kept = record { cells = refl; entries = λ k l. refl }; indexed = c .before .before .link-by .ensures .indexed }, omega arith)
 
@@ -31,9 +28,6 @@ returns c = linked-on (c .before .before .before .before .before .link-by .ensur
 
 sub-left : tie.Need-sub-left Inv-loop μ-loop
 sub-left c = omega (arith, c .if1 .left)
-
-add-seed : tie.Need-add-seed Inv-loop μ-loop
-add-seed c = search needs
 
 link-by-requires-2 : tie.Need-link-by-requires-2 Inv-loop μ-loop
 link-by-requires-2 c κs = c .before .before .before .loop .inv .0 .indexed .held
@@ -57,12 +51,12 @@ link-spec =
     Inv-loop
     μ-loop
     slice-read-seed
-    link-by-requires
+    (λ c κs. search needs)
     loop-holds
     same-length
     returns
     sub-left
-    add-seed
+    (λ c. search needs)
     link-by-requires-2
     loop-less
     loop-again

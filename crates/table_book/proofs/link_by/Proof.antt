@@ -27,9 +27,6 @@ count-of-requires c κs = c .before .before .before .clear-heads .ensures .kept 
 loop-holds : tie.Need-loop-holds Inv-loop μ-loop
 loop-holds c = linking-start _ _ _ (held-kept _ _ _ (seed-kept (c .before .before .before .before .before .before .before .before .args .book .now) (c .before .before .before .before .before .before .before .before .args .seed)) (c .before .before .before .before .before .before .before .before .pre)) (c .before .before .before .before .clear-heads .ensures) (c .count-of .ensures)
 
-sub-j : tie.Need-sub-j Inv-loop μ-loop
-sub-j c = search needs
-
 name-of-requires : tie.Need-name-of-requires Inv-loop μ-loop
 name-of-requires c κs = (linking-cells _ _ _ (c .before .before .loop .inv) (c .before .loop-test .taken) ∙ c .before .before .loop .inv .held .cells, linking-room _ _ _ (c .before .before .loop .inv) (c .before .loop-test .taken))
 
@@ -41,9 +38,6 @@ hash-requires c κs = linking-within _ _ _ (c .before .before .before .before .b
 
 is-full-requires : tie.Need-is-full-requires Inv-loop μ-loop
 is-full-requires c κs = (linking-cells _ _ _ (c .before .before .before .before .before .before .before .loop .inv) (c .before .before .before .before .before .before .loop-test .taken) ∙ c .before .before .before .before .before .before .before .loop .inv .held .cells, held-kept _ _ _ (c .before .before .before .before .before .before .before .loop .inv .kept) (c .before .before .before .before .before .before .before .loop .inv .held) .most, c .before .hash .ensures .1)
-
-either-requires : tie.Need-either-requires Inv-loop μ-loop
-either-requires c κs = search needs
 
 put-first-requires : tie.Need-put-first-requires Inv-loop μ-loop
 put-first-requires c κs = (linking-cells _ _ _ (c .before .before .before .before .before .before .before .before .before .before .loop .inv) (c .before .before .before .before .before .before .before .before .before .loop-test .taken) ∙ c .before .before .before .before .before .before .before .before .before .before .loop .inv .held .cells, c .before .before .before .before .hash .ensures .1, linking-room _ _ _ (c .before .before .before .before .before .before .before .before .before .before .loop .inv) (c .before .before .before .before .before .before .before .before .before .loop-test .taken))
@@ -70,12 +64,12 @@ link-by-spec =
     clear-heads-requires
     count-of-requires
     loop-holds
-    sub-j
+    (λ c. search needs)
     name-of-requires
     size-of-requires
     hash-requires
     is-full-requires
-    either-requires
+    (λ c κs. search needs)
     put-first-requires
     loop-less
     loop-again

@@ -15,19 +15,10 @@ Inv-loop s at n seed m h₀ i₀ h i = (hashFrom m h (part s (at + i) (n - i)) �
 abbrev μ-loop : tie.MeasureT-loop
 μ-loop s at n seed m h₀ i₀ h i = n - i
 
-multiplier-requires : tie.Need-multiplier-requires Inv-loop μ-loop
-multiplier-requires c κs = search needs
-
 loop-holds : tie.Need-loop-holds Inv-loop μ-loop
 loop-holds c =
     let a = c .before .before .args in
     (let e : a .at + 0 ≡ a .at = omega arith in let g : a .n - 0 ≡ a .n = omega arith in rw (e, g), omega arith, omega arith)
-
-add-h : tie.Need-add-h Inv-loop μ-loop
-add-h c = search needs
-
-shared-slice-read-h : tie.Need-shared-slice-read-h Inv-loop μ-loop
-shared-slice-read-h c = search needs
 
 cast-h : tie.Need-cast-h Inv-loop μ-loop
 cast-h c = omega (arith, c .shared-slice-known2 .given (c .before .before .before .before .before .args .at + c .before .before .loop .i))
@@ -37,12 +28,6 @@ add-h-2 c = omega (arith, c .before .before .loop .inv .1, c .shared-slice-known
 
 mul-h : tie.Need-mul-h Inv-loop μ-loop
 mul-h c = omega (arith, hash-fits (c .before .before .loop .h + getD (c .before .before .before .before .before .args .s .now) (c .before .before .before .before .before .args .at + c .before .before .loop .i) 0) (c .before .before .before .multiplier .result) (omega (arith, c .before .before .loop .inv .1, c .shared-slice-known2 .given (c .before .before .before .before .before .args .at + c .before .before .loop .i))) (c .before .before .before .multiplier .ensures .1))
-
-add-i : tie.Need-add-i Inv-loop μ-loop
-add-i c = search needs
-
-loop-less : tie.Need-loop-less Inv-loop μ-loop
-loop-less c = search needs
 
 loop-again : tie.Need-loop-again Inv-loop μ-loop
 loop-again c = (hash-more _ (c .before .before .before .before .before .args .at) (c .before .before .before .before .before .args .n) (c .before .before .loop .i) (c .before .before .before .multiplier .result) (c .before .before .loop .h) (c .before .loop-test .taken) (c .before .before .before .before .before .pre) ∙ c .before .before .loop .inv .0, omega arith, omega arith)
@@ -58,14 +43,14 @@ mixed-spec =
     (tie.spec
     Inv-loop
     μ-loop
-    multiplier-requires
+    (λ c κs. search needs)
     loop-holds
-    add-h
-    shared-slice-read-h
+    (λ c. search needs)
+    (λ c. search needs)
     cast-h
     add-h-2
     mul-h
-    add-i
-    loop-less
+    (λ c. search needs)
+    (λ c. search needs)
     loop-again
     returns)

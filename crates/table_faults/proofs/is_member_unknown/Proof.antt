@@ -4,14 +4,8 @@ use Rattle.table_bases.proofs.TestLaws.{unknown-field, unknown-input, unknown-o
 use Rattle.table_faults.proofs.is_member_unknown.Statement.{statement}
 use Rattle.table_faults.proofs.is_member_unknown.Tie as tie
 
-base-tag-requires : tie.Need-base-tag-requires
-base-tag-requires c κs = search needs
-
 returns : tie.Need-returns
 returns c = unknown-field _ _ _ _ _ (c .base-tag .ensures) (c .before .if1 .taken)
-
-base-tag-requires-2 : tie.Need-base-tag-requires-2
-base-tag-requires-2 c κs = search needs
 
 returns-2 : tie.Need-returns-2
 returns-2 c = unknown-input _ _ _ _ _ (c .base-tag2 .ensures) (c .before .before .if1 .left) (c .before .if2 .taken)
@@ -23,8 +17,8 @@ pub is-member-unknown-spec : {M : Type 1} → statement M
 is-member-unknown-spec =
     tie.close
     (tie.spec
-    base-tag-requires
+    (λ c κs. search needs)
     returns
-    base-tag-requires-2
+    (λ c κs. search needs)
     returns-2
     returns-3)

@@ -25,17 +25,8 @@ noBracket b = not (eqb b byteBracketL)
 loop-holds : tie.Need-loop-holds Inv-loop μ-loop
 loop-holds c = (refl, omega arith, c .pre .order)
 
-shared-slice-read-if1 : tie.Need-shared-slice-read-if1 Inv-loop μ-loop
-shared-slice-read-if1 c = search needs
-
 returns : tie.Need-returns Inv-loop μ-loop
 returns c = run-stop noBracket (c .before .before .before .before .args .t .now) (c .before .before .before .loop .i) (c .before .before .before .before .args .end) (c .before .before .before .before .pre .within) (c .before .before .loop-test .taken) (ap not (ne-eqb _ _ (c .if1 .taken))) ∙ c .before .before .before .loop .inv .0
-
-add-i : tie.Need-add-i Inv-loop μ-loop
-add-i c = search needs
-
-loop-less : tie.Need-loop-less Inv-loop μ-loop
-loop-less c = search needs
 
 loop-again : tie.Need-loop-again Inv-loop μ-loop
 loop-again c = (run-more noBracket (c .before .before .before .before .args .t .now) (c .before .before .before .loop .i) (c .before .before .before .before .args .end) (c .before .before .before .before .pre .within) (c .before .before .loop-test .taken) (ap not (eq-eqb _ _ (c .if1 .left))) ∙ c .before .before .before .loop .inv .0, omega arith, omega arith)
@@ -50,9 +41,9 @@ brackets-end-spec =
     Inv-loop
     μ-loop
     loop-holds
-    shared-slice-read-if1
+    (λ c. search needs)
     returns
-    add-i
-    loop-less
+    (λ c. search needs)
+    (λ c. search needs)
     loop-again
     returns-2)

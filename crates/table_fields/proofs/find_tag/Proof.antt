@@ -1,4 +1,5 @@
 -- Field by field: the first of the tag is found from each place on, or it is here.
+use Rattle.table_fields.proofs.BoundsLaws.{later}
 use borrow.Author.Needs.{needs}
 use mathlib.Core.Path.{_≡_, sym, _∙_}
 use Prim.Native.Nat.{_-_}
@@ -25,13 +26,7 @@ loop-holds : tie.Need-loop-holds Inv-loop μ-loop
 loop-holds c = seeks-start (c .before .args .t .now) (c .before .args .at) (c .before .args .end) (c .before .args .tag) (c .before .pre .order)
 
 read-field-requires : tie.Need-read-field-requires Inv-loop μ-loop
-read-field-requires c κs = record { order = c .before .loop .inv .order; within = c .before .before .before .pre .within; most = c .before .before .before .pre .most }
-
-enum-known-k : tie.Need-enum-known-k Inv-loop μ-loop
-enum-known-k c = search needs
-
-enum-told : tie.Need-enum-told Inv-loop μ-loop
-enum-told c = search needs
+read-field-requires c κs = later (c .before .before .before .pre) (c .before .loop .inv .order)
 
 returns : tie.Need-returns Inv-loop μ-loop
 returns c = seeks-torn (c .before .before .before .before .before .before .args .t .now) (c .before .before .before .before .before .before .args .at) (c .before .before .before .before .before .before .args .end) (c .before .before .before .before .before .before .args .tag) (c .before .before .before .before .loop .i) (c .before .before .before .before .before .before .pre .within) (c .before .before .before .before .loop .inv) (c .before .before .before .loop-test .taken) (sym (c .before .before .read-field .ensures) ∙ c .enum-told .given .1)
@@ -56,8 +51,8 @@ find-tag-spec =
     μ-loop
     loop-holds
     read-field-requires
-    enum-known-k
-    enum-told
+    (λ c. search needs)
+    (λ c. search needs)
     returns
     returns-2
     loop-less

@@ -2,6 +2,7 @@
 use mathlib.Core.Path.{sym, _∙_}
 use Prim.Native.Nat.{_-_}
 use native.Mathlib.Omega.{arith}
+use Rattle.table_fields.proofs.BoundsLaws.{later}
 use borrow.Author.Tests.{not-true, not-false}
 use lib.ListN.{getD}
 use Rattle.text_characters.proofs.ByteLaws.{letter-byte}
@@ -13,20 +14,11 @@ use Rattle.table_fields.proofs.is_name.Tie as tie
 returns : tie.Need-returns
 returns c = name-none (c .before .before .args .t .now) (c .before .before .args .start) (c .before .before .args .end) (c .before .before .pre .within) (omega arith)
 
-shared-slice-read-starts-name : tie.Need-shared-slice-read-starts-name
-shared-slice-read-starts-name c = search needs
-
-starts-name-requires : tie.Need-starts-name-requires
-starts-name-requires c κs = search needs
-
 returns-2 : tie.Need-returns-2
 returns-2 c = name-no (c .before .before .before .before .before .args .t .now) (c .before .before .before .before .before .args .start) (c .before .before .before .before .before .args .end) (c .before .before .before .before .before .pre .within) (omega (arith, c .before .before .before .if1 .left, c .before .before .before .before .before .pre .order)) (sym (c .before .starts-name .ensures ∙ letter-byte (getD (c .before .before .before .before .before .args .t .now) (c .before .before .before .before .before .args .start) 0)) ∙ not-true _ (c .if2 .taken))
 
-add-name-end : tie.Need-add-name-end
-add-name-end c = search needs
-
 name-end-requires : tie.Need-name-end-requires
-name-end-requires c κs = record { order = omega (arith, c .before .before .before .if1 .left, c .before .before .before .before .before .pre .order); within = c .before .before .before .before .before .pre .within; most = c .before .before .before .before .before .pre .most }
+name-end-requires c κs = later (c .before .before .before .before .before .pre) (omega (arith, c .before .before .before .if1 .left, c .before .before .before .before .before .pre .order))
 
 returns-3 : tie.Need-returns-3
 returns-3 c = name-by (c .before .before .before .before .before .before .args .t .now) (c .before .before .before .before .before .before .args .start) (c .before .before .before .before .before .before .args .end) (c .before .before .before .before .before .before .pre .within) (omega (arith, c .before .before .before .before .if1 .left, c .before .before .before .before .before .before .pre .order)) (sym (c .before .before .starts-name .ensures ∙ letter-byte (getD (c .before .before .before .before .before .before .args .t .now) (c .before .before .before .before .before .before .args .start) 0)) ∙ not-false _ (c .before .if2 .left)) _ (c .name-end .ensures)
@@ -36,9 +28,9 @@ is-name-spec =
     tie.close
     (tie.spec
     returns
-    shared-slice-read-starts-name
-    starts-name-requires
+    (λ c. search needs)
+    (λ c κs. search needs)
     returns-2
-    add-name-end
+    (λ c. search needs)
     name-end-requires
     returns-3)

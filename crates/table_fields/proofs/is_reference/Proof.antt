@@ -4,15 +4,6 @@ use borrow.Author.Needs.{needs}
 use Rattle.table_fields.proofs.is_reference.Statement.{statement}
 use Rattle.table_fields.proofs.is_reference.Tie as tie
 
-read-reference-requires : tie.Need-read-reference-requires
-read-reference-requires c κs = search needs
-
-enum-told : tie.Need-enum-told
-enum-told c = search needs
-
-enum-told-2 : tie.Need-enum-told-2
-enum-told-2 c = search needs
-
 returns : tie.Need-returns
 returns c = bad-is (c .before .before .before .before .args .t .now) (c .before .before .before .before .args .start) (c .before .before .before .before .args .end) _ (c .enum-told2 .given .1) (c .before .before .read-reference .ensures)
 
@@ -21,4 +12,4 @@ returns-2 c = read-is (c .before .before .before .before .args .t .now) (c .befo
 
 pub is-reference-spec : {M : Type 1} → statement M
 is-reference-spec =
-    tie.close (tie.spec read-reference-requires enum-told enum-told-2 returns returns-2)
+    tie.close (tie.spec (λ c κs. search needs) (λ c. search needs) (λ c. search needs) returns returns-2)

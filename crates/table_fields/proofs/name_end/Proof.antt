@@ -6,7 +6,7 @@ use Prim.Native.Nat.{ℕ, _+_, _-_, _≤_}
 use native.Mathlib.Omega.{arith}
 use lib.Seq.{slice}
 use lib.ListN.{getD}
-use Rattle.paper.specs.Lexical.{letterOrDigit, oneOf}
+use Rattle.paper.specs.Lexical.{letterOrDigit, inSet}
 use Rattle.paper_table.specs.References.{nameSize}
 use Rattle.text_characters.proofs.ByteLaws.{name-byte}
 use Rattle.table_fields.proofs.NameLaws.{run-more, run-stop, run-end}
@@ -20,25 +20,13 @@ abbrev μ-loop : tie.MeasureT-loop
 μ-loop t start end i₀ i = end - i
 
 abbrev noName : ℕ → Bool
-noName b = not (oneOf letterOrDigit b)
+noName b = not (inSet letterOrDigit b)
 
 loop-holds : tie.Need-loop-holds Inv-loop μ-loop
 loop-holds c = (refl, omega arith, c .before .pre .order)
 
-shared-slice-read-in-name : tie.Need-shared-slice-read-in-name Inv-loop μ-loop
-shared-slice-read-in-name c = search needs
-
-in-name-requires : tie.Need-in-name-requires Inv-loop μ-loop
-in-name-requires c κs = search needs
-
 returns : tie.Need-returns Inv-loop μ-loop
 returns c = run-stop noName (c .before .before .before .before .before .before .args .t .now) (c .before .before .before .before .loop .i) (c .before .before .before .before .before .before .args .end) (c .before .before .before .before .before .before .pre .within) (c .before .before .before .loop-test .taken) (ap not (sym (c .before .in-name .ensures ∙ name-byte (getD (c .before .before .before .before .before .before .args .t .now) (c .before .before .before .before .loop .i) 0))) ∙ c .if1 .taken) ∙ c .before .before .before .before .loop .inv .0
-
-add-i : tie.Need-add-i Inv-loop μ-loop
-add-i c = search needs
-
-loop-less : tie.Need-loop-less Inv-loop μ-loop
-loop-less c = search needs
 
 loop-again : tie.Need-loop-again Inv-loop μ-loop
 loop-again c = (run-more noName (c .before .before .before .before .before .before .args .t .now) (c .before .before .before .before .loop .i) (c .before .before .before .before .before .before .args .end) (c .before .before .before .before .before .before .pre .within) (c .before .before .before .loop-test .taken) (ap not (sym (c .before .in-name .ensures ∙ name-byte (getD (c .before .before .before .before .before .before .args .t .now) (c .before .before .before .before .loop .i) 0))) ∙ c .if1 .left) ∙ c .before .before .before .before .loop .inv .0, omega arith, omega arith)
@@ -53,10 +41,10 @@ name-end-spec =
     Inv-loop
     μ-loop
     loop-holds
-    shared-slice-read-in-name
-    in-name-requires
+    (λ c. search needs)
+    (λ c κs. search needs)
     returns
-    add-i
-    loop-less
+    (λ c. search needs)
+    (λ c. search needs)
     loop-again
     returns-2)

@@ -6,17 +6,8 @@ use borrow.Author.Needs.{needs}
 use Rattle.table_fields.proofs.read_field.Statement.{statement}
 use Rattle.table_fields.proofs.read_field.Tie as tie
 
-sub-if1 : tie.Need-sub-if1
-sub-if1 c = search needs
-
 returns : tie.Need-returns
 returns c = rw (lt-ltb _ _ (c .if1 .taken))
-
-add-n : tie.Need-add-n
-add-n c = search needs
-
-shared-slice-read-n : tie.Need-shared-slice-read-n
-shared-slice-read-n c = search needs
 
 cast-n : tie.Need-cast-n
 cast-n c = omega (arith, c .shared-slice-known .given (c .before .before .args .at + 1))
@@ -24,35 +15,11 @@ cast-n c = omega (arith, c .shared-slice-known .given (c .before .before .args .
 mul-n : tie.Need-mul-n
 mul-n c = omega (arith, c .shared-slice-known .given (c .before .before .args .at + 1))
 
-add-n-2 : tie.Need-add-n-2
-add-n-2 c = search needs
-
-shared-slice-read-n-2 : tie.Need-shared-slice-read-n-2
-shared-slice-read-n-2 c = search needs
-
 cast-n-2 : tie.Need-cast-n-2
 cast-n-2 c = omega (arith, c .shared-slice-known2 .given (c .before .before .before .args .at + 2))
 
 add-n-3 : tie.Need-add-n-3
 add-n-3 c = omega (arith, c .shared-slice-known2 .given (c .before .before .before .args .at + 2), c .before .shared-slice-known .given (c .before .before .before .args .at + 1))
-
-sub-if2 : tie.Need-sub-if2
-sub-if2 c = search needs
-
-sub-if2-2 : tie.Need-sub-if2-2
-sub-if2-2 c = search needs
-
-shared-slice-read-t16 : tie.Need-shared-slice-read-t16
-shared-slice-read-t16 c = search needs
-
-add-t17 : tie.Need-add-t17
-add-t17 c = search needs
-
-add-t18 : tie.Need-add-t18
-add-t18 c = search needs
-
-add-t19 : tie.Need-add-t19
-add-t19 c = search needs
 
 returns-2 : tie.Need-returns-2
 returns-2 c = rw (le-ltb _ _ (c .before .before .before .before .if1 .left), le-leb _ _ (c .before .if2 .taken))
@@ -64,21 +31,21 @@ pub read-field-spec : {M : Type 1} → statement M
 read-field-spec =
     tie.close
     (tie.spec
-    sub-if1
+    (λ c. search needs)
     returns
-    add-n
-    shared-slice-read-n
+    (λ c. search needs)
+    (λ c. search needs)
     cast-n
     mul-n
-    add-n-2
-    shared-slice-read-n-2
+    (λ c. search needs)
+    (λ c. search needs)
     cast-n-2
     add-n-3
-    sub-if2
-    sub-if2-2
-    shared-slice-read-t16
-    add-t17
-    add-t18
-    add-t19
+    (λ c. search needs)
+    (λ c. search needs)
+    (λ c. search needs)
+    (λ c. search needs)
+    (λ c. search needs)
+    (λ c. search needs)
     returns-2
     returns-3)

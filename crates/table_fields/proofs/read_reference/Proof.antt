@@ -1,4 +1,5 @@
 -- Brackets, a name, then wrapper by wrapper: a reference has been read, and the rest of the text decides.
+use Rattle.table_fields.proofs.BoundsLaws.{later}
 use borrow.Author.Needs.{needs}
 use mathlib.Core.Path.{sym, _∙_}
 use Prim.Native.Nat.{_-_, _≤_, _<_}
@@ -35,9 +36,6 @@ returns c = ref-none (c .before .before .before .args .t .now) (c .before .befor
 shared-slice-read-starts-name : tie.Need-shared-slice-read-starts-name Inv-loop μ-loop
 shared-slice-read-starts-name c = let h = room (c .before) in omega (arith, h, c .before .before .before .before .pre .within)
 
-starts-name-requires : tie.Need-starts-name-requires Inv-loop μ-loop
-starts-name-requires c κs = search needs
-
 returns-2 : tie.Need-returns-2 Inv-loop μ-loop
 returns-2 c = ref-no (c .before .before .before .before .before .before .args .t .now) (c .before .before .before .before .before .before .args .start) (c .before .before .before .before .before .before .args .end) (c .before .before .before .before .brackets-end .result) (c .before .before .before .before .before .before .pre .order) (c .before .before .before .before .before .before .pre .within) (c .before .before .before .before .brackets-end .ensures) (room (c .before .before .before)) (sym (c .before .starts-name .ensures ∙ letter-byte (getD (c .before .before .before .before .before .before .args .t .now) (c .before .before .before .before .brackets-end .result) 0)) ∙ not-true _ (c .if2 .taken))
 
@@ -45,7 +43,7 @@ add-name-end : tie.Need-add-name-end Inv-loop μ-loop
 add-name-end c = let h = room (c .before .before .before) in omega (arith, h, c .before .before .before .before .before .before .pre .within, c .before .before .before .before .before .before .pre .most)
 
 name-end-requires : tie.Need-name-end-requires Inv-loop μ-loop
-name-end-requires c κs = let h = room (c .before .before .before) in record { order = omega (arith, h); within = c .before .before .before .before .before .before .pre .within; most = c .before .before .before .before .before .before .pre .most }
+name-end-requires c κs = let h = room (c .before .before .before) in later (c .before .before .before .before .before .before .pre) (omega (arith, h))
 
 sub-lists : tie.Need-sub-lists Inv-loop μ-loop
 sub-lists c = let h = inside ((c .before .before .before .before .before)) in omega (arith, h .0)
@@ -55,9 +53,6 @@ loop-holds c = wrapped-start (c .before .before .before .before .before .before 
 
 shared-slice-read-wrapper : tie.Need-shared-slice-read-wrapper Inv-loop μ-loop
 shared-slice-read-wrapper c = omega (arith, c .before .loop-test .taken, c .before .before .before .before .before .before .before .before .before .before .pre .within)
-
-wrapper-requires : tie.Need-wrapper-requires Inv-loop μ-loop
-wrapper-requires c κs = search needs
 
 returns-3 : tie.Need-returns-3 Inv-loop μ-loop
 returns-3 c = wrapped-bad (c .before .before .before .before .before .before .before .before .before .before .before .before .args .t .now) (c .before .before .before .before .before .before .before .before .before .before .before .before .args .start) (c .before .before .before .before .before .before .before .before .before .before .before .before .args .end) _ _ _ _ (c .before .before .before .before .loop .i) (c .before .before .before .before .before .before .before .before .before .before .before .before .pre .within) (c .before .before .before .before .loop .inv) (c .before .before .before .loop-test .taken) _ (c .before .wrapper .ensures) (c .if3 .taken)
@@ -98,14 +93,14 @@ read-reference-spec =
     brackets-end-requires
     returns
     shared-slice-read-starts-name
-    starts-name-requires
+    (λ c κs. search needs)
     returns-2
     add-name-end
     name-end-requires
     sub-lists
     loop-holds
     shared-slice-read-wrapper
-    wrapper-requires
+    (λ c κs. search needs)
     returns-3
     mul-wrappers
     add-wrappers

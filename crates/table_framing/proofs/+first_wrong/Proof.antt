@@ -1,4 +1,5 @@
 -- Depth falls at each call; in a holder one field more is read at each turn, and what comes decides.
+use Rattle.table_fields.proofs.BoundsLaws.{later, narrow}
 use borrow.Author.Needs.{needs}
 use mathlib.Core.Path.{_≡_, sym, subst, _∙_}
 use Prim.Native.Nat.{ℕ, _+_, _-_, _<_}
@@ -95,7 +96,7 @@ first-wrong-loop-holds : (t : ℕ) → first-wrong-lts.Need-loop-holds (first-wr
 first-wrong-loop-holds t c = ordered-start (c .before .before .before .before .before .before .args .t .now) (c .before .before .before .before .before .before .args .at) (c .before .before .before .before .before .before .args .tag) (c .before .before .before .before .before .before .args .end) (c .before .before .before .before .before .before .args .depth) _ _ _ _ (holder t ((c .before))) (c .before .before .before .before .before .before .pre .1 .order)
 
 first-wrong-read-field-requires : (t : ℕ) → first-wrong-lts.Need-read-field-requires (first-wrong-calls t) (first-wrong-at t) first-wrong.Post first-wrong-Inv-loop first-wrong-μ-loop
-first-wrong-read-field-requires t c κs = record { order = c .before .loop .inv .order; within = c .before .before .before .before .before .before .before .before .pre .1 .within; most = c .before .before .before .before .before .before .before .before .pre .1 .most }
+first-wrong-read-field-requires t c κs = later (c .before .before .before .before .before .before .before .before .pre .1) (c .before .loop .inv .order)
 
 first-wrong-enum-known-k : (t : ℕ) → first-wrong-lts.Need-enum-known-k (first-wrong-calls t) (first-wrong-at t) first-wrong.Post first-wrong-Inv-loop first-wrong-μ-loop
 first-wrong-enum-known-k t c = search needs
@@ -122,7 +123,7 @@ first-wrong-sub-first-wrong : (t : ℕ) → first-wrong-lts.Need-sub-first-wrong
 first-wrong-sub-first-wrong t c = let n = c .before .before .before .before .before .before .before .before .before .before .before .before .if1 .left in omega arith
 
 first-wrong-first-wrong-requires : (t : ℕ) → first-wrong-lts.Need-first-wrong-requires (first-wrong-calls t) (first-wrong-at t) first-wrong.Post first-wrong-Inv-loop first-wrong-μ-loop
-first-wrong-first-wrong-requires t c κs = let l = lies t ((c .before .before .before)) in (omega (arith, c .before .before .before .before .before .before .before .before .before .before .before .before .before .before .pre .0, c .before .before .before .before .before .before .before .before .before .before .before .before .if1 .left), record { order = omega (arith, l .begins, l .order); within = omega (arith, l .within, c .before .before .before .before .before .before .before .before .before .before .before .before .before .before .pre .1 .within); most = c .before .before .before .before .before .before .before .before .before .before .before .before .before .before .pre .1 .most })
+first-wrong-first-wrong-requires t c κs = let l = lies t ((c .before .before .before)) in (omega (arith, c .before .before .before .before .before .before .before .before .before .before .before .before .before .before .pre .0, c .before .before .before .before .before .before .before .before .before .before .before .before .if1 .left), narrow (c .before .before .before .before .before .before .before .before .before .before .before .before .before .before .pre .1) (omega (arith, l .begins, l .order)) (l .within))
 
 first-wrong-enum-told-2 : (t : ℕ) → first-wrong-lts.Need-enum-told-2 (first-wrong-calls t) (first-wrong-at t) first-wrong.Post first-wrong-Inv-loop first-wrong-μ-loop
 first-wrong-enum-told-2 t c = search needs

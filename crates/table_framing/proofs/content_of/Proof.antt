@@ -4,33 +4,6 @@ use Rattle.table_framing.proofs.TagLaws.{holds-scalar, holds-object, ho
 use Rattle.table_framing.proofs.content_of.Statement.{statement}
 use Rattle.table_framing.proofs.content_of.Tie as tie
 
-named-requires : tie.Need-named-requires
-named-requires c κs = search needs
-
-named-requires-2 : tie.Need-named-requires-2
-named-requires-2 c κs = search needs
-
-named-requires-3 : tie.Need-named-requires-3
-named-requires-3 c κs = search needs
-
-named-requires-4 : tie.Need-named-requires-4
-named-requires-4 c κs = search needs
-
-named-requires-5 : tie.Need-named-requires-5
-named-requires-5 c κs = search needs
-
-named-requires-6 : tie.Need-named-requires-6
-named-requires-6 c κs = search needs
-
-named-requires-7 : tie.Need-named-requires-7
-named-requires-7 c κs = search needs
-
-typed-requires : tie.Need-typed-requires
-typed-requires c κs = search needs
-
-typed-requires-2 : tie.Need-typed-requires-2
-typed-requires-2 c κs = search needs
-
 returns : tie.Need-returns
 returns c = rw (c .before .match .keys1, c .named .ensures) holds-scalar
 
@@ -92,15 +65,15 @@ pub content-of-spec : {M : Type 1} → statement M
 content-of-spec =
     tie.close
     (tie.spec
-    named-requires
-    named-requires-2
-    named-requires-3
-    named-requires-4
-    named-requires-5
-    named-requires-6
-    named-requires-7
-    typed-requires
-    typed-requires-2
+    (λ c κs. search needs)
+    (λ c κs. search needs)
+    (λ c κs. search needs)
+    (λ c κs. search needs)
+    (λ c κs. search needs)
+    (λ c κs. search needs)
+    (λ c κs. search needs)
+    (λ c κs. search needs)
+    (λ c κs. search needs)
     returns
     returns-2
     returns-3

@@ -35,20 +35,11 @@ loop-holds c = framing-start (c .before .args .t .now)
 read-field-requires : tie.Need-read-field-requires Inv-loop μ-loop
 read-field-requires c κs = record { order = c .before .loop .inv .order; within = le-refl (length (c .before .before .before .args .t .now)); most = c .before .before .before .pre }
 
-enum-known-k : tie.Need-enum-known-k Inv-loop μ-loop
-enum-known-k c = search needs
-
-enum-told : tie.Need-enum-told Inv-loop μ-loop
-enum-told c = search needs
-
 cast-t10 : tie.Need-cast-t10 Inv-loop μ-loop
 cast-t10 c = omega (arith, c .before .before .before .before .loop .inv .order, c .before .before .before .before .before .before .pre)
 
 returns : tie.Need-returns Inv-loop μ-loop
 returns c = framing-torn (c .before .before .before .before .before .before .args .t .now) _ (c .before .before .before .before .loop .i) (c .before .before .before .before .loop .inv) (c .before .before .before .loop-test .taken) (sym (c .before .before .read-field .ensures) ∙ c .enum-told .given .1)
-
-record-in-place-requires : tie.Need-record-in-place-requires Inv-loop μ-loop
-record-in-place-requires c κs = search needs
 
 cast-t12 : tie.Need-cast-t12 Inv-loop μ-loop
 cast-t12 c = omega (arith, c .before .before .before .before .before .before .before .loop .inv .order, c .before .before .before .before .before .before .before .before .before .pre)
@@ -59,17 +50,8 @@ returns-2 c = framing-out (c .before .before .before .before .before .before .be
 first-wrong-requires : tie.Need-first-wrong-requires Inv-loop μ-loop
 first-wrong-requires c κs = let l = lies ((c .before .before .before)) in record { order = omega (arith, l .begins, l .order); within = l .within; most = c .before .before .before .before .before .before .before .before .before .pre }
 
-enum-told-2 : tie.Need-enum-told-2 Inv-loop μ-loop
-enum-told-2 c = search needs
-
-enum-told-3 : tie.Need-enum-told-3 Inv-loop μ-loop
-enum-told-3 c = search needs
-
 returns-3 : tie.Need-returns-3 Inv-loop μ-loop
 returns-3 c = framing-inside (c .before .before .before .before .before .before .before .before .before .before .before .before .args .t .now) _ (c .before .before .before .before .before .before .before .before .before .before .loop .i) (c .before .before .before .before .before .before .before .before .before .before .loop .inv) (c .before .before .before .before .before .before .before .before .before .loop-test .taken) _ _ _ (read ((c .before .before .before .before .before .before))) _ (c .before .before .before .before .record-in-place .ensures) (not-false _ (c .before .before .before .if1 .left)) _ _ (c .before .before .first-wrong .ensures) (c .enum-told3 .given .1)
-
-roots-after-requires : tie.Need-roots-after-requires Inv-loop μ-loop
-roots-after-requires c κs = search needs
 
 loop-less : tie.Need-loop-less Inv-loop μ-loop
 loop-less c = let l = lies ((c .before .before .before .before .before .before .before)) in omega (arith, l .begins, l .order, l .within, c .before .before .before .before .before .before .before .before .before .before .loop-test .taken)
@@ -88,18 +70,18 @@ framing-spec =
     μ-loop
     loop-holds
     read-field-requires
-    enum-known-k
-    enum-told
+    (λ c. search needs)
+    (λ c. search needs)
     cast-t10
     returns
-    record-in-place-requires
+    (λ c κs. search needs)
     cast-t12
     returns-2
     first-wrong-requires
-    enum-told-2
-    enum-told-3
+    (λ c. search needs)
+    (λ c. search needs)
     returns-3
-    roots-after-requires
+    (λ c κs. search needs)
     loop-less
     loop-again
     returns-4)

@@ -1,11 +1,12 @@
 -- Field by field: the tag is seen from each place on, or it is here.
+use Rattle.table_fields.proofs.BoundsLaws.{later}
 use borrow.Author.Needs.{needs}
 use mathlib.Core.Path.{_≡_, refl, sym, _∙_}
 use Prim.Native.Nat.{_-_, _≤_}
 use native.Mathlib.Omega.{arith}
 use lib.Seq.{slice}
 use Rattle.paper_table.specs.Lists.{anyOf}
-use Rattle.paper_table.specs.House.{pieces, tagIs}
+use Rattle.paper_table.specs.House.{houseFields, tagIs}
 use Rattle.table_fields.specs.declared.FieldRead.the-variants.{Field}
 use Rattle.table_fields.specs.Fields.{fieldAt}
 use Rattle.table_fields.proofs.FieldLaws.{field-lies}
@@ -14,7 +15,7 @@ use Rattle.table_framing.proofs.has_tag.Statement.{statement}
 use Rattle.table_framing.proofs.has_tag.Tie as tie
 
 abbrev Inv-loop : tie.InvT-loop
-Inv-loop t start end tag i₀ i = (anyOf (tagIs tag) (pieces i (slice i end t)) ≡ anyOf (tagIs tag) (pieces start (slice start end t))) × (i ≤ end)
+Inv-loop t start end tag i₀ i = (anyOf (tagIs tag) (houseFields i (slice i end t)) ≡ anyOf (tagIs tag) (houseFields start (slice start end t))) × (i ≤ end)
 
 abbrev μ-loop : tie.MeasureT-loop
 μ-loop t start end tag i₀ i = end - i
@@ -28,13 +29,7 @@ loop-holds : tie.Need-loop-holds Inv-loop μ-loop
 loop-holds c = (refl, c .before .pre .order)
 
 read-field-requires : tie.Need-read-field-requires Inv-loop μ-loop
-read-field-requires c κs = record { order = c .before .loop .inv .1; within = c .before .before .before .pre .within; most = c .before .before .before .pre .most }
-
-enum-known-k : tie.Need-enum-known-k Inv-loop μ-loop
-enum-known-k c = search needs
-
-enum-told : tie.Need-enum-told Inv-loop μ-loop
-enum-told c = search needs
+read-field-requires c κs = later (c .before .before .before .pre) (c .before .loop .inv .1)
 
 returns : tie.Need-returns Inv-loop μ-loop
 returns c = seen-torn (c .before .before .before .before .before .before .args .t .now) (c .before .before .before .before .loop .i) (c .before .before .before .before .before .before .args .end) (c .before .before .before .before .before .before .args .tag) (c .before .before .before .before .before .before .pre .within) (c .before .before .before .loop-test .taken) (sym (c .before .before .read-field .ensures) ∙ c .enum-told .given .1) ∙ c .before .before .before .before .loop .inv .0
@@ -59,8 +54,8 @@ has-tag-spec =
     μ-loop
     loop-holds
     read-field-requires
-    enum-known-k
-    enum-told
+    (λ c. search needs)
+    (λ c. search needs)
     returns
     returns-2
     loop-less

@@ -16,9 +16,6 @@ small k h = go (eqb k 20)
     go true = omega arith
     go false = omega arith
 
-rank-of-requires : tie.Need-rank-of-requires
-rank-of-requires c κs = search needs
-
 add-result : tie.Need-add-result
 add-result c = let q = c .before .rank-of .ensures in let h = small (c .before .before .args .k) (omega arith) in omega (arith, q, h)
 
@@ -44,7 +41,7 @@ pub least-after-spec : {M : Type 1} → statement M
 least-after-spec =
     tie.close
     (tie.spec
-    rank-of-requires
+    (λ c κs. search needs)
     add-result
     returns
     add-result-2

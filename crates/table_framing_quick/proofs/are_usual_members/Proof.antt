@@ -1,4 +1,5 @@
 -- One field more at each turn, and what comes decides.
+use Rattle.table_fields.proofs.BoundsLaws.{later, narrow}
 use borrow.Author.Needs.{needs}
 use mathlib.Core.Path.{_≡_, sym, _∙_}
 use mathlib.Core.Bool.{false≢true}
@@ -28,29 +29,14 @@ lies : (c : tie.After-k Inv-loop μ-loop)
 lies c =
     field-lies (c .before .before .before .before .before .before .before .args .t .now) (c .before .before .before .before .loop .i) (c .before .before .before .before .before .before .before .args .end) _ _ _ (c .before .before .before .before .loop .inv .order) (read c)
 
-rest-room-requires : tie.Need-rest-room-requires Inv-loop μ-loop
-rest-room-requires c κs = search needs
-
-add-i : tie.Need-add-i Inv-loop μ-loop
-add-i c = search needs
-
 loop-holds : tie.Need-loop-holds Inv-loop μ-loop
 loop-holds c = going-start (c .before .before .args .t .now) (c .before .before .args .at) (c .before .before .args .tag) (c .before .before .args .end) (c .before .before .args .first) (c .before .before .args .from) (c .before .before .args .to) _ (c .before .before .pre .1) (c .rest-room .ensures) (c .before .before .pre .0 .order)
 
 read-field-requires : tie.Need-read-field-requires Inv-loop μ-loop
-read-field-requires c κs = record { order = c .before .loop .inv .order; within = c .before .before .before .before .pre .0 .within; most = c .before .before .before .before .pre .0 .most }
-
-enum-known-k : tie.Need-enum-known-k Inv-loop μ-loop
-enum-known-k c = search needs
-
-enum-told : tie.Need-enum-told Inv-loop μ-loop
-enum-told c = search needs
+read-field-requires c κs = later (c .before .before .before .before .pre .0) (c .before .loop .inv .order)
 
 returns : tie.Need-returns Inv-loop μ-loop
 returns c = λ e. absurd (false≢true e)
-
-room-of-requires : tie.Need-room-of-requires Inv-loop μ-loop
-room-of-requires c κs = search needs
 
 returns-2 : tie.Need-returns-2 Inv-loop μ-loop
 returns-2 c = λ e. absurd (false≢true e)
@@ -58,26 +44,14 @@ returns-2 c = λ e. absurd (false≢true e)
 returns-3 : tie.Need-returns-3 Inv-loop μ-loop
 returns-3 c = λ e. absurd (false≢true e)
 
-in-place-requires : tie.Need-in-place-requires Inv-loop μ-loop
-in-place-requires c κs = search needs
-
 returns-4 : tie.Need-returns-4 Inv-loop μ-loop
 returns-4 c = λ e. absurd (false≢true e)
 
 is-usual-member-requires : tie.Need-is-usual-member-requires Inv-loop μ-loop
-is-usual-member-requires c κs = let l = lies (c .before .before .before .before .before .before) in record { order = omega (arith, l .begins, l .order); within = omega (arith, l .within, c .before .before .before .before .before .before .before .before .before .before .before .before .before .pre .0 .within); most = c .before .before .before .before .before .before .before .before .before .before .before .before .before .pre .0 .most }
+is-usual-member-requires c κs = let l = lies (c .before .before .before .before .before .before) in narrow (c .before .before .before .before .before .before .before .before .before .before .before .before .before .pre .0) (omega (arith, l .begins, l .order)) (l .within)
 
 returns-5 : tie.Need-returns-5 Inv-loop μ-loop
 returns-5 c = λ e. absurd (false≢true e)
-
-least-after-requires : tie.Need-least-after-requires Inv-loop μ-loop
-least-after-requires c κs = search needs
-
-sub-names : tie.Need-sub-names Inv-loop μ-loop
-sub-names c = search needs
-
-sub-rest : tie.Need-sub-rest Inv-loop μ-loop
-sub-rest c = search needs
 
 loop-less : tie.Need-loop-less Inv-loop μ-loop
 loop-less c = let l = lies (c .before .before .before .before .before .before .before .before .before) in omega (arith, l .begins, l .order, l .within, c .before .before .before .before .before .before .before .before .before .before .before .before .loop-test .taken)
@@ -94,23 +68,23 @@ are-usual-members-spec =
     (tie.spec
     Inv-loop
     μ-loop
-    rest-room-requires
-    add-i
+    (λ c κs. search needs)
+    (λ c. search needs)
     loop-holds
     read-field-requires
-    enum-known-k
-    enum-told
+    (λ c. search needs)
+    (λ c. search needs)
     returns
-    room-of-requires
+    (λ c κs. search needs)
     returns-2
     returns-3
-    in-place-requires
+    (λ c κs. search needs)
     returns-4
     is-usual-member-requires
     returns-5
-    least-after-requires
-    sub-names
-    sub-rest
+    (λ c κs. search needs)
+    (λ c. search needs)
+    (λ c. search needs)
     loop-less
     loop-again
     returns-6)

@@ -36,20 +36,11 @@ loop-holds c = tabled-start (c .before .args .t .now)
 read-field-requires : tie.Need-read-field-requires Inv-loop μ-loop
 read-field-requires c κs = record { order = c .before .loop .inv .order; within = le-refl (length (c .before .before .before .args .t .now)); most = c .before .before .before .pre }
 
-enum-known-k : tie.Need-enum-known-k Inv-loop μ-loop
-enum-known-k c = search needs
-
-enum-told : tie.Need-enum-told Inv-loop μ-loop
-enum-told c = search needs
-
 returns : tie.Need-returns Inv-loop μ-loop
 returns c = λ e. absurd (false≢true e)
 
 returns-2 : tie.Need-returns-2 Inv-loop μ-loop
 returns-2 c = λ e. absurd (false≢true e)
-
-record-in-place-requires : tie.Need-record-in-place-requires Inv-loop μ-loop
-record-in-place-requires c κs = search needs
 
 returns-3 : tie.Need-returns-3 Inv-loop μ-loop
 returns-3 c = λ e. absurd (false≢true e)
@@ -59,12 +50,6 @@ is-usual-record-requires c κs = let l = lies (c .before .before .before .before
 
 returns-4 : tie.Need-returns-4 Inv-loop μ-loop
 returns-4 c = λ e. absurd (false≢true e)
-
-roots-after-requires : tie.Need-roots-after-requires Inv-loop μ-loop
-roots-after-requires c κs = search needs
-
-sub-left : tie.Need-sub-left Inv-loop μ-loop
-sub-left c = search needs
 
 loop-less : tie.Need-loop-less Inv-loop μ-loop
 loop-less c = let l = lies (c .before .before .before .before .before .before .before) in omega (arith, l .begins, l .order, l .within, c .before .before .before .before .before .before .before .before .before .before .loop-test .taken)
@@ -83,16 +68,16 @@ is-usual-spec =
     μ-loop
     loop-holds
     read-field-requires
-    enum-known-k
-    enum-told
+    (λ c. search needs)
+    (λ c. search needs)
     returns
     returns-2
-    record-in-place-requires
+    (λ c κs. search needs)
     returns-3
     is-usual-record-requires
     returns-4
-    roots-after-requires
-    sub-left
+    (λ c κs. search needs)
+    (λ c. search needs)
     loop-less
     loop-again
     returns-5)

@@ -15,23 +15,11 @@ holder c =
     let e : c .before .before .first .given .0 .1 .0 ≡ c .before .before .first .given .0 .0 = sym (c .if1 .left) in
     rw e at a
 
-content-of-requires : tie.Need-content-of-requires
-content-of-requires c κs = search needs
-
-enum-known-first : tie.Need-enum-known-first
-enum-known-first c = search needs
-
 returns : tie.Need-returns
 returns c = λ e. absurd (false≢true e)
 
 returns-2 : tie.Need-returns-2
 returns-2 c = λ e. absurd (false≢true e)
-
-add-has-tag : tie.Need-add-has-tag
-add-has-tag c = search needs
-
-has-tag-requires : tie.Need-has-tag-requires
-has-tag-requires c κs = search needs
 
 returns-3 : tie.Need-returns-3
 returns-3 c = λ e. absurd (false≢true e)
@@ -46,12 +34,12 @@ pub is-usual-record-spec : {M : Type 1} → statement M
 is-usual-record-spec =
     tie.close
     (tie.spec
-    content-of-requires
-    enum-known-first
+    (λ c κs. search needs)
+    (λ c. search needs)
     returns
     returns-2
-    add-has-tag
-    has-tag-requires
+    (λ c. search needs)
+    (λ c κs. search needs)
     returns-3
     are-usual-members-requires
     returns-4)

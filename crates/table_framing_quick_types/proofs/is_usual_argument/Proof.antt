@@ -6,18 +6,6 @@ use Rattle.table_framing_quick_types.proofs.FineLaws.{begun, argument-f
 use Rattle.table_framing_quick_types.proofs.is_usual_argument.Statement.{statement}
 use Rattle.table_framing_quick_types.proofs.is_usual_argument.Tie as tie
 
-add-typed-end : tie.Need-add-typed-end
-add-typed-end c = search needs
-
-typed-end-requires : tie.Need-typed-end-requires
-typed-end-requires c κs = search needs
-
-enum-known-stop : tie.Need-enum-known-stop
-enum-known-stop c = search needs
-
-enum-told : tie.Need-enum-told
-enum-told c = search needs
-
 returns : tie.Need-returns
 returns c = λ z. absurd (false≢true z)
 
@@ -27,4 +15,4 @@ returns-2 c = λ z. argument-fine (c .before .before .before .before .before .ar
 pub is-usual-argument-spec : {M : Type 1} → statement M
 is-usual-argument-spec =
     tie.close
-    (tie.spec add-typed-end typed-end-requires enum-known-stop enum-told returns returns-2)
+    (tie.spec (λ c. search needs) (λ c κs. search needs) (λ c. search needs) (λ c. search needs) returns returns-2)

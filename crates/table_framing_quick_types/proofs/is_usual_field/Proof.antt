@@ -1,4 +1,5 @@
 -- One argument more at each turn, and the rest decides.
+use Rattle.table_fields.proofs.BoundsLaws.{later, narrow}
 use borrow.Author.Needs.{needs}
 use mathlib.Core.Path.{_≡_, sym, _∙_}
 use mathlib.Core.Bool.{false≢true}
@@ -28,18 +29,6 @@ lies : (c : tie.After-k Inv-loop μ-loop)
 lies c =
     field-lies (c .before .before .before .before .before .before .before .before .before .before .before .args .t .now) (c .before .before .before .before .before .loop .i) (c .before .before .before .before .before .before .before .before .before .before .before .args .end) _ _ _ (c .before .before .before .before .before .loop .inv .order) (read c)
 
-add-typed-end : tie.Need-add-typed-end Inv-loop μ-loop
-add-typed-end c = search needs
-
-typed-end-requires : tie.Need-typed-end-requires Inv-loop μ-loop
-typed-end-requires c κs = search needs
-
-enum-known-stop : tie.Need-enum-known-stop Inv-loop μ-loop
-enum-known-stop c = search needs
-
-enum-told : tie.Need-enum-told Inv-loop μ-loop
-enum-told c = search needs
-
 returns : tie.Need-returns Inv-loop μ-loop
 returns c = λ z. absurd (false≢true z)
 
@@ -50,13 +39,7 @@ returns-2 : tie.Need-returns-2 Inv-loop μ-loop
 returns-2 c = λ z. absurd (false≢true z)
 
 read-field-requires : tie.Need-read-field-requires Inv-loop μ-loop
-read-field-requires c κs = record { order = c .before .before .loop .inv .order; within = c .before .before .before .before .before .before .before .before .pre .within; most = c .before .before .before .before .before .before .before .before .pre .most }
-
-enum-known-k : tie.Need-enum-known-k Inv-loop μ-loop
-enum-known-k c = search needs
-
-enum-told-2 : tie.Need-enum-told-2 Inv-loop μ-loop
-enum-told-2 c = search needs
+read-field-requires c κs = later (c .before .before .before .before .before .before .before .before .pre) (c .before .before .loop .inv .order)
 
 returns-3 : tie.Need-returns-3 Inv-loop μ-loop
 returns-3 c = λ z. absurd (false≢true z)
@@ -65,13 +48,10 @@ returns-4 : tie.Need-returns-4 Inv-loop μ-loop
 returns-4 c = λ z. absurd (false≢true z)
 
 is-usual-argument-requires : tie.Need-is-usual-argument-requires Inv-loop μ-loop
-is-usual-argument-requires c κs = let l = lies (c .before .before) in record { order = omega (arith, l .begins, l .order); within = omega (arith, l .within, c .before .before .before .before .before .before .before .before .before .before .before .before .before .pre .within); most = c .before .before .before .before .before .before .before .before .before .before .before .before .before .pre .most }
+is-usual-argument-requires c κs = let l = lies (c .before .before) in narrow (c .before .before .before .before .before .before .before .before .before .before .before .before .before .pre) (omega (arith, l .begins, l .order)) (l .within)
 
 returns-5 : tie.Need-returns-5 Inv-loop μ-loop
 returns-5 c = λ z. absurd (false≢true z)
-
-sub-left : tie.Need-sub-left Inv-loop μ-loop
-sub-left c = search needs
 
 loop-less : tie.Need-loop-less Inv-loop μ-loop
 loop-less c = let l = lies (c .before .before .before .before) in omega (arith, l .begins, l .order, l .within, c .before .before .before .before .before .before .before .before .loop-test .taken)
@@ -88,21 +68,21 @@ is-usual-field-spec =
     (tie.spec
     Inv-loop
     μ-loop
-    add-typed-end
-    typed-end-requires
-    enum-known-stop
-    enum-told
+    (λ c. search needs)
+    (λ c κs. search needs)
+    (λ c. search needs)
+    (λ c. search needs)
     returns
     loop-holds
     returns-2
     read-field-requires
-    enum-known-k
-    enum-told-2
+    (λ c. search needs)
+    (λ c. search needs)
     returns-3
     returns-4
     is-usual-argument-requires
     returns-5
-    sub-left
+    (λ c. search needs)
     loop-less
     loop-again
     returns-6)

@@ -12,15 +12,6 @@ read : (c : tie.After-from)
 read c =
     refers (c .before .before .before .before .args .t .now) (c .before .before .before .before .args .start) (c .before .before .before .before .args .end) _ _ _ _ (c .from .given .1) (c .before .before .read-reference .ensures)
 
-read-reference-requires : tie.Need-read-reference-requires
-read-reference-requires c κs = search needs
-
-enum-known-from : tie.Need-enum-known-from
-enum-known-from c = search needs
-
-enum-told : tie.Need-enum-told
-enum-told c = search needs
-
 returns : tie.Need-returns
 returns c = λ z. absurd (false≢true z)
 
@@ -33,20 +24,8 @@ sub-if1-2 c = let q = read (c .before) in omega (arith, q .within)
 add-if1 : tie.Need-add-if1
 add-if1 c = let q = read (c .before) in omega (arith, q .begins, q .order, q .within, c .before .before .before .before .before .pre .within, c .before .before .before .before .before .pre .most)
 
-cast-if1 : tie.Need-cast-if1
-cast-if1 c = search needs
-
 returns-2 : tie.Need-returns-2
 returns-2 c = λ z. few-beside (c .before .before .before .before .before .before .args .t .now) (c .before .before .before .before .before .before .args .start) (c .before .before .before .before .before .before .args .end) _ _ _ (c .before .before .before .before .before .before .pre .within) (read (c .before .before)) (c .if1 .taken)
-
-wrapper-over-requires : tie.Need-wrapper-over-requires
-wrapper-over-requires c κs = search needs
-
-enum-told-2 : tie.Need-enum-told-2
-enum-told-2 c = search needs
-
-enum-told-3 : tie.Need-enum-told-3
-enum-told-3 c = search needs
 
 returns-3 : tie.Need-returns-3
 returns-3 c = λ z. absurd (false≢true z)
@@ -58,17 +37,17 @@ pub is-usual-reference-spec : {M : Type 1} → statement M
 is-usual-reference-spec =
     tie.close
     (tie.spec
-    read-reference-requires
-    enum-known-from
-    enum-told
+    (λ c κs. search needs)
+    (λ c. search needs)
+    (λ c. search needs)
     returns
     sub-if1
     sub-if1-2
     add-if1
-    cast-if1
+    (λ c. search needs)
     returns-2
-    wrapper-over-requires
-    enum-told-2
-    enum-told-3
+    (λ c κs. search needs)
+    (λ c. search needs)
+    (λ c. search needs)
     returns-3
     returns-4)

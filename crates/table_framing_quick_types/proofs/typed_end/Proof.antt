@@ -1,4 +1,5 @@
 -- A name is read, and behind it a type.
+use Rattle.table_fields.proofs.BoundsLaws.{later, narrow}
 use borrow.Author.Needs.{needs}
 use mathlib.Core.Path.{_≡_, sym, _∙_}
 use native.Mathlib.Omega.{arith}
@@ -30,47 +31,14 @@ type-lies : (c : tie.After-m)
 type-lies c =
     let l = name-lies (c .before .before .before .before .before .before .before) in field-lies (c .before .before .before .before .before .before .before .before .before .before .before .args .t .now) (c .before .before .before .before .before .before .before .k .given .0 .1 .1 .0) (c .before .before .before .before .before .before .before .before .before .before .before .args .end) _ _ _ (l .within) (type-read c)
 
-read-field-requires : tie.Need-read-field-requires
-read-field-requires c κs = search needs
-
-enum-known-k : tie.Need-enum-known-k
-enum-known-k c = search needs
-
-enum-told : tie.Need-enum-told
-enum-told c = search needs
-
-returns : tie.Need-returns
-returns c = search needs
-
-returns-2 : tie.Need-returns-2
-returns-2 c = search needs
-
 is-name-requires : tie.Need-is-name-requires
-is-name-requires c κs = let l = name-lies (c .before .before) in record { order = l .order; within = omega (arith, l .within, c .before .before .before .before .before .before .pre .within); most = c .before .before .before .before .before .before .pre .most }
-
-returns-3 : tie.Need-returns-3
-returns-3 c = search needs
+is-name-requires c κs = let l = name-lies (c .before .before) in narrow (c .before .before .before .before .before .before .pre) (l .order) (l .within)
 
 read-field-requires-2 : tie.Need-read-field-requires-2
-read-field-requires-2 c κs = let l = name-lies (c .before .before .before .before) in record { order = l .within; within = c .before .before .before .before .before .before .before .before .pre .within; most = c .before .before .before .before .before .before .before .before .pre .most }
-
-enum-known-m : tie.Need-enum-known-m
-enum-known-m c = search needs
-
-enum-told-2 : tie.Need-enum-told-2
-enum-told-2 c = search needs
-
-returns-4 : tie.Need-returns-4
-returns-4 c = search needs
-
-returns-5 : tie.Need-returns-5
-returns-5 c = search needs
+read-field-requires-2 c κs = let l = name-lies (c .before .before .before .before) in later (c .before .before .before .before .before .before .before .before .pre) (l .within)
 
 is-usual-reference-requires : tie.Need-is-usual-reference-requires
-is-usual-reference-requires c κs = let l = type-lies (c .before .before) in record { order = l .order; within = omega (arith, l .within, c .before .before .before .before .before .before .before .before .before .before .before .before .before .pre .within); most = c .before .before .before .before .before .before .before .before .before .before .before .before .before .pre .most }
-
-returns-6 : tie.Need-returns-6
-returns-6 c = search needs
+is-usual-reference-requires c κs = let l = type-lies (c .before .before) in narrow (c .before .before .before .before .before .before .before .before .before .before .before .before .before .pre) (l .order) (l .within)
 
 returns-7 : tie.Need-returns-7
 returns-7 c = begins-with (c .before .before .before .before .before .before .before .before .before .before .before .before .before .before .before .args .t .now) (c .before .before .before .before .before .before .before .before .before .before .before .before .before .before .before .args .start) (c .before .before .before .before .before .before .before .before .before .before .before .before .before .before .before .args .end) _ _ _ _ _ _ (c .before .before .before .before .before .before .before .before .before .before .before .before .before .before .before .pre .order) (c .before .before .before .before .before .before .before .before .before .before .before .before .before .before .before .pre .within) (name-read (c .before .before .before .before .before .before .before .before .before .before .before)) (c .before .before .before .before .before .before .before .before .before .if1 .left) (sym (c .before .before .before .before .before .before .before .before .is-name .ensures) ∙ not-false _ (c .before .before .before .before .before .before .before .if2 .left)) (type-read (c .before .before .before .before)) (c .before .before .if3 .left) (c .before .is-usual-reference .ensures (not-false _ (c .if4 .left)))
@@ -79,18 +47,18 @@ pub typed-end-spec : {M : Type 1} → statement M
 typed-end-spec =
     tie.close
     (tie.spec
-    read-field-requires
-    enum-known-k
-    enum-told
-    returns
-    returns-2
+    (λ c κs. search needs)
+    (λ c. search needs)
+    (λ c. search needs)
+    (λ c. search needs)
+    (λ c. search needs)
     is-name-requires
-    returns-3
+    (λ c. search needs)
     read-field-requires-2
-    enum-known-m
-    enum-told-2
-    returns-4
-    returns-5
+    (λ c. search needs)
+    (λ c. search needs)
+    (λ c. search needs)
+    (λ c. search needs)
     is-usual-reference-requires
-    returns-6
+    (λ c. search needs)
     returns-7)

@@ -3,57 +3,33 @@ use borrow.Author.Needs.{needs}
 use mathlib.Core.Path.{sym, ap, _∙_}
 use mathlib.Core.List.{head?}
 use Rattle.paper_table.specs.Types.{tableOf}
-use Rattle.paper_table.specs.Rules.{Rule}
+use Rattle.paper_table.specs.Places.{Rule}
 use Rattle.table_places.specs.Placed.{placed}
 use Rattle.table_types.specs.Booked.{definitionOn}
 use Rattle.table_judge.proofs.NumberLaws.{early-1, early-2, early-3, early-4, early-5, early-6, early-7, early-8}
 use Rattle.table_judge.proofs.early_place.Statement.{statement}
 use Rattle.table_judge.proofs.early_place.Tie as tie
 
-reserved-name-requires : tie.Need-reserved-name-requires
-reserved-name-requires c κs = search needs
-
 returns : tie.Need-returns
 returns c = c .reserved-name .ensures ∙ sym (ap (λ (q : Rule). placed (head? (q (tableOf (c .before .before .before .before .args .t .now)) (c .before .before .before .before .args .i) (definitionOn (c .before .before .before .before .args .t .now) (c .before .before .before .before .args .i))))) (early-1 (c .before .before .before .before .args .rule) (c .before .if1 .taken)))
-
-name-known-requires : tie.Need-name-known-requires
-name-known-requires c κs = search needs
 
 returns-2 : tie.Need-returns-2
 returns-2 c = c .name-known .ensures ∙ sym (ap (λ (q : Rule). placed (head? (q (tableOf (c .before .before .before .before .before .args .t .now)) (c .before .before .before .before .before .args .i) (definitionOn (c .before .before .before .before .before .args .t .now) (c .before .before .before .before .before .args .i))))) (early-2 (c .before .before .before .before .before .args .rule) (c .before .before .if1 .left) (c .before .if2 .taken)))
 
-no-members-requires : tie.Need-no-members-requires
-no-members-requires c κs = search needs
-
 returns-3 : tie.Need-returns-3
 returns-3 c = c .no-members .ensures ∙ sym (ap (λ (q : Rule). placed (head? (q (tableOf (c .before .before .before .before .before .before .args .t .now)) (c .before .before .before .before .before .before .args .i) (definitionOn (c .before .before .before .before .before .before .args .t .now) (c .before .before .before .before .before .before .args .i))))) (early-3 (c .before .before .before .before .before .before .args .rule) (c .before .before .before .if1 .left) (c .before .before .if2 .left) (c .before .if3 .taken)))
-
-name-repeated-requires : tie.Need-name-repeated-requires
-name-repeated-requires c κs = search needs
 
 returns-4 : tie.Need-returns-4
 returns-4 c = c .name-repeated .ensures ∙ sym (ap (λ (q : Rule). placed (head? (q (tableOf (c .before .before .before .before .before .before .before .args .t .now)) (c .before .before .before .before .before .before .before .args .i) (definitionOn (c .before .before .before .before .before .before .before .args .t .now) (c .before .before .before .before .before .before .before .args .i))))) (early-4 (c .before .before .before .before .before .before .before .args .rule) (c .before .before .before .before .if1 .left) (c .before .before .before .if2 .left) (c .before .before .if3 .left) (c .before .if4 .taken)))
 
-reserved-member-requires : tie.Need-reserved-member-requires
-reserved-member-requires c κs = search needs
-
 returns-5 : tie.Need-returns-5
 returns-5 c = c .reserved-member .ensures ∙ sym (ap (λ (q : Rule). placed (head? (q (tableOf (c .before .before .before .before .before .before .before .before .args .t .now)) (c .before .before .before .before .before .before .before .before .args .i) (definitionOn (c .before .before .before .before .before .before .before .before .args .t .now) (c .before .before .before .before .before .before .before .before .args .i))))) (early-5 (c .before .before .before .before .before .before .before .before .args .rule) (c .before .before .before .before .before .if1 .left) (c .before .before .before .before .if2 .left) (c .before .before .before .if3 .left) (c .before .before .if4 .left) (c .before .if5 .taken)))
-
-enum-value-requires : tie.Need-enum-value-requires
-enum-value-requires c κs = search needs
 
 returns-6 : tie.Need-returns-6
 returns-6 c = c .enum-value .ensures ∙ sym (ap (λ (q : Rule). placed (head? (q (tableOf (c .before .before .before .before .before .before .before .before .before .args .t .now)) (c .before .before .before .before .before .before .before .before .before .args .i) (definitionOn (c .before .before .before .before .before .before .before .before .before .args .t .now) (c .before .before .before .before .before .before .before .before .before .args .i))))) (early-6 (c .before .before .before .before .before .before .before .before .before .args .rule) (c .before .before .before .before .before .before .if1 .left) (c .before .before .before .before .before .if2 .left) (c .before .before .before .before .if3 .left) (c .before .before .before .if4 .left) (c .before .before .if5 .left) (c .before .if6 .taken)))
 
-no-type-requires : tie.Need-no-type-requires
-no-type-requires c κs = search needs
-
 returns-7 : tie.Need-returns-7
 returns-7 c = c .no-type .ensures ∙ sym (ap (λ (q : Rule). placed (head? (q (tableOf (c .before .before .before .before .before .before .before .before .before .before .args .t .now)) (c .before .before .before .before .before .before .before .before .before .before .args .i) (definitionOn (c .before .before .before .before .before .before .before .before .before .before .args .t .now) (c .before .before .before .before .before .before .before .before .before .before .args .i))))) (early-7 (c .before .before .before .before .before .before .before .before .before .before .args .rule) (c .before .before .before .before .before .before .before .if1 .left) (c .before .before .before .before .before .before .if2 .left) (c .before .before .before .before .before .if3 .left) (c .before .before .before .before .if4 .left) (c .before .before .before .if5 .left) (c .before .before .if6 .left) (c .before .if7 .taken)))
-
-wrong-base-requires : tie.Need-wrong-base-requires
-wrong-base-requires c κs = search needs
 
 returns-8 : tie.Need-returns-8
 returns-8 c = c .wrong-base .ensures ∙ sym (ap (λ (q : Rule). placed (head? (q (tableOf (c .before .before .before .before .before .before .before .before .before .before .args .t .now)) (c .before .before .before .before .before .before .before .before .before .before .args .i) (definitionOn (c .before .before .before .before .before .before .before .before .before .before .args .t .now) (c .before .before .before .before .before .before .before .before .before .before .args .i))))) (early-8 (c .before .before .before .before .before .before .before .before .before .before .args .rule) (c .before .before .before .before .before .before .before .if1 .left) (c .before .before .before .before .before .before .if2 .left) (c .before .before .before .before .before .if3 .left) (c .before .before .before .before .if4 .left) (c .before .before .before .if5 .left) (c .before .before .if6 .left) (c .before .if7 .left)))
@@ -62,19 +38,19 @@ pub early-place-spec : {M : Type 1} → statement M
 early-place-spec =
     tie.close
     (tie.spec
-    reserved-name-requires
+    (λ c κs. search needs)
     returns
-    name-known-requires
+    (λ c κs. search needs)
     returns-2
-    no-members-requires
+    (λ c κs. search needs)
     returns-3
-    name-repeated-requires
+    (λ c κs. search needs)
     returns-4
-    reserved-member-requires
+    (λ c κs. search needs)
     returns-5
-    enum-value-requires
+    (λ c κs. search needs)
     returns-6
-    no-type-requires
+    (λ c κs. search needs)
     returns-7
-    wrong-base-requires
+    (λ c κs. search needs)
     returns-8)

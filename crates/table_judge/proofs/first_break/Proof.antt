@@ -25,29 +25,14 @@ loop-holds c = (order-start (tableOf (c .before .before .before .before .before 
 definition-breaks-requires : tie.Need-definition-breaks-requires Inv-loop μ-loop
 definition-breaks-requires c κs = (c .before .before .before .before .before .before .before .before .pre .0, c .before .before .before .before .before .before .before .before .pre .1, omega (arith, c .before .loop-test .taken, c .before .before .before .count-of .ensures), c .before .before .loop .inv .1)
 
-enum-told : tie.Need-enum-told Inv-loop μ-loop
-enum-told c = search needs
-
-same-length : tie.Need-same-length Inv-loop μ-loop
-same-length c = search needs
-
 returns : tie.Need-returns Inv-loop μ-loop
 returns c = order-here (tableOf (c .before .before .before .before .before .before .before .before .before .before .before .before .args .t .now)) (c .before .before .before .before .before .before .loop .i) (c .before .before .before .before .before .before .loop .inv .0) (omega (arith, c .before .before .before .before .before .loop-test .taken, c .before .before .before .before .before .before .before .count-of .ensures, c .before .before .before .before .before .before .before .before .before .before .before .before .pre .0 .booked .count)) (c .before .before .before .definition-breaks .result) (c .before .before .before .definition-breaks .ensures .is) (not-accepted (c .before .before .before .definition-breaks .result) (c .match .keys2))
-
-add-i : tie.Need-add-i Inv-loop μ-loop
-add-i c = search needs
-
-loop-less : tie.Need-loop-less Inv-loop μ-loop
-loop-less c = search needs
 
 loop-again : tie.Need-loop-again Inv-loop μ-loop
 loop-again c = (order-on (tableOf (c .before .before .before .before .before .before .before .before .before .before .before .before .before .args .t .now)) (c .before .before .before .before .before .before .before .loop .i) (c .before .before .before .before .before .before .before .loop .inv .0) (omega (arith, c .before .before .before .before .before .before .loop-test .taken, c .before .before .before .before .before .before .before .before .count-of .ensures, c .before .before .before .before .before .before .before .before .before .before .before .before .before .pre .0 .booked .count)) (c .before .before .before .before .definition-breaks .result) (c .before .before .before .before .definition-breaks .ensures .is) (c .enum-told .given .1), c .before .before .before .before .definition-breaks .ensures .cells)
 
 query-break-requires : tie.Need-query-break-requires Inv-loop μ-loop
 query-break-requires c κs = c .before .before .before .before .before .before .before .pre .0 .booked
-
-same-length-2 : tie.Need-same-length-2 Inv-loop μ-loop
-same-length-2 c = search needs
 
 returns-2 : tie.Need-returns-2 Inv-loop μ-loop
 returns-2 c = c .query-break .ensures ∙ order-end (tableOf (c .before .before .before .before .before .before .before .before .args .t .now)) (c .before .before .loop .i) (c .before .before .loop .inv .0) (omega (arith, c .before .loop-test .left, c .before .before .before .count-of .ensures, c .before .before .before .before .before .before .before .before .pre .0 .booked .count))
@@ -61,12 +46,12 @@ first-break-spec =
     count-of-requires
     loop-holds
     definition-breaks-requires
-    enum-told
-    same-length
+    (λ c. search needs)
+    (λ c. search needs)
     returns
-    add-i
-    loop-less
+    (λ c. search needs)
+    (λ c. search needs)
     loop-again
     query-break-requires
-    same-length-2
+    (λ c. search needs)
     returns-2)

@@ -8,12 +8,6 @@ use Rattle.paper_table.proofs.ListsLaws.{any-first}
 use Rattle.table_judge.proofs.has_roots.Statement.{statement}
 use Rattle.table_judge.proofs.has_roots.Tie as tie
 
-first-roots-requires : tie.Need-first-roots-requires
-first-roots-requires c κs = search needs
-
-count-of-requires : tie.Need-count-of-requires
-count-of-requires c κs = search needs
-
 returns : tie.Need-returns
 returns c =
     let a = c .before .before .before .before .args in
@@ -22,4 +16,4 @@ returns c =
     ∙ sym (any-first isRoots (tableOf (a .t .now)))
 
 pub has-roots-spec : {M : Type 1} → statement M
-has-roots-spec = tie.close (tie.spec first-roots-requires count-of-requires returns)
+has-roots-spec = tie.close (tie.spec (λ c κs. search needs) (λ c κs. search needs) returns)

@@ -2,7 +2,7 @@
 use mathlib.Core.Path.{sym, ap, _∙_}
 use mathlib.Core.List.{List, head?}
 use Rattle.paper_table.specs.Types.{tableOf}
-use Rattle.paper_table.specs.Rules.{Place, Rule}
+use Rattle.paper_table.specs.Places.{Place, Rule}
 use Rattle.table_places.specs.Placed.{placed}
 use Rattle.table_types.specs.Booked.{definitionOn}
 use Rattle.table_judge.proofs.NumberLaws.{late-9, late-10, late-16, late-other, promise-kept}

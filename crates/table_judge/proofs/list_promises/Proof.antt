@@ -19,12 +19,6 @@ next-implemented-requires c κs =
     let a = c .before .before .before .before .before .before .args in
     bounds-entered (a .t .now) (a .book .now) (c .before .before .before .before .before .before .pre .0 .booked) (a .i) (c .before .before .before .before .before .before .pre .2) _ _ (c .before .start-of .ensures) (c .end-of .ensures)
 
-enum-told : tie.Need-enum-told
-enum-told c = search needs
-
-enum-told-2 : tie.Need-enum-told-2
-enum-told-2 c = search needs
-
 returns : tie.Need-returns
 returns c =
     let a = c .before .before .before .before .before .before .before .before .before .args in
@@ -41,9 +35,6 @@ is-all-kept-requires c κs =
     let p = c .before .before .before .before .before .before .before .before .before .before .before .before .before .before .pre in
     (p .0 .booked, p .1, p .0 .slim, p .2, listed-at (a .t .now) (a .book .now) (p .0) (a .i) (p .2) _ _ (c .before .before .before .before .before .before .before .before .before .start-of .ensures) (c .before .before .before .before .before .before .before .before .end-of .ensures) _ (c .before .before .before .list-members .ensures))
 
-same-length : tie.Need-same-length
-same-length c = search needs
-
 returns-2 : tie.Need-returns-2
 returns-2 c =
     let a = c .before .before .before .before .before .before .before .before .before .before .before .before .before .before .before .args in
@@ -56,10 +47,10 @@ list-promises-spec =
     start-of-requires
     end-of-requires
     next-implemented-requires
-    enum-told
-    enum-told-2
+    (λ c. search needs)
+    (λ c. search needs)
     returns
     list-members-requires
     is-all-kept-requires
-    same-length
+    (λ c. search needs)
     returns-2)

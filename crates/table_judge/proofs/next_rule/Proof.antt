@@ -8,14 +8,8 @@ use Rattle.table_judge.proofs.next_rule.Tie as tie
 returns : tie.Need-returns
 returns c = inr (inl (c .before .if1 .taken, c .if2 .taken, refl))
 
-add-result : tie.Need-add-result
-add-result c = search needs
-
 returns-2 : tie.Need-returns-2
 returns-2 c = inl refl
-
-add-result-2 : tie.Need-add-result-2
-add-result-2 c = search needs
 
 returns-3 : tie.Need-returns-3
 returns-3 c = inl refl
@@ -23,13 +17,10 @@ returns-3 c = inl refl
 returns-4 : tie.Need-returns-4
 returns-4 c = inr (inr (c .before .if3 .taken, c .if4 .left, refl))
 
-add-result-3 : tie.Need-add-result-3
-add-result-3 c = search needs
-
 returns-5 : tie.Need-returns-5
 returns-5 c = inl refl
 
 pub next-rule-spec : {M : Type 1} → statement M
 next-rule-spec =
     tie.close
-    (tie.spec returns add-result returns-2 add-result-2 returns-3 returns-4 add-result-3 returns-5)
+    (tie.spec returns (λ c. search needs) returns-2 (λ c. search needs) returns-3 returns-4 (λ c. search needs) returns-5)

@@ -2,7 +2,7 @@
 use mathlib.Core.Path.{sym, ap, _∙_}
 use mathlib.Core.List.{head?}
 use Rattle.paper_table.specs.Types.{tableOf}
-use Rattle.paper_table.specs.Rules.{Rule}
+use Rattle.paper_table.specs.Places.{Rule}
 use Rattle.table_places.specs.Placed.{placed}
 use Rattle.table_types.specs.Booked.{definitionOn}
 use Rattle.table_judge.proofs.NumberLaws.{promise-11, promise-12, promise-13, promise-14, promise-other}

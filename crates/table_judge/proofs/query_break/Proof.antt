@@ -10,17 +10,8 @@ use Rattle.table_judge.proofs.BreakLaws.{query-roots, query-object, que
 use Rattle.table_judge.proofs.query_break.Statement.{statement}
 use Rattle.table_judge.proofs.query_break.Tie as tie
 
-has-roots-requires : tie.Need-has-roots-requires
-has-roots-requires c κs = search needs
-
 returns : tie.Need-returns
 returns c = query-roots (tableOf (c .before .before .before .before .args .t .now)) (sym (c .before .has-roots .ensures) ∙ c .if1 .taken)
-
-slice-aggregate-tag-meant : tie.Need-slice-aggregate-tag-meant
-slice-aggregate-tag-meant c = search needs
-
-tag-meant-requires : tie.Need-tag-meant-requires
-tag-meant-requires c κs = search needs
 
 returns-2 : tie.Need-returns-2
 returns-2 c = query-object (tableOf (c .before .before .before .before .before .before .before .args .t .now)) (sym (c .before .before .before .before .has-roots .ensures) ∙ c .before .before .before .if1 .left) (sym (c .before .tag-meant .ensures) ∙ c .if2 .taken)
@@ -38,10 +29,10 @@ pub query-break-spec : {M : Type 1} → statement M
 query-break-spec =
     tie.close
     (tie.spec
-    has-roots-requires
+    (λ c κs. search needs)
     returns
-    slice-aggregate-tag-meant
-    tag-meant-requires
+    (λ c. search needs)
+    (λ c κs. search needs)
     returns-2
     count-of-requires
     cast-t5

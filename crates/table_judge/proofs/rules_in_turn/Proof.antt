@@ -25,12 +25,6 @@ rule-place-requires c κs =
     let p = c .before .before .before .before .before .pre in
     (p .0, p .1, p .2, p .3)
 
-enum-told : tie.Need-enum-told Inv-loop μ-loop
-enum-told c = search needs
-
-enum-told-2 : tie.Need-enum-told-2 Inv-loop μ-loop
-enum-told-2 c = search needs
-
 shown-requires : tie.Need-shown-requires Inv-loop μ-loop
 shown-requires c κs = omega (arith, c .before .before .before .before .before .before .before .before .pre .2, c .before .before .before .before .before .before .before .before .pre .0 .indexed .held .most)
 
@@ -65,8 +59,8 @@ rules-in-turn-spec =
     μ-loop
     loop-holds
     rule-place-requires
-    enum-told
-    enum-told-2
+    (λ c. search needs)
+    (λ c. search needs)
     shown-requires
     returns
     next-rule-requires

@@ -5,17 +5,8 @@ use Rattle.table_judge.specs.Schema.{shownAt}
 use Rattle.table_judge.proofs.shown.Statement.{statement}
 use Rattle.table_judge.proofs.shown.Tie as tie
 
-enum-known-p : tie.Need-enum-known-p
-enum-known-p c = search needs
-
-enum-told : tie.Need-enum-told
-enum-told c = search needs
-
 returns : tie.Need-returns
 returns c = sym (ap (shownAt (c .before .before .args .i) (c .before .before .args .rule)) (c .enum-told .given .1))
-
-cast-t7 : tie.Need-cast-t7
-cast-t7 c = search needs
 
 returns-2 : tie.Need-returns-2
 returns-2 c = sym (ap (shownAt (c .before .before .before .args .i) (c .before .before .before .args .rule)) (c .before .p .given .1))
@@ -24,8 +15,8 @@ pub shown-spec : {M : Type 1} → statement M
 shown-spec =
     tie.close
     (tie.spec
-    enum-known-p
-    enum-told
+    (λ c. search needs)
+    (λ c. search needs)
     returns
-    cast-t7
+    (λ c. search needs)
     returns-2)

@@ -1,4 +1,5 @@
 -- Member by member: those that are not entered yet stand from here on.
+use Rattle.table_fields.proofs.BoundsLaws.{later, narrow}
 use borrow.Author.Needs.{needs}
 use mathlib.Core.Path.{sym, subst, _∙_}
 use Prim.Native.Nat.{_-_, _≤_}
@@ -25,13 +26,7 @@ loop-holds : tie.Need-loop-holds Inv-loop μ-loop
 loop-holds c = collecting-start _ _ _ _ (c .before .before .pre)
 
 next-member-requires : tie.Need-next-member-requires Inv-loop μ-loop
-next-member-requires c κs = record { order = c .loop .inv .within; within = c .before .before .before .pre .bounds .within; most = c .before .before .before .pre .bounds .most }
-
-enum-known-tag : tie.Need-enum-known-tag Inv-loop μ-loop
-enum-known-tag c = search needs
-
-enum-told : tie.Need-enum-told Inv-loop μ-loop
-enum-told c = search needs
+next-member-requires c κs = later (c .before .before .before .pre .bounds) (c .loop .inv .within)
 
 same-length : tie.Need-same-length Inv-loop μ-loop
 same-length c = c .before .before .before .loop .inv .cells ∙ sym (c .before .before .before .before .before .before .pre .cells)
@@ -47,7 +42,7 @@ enter-requires c κs =
     let a = c .before .before .before .before .before .before .before .before .args in
     let l = c .before .before .before .before .before .loop in
     let f = found ((c .before .before)) in
-    (record { order = f .lies .order; within = omega (arith, f .lies .within, c .before .before .before .before .before .before .before .before .pre .bounds .within); most = c .before .before .before .before .before .before .before .before .pre .bounds .most }, l .inv .cells, omega (arith, member-below (a .t .now) (l .book) (a .from) (a .end) (l .at) (l .i) (l .inv) _ _ _ f, c .before .before .before .before .before .before .before .before .pre .few))
+    (narrow (c .before .before .before .before .before .before .before .before .pre .bounds) (f .lies .order) (f .lies .within), l .inv .cells, omega (arith, member-below (a .t .now) (l .book) (a .from) (a .end) (l .at) (l .i) (l .inv) _ _ _ f, c .before .before .before .before .before .before .before .before .pre .few))
 
 add-i : tie.Need-add-i Inv-loop μ-loop
 add-i c =
@@ -74,8 +69,8 @@ collect-spec =
     μ-loop
     loop-holds
     next-member-requires
-    enum-known-tag
-    enum-told
+    (λ c. search needs)
+    (λ c. search needs)
     same-length
     returns
     enter-requires

@@ -7,25 +7,10 @@ use borrow.Author.Needs.{needs}
 use Rattle.table_listing.proofs.find_listed.Statement.{statement}
 use Rattle.table_listing.proofs.find_listed.Tie as tie
 
-find-key-requires : tie.Need-find-key-requires
-find-key-requires c κs = search needs
-
-count-of-requires : tie.Need-count-of-requires
-count-of-requires c κs = search needs
-
-kind-of-requires : tie.Need-kind-of-requires
-kind-of-requires c κs = search needs
-
 cast-t12 : tie.Need-cast-t12
 cast-t12 c =
     let l : c .before .before .before .find-key .result < countIn (c .before .before .before .before .before .before .before .args .book .now) = omega (arith, c .before .if1 .taken, c .before .before .count-of .ensures) in
     omega (arith, c .kind-of .ensures, c .before .before .before .before .before .before .before .pre .0 .entered (c .before .before .before .find-key .result) l .small)
-
-start-of-requires : tie.Need-start-of-requires
-start-of-requires c κs = search needs
-
-end-of-requires : tie.Need-end-of-requires
-end-of-requires c κs = search needs
 
 returns : tie.Need-returns
 returns c =
@@ -42,11 +27,11 @@ pub find-listed-spec : {M : Type 1} → statement M
 find-listed-spec =
     tie.close
     (tie.spec
-    find-key-requires
-    count-of-requires
-    kind-of-requires
+    (λ c κs. search needs)
+    (λ c κs. search needs)
+    (λ c κs. search needs)
     cast-t12
-    start-of-requires
-    end-of-requires
+    (λ c κs. search needs)
+    (λ c κs. search needs)
     returns
     returns-2)

@@ -1,4 +1,5 @@
 -- Name by name: one of those from here on is it if and only if one of all is.
+use Rattle.table_fields.proofs.BoundsLaws.{later}
 use borrow.Author.Needs.{needs}
 use mathlib.Core.Path.{sym, subst, _∙_}
 use Prim.Native.Nat.{_-_}
@@ -27,13 +28,7 @@ loop-holds : tie.Need-loop-holds Inv-loop μ-loop
 loop-holds c = sought-start _ _ _ (c .before .before .pre .0 .order)
 
 next-implemented-requires : tie.Need-next-implemented-requires Inv-loop μ-loop
-next-implemented-requires c κs = record { order = c .loop .inv .within; within = c .before .before .before .pre .0 .within; most = c .before .before .before .pre .0 .most }
-
-enum-known-start : tie.Need-enum-known-start Inv-loop μ-loop
-enum-known-start c = search needs
-
-enum-told : tie.Need-enum-told Inv-loop μ-loop
-enum-told c = search needs
+next-implemented-requires c κs = later (c .before .before .before .pre .0) (c .loop .inv .within)
 
 returns : tie.Need-returns Inv-loop μ-loop
 returns c =
@@ -71,8 +66,8 @@ implements-spec =
     μ-loop
     loop-holds
     next-implemented-requires
-    enum-known-start
-    enum-told
+    (λ c. search needs)
+    (λ c. search needs)
     returns
     sub-is-text
     is-text-requires

@@ -8,14 +8,8 @@ use borrow.Author.Needs.{needs}
 use Rattle.table_members.proofs.is_named.Statement.{statement}
 use Rattle.table_members.proofs.is_named.Tie as tie
 
-name-in-requires : tie.Need-name-in-requires
-name-in-requires c κs = search needs
-
-is-text-requires : tie.Need-is-text-requires
-is-text-requires c κs = search needs
-
 returns : tie.Need-returns
 returns c = c .is-text .ensures ∙ ap (λ (x : List ℕ). same x (part (c .before .before .before .before .args .s .now) (c .before .before .before .before .args .at) (c .before .before .before .before .args .n))) (c .before .name-in .ensures .is)
 
 pub is-named-spec : {M : Type 1} → statement M
-is-named-spec = tie.close (tie.spec name-in-requires is-text-requires returns)
+is-named-spec = tie.close (tie.spec (λ c κs. search needs) (λ c κs. search needs) returns)

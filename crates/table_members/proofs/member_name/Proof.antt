@@ -6,24 +6,15 @@ use borrow.Author.Needs.{needs}
 use Rattle.table_members.proofs.member_name.Statement.{statement}
 use Rattle.table_members.proofs.member_name.Tie as tie
 
-name-in-requires : tie.Need-name-in-requires
-name-in-requires c κs = search needs
-
 returns : tie.Need-returns
 returns c =
     let a = c .before .before .before .args in
     rw (field-is (a .t .now) (a .tag) (a .start) (a .end) (c .before .if1 .taken)) (c .name-in .ensures)
 
-name-in-requires-2 : tie.Need-name-in-requires-2
-name-in-requires-2 c κs = search needs
-
 returns-2 : tie.Need-returns-2
 returns-2 c =
     let a = c .before .before .before .before .args in
     rw (input-is (a .t .now) (a .tag) (a .start) (a .end) (c .before .if2 .taken)) (c .name-in2 .ensures)
-
-sub-t6 : tie.Need-sub-t6
-sub-t6 c = search needs
 
 returns-3 : tie.Need-returns-3
 returns-3 c =
@@ -32,4 +23,4 @@ returns-3 c =
 
 pub member-name-spec : {M : Type 1} → statement M
 member-name-spec =
-    tie.close (tie.spec name-in-requires returns name-in-requires-2 returns-2 sub-t6 returns-3)
+    tie.close (tie.spec (λ c κs. search needs) returns (λ c κs. search needs) returns-2 (λ c. search needs) returns-3)

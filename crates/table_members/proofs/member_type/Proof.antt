@@ -4,14 +4,8 @@ use borrow.Author.Needs.{needs}
 use Rattle.table_members.proofs.member_type.Statement.{statement}
 use Rattle.table_members.proofs.member_type.Tie as tie
 
-type-in-requires : tie.Need-type-in-requires
-type-in-requires c κs = search needs
-
 returns : tie.Need-returns
 returns c = let a = c .before .before .before .args in rw (field-is (a .t .now) (a .tag) (a .start) (a .end) (c .before .if1 .taken)) (c .type-in .ensures)
-
-type-in-requires-2 : tie.Need-type-in-requires-2
-type-in-requires-2 c κs = search needs
 
 returns-2 : tie.Need-returns-2
 returns-2 c = let a = c .before .before .before .before .args in rw (input-is (a .t .now) (a .tag) (a .start) (a .end) (c .before .if2 .taken)) (c .type-in2 .ensures)
@@ -21,4 +15,4 @@ returns-3 c = let a = c .before .before .before .args in type-of-name (a .t .now
 
 pub member-type-spec : {M : Type 1} → statement M
 member-type-spec =
-    tie.close (tie.spec type-in-requires returns type-in-requires-2 returns-2 returns-3)
+    tie.close (tie.spec (λ c κs. search needs) returns (λ c κs. search needs) returns-2 returns-3)

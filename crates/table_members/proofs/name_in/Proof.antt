@@ -13,15 +13,6 @@ found : (c : tie.After-f)
 found c =
     subst (NextTag (c .before .before .before .before .args .t .now) (c .before .before .before .before .args .start) (c .before .before .before .before .args .end) tagName) (c .f .given .1) (c .before .before .next-tag .ensures)
 
-next-tag-requires : tie.Need-next-tag-requires
-next-tag-requires c κs = search needs
-
-enum-known-f : tie.Need-enum-known-f
-enum-known-f c = search needs
-
-enum-told : tie.Need-enum-told
-enum-told c = search needs
-
 returns : tie.Need-returns
 returns c =
     let a = c .before .before .before .before .args in
@@ -37,4 +28,4 @@ returns-2 c =
 
 pub name-in-spec : {M : Type 1} → statement M
 name-in-spec =
-    tie.close (tie.spec next-tag-requires enum-known-f enum-told returns sub-t7 returns-2)
+    tie.close (tie.spec (λ c κs. search needs) (λ c. search needs) (λ c. search needs) returns sub-t7 returns-2)

@@ -1,4 +1,5 @@
 -- Field by field: the members from here on are all.
+use Rattle.table_fields.proofs.BoundsLaws.{later}
 use borrow.Author.Needs.{needs}
 use mathlib.Core.Path.{sym, _∙_}
 use Prim.Native.Nat.{_-_}
@@ -18,21 +19,12 @@ loop-holds : tie.Need-loop-holds Inv-loop μ-loop
 loop-holds c = walked-start _ _ _ (c .before .pre .order)
 
 read-field-requires : tie.Need-read-field-requires Inv-loop μ-loop
-read-field-requires c κs = record { order = c .before .loop .inv .within; within = c .before .before .before .pre .within; most = c .before .before .before .pre .most }
-
-enum-known-k : tie.Need-enum-known-k Inv-loop μ-loop
-enum-known-k c = search needs
-
-enum-told : tie.Need-enum-told Inv-loop μ-loop
-enum-told c = search needs
+read-field-requires c κs = later (c .before .before .before .pre) (c .before .loop .inv .within)
 
 returns : tie.Need-returns Inv-loop μ-loop
 returns c =
     let a = c .before .before .before .before .before .before .args in
     members-torn (a .t .now) (a .at) (a .end) (c .before .before .before .before .loop .i) (c .before .before .before .before .before .before .pre .within) (c .before .before .before .before .loop .inv) (c .before .before .before .loop-test .taken) (sym (c .before .before .read-field .ensures) ∙ c .enum-told .given .1)
-
-is-member-requires : tie.Need-is-member-requires Inv-loop μ-loop
-is-member-requires c κs = search needs
 
 returns-2 : tie.Need-returns-2 Inv-loop μ-loop
 returns-2 c =
@@ -62,10 +54,10 @@ next-member-spec =
     μ-loop
     loop-holds
     read-field-requires
-    enum-known-k
-    enum-told
+    (λ c. search needs)
+    (λ c. search needs)
     returns
-    is-member-requires
+    (λ c κs. search needs)
     returns-2
     loop-less
     loop-again

@@ -1,4 +1,5 @@
 -- Field by field: the first of the tag from here on is the first of all.
+use Rattle.table_fields.proofs.BoundsLaws.{later}
 use borrow.Author.Needs.{needs}
 use mathlib.Core.Path.{sym, _∙_}
 use Prim.Native.Nat.{_-_}
@@ -19,13 +20,7 @@ loop-holds : tie.Need-loop-holds Inv-loop μ-loop
 loop-holds c = walked-start _ _ _ (c .before .pre .order)
 
 read-field-requires : tie.Need-read-field-requires Inv-loop μ-loop
-read-field-requires c κs = record { order = c .before .loop .inv .within; within = c .before .before .before .pre .within; most = c .before .before .before .pre .most }
-
-enum-known-k : tie.Need-enum-known-k Inv-loop μ-loop
-enum-known-k c = search needs
-
-enum-told : tie.Need-enum-told Inv-loop μ-loop
-enum-told c = search needs
+read-field-requires c κs = later (c .before .before .before .pre) (c .before .loop .inv .within)
 
 returns : tie.Need-returns Inv-loop μ-loop
 returns c =
@@ -60,8 +55,8 @@ next-tag-spec =
     μ-loop
     loop-holds
     read-field-requires
-    enum-known-k
-    enum-told
+    (λ c. search needs)
+    (λ c. search needs)
     returns
     returns-2
     loop-less

@@ -11,18 +11,6 @@ found : (c : tie.After-from)
 found c =
     subst (RefersRead (c .before .before .before .before .before .args .t .now) (c .before .before .before .find-tag .result .start) (c .before .before .before .find-tag .result .end)) (c .from .given .1) (c .before .before .read-reference .ensures)
 
-find-tag-requires : tie.Need-find-tag-requires
-find-tag-requires c κs = search needs
-
-read-reference-requires : tie.Need-read-reference-requires
-read-reference-requires c κs = search needs
-
-enum-known-from : tie.Need-enum-known-from
-enum-known-from c = search needs
-
-enum-told : tie.Need-enum-told
-enum-told c = search needs
-
 returns : tie.Need-returns
 returns c =
     let a = c .before .before .before .before .before .args in
@@ -40,10 +28,10 @@ pub type-in-spec : {M : Type 1} → statement M
 type-in-spec =
     tie.close
     (tie.spec
-    find-tag-requires
-    read-reference-requires
-    enum-known-from
-    enum-told
+    (λ c κs. search needs)
+    (λ c κs. search needs)
+    (λ c. search needs)
+    (λ c. search needs)
     returns
     sub-t9
     returns-2)

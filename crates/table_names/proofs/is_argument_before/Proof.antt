@@ -1,4 +1,5 @@
 -- A walk that counts down over the arguments before.
+use Rattle.table_fields.proofs.BoundsLaws.{later, narrow}
 use borrow.Author.Needs.{needs}
 use mathlib.Core.Path.{subst, sym, ap, _∙_}
 use mathlib.Core.List.{List}
@@ -9,7 +10,7 @@ use Rattle.table_book.specs.Book.{part}
 use Rattle.table_members.specs.Members.{NextArgument, argumentsIn}
 use Rattle.table_members.specs.declared.FieldFound.the-variants.{Found}
 use Rattle.table_names.proofs.CountedLaws.{Counting, counting-start, counting-none, counting-end, counting-found, counting-more}
-use Rattle.paper_table.specs.Rules.{argumentNamed}
+use Rattle.paper_table.specs.Types.{argumentNamed}
 use Rattle.table_names.proofs.is_argument_before.Statement.{statement}
 use Rattle.table_names.proofs.is_argument_before.Tie as tie
 
@@ -28,13 +29,7 @@ loop-holds : tie.Need-loop-holds Inv-loop μ-loop
 loop-holds c = counting-start _ _ _ _ _ (c .before .pre .0 .order)
 
 next-argument-requires : tie.Need-next-argument-requires Inv-loop μ-loop
-next-argument-requires c κs = record { order = c .before .loop .inv .within; within = c .before .before .before .pre .0 .within; most = c .before .before .before .pre .0 .most }
-
-enum-known-start : tie.Need-enum-known-start Inv-loop μ-loop
-enum-known-start c = search needs
-
-enum-told : tie.Need-enum-told Inv-loop μ-loop
-enum-told c = search needs
+next-argument-requires c κs = later (c .before .before .before .pre .0) (c .before .loop .inv .within)
 
 returns : tie.Need-returns Inv-loop μ-loop
 returns c =
@@ -44,21 +39,12 @@ returns c =
 name-in-requires : tie.Need-name-in-requires Inv-loop μ-loop
 name-in-requires c κs =
     let f = found (c .before) in
-    record { order = f .lies .order; within = omega (arith, f .lies .within, c .before .before .before .before .before .before .before .pre .0 .within); most = c .before .before .before .before .before .before .before .pre .0 .most }
-
-is-text-requires : tie.Need-is-text-requires Inv-loop μ-loop
-is-text-requires c κs = search needs
+    narrow (c .before .before .before .before .before .before .before .pre .0) (f .lies .order) (f .lies .within)
 
 returns-2 : tie.Need-returns-2 Inv-loop μ-loop
 returns-2 c =
     let a = c .before .before .before .before .before .before .before .before .before .before .args in
     counting-found (argumentNamed (part (a .t .now) (a .at) (a .n))) (a .from) (a .end) (c .before .before .before .before .before .before .before .before .loop .i) (a .count) (c .before .before .before .before .before .before .before .before .loop .left) (argumentsIn (a .t .now) (a .from) (a .end)) (argumentsIn (a .t .now) (c .before .before .before .before .before .before .before .before .loop .i) (a .end)) (c .before .before .before .before .before .before .before .before .loop .inv) _ _ _ _ (found (c .before .before .before .before)) (c .before .before .before .before .before .before .before .loop-test .taken) (sym (ap (λ (x : List ℕ). same x (part (a .t .now) (a .at) (a .n))) (c .before .before .name-in .ensures .is)) ∙ sym (c .before .is-text .ensures) ∙ c .if1 .taken)
-
-sub-left : tie.Need-sub-left Inv-loop μ-loop
-sub-left c = search needs
-
-loop-less : tie.Need-loop-less Inv-loop μ-loop
-loop-less c = search needs
 
 loop-again : tie.Need-loop-again Inv-loop μ-loop
 loop-again c =
@@ -78,13 +64,13 @@ is-argument-before-spec =
     μ-loop
     loop-holds
     next-argument-requires
-    enum-known-start
-    enum-told
+    (λ c. search needs)
+    (λ c. search needs)
     returns
     name-in-requires
-    is-text-requires
+    (λ c κs. search needs)
     returns-2
-    sub-left
-    loop-less
+    (λ c. search needs)
+    (λ c. search needs)
     loop-again
     returns-3)

@@ -1,4 +1,5 @@
 -- A walk that counts down over the names before.
+use Rattle.table_fields.proofs.BoundsLaws.{later}
 use borrow.Author.Needs.{needs}
 use mathlib.Core.Path.{subst, sym, _∙_}
 use native.Mathlib.Omega.{arith}
@@ -25,13 +26,7 @@ loop-holds : tie.Need-loop-holds Inv-loop μ-loop
 loop-holds c = counting-start _ _ _ _ _ (c .before .pre .0 .order)
 
 next-implemented-requires : tie.Need-next-implemented-requires Inv-loop μ-loop
-next-implemented-requires c κs = record { order = c .before .loop .inv .within; within = c .before .before .before .pre .0 .within; most = c .before .before .before .pre .0 .most }
-
-enum-known-start : tie.Need-enum-known-start Inv-loop μ-loop
-enum-known-start c = search needs
-
-enum-told : tie.Need-enum-told Inv-loop μ-loop
-enum-told c = search needs
+next-implemented-requires c κs = later (c .before .before .before .pre .0) (c .before .loop .inv .within)
 
 returns : tie.Need-returns Inv-loop μ-loop
 returns c =
@@ -51,12 +46,6 @@ returns-2 c =
     let a = c .before .before .before .before .before .before .before .before .before .args in
     counting-found (same (part (a .t .now) (a .at) (a .n))) (a .from) (a .end) (c .before .before .before .before .before .before .before .loop .i) (a .count) (c .before .before .before .before .before .before .before .loop .left) (implementedIn (a .t .now) (a .from) (a .end)) (implementedIn (a .t .now) (c .before .before .before .before .before .before .before .loop .i) (a .end)) (c .before .before .before .before .before .before .before .loop .inv) _ _ _ _ (found (c .before .before .before)) (c .before .before .before .before .before .before .loop-test .taken) (sym (c .before .is-text .ensures) ∙ c .if1 .taken)
 
-sub-left : tie.Need-sub-left Inv-loop μ-loop
-sub-left c = search needs
-
-loop-less : tie.Need-loop-less Inv-loop μ-loop
-loop-less c = search needs
-
 loop-again : tie.Need-loop-again Inv-loop μ-loop
 loop-again c =
     let a = c .before .before .before .before .before .before .before .before .before .args in
@@ -75,13 +64,13 @@ is-implemented-before-spec =
     μ-loop
     loop-holds
     next-implemented-requires
-    enum-known-start
-    enum-told
+    (λ c. search needs)
+    (λ c. search needs)
     returns
     sub-is-text
     is-text-requires
     returns-2
-    sub-left
-    loop-less
+    (λ c. search needs)
+    (λ c. search needs)
     loop-again
     returns-3)

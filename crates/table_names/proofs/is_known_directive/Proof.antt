@@ -9,21 +9,9 @@ use Rattle.table_names.proofs.NameLaws.{word-here, word-later, word-las
 use Rattle.table_names.proofs.is_known_directive.Statement.{statement}
 use Rattle.table_names.proofs.is_known_directive.Tie as tie
 
-slice-aggregate-is-text : tie.Need-slice-aggregate-is-text
-slice-aggregate-is-text c = search needs
-
-is-text-requires : tie.Need-is-text-requires
-is-text-requires c κs = search needs
-
 returns : tie.Need-returns
 unfolding builtInDirectives
 returns c = word-here (same (part (c .before .before .before .before .args .t .now) (c .before .before .before .before .args .at) (c .before .before .before .before .args .n))) _ _ (sym (c .before .is-text .ensures) ∙ c .if1 .taken)
-
-slice-aggregate-is-text-2 : tie.Need-slice-aggregate-is-text-2
-slice-aggregate-is-text-2 c = search needs
-
-is-text-requires-2 : tie.Need-is-text-requires-2
-is-text-requires-2 c κs = search needs
 
 returns-2 : tie.Need-returns-2
 unfolding builtInDirectives
@@ -33,9 +21,9 @@ pub is-known-directive-spec : {M : Type 1} → statement M
 is-known-directive-spec =
     tie.close
     (tie.spec
-    slice-aggregate-is-text
-    is-text-requires
+    (λ c. search needs)
+    (λ c κs. search needs)
     returns
-    slice-aggregate-is-text-2
-    is-text-requires-2
+    (λ c. search needs)
+    (λ c κs. search needs)
     returns-2)

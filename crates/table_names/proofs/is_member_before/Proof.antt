@@ -1,4 +1,5 @@
 -- A walk that counts down over the members before.
+use Rattle.table_fields.proofs.BoundsLaws.{later, narrow}
 use borrow.Author.Needs.{needs}
 use mathlib.Core.Path.{subst, sym, ap, _∙_}
 use mathlib.Core.List.{List}
@@ -9,7 +10,7 @@ use Rattle.table_book.specs.Book.{part}
 use Rattle.table_members.specs.Members.{NextMember, membersIn}
 use Rattle.table_members.specs.declared.FieldFound.the-variants.{Found}
 use Rattle.table_names.proofs.CountedLaws.{Counting, counting-start, counting-none, counting-end, counting-found, counting-more}
-use Rattle.paper_table.specs.Rules.{memberNamed}
+use Rattle.paper_table.specs.Types.{memberNamed}
 use Rattle.table_names.proofs.is_member_before.Statement.{statement}
 use Rattle.table_names.proofs.is_member_before.Tie as tie
 
@@ -28,13 +29,7 @@ loop-holds : tie.Need-loop-holds Inv-loop μ-loop
 loop-holds c = counting-start _ _ _ _ _ (c .before .pre .0 .order)
 
 next-member-requires : tie.Need-next-member-requires Inv-loop μ-loop
-next-member-requires c κs = record { order = c .before .loop .inv .within; within = c .before .before .before .pre .0 .within; most = c .before .before .before .pre .0 .most }
-
-enum-known-tag : tie.Need-enum-known-tag Inv-loop μ-loop
-enum-known-tag c = search needs
-
-enum-told : tie.Need-enum-told Inv-loop μ-loop
-enum-told c = search needs
+next-member-requires c κs = later (c .before .before .before .pre .0) (c .before .loop .inv .within)
 
 returns : tie.Need-returns Inv-loop μ-loop
 returns c =
@@ -44,21 +39,12 @@ returns c =
 member-name-requires : tie.Need-member-name-requires Inv-loop μ-loop
 member-name-requires c κs =
     let f = found (c .before) in
-    record { order = f .lies .order; within = omega (arith, f .lies .within, c .before .before .before .before .before .before .before .pre .0 .within); most = c .before .before .before .before .before .before .before .pre .0 .most }
-
-is-text-requires : tie.Need-is-text-requires Inv-loop μ-loop
-is-text-requires c κs = search needs
+    narrow (c .before .before .before .before .before .before .before .pre .0) (f .lies .order) (f .lies .within)
 
 returns-2 : tie.Need-returns-2 Inv-loop μ-loop
 returns-2 c =
     let a = c .before .before .before .before .before .before .before .before .before .before .args in
     counting-found (memberNamed (part (a .t .now) (a .at) (a .n))) (a .from) (a .end) (c .before .before .before .before .before .before .before .before .loop .i) (a .count) (c .before .before .before .before .before .before .before .before .loop .left) (membersIn (a .t .now) (a .from) (a .end)) (membersIn (a .t .now) (c .before .before .before .before .before .before .before .before .loop .i) (a .end)) (c .before .before .before .before .before .before .before .before .loop .inv) _ _ _ _ (found (c .before .before .before .before)) (c .before .before .before .before .before .before .before .loop-test .taken) (sym (ap (λ (x : List ℕ). same x (part (a .t .now) (a .at) (a .n))) (c .before .before .member-name .ensures .is)) ∙ sym (c .before .is-text .ensures) ∙ c .if1 .taken)
-
-sub-left : tie.Need-sub-left Inv-loop μ-loop
-sub-left c = search needs
-
-loop-less : tie.Need-loop-less Inv-loop μ-loop
-loop-less c = search needs
 
 loop-again : tie.Need-loop-again Inv-loop μ-loop
 loop-again c =
@@ -78,13 +64,13 @@ is-member-before-spec =
     μ-loop
     loop-holds
     next-member-requires
-    enum-known-tag
-    enum-told
+    (λ c. search needs)
+    (λ c. search needs)
     returns
     member-name-requires
-    is-text-requires
+    (λ c κs. search needs)
     returns-2
-    sub-left
-    loop-less
+    (λ c. search needs)
+    (λ c. search needs)
     loop-again
     returns-3)

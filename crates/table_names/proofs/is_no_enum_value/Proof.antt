@@ -3,37 +3,19 @@ use borrow.Author.Needs.{needs}
 use mathlib.Core.Path.{sym, _∙_}
 use Rattle.paper.specs.Tokens.{same}
 use Rattle.paper_table.specs.Lists.{bytes}
-use Rattle.paper_table.specs.Rules.{noEnumValues}
+use Rattle.paper_table.specs.Rule6EnumValue.{noEnumValues}
 use Rattle.table_book.specs.Book.{part}
 use Rattle.table_names.proofs.NameLaws.{word-here, word-later, word-last}
 use Rattle.table_names.proofs.is_no_enum_value.Statement.{statement}
 use Rattle.table_names.proofs.is_no_enum_value.Tie as tie
 
-slice-aggregate-is-text : tie.Need-slice-aggregate-is-text
-slice-aggregate-is-text c = search needs
-
-is-text-requires : tie.Need-is-text-requires
-is-text-requires c κs = search needs
-
 returns : tie.Need-returns
 unfolding noEnumValues
 returns c = word-here (same (part (c .before .before .before .before .args .t .now) (c .before .before .before .before .args .at) (c .before .before .before .before .args .n))) _ _ (sym (c .before .is-text .ensures) ∙ c .if1 .taken)
 
-slice-aggregate-is-text-2 : tie.Need-slice-aggregate-is-text-2
-slice-aggregate-is-text-2 c = search needs
-
-is-text-requires-2 : tie.Need-is-text-requires-2
-is-text-requires-2 c κs = search needs
-
 returns-2 : tie.Need-returns-2
 unfolding noEnumValues
 returns-2 c = word-later (same (part (c .before .before .before .before .before .before .before .args .t .now) (c .before .before .before .before .before .before .before .args .at) (c .before .before .before .before .before .before .before .args .n))) _ _ (sym (c .before .before .before .before .is-text .ensures) ∙ c .before .before .before .if1 .left) (word-here (same (part (c .before .before .before .before .before .before .before .args .t .now) (c .before .before .before .before .before .before .before .args .at) (c .before .before .before .before .before .before .before .args .n))) _ _ (sym (c .before .is-text2 .ensures) ∙ c .if2 .taken))
-
-slice-aggregate-is-text-3 : tie.Need-slice-aggregate-is-text-3
-slice-aggregate-is-text-3 c = search needs
-
-is-text-requires-3 : tie.Need-is-text-requires-3
-is-text-requires-3 c κs = search needs
 
 returns-3 : tie.Need-returns-3
 unfolding noEnumValues
@@ -43,12 +25,12 @@ pub is-no-enum-value-spec : {M : Type 1} → statement M
 is-no-enum-value-spec =
     tie.close
     (tie.spec
-    slice-aggregate-is-text
-    is-text-requires
+    (λ c. search needs)
+    (λ c κs. search needs)
     returns
-    slice-aggregate-is-text-2
-    is-text-requires-2
+    (λ c. search needs)
+    (λ c κs. search needs)
     returns-2
-    slice-aggregate-is-text-3
-    is-text-requires-3
+    (λ c. search needs)
+    (λ c κs. search needs)
     returns-3)

@@ -7,17 +7,8 @@ use Rattle.table_names.proofs.is_reserved.Tie as tie
 returns : tie.Need-returns
 returns c = short-reserved (c .before .args .t .now) (c .before .args .at) (c .before .args .n) (c .if1 .taken)
 
-shared-slice-read-if2 : tie.Need-shared-slice-read-if2
-shared-slice-read-if2 c = search needs
-
 returns-2 : tie.Need-returns-2
 returns-2 c = reserved-other (c .before .before .before .args .t .now) (c .before .before .before .args .at) (c .before .before .before .args .n) (c .before .before .before .pre) (c .before .before .if1 .left) (c .if2 .taken)
-
-add-result : tie.Need-add-result
-add-result c = search needs
-
-shared-slice-read-result : tie.Need-shared-slice-read-result
-shared-slice-read-result c = search needs
 
 returns-3 : tie.Need-returns-3
 returns-3 c = reserved-second (c .before .before .before .before .args .t .now) (c .before .before .before .before .args .at) (c .before .before .before .before .args .n) (c .before .before .before .before .pre) (c .before .before .before .if1 .left) (c .before .if2 .left)
@@ -27,8 +18,8 @@ is-reserved-spec =
     tie.close
     (tie.spec
     returns
-    shared-slice-read-if2
+    (λ c. search needs)
     returns-2
-    add-result
-    shared-slice-read-result
+    (λ c. search needs)
+    (λ c. search needs)
     returns-3)

@@ -23,20 +23,8 @@ loop-holds c = possible-none _ _ (c .before .before .before .before .pre .0) _ (
 mark-definition-requires : tie.Need-mark-definition-requires Inv-loop μ-loop
 mark-definition-requires c κs = (c .before .before .before .before .before .before .before .pre .0, c .before .before .loop .inv, omega (arith, c .before .loop-test .taken, c .before .before .before .count-of .ensures))
 
-add-k : tie.Need-add-k Inv-loop μ-loop
-add-k c = search needs
-
-loop-less : tie.Need-loop-less Inv-loop μ-loop
-loop-less c = search needs
-
-loop-again : tie.Need-loop-again Inv-loop μ-loop
-loop-again c = search needs
-
 same-length : tie.Need-same-length Inv-loop μ-loop
 same-length c = c .before .loop .inv .size ∙ sym (c .before .before .before .before .before .before .pre .1 .size)
-
-returns : tie.Need-returns Inv-loop μ-loop
-returns c = search needs
 
 pub fill-spec : {M : Type 1} → statement M
 fill-spec =
@@ -47,8 +35,8 @@ fill-spec =
     count-of-requires
     loop-holds
     mark-definition-requires
-    add-k
-    loop-less
-    loop-again
+    (λ c. search needs)
+    (λ c. search needs)
+    (λ c. search needs)
     same-length
-    returns)
+    (λ c. search needs))

@@ -43,12 +43,6 @@ loop-holds c =
 next-implemented-requires : tie.Need-next-implemented-requires Inv-loop μ-loop
 next-implemented-requires c κs = record { order = c .loop .inv .1 .within; within = omega (arith, c .before .before .end-of .ensures, c .before .before .before .before .before .before .pre .0 .entered (c .before .before .before .before .before .before .args .j) (c .before .before .before .before .before .before .pre .2) .within); most = c .before .before .before .before .before .before .pre .0 .short }
 
-enum-known-start : tie.Need-enum-known-start Inv-loop μ-loop
-enum-known-start c = search needs
-
-enum-told : tie.Need-enum-told Inv-loop μ-loop
-enum-told c = search needs
-
 same-length : tie.Need-same-length Inv-loop μ-loop
 same-length c = c .before .before .before .loop .inv .0 .size ∙ sym (c .before .before .before .before .before .before .before .before .before .pre .1 .size)
 
@@ -83,8 +77,8 @@ mark-object-spec =
     start-of-requires
     loop-holds
     next-implemented-requires
-    enum-known-start
-    enum-told
+    (λ c. search needs)
+    (λ c. search needs)
     same-length
     returns
     sub-mark-interface

@@ -5,8 +5,7 @@ use mathlib.Core.List.{List}
 use Prim.Native.Nat.{ℕ, _-_}
 use native.Mathlib.Omega.{arith}
 use Rattle.paper.specs.Tokens.{same}
-use Rattle.paper_table.specs.Types.{Member}
-use Rattle.paper_table.specs.Rules.{memberNamed}
+use Rattle.paper_table.specs.Types.{Member, memberNamed}
 use Rattle.paper_table.proofs.TextLaws.{same-refl}
 use Rattle.table_book.specs.Book.{part}
 use Rattle.table_members.specs.Members.{membersIn, NextMember}
@@ -45,12 +44,6 @@ loop-holds c =
 next-member-requires : tie.Need-next-member-requires Inv-loop μ-loop
 next-member-requires c κs = record { order = c .loop .inv .1 .within; within = omega (arith, c .before .before .end-of .ensures, c .before .before .before .before .before .before .pre .0 .entered (c .before .before .before .before .before .before .args .i) (c .before .before .before .before .before .before .pre .2) .within); most = c .before .before .before .before .before .before .pre .0 .short }
 
-enum-known-tag : tie.Need-enum-known-tag Inv-loop μ-loop
-enum-known-tag c = search needs
-
-enum-told : tie.Need-enum-told Inv-loop μ-loop
-enum-told c = search needs
-
 same-length : tie.Need-same-length Inv-loop μ-loop
 same-length c = c .before .before .before .loop .inv .0 .size ∙ sym (c .before .before .before .before .before .before .before .before .before .pre .1 .size)
 
@@ -87,8 +80,8 @@ mark-union-spec =
     start-of-requires
     loop-holds
     next-member-requires
-    enum-known-tag
-    enum-told
+    (λ c. search needs)
+    (λ c. search needs)
     same-length
     returns
     member-name-requires

@@ -18,9 +18,6 @@ loop-holds c = wrapping-start (c .before .args .t .now) (c .before .args .start)
 shared-slice-read-wraps : tie.Need-shared-slice-read-wraps Inv-loop μ-loop
 shared-slice-read-wraps c = omega (arith, c .before .loop-test .taken, c .before .before .before .before .pre .within)
 
-wraps-requires : tie.Need-wraps-requires Inv-loop μ-loop
-wraps-requires c κs = search needs
-
 cast-t10 : tie.Need-cast-t10 Inv-loop μ-loop
 cast-t10 c = omega (arith, c .before .before .before .before .loop .inv .order, c .before .before .before .before .before .before .pre .within, c .before .before .before .before .before .before .pre .most)
 
@@ -47,7 +44,7 @@ wrapper-over-spec =
     μ-loop
     loop-holds
     shared-slice-read-wraps
-    wraps-requires
+    (λ c κs. search needs)
     cast-t10
     returns
     add-i

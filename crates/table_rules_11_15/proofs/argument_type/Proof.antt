@@ -2,15 +2,12 @@ use borrow.Author.Needs.{needs}
 use mathlib.Core.Path.{sym, ap, _∙_}
 use mathlib.Core.List.{List, head?}
 use Rattle.paper_table.specs.Types.{tableOf}
-use Rattle.paper_table.specs.Rules.{Place}
+use Rattle.paper_table.specs.Places.{Place}
 use Rattle.table_places.specs.Placed.{placed}
 use Rattle.table_types.specs.Booked.{definitionOn}
 use Rattle.table_rules_11_15.proofs.AskedLaws.{asks-argument-type}
 use Rattle.table_rules_11_15.proofs.argument_type.Statement.{statement}
 use Rattle.table_rules_11_15.proofs.argument_type.Tie as tie
-
-broken-requires : tie.Need-broken-requires
-broken-requires c κs = search needs
 
 returns : tie.Need-returns
 returns c =
@@ -18,4 +15,4 @@ returns c =
     c .broken .ensures ∙ ap (λ (qs : List Place). placed (head? qs)) (sym (asks-argument-type (tableOf (a .t .now)) (a .i) (definitionOn (a .t .now) (a .i))))
 
 pub argument-type-spec : {M : Type 1} → statement M
-argument-type-spec = tie.close (tie.spec broken-requires returns)
+argument-type-spec = tie.close (tie.spec (λ c κs. search needs) returns)

@@ -2,10 +2,10 @@ use native.Mathlib.Omega.{arith}
 use mathlib.Core.Path.{_≡_, sym, ap, _∙_}
 use mathlib.Core.List.{List, head?}
 use Rattle.paper_table.specs.Types.{tableOf}
-use Rattle.paper_table.specs.Rules.{Place, promisedBy}
+use Rattle.paper_table.specs.Places.{Place}
+use Rattle.paper_table.specs.Promises.{promisedBy, promised}
 use Rattle.table_places.specs.Placed.{placed}
 use Rattle.paper_table.specs.Lists.{each}
-use Rattle.paper_table.specs.Rules.{promised}
 use Rattle.table_members.specs.Members.{membersIn, implementedIn}
 use Rattle.table_types.specs.Booked.{definitionOn}
 use Rattle.table_rules_11_15.specs.Asked.{askedOf}

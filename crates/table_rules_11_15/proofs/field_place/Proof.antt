@@ -1,11 +1,13 @@
 use mathlib.Core.Bool.{true}
+use Rattle.table_fields.proofs.BoundsLaws.{narrow}
 use borrow.Author.Needs.{needs}
 use mathlib.Core.Path.{_≡_, sym, ap, subst, _∙_}
 use native.Mathlib.Omega.{arith}
 use mathlib.Core.Option.{none}
 use mathlib.Core.List.{List, head?}
 use Rattle.paper_table.specs.Lists.{find}
-use Rattle.paper_table.specs.Rules.{Place, memberNamed}
+use Rattle.paper_table.specs.Types.{memberNamed}
+use Rattle.paper_table.specs.Places.{Place}
 use Rattle.paper_table.specs.Types.{Member, tableOf}
 use mathlib.Core.Option.{Option}
 use Rattle.table_fields.specs.Fields.{Bounds}
@@ -36,21 +38,6 @@ not-found c =
     subst (FindMember (a .t .now) (a .from) (a .stop) ((memberFrom (a .t .now) (a .tag) (a .start) (a .end)) .name)) (c .enum-told .given .1) (rw (← c .before .before .before .member-name .ensures .is) (c .before .before .find-listed .ensures)) in
     f
 
-member-name-requires : tie.Need-member-name-requires
-member-name-requires c κs = search needs
-
-find-listed-requires : tie.Need-find-listed-requires
-find-listed-requires c κs = search needs
-
-enum-known-own-tag : tie.Need-enum-known-own-tag
-enum-known-own-tag c = search needs
-
-enum-told : tie.Need-enum-told
-enum-told c = search needs
-
-lacking-requires : tie.Need-lacking-requires
-lacking-requires c κs = search needs
-
 returns : tie.Need-returns
 returns c =
     let a = c .before .before .before .before .before .before .before .before .args in
@@ -64,7 +51,7 @@ own-pre : (c : tie.After-own-tag)
 own-pre c =
     let p = c .before .before .before .before .before .before .before .pre in
     let f = found c in
-    (record { order = f .lies .order; within = omega (arith, f .lies .within, p .2 .within); most = p .2 .most }, all-found slimMember _ _ _ (f .is) (p .4))
+    (narrow (p .2) (f .lies .order) (f .lies .within), all-found slimMember _ _ _ (f .is) (p .4))
 
 own-place-requires : tie.Need-own-place-requires
 own-place-requires c κs =
@@ -83,11 +70,11 @@ pub field-place-spec : {M : Type 1} → statement M
 field-place-spec =
     tie.close
     (tie.spec
-    member-name-requires
-    find-listed-requires
-    enum-known-own-tag
-    enum-told
-    lacking-requires
+    (λ c κs. search needs)
+    (λ c κs. search needs)
+    (λ c. search needs)
+    (λ c. search needs)
+    (λ c κs. search needs)
     returns
     own-place-requires
     returns-2)

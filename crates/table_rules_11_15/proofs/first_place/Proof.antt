@@ -1,11 +1,12 @@
 -- Name by name, up to the first that shows something.
+use Rattle.table_fields.proofs.BoundsLaws.{later, narrow}
 use borrow.Author.Needs.{needs}
 use mathlib.Core.Path.{sym, subst, _∙_}
 use mathlib.Core.Bool.{true}
 use Prim.Native.Nat.{_-_}
 use native.Mathlib.Omega.{arith}
 use Rattle.paper_table.specs.Types.{tableOf}
-use Rattle.paper_table.specs.Rules.{promisedBy}
+use Rattle.paper_table.specs.Promises.{promisedBy}
 use Rattle.table_members.specs.Members.{membersIn, implementedIn, NextImplemented}
 use Rattle.table_members.specs.declared.FieldFound.the-variants.{Found}
 use Rattle.table_types.proofs.SlimLaws.{all-any}
@@ -29,13 +30,7 @@ loop-holds : tie.Need-loop-holds Inv-loop μ-loop
 loop-holds c = walking-start _ _ _ _ _ (c .before .before .before .pre .2 .order) (all-any (implementedIn (c .before .before .before .args .t .now) (c .before .before .before .args .from) (c .before .before .before .args .stop)))
 
 next-implemented-requires : tie.Need-next-implemented-requires Inv-loop μ-loop
-next-implemented-requires c κs = record { order = c .loop .inv .within; within = c .before .before .before .before .pre .2 .within; most = c .before .before .before .before .pre .2 .most }
-
-enum-known-start : tie.Need-enum-known-start Inv-loop μ-loop
-enum-known-start c = search needs
-
-enum-told : tie.Need-enum-told Inv-loop μ-loop
-enum-told c = search needs
+next-implemented-requires c κs = later (c .before .before .before .before .pre .2) (c .loop .inv .within)
 
 returns : tie.Need-returns Inv-loop μ-loop
 returns c = walking-none (c .before .before .before .loop .inv) (subst (NextImplemented (c .before .before .before .before .before .before .before .args .t .now) (c .before .before .before .loop .i) (c .before .before .before .before .before .before .before .args .stop)) (c .enum-told .given .1) (c .before .before .next-implemented .ensures))
@@ -44,13 +39,7 @@ name-place-requires : tie.Need-name-place-requires Inv-loop μ-loop
 name-place-requires c κs =
     let p = c .before .before .before .before .before .before .before .before .pre in
     let f = found ((c .before)) in
-    (p .0, p .1, record { order = f .lies .order; within = omega (arith, f .lies .within, p .2 .within); most = p .2 .most }, p .2, p .3, p .4)
-
-enum-told-2 : tie.Need-enum-told-2 Inv-loop μ-loop
-enum-told-2 c = search needs
-
-enum-told-3 : tie.Need-enum-told-3 Inv-loop μ-loop
-enum-told-3 c = search needs
+    (p .0, p .1, narrow (p .2) (f .lies .order) (f .lies .within), p .2, p .3, p .4)
 
 returns-2 : tie.Need-returns-2 Inv-loop μ-loop
 returns-2 c =
@@ -78,12 +67,12 @@ first-place-spec =
     μ-loop
     loop-holds
     next-implemented-requires
-    enum-known-start
-    enum-told
+    (λ c. search needs)
+    (λ c. search needs)
     returns
     name-place-requires
-    enum-told-2
-    enum-told-3
+    (λ c. search needs)
+    (λ c. search needs)
     returns-2
     add-m
     loop-less

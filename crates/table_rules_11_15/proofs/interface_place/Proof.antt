@@ -1,4 +1,5 @@
 -- Field by field, up to the first that shows something.
+use Rattle.table_fields.proofs.BoundsLaws.{later, narrow}
 use borrow.Author.Needs.{needs}
 use mathlib.Core.Path.{sym, subst, _∙_}
 use Prim.Native.Nat.{_-_}
@@ -27,13 +28,7 @@ loop-holds : tie.Need-loop-holds Inv-loop μ-loop
 loop-holds c = walking-start _ _ _ _ _ (c .before .before .before .pre .1 .order) (c .before .before .before .pre .3)
 
 next-member-requires : tie.Need-next-member-requires Inv-loop μ-loop
-next-member-requires c κs = record { order = c .loop .inv .within; within = c .before .before .before .before .pre .1 .within; most = c .before .before .before .before .pre .1 .most }
-
-enum-known-tag : tie.Need-enum-known-tag Inv-loop μ-loop
-enum-known-tag c = search needs
-
-enum-told : tie.Need-enum-told Inv-loop μ-loop
-enum-told c = search needs
+next-member-requires c κs = later (c .before .before .before .before .pre .1) (c .loop .inv .within)
 
 returns : tie.Need-returns Inv-loop μ-loop
 returns c = walking-none (c .before .before .before .loop .inv) (subst (NextMember (c .before .before .before .before .before .before .before .args .t .now) (c .before .before .before .loop .i) (c .before .before .before .before .before .before .before .args .end)) (c .enum-told .given .1) (c .before .before .next-member .ensures))
@@ -42,13 +37,7 @@ field-place-requires : tie.Need-field-place-requires Inv-loop μ-loop
 field-place-requires c κs =
     let p = c .before .before .before .before .before .before .before .before .pre in
     let f = found ((c .before)) in
-    (p .0, record { order = f .lies .order; within = omega (arith, f .lies .within, p .1 .within); most = p .1 .most }, p .2, walking-pass (c .before .before .before .before .loop .inv) f, p .4, p .5)
-
-enum-told-2 : tie.Need-enum-told-2 Inv-loop μ-loop
-enum-told-2 c = search needs
-
-enum-told-3 : tie.Need-enum-told-3 Inv-loop μ-loop
-enum-told-3 c = search needs
+    (p .0, narrow (p .1) (f .lies .order) (f .lies .within), p .2, walking-pass (c .before .before .before .before .loop .inv) f, p .4, p .5)
 
 returns-2 : tie.Need-returns-2 Inv-loop μ-loop
 returns-2 c =
@@ -76,12 +65,12 @@ interface-place-spec =
     μ-loop
     loop-holds
     next-member-requires
-    enum-known-tag
-    enum-told
+    (λ c. search needs)
+    (λ c. search needs)
     returns
     field-place-requires
-    enum-told-2
-    enum-told-3
+    (λ c. search needs)
+    (λ c. search needs)
     returns-2
     add-p
     loop-less

@@ -2,7 +2,8 @@ use native.Mathlib.Omega.{arith}
 use mathlib.Core.Path.{_≡_, sym, ap, _∙_}
 use mathlib.Core.List.{List, head?}
 use Rattle.paper_table.specs.Types.{tableOf}
-use Rattle.paper_table.specs.Rules.{Place, promisedBy}
+use Rattle.paper_table.specs.Places.{Place}
+use Rattle.paper_table.specs.Promises.{promisedBy}
 use Rattle.table_places.specs.Placed.{placed}
 use Prim.Native.Nat.{_-_, _<_}
 use Rattle.paper_table.specs.Lists.{each}

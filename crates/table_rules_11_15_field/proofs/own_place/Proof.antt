@@ -11,9 +11,6 @@ returns c =
     let a = c .before .before .before .args in
     own-missing (a .rule) (tableOf (a .t .now)) (a .member) (a .part) (memberFrom (a .t .now) (a .tag) (a .start) (a .end)) (memberFrom (a .t .now) (a .own-tag) (a .from) (a .stop)) (c .if1 .taken)
 
-type-place-requires : tie.Need-type-place-requires
-type-place-requires c κs = search needs
-
 returns-2 : tie.Need-returns-2
 returns-2 c = rw (c .before .if2 .taken) (c .type-place .ensures)
 
@@ -56,7 +53,7 @@ own-place-spec =
     tie.close
     (tie.spec
     returns
-    type-place-requires
+    (λ c κs. search needs)
     returns-2
     arguments-from-requires
     arguments-from-requires-2

@@ -9,15 +9,6 @@ use borrow.Author.Needs.{needs}
 use Rattle.table_rules_11_15_field.proofs.type_place.Statement.{statement}
 use Rattle.table_rules_11_15_field.proofs.type_place.Tie as tie
 
-member-type-requires : tie.Need-member-type-requires
-member-type-requires c κs = search needs
-
-member-type-requires-2 : tie.Need-member-type-requires-2
-member-type-requires-2 c κs = search needs
-
-is-sub-type-requires : tie.Need-is-sub-type-requires
-is-sub-type-requires c κs = search needs
-
 returns : tie.Need-returns
 returns c =
     let a = c .before .before .before .before .before .before .args in
@@ -35,4 +26,4 @@ returns-2 c =
 pub type-place-spec : {M : Type 1} → statement M
 type-place-spec =
     tie.close
-    (tie.spec member-type-requires member-type-requires-2 is-sub-type-requires returns returns-2)
+    (tie.spec (λ c κs. search needs) (λ c κs. search needs) (λ c κs. search needs) returns returns-2)

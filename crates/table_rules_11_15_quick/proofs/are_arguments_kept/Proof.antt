@@ -1,4 +1,5 @@
 -- Argument by argument: those before are kept, and marked among the own field's.
+use Rattle.table_fields.proofs.BoundsLaws.{later, narrow}
 use borrow.Author.Needs.{needs}
 use mathlib.Core.Path.{subst}
 use mathlib.Core.Bool.{false≢true}
@@ -31,13 +32,7 @@ loop-holds : tie.Need-loop-holds Inv-loop μ-loop
 loop-holds c = matching-start _ _ _ _ (c .before .pre .0 .order)
 
 next-argument-requires : tie.Need-next-argument-requires Inv-loop μ-loop
-next-argument-requires c κs = record { order = c .loop .inv .holding .within; within = c .before .before .pre .0 .within; most = c .before .before .pre .0 .most }
-
-enum-known-start : tie.Need-enum-known-start Inv-loop μ-loop
-enum-known-start c = search needs
-
-enum-told : tie.Need-enum-told Inv-loop μ-loop
-enum-told c = search needs
+next-argument-requires c κs = later (c .before .before .pre .0) (c .loop .inv .holding .within)
 
 are-extras-kept-requires : tie.Need-are-extras-kept-requires Inv-loop μ-loop
 are-extras-kept-requires c κs = c .before .before .before .before .before .pre .1
@@ -51,13 +46,7 @@ returns c =
 matching-requires : tie.Need-matching-requires Inv-loop μ-loop
 matching-requires c κs =
     let f = found ((c .before)) in
-    (record { order = f .lies .order; within = omega (arith, f .lies .within, c .before .before .before .before .before .before .pre .0 .within); most = c .before .before .before .before .before .before .pre .0 .most }, c .before .before .before .before .before .before .pre .1)
-
-enum-known-k : tie.Need-enum-known-k Inv-loop μ-loop
-enum-known-k c = search needs
-
-enum-told-2 : tie.Need-enum-told-2 Inv-loop μ-loop
-enum-told-2 c = search needs
+    (narrow (c .before .before .before .before .before .before .pre .0) (f .lies .order) (f .lies .within), c .before .before .before .before .before .before .pre .1)
 
 returns-2 : tie.Need-returns-2 Inv-loop μ-loop
 returns-2 c = λ z. absurd (false≢true z)
@@ -83,13 +72,13 @@ are-arguments-kept-spec =
     μ-loop
     loop-holds
     next-argument-requires
-    enum-known-start
-    enum-told
+    (λ c. search needs)
+    (λ c. search needs)
     are-extras-kept-requires
     returns
     matching-requires
-    enum-known-k
-    enum-told-2
+    (λ c. search needs)
+    (λ c. search needs)
     returns-2
     shl-marks
     loop-less

@@ -1,4 +1,5 @@
 -- Argument by argument: if the rest is kept, all is.
+use Rattle.table_fields.proofs.BoundsLaws.{later, narrow}
 use borrow.Author.Needs.{needs}
 use mathlib.Core.Path.{subst}
 use mathlib.Core.Bool.{false≢true}
@@ -25,13 +26,7 @@ loop-holds : tie.Need-loop-holds Inv-loop μ-loop
 loop-holds c = extras-start _ _ _ _ (c .before .pre .order)
 
 next-argument-requires : tie.Need-next-argument-requires Inv-loop μ-loop
-next-argument-requires c κs = record { order = c .loop .inv .within; within = c .before .before .pre .within; most = c .before .before .pre .most }
-
-enum-known-start : tie.Need-enum-known-start Inv-loop μ-loop
-enum-known-start c = search needs
-
-enum-told : tie.Need-enum-told Inv-loop μ-loop
-enum-told c = search needs
+next-argument-requires c κs = later (c .before .before .pre) (c .loop .inv .within)
 
 returns : tie.Need-returns Inv-loop μ-loop
 returns c =
@@ -41,7 +36,7 @@ returns c =
 is-loose-requires : tie.Need-is-loose-requires Inv-loop μ-loop
 is-loose-requires c κs =
     let f = found ((c .before)) in
-    record { order = f .lies .order; within = omega (arith, f .lies .within, c .before .before .before .before .before .before .pre .within); most = c .before .before .before .before .before .before .pre .most }
+    narrow (c .before .before .before .before .before .before .pre) (f .lies .order) (f .lies .within)
 
 returns-2 : tie.Need-returns-2 Inv-loop μ-loop
 returns-2 c = λ xs m z. absurd (false≢true z)
@@ -67,8 +62,8 @@ are-extras-kept-spec =
     μ-loop
     loop-holds
     next-argument-requires
-    enum-known-start
-    enum-told
+    (λ c. search needs)
+    (λ c. search needs)
     returns
     is-loose-requires
     returns-2

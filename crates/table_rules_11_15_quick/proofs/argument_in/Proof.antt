@@ -1,11 +1,12 @@
 -- Argument by argument: what is found from here on is what is found of all, and its number grows with each.
+use Rattle.table_fields.proofs.BoundsLaws.{later, narrow}
 use borrow.Author.Needs.{needs}
 use mathlib.Core.Path.{sym, ap, subst, _∙_}
 use mathlib.Core.List.{List}
 use Prim.Native.Nat.{ℕ, _-_}
 use native.Mathlib.Omega.{arith}
 use Rattle.paper.specs.Tokens.{same}
-use Rattle.paper_table.specs.Rules.{argumentNamed}
+use Rattle.paper_table.specs.Types.{argumentNamed}
 use Rattle.table_book.specs.Book.{part}
 use Rattle.table_members.specs.Members.{argumentsIn, NextArgument}
 use Rattle.table_members.specs.declared.FieldFound.the-variants.{Found}
@@ -28,13 +29,7 @@ loop-holds : tie.Need-loop-holds Inv-loop μ-loop
 loop-holds c = passing-start _ _ _ _ (c .before .before .pre .0 .order)
 
 next-argument-requires : tie.Need-next-argument-requires Inv-loop μ-loop
-next-argument-requires c κs = record { order = c .loop .inv .within; within = c .before .before .before .pre .0 .within; most = c .before .before .before .pre .0 .most }
-
-enum-known-start : tie.Need-enum-known-start Inv-loop μ-loop
-enum-known-start c = search needs
-
-enum-told : tie.Need-enum-told Inv-loop μ-loop
-enum-told c = search needs
+next-argument-requires c κs = later (c .before .before .before .pre .0) (c .loop .inv .within)
 
 returns : tie.Need-returns Inv-loop μ-loop
 returns c = passing-none _ _ _ _ _ _ (c .before .before .before .loop .inv) (subst (NextArgument (c .before .before .before .before .before .before .args .t .now) (c .before .before .before .loop .i) (c .before .before .before .before .before .before .args .end)) (c .enum-told .given .1) (c .before .before .next-argument .ensures))
@@ -42,7 +37,7 @@ returns c = passing-none _ _ _ _ _ _ (c .before .before .before .loop .inv) (sub
 name-in-requires : tie.Need-name-in-requires Inv-loop μ-loop
 name-in-requires c κs =
     let f = found ((c .before)) in
-    record { order = f .lies .order; within = omega (arith, f .lies .within, c .before .before .before .before .before .before .before .pre .0 .within); most = c .before .before .before .before .before .before .before .pre .0 .most }
+    narrow (c .before .before .before .before .before .before .before .pre .0) (f .lies .order) (f .lies .within)
 
 is-text-requires : tie.Need-is-text-requires Inv-loop μ-loop
 is-text-requires c κs = (c .name-in .ensures .within, c .before .before .before .before .before .before .before .before .pre .1)
@@ -53,7 +48,7 @@ returns-2 c =
     let f = found ((c .before .before .before .before)) in
     record {
       first = passing-here (argumentNamed (part (a .s .now) (a .at) (a .n))) (a .end) (c .before .before .before .before .before .before .before .loop .i) (c .before .before .before .before .before .before .before .loop .a) (argumentsIn (a .t .now) (a .from) (a .end)) (argumentsIn (a .t .now) (c .before .before .before .before .before .before .before .loop .i) (a .end)) (c .before .before .before .before .before .before .before .loop .inv) _ _ _ _ f (sym (ap (λ (x : List ℕ). same x (part (a .s .now) (a .at) (a .n))) (c .before .before .name-in .ensures .is)) ∙ sym (c .before .is-text .ensures) ∙ c .if1 .taken);
-      bounds = record { order = f .lies .order; within = omega (arith, f .lies .within, c .before .before .before .before .before .before .before .before .before .before .pre .0 .within); most = c .before .before .before .before .before .before .before .before .before .before .pre .0 .most };
+      bounds = narrow (c .before .before .before .before .before .before .before .before .before .before .pre .0) (f .lies .order) (f .lies .within);
     }
 
 add-a : tie.Need-add-a Inv-loop μ-loop
@@ -77,8 +72,8 @@ argument-in-spec =
     μ-loop
     loop-holds
     next-argument-requires
-    enum-known-start
-    enum-told
+    (λ c. search needs)
+    (λ c. search needs)
     returns
     name-in-requires
     is-text-requires

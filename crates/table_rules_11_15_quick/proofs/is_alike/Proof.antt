@@ -6,12 +6,6 @@ use Rattle.table_rules_11_15_quick.proofs.KeepingLaws.{alike-types}
 use Rattle.table_rules_11_15_quick.proofs.is_alike.Statement.{statement}
 use Rattle.table_rules_11_15_quick.proofs.is_alike.Tie as tie
 
-find-tag-requires : tie.Need-find-tag-requires
-find-tag-requires c κs = search needs
-
-find-tag-requires-2 : tie.Need-find-tag-requires-2
-find-tag-requires-2 c κs = search needs
-
 sub-is-text : tie.Need-sub-is-text
 sub-is-text c = c .before .before .find-tag .ensures .order
 
@@ -33,8 +27,8 @@ pub is-alike-spec : {M : Type 1} → statement M
 is-alike-spec =
     tie.close
     (tie.spec
-    find-tag-requires
-    find-tag-requires-2
+    (λ c κs. search needs)
+    (λ c κs. search needs)
     sub-is-text
     sub-is-text-2
     is-text-requires

@@ -5,6 +5,7 @@ use mathlib.Core.Bool.{false≢true}
 use mathlib.Core.List.{List}
 use Prim.Native.Nat.{_-_}
 use native.Mathlib.Omega.{arith}
+use Rattle.paper.proofs.Bools.{not-false}
 use Rattle.paper_table.specs.Types.{Member, tableOf}
 use Rattle.table_members.specs.Members.{membersIn, implementedIn, NextImplemented}
 use Rattle.table_members.specs.declared.FieldFound.the-variants.{Found}
@@ -13,7 +14,7 @@ use Rattle.table_types.proofs.Entries.{bounds-entered, members-entered, impleme
 use Rattle.table_types.proofs.Objects.{number-room}
 use Rattle.table_types.proofs.SlimLaws.{entry-slim}
 use Rattle.table_rules_11_15_quick.specs.Keeping.{Every, NameKept}
-use Rattle.table_rules_11_15_quick.proofs.KeepingLaws.{not-false, all-kept, Holding, holding-start, holding-none, holding-on}
+use Rattle.table_rules_11_15_quick.proofs.KeepingLaws.{all-kept, Holding, holding-start, holding-none, holding-on}
 use Rattle.table_rules_11_15_quick.proofs.is_all_kept.Statement.{statement}
 use Rattle.table_rules_11_15_quick.proofs.is_all_kept.Tie as tie
 
@@ -41,12 +42,6 @@ loop-holds c =
 
 next-implemented-requires : tie.Need-next-implemented-requires Inv-loop μ-loop
 next-implemented-requires c κs = record { order = c .loop .inv .within; within = omega (arith, c .before .end-of .ensures, c .before .before .before .before .before .before .before .pre .0 .entered (c .before .before .before .before .before .before .before .args .d) (c .before .before .before .before .before .before .before .pre .3) .within); most = c .before .before .before .before .before .before .before .pre .0 .short }
-
-enum-known-start : tie.Need-enum-known-start Inv-loop μ-loop
-enum-known-start c = search needs
-
-enum-told : tie.Need-enum-told Inv-loop μ-loop
-enum-told c = search needs
 
 returns : tie.Need-returns Inv-loop μ-loop
 returns c =
@@ -89,8 +84,8 @@ is-all-kept-spec =
     end-of-requires
     loop-holds
     next-implemented-requires
-    enum-known-start
-    enum-told
+    (λ c. search needs)
+    (λ c. search needs)
     returns
     sub-is-name-kept
     is-name-kept-requires

@@ -1,4 +1,5 @@
 -- The definition's own field of the name is found, and keeps the other rules.
+use Rattle.table_fields.proofs.BoundsLaws.{narrow}
 use borrow.Author.Needs.{needs}
 use mathlib.Core.Path.{sym, ap, subst, _∙_}
 use mathlib.Core.Bool.{false≢true}
@@ -22,17 +23,8 @@ found c =
 returns : tie.Need-returns
 returns c = λ z. absurd (false≢true z)
 
-name-in-requires : tie.Need-name-in-requires
-name-in-requires c κs = search needs
-
 find-listed-requires : tie.Need-find-listed-requires
 find-listed-requires c κs = (c .before .before .before .before .before .before .pre .6, c .name-in .ensures .within)
-
-enum-known-own-tag : tie.Need-enum-known-own-tag
-enum-known-own-tag c = search needs
-
-enum-told : tie.Need-enum-told
-enum-told c = search needs
 
 returns-2 : tie.Need-returns-2
 returns-2 c = λ z. absurd (false≢true z)
@@ -45,7 +37,7 @@ is-own-kept-requires c κs =
     let a = c .before .before .before .before .before .before .before .before .before .before .before .args in
     let p = c .before .before .before .before .before .before .before .before .before .before .before .pre in
     let f = found ((c .before .before)) in
-    (p .0, p .1, p .2, record { order = f .lies .order; within = omega (arith, f .lies .within, p .3 .within); most = p .3 .most }, ap slimMember (sym (field-is (a .t .now) (a .tag) (a .start) (a .end) (c .before .before .before .before .before .before .if1 .left))) ∙ p .4, ap slimMember (sym (field-is (a .t .now) (c .before .before .own-tag .given .0 .0) (c .before .before .own-tag .given .0 .1 .0) (c .before .before .own-tag .given .0 .1 .1 .0) (c .if2 .left))) ∙ all-found slimMember _ _ _ (f .is) (p .5))
+    (p .0, p .1, p .2, narrow (p .3) (f .lies .order) (f .lies .within), ap slimMember (sym (field-is (a .t .now) (a .tag) (a .start) (a .end) (c .before .before .before .before .before .before .if1 .left))) ∙ p .4, ap slimMember (sym (field-is (a .t .now) (c .before .before .own-tag .given .0 .0) (c .before .before .own-tag .given .0 .1 .0) (c .before .before .own-tag .given .0 .1 .1 .0) (c .if2 .left))) ∙ all-found slimMember _ _ _ (f .is) (p .5))
 
 returns-4 : tie.Need-returns-4
 returns-4 c =
@@ -58,10 +50,10 @@ is-field-kept-spec =
     tie.close
     (tie.spec
     returns
-    name-in-requires
+    (λ c κs. search needs)
     find-listed-requires
-    enum-known-own-tag
-    enum-told
+    (λ c. search needs)
+    (λ c. search needs)
     returns-2
     returns-3
     is-own-kept-requires

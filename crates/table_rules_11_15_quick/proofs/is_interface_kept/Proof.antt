@@ -1,4 +1,6 @@
 -- Field by field: if the rest is kept, all is.
+use Rattle.paper.proofs.Bools.{not-false}
+use Rattle.table_fields.proofs.BoundsLaws.{later, narrow}
 use borrow.Author.Needs.{needs}
 use mathlib.Core.Path.{_≡_, sym, ap, subst, _∙_}
 use mathlib.Core.Bool.{true, false≢true}
@@ -11,7 +13,7 @@ use Rattle.table_members.specs.declared.FieldFound.the-variants.{Found}
 use Rattle.table_types.specs.Sizes.{slimMember}
 use Rattle.table_types.proofs.SlimLaws.{all-head, all-tail}
 use Rattle.table_rules_11_15_quick.specs.Keeping.{FieldKept}
-use Rattle.table_rules_11_15_quick.proofs.KeepingLaws.{not-false, Holding, holding-start, holding-none, holding-on}
+use Rattle.table_rules_11_15_quick.proofs.KeepingLaws.{Holding, holding-start, holding-none, holding-on}
 use Rattle.table_rules_11_15_quick.proofs.is_interface_kept.Statement.{statement}
 use Rattle.table_rules_11_15_quick.proofs.is_interface_kept.Tie as tie
 
@@ -30,13 +32,7 @@ loop-holds : tie.Need-loop-holds Inv-loop μ-loop
 loop-holds c = (holding-start _ _ _ _ (c .before .before .before .before .pre .2 .order), c .before .before .before .before .pre .4)
 
 next-member-requires : tie.Need-next-member-requires Inv-loop μ-loop
-next-member-requires c κs = record { order = c .loop .inv .0 .within; within = c .before .before .before .before .before .pre .2 .within; most = c .before .before .before .before .before .pre .2 .most }
-
-enum-known-tag : tie.Need-enum-known-tag Inv-loop μ-loop
-enum-known-tag c = search needs
-
-enum-told : tie.Need-enum-told Inv-loop μ-loop
-enum-told c = search needs
+next-member-requires c κs = later (c .before .before .before .before .before .pre .2) (c .loop .inv .0 .within)
 
 returns : tie.Need-returns Inv-loop μ-loop
 returns c =
@@ -47,7 +43,7 @@ is-field-kept-requires : tie.Need-is-field-kept-requires Inv-loop μ-loop
 is-field-kept-requires c κs =
     let p = c .before .before .before .before .before .before .before .before .before .pre in
     let f = found ((c .before)) in
-    (p .0, p .1, record { order = f .lies .order; within = omega (arith, f .lies .within, p .2 .within); most = p .2 .most }, p .3, all-head slimMember _ _ (ap (allOf slimMember) (sym (f .all-are)) ∙ c .before .before .before .before .loop .inv .1), p .5, p .6)
+    (p .0, p .1, narrow (p .2) (f .lies .order) (f .lies .within), p .3, all-head slimMember _ _ (ap (allOf slimMember) (sym (f .all-are)) ∙ c .before .before .before .before .loop .inv .1), p .5, p .6)
 
 returns-2 : tie.Need-returns-2 Inv-loop μ-loop
 returns-2 c = λ z. absurd (false≢true z)
@@ -70,8 +66,8 @@ is-interface-kept-spec =
     μ-loop
     loop-holds
     next-member-requires
-    enum-known-tag
-    enum-told
+    (λ c. search needs)
+    (λ c. search needs)
     returns
     is-field-kept-requires
     returns-2

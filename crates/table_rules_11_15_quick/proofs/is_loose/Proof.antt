@@ -10,17 +10,11 @@ use Rattle.table_rules_11_15_quick.proofs.is_loose.Tie as tie
 returns : tie.Need-returns
 returns c = λ z. absurd (true≢false z)
 
-shr-if2 : tie.Need-shr-if2
-shr-if2 c = search needs
-
 returns-2 : tie.Need-returns-2
 returns-2 c = λ z. inl (c .if2 .taken)
-
-type-in-requires : tie.Need-type-in-requires
-type-in-requires c κs = search needs
 
 returns-3 : tie.Need-returns-3
 returns-3 c = λ z. inr (typed-non-null (c .before .type-in .ensures) ∙ z)
 
 pub is-loose-spec : {M : Type 1} → statement M
-is-loose-spec = tie.close (tie.spec returns shr-if2 returns-2 type-in-requires returns-3)
+is-loose-spec = tie.close (tie.spec returns (λ c. search needs) returns-2 (λ c κs. search needs) returns-3)

@@ -23,9 +23,6 @@ entry c =
 number-meant-requires : tie.Need-number-meant-requires
 number-meant-requires c κs = (c .before .before .before .before .pre .0, c .before .before .before .before .pre .3)
 
-kind-in-requires : tie.Need-kind-in-requires
-kind-in-requires c κs = search needs
-
 returns : tie.Need-returns
 returns c =
     let a = c .before .before .before .before .before .before .before .args in
@@ -58,7 +55,7 @@ is-name-kept-spec =
     tie.close
     (tie.spec
     number-meant-requires
-    kind-in-requires
+    (λ c κs. search needs)
     returns
     start-of-requires
     end-of-requires

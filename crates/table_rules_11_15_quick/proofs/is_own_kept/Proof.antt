@@ -4,12 +4,6 @@ use mathlib.Core.Bool.{false≢true}
 use Rattle.table_rules_11_15_quick.proofs.is_own_kept.Statement.{statement}
 use Rattle.table_rules_11_15_quick.proofs.is_own_kept.Tie as tie
 
-is-type-kept-requires : tie.Need-is-type-kept-requires
-is-type-kept-requires c κs = search needs
-
-are-arguments-kept-requires : tie.Need-are-arguments-kept-requires
-are-arguments-kept-requires c κs = search needs
-
 returns : tie.Need-returns
 returns c =
     λ z. let p = c .are-arguments-kept .ensures z in
@@ -20,4 +14,4 @@ returns-2 c = λ z. absurd (false≢true z)
 
 pub is-own-kept-spec : {M : Type 1} → statement M
 is-own-kept-spec =
-    tie.close (tie.spec is-type-kept-requires are-arguments-kept-requires returns returns-2)
+    tie.close (tie.spec (λ c κs. search needs) (λ c κs. search needs) returns returns-2)

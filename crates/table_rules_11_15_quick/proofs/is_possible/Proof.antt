@@ -21,20 +21,8 @@ second : (c : tie.Else2)
 second c =
     omega (arith, c .if2 .left, c .before .count-of2 .ensures)
 
-number-meant-requires : tie.Need-number-meant-requires
-number-meant-requires c κs = search needs
-
-count-of-requires : tie.Need-count-of-requires
-count-of-requires c κs = search needs
-
 returns : tie.Need-returns
 returns c = λ z. absurd (false≢true z)
-
-number-meant-requires-2 : tie.Need-number-meant-requires-2
-number-meant-requires-2 c κs = search needs
-
-count-of-requires-2 : tie.Need-count-of-requires-2
-count-of-requires-2 c κs = search needs
 
 returns-2 : tie.Need-returns-2
 returns-2 c = λ z. absurd (false≢true z)
@@ -55,11 +43,11 @@ pub is-possible-spec : {M : Type 1} → statement M
 is-possible-spec =
     tie.close
     (tie.spec
-    number-meant-requires
-    count-of-requires
+    (λ c κs. search needs)
+    (λ c κs. search needs)
     returns
-    number-meant-requires-2
-    count-of-requires-2
+    (λ c κs. search needs)
+    (λ c κs. search needs)
     returns-2
     is-set-requires
     returns-3)

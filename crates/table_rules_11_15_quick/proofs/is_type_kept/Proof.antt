@@ -7,19 +7,10 @@ use Rattle.table_rules_11_15_quick.proofs.KeepingLaws.{same-type, sub-t
 use Rattle.table_rules_11_15_quick.proofs.is_type_kept.Statement.{statement}
 use Rattle.table_rules_11_15_quick.proofs.is_type_kept.Tie as tie
 
-is-alike-requires : tie.Need-is-alike-requires
-is-alike-requires c κs = search needs
-
 returns : tie.Need-returns
 returns c =
     let a = c .before .before .before .before .before .args in
     λ z. same-type (tableOf (a .t .now)) (fieldFrom (a .t .now) (a .start) (a .end)) (fieldFrom (a .t .now) (a .from) (a .stop)) (c .before .is-alike .ensures (c .if1 .taken))
-
-type-in-requires : tie.Need-type-in-requires
-type-in-requires c κs = search needs
-
-type-in-requires-2 : tie.Need-type-in-requires-2
-type-in-requires-2 c κs = search needs
 
 is-below-requires : tie.Need-is-below-requires
 is-below-requires c κs = (c .before .before .before .before .before .before .before .pre .0, c .before .before .before .before .before .before .before .pre .1, c .before .type-in .ensures .within, c .type-in2 .ensures .within)
@@ -35,9 +26,9 @@ pub is-type-kept-spec : {M : Type 1} → statement M
 is-type-kept-spec =
     tie.close
     (tie.spec
-    is-alike-requires
+    (λ c κs. search needs)
     returns
-    type-in-requires
-    type-in-requires-2
+    (λ c κs. search needs)
+    (λ c κs. search needs)
     is-below-requires
     returns-2)

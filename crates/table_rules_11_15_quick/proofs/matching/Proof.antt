@@ -20,31 +20,13 @@ name-in-requires c κs = c .before .pre .0
 argument-in-requires : tie.Need-argument-in-requires
 argument-in-requires c κs = (c .before .before .pre .1, c .name-in .ensures .within)
 
-enum-known-number : tie.Need-enum-known-number
-enum-known-number c = search needs
-
-enum-told : tie.Need-enum-told
-enum-told c = search needs
-
-returns : tie.Need-returns
-returns c = search needs
-
-returns-2 : tie.Need-returns-2
-returns-2 c = search needs
-
 is-alike-requires : tie.Need-is-alike-requires
 is-alike-requires c κs = (c .before .before .before .before .before .before .before .pre .0, found ((c .before .before)) .bounds)
-
-cast-t13 : tie.Need-cast-t13
-cast-t13 c = search needs
 
 returns-3 : tie.Need-returns-3
 returns-3 c =
     let a = c .before .before .before .before .before .before .before .before .before .args in
     matched (argumentsIn (a .t .now) (a .from) (a .stop)) (argumentFrom (a .t .now) (a .start) (a .end)) (part (a .t .now) (c .before .before .before .before .before .before .before .name-in .result .at) (c .before .before .before .before .before .before .before .name-in .result .size)) (c .before .before .before .before .number .given .0 .0) _ (c .before .before .before .before .before .before .before .name-in .ensures .is) (found ((c .before .before .before .before)) .first) (c .before .is-alike .ensures (c .if2 .taken)) (omega (arith, c .before .before .if1 .left))
-
-returns-4 : tie.Need-returns-4
-returns-4 c = search needs
 
 pub matching-spec : {M : Type 1} → statement M
 matching-spec =
@@ -52,11 +34,11 @@ matching-spec =
     (tie.spec
     name-in-requires
     argument-in-requires
-    enum-known-number
-    enum-told
-    returns
-    returns-2
+    (λ c. search needs)
+    (λ c. search needs)
+    (λ c. search needs)
+    (λ c. search needs)
     is-alike-requires
-    cast-t13
+    (λ c. search needs)
     returns-3
-    returns-4)
+    (λ c. search needs))

@@ -3,9 +3,11 @@ use Rattle.table_types.specs.Sizes.{slimArgument}
 use Rattle.table_rules_13_15.specs.Asked.{failing}
 use Rattle.table_members.specs.declared.FieldFound.the-variants.{Found}
 use Rattle.table_members.specs.Members.{argumentsIn, NextArgument}
-use Rattle.paper_table.specs.Rules.{argumentNamed, partArgumentAt}
+use Rattle.paper_table.specs.Types.{argumentNamed}
+use Rattle.paper_table.specs.Places.{partArgumentAt}
 use Rattle.paper_table.specs.Lists.{find, onlyIf}
 use Prim.Native.Nat.{_-_}
+use Rattle.table_fields.proofs.BoundsLaws.{later, narrow}
 use borrow.Author.Needs.{needs}
 use native.Mathlib.Omega.{arith}
 use mathlib.Core.Path.{subst}
@@ -26,13 +28,7 @@ loop-holds : tie.Need-loop-holds Inv-loop μ-loop
 loop-holds c = walking-start _ _ _ _ _ (c .before .pre .0 .order) (c .before .pre .2)
 
 next-argument-requires : tie.Need-next-argument-requires Inv-loop μ-loop
-next-argument-requires c κs = record { order = c .loop .inv .within; within = c .before .before .pre .0 .within; most = c .before .before .pre .0 .most }
-
-enum-known-start : tie.Need-enum-known-start Inv-loop μ-loop
-enum-known-start c = search needs
-
-enum-told : tie.Need-enum-told Inv-loop μ-loop
-enum-told c = search needs
+next-argument-requires c κs = later (c .before .before .pre .0) (c .loop .inv .within)
 
 returns : tie.Need-returns Inv-loop μ-loop
 returns c =
@@ -42,7 +38,7 @@ is-wrong-requires : tie.Need-is-wrong-requires Inv-loop μ-loop
 is-wrong-requires c κs =
     let p = c .before .before .before .before .before .before .pre in
     let f = found (c .before) in
-    (record { order = f .lies .order; within = omega (arith, f .lies .within, p .0 .within); most = p .0 .most }, p .1, walking-pass (c .before .before .before .before .loop .inv) f, p .3)
+    (narrow (p .0) (f .lies .order) (f .lies .within), p .1, walking-pass (c .before .before .before .before .loop .inv) f, p .3)
 
 returns-2 : tie.Need-returns-2 Inv-loop μ-loop
 returns-2 c =
@@ -74,8 +70,8 @@ first-wrong-spec =
     μ-loop
     loop-holds
     next-argument-requires
-    enum-known-start
-    enum-told
+    (λ c. search needs)
+    (λ c. search needs)
     returns
     is-wrong-requires
     returns-2

@@ -3,10 +3,11 @@ use Rattle.table_types.specs.Sizes.{slimArgument}
 use Rattle.table_rules_13_15.specs.Asked.{failing}
 use Rattle.table_members.specs.declared.FieldFound.the-variants.{Found, Nothing}
 use Rattle.table_members.specs.Members.{argumentsIn, argumentFrom, Finds, FindArgument}
-use Rattle.paper_table.specs.Rules.{argumentNamed}
+use Rattle.paper_table.specs.Types.{argumentNamed}
 use Rattle.paper_table.specs.Lists.{find}
 use native.Mathlib.Omega.{arith}
 use mathlib.Core.Path.{sym, ap, subst, _∙_}
+use Rattle.table_fields.proofs.BoundsLaws.{narrow}
 use borrow.Author.Needs.{needs}
 use Rattle.table_rules_13_15.proofs.is_wrong.Statement.{statement}
 use Rattle.table_rules_13_15.proofs.is_wrong.Tie as tie
@@ -20,21 +21,6 @@ found c =
     subst (FindArgument (a .t .now) (a .from) (a .stop) (argumentFrom (a .t .now) (a .start) (a .end) .name)) (c .own .given .1) (rw (← c .before .before .before .name-in .ensures .is) (c .before .before .find-argument .ensures)) in
     f
 
-name-in-requires : tie.Need-name-in-requires
-name-in-requires c κs = search needs
-
-find-argument-requires : tie.Need-find-argument-requires
-find-argument-requires c κs = search needs
-
-enum-known-own : tie.Need-enum-known-own
-enum-known-own c = search needs
-
-enum-told : tie.Need-enum-told
-enum-told c = search needs
-
-is-alone-wrong-requires : tie.Need-is-alone-wrong-requires
-is-alone-wrong-requires c κs = search needs
-
 returns : tie.Need-returns
 returns c =
     let a = c .before .before .before .before .before .before .args in
@@ -47,7 +33,7 @@ is-beside-wrong-requires : tie.Need-is-beside-wrong-requires
 is-beside-wrong-requires c κs =
     let p = c .before .before .before .before .before .before .pre in
     let f = found (c .before) in
-    (p .0, record { order = f .lies .order; within = omega (arith, f .lies .within, p .1 .within); most = p .1 .most }, p .2, all-found slimArgument _ _ _ (f .is) (p .3))
+    (p .0, narrow (p .1) (f .lies .order) (f .lies .within), p .2, all-found slimArgument _ _ _ (f .is) (p .3))
 
 returns-2 : tie.Need-returns-2
 returns-2 c =
@@ -58,11 +44,11 @@ pub is-wrong-spec : {M : Type 1} → statement M
 is-wrong-spec =
     tie.close
     (tie.spec
-    name-in-requires
-    find-argument-requires
-    enum-known-own
-    enum-told
-    is-alone-wrong-requires
+    (λ c κs. search needs)
+    (λ c κs. search needs)
+    (λ c. search needs)
+    (λ c. search needs)
+    (λ c κs. search needs)
     returns
     is-beside-wrong-requires
     returns-2)

@@ -7,17 +7,8 @@ use Rattle.table_rules_1_10_16.proofs.EntryLaws.{directive-built-in, di
 use Rattle.table_rules_1_10_16.proofs.is_directive_before.Statement.{statement}
 use Rattle.table_rules_1_10_16.proofs.is_directive_before.Tie as tie
 
-name-of-requires : tie.Need-name-of-requires
-name-of-requires c κs = search needs
-
-is-known-directive-requires : tie.Need-is-known-directive-requires
-is-known-directive-requires c κs = search needs
-
 returns : tie.Need-returns
 returns c = directive-built-in (c .before .before .before .before .before .args .t .now) (c .before .before .before .before .before .args .book .now) (c .before .before .before .before .before .pre .0) (c .before .before .before .before .before .args .i) (c .before .before .before .before .before .pre .1) (part (c .before .before .before .before .before .args .t .now) (c .before .before .name-of .result .at) (c .before .before .name-of .result .size)) (definitionOn (c .before .before .before .before .before .args .t .now) (c .before .before .before .before .before .args .i)) (c .before .before .name-of .ensures .is) (sym (c .before .is-known-directive .ensures) ∙ c .if1 .taken)
-
-first-directive-requires : tie.Need-first-directive-requires
-first-directive-requires c κs = search needs
 
 returns-2 : tie.Need-returns-2
 returns-2 c = directive-first (c .before .before .before .before .before .before .args .t .now) (c .before .before .before .before .before .before .args .book .now) (c .before .before .before .before .before .before .pre .0) (c .before .before .before .before .before .before .args .i) (c .before .before .before .before .before .before .pre .1) (part (c .before .before .before .before .before .before .args .t .now) (c .before .before .before .name-of .result .at) (c .before .before .before .name-of .result .size)) (definitionOn (c .before .before .before .before .before .before .args .t .now) (c .before .before .before .before .before .before .args .i)) (c .before .before .before .name-of .ensures .is) _ (sym (c .before .before .is-known-directive .ensures) ∙ c .before .if1 .left) (c .first-directive .ensures)
@@ -26,8 +17,8 @@ pub is-directive-before-spec : {M : Type 1} → statement M
 is-directive-before-spec =
     tie.close
     (tie.spec
-    name-of-requires
-    is-known-directive-requires
+    (λ c κs. search needs)
+    (λ c κs. search needs)
     returns
-    first-directive-requires
+    (λ c κs. search needs)
     returns-2)

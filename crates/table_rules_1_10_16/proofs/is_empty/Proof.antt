@@ -21,12 +21,6 @@ end-of-requires c κs = (c .before .before .before .pre .0 .indexed .held .cells
 next-member-requires : tie.Need-next-member-requires
 next-member-requires c κs = bounds-entered (c .before .before .before .before .args .t .now) (c .before .before .before .before .args .book .now) (c .before .before .before .before .pre .0) (c .before .before .before .before .args .i) (c .before .before .before .before .pre .1) _ _ (c .before .start-of .ensures) (c .end-of .ensures)
 
-enum-told : tie.Need-enum-told
-enum-told c = search needs
-
-enum-told-2 : tie.Need-enum-told-2
-enum-told-2 c = search needs
-
 returns : tie.Need-returns
 returns c = empty-true (membersIn (c .before .before .before .before .before .before .before .args .t .now) (c .before .before .before .before .start-of .result) (c .before .before .before .end-of .result)) (subst (NextMember (c .before .before .before .before .before .before .before .args .t .now) (c .before .before .before .before .start-of .result) (c .before .before .before .end-of .result)) (c .enum-told2 .given .1) (c .before .before .next-member .ensures)) ∙ ap (λ (ms : List Member). eqb (length ms) 0) (members-entered (c .before .before .before .before .before .before .before .args .t .now) (c .before .before .before .before .before .before .before .args .book .now) (c .before .before .before .before .before .before .before .pre .0) (c .before .before .before .before .before .before .before .args .i) (c .before .before .before .before .before .before .before .pre .1) _ _ (c .before .before .before .before .start-of .ensures) (c .before .before .before .end-of .ensures))
 
@@ -40,7 +34,7 @@ is-empty-spec =
     start-of-requires
     end-of-requires
     next-member-requires
-    enum-told
-    enum-told-2
+    (λ c. search needs)
+    (λ c. search needs)
     returns
     returns-2)

@@ -7,17 +7,8 @@ use Rattle.table_rules_1_10_16.proofs.EntryLaws.{type-built-in, type-fi
 use Rattle.table_rules_1_10_16.proofs.is_type_before.Statement.{statement}
 use Rattle.table_rules_1_10_16.proofs.is_type_before.Tie as tie
 
-name-of-requires : tie.Need-name-of-requires
-name-of-requires c κs = search needs
-
-is-built-in-requires : tie.Need-is-built-in-requires
-is-built-in-requires c κs = search needs
-
 returns : tie.Need-returns
 returns c = type-built-in (c .before .before .before .before .before .args .t .now) (c .before .before .before .before .before .args .book .now) (c .before .before .before .before .before .pre .0) (c .before .before .before .before .before .args .i) (c .before .before .before .before .before .pre .1) (part (c .before .before .before .before .before .args .t .now) (c .before .before .name-of .result .at) (c .before .before .name-of .result .size)) (definitionOn (c .before .before .before .before .before .args .t .now) (c .before .before .before .before .before .args .i)) (c .before .before .name-of .ensures .is) (sym (c .before .is-built-in .ensures) ∙ c .if1 .taken)
-
-first-type-requires : tie.Need-first-type-requires
-first-type-requires c κs = search needs
 
 returns-2 : tie.Need-returns-2
 returns-2 c = type-first (c .before .before .before .before .before .before .args .t .now) (c .before .before .before .before .before .before .args .book .now) (c .before .before .before .before .before .before .pre .0) (c .before .before .before .before .before .before .args .i) (c .before .before .before .before .before .before .pre .1) (part (c .before .before .before .before .before .before .args .t .now) (c .before .before .before .name-of .result .at) (c .before .before .before .name-of .result .size)) (definitionOn (c .before .before .before .before .before .before .args .t .now) (c .before .before .before .before .before .before .args .i)) (c .before .before .before .name-of .ensures .is) _ (sym (c .before .before .is-built-in .ensures) ∙ c .before .if1 .left) (c .first-type .ensures)
@@ -26,8 +17,8 @@ pub is-type-before-spec : {M : Type 1} → statement M
 is-type-before-spec =
     tie.close
     (tie.spec
-    name-of-requires
-    is-built-in-requires
+    (λ c κs. search needs)
+    (λ c κs. search needs)
     returns
-    first-type-requires
+    (λ c κs. search needs)
     returns-2)

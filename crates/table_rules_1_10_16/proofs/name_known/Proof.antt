@@ -3,7 +3,7 @@ use borrow.Author.Needs.{needs}
 use mathlib.Core.Path.{sym, ap, _∙_}
 use mathlib.Core.List.{List, head?}
 use Rattle.paper_table.specs.Types.{tableOf}
-use Rattle.paper_table.specs.Rules.{Place, wholeOf}
+use Rattle.paper_table.specs.Places.{Place, wholeOf}
 use Rattle.table_places.specs.Placed.{placed}
 use Rattle.table_types.specs.Booked.{definitionOn}
 use mathlib.Core.Bool.{Bool}
@@ -13,23 +13,8 @@ use Rattle.table_rules_1_10_16.proofs.RuleLaws.{rule-2-type, rule-2-dir
 use Rattle.table_rules_1_10_16.proofs.name_known.Statement.{statement}
 use Rattle.table_rules_1_10_16.proofs.name_known.Tie as tie
 
-tag-of-requires : tie.Need-tag-of-requires
-tag-of-requires c κs = search needs
-
-is-type-before-requires : tie.Need-is-type-before-requires
-is-type-before-requires c κs = search needs
-
-whole-requires : tie.Need-whole-requires
-whole-requires c κs = search needs
-
 returns : tie.Need-returns
 returns c = c .whole .ensures ∙ ap (λ (b : Bool). placed (head? (onlyIf b wholeOf))) (c .before .is-type-before .ensures) ∙ sym (ap (λ (ps : List Place). placed (head? ps)) (rule-2-type (tableOf (c .before .before .before .before .before .before .args .t .now)) (c .before .before .before .before .before .before .args .i) (definitionOn (c .before .before .before .before .before .before .args .t .now) (c .before .before .before .before .before .before .args .i)) (let e = c .before .before .before .tag-of .ensures in let h = c .before .before .if1 .taken in omega (arith, e, h))))
-
-is-directive-before-requires : tie.Need-is-directive-before-requires
-is-directive-before-requires c κs = search needs
-
-whole-requires-2 : tie.Need-whole-requires-2
-whole-requires-2 c κs = search needs
 
 returns-2 : tie.Need-returns-2
 returns-2 c = c .whole2 .ensures ∙ ap (λ (b : Bool). placed (head? (onlyIf b wholeOf))) (c .before .is-directive-before .ensures) ∙ sym (ap (λ (ps : List Place). placed (head? ps)) (rule-2-directive (tableOf (c .before .before .before .before .before .before .before .args .t .now)) (c .before .before .before .before .before .before .before .args .i) (definitionOn (c .before .before .before .before .before .before .before .args .t .now) (c .before .before .before .before .before .before .before .args .i)) (let e = c .before .before .before .before .tag-of .ensures in let h = c .before .before .before .if1 .left in omega (arith, e, h)) (sym (c .before .before .before .before .tag-of .ensures) ∙ c .before .before .if2 .taken)))
@@ -41,11 +26,11 @@ pub name-known-spec : {M : Type 1} → statement M
 name-known-spec =
     tie.close
     (tie.spec
-    tag-of-requires
-    is-type-before-requires
-    whole-requires
+    (λ c κs. search needs)
+    (λ c κs. search needs)
+    (λ c κs. search needs)
     returns
-    is-directive-before-requires
-    whole-requires-2
+    (λ c κs. search needs)
+    (λ c κs. search needs)
     returns-2
     returns-3)

@@ -1,5 +1,5 @@
 -- By the test.
-use Rattle.paper_table.specs.Rules.{wholeOf}
+use Rattle.paper_table.specs.Places.{wholeOf}
 use Rattle.table_walks.proofs.Walked.{only-true, only-false}
 use Rattle.table_rules_1_10_16.proofs.whole.Statement.{statement}
 use Rattle.table_rules_1_10_16.proofs.whole.Tie as tie

@@ -1,4 +1,5 @@
 -- Argument by argument: if the others are sound, all are.
+use Rattle.table_fields.proofs.BoundsLaws.{later, narrow}
 use borrow.Author.Needs.{needs}
 use mathlib.Core.Path.{subst}
 use mathlib.Core.Bool.{false≢true}
@@ -25,23 +26,11 @@ found : (c : tie.After-from Inv-loop μ-loop)
 found c =
     subst (NextArgument (c .before .before .before .before .before .before .before .before .args .t .now) (c .before .before .before .loop .i) (c .before .before .before .before .before .before .before .before .args .end)) (c .from .given .1) (c .before .before .next-argument .ensures)
 
-arguments-from-requires : tie.Need-arguments-from-requires Inv-loop μ-loop
-arguments-from-requires c κs = search needs
-
 loop-holds : tie.Need-loop-holds Inv-loop μ-loop
 loop-holds c = sounding-start argumentName _ _ _ _ _ _ (c .arguments-from .ensures .order) (c .before .before .before .before .pre .2)
 
 next-argument-requires : tie.Need-next-argument-requires Inv-loop μ-loop
-next-argument-requires c κs = record { order = c .loop .inv .within; within = c .before .before .before .before .before .pre .1 .within; most = c .before .before .before .before .before .pre .1 .most }
-
-enum-known-from : tie.Need-enum-known-from Inv-loop μ-loop
-enum-known-from c = search needs
-
-enum-told : tie.Need-enum-told Inv-loop μ-loop
-enum-told c = search needs
-
-same-length : tie.Need-same-length Inv-loop μ-loop
-same-length c = search needs
+next-argument-requires c κs = later (c .before .before .before .before .before .pre .1) (c .loop .inv .within)
 
 returns : tie.Need-returns Inv-loop μ-loop
 returns c =
@@ -54,10 +43,7 @@ is-argument-sound-requires : tie.Need-is-argument-sound-requires Inv-loop μ-loo
 is-argument-sound-requires c κs =
     let p = c .before .before .before .before .before .before .before .before .before .before .pre in
     let f = found ((c .before .before)) in
-    (p .0, record { order = c .before .before .before .before .before .before .arguments-from .ensures .order; within = p .1 .within; most = p .1 .most }, record { order = f .lies .order; within = omega (arith, f .lies .within, p .1 .within); most = p .1 .most }, c .before .before .before .before .before .loop .inv .size)
-
-same-length-2 : tie.Need-same-length-2 Inv-loop μ-loop
-same-length-2 c = search needs
+    (p .0, later (p .1) (c .before .before .before .before .before .before .arguments-from .ensures .order), narrow (p .1) (f .lies .order) (f .lies .within), c .before .before .before .before .before .loop .inv .size)
 
 returns-2 : tie.Need-returns-2 Inv-loop μ-loop
 returns-2 c = (c .before .before .before .is-argument-sound .ensures .size, λ z. absurd (false≢true z))
@@ -82,15 +68,15 @@ are-arguments-sound-spec =
     (tie.spec
     Inv-loop
     μ-loop
-    arguments-from-requires
+    (λ c κs. search needs)
     loop-holds
     next-argument-requires
-    enum-known-from
-    enum-told
-    same-length
+    (λ c. search needs)
+    (λ c. search needs)
+    (λ c. search needs)
     returns
     is-argument-sound-requires
-    same-length-2
+    (λ c. search needs)
     returns-2
     add-a
     loop-less

@@ -1,4 +1,5 @@
 -- Member by member: if the others are sound, all are.
+use Rattle.table_fields.proofs.BoundsLaws.{later, narrow}
 use borrow.Author.Needs.{needs}
 use mathlib.Core.Path.{_≡_, subst}
 use mathlib.Core.Bool.{false≢true}
@@ -29,19 +30,7 @@ loop-holds : tie.Need-loop-holds Inv-loop μ-loop
 loop-holds c = (sounding-start memberName _ _ _ _ _ _ (c .before .before .before .before .pre .1 .order) (c .before .before .before .before .pre .2), c .before .before .before .before .pre .3)
 
 next-member-requires : tie.Need-next-member-requires Inv-loop μ-loop
-next-member-requires c κs = record { order = c .loop .inv .0 .within; within = c .before .before .before .before .before .pre .1 .within; most = c .before .before .before .before .before .pre .1 .most }
-
-enum-known-tag : tie.Need-enum-known-tag Inv-loop μ-loop
-enum-known-tag c = search needs
-
-enum-told : tie.Need-enum-told Inv-loop μ-loop
-enum-told c = search needs
-
-same-length : tie.Need-same-length Inv-loop μ-loop
-same-length c = search needs
-
-same-length-2 : tie.Need-same-length-2 Inv-loop μ-loop
-same-length-2 c = search needs
+next-member-requires c κs = later (c .before .before .before .before .before .pre .1) (c .loop .inv .0 .within)
 
 returns : tie.Need-returns Inv-loop μ-loop
 returns c =
@@ -52,13 +41,7 @@ is-member-sound-requires : tie.Need-is-member-sound-requires Inv-loop μ-loop
 is-member-sound-requires c κs =
     let p = c .before .before .before .before .before .before .before .before .before .before .before .pre in
     let f = found ((c .before .before .before)) in
-    (p .0, p .1, record { order = f .lies .order; within = omega (arith, f .lies .within, p .1 .within); most = p .1 .most }, c .before .before .before .before .before .before .loop .inv .0 .size, c .before .before .before .before .before .before .loop .inv .1)
-
-same-length-3 : tie.Need-same-length-3 Inv-loop μ-loop
-same-length-3 c = search needs
-
-same-length-4 : tie.Need-same-length-4 Inv-loop μ-loop
-same-length-4 c = search needs
+    (p .0, p .1, narrow (p .1) (f .lies .order) (f .lies .within), c .before .before .before .before .before .before .loop .inv .0 .size, c .before .before .before .before .before .before .loop .inv .1)
 
 returns-2 : tie.Need-returns-2 Inv-loop μ-loop
 returns-2 c = λ z. absurd (false≢true z)
@@ -84,14 +67,14 @@ are-members-sound-spec =
     μ-loop
     loop-holds
     next-member-requires
-    enum-known-tag
-    enum-told
-    same-length
-    same-length-2
+    (λ c. search needs)
+    (λ c. search needs)
+    (λ c. search needs)
+    (λ c. search needs)
     returns
     is-member-sound-requires
-    same-length-3
-    same-length-4
+    (λ c. search needs)
+    (λ c. search needs)
     returns-2
     add-m
     loop-less

@@ -11,36 +11,15 @@ use Rattle.table_rules_4_8_quick.proofs.SoundLaws.{told-refused, told-m
 use Rattle.table_rules_4_8_quick.proofs.is_argument_sound.Statement.{statement}
 use Rattle.table_rules_4_8_quick.proofs.is_argument_sound.Tie as tie
 
-name-in-requires : tie.Need-name-in-requires
-name-in-requires c κs = search needs
-
-is-reserved-requires : tie.Need-is-reserved-requires
-is-reserved-requires c κs = search needs
-
 returns : tie.Need-returns
 returns c =
     let a = c .before .before .before .before .before .before .args in
     told-refused argumentName _ _ _ (a .seen .now) (a .seen .now) (a .mark) _ (c .before .before .before .before .before .before .pre .3)
 
-is-argument-new-requires : tie.Need-is-argument-new-requires
-is-argument-new-requires c κs = search needs
-
-same-length : tie.Need-same-length
-same-length c = search needs
-
 returns-2 : tie.Need-returns-2
 returns-2 c =
     let a = c .before .before .before .before .before .before .before .before .before .before .before .args in
     told-refused argumentName _ _ _ (a .seen .now) _ (a .mark) _ (c .before .before .before .is-argument-new .ensures .size)
-
-base-tag-requires : tie.Need-base-tag-requires
-base-tag-requires c κs = search needs
-
-is-input-requires : tie.Need-is-input-requires
-is-input-requires c κs = search needs
-
-same-length-2 : tie.Need-same-length-2
-same-length-2 c = search needs
 
 returns-3 : tie.Need-returns-3
 returns-3 c =
@@ -54,13 +33,13 @@ pub is-argument-sound-spec : {M : Type 1} → statement M
 is-argument-sound-spec =
     tie.close
     (tie.spec
-    name-in-requires
-    is-reserved-requires
+    (λ c κs. search needs)
+    (λ c κs. search needs)
     returns
-    is-argument-new-requires
-    same-length
+    (λ c κs. search needs)
+    (λ c. search needs)
     returns-2
-    base-tag-requires
-    is-input-requires
-    same-length-2
+    (λ c κs. search needs)
+    (λ c κs. search needs)
+    (λ c. search needs)
     returns-3)

@@ -5,9 +5,6 @@ use Rattle.table_rules_4_8_quick.proofs.SoundLaws.{base-field, base-inp
 use Rattle.table_rules_4_8_quick.proofs.is_base_sound.Statement.{statement}
 use Rattle.table_rules_4_8_quick.proofs.is_base_sound.Tie as tie
 
-base-tag-requires : tie.Need-base-tag-requires
-base-tag-requires c κs = search needs
-
 returns : tie.Need-returns
 returns c = λ z. absurd (false≢true z)
 
@@ -15,12 +12,6 @@ returns-2 : tie.Need-returns-2
 returns-2 c =
     let a = c .before .before .before .before .before .args in
     base-field (a .t .now) (a .tag) (a .start) (a .end) _ (c .before .base-tag .ensures) (c .before .before .if1 .taken) (c .if2 .left)
-
-base-tag-requires-2 : tie.Need-base-tag-requires-2
-base-tag-requires-2 c κs = search needs
-
-is-input-requires : tie.Need-is-input-requires
-is-input-requires c κs = search needs
 
 returns-3 : tie.Need-returns-3
 returns-3 c =
@@ -36,10 +27,10 @@ pub is-base-sound-spec : {M : Type 1} → statement M
 is-base-sound-spec =
     tie.close
     (tie.spec
-    base-tag-requires
+    (λ c κs. search needs)
     returns
     returns-2
-    base-tag-requires-2
-    is-input-requires
+    (λ c κs. search needs)
+    (λ c κs. search needs)
     returns-3
     returns-4)

@@ -12,41 +12,20 @@ use Rattle.table_rules_4_8_quick.proofs.SoundLaws.{told-refused, told-m
 use Rattle.table_rules_4_8_quick.proofs.is_member_sound.Statement.{statement}
 use Rattle.table_rules_4_8_quick.proofs.is_member_sound.Tie as tie
 
-member-name-requires : tie.Need-member-name-requires
-member-name-requires c κs = search needs
-
-is-reserved-requires : tie.Need-is-reserved-requires
-is-reserved-requires c κs = search needs
-
 returns : tie.Need-returns
 returns c =
     let a = c .before .before .before .before .before .before .before .args in
     (told-refused memberName _ _ _ (a .seen .now) (a .seen .now) memberMark _ (c .before .before .before .before .before .before .before .pre .3), c .before .before .before .before .before .before .before .pre .4)
-
-is-no-enum-value-requires : tie.Need-is-no-enum-value-requires
-is-no-enum-value-requires c κs = search needs
 
 returns-2 : tie.Need-returns-2
 returns-2 c =
     let a = c .before .before .before .before .before .before .before .before .before .args in
     (told-refused memberName _ _ _ (a .seen .now) (a .seen .now) memberMark _ (c .before .before .before .before .before .before .before .before .before .pre .3), c .before .before .before .before .before .before .before .before .before .pre .4)
 
-is-member-new-requires : tie.Need-is-member-new-requires
-is-member-new-requires c κs = search needs
-
-same-length : tie.Need-same-length
-same-length c = search needs
-
 returns-3 : tie.Need-returns-3
 returns-3 c =
     let a = c .before .before .before .before .before .before .before .before .before .before .before .before .before .before .args in
     (told-refused memberName _ _ _ (a .seen .now) _ memberMark _ (c .before .before .before .is-member-new .ensures .size), c .before .before .before .before .before .before .before .before .before .before .before .before .before .before .pre .4)
-
-is-base-sound-requires : tie.Need-is-base-sound-requires
-is-base-sound-requires c κs = search needs
-
-same-length-2 : tie.Need-same-length-2
-same-length-2 c = search needs
 
 returns-4 : tie.Need-returns-4
 returns-4 c =
@@ -58,15 +37,6 @@ add-are-arguments-sound c = omega arith
 
 cast-are-arguments-sound : tie.Need-cast-are-arguments-sound
 cast-are-arguments-sound c = omega arith
-
-are-arguments-sound-requires : tie.Need-are-arguments-sound-requires
-are-arguments-sound-requires c κs = search needs
-
-same-length-3 : tie.Need-same-length-3
-same-length-3 c = search needs
-
-same-length-4 : tie.Need-same-length-4
-same-length-4 c = search needs
 
 returns-5 : tie.Need-returns-5
 returns-5 c =
@@ -80,20 +50,20 @@ pub is-member-sound-spec : {M : Type 1} → statement M
 is-member-sound-spec =
     tie.close
     (tie.spec
-    member-name-requires
-    is-reserved-requires
+    (λ c κs. search needs)
+    (λ c κs. search needs)
     returns
-    is-no-enum-value-requires
+    (λ c κs. search needs)
     returns-2
-    is-member-new-requires
-    same-length
+    (λ c κs. search needs)
+    (λ c. search needs)
     returns-3
-    is-base-sound-requires
-    same-length-2
+    (λ c κs. search needs)
+    (λ c. search needs)
     returns-4
     add-are-arguments-sound
     cast-are-arguments-sound
-    are-arguments-sound-requires
-    same-length-3
-    same-length-4
+    (λ c κs. search needs)
+    (λ c. search needs)
+    (λ c. search needs)
     returns-5)

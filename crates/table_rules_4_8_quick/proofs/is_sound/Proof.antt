@@ -12,12 +12,6 @@ use Rattle.table_rules_4_8_quick.proofs.SoundLaws.{all-sound}
 use Rattle.table_rules_4_8_quick.proofs.is_sound.Statement.{statement}
 use Rattle.table_rules_4_8_quick.proofs.is_sound.Tie as tie
 
-slice-aggregate-are-members-sound : tie.Need-slice-aggregate-are-members-sound
-slice-aggregate-are-members-sound c = search needs
-
-slice-aggregate-are-members-sound-2 : tie.Need-slice-aggregate-are-members-sound-2
-slice-aggregate-are-members-sound-2 c = search needs
-
 start-of-requires : tie.Need-start-of-requires
 start-of-requires c κs = (c .before .before .before .before .pre .0 .indexed .held .cells, number-room _ _ (c .before .before .before .before .pre .0) _ (c .before .before .before .before .pre .1))
 
@@ -39,8 +33,8 @@ pub is-sound-spec : {M : Type 1} → statement M
 is-sound-spec =
     tie.close
     (tie.spec
-    slice-aggregate-are-members-sound
-    slice-aggregate-are-members-sound-2
+    (λ c. search needs)
+    (λ c. search needs)
     start-of-requires
     end-of-requires
     are-members-sound-requires

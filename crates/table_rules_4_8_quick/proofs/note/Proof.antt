@@ -5,22 +5,10 @@ use Rattle.table_rules_4_8_quick.proofs.SoundLaws.{noted-old, noted-new
 use Rattle.table_rules_4_8_quick.proofs.note.Statement.{statement}
 use Rattle.table_rules_4_8_quick.proofs.note.Tie as tie
 
-cell-of-requires : tie.Need-cell-of-requires
-cell-of-requires c κs = search needs
-
-slice-read-if1 : tie.Need-slice-read-if1
-slice-read-if1 c = search needs
-
 returns : tie.Need-returns
 returns c =
     let a = c .before .before .before .before .before .args in
     noted-old (a .seen .now) (a .mark) (part (a .t .now) (a .at) (a .n)) (c .before .before .cell-of .result) (c .before .before .cell-of .ensures .0) (c .before .before .before .before .before .pre .2) (c .if1 .taken)
-
-slice-write-seen : tie.Need-slice-write-seen
-slice-write-seen c = search needs
-
-same-length : tie.Need-same-length
-same-length c = search needs
 
 returns-2 : tie.Need-returns-2
 returns-2 c =
@@ -30,4 +18,4 @@ returns-2 c =
 pub note-spec : {M : Type 1} → statement M
 note-spec =
     tie.close
-    (tie.spec cell-of-requires slice-read-if1 returns slice-write-seen same-length returns-2)
+    (tie.spec (λ c κs. search needs) (λ c. search needs) returns (λ c. search needs) (λ c. search needs) returns-2)

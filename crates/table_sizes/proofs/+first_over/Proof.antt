@@ -1,4 +1,5 @@
 -- Depth falls at each call; in a holder one field more is read at each turn, and what comes decides.
+use Rattle.table_fields.proofs.BoundsLaws.{later, narrow}
 use borrow.Author.Needs.{needs}
 use mathlib.Core.Path.{_≡_, sym, ap, subst, _∙_}
 use mathlib.Core.List.{List, head?}
@@ -87,7 +88,7 @@ first-over-loop-holds : (t : ℕ) → first-over-lts.Need-loop-holds (first-over
 first-over-loop-holds t c = counting-start (c .before .before .before .before .before .before .before .args .t .now) (c .before .before .before .before .before .before .before .args .at) (c .before .before .before .before .before .before .before .args .tag) (c .before .before .before .before .before .before .before .args .end) (c .before .before .before .before .before .before .before .args .depth) _ _ _ _ _ (not-plain (c .before .before .before .before .before .before .before .args .depth) (c .before .before .before .before .before .before .before .args .tag) (c .before .before .before .before .before .is-plain .ensures) (c .before .before .before .before .if1 .left)) (subst (HoldsAs (c .before .before .before .before .before .before .before .args .tag)) (c .before .enum-told .given .1) (c .before .before .before .content-of .ensures)) (c .rest-room .ensures) (c .before .before .before .before .before .before .before .pre .1 .order)
 
 first-over-read-field-requires : (t : ℕ) → first-over-lts.Need-read-field-requires (first-over-calls t) (first-over-at t) first-over.Post first-over-Inv-loop first-over-μ-loop
-first-over-read-field-requires t c κs = record { order = c .before .loop .inv .order; within = c .before .before .before .before .before .before .before .before .before .pre .1 .within; most = c .before .before .before .before .before .before .before .before .before .pre .1 .most }
+first-over-read-field-requires t c κs = later (c .before .before .before .before .before .before .before .before .before .pre .1) (c .before .loop .inv .order)
 
 first-over-enum-known-k : (t : ℕ) → first-over-lts.Need-enum-known-k (first-over-calls t) (first-over-at t) first-over.Post first-over-Inv-loop first-over-μ-loop
 first-over-enum-known-k t c = search needs
@@ -117,7 +118,7 @@ first-over-sub-first-over : (t : ℕ) → first-over-lts.Need-sub-first-over (fi
 first-over-sub-first-over t c = let n = not-plain (c .before .before .before .before .before .before .before .before .before .before .before .before .before .before .before .before .args .depth) (c .before .before .before .before .before .before .before .before .before .before .before .before .before .before .before .before .args .tag) (c .before .before .before .before .before .before .before .before .before .before .before .before .before .before .is-plain .ensures) (c .before .before .before .before .before .before .before .before .before .before .before .before .before .if1 .left) in omega arith
 
 first-over-first-over-requires : (t : ℕ) → first-over-lts.Need-first-over-requires (first-over-calls t) (first-over-at t) first-over.Post first-over-Inv-loop first-over-μ-loop
-first-over-first-over-requires t c κs = let l = lies t ((c .before .before .before .before)) in (omega (arith, c .before .before .before .before .before .before .before .before .before .before .before .before .before .before .before .before .pre .0, not-plain (c .before .before .before .before .before .before .before .before .before .before .before .before .before .before .before .before .args .depth) (c .before .before .before .before .before .before .before .before .before .before .before .before .before .before .before .before .args .tag) (c .before .before .before .before .before .before .before .before .before .before .before .before .before .before .is-plain .ensures) (c .before .before .before .before .before .before .before .before .before .before .before .before .before .if1 .left)), record { order = omega (arith, l .begins, l .order); within = omega (arith, l .within, c .before .before .before .before .before .before .before .before .before .before .before .before .before .before .before .before .pre .1 .within); most = c .before .before .before .before .before .before .before .before .before .before .before .before .before .before .before .before .pre .1 .most })
+first-over-first-over-requires t c κs = let l = lies t ((c .before .before .before .before)) in (omega (arith, c .before .before .before .before .before .before .before .before .before .before .before .before .before .before .before .before .pre .0, not-plain (c .before .before .before .before .before .before .before .before .before .before .before .before .before .before .before .before .args .depth) (c .before .before .before .before .before .before .before .before .before .before .before .before .before .before .before .before .args .tag) (c .before .before .before .before .before .before .before .before .before .before .before .before .before .before .is-plain .ensures) (c .before .before .before .before .before .before .before .before .before .before .before .before .before .if1 .left)), narrow (c .before .before .before .before .before .before .before .before .before .before .before .before .before .before .before .before .pre .1) (omega (arith, l .begins, l .order)) (l .within))
 
 first-over-enum-told-3 : (t : ℕ) → first-over-lts.Need-enum-told-3 (first-over-calls t) (first-over-at t) first-over.Post first-over-Inv-loop first-over-μ-loop
 first-over-enum-told-3 t c = search needs

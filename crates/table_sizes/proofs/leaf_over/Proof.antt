@@ -4,43 +4,19 @@ use borrow.Author.Needs.{needs}
 use Rattle.table_sizes.proofs.leaf_over.Statement.{statement}
 use Rattle.table_sizes.proofs.leaf_over.Tie as tie
 
-enum-told : tie.Need-enum-told
-enum-told c = search needs
-
-enum-told-2 : tie.Need-enum-told-2
-enum-told-2 c = search needs
-
-wrapper-over-requires : tie.Need-wrapper-over-requires
-wrapper-over-requires c κs = search needs
-
-enum-told-3 : tie.Need-enum-told-3
-enum-told-3 c = search needs
-
-enum-told-4 : tie.Need-enum-told-4
-enum-told-4 c = search needs
-
-returns : tie.Need-returns
-returns c = search needs
-
 returns-2 : tie.Need-returns-2
 returns-2 c = c .wrapper-over .ensures ∙ rw (c .before .enum-told2 .given .1)
-
-returns-3 : tie.Need-returns-3
-returns-3 c = search needs
-
-returns-4 : tie.Need-returns-4
-returns-4 c = search needs
 
 pub leaf-over-spec : {M : Type 1} → statement M
 leaf-over-spec =
     tie.close
     (tie.spec
-    enum-told
-    enum-told-2
-    wrapper-over-requires
-    enum-told-3
-    enum-told-4
-    returns
+    (λ c. search needs)
+    (λ c. search needs)
+    (λ c κs. search needs)
+    (λ c. search needs)
+    (λ c. search needs)
+    (λ c. search needs)
     returns-2
-    returns-3
-    returns-4)
+    (λ c. search needs)
+    (λ c. search needs))

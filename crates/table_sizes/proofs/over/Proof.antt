@@ -34,17 +34,8 @@ loop-holds c = recording-start (c .before .args .t .now)
 read-field-requires : tie.Need-read-field-requires Inv-loop μ-loop
 read-field-requires c κs = record { order = c .before .loop .inv .order; within = le-refl (length (c .before .before .before .args .t .now)); most = c .before .before .before .pre }
 
-enum-known-k : tie.Need-enum-known-k Inv-loop μ-loop
-enum-known-k c = search needs
-
-enum-told : tie.Need-enum-told Inv-loop μ-loop
-enum-told c = search needs
-
 returns : tie.Need-returns Inv-loop μ-loop
 returns c = recording-torn (c .before .before .before .before .before .before .args .t .now) _ (c .before .before .before .before .loop .i) (c .before .before .before .before .loop .inv) (c .before .before .before .loop-test .taken) (sym (c .before .before .read-field .ensures) ∙ c .enum-told .given .1)
-
-is-record-requires : tie.Need-is-record-requires Inv-loop μ-loop
-is-record-requires c κs = search needs
 
 cast-t11 : tie.Need-cast-t11 Inv-loop μ-loop
 cast-t11 c = omega (arith, c .before .before .before .before .before .before .before .loop .inv .order, c .before .before .before .before .before .before .before .before .before .pre)
@@ -54,12 +45,6 @@ returns-2 c = recording-over (c .before .before .before .before .before .before 
 
 first-over-requires : tie.Need-first-over-requires Inv-loop μ-loop
 first-over-requires c κs = let l = lies ((c .before .before .before)) in record { order = omega (arith, l .begins, l .order); within = l .within; most = c .before .before .before .before .before .before .before .before .before .pre }
-
-enum-told-2 : tie.Need-enum-told-2 Inv-loop μ-loop
-enum-told-2 c = search needs
-
-enum-told-3 : tie.Need-enum-told-3 Inv-loop μ-loop
-enum-told-3 c = search needs
 
 returns-3 : tie.Need-returns-3 Inv-loop μ-loop
 returns-3 c = recording-inside (c .before .before .before .before .before .before .before .before .before .before .before .before .args .t .now) _ (c .before .before .before .before .before .before .before .before .before .before .loop .i) (c .before .before .before .before .before .before .before .before .before .before .loop .inv) (c .before .before .before .before .before .before .before .before .before .loop-test .taken) _ _ _ (read ((c .before .before .before .before .before .before))) _ (c .before .before .before .before .is-record .ensures) (c .before .before .before .if1 .left) _ _ (c .before .before .first-over .ensures) (c .enum-told3 .given .1)
@@ -81,15 +66,15 @@ over-spec =
     μ-loop
     loop-holds
     read-field-requires
-    enum-known-k
-    enum-told
+    (λ c. search needs)
+    (λ c. search needs)
     returns
-    is-record-requires
+    (λ c κs. search needs)
     cast-t11
     returns-2
     first-over-requires
-    enum-told-2
-    enum-told-3
+    (λ c. search needs)
+    (λ c. search needs)
     returns-3
     loop-less
     loop-again

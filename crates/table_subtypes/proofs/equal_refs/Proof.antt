@@ -6,8 +6,5 @@ use Rattle.table_subtypes.proofs.equal_refs.Tie as tie
 returns : tie.Need-returns
 returns c = rw (c .if1 .taken)
 
-returns-2 : tie.Need-returns-2
-returns-2 c = search needs
-
 pub equal-refs-spec : {M : Type 1} → statement M
-equal-refs-spec = tie.close (tie.spec returns returns-2)
+equal-refs-spec = tie.close (tie.spec returns (λ c. search needs))

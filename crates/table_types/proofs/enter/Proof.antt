@@ -5,17 +5,11 @@ use borrow.Author.Needs.{needs}
 use Rattle.table_types.proofs.enter.Statement.{statement}
 use Rattle.table_types.proofs.enter.Tie as tie
 
-name-in-requires : tie.Need-name-in-requires
-name-in-requires c κs = search needs
-
 put-entry-requires : tie.Need-put-entry-requires
 put-entry-requires c κs =
     let p = c .before .before .before .before .pre in
     let m = c .before .name-in .ensures .within in
     (p .1, p .2, omega (arith, m, p .0 .most), omega (arith, m, p .0 .most), omega (arith, p .0 .order, p .0 .within, p .0 .most), omega (arith, p .0 .within, p .0 .most))
-
-same-length : tie.Need-same-length
-same-length c = search needs
 
 returns : tie.Need-returns
 returns c =
@@ -23,4 +17,4 @@ returns c =
     entering-is (a .t .now) (a .book .now) _ (a .i) (a .tag) (a .start) (a .end) _ _ (c .before .before .before .before .before .before .before .pre .0 .order) (c .before .before .before .before .before .before .before .pre .0 .within) (c .before .before .before .before .name-in .ensures) (c .before .before .put-entry .ensures)
 
 pub enter-spec : {M : Type 1} → statement M
-enter-spec = tie.close (tie.spec name-in-requires put-entry-requires same-length returns)
+enter-spec = tie.close (tie.spec (λ c κs. search needs) put-entry-requires (λ c. search needs) returns)

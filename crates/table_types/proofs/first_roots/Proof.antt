@@ -5,7 +5,7 @@ use Prim.Native.Nat.{_-_}
 use native.Mathlib.Omega.{arith}
 use borrow.Author.Tests.{eq-eqb, ne-eqb}
 use Rattle.paper_table.specs.TableNumbers.{tagRoots}
-use Rattle.paper_table.specs.Types.{tableOf, isRoots, blank, tagNothing}
+use Rattle.paper_table.specs.Types.{tableOf, isRoots, blankDefinition, tagNothing}
 use Rattle.table_types.specs.Booked.{definitionOn}
 use Rattle.table_types.proofs.Entries.{tag-entered, Reached, reached-start, reached-end, reached-here, reached-on}
 use Rattle.table_types.proofs.first_roots.Statement.{statement}
@@ -32,13 +32,7 @@ returns c =
     let b = c .before .before .before .before .before .before .before .pre in
     let i = c .before .before .before .loop .i in
     let e = tag-entered (a .t .now) (a .book .now) b i (omega (arith, c .before .before .loop-test .taken, c .before .before .before .before .count-of .ensures)) (c .before .kind-of .ensures) in
-    reached-here isRoots (tableOf (a .t .now)) i (c .before .before .before .loop .inv) (blank tagNothing) (omega (arith, c .before .before .loop-test .taken, c .before .before .before .before .count-of .ensures, b .count)) (eq-eqb (definitionOn (a .t .now) i .tag) tagRoots (sym e ∙ c .if1 .taken))
-
-add-i : tie.Need-add-i Inv-loop μ-loop
-add-i c = search needs
-
-loop-less : tie.Need-loop-less Inv-loop μ-loop
-loop-less c = search needs
+    reached-here isRoots (tableOf (a .t .now)) i (c .before .before .before .loop .inv) (blankDefinition tagNothing) (omega (arith, c .before .before .loop-test .taken, c .before .before .before .before .count-of .ensures, b .count)) (eq-eqb (definitionOn (a .t .now) i .tag) tagRoots (sym e ∙ c .if1 .taken))
 
 loop-again : tie.Need-loop-again Inv-loop μ-loop
 loop-again c =
@@ -46,7 +40,7 @@ loop-again c =
     let b = c .before .before .before .before .before .before .before .pre in
     let i = c .before .before .before .loop .i in
     let e = tag-entered (a .t .now) (a .book .now) b i (omega (arith, c .before .before .loop-test .taken, c .before .before .before .before .count-of .ensures)) (c .before .kind-of .ensures) in
-    reached-on isRoots (tableOf (a .t .now)) i (c .before .before .before .loop .inv) (blank tagNothing) (omega (arith, c .before .before .loop-test .taken, c .before .before .before .before .count-of .ensures, b .count)) (ne-eqb (definitionOn (a .t .now) i .tag) tagRoots (λ q. c .if1 .left (e ∙ q)))
+    reached-on isRoots (tableOf (a .t .now)) i (c .before .before .before .loop .inv) (blankDefinition tagNothing) (omega (arith, c .before .before .loop-test .taken, c .before .before .before .before .count-of .ensures, b .count)) (ne-eqb (definitionOn (a .t .now) i .tag) tagRoots (λ q. c .if1 .left (e ∙ q)))
 
 returns-2 : tie.Need-returns-2 Inv-loop μ-loop
 returns-2 c = reached-end isRoots (tableOf (c .before .before .before .before .before .args .t .now)) (c .before .loop .i) (c .before .loop .inv) (omega (arith, c .loop-test .left, c .before .before .count-of .ensures, c .before .before .before .before .before .pre .count))
@@ -61,7 +55,7 @@ first-roots-spec =
     loop-holds
     kind-of-requires
     returns
-    add-i
-    loop-less
+    (λ c. search needs)
+    (λ c. search needs)
     loop-again
     returns-2)

@@ -6,11 +6,8 @@ use borrow.Author.Needs.{needs}
 use Rattle.table_types.proofs.first_type.Statement.{statement}
 use Rattle.table_types.proofs.first_type.Tie as tie
 
-find-key-requires : tie.Need-find-key-requires
-find-key-requires c κs = search needs
-
 returns : tie.Need-returns
 returns c = c .find-key .ensures ∙ type-first (c .before .before .before .before .args .t .now) (c .before .before .before .before .args .book .now) (c .before .before .before .before .pre .0) (part (c .before .before .before .before .args .s .now) (c .before .before .before .before .args .at) (c .before .before .before .before .args .n))
 
 pub first-type-spec : {M : Type 1} → statement M
-first-type-spec = tie.close (tie.spec find-key-requires returns)
+first-type-spec = tie.close (tie.spec (λ c κs. search needs) returns)

@@ -1,6 +1,6 @@
 -- One is there if and only if one is found.
 use mathlib.Core.Path.{sym, ap, subst, _∙_}
-use Rattle.paper_table.specs.Rules.{memberNamed}
+use Rattle.paper_table.specs.Types.{memberNamed}
 use Rattle.paper_table.specs.References.{found}
 use Rattle.table_book.specs.Book.{part}
 use Rattle.table_members.specs.Members.{membersIn, FindMember}
@@ -8,15 +8,6 @@ use Rattle.table_types.proofs.Objects.{any-found}
 use borrow.Author.Needs.{needs}
 use Rattle.table_types.proofs.has_member.Statement.{statement}
 use Rattle.table_types.proofs.has_member.Tie as tie
-
-find-member-requires : tie.Need-find-member-requires
-find-member-requires c κs = search needs
-
-enum-told : tie.Need-enum-told
-enum-told c = search needs
-
-enum-told-2 : tie.Need-enum-told-2
-enum-told-2 c = search needs
 
 returns : tie.Need-returns
 returns c =
@@ -29,4 +20,4 @@ returns-2 c =
     sym (any-found (memberNamed (part (a .s .now) (a .at) (a .n))) (membersIn (a .t .now) (a .start) (a .end)) ∙ ap found (subst (FindMember (a .t .now) (a .start) (a .end) (part (a .s .now) (a .at) (a .n))) (c .enum-told .given .1) (c .before .before .find-member .ensures) .is))
 
 pub has-member-spec : {M : Type 1} → statement M
-has-member-spec = tie.close (tie.spec find-member-requires enum-told enum-told-2 returns returns-2)
+has-member-spec = tie.close (tie.spec (λ c κs. search needs) (λ c. search needs) (λ c. search needs) returns returns-2)

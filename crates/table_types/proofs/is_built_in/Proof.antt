@@ -6,47 +6,17 @@ use borrow.Author.Needs.{needs}
 use Rattle.table_types.proofs.is_built_in.Statement.{statement}
 use Rattle.table_types.proofs.is_built_in.Tie as tie
 
-slice-aggregate-is-text : tie.Need-slice-aggregate-is-text
-slice-aggregate-is-text c = search needs
-
-is-text-requires : tie.Need-is-text-requires
-is-text-requires c κs = search needs
-
 returns : tie.Need-returns
 returns c = built-1 (part (c .before .before .before .before .args .s .now) (c .before .before .before .before .args .at) (c .before .before .before .before .args .n)) (sym (c .before .is-text .ensures) ∙ c .if1 .taken)
-
-slice-aggregate-is-text-2 : tie.Need-slice-aggregate-is-text-2
-slice-aggregate-is-text-2 c = search needs
-
-is-text-requires-2 : tie.Need-is-text-requires-2
-is-text-requires-2 c κs = search needs
 
 returns-2 : tie.Need-returns-2
 returns-2 c = built-2 (part (c .before .before .before .before .before .before .before .args .s .now) (c .before .before .before .before .before .before .before .args .at) (c .before .before .before .before .before .before .before .args .n)) (sym (c .before .before .before .before .is-text .ensures) ∙ c .before .before .before .if1 .left) (sym (c .before .is-text2 .ensures) ∙ c .if2 .taken)
 
-slice-aggregate-is-text-3 : tie.Need-slice-aggregate-is-text-3
-slice-aggregate-is-text-3 c = search needs
-
-is-text-requires-3 : tie.Need-is-text-requires-3
-is-text-requires-3 c κs = search needs
-
 returns-3 : tie.Need-returns-3
 returns-3 c = built-3 (part (c .before .before .before .before .before .before .before .before .before .before .args .s .now) (c .before .before .before .before .before .before .before .before .before .before .args .at) (c .before .before .before .before .before .before .before .before .before .before .args .n)) (sym (c .before .before .before .before .before .before .before .is-text .ensures) ∙ c .before .before .before .before .before .before .if1 .left) (sym (c .before .before .before .before .is-text2 .ensures) ∙ c .before .before .before .if2 .left) (sym (c .before .is-text3 .ensures) ∙ c .if3 .taken)
 
-slice-aggregate-is-text-4 : tie.Need-slice-aggregate-is-text-4
-slice-aggregate-is-text-4 c = search needs
-
-is-text-requires-4 : tie.Need-is-text-requires-4
-is-text-requires-4 c κs = search needs
-
 returns-4 : tie.Need-returns-4
 returns-4 c = built-4 (part (c .before .before .before .before .before .before .before .before .before .before .before .before .before .args .s .now) (c .before .before .before .before .before .before .before .before .before .before .before .before .before .args .at) (c .before .before .before .before .before .before .before .before .before .before .before .before .before .args .n)) (sym (c .before .before .before .before .before .before .before .before .before .before .is-text .ensures) ∙ c .before .before .before .before .before .before .before .before .before .if1 .left) (sym (c .before .before .before .before .before .before .before .is-text2 .ensures) ∙ c .before .before .before .before .before .before .if2 .left) (sym (c .before .before .before .before .is-text3 .ensures) ∙ c .before .before .before .if3 .left) (sym (c .before .is-text4 .ensures) ∙ c .if4 .taken)
-
-slice-aggregate-is-text-5 : tie.Need-slice-aggregate-is-text-5
-slice-aggregate-is-text-5 c = search needs
-
-is-text-requires-5 : tie.Need-is-text-requires-5
-is-text-requires-5 c κs = search needs
 
 returns-5 : tie.Need-returns-5
 returns-5 c = built-5 (part (c .before .before .before .before .before .before .before .before .before .before .before .before .before .before .before .args .s .now) (c .before .before .before .before .before .before .before .before .before .before .before .before .before .before .before .args .at) (c .before .before .before .before .before .before .before .before .before .before .before .before .before .before .before .args .n)) (sym (c .before .before .before .before .before .before .before .before .before .before .before .before .is-text .ensures) ∙ c .before .before .before .before .before .before .before .before .before .before .before .if1 .left) (sym (c .before .before .before .before .before .before .before .before .before .is-text2 .ensures) ∙ c .before .before .before .before .before .before .before .before .if2 .left) (sym (c .before .before .before .before .before .before .is-text3 .ensures) ∙ c .before .before .before .before .before .if3 .left) (sym (c .before .before .before .is-text4 .ensures) ∙ c .before .before .if4 .left) (c .is-text5 .ensures)
@@ -55,18 +25,18 @@ pub is-built-in-spec : {M : Type 1} → statement M
 is-built-in-spec =
     tie.close
     (tie.spec
-    slice-aggregate-is-text
-    is-text-requires
+    (λ c. search needs)
+    (λ c κs. search needs)
     returns
-    slice-aggregate-is-text-2
-    is-text-requires-2
+    (λ c. search needs)
+    (λ c κs. search needs)
     returns-2
-    slice-aggregate-is-text-3
-    is-text-requires-3
+    (λ c. search needs)
+    (λ c κs. search needs)
     returns-3
-    slice-aggregate-is-text-4
-    is-text-requires-4
+    (λ c. search needs)
+    (λ c κs. search needs)
     returns-4
-    slice-aggregate-is-text-5
-    is-text-requires-5
+    (λ c. search needs)
+    (λ c κs. search needs)
     returns-5)

@@ -8,12 +8,6 @@ use borrow.Author.Needs.{needs}
 use Rattle.table_types.proofs.kind_in.Statement.{statement}
 use Rattle.table_types.proofs.kind_in.Tie as tie
 
-count-of-requires : tie.Need-count-of-requires
-count-of-requires c κs = search needs
-
-kind-of-requires : tie.Need-kind-of-requires
-kind-of-requires c κs = search needs
-
 returns : tie.Need-returns
 returns c =
     let l : c .before .before .before .before .args .i < countIn (c .before .before .before .before .args .book .now) = omega (arith, c .before .if1 .taken, c .before .before .count-of .ensures) in
@@ -25,4 +19,4 @@ returns-2 c =
     rw (le-ltb _ _ l)
 
 pub kind-in-spec : {M : Type 1} → statement M
-kind-in-spec = tie.close (tie.spec count-of-requires kind-of-requires returns returns-2)
+kind-in-spec = tie.close (tie.spec (λ c κs. search needs) (λ c κs. search needs) returns returns-2)

@@ -7,17 +7,8 @@ use borrow.Author.Needs.{needs}
 use Rattle.table_types.proofs.meaning_of.Statement.{statement}
 use Rattle.table_types.proofs.meaning_of.Tie as tie
 
-is-built-in-requires : tie.Need-is-built-in-requires
-is-built-in-requires c κs = search needs
-
 returns : tie.Need-returns
 returns c = means-built-in (c .before .before .before .before .before .args .t .now) (c .before .before .before .before .before .args .book .now) (c .before .before .before .before .before .pre .0) (part (c .before .before .before .before .before .args .s .now) (c .before .before .before .before .before .args .at) (c .before .before .before .before .before .args .n)) (sym (c .before .is-built-in .ensures) ∙ c .if1 .taken)
-
-first-type-requires : tie.Need-first-type-requires
-first-type-requires c κs = search needs
-
-count-of-requires : tie.Need-count-of-requires
-count-of-requires c κs = search needs
 
 returns-2 : tie.Need-returns-2
 returns-2 c = means-definition (c .before .before .before .before .before .before .before .before .args .t .now) (c .before .before .before .before .before .before .before .before .args .book .now) (c .before .before .before .before .before .before .before .before .pre .0) (part (c .before .before .before .before .before .before .before .before .args .s .now) (c .before .before .before .before .before .before .before .before .args .at) (c .before .before .before .before .before .before .before .before .args .n)) (c .before .before .first-type .ensures) (sym (c .before .before .before .before .is-built-in .ensures) ∙ c .before .before .before .if1 .left) (omega (arith, c .if2 .taken, c .before .count-of .ensures))
@@ -29,9 +20,9 @@ pub meaning-of-spec : {M : Type 1} → statement M
 meaning-of-spec =
     tie.close
     (tie.spec
-    is-built-in-requires
+    (λ c κs. search needs)
     returns
-    first-type-requires
-    count-of-requires
+    (λ c κs. search needs)
+    (λ c κs. search needs)
     returns-2
     returns-3)

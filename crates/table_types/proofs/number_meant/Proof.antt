@@ -6,17 +6,8 @@ use borrow.Author.Needs.{needs}
 use Rattle.table_types.proofs.number_meant.Statement.{statement}
 use Rattle.table_types.proofs.number_meant.Tie as tie
 
-is-built-in-requires : tie.Need-is-built-in-requires
-is-built-in-requires c κs = search needs
-
-count-of-requires : tie.Need-count-of-requires
-count-of-requires c κs = search needs
-
 returns : tie.Need-returns
 returns c = number-built-in (c .before .before .before .before .before .before .args .t .now) (c .before .before .before .before .before .before .args .book .now) (c .before .before .before .before .before .before .pre .0) (part (c .before .before .before .before .before .before .args .s .now) (c .before .before .before .before .before .before .args .at) (c .before .before .before .before .before .before .args .n)) (sym (c .before .before .is-built-in .ensures) ∙ c .before .if1 .taken) (c .count-of .ensures)
-
-first-type-requires : tie.Need-first-type-requires
-first-type-requires c κs = search needs
 
 returns-2 : tie.Need-returns-2
 returns-2 c = number-first (c .before .before .before .before .before .before .args .t .now) (c .before .before .before .before .before .before .args .book .now) (c .before .before .before .before .before .before .pre .0) (part (c .before .before .before .before .before .before .args .s .now) (c .before .before .before .before .before .before .args .at) (c .before .before .before .before .before .before .args .n)) (sym (c .before .before .is-built-in .ensures) ∙ c .before .if1 .left) (c .first-type .ensures)
@@ -24,4 +15,4 @@ returns-2 c = number-first (c .before .before .before .before .before .before .a
 pub number-meant-spec : {M : Type 1} → statement M
 number-meant-spec =
     tie.close
-    (tie.spec is-built-in-requires count-of-requires returns first-type-requires returns-2)
+    (tie.spec (λ c κs. search needs) (λ c κs. search needs) returns (λ c κs. search needs) returns-2)

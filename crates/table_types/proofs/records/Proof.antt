@@ -27,12 +27,6 @@ loop-holds c = recording-start _ _ (c .before .before .pre)
 read-field-requires : tie.Need-read-field-requires Inv-loop μ-loop
 read-field-requires c κs = record { order = c .before .loop .inv .within; within = omega arith; most = c .before .before .before .before .pre .short }
 
-enum-known-tag : tie.Need-enum-known-tag Inv-loop μ-loop
-enum-known-tag c = search needs
-
-enum-told : tie.Need-enum-told Inv-loop μ-loop
-enum-told c = search needs
-
 same-length : tie.Need-same-length Inv-loop μ-loop
 same-length c = c .before .before .before .before .loop .inv .cells ∙ sym (c .before .before .before .before .before .before .before .pre .cells)
 
@@ -75,8 +69,8 @@ records-spec =
     μ-loop
     loop-holds
     read-field-requires
-    enum-known-tag
-    enum-told
+    (λ c. search needs)
+    (λ c. search needs)
     same-length
     returns
     enter-requires

@@ -7,20 +7,8 @@ use borrow.Author.Needs.{needs}
 use Rattle.table_types.proofs.tag_meant.Statement.{statement}
 use Rattle.table_types.proofs.tag_meant.Tie as tie
 
-is-built-in-requires : tie.Need-is-built-in-requires
-is-built-in-requires c κs = search needs
-
 returns : tie.Need-returns
 returns c = tag-built-in (c .before .before .before .before .before .args .t .now) (c .before .before .before .before .before .args .book .now) (c .before .before .before .before .before .pre .0) (part (c .before .before .before .before .before .args .s .now) (c .before .before .before .before .before .args .at) (c .before .before .before .before .before .args .n)) (sym (c .before .is-built-in .ensures) ∙ c .if1 .taken)
-
-first-type-requires : tie.Need-first-type-requires
-first-type-requires c κs = search needs
-
-count-of-requires : tie.Need-count-of-requires
-count-of-requires c κs = search needs
-
-kind-of-requires : tie.Need-kind-of-requires
-kind-of-requires c κs = search needs
 
 returns-2 : tie.Need-returns-2
 returns-2 c = c .kind-of .ensures ∙ tag-definition (c .before .before .before .before .before .before .before .before .before .args .t .now) (c .before .before .before .before .before .before .before .before .before .args .book .now) (c .before .before .before .before .before .before .before .before .before .pre .0) (part (c .before .before .before .before .before .before .before .before .before .args .s .now) (c .before .before .before .before .before .before .before .before .before .args .at) (c .before .before .before .before .before .before .before .before .before .args .n)) (c .before .before .before .first-type .ensures) (sym (c .before .before .before .before .before .is-built-in .ensures) ∙ c .before .before .before .before .if1 .left) (omega (arith, c .before .if2 .taken, c .before .before .count-of .ensures))
@@ -32,10 +20,10 @@ pub tag-meant-spec : {M : Type 1} → statement M
 tag-meant-spec =
     tie.close
     (tie.spec
-    is-built-in-requires
+    (λ c κs. search needs)
     returns
-    first-type-requires
-    count-of-requires
-    kind-of-requires
+    (λ c κs. search needs)
+    (λ c κs. search needs)
+    (λ c κs. search needs)
     returns-2
     returns-3)

@@ -1,4 +1,5 @@
 -- A walk over a field's arguments.
+use Rattle.table_fields.proofs.BoundsLaws.{later, narrow}
 use borrow.Author.Needs.{needs}
 use mathlib.Core.Path.{subst, sym, ap, _∙_}
 use mathlib.Core.List.{List, head?}
@@ -8,7 +9,7 @@ use Rattle.paper_table.specs.Types.{tableOf}
 use Rattle.table_members.specs.Members.{NextArgument, argumentsIn}
 use Rattle.table_members.specs.declared.FieldFound.the-variants.{Found}
 use Rattle.table_walks.proofs.Walked.{Walking, walking-start, walking-end, walking-here, walking-on, only-true, only-false}
-use Rattle.paper_table.specs.Rules.{Place, argumentAt}
+use Rattle.paper_table.specs.Places.{Place, argumentAt}
 use Rattle.table_places.specs.Placed.{placed}
 use Rattle.table_walks.proofs.ArgumentLaws.{argumentFaults, field-arguments, other-arguments}
 use Rattle.table_walks.proofs.arguments_place.Statement.{statement}
@@ -32,13 +33,7 @@ loop-holds : tie.Need-loop-holds Inv-loop μ-loop
 loop-holds c = walking-start (argumentFaults (c .before .before .before .args .rule) (tableOf (c .before .before .before .args .t .now)) (argumentsIn (c .before .before .before .args .t .now) (c .before .before .before .args .start) (c .before .before .before .args .end)) (c .before .before .before .args .m)) (c .before .before .before .args .start) (c .before .before .before .args .end) (argumentsIn (c .before .before .before .args .t .now) (c .before .before .before .args .start) (c .before .before .before .args .end)) (c .before .before .before .pre .1 .order)
 
 next-argument-requires : tie.Need-next-argument-requires Inv-loop μ-loop
-next-argument-requires c κs = record { order = c .loop .inv .within; within = c .before .before .before .before .pre .1 .within; most = c .before .before .before .before .pre .1 .most }
-
-enum-known-from : tie.Need-enum-known-from Inv-loop μ-loop
-enum-known-from c = search needs
-
-enum-told : tie.Need-enum-told Inv-loop μ-loop
-enum-told c = search needs
+next-argument-requires c κs = later (c .before .before .before .before .pre .1) (c .loop .inv .within)
 
 returns-2 : tie.Need-returns-2 Inv-loop μ-loop
 returns-2 c = walking-end (argumentFaults (c .before .before .before .before .before .before .before .args .rule) (tableOf (c .before .before .before .before .before .before .before .args .t .now)) (argumentsIn (c .before .before .before .before .before .before .before .args .t .now) (c .before .before .before .before .before .before .before .args .start) (c .before .before .before .before .before .before .before .args .end)) (c .before .before .before .before .before .before .before .args .m)) (c .before .before .before .before .before .before .before .args .start) (c .before .before .before .before .before .before .before .args .end) (c .before .before .before .loop .i) (c .before .before .before .loop .a) (argumentsIn (c .before .before .before .before .before .before .before .args .t .now) (c .before .before .before .before .before .before .before .args .start) (c .before .before .before .before .before .before .before .args .end)) (argumentsIn (c .before .before .before .before .before .before .before .args .t .now) (c .before .before .before .loop .i) (c .before .before .before .before .before .before .before .args .end)) (c .before .before .before .loop .inv) (subst (NextArgument (c .before .before .before .before .before .before .before .args .t .now) (c .before .before .before .loop .i) (c .before .before .before .before .before .before .before .args .end)) (c .enum-told .given .1) (c .before .before .next-argument .ensures)) ∙ sym (ap (λ (ps : List Place). placed (head? ps)) (field-arguments (c .before .before .before .before .before .before .before .args .rule) (tableOf (c .before .before .before .before .before .before .before .args .t .now)) (c .before .before .before .before .before .before .before .args .m) (c .before .before .before .before .before .before .before .args .t .now) (c .before .before .before .before .before .before .before .args .tag) (c .before .before .before .before .before .before .before .args .start) (c .before .before .before .before .before .before .before .args .end) (c .before .before .before .before .if1 .left)))
@@ -46,7 +41,7 @@ returns-2 c = walking-end (argumentFaults (c .before .before .before .before .be
 is-argument-broken-requires : tie.Need-is-argument-broken-requires Inv-loop μ-loop
 is-argument-broken-requires c κs =
     let f = found ((c .before)) in
-    (c .before .before .before .before .before .before .before .before .pre .0, c .before .before .before .before .before .before .before .before .pre .1, record { order = f .lies .order; within = omega (arith, f .lies .within, c .before .before .before .before .before .before .before .before .pre .1 .within); most = c .before .before .before .before .before .before .before .before .pre .1 .most })
+    (c .before .before .before .before .before .before .before .before .pre .0, c .before .before .before .before .before .before .before .before .pre .1, narrow (c .before .before .before .before .before .before .before .before .pre .1) (f .lies .order) (f .lies .within))
 
 returns-3 : tie.Need-returns-3 Inv-loop μ-loop
 returns-3 c = walking-here (argumentFaults (c .before .before .before .before .before .before .before .before .before .before .args .rule) (tableOf (c .before .before .before .before .before .before .before .before .before .before .args .t .now)) (argumentsIn (c .before .before .before .before .before .before .before .before .before .before .args .t .now) (c .before .before .before .before .before .before .before .before .before .before .args .start) (c .before .before .before .before .before .before .before .before .before .before .args .end)) (c .before .before .before .before .before .before .before .before .before .before .args .m)) (c .before .before .before .before .before .before .before .before .before .before .args .start) (c .before .before .before .before .before .before .before .before .before .before .args .end) (c .before .before .before .before .before .before .loop .i) (c .before .before .before .before .before .before .loop .a) (argumentsIn (c .before .before .before .before .before .before .before .before .before .before .args .t .now) (c .before .before .before .before .before .before .before .before .before .before .args .start) (c .before .before .before .before .before .before .before .before .before .before .args .end)) (argumentsIn (c .before .before .before .before .before .before .before .before .before .before .args .t .now) (c .before .before .before .before .before .before .loop .i) (c .before .before .before .before .before .before .before .before .before .before .args .end)) (c .before .before .before .before .before .before .loop .inv) _ _ _ _ (found ((c .before .before .before))) _ _ _ (only-true _ (argumentAt (c .before .before .before .before .before .before .before .before .before .before .args .m) (c .before .before .before .before .before .before .loop .a)) (sym (c .before .is-argument-broken .ensures) ∙ c .if2 .taken)) ∙ sym (ap (λ (ps : List Place). placed (head? ps)) (field-arguments (c .before .before .before .before .before .before .before .before .before .before .args .rule) (tableOf (c .before .before .before .before .before .before .before .before .before .before .args .t .now)) (c .before .before .before .before .before .before .before .before .before .before .args .m) (c .before .before .before .before .before .before .before .before .before .before .args .t .now) (c .before .before .before .before .before .before .before .before .before .before .args .tag) (c .before .before .before .before .before .before .before .before .before .before .args .start) (c .before .before .before .before .before .before .before .before .before .before .args .end) (c .before .before .before .before .before .before .before .if1 .left)))
@@ -73,8 +68,8 @@ arguments-place-spec =
     returns
     loop-holds
     next-argument-requires
-    enum-known-from
-    enum-told
+    (λ c. search needs)
+    (λ c. search needs)
     returns-2
     is-argument-broken-requires
     returns-3

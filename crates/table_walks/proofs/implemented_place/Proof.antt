@@ -1,4 +1,5 @@
 -- A walk over the implemented names.
+use Rattle.table_fields.proofs.BoundsLaws.{later, narrow}
 use borrow.Author.Needs.{needs}
 use mathlib.Core.Path.{subst, sym, _∙_}
 use Prim.Native.Nat.{_-_}
@@ -7,7 +8,7 @@ use Rattle.paper_table.specs.Types.{tableOf}
 use Rattle.table_members.specs.Members.{NextImplemented, implementedIn}
 use Rattle.table_members.specs.declared.FieldFound.the-variants.{Found}
 use Rattle.table_walks.proofs.Walked.{Walking, walking-start, walking-end, walking-here, walking-on, only-true, only-false}
-use Rattle.paper_table.specs.Rules.{memberAt}
+use Rattle.paper_table.specs.Places.{memberAt}
 use Rattle.table_walks.specs.Walks.{nameAt}
 use Rattle.table_walks.proofs.implemented_place.Statement.{statement}
 use Rattle.table_walks.proofs.implemented_place.Tie as tie
@@ -27,13 +28,7 @@ loop-holds : tie.Need-loop-holds Inv-loop μ-loop
 loop-holds c = walking-start (nameAt (c .before .before .args .rule) (tableOf (c .before .before .args .t .now)) (implementedIn (c .before .before .args .t .now) (c .before .before .args .from) (c .before .before .args .end))) (c .before .before .args .from) (c .before .before .args .end) (implementedIn (c .before .before .args .t .now) (c .before .before .args .from) (c .before .before .args .end)) (c .before .before .pre .1 .order)
 
 next-implemented-requires : tie.Need-next-implemented-requires Inv-loop μ-loop
-next-implemented-requires c κs = record { order = c .loop .inv .within; within = c .before .before .before .pre .1 .within; most = c .before .before .before .pre .1 .most }
-
-enum-known-start : tie.Need-enum-known-start Inv-loop μ-loop
-enum-known-start c = search needs
-
-enum-told : tie.Need-enum-told Inv-loop μ-loop
-enum-told c = search needs
+next-implemented-requires c κs = later (c .before .before .before .pre .1) (c .loop .inv .within)
 
 returns : tie.Need-returns Inv-loop μ-loop
 returns c = walking-end (nameAt (c .before .before .before .before .before .before .args .rule) (tableOf (c .before .before .before .before .before .before .args .t .now)) (implementedIn (c .before .before .before .before .before .before .args .t .now) (c .before .before .before .before .before .before .args .from) (c .before .before .before .before .before .before .args .end))) (c .before .before .before .before .before .before .args .from) (c .before .before .before .before .before .before .args .end) (c .before .before .before .loop .i) (c .before .before .before .loop .m) (implementedIn (c .before .before .before .before .before .before .args .t .now) (c .before .before .before .before .before .before .args .from) (c .before .before .before .before .before .before .args .end)) (implementedIn (c .before .before .before .before .before .before .args .t .now) (c .before .before .before .loop .i) (c .before .before .before .before .before .before .args .end)) (c .before .before .before .loop .inv) (subst (NextImplemented (c .before .before .before .before .before .before .args .t .now) (c .before .before .before .loop .i) (c .before .before .before .before .before .before .args .end)) (c .enum-told .given .1) (c .before .before .next-implemented .ensures))
@@ -41,7 +36,7 @@ returns c = walking-end (nameAt (c .before .before .before .before .before .befo
 is-implemented-broken-requires : tie.Need-is-implemented-broken-requires Inv-loop μ-loop
 is-implemented-broken-requires c κs =
     let f = found ((c .before)) in
-    (c .before .before .before .before .before .before .before .pre .0, c .before .before .before .before .before .before .before .pre .1, record { order = f .lies .order; within = omega (arith, f .lies .within, c .before .before .before .before .before .before .before .pre .1 .within); most = c .before .before .before .before .before .before .before .pre .1 .most })
+    (c .before .before .before .before .before .before .before .pre .0, c .before .before .before .before .before .before .before .pre .1, narrow (c .before .before .before .before .before .before .before .pre .1) (f .lies .order) (f .lies .within))
 
 returns-2 : tie.Need-returns-2 Inv-loop μ-loop
 returns-2 c = walking-here (nameAt (c .before .before .before .before .before .before .before .before .before .args .rule) (tableOf (c .before .before .before .before .before .before .before .before .before .args .t .now)) (implementedIn (c .before .before .before .before .before .before .before .before .before .args .t .now) (c .before .before .before .before .before .before .before .before .before .args .from) (c .before .before .before .before .before .before .before .before .before .args .end))) (c .before .before .before .before .before .before .before .before .before .args .from) (c .before .before .before .before .before .before .before .before .before .args .end) (c .before .before .before .before .before .before .loop .i) (c .before .before .before .before .before .before .loop .m) (implementedIn (c .before .before .before .before .before .before .before .before .before .args .t .now) (c .before .before .before .before .before .before .before .before .before .args .from) (c .before .before .before .before .before .before .before .before .before .args .end)) (implementedIn (c .before .before .before .before .before .before .before .before .before .args .t .now) (c .before .before .before .before .before .before .loop .i) (c .before .before .before .before .before .before .before .before .before .args .end)) (c .before .before .before .before .before .before .loop .inv) _ _ _ _ (found ((c .before .before .before))) _ _ _ (only-true _ (memberAt (c .before .before .before .before .before .before .loop .m)) (sym (c .before .is-implemented-broken .ensures) ∙ c .if1 .taken))
@@ -67,8 +62,8 @@ implemented-place-spec =
     μ-loop
     loop-holds
     next-implemented-requires
-    enum-known-start
-    enum-told
+    (λ c. search needs)
+    (λ c. search needs)
     returns
     is-implemented-broken-requires
     returns-2

@@ -1,4 +1,5 @@
 -- A walk over the members.
+use Rattle.table_fields.proofs.BoundsLaws.{later, narrow}
 use borrow.Author.Needs.{needs}
 use mathlib.Core.Path.{subst, sym, _∙_}
 use Prim.Native.Nat.{_-_}
@@ -26,13 +27,7 @@ loop-holds : tie.Need-loop-holds Inv-loop μ-loop
 loop-holds c = walking-start (memberAndArgumentsAt (c .before .before .args .rule) (tableOf (c .before .before .args .t .now)) (membersIn (c .before .before .args .t .now) (c .before .before .args .from) (c .before .before .args .end))) (c .before .before .args .from) (c .before .before .args .end) (membersIn (c .before .before .args .t .now) (c .before .before .args .from) (c .before .before .args .end)) (c .before .before .pre .1 .order)
 
 next-member-requires : tie.Need-next-member-requires Inv-loop μ-loop
-next-member-requires c κs = record { order = c .loop .inv .within; within = c .before .before .before .pre .1 .within; most = c .before .before .before .pre .1 .most }
-
-enum-known-tag : tie.Need-enum-known-tag Inv-loop μ-loop
-enum-known-tag c = search needs
-
-enum-told : tie.Need-enum-told Inv-loop μ-loop
-enum-told c = search needs
+next-member-requires c κs = later (c .before .before .before .pre .1) (c .loop .inv .within)
 
 returns : tie.Need-returns Inv-loop μ-loop
 returns c = walking-end (memberAndArgumentsAt (c .before .before .before .before .before .before .args .rule) (tableOf (c .before .before .before .before .before .before .args .t .now)) (membersIn (c .before .before .before .before .before .before .args .t .now) (c .before .before .before .before .before .before .args .from) (c .before .before .before .before .before .before .args .end))) (c .before .before .before .before .before .before .args .from) (c .before .before .before .before .before .before .args .end) (c .before .before .before .loop .i) (c .before .before .before .loop .m) (membersIn (c .before .before .before .before .before .before .args .t .now) (c .before .before .before .before .before .before .args .from) (c .before .before .before .before .before .before .args .end)) (membersIn (c .before .before .before .before .before .before .args .t .now) (c .before .before .before .loop .i) (c .before .before .before .before .before .before .args .end)) (c .before .before .before .loop .inv) (subst (NextMember (c .before .before .before .before .before .before .args .t .now) (c .before .before .before .loop .i) (c .before .before .before .before .before .before .args .end)) (c .enum-told .given .1) (c .before .before .next-member .ensures))
@@ -40,13 +35,7 @@ returns c = walking-end (memberAndArgumentsAt (c .before .before .before .before
 member-place-requires : tie.Need-member-place-requires Inv-loop μ-loop
 member-place-requires c κs =
     let f = found ((c .before)) in
-    (c .before .before .before .before .before .before .before .pre .0, c .before .before .before .before .before .before .before .pre .1, record { order = f .lies .order; within = omega (arith, f .lies .within, c .before .before .before .before .before .before .before .pre .1 .within); most = c .before .before .before .before .before .before .before .pre .1 .most })
-
-enum-told-2 : tie.Need-enum-told-2 Inv-loop μ-loop
-enum-told-2 c = search needs
-
-enum-told-3 : tie.Need-enum-told-3 Inv-loop μ-loop
-enum-told-3 c = search needs
+    (c .before .before .before .before .before .before .before .pre .0, c .before .before .before .before .before .before .before .pre .1, narrow (c .before .before .before .before .before .before .before .pre .1) (f .lies .order) (f .lies .within))
 
 returns-2 : tie.Need-returns-2 Inv-loop μ-loop
 returns-2 c = walking-told (memberAndArgumentsAt (c .before .before .before .before .before .before .before .before .before .before .args .rule) (tableOf (c .before .before .before .before .before .before .before .before .before .before .args .t .now)) (membersIn (c .before .before .before .before .before .before .before .before .before .before .args .t .now) (c .before .before .before .before .before .before .before .before .before .before .args .from) (c .before .before .before .before .before .before .before .before .before .before .args .end))) (c .before .before .before .before .before .before .before .before .before .before .args .from) (c .before .before .before .before .before .before .before .before .before .before .args .end) (c .before .before .before .before .before .before .before .loop .i) (c .before .before .before .before .before .before .before .loop .m) (membersIn (c .before .before .before .before .before .before .before .before .before .before .args .t .now) (c .before .before .before .before .before .before .before .before .before .before .args .from) (c .before .before .before .before .before .before .before .before .before .before .args .end)) (membersIn (c .before .before .before .before .before .before .before .before .before .before .args .t .now) (c .before .before .before .before .before .before .before .loop .i) (c .before .before .before .before .before .before .before .before .before .before .args .end)) (c .before .before .before .before .before .before .before .loop .inv) _ _ _ _ (found ((c .before .before .before .before))) (c .before .before .member-place .result) _ _ _ (c .before .before .member-place .ensures) (c .enum-told3 .given .1)
@@ -72,12 +61,12 @@ members-place-spec =
     μ-loop
     loop-holds
     next-member-requires
-    enum-known-tag
-    enum-told
+    (λ c. search needs)
+    (λ c. search needs)
     returns
     member-place-requires
-    enum-told-2
-    enum-told-3
+    (λ c. search needs)
+    (λ c. search needs)
     returns-2
     add-m
     loop-less

@@ -13,12 +13,6 @@ use Rattle.text_answer.proofs.answer.Tie as tie
 returns : tie.Need-returns
 returns c = short-report (c .if1 .taken) refl refl
 
-sizes-met-requires : tie.Need-sizes-met-requires
-sizes-met-requires c κs = search needs
-
-enum-told : tie.Need-enum-told
-enum-told c = search needs
-
 slice-relend-prefix-parse : tie.Need-slice-relend-prefix-parse
 slice-relend-prefix-parse c = sizes-kept (c .before .before .sizes-met .ensures) (c .enum-told .given .1) .0
 
@@ -31,28 +25,10 @@ parse-requires c κs =
     let k = sizes-kept (c .before .before .before .sizes-met .ensures) (c .before .enum-told .given .1) in
     (k .1, length-take-le {A = ℕ} rowsSize (c .before .before .before .before .before .before .before .before .args .rows .now) (k .0))
 
-tell-read-requires : tie.Need-tell-read-requires
-tell-read-requires c κs = search needs
-
-enum-known-s : tie.Need-enum-known-s
-enum-known-s c = search needs
-
-tell-refusal-requires : tie.Need-tell-refusal-requires
-tell-refusal-requires c κs = search needs
-
-same-length : tie.Need-same-length
-same-length c = search needs
-
-same-length-2 : tie.Need-same-length-2
-same-length-2 c = search needs
-
 returns-2 : tie.Need-returns-2
 returns-2 c =
     let k = sizes-kept (c .before .before .before .before .before .before .before .before .before .before .sizes-met .ensures) (c .before .before .before .before .before .before .before .before .enum-told .given .1) in
     parsed-told _ _ _ _ _ _ (c .before .before .before .before .before .before .before .before .before .before .before .if1 .left) (k .0) (k .1) refl _ _ (c .before .before .before .before .before .before .parse .ensures) (c .before .before .tell-read .ensures)
-
-same-length-3 : tie.Need-same-length-3
-same-length-3 c = search needs
 
 returns-3 : tie.Need-returns-3
 returns-3 c =
@@ -64,16 +40,16 @@ answer-spec =
     tie.close
     (tie.spec
     returns
-    sizes-met-requires
-    enum-told
+    (λ c κs. search needs)
+    (λ c. search needs)
     slice-relend-prefix-parse
     slice-aggregate-parse
     parse-requires
-    tell-read-requires
-    enum-known-s
-    tell-refusal-requires
-    same-length
-    same-length-2
+    (λ c κs. search needs)
+    (λ c. search needs)
+    (λ c κs. search needs)
+    (λ c. search needs)
+    (λ c. search needs)
     returns-2
-    same-length-3
+    (λ c. search needs)
     returns-3)

@@ -6,41 +6,17 @@ use Rattle.text_answer.proofs.FilledLaws.{done-room, done-filled, refus
 use Rattle.text_answer.proofs.parse.Statement.{statement}
 use Rattle.text_answer.proofs.parse.Tie as tie
 
-document-requires : tie.Need-document-requires
-document-requires c κs = search needs
-
-enum-known-r : tie.Need-enum-known-r
-enum-known-r c = search needs
-
-cast-clear : tie.Need-cast-clear
-cast-clear c = search needs
-
-mul-clear : tie.Need-mul-clear
-mul-clear c = search needs
-
 clear-requires : tie.Need-clear-requires
 clear-requires c κs =
     let d = c .before .before .before .before .before .before in
     let s = d .before .before .before .before in
     omega (arith, d .document .kept .1 .0, s .pre .1, done-room _ _ _ _ _ (s .pre .1) (d .document .ensures) (c .before .before .r .given .1))
 
-enum-told : tie.Need-enum-told
-enum-told c = search needs
-
-clear-requires-2 : tie.Need-clear-requires-2
-clear-requires-2 c κs = search needs
-
-same-length : tie.Need-same-length
-same-length c = search needs
-
 returns : tie.Need-returns
 returns c =
     let d = c .before .before .before .before .before .before .before .before .before in
     let s = d .before .before .before .before in
     done-filled _ _ _ _ _ (s .pre .1) (d .document .ensures) (c .before .before .before .before .before .r .given .1) _ (c .before .before .clear .ensures)
-
-same-length-2 : tie.Need-same-length-2
-same-length-2 c = search needs
 
 returns-2 : tie.Need-returns-2
 returns-2 c =
@@ -52,14 +28,14 @@ pub parse-spec : {M : Type 1} → statement M
 parse-spec =
     tie.close
     (tie.spec
-    document-requires
-    enum-known-r
-    cast-clear
-    mul-clear
+    (λ c κs. search needs)
+    (λ c. search needs)
+    (λ c. search needs)
+    (λ c. search needs)
     clear-requires
-    enum-told
-    clear-requires-2
-    same-length
+    (λ c. search needs)
+    (λ c κs. search needs)
+    (λ c. search needs)
     returns
-    same-length-2
+    (λ c. search needs)
     returns-2)

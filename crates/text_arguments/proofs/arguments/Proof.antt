@@ -34,29 +34,14 @@ returns c = deep-said _ _ _ _ _ (c .before .before .before .pre .0) (c .before .
 past-requires : tie.Need-past-requires Inv-loop μ-loop
 past-requires c κs = ready-past _ _ _ _ (c .before .before .before .pre .0)
 
-enum-known-r : tie.Need-enum-known-r Inv-loop μ-loop
-enum-known-r c = search needs
-
-enum-told : tie.Need-enum-told Inv-loop μ-loop
-enum-told c = search needs
-
 returns-2 : tie.Need-returns-2 Inv-loop μ-loop
 returns-2 c = rw (c .enum-told .given .1) (bad-said _ _ _ _ _ (c .before .before .before .before .before .before .pre .0) (c .before .before .before .before .before .before .pre .1) (c .before .before .before .if1 .left) _ (c .before .before .past .ensures) _ (c .enum-told .given .1))
 
 loop-holds : tie.Need-loop-holds Inv-loop μ-loop
 loop-holds c = let b = begun c in unmoved _ _ _ _ _ _ (b .size) (b .within) (b .few) (b .looks)
 
-sub-entry : tie.Need-sub-entry Inv-loop μ-loop
-sub-entry c = search needs
-
 entry-requires : tie.Need-entry-requires Inv-loop μ-loop
 entry-requires c κs = (turn-ready _ _ _ _ _ _ _ _ _ (c .before .loop .inv) (c .before .before .before .before .before .before .before .before .before .pre .0 .short) (c .before .before .before .before .before .before .before .before .before .pre .0 .below), inl refl)
-
-enum-known-t : tie.Need-enum-known-t Inv-loop μ-loop
-enum-known-t c = search needs
-
-enum-told-2 : tie.Need-enum-told-2 Inv-loop μ-loop
-enum-told-2 c = search needs
 
 same-length : tie.Need-same-length Inv-loop μ-loop
 same-length c = c .before .before .before .before .entry .kept .1 .0 ∙ c .before .before .before .before .before .before .loop .inv .size ∙ sym (c .before .before .before .before .before .before .before .before .before .before .before .before .before .before .pre .0 .size)
@@ -87,14 +72,14 @@ arguments-spec =
     μ-loop
     returns
     past-requires
-    enum-known-r
-    enum-told
+    (λ c. search needs)
+    (λ c. search needs)
     returns-2
     loop-holds
-    sub-entry
+    (λ c. search needs)
     entry-requires
-    enum-known-t
-    enum-told-2
+    (λ c. search needs)
+    (λ c. search needs)
     same-length
     returns-3
     past-requires-2

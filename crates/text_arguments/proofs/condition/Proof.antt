@@ -8,17 +8,8 @@ use Rattle.text_arguments.proofs.condition.Tie as tie
 past-requires : tie.Need-past-requires
 past-requires c κs = ready-past _ _ _ _ (c .before .before .pre .0)
 
-enum-known-r : tie.Need-enum-known-r
-enum-known-r c = search needs
-
-enum-told : tie.Need-enum-told
-enum-told c = search needs
-
 returns : tie.Need-returns
 returns c = rw (c .enum-told .given .1) (condition-bad _ _ _ _ _ (c .before .before .before .before .before .pre .0) (c .before .before .before .before .before .pre .1) _ (c .before .before .past .ensures) _ (c .enum-told .given .1))
-
-no-going-requires : tie.Need-no-going-requires
-no-going-requires c κs = search needs
 
 returns-2 : tie.Need-returns-2
 returns-2 c = rw (c .no-going .ensures) (condition-nameless _ _ _ _ _ (c .before .before .before .before .before .before .before .before .before .pre .0) (c .before .before .before .before .before .before .before .before .before .pre .1) _ (c .before .before .before .before .before .before .past .ensures) _ (c .before .before .before .before .r .given .1) (c .before .if1 .taken))
@@ -28,12 +19,6 @@ returns-3 c = condition-full _ _ _ _ _ (c .before .before .before .before .befor
 
 sub-put-row : tie.Need-sub-put-row
 sub-put-row c = next-order _ _ _ _ (condition-name _ _ _ _ 0 (c .before .before .before .before .before .before .before .before .before .before .before .pre .0) (c .before .before .before .before .before .before .before .before .before .before .before .pre .1) _ (c .before .before .before .before .before .before .before .before .past .ensures) _ (c .before .before .before .before .before .before .r .given .1))
-
-put-row-requires : tie.Need-put-row-requires
-put-row-requires c κs = search needs
-
-add-past : tie.Need-add-past
-add-past c = search needs
 
 past-requires-2 : tie.Need-past-requires-2
 past-requires-2 c κs = (c .before .before .before .before .before .before .before .before .before .before .before .before .before .before .pre .0 .short, next-past _ _ _ _ (condition-name _ _ _ _ 0 (c .before .before .before .before .before .before .before .before .before .before .before .before .before .before .pre .0) (c .before .before .before .before .before .before .before .before .before .before .before .before .before .before .pre .1) _ (c .before .before .before .before .before .before .before .before .before .before .before .past .ensures) _ (c .before .before .before .before .before .before .before .before .before .r .given .1)))
@@ -49,15 +34,15 @@ condition-spec =
     tie.close
     (tie.spec
     past-requires
-    enum-known-r
-    enum-told
+    (λ c. search needs)
+    (λ c. search needs)
     returns
-    no-going-requires
+    (λ c κs. search needs)
     returns-2
     returns-3
     sub-put-row
-    put-row-requires
-    add-past
+    (λ c κs. search needs)
+    (λ c. search needs)
     past-requires-2
     same-length
     returns-4)

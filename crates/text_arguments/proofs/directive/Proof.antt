@@ -9,23 +9,11 @@ use Rattle.text_arguments.proofs.directive.Tie as tie
 returns : tie.Need-returns
 returns c = directive-full _ _ _ _ _ (c .before .before .before .pre .0) (c .before .before .before .pre .1) (c .if1 .taken)
 
-add-past : tie.Need-add-past
-add-past c = search needs
-
 past-requires : tie.Need-past-requires
 past-requires c κs = ready-past _ _ _ _ (c .before .before .before .pre .0)
 
-enum-known-r : tie.Need-enum-known-r
-enum-known-r c = search needs
-
-enum-told : tie.Need-enum-told
-enum-told c = search needs
-
 returns-2 : tie.Need-returns-2
 returns-2 c = rw (c .enum-told .given .1) (directive-bad _ _ _ _ _ (c .before .before .before .before .before .before .pre .0) (c .before .before .before .before .before .before .pre .1) (c .before .before .before .if1 .left) _ (c .before .before .past .ensures) _ (c .enum-told .given .1))
-
-no-going-requires : tie.Need-no-going-requires
-no-going-requires c κs = search needs
 
 returns-3 : tie.Need-returns-3
 returns-3 c = rw (c .no-going .ensures) (directive-nameless _ _ _ _ _ (c .before .before .before .before .before .before .before .before .before .before .pre .0) (c .before .before .before .before .before .before .before .before .before .before .pre .1) (c .before .before .before .before .before .before .before .if1 .left) _ (c .before .before .before .before .before .before .past .ensures) _ (c .before .before .before .before .r .given .1) (c .before .if2 .taken))
@@ -33,20 +21,8 @@ returns-3 c = rw (c .no-going .ensures) (directive-nameless _ _ _ _ _ (c .before
 sub-put-row : tie.Need-sub-put-row
 sub-put-row c = next-order _ _ _ _ (directive-name _ _ _ _ 0 (c .before .before .before .before .before .before .before .before .before .before .before .pre .0) (c .before .before .before .before .before .before .before .before .before .before .before .pre .1) (c .before .before .before .before .before .before .before .before .if1 .left) _ (c .before .before .before .before .before .before .before .past .ensures) _ (c .before .before .before .before .before .r .given .1))
 
-put-row-requires : tie.Need-put-row-requires
-put-row-requires c κs = search needs
-
-add-past-2 : tie.Need-add-past-2
-add-past-2 c = search needs
-
 past-requires-2 : tie.Need-past-requires-2
 past-requires-2 c κs = (c .before .before .before .before .before .before .before .before .before .before .before .before .before .before .pre .0 .short, next-past _ _ _ _ (directive-name _ _ _ _ 0 (c .before .before .before .before .before .before .before .before .before .before .before .before .before .before .pre .0) (c .before .before .before .before .before .before .before .before .before .before .before .before .before .before .pre .1) (c .before .before .before .before .before .before .before .before .before .before .before .if1 .left) _ (c .before .before .before .before .before .before .before .before .before .before .past .ensures) _ (c .before .before .before .before .before .before .before .before .r .given .1)))
-
-enum-known-t : tie.Need-enum-known-t
-enum-known-t c = search needs
-
-enum-told-2 : tie.Need-enum-told-2
-enum-told-2 c = search needs
 
 same-length : tie.Need-same-length
 same-length c = c .before .before .before .before .before .put-row .kept .0
@@ -65,12 +41,6 @@ returns-5 c = directive-bare _ _ _ _ _ (c .before .before .before .before .befor
 
 arguments-requires : tie.Need-arguments-requires
 arguments-requires c κs = (directive-ready _ _ _ _ 0 (c .before .before .before .before .before .before .before .before .before .before .before .before .before .before .before .before .before .before .before .before .before .pre .0) (c .before .before .before .before .before .before .before .before .before .before .before .before .before .before .before .before .before .before .before .before .before .pre .1) (c .before .before .before .before .before .before .before .before .before .before .before .before .before .before .before .before .before .before .if1 .left) _ (c .before .before .before .before .before .before .before .before .before .before .before .before .before .before .before .before .before .past .ensures) _ (c .before .before .before .before .before .before .before .before .before .before .before .before .before .before .before .r .given .1) (c .before .before .before .before .before .before .before .before .before .before .before .before .if2 .left) _ (c .before .before .before .before .before .before .before .before .before .put-row .ensures) _ (c .before .before .before .before .before .before .past2 .ensures) _ (c .before .before .before .before .t .given .1), c .before .if3 .left)
-
-enum-known-u : tie.Need-enum-known-u
-enum-known-u c = search needs
-
-enum-told-3 : tie.Need-enum-told-3
-enum-told-3 c = search needs
 
 same-length-3 : tie.Need-same-length-3
 same-length-3 c = c .before .before .before .before .arguments .kept .1 .0 ∙ c .before .before .before .before .before .before .before .before .before .before .before .before .before .before .put-row .kept .0
@@ -92,27 +62,27 @@ directive-spec =
     tie.close
     (tie.spec
     returns
-    add-past
+    (λ c. search needs)
     past-requires
-    enum-known-r
-    enum-told
+    (λ c. search needs)
+    (λ c. search needs)
     returns-2
-    no-going-requires
+    (λ c κs. search needs)
     returns-3
     sub-put-row
-    put-row-requires
-    add-past-2
+    (λ c κs. search needs)
+    (λ c. search needs)
     past-requires-2
-    enum-known-t
-    enum-told-2
+    (λ c. search needs)
+    (λ c. search needs)
     same-length
     returns-4
     put-end-requires
     same-length-2
     returns-5
     arguments-requires
-    enum-known-u
-    enum-told-3
+    (λ c. search needs)
+    (λ c. search needs)
     same-length-3
     returns-6
     put-end-requires-2

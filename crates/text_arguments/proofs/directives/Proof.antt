@@ -22,12 +22,6 @@ loop-holds c = (turn-first _ _ _ _ _ (c .before .before .pre .0), c .before .bef
 directive-requires : tie.Need-directive-requires Inv-loop μ-loop
 directive-requires c κs = (turn-ready _ _ _ _ _ _ _ (c .before .loop .inv .0) (c .before .before .before .before .pre .0 .short) (c .before .before .before .before .pre .0 .below), c .before .loop .inv .1)
 
-enum-known-r : tie.Need-enum-known-r Inv-loop μ-loop
-enum-known-r c = search needs
-
-enum-told : tie.Need-enum-told Inv-loop μ-loop
-enum-told c = search needs
-
 same-length : tie.Need-same-length Inv-loop μ-loop
 same-length c = c .before .before .before .before .directive .kept .1 .0 ∙ c .before .before .before .before .before .before .loop .inv .0 .size ∙ sym (c .before .before .before .before .before .before .before .before .before .pre .0 .size)
 
@@ -54,8 +48,8 @@ directives-spec =
     μ-loop
     loop-holds
     directive-requires
-    enum-known-r
-    enum-told
+    (λ c. search needs)
+    (λ c. search needs)
     same-length
     returns
     same-length-2

@@ -6,9 +6,6 @@ use borrow.Author.Needs.{needs}
 use Rattle.text_characters.proofs.character.Statement.{statement}
 use Rattle.text_characters.proofs.character.Tie as tie
 
-shared-slice-read-b : tie.Need-shared-slice-read-b
-shared-slice-read-b c = search needs
-
 returns : tie.Need-returns
 returns c = character-tab (c .before .before .before .before .args .s .now) (c .before .before .before .before .args .i) (c .before .before .before .before .pre) (omega arith)
 
@@ -18,12 +15,9 @@ returns-2 c = character-low (c .before .before .before .before .args .s .now) (c
 returns-3 : tie.Need-returns-3
 returns-3 c = character-plain (c .before .before .before .before .args .s .now) (c .before .before .before .before .args .i) (c .before .before .before .before .pre) (omega arith) (omega arith)
 
-wide-requires : tie.Need-wide-requires
-wide-requires c κs = search needs
-
 returns-4 : tie.Need-returns-4
 returns-4 c = c .wide .ensures ∙ character-wide (c .before .before .before .before .before .args .s .now) (c .before .before .before .before .before .args .i) (c .before .before .before .before .before .pre) (omega arith) (omega (arith, c .before .before .before .shared-slice-known2 .given (c .before .before .before .before .before .args .i)))
 
 pub character-spec : {M : Type 1} → statement M
 character-spec =
-    tie.close (tie.spec shared-slice-read-b returns returns-2 returns-3 wide-requires returns-4)
+    tie.close (tie.spec (λ c. search needs) returns returns-2 returns-3 (λ c κs. search needs) returns-4)

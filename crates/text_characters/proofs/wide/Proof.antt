@@ -7,26 +7,11 @@ use borrow.Author.Needs.{needs}
 use Rattle.text_characters.proofs.wide.Statement.{statement}
 use Rattle.text_characters.proofs.wide.Tie as tie
 
-shared-slice-read-b : tie.Need-shared-slice-read-b
-shared-slice-read-b c = search needs
-
 returns : tie.Need-returns
 returns c = size-low (c .before .before .before .args .s .now) (c .before .before .before .args .i) (c .before .before .before .pre) (omega arith)
 
-add-if2 : tie.Need-add-if2
-add-if2 c = search needs
-
 returns-2 : tie.Need-returns-2
 returns-2 c = size-alone (c .before .before .before .before .args .s .now) (c .before .before .before .before .args .i) (c .before .before .before .before .pre) (omega arith) (omega (arith, c .before .before .shared-slice-known2 .given (c .before .before .before .before .args .i)))
-
-add-is-tail : tie.Need-add-is-tail
-add-is-tail c = search needs
-
-shared-slice-read-is-tail : tie.Need-shared-slice-read-is-tail
-shared-slice-read-is-tail c = search needs
-
-is-tail-requires : tie.Need-is-tail-requires
-is-tail-requires c κs = search needs
 
 returns-3 : tie.Need-returns-3
 returns-3 c = size-two (c .before .before .before .before .before .before .before .before .args .s .now) (c .before .before .before .before .before .before .before .before .args .i) (c .before .before .before .before .before .before .before .before .pre) true (omega arith) (omega arith) (omega arith) (sym (c .before .is-tail .ensures) ∙ c .if4 .taken)
@@ -34,29 +19,8 @@ returns-3 c = size-two (c .before .before .before .before .before .before .befor
 returns-4 : tie.Need-returns-4
 returns-4 c = size-two (c .before .before .before .before .before .before .before .before .args .s .now) (c .before .before .before .before .before .before .before .before .args .i) (c .before .before .before .before .before .before .before .before .pre) false (omega arith) (omega arith) (omega arith) (sym (c .before .is-tail .ensures) ∙ c .if4 .left)
 
-add-if5 : tie.Need-add-if5
-add-if5 c = search needs
-
 returns-5 : tie.Need-returns-5
 returns-5 c = size-pair (c .before .before .before .before .before .before .args .s .now) (c .before .before .before .before .before .before .args .i) (c .before .before .before .before .before .before .pre) (omega arith) (omega (arith, c .before .before .before .before .shared-slice-known2 .given (c .before .before .before .before .before .before .args .i))) (omega arith) (omega arith)
-
-add-is-second : tie.Need-add-is-second
-add-is-second c = search needs
-
-shared-slice-read-is-second : tie.Need-shared-slice-read-is-second
-shared-slice-read-is-second c = search needs
-
-is-second-requires : tie.Need-is-second-requires
-is-second-requires c κs = search needs
-
-add-is-tail-2 : tie.Need-add-is-tail-2
-add-is-tail-2 c = search needs
-
-shared-slice-read-is-tail-2 : tie.Need-shared-slice-read-is-tail-2
-shared-slice-read-is-tail-2 c = search needs
-
-is-tail-requires-2 : tie.Need-is-tail-requires-2
-is-tail-requires-2 c κs = search needs
 
 returns-6 : tie.Need-returns-6
 returns-6 c = size-three (c .before .before .before .before .before .before .before .before .before .before .before .before .before .args .s .now) (c .before .before .before .before .before .before .before .before .before .before .before .before .before .args .i) (c .before .before .before .before .before .before .before .before .before .before .before .before .before .pre) true true (omega arith) (omega arith) (omega arith) (sym (c .before .before .before .before .is-second .ensures) ∙ c .before .before .before .if7 .taken) (sym (c .before .is-tail2 .ensures) ∙ c .if8 .taken)
@@ -74,23 +38,23 @@ pub wide-spec : {M : Type 1} → statement M
 wide-spec =
     tie.close
     (tie.spec
-    shared-slice-read-b
+    (λ c. search needs)
     returns
-    add-if2
+    (λ c. search needs)
     returns-2
-    add-is-tail
-    shared-slice-read-is-tail
-    is-tail-requires
+    (λ c. search needs)
+    (λ c. search needs)
+    (λ c κs. search needs)
     returns-3
     returns-4
-    add-if5
+    (λ c. search needs)
     returns-5
-    add-is-second
-    shared-slice-read-is-second
-    is-second-requires
-    add-is-tail-2
-    shared-slice-read-is-tail-2
-    is-tail-requires-2
+    (λ c. search needs)
+    (λ c. search needs)
+    (λ c κs. search needs)
+    (λ c. search needs)
+    (λ c. search needs)
+    (λ c κs. search needs)
     returns-6
     returns-7
     returns-8

@@ -7,15 +7,6 @@ use Rattle.text_cursor.proofs.ReaderLaws.{head-within, token-lies, moved-bad}
 use Rattle.text_documents.proofs.begin.Statement.{statement}
 use Rattle.text_documents.proofs.begin.Tie as tie
 
-next-requires : tie.Need-next-requires
-next-requires c κs = search needs
-
-enum-known-t : tie.Need-enum-known-t
-enum-known-t c = search needs
-
-enum-told : tie.Need-enum-told
-enum-told c = search needs
-
 located-requires : tie.Need-located-requires
 located-requires c κs =
     rw (c .before .before .next .ensures) (head-within _ _ (c .before .before .before .before .pre) (omega arith))
@@ -36,9 +27,9 @@ pub begin-spec : {M : Type 1} → statement M
 begin-spec =
     tie.close
     (tie.spec
-    next-requires
-    enum-known-t
-    enum-told
+    (λ c κs. search needs)
+    (λ c. search needs)
+    (λ c. search needs)
     located-requires
     returns
     cast-t6

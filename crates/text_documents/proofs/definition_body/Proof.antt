@@ -5,35 +5,17 @@ use borrow.Author.Needs.{needs}
 use Rattle.text_documents.proofs.definition_body.Statement.{statement}
 use Rattle.text_documents.proofs.definition_body.Tie as tie
 
-definition-set-requires : tie.Need-definition-set-requires
-definition-set-requires c κs = search needs
-
-same-length : tie.Need-same-length
-same-length c = search needs
-
 returns : tie.Need-returns
 returns c = body-bare _ _ _ _ (c .before .before .before .before .before .before .before .before .pre .0) (c .before .before .before .before .if1 .taken) _ (c .before .before .definition-set .result) (c .before .before .definition-set .ensures)
 
 directives-requires : tie.Need-directives-requires
 directives-requires c κs = (c .before .before .before .before .before .pre .0, c .before .if1 .left)
 
-enum-known-r : tie.Need-enum-known-r
-enum-known-r c = search needs
-
-enum-told : tie.Need-enum-told
-enum-told c = search needs
-
-same-length-2 : tie.Need-same-length-2
-same-length-2 c = search needs
-
 returns-2 : tie.Need-returns-2
 returns-2 c = body-stop _ _ _ _ _ _ (c .before .before .before .before .directives .result) (c .before .before .before .before .directives .ensures) _ (c .enum-told .given .1)
 
 definition-set-requires-2 : tie.Need-definition-set-requires-2
 definition-set-requires-2 c κs = (went-ready _ _ _ _ _ _ _ _ _ (c .before .before .before .before .before .before .before .before .before .before .before .before .pre .0 .short) (said-went _ _ _ _ _ _ _ _ (c .before .before .before .before .before .before .directives .result) (c .before .before .before .before .before .before .directives .ensures) _ (c .before .before .r .given .1)) _ (c .before .before .before .before .before .before .before .before .before .before .before .before .pre .0 .below), c .before .before .before .before .before .before .before .before .before .before .before .before .pre .1)
-
-same-length-3 : tie.Need-same-length-3
-same-length-3 c = search needs
 
 returns-3 : tie.Need-returns-3
 returns-3 c = body-says _ _ _ _ _ _ (said-went _ _ _ _ _ _ _ _ (c .before .before .before .before .before .before .before .before .before .directives .result) (c .before .before .before .before .before .before .before .before .before .directives .ensures) _ (c .before .before .before .before .before .r .given .1)) _ (c .before .before .definition-set2 .result) (c .before .before .definition-set2 .ensures)
@@ -42,14 +24,14 @@ pub definition-body-spec : {M : Type 1} → statement M
 definition-body-spec =
     tie.close
     (tie.spec
-    definition-set-requires
-    same-length
+    (λ c κs. search needs)
+    (λ c. search needs)
     returns
     directives-requires
-    enum-known-r
-    enum-told
-    same-length-2
+    (λ c. search needs)
+    (λ c. search needs)
+    (λ c. search needs)
     returns-2
     definition-set-requires-2
-    same-length-3
+    (λ c. search needs)
     returns-3)

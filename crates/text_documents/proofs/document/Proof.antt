@@ -19,12 +19,6 @@ abbrev μ-loop : tie.MeasureT-loop
 begin-requires : tie.Need-begin-requires Inv-loop μ-loop
 begin-requires c κs = c .before .before .pre .0
 
-enum-known-r : tie.Need-enum-known-r Inv-loop μ-loop
-enum-known-r c = search needs
-
-enum-told : tie.Need-enum-told Inv-loop μ-loop
-enum-told c = search needs
-
 returns : tie.Need-returns Inv-loop μ-loop
 returns c = begin-halts _ _ _ _ (c .before .before .begin .result) (c .before .before .begin .ensures) _ (c .enum-told .given .1)
 
@@ -33,12 +27,6 @@ loop-holds c = defined-none _ _ (c .before .before .before .before .before .befo
 
 definition-requires : tie.Need-definition-requires Inv-loop μ-loop
 definition-requires c κs = defined-ready _ _ (c .before .before .before .before .before .before .before .before .pre .0) (c .before .before .before .before .before .before .before .before .pre .1) (c .before .before .before .before .before .begin .result) (c .before .before .before .before .before .begin .ensures) _ (c .before .before .before .r .given .1) _ _ _ (c .before .loop .inv)
-
-enum-known-t : tie.Need-enum-known-t Inv-loop μ-loop
-enum-known-t c = search needs
-
-enum-told-2 : tie.Need-enum-told-2 Inv-loop μ-loop
-enum-told-2 c = search needs
 
 same-length : tie.Need-same-length Inv-loop μ-loop
 same-length c = c .before .before .before .before .definition .kept .1 .0 ∙ c .before .before .before .before .before .before .loop .inv .size ∙ sym (c .before .before .before .before .before .before .before .before .before .before .before .before .before .pre .1)
@@ -68,13 +56,13 @@ document-spec =
     Inv-loop
     μ-loop
     begin-requires
-    enum-known-r
-    enum-told
+    (λ c. search needs)
+    (λ c. search needs)
     returns
     loop-holds
     definition-requires
-    enum-known-t
-    enum-told-2
+    (λ c. search needs)
+    (λ c. search needs)
     same-length
     returns-2
     same-length-2

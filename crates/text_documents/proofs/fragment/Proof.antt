@@ -13,17 +13,8 @@ returns c = fragment-full _ _ _ _ (c .before .before .before .pre .0) (c .before
 returns-2 : tie.Need-returns-2
 returns-2 c = fragment-many _ _ _ _ (c .before .before .before .before .pre .0) (c .before .before .before .before .pre .1) (c .before .if1 .left) (omega arith)
 
-add-past : tie.Need-add-past
-add-past c = search needs
-
 past-requires : tie.Need-past-requires
 past-requires c κs = (c .before .before .before .before .pre .0 .short, end-within _ (c .before .before .before .before .args .c) (c .before .before .before .before .pre .0 .within) (c .before .before .before .before .pre .0 .looks) .1)
-
-enum-known-r : tie.Need-enum-known-r
-enum-known-r c = search needs
-
-enum-told : tie.Need-enum-told
-enum-told c = search needs
 
 returns-3 : tie.Need-returns-3
 returns-3 c = fragment-bad _ _ _ _ (c .before .before .before .before .before .before .before .pre .0) (c .before .before .before .before .before .before .before .pre .1) (c .before .before .before .before .if1 .left) (c .before .before .before .if2 .left) (c .before .before .past .result) (c .before .before .past .ensures) _ _ (c .enum-told .given .1)
@@ -34,20 +25,11 @@ names-fragment-requires c κs = omega (arith, fragment-ends _ _ _ (c .before .be
 sub-put-row : tie.Need-sub-put-row
 sub-put-row c = fragment-ends _ _ _ (c .before .before .before .before .before .before .before .before .before .before .before .before .args .before) (c .before .before .before .before .before .before .before .before .before .before .before .before .pre .0) (c .before .before .before .before .before .before .before .before .before .before .before .before .pre .1) (c .before .before .before .before .before .before .before .before .before .if1 .left) (c .before .before .before .before .before .before .before .before .if2 .left) (c .before .before .before .before .before .before .before .past .result) (c .before .before .before .before .before .before .before .past .ensures) _ (c .before .before .before .before .before .r .given .1) .0
 
-put-row-requires : tie.Need-put-row-requires
-put-row-requires c κs = search needs
-
 fragment-rest-requires : tie.Need-fragment-rest-requires
 fragment-rest-requires c κs = fragment-ready _ _ _ (c .before .before .before .before .before .before .before .before .before .before .before .before .before .before .before .before .args .before) (c .before .before .before .before .before .before .before .before .before .before .before .before .before .before .before .before .pre .0) (c .before .before .before .before .before .before .before .before .before .before .before .before .before .before .before .before .pre .1) (c .before .before .before .before .before .before .before .before .before .before .before .before .before .if1 .left) (c .before .before .before .before .before .before .before .before .before .before .before .before .if2 .left) (c .before .before .before .before .before .before .before .before .before .before .before .past .result) (c .before .before .before .before .before .before .before .before .before .before .before .past .ensures) _ (c .before .before .before .before .before .before .before .before .before .r .given .1) _ (c .before .before .before .put-row .ensures) (sym (c .before .before .before .before .before .before .before .names-fragment .ensures) ∙ c .before .before .before .before .before .before .if3 .taken)
 
-same-length : tie.Need-same-length
-same-length c = search needs
-
 returns-4 : tie.Need-returns-4
 returns-4 c = fragment-says _ _ _ _ (c .before .before .before .before .before .before .before .before .before .before .before .before .before .before .before .before .before .before .before .pre .0) (c .before .before .before .before .before .before .before .before .before .before .before .before .before .before .before .before .before .before .before .pre .1) (c .before .before .before .before .before .before .before .before .before .before .before .before .before .before .before .before .if1 .left) (c .before .before .before .before .before .before .before .before .before .before .before .before .before .before .before .if2 .left) (c .before .before .before .before .before .before .before .before .before .before .before .before .before .before .past .result) (c .before .before .before .before .before .before .before .before .before .before .before .before .before .before .past .ensures) _ (c .before .before .before .before .before .before .before .before .before .before .before .before .r .given .1) _ (c .before .before .before .before .before .before .put-row .ensures) _ (c .before .before .fragment-rest .result) (c .before .before .fragment-rest .ensures)
-
-no-going-requires : tie.Need-no-going-requires
-no-going-requires c κs = search needs
 
 returns-5 : tie.Need-returns-5
 returns-5 c = fragment-nameless _ _ _ _ (c .before .before .before .before .before .before .before .before .before .before .before .pre .0) (c .before .before .before .before .before .before .before .before .before .before .before .pre .1) (c .before .before .before .before .before .before .before .before .if1 .left) (c .before .before .before .before .before .before .before .if2 .left) (c .before .before .before .before .before .before .past .result) (c .before .before .before .before .before .before .past .ensures) _ (c .before .before .before .before .r .given .1) _ (sym (c .before .before .names-fragment .ensures) ∙ c .before .if3 .left) (c .no-going .result) (c .no-going .ensures)
@@ -58,16 +40,16 @@ fragment-spec =
     (tie.spec
     returns
     returns-2
-    add-past
+    (λ c. search needs)
     past-requires
-    enum-known-r
-    enum-told
+    (λ c. search needs)
+    (λ c. search needs)
     returns-3
     names-fragment-requires
     sub-put-row
-    put-row-requires
+    (λ c κs. search needs)
     fragment-rest-requires
-    same-length
+    (λ c. search needs)
     returns-4
-    no-going-requires
+    (λ c κs. search needs)
     returns-5)

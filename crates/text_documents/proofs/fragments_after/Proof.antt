@@ -5,12 +5,6 @@ use borrow.Author.Needs.{needs}
 use Rattle.text_documents.proofs.fragments_after.Statement.{statement}
 use Rattle.text_documents.proofs.fragments_after.Tie as tie
 
-word-at-requires : tie.Need-word-at-requires
-word-at-requires c κs = search needs
-
-add-result : tie.Need-add-result
-add-result c = search needs
-
 returns : tie.Need-returns
 returns c = sym (after-fragment _ (c .before .before .before .args .c) _ (sym (c .before .word-at .ensures) ∙ c .if1 .taken))
 
@@ -18,4 +12,4 @@ returns-2 : tie.Need-returns-2
 returns-2 c = sym (after-other _ (c .before .before .before .args .c) _ (λ e. c .if1 .left (c .before .word-at .ensures ∙ e)))
 
 pub fragments-after-spec : {M : Type 1} → statement M
-fragments-after-spec = tie.close (tie.spec word-at-requires add-result returns returns-2)
+fragments-after-spec = tie.close (tie.spec (λ c κs. search needs) (λ c. search needs) returns returns-2)

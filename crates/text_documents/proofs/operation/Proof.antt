@@ -8,29 +8,14 @@ use Rattle.text_documents.proofs.operation.Tie as tie
 returns : tie.Need-returns
 returns c = operation-full _ _ _ _ (c .before .before .before .pre .0) (c .before .before .before .pre .1) (c .if1 .taken)
 
-add-past : tie.Need-add-past
-add-past c = search needs
-
 past-requires : tie.Need-past-requires
 past-requires c κs = (c .before .before .before .pre .0 .short, end-within _ (c .before .before .before .args .c) (c .before .before .before .pre .0 .within) (c .before .before .before .pre .0 .looks) .1)
-
-enum-known-r : tie.Need-enum-known-r
-enum-known-r c = search needs
-
-enum-told : tie.Need-enum-told
-enum-told c = search needs
 
 returns-2 : tie.Need-returns-2
 returns-2 c = operation-bad _ _ _ _ (c .before .before .before .before .before .before .pre .0) (c .before .before .before .before .before .before .pre .1) (c .before .before .before .if1 .left) (c .before .before .past .result) (c .before .before .past .ensures) _ _ (c .enum-told .given .1)
 
-put-row-requires : tie.Need-put-row-requires
-put-row-requires c κs = search needs
-
 operation-rest-requires : tie.Need-operation-rest-requires
 operation-rest-requires c κs = unnamed-ready _ _ _ _ (c .before .before .before .before .before .before .before .before .before .before .before .before .before .before .pre .0) (c .before .before .before .before .before .before .before .before .before .before .before .before .before .before .pre .1) (c .before .before .before .before .before .before .before .before .before .before .before .if1 .left) (c .before .before .before .before .before .before .before .before .before .before .past .result) (c .before .before .before .before .before .before .before .before .before .before .past .ensures) _ (c .before .before .before .before .before .before .before .before .r .given .1) _ (c .before .before .before .put-row .ensures)
-
-same-length : tie.Need-same-length
-same-length c = search needs
 
 returns-3 : tie.Need-returns-3
 returns-3 c = unnamed-says _ _ _ _ (c .before .before .before .before .before .before .before .before .before .before .before .before .before .before .before .before .before .pre .0) (c .before .before .before .before .before .before .before .before .before .before .before .before .before .before .before .before .before .pre .1) (c .before .before .before .before .before .before .before .before .before .before .before .before .before .before .if1 .left) (c .before .before .before .before .before .before .before .before .before .before .before .before .before .past .result) (c .before .before .before .before .before .before .before .before .before .before .before .before .before .past .ensures) _ (c .before .before .before .before .before .before .before .before .before .before .before .r .given .1) (c .before .before .before .before .before .before .before .before .if2 .taken) _ (c .before .before .before .before .before .before .put-row .ensures) _ (c .before .before .operation-rest .result) (c .before .before .operation-rest .ensures)
@@ -38,32 +23,14 @@ returns-3 c = unnamed-says _ _ _ _ (c .before .before .before .before .before .b
 sub-put-row : tie.Need-sub-put-row
 sub-put-row c = name-ends _ _ _ _ (c .before .before .before .before .before .before .before .before .before .before .before .pre .0) (c .before .before .before .before .before .before .before .before .before .before .before .pre .1) (c .before .before .before .before .before .before .before .before .if1 .left) (c .before .before .before .before .before .before .before .past .result) (c .before .before .before .before .before .before .before .past .ensures) _ (c .before .before .before .before .before .r .given .1) .0
 
-put-row-requires-2 : tie.Need-put-row-requires-2
-put-row-requires-2 c κs = search needs
-
-add-past-2 : tie.Need-add-past-2
-add-past-2 c = search needs
-
 past-requires-2 : tie.Need-past-requires-2
 past-requires-2 c κs = (c .before .before .before .before .before .before .before .before .before .before .before .before .before .before .pre .0 .short, name-ends _ _ _ _ (c .before .before .before .before .before .before .before .before .before .before .before .before .before .before .pre .0) (c .before .before .before .before .before .before .before .before .before .before .before .before .before .before .pre .1) (c .before .before .before .before .before .before .before .before .before .before .before .if1 .left) (c .before .before .before .before .before .before .before .before .before .before .past .result) (c .before .before .before .before .before .before .before .before .before .before .past .ensures) _ (c .before .before .before .before .before .before .before .before .r .given .1) .1)
-
-enum-known-t : tie.Need-enum-known-t
-enum-known-t c = search needs
-
-enum-told-2 : tie.Need-enum-told-2
-enum-told-2 c = search needs
-
-same-length-2 : tie.Need-same-length-2
-same-length-2 c = search needs
 
 returns-4 : tie.Need-returns-4
 returns-4 c = operation-bad-2 _ _ _ _ (c .before .before .before .before .before .before .before .before .before .before .before .before .before .before .before .before .before .pre .0) (c .before .before .before .before .before .before .before .before .before .before .before .before .before .before .before .before .before .pre .1) (c .before .before .before .before .before .before .before .before .before .before .before .before .before .before .if1 .left) (c .before .before .before .before .before .before .before .before .before .before .before .before .before .past .result) (c .before .before .before .before .before .before .before .before .before .before .before .before .before .past .ensures) _ (c .before .before .before .before .before .before .before .before .before .before .before .r .given .1) (c .before .before .before .before .before .before .before .before .if2 .left) (c .before .before .past2 .result) (c .before .before .past2 .ensures) _ _ (c .enum-told2 .given .1)
 
 operation-rest-requires-2 : tie.Need-operation-rest-requires-2
 operation-rest-requires-2 c κs = named-ready _ _ _ _ (c .before .before .before .before .before .before .before .before .before .before .before .before .before .before .before .before .before .before .before .pre .0) (c .before .before .before .before .before .before .before .before .before .before .before .before .before .before .before .before .before .before .before .pre .1) (c .before .before .before .before .before .before .before .before .before .before .before .before .before .before .before .before .if1 .left) (c .before .before .before .before .before .before .before .before .before .before .before .before .before .before .before .past .result) (c .before .before .before .before .before .before .before .before .before .before .before .before .before .before .before .past .ensures) _ (c .before .before .before .before .before .before .before .before .before .before .before .before .before .r .given .1) (c .before .before .before .before .before .before .before .before .before .before .if2 .left) (c .before .before .before .before .past2 .result) (c .before .before .before .before .past2 .ensures) _ (c .before .before .t .given .1) _ (c .before .before .before .before .before .before .before .put-row2 .ensures)
-
-same-length-3 : tie.Need-same-length-3
-same-length-3 c = search needs
 
 returns-5 : tie.Need-returns-5
 returns-5 c = named-says _ _ _ _ (c .before .before .before .before .before .before .before .before .before .before .before .before .before .before .before .before .before .before .before .before .before .before .pre .0) (c .before .before .before .before .before .before .before .before .before .before .before .before .before .before .before .before .before .before .before .before .before .before .pre .1) (c .before .before .before .before .before .before .before .before .before .before .before .before .before .before .before .before .before .before .before .if1 .left) (c .before .before .before .before .before .before .before .before .before .before .before .before .before .before .before .before .before .before .past .result) (c .before .before .before .before .before .before .before .before .before .before .before .before .before .before .before .before .before .before .past .ensures) _ (c .before .before .before .before .before .before .before .before .before .before .before .before .before .before .before .before .r .given .1) (c .before .before .before .before .before .before .before .before .before .before .before .before .before .if2 .left) (c .before .before .before .before .before .before .before .past2 .result) (c .before .before .before .before .before .before .before .past2 .ensures) _ (c .before .before .before .before .before .t .given .1) _ (c .before .before .before .before .before .before .before .before .before .before .put-row2 .ensures) _ (c .before .before .operation-rest2 .result) (c .before .before .operation-rest2 .ensures)
@@ -73,23 +40,23 @@ operation-spec =
     tie.close
     (tie.spec
     returns
-    add-past
+    (λ c. search needs)
     past-requires
-    enum-known-r
-    enum-told
+    (λ c. search needs)
+    (λ c. search needs)
     returns-2
-    put-row-requires
+    (λ c κs. search needs)
     operation-rest-requires
-    same-length
+    (λ c. search needs)
     returns-3
     sub-put-row
-    put-row-requires-2
-    add-past-2
+    (λ c κs. search needs)
+    (λ c. search needs)
     past-requires-2
-    enum-known-t
-    enum-told-2
-    same-length-2
+    (λ c. search needs)
+    (λ c. search needs)
+    (λ c. search needs)
     returns-4
     operation-rest-requires-2
-    same-length-3
+    (λ c. search needs)
     returns-5)

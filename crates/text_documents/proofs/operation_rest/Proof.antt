@@ -5,35 +5,14 @@ use borrow.Author.Needs.{needs}
 use Rattle.text_documents.proofs.operation_rest.Statement.{statement}
 use Rattle.text_documents.proofs.operation_rest.Tie as tie
 
-definition-body-requires : tie.Need-definition-body-requires
-definition-body-requires c κs = search needs
-
-same-length : tie.Need-same-length
-same-length c = search needs
-
 returns : tie.Need-returns
 returns c = rest-bare _ _ _ _ (c .before .before .before .before .before .before .before .before .pre .0) (c .before .before .before .before .if1 .taken) _ (c .before .before .definition-body .result) (c .before .before .definition-body .ensures)
-
-variable-definitions-requires : tie.Need-variable-definitions-requires
-variable-definitions-requires c κs = search needs
-
-enum-known-r : tie.Need-enum-known-r
-enum-known-r c = search needs
-
-enum-told : tie.Need-enum-told
-enum-told c = search needs
-
-same-length-2 : tie.Need-same-length-2
-same-length-2 c = search needs
 
 returns-2 : tie.Need-returns-2
 returns-2 c = rest-stop _ _ _ _ (c .before .before .before .before .before .before .before .before .before .before .pre .0) (c .before .before .before .before .before .before .if1 .left) _ _ (c .before .before .before .before .variable-definitions .result) (c .before .before .before .before .variable-definitions .ensures) _ (c .enum-told .given .1)
 
 definition-body-requires-2 : tie.Need-definition-body-requires-2
 definition-body-requires-2 c κs = (counted-ready _ _ _ _ _ _ _ _ _ _ _ _ (c .before .before .before .before .before .before .before .before .before .before .before .before .pre .0 .short) (counted-went _ _ _ _ _ _ _ _ (c .before .before .before .before .before .before .variable-definitions .result) _ _ _ (c .before .before .before .before .before .before .variable-definitions .ensures) _ (c .before .before .r .given .1)) _ (c .before .before .before .before .before .before .before .before .before .before .before .before .pre .0 .below), c .before .before .before .before .before .before .before .before .before .before .before .before .pre .1)
-
-same-length-3 : tie.Need-same-length-3
-same-length-3 c = search needs
 
 returns-3 : tie.Need-returns-3
 returns-3 c = rest-says _ _ _ _ (c .before .before .before .before .before .before .before .before .before .before .before .before .before .before .before .pre .0) (c .before .before .before .before .before .before .before .before .before .before .before .if1 .left) _ _ (counted-went _ _ _ _ _ _ _ _ (c .before .before .before .before .before .before .before .before .before .variable-definitions .result) _ _ _ (c .before .before .before .before .before .before .before .before .before .variable-definitions .ensures) _ (c .before .before .before .before .before .r .given .1)) _ (c .before .before .definition-body2 .result) (c .before .before .definition-body2 .ensures)
@@ -42,14 +21,14 @@ pub operation-rest-spec : {M : Type 1} → statement M
 operation-rest-spec =
     tie.close
     (tie.spec
-    definition-body-requires
-    same-length
+    (λ c κs. search needs)
+    (λ c. search needs)
     returns
-    variable-definitions-requires
-    enum-known-r
-    enum-told
-    same-length-2
+    (λ c κs. search needs)
+    (λ c. search needs)
+    (λ c. search needs)
+    (λ c. search needs)
     returns-2
     definition-body-requires-2
-    same-length-3
+    (λ c. search needs)
     returns-3)

@@ -5,20 +5,8 @@ use borrow.Author.Needs.{needs}
 use Rattle.text_documents.proofs.variables_text.Statement.{statement}
 use Rattle.text_documents.proofs.variables_text.Tie as tie
 
-begin-requires : tie.Need-begin-requires
-begin-requires c κs = search needs
-
-enum-known-r : tie.Need-enum-known-r
-enum-known-r c = search needs
-
-enum-told : tie.Need-enum-told
-enum-told c = search needs
-
 returns : tie.Need-returns
 returns c = begin-halts _ _ _ _ (c .before .before .begin .result) (c .before .before .begin .ensures) _ (c .enum-told .given .1)
-
-no-going-requires : tie.Need-no-going-requires
-no-going-requires c κs = search needs
 
 returns-2 : tie.Need-returns-2
 returns-2 c = text-none _ _ (c .before .before .before .before .before .before .before .before .before .pre .0) (c .before .before .before .before .before .before .before .before .before .pre .1) (c .before .before .before .before .before .before .begin .result) (c .before .before .before .before .before .before .begin .ensures) _ (c .before .before .before .before .r .given .1) _ (c .before .if1 .taken) (c .no-going .result) (c .no-going .ensures)
@@ -26,29 +14,11 @@ returns-2 c = text-none _ _ (c .before .before .before .before .before .before .
 value-requires : tie.Need-value-requires
 value-requires c κs = begin-ready _ _ (c .before .before .before .before .before .before .before .before .before .pre .0) (c .before .before .before .before .before .before .before .before .before .pre .1) (c .before .before .before .before .before .before .begin .result) (c .before .before .before .before .before .before .begin .ensures) _ (c .before .before .before .before .r .given .1)
 
-enum-known-t : tie.Need-enum-known-t
-enum-known-t c = search needs
-
-enum-told-2 : tie.Need-enum-told-2
-enum-told-2 c = search needs
-
-same-length : tie.Need-same-length
-same-length c = search needs
-
 returns-3 : tie.Need-returns-3
 returns-3 c = text-stop _ _ (c .before .before .before .before .before .before .before .before .before .before .before .before .before .before .pre .0) (c .before .before .before .before .before .before .before .before .before .before .before .before .before .before .pre .1) (c .before .before .before .before .before .before .before .before .before .before .before .begin .result) (c .before .before .before .before .before .before .before .before .before .before .before .begin .ensures) _ (c .before .before .before .before .before .before .before .before .before .r .given .1) (c .before .before .before .before .before .before .if1 .left) _ _ (c .before .before .before .before .value .result) (c .before .before .before .before .value .ensures) _ (c .enum-told2 .given .1)
 
-no-going-requires-2 : tie.Need-no-going-requires-2
-no-going-requires-2 c κs = search needs
-
-same-length-2 : tie.Need-same-length-2
-same-length-2 c = search needs
-
 returns-4 : tie.Need-returns-4
 returns-4 c = text-more _ _ (c .before .before .before .before .before .before .before .before .before .before .before .before .before .before .before .before .before .before .pre .0) (c .before .before .before .before .before .before .before .before .before .before .before .before .before .before .before .before .before .before .pre .1) (c .before .before .before .before .before .before .before .before .before .before .before .before .before .before .before .begin .result) (c .before .before .before .before .before .before .before .before .before .before .before .before .before .before .before .begin .ensures) _ (c .before .before .before .before .before .before .before .before .before .before .before .before .before .r .given .1) (c .before .before .before .before .before .before .before .before .before .before .if1 .left) _ _ (said-went _ _ _ _ _ _ _ _ (c .before .before .before .before .before .before .before .before .value .result) (c .before .before .before .before .before .before .before .before .value .ensures) _ (c .before .before .before .before .t .given .1)) _ (c .before .if2 .taken) (c .no-going2 .result) (c .no-going2 .ensures)
-
-same-length-3 : tie.Need-same-length-3
-same-length-3 c = search needs
 
 returns-5 : tie.Need-returns-5
 returns-5 c = text-all _ _ (c .before .before .before .before .before .before .before .before .before .before .before .before .before .before .before .before .before .pre .0) (c .before .before .before .before .before .before .before .before .before .before .before .before .before .before .before .before .before .pre .1) (c .before .before .before .before .before .before .before .before .before .before .before .before .before .before .begin .result) (c .before .before .before .before .before .before .before .before .before .before .before .before .before .before .begin .ensures) _ (c .before .before .before .before .before .before .before .before .before .before .before .before .r .given .1) (c .before .before .before .before .before .before .before .before .before .if1 .left) _ _ (said-went _ _ _ _ _ _ _ _ (c .before .before .before .before .before .before .before .value .result) (c .before .before .before .before .before .before .before .value .ensures) _ (c .before .before .before .t .given .1)) (c .if2 .left)
@@ -57,19 +27,19 @@ pub variables-text-spec : {M : Type 1} → statement M
 variables-text-spec =
     tie.close
     (tie.spec
-    begin-requires
-    enum-known-r
-    enum-told
+    (λ c κs. search needs)
+    (λ c. search needs)
+    (λ c. search needs)
     returns
-    no-going-requires
+    (λ c κs. search needs)
     returns-2
     value-requires
-    enum-known-t
-    enum-told-2
-    same-length
+    (λ c. search needs)
+    (λ c. search needs)
+    (λ c. search needs)
     returns-3
-    no-going-requires-2
-    same-length-2
+    (λ c κs. search needs)
+    (λ c. search needs)
     returns-4
-    same-length-3
+    (λ c. search needs)
     returns-5)

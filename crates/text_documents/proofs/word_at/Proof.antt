@@ -5,15 +5,6 @@ use borrow.Author.Needs.{needs}
 use Rattle.text_documents.proofs.word_at.Statement.{statement}
 use Rattle.text_documents.proofs.word_at.Tie as tie
 
-cast-word : tie.Need-cast-word
-cast-word c = search needs
-
-cast-word-2 : tie.Need-cast-word-2
-cast-word-2 c = search needs
-
-word-requires : tie.Need-word-requires
-word-requires c κs = search needs
-
 returns : tie.Need-returns
 returns c = c .word .ensures ∙ sym (name-word _ (c .before .before .before .before .before .before .args .c) (c .before .before .before .if1 .taken))
 
@@ -21,4 +12,4 @@ returns-2 : tie.Need-returns-2
 returns-2 c = sym (no-word _ (c .before .before .before .args .c) (c .if1 .left))
 
 pub word-at-spec : {M : Type 1} → statement M
-word-at-spec = tie.close (tie.spec cast-word cast-word-2 word-requires returns returns-2)
+word-at-spec = tie.close (tie.spec (λ c. search needs) (λ c. search needs) (λ c κs. search needs) returns returns-2)

@@ -4,16 +4,10 @@ use borrow.Author.Needs.{needs}
 use Rattle.text_leaves.proofs.close.Statement.{statement}
 use Rattle.text_leaves.proofs.close.Tie as tie
 
-put-end-requires : tie.Need-put-end-requires
-put-end-requires c κs = search needs
-
 past-requires : tie.Need-past-requires
 past-requires c κs =
     let start = c .before .before .before .before .before .before in
     (start .pre .0 .short, ready-lies _ _ _ _ (start .pre .0) .2)
-
-same-length : tie.Need-same-length
-same-length c = search needs
 
 returns : tie.Need-returns
 returns c =
@@ -21,4 +15,4 @@ returns c =
     record { ended = at-put-end .put-end .ensures; moved = c .past .ensures }
 
 pub close-spec : {M : Type 1} → statement M
-close-spec = tie.close (tie.spec put-end-requires past-requires same-length returns)
+close-spec = tie.close (tie.spec (λ c κs. search needs) past-requires (λ c. search needs) returns)

@@ -15,19 +15,10 @@ returns-2 c =
     let at-else1 = c .before in
     crowded (omega (arith, at-else1 .if1 .left)) (omega (arith, c .if2 .taken)) refl
 
-put-row-requires : tie.Need-put-row-requires
-put-row-requires c κs = search needs
-
-add-past : tie.Need-add-past
-add-past c = search needs
-
 past-requires : tie.Need-past-requires
 past-requires c κs =
     let start = c .before .before .before .before .before .before .before .before in
     (start .pre .short, ready-lies _ _ _ _ (start .pre) .2)
-
-same-length : tie.Need-same-length
-same-length c = search needs
 
 returns-3 : tie.Need-returns-3
 returns-3 c =
@@ -40,4 +31,4 @@ returns-3 c =
 pub enter-spec : {M : Type 1} → statement M
 enter-spec =
     tie.close
-    (tie.spec returns returns-2 put-row-requires add-past past-requires same-length returns-3)
+    (tie.spec returns returns-2 (λ c κs. search needs) (λ c. search needs) past-requires (λ c. search needs) returns-3)

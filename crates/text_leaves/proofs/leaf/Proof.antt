@@ -10,19 +10,10 @@ use Rattle.text_leaves.proofs.leaf.Tie as tie
 returns : tie.Need-returns
 returns c = full (omega (arith, c .if1 .taken)) refl
 
-put-row-requires : tie.Need-put-row-requires
-put-row-requires c κs = search needs
-
-add-past : tie.Need-add-past
-add-past c = search needs
-
 past-requires : tie.Need-past-requires
 past-requires c κs =
     let start = c .before .before .before .before .before .before .before .before in
     (start .pre .short, ready-lies _ _ _ _ (start .pre) .2)
-
-same-length : tie.Need-same-length
-same-length c = search needs
 
 returns-2 : tie.Need-returns-2
 returns-2 c =
@@ -33,4 +24,4 @@ returns-2 c =
 
 pub leaf-spec : {M : Type 1} → statement M
 leaf-spec =
-    tie.close (tie.spec returns put-row-requires add-past past-requires same-length returns-2)
+    tie.close (tie.spec returns (λ c κs. search needs) (λ c. search needs) past-requires (λ c. search needs) returns-2)

@@ -15,21 +15,6 @@ returns-2 c = bang-many _ _ (c .before .before .before .before .before .pre) (c 
 past-requires : tie.Need-past-requires
 past-requires c κs = (c .before .before .before .before .before .pre .seen .short, end-within _ (c .before .before .before .before .before .args .w .at) (c .before .before .before .before .before .pre .seen .within) (c .before .before .before .before .before .pre .seen .looks) .1)
 
-enum-known-r : tie.Need-enum-known-r
-enum-known-r c = search needs
-
-mul-t13 : tie.Need-mul-t13
-mul-t13 c = search needs
-
-add-t14 : tie.Need-add-t14
-add-t14 c = search needs
-
-add-t15 : tie.Need-add-t15
-add-t15 c = search needs
-
-enum-known-r-2 : tie.Need-enum-known-r-2
-enum-known-r-2 c = search needs
-
 returns-3 : tie.Need-returns-3
 returns-3 c = bang-done _ _ (c .before .before .before .before .before .before .before .before .before .pre) (c .before .before .before .before .before .if1 .left) (c .before .before .before .before .if2 .left) _ (c .before .before .before .past .ensures) _ (c .before .r .given .1)
 
@@ -37,4 +22,4 @@ returns-4 : tie.Need-returns-4
 returns-4 c = bang-bad _ _ (c .before .before .before .before .before .before .before .before .before .pre) (c .before .before .before .before .before .if1 .left) (c .before .before .before .before .if2 .left) _ (c .before .before .before .past .ensures) _ (c .before .r2 .given .1)
 
 pub bang-if-spec : {M : Type 1} → statement M
-bang-if-spec = tie.close (tie.spec returns returns-2 past-requires enum-known-r mul-t13 add-t14 add-t15 enum-known-r-2 returns-3 returns-4)
+bang-if-spec = tie.close (tie.spec returns returns-2 past-requires (λ c. search needs) (λ c. search needs) (λ c. search needs) (λ c. search needs) (λ c. search needs) returns-3 returns-4)

@@ -8,26 +8,14 @@ use Rattle.text_references.proofs.base_type.Tie as tie
 past-requires : tie.Need-past-requires
 past-requires c κs = (c .before .pre .0 .short, end-within _ (c .before .args .c) (c .before .pre .0 .within) (c .before .pre .0 .looks) .1)
 
-enum-known-r : tie.Need-enum-known-r
-enum-known-r c = search needs
-
 bang-if-requires : tie.Need-bang-if-requires
 bang-if-requires c κs = bare-marked _ _ _ (c .before .before .before .before .before .pre .0) (c .before .before .before .before .before .pre .1) (c .before .before .before .before .before .pre .2) _ (c .before .before .before .past .ensures) _ (c .before .r .given .1)
-
-enum-known-t : tie.Need-enum-known-t
-enum-known-t c = search needs
-
-enum-told : tie.Need-enum-told
-enum-told c = search needs
 
 returns : tie.Need-returns
 returns c = named-stop _ _ _ (c .before .before .before .before .before .before .before .before .pre .0) (c .before .before .before .before .before .before .before .before .pre .1) (c .before .before .before .before .before .before .before .before .pre .2) _ (c .before .before .before .before .before .before .past .ensures) _ (c .before .before .before .before .r .given .1) (c .before .before .bang-if .result) _ (c .before .before .bang-if .ensures) (c .enum-told .given .1)
 
 close-brackets-requires : tie.Need-close-brackets-requires
 close-brackets-requires c κs = named-ready _ _ _ (c .before .before .before .before .before .before .before .before .before .pre .0) (c .before .before .before .before .before .before .before .before .before .pre .1) (c .before .before .before .before .before .before .before .before .before .pre .2) _ (c .before .before .before .before .before .before .before .past .ensures) _ (c .before .before .before .before .before .r .given .1) (c .before .before .before .bang-if .result) _ (c .before .before .before .bang-if .ensures) (c .before .t .given .1)
-
-enum-known-r-2 : tie.Need-enum-known-r-2
-enum-known-r-2 c = search needs
 
 returns-2 : tie.Need-returns-2
 returns-2 c = named-says _ _ _ (c .before .before .before .before .before .before .before .before .before .before .pre .0) (c .before .before .before .before .before .before .before .before .before .before .pre .1) (c .before .before .before .before .before .before .before .before .before .before .pre .2) _ (c .before .before .before .before .before .before .before .before .past .ensures) _ (c .before .before .before .before .before .before .r .given .1) (c .before .before .before .before .bang-if .result) _ (c .before .before .before .before .bang-if .ensures) (c .before .before .t .given .1) (c .close-brackets .result) (c .close-brackets .ensures)
@@ -40,12 +28,12 @@ base-type-spec =
     tie.close
     (tie.spec
     past-requires
-    enum-known-r
+    (λ c. search needs)
     bang-if-requires
-    enum-known-t
-    enum-told
+    (λ c. search needs)
+    (λ c. search needs)
     returns
     close-brackets-requires
-    enum-known-r-2
+    (λ c. search needs)
     returns-2
     returns-3)

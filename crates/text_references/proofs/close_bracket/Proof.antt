@@ -11,20 +11,8 @@ returns c = close-none _ _ (c .before .before .before .before .pre) (c .if1 .tak
 past-requires : tie.Need-past-requires
 past-requires c κs = (c .before .before .before .before .pre .seen .short, end-within _ (c .before .before .before .before .args .w .at) (c .before .before .before .before .pre .seen .within) (c .before .before .before .before .pre .seen .looks) .1)
 
-enum-known-r : tie.Need-enum-known-r
-enum-known-r c = search needs
-
-mul-t13 : tie.Need-mul-t13
-mul-t13 c = search needs
-
-add-t14 : tie.Need-add-t14
-add-t14 c = search needs
-
 bang-if-requires : tie.Need-bang-if-requires
 bang-if-requires c κs = close-marked _ _ (c .before .before .before .before .before .before .before .before .pre) (c .before .before .before .before .if1 .left) _ (c .before .before .before .past .ensures) _ (c .before .r .given .1)
-
-enum-known-r-2 : tie.Need-enum-known-r-2
-enum-known-r-2 c = search needs
 
 returns-2 : tie.Need-returns-2
 returns-2 c = close-says _ _ (c .before .before .before .before .before .before .before .before .before .pre) (c .before .before .before .before .before .if1 .left) _ (c .before .before .before .before .past .ensures) _ (c .before .before .r .given .1) (c .bang-if .result) (c .bang-if .ensures)
@@ -38,10 +26,10 @@ close-bracket-spec =
     (tie.spec
     returns
     past-requires
-    enum-known-r
-    mul-t13
-    add-t14
+    (λ c. search needs)
+    (λ c. search needs)
+    (λ c. search needs)
     bang-if-requires
-    enum-known-r-2
+    (λ c. search needs)
     returns-2
     returns-3)

@@ -19,9 +19,6 @@ loop-holds c = (none-closed _ _ _ (c .before .pre .0), omega arith)
 close-bracket-requires : tie.Need-close-bracket-requires Inv-loop μ-loop
 close-bracket-requires c κs = close-ready _ _ _ _ (c .before .loop .inv .0) (c .before .before .before .pre .0 .small) (omega arith)
 
-enum-known-r : tie.Need-enum-known-r Inv-loop μ-loop
-enum-known-r c = search needs
-
 add-i : tie.Need-add-i Inv-loop μ-loop
 add-i c = omega arith
 
@@ -30,9 +27,6 @@ loop-less c = omega arith
 
 loop-again : tie.Need-loop-again Inv-loop μ-loop
 loop-again c = (closed-more _ _ _ _ (c .before .before .before .before .before .loop .inv .0) _ (says-typed _ _ _ _ (c .before .before .before .close-bracket .result) _ (c .before .before .before .close-bracket .ensures) (c .before .r .given .1)), omega arith)
-
-enum-known-r-2 : tie.Need-enum-known-r-2 Inv-loop μ-loop
-enum-known-r-2 c = search needs
 
 returns : tie.Need-returns Inv-loop μ-loop
 returns c = closed-stop _ _ _ _ (c .before .before .before .before .before .loop .inv .0) _ (c .before .before .before .before .loop-test .taken) _ (says-untyped _ _ _ _ (c .before .before .before .close-bracket .result) _ (c .before .before .before .close-bracket .ensures) (c .before .r2 .given .1))
@@ -48,10 +42,10 @@ close-brackets-spec =
     μ-loop
     loop-holds
     close-bracket-requires
-    enum-known-r
+    (λ c. search needs)
     add-i
     loop-less
     loop-again
-    enum-known-r-2
+    (λ c. search needs)
     returns
     returns-2)

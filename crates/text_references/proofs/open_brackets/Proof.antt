@@ -29,9 +29,6 @@ returns-3 c = opened-many _ _ _ _ _ _ (c .before .before .before .before .loop .
 past-requires : tie.Need-past-requires Inv-loop μ-loop
 past-requires c κs = (c .before .before .before .before .before .before .pre .short, end-within _ (c .before .before .before .before .loop .d) (c .before .before .before .before .loop .inv .seen .within) (c .before .before .before .before .loop .inv .seen .looks) .1)
 
-enum-known-r : tie.Need-enum-known-r Inv-loop μ-loop
-enum-known-r c = search needs
-
 add-marks : tie.Need-add-marks Inv-loop μ-loop
 add-marks c = omega arith
 
@@ -40,9 +37,6 @@ loop-less c = omega arith
 
 loop-again : tie.Need-loop-again Inv-loop μ-loop
 loop-again c = opened-more _ _ _ _ _ _ (c .before .before .before .before .before .before .before .before .loop .inv) (c .before .before .before .before .before .before .if1 .left) (c .before .before .before .before .before .if2 .left) (omega arith) _ (c .before .before .before .past .ensures) _ (c .before .r .given .1)
-
-enum-known-r-2 : tie.Need-enum-known-r-2 Inv-loop μ-loop
-enum-known-r-2 c = search needs
 
 returns-4 : tie.Need-returns-4 Inv-loop μ-loop
 returns-4 c = opened-bad _ _ _ _ _ _ (c .before .before .before .before .before .before .before .before .loop .inv) (c .before .before .before .before .before .before .if1 .left) (c .before .before .before .before .before .if2 .left) (omega arith) _ (c .before .before .before .past .ensures) _ (c .before .r2 .given .1)
@@ -58,9 +52,9 @@ open-brackets-spec =
     returns-2
     returns-3
     past-requires
-    enum-known-r
+    (λ c. search needs)
     add-marks
     loop-less
     loop-again
-    enum-known-r-2
+    (λ c. search needs)
     returns-4)

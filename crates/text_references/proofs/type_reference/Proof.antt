@@ -7,9 +7,6 @@ use borrow.Author.Needs.{needs}
 use Rattle.text_references.proofs.type_reference.Statement.{statement}
 use Rattle.text_references.proofs.type_reference.Tie as tie
 
-no-going-requires : tie.Need-no-going-requires
-no-going-requires c κs = search needs
-
 returns : tie.Need-returns
 returns c = type-none _ _ _ _ _ (c .before .before .before .before .before .before .before .pre) _ (c .before .before .before .if1 .taken) (c .before .if2 .taken) (c .no-going .result) (c .no-going .ensures)
 
@@ -19,23 +16,8 @@ returns-2 c = type-deep _ _ _ _ _ (c .before .before .before .before .before .be
 returns-3 : tie.Need-returns-3
 returns-3 c = type-full _ _ _ _ _ (c .before .before .before .before .before .pre) [] (⊎-elim (λ x. inr (x .2 .left, omega (arith, x .3 .left))) (λ x. inl (x .left)) (c .before .if1 .came)) (c .if4 .taken)
 
-add-t15 : tie.Need-add-t15
-add-t15 c = search needs
-
-open-brackets-requires : tie.Need-open-brackets-requires
-open-brackets-requires c κs = search needs
-
-enum-known-o : tie.Need-enum-known-o
-enum-known-o c = search needs
-
 typed-requires : tie.Need-typed-requires
 typed-requires c κs = type-ready _ _ _ _ _ (c .before .before .before .before .before .before .before .before .before .before .pre) (c .before .before .before .before .before .if4 .left) (c .before .before .before .before .open-brackets .result) _ (c .before .before .before .before .open-brackets .ensures) (c .before .before .o .given .1)
-
-enum-known-o-2 : tie.Need-enum-known-o-2
-enum-known-o-2 c = search needs
-
-same-length : tie.Need-same-length
-same-length c = search needs
 
 returns-4 : tie.Need-returns-4
 returns-4 c = type-says _ _ _ _ _ (c .before .before .before .before .before .before .before .before .before .before .before .before .before .pre) (c .before .before .before .before .before .before .before .before .if4 .left) (c .before .before .before .before .before .before .before .open-brackets .result) _ (c .before .before .before .before .before .before .before .open-brackets .ensures) (c .before .before .before .before .before .o .given .1) _ (c .before .before .typed .result) (c .before .before .typed .ensures)
@@ -47,15 +29,15 @@ pub type-reference-spec : {M : Type 1} → statement M
 type-reference-spec =
     tie.close
     (tie.spec
-    no-going-requires
+    (λ c κs. search needs)
     returns
     returns-2
     returns-3
-    add-t15
-    open-brackets-requires
-    enum-known-o
+    (λ c. search needs)
+    (λ c κs. search needs)
+    (λ c. search needs)
     typed-requires
-    enum-known-o-2
-    same-length
+    (λ c. search needs)
+    (λ c. search needs)
     returns-4
     returns-5)

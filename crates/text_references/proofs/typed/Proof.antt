@@ -6,29 +6,11 @@ use borrow.Author.Needs.{needs}
 use Rattle.text_references.proofs.typed.Statement.{statement}
 use Rattle.text_references.proofs.typed.Tie as tie
 
-no-going-requires : tie.Need-no-going-requires
-no-going-requires c κs = search needs
-
 returns : tie.Need-returns
 returns c = rest-none _ _ _ _ _ _ (c .before .before .before .before .before .before .pre) _ (c .before .if1 .taken) (c .no-going .result) (c .no-going .ensures)
 
-base-type-requires : tie.Need-base-type-requires
-base-type-requires c κs = search needs
-
-enum-known-t : tie.Need-enum-known-t
-enum-known-t c = search needs
-
 sub-put-row : tie.Need-sub-put-row
 sub-put-row c = end-within _ (c .before .before .before .before .before .before .before .before .before .before .before .before .args .w .at) (c .before .before .before .before .before .before .before .before .before .before .before .before .pre .seen .within) (c .before .before .before .before .before .before .before .before .before .before .before .before .pre .seen .looks) .0
-
-put-row-requires : tie.Need-put-row-requires
-put-row-requires c κs = search needs
-
-enum-known-t-2 : tie.Need-enum-known-t-2
-enum-known-t-2 c = search needs
-
-same-length : tie.Need-same-length
-same-length c = search needs
 
 returns-2 : tie.Need-returns-2
 returns-2 c = rest-done _ _ _ _ _ _ (c .before .before .before .before .before .before .before .before .before .before .before .before .before .before .before .pre) _ (c .before .before .before .before .before .before .before .before .before .base-type .result) _ (c .before .before .before .before .before .before .before .before .before .base-type .ensures) (c .before .before .before .before .before .before .before .t .given .1) (c .before .before .put-row .ensures)
@@ -40,13 +22,13 @@ pub typed-spec : {M : Type 1} → statement M
 typed-spec =
     tie.close
     (tie.spec
-    no-going-requires
+    (λ c κs. search needs)
     returns
-    base-type-requires
-    enum-known-t
+    (λ c κs. search needs)
+    (λ c. search needs)
     sub-put-row
-    put-row-requires
-    enum-known-t-2
-    same-length
+    (λ c κs. search needs)
+    (λ c. search needs)
+    (λ c. search needs)
     returns-2
     returns-3)

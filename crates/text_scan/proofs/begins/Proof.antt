@@ -18,23 +18,8 @@ abbrev μ-loop : tie.MeasureT-loop
 loop-holds : tie.Need-loop-holds Inv-loop μ-loop
 loop-holds c = (search needs, same-whole (c .args .s .now) (c .args .w .now) (c .args .at))
 
-add-if1 : tie.Need-add-if1 Inv-loop μ-loop
-add-if1 c = search needs
-
-shared-slice-read-if1 : tie.Need-shared-slice-read-if1 Inv-loop μ-loop
-shared-slice-read-if1 c = search needs
-
-shared-slice-read-if1-2 : tie.Need-shared-slice-read-if1-2 Inv-loop μ-loop
-shared-slice-read-if1-2 c = search needs
-
 returns : tie.Need-returns Inv-loop μ-loop
 returns c = same-stop (c .before .before .before .before .before .args .s .now) (c .before .before .before .before .before .args .w .now) (c .before .before .before .before .before .args .at) (c .before .before .before .before .loop .i) (c .before .before .before .before .before .pre) (c .before .before .before .loop-test .taken) (c .if1 .taken) ∙ c .before .before .before .before .loop .inv .1
-
-add-i : tie.Need-add-i Inv-loop μ-loop
-add-i c = search needs
-
-loop-less : tie.Need-loop-less Inv-loop μ-loop
-loop-less c = search needs
 
 loop-again : tie.Need-loop-again Inv-loop μ-loop
 loop-again c = (search needs, same-more (c .before .before .before .before .before .args .s .now) (c .before .before .before .before .before .args .w .now) (c .before .before .before .before .before .args .at) (c .before .before .before .before .loop .i) (c .before .before .before .before .before .pre) (c .before .before .before .loop-test .taken) (c .if1 .left) ∙ c .before .before .before .before .loop .inv .1)
@@ -49,11 +34,11 @@ begins-spec =
     Inv-loop
     μ-loop
     loop-holds
-    add-if1
-    shared-slice-read-if1
-    shared-slice-read-if1-2
+    (λ c. search needs)
+    (λ c. search needs)
+    (λ c. search needs)
     returns
-    add-i
-    loop-less
+    (λ c. search needs)
+    (λ c. search needs)
     loop-again
     returns-2)

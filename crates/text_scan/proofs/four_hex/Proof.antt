@@ -7,44 +7,8 @@ use borrow.Author.Needs.{needs}
 use Rattle.text_scan.proofs.four_hex.Statement.{statement}
 use Rattle.text_scan.proofs.four_hex.Tie as tie
 
-sub-if1 : tie.Need-sub-if1
-sub-if1 c = search needs
-
 returns : tie.Need-returns
 returns c = four-short (c .before .before .args .s .now) (c .before .before .args .i) (c .if1 .taken)
-
-shared-slice-read-is-hex : tie.Need-shared-slice-read-is-hex
-shared-slice-read-is-hex c = search needs
-
-is-hex-requires : tie.Need-is-hex-requires
-is-hex-requires c κs = search needs
-
-add-is-hex : tie.Need-add-is-hex
-add-is-hex c = search needs
-
-shared-slice-read-is-hex-2 : tie.Need-shared-slice-read-is-hex-2
-shared-slice-read-is-hex-2 c = search needs
-
-is-hex-requires-2 : tie.Need-is-hex-requires-2
-is-hex-requires-2 c κs = search needs
-
-add-is-hex-2 : tie.Need-add-is-hex-2
-add-is-hex-2 c = search needs
-
-shared-slice-read-is-hex-3 : tie.Need-shared-slice-read-is-hex-3
-shared-slice-read-is-hex-3 c = search needs
-
-is-hex-requires-3 : tie.Need-is-hex-requires-3
-is-hex-requires-3 c κs = search needs
-
-add-is-hex-3 : tie.Need-add-is-hex-3
-add-is-hex-3 c = search needs
-
-shared-slice-read-is-hex-4 : tie.Need-shared-slice-read-is-hex-4
-shared-slice-read-is-hex-4 c = search needs
-
-is-hex-requires-4 : tie.Need-is-hex-requires-4
-is-hex-requires-4 c κs = search needs
 
 returns-2 : tie.Need-returns-2
 returns-2 c = four-fit (c .before .before .before .before .before .before .before .before .before .before .before .before .before .args .s .now) (c .before .before .before .before .before .before .before .before .before .before .before .before .before .args .i) (omega arith) true true true _ (sym (c .before .before .before .before .before .before .before .before .before .is-hex .ensures) ∙ c .before .before .before .before .before .before .before .before .if2 .taken) (sym (c .before .before .before .before .before .before .is-hex2 .ensures) ∙ c .before .before .before .before .before .if3 .taken) (sym (c .before .before .before .is-hex3 .ensures) ∙ c .before .before .if4 .taken) (sym (c .is-hex4 .ensures))
@@ -62,19 +26,19 @@ pub four-hex-spec : {M : Type 1} → statement M
 four-hex-spec =
     tie.close
     (tie.spec
-    sub-if1
+    (λ c. search needs)
     returns
-    shared-slice-read-is-hex
-    is-hex-requires
-    add-is-hex
-    shared-slice-read-is-hex-2
-    is-hex-requires-2
-    add-is-hex-2
-    shared-slice-read-is-hex-3
-    is-hex-requires-3
-    add-is-hex-3
-    shared-slice-read-is-hex-4
-    is-hex-requires-4
+    (λ c. search needs)
+    (λ c κs. search needs)
+    (λ c. search needs)
+    (λ c. search needs)
+    (λ c κs. search needs)
+    (λ c. search needs)
+    (λ c. search needs)
+    (λ c κs. search needs)
+    (λ c. search needs)
+    (λ c. search needs)
+    (λ c κs. search needs)
     returns-2
     returns-3
     returns-4

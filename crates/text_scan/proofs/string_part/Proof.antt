@@ -6,20 +6,11 @@ use borrow.Author.Needs.{needs}
 use Rattle.text_scan.proofs.string_part.Statement.{statement}
 use Rattle.text_scan.proofs.string_part.Tie as tie
 
-shared-slice-read-b : tie.Need-shared-slice-read-b
-shared-slice-read-b c = search needs
-
-escape-requires : tie.Need-escape-requires
-escape-requires c κs = search needs
-
 returns : tie.Need-returns
 returns c = c .escape .ensures ∙ part-escape (c .before .before .before .before .args .s .now) (c .before .before .before .before .args .i) (c .before .before .before .before .pre) (c .before .if1 .taken)
 
 returns-2 : tie.Need-returns-2
 returns-2 c = part-quote (c .before .before .before .before .args .s .now) (c .before .before .before .before .args .i) (c .before .before .before .before .pre) (c .if2 .taken)
-
-character-requires : tie.Need-character-requires
-character-requires c κs = search needs
 
 returns-3 : tie.Need-returns-3
 returns-3 c = c .character .ensures ∙ part-other (c .before .before .before .before .before .args .s .now) (c .before .before .before .before .before .args .i) (c .before .before .before .before .before .pre) (c .before .before .if1 .left) (c .before .if2 .left) (omega (arith, c .before .before .before .shared-slice-known2 .given (c .before .before .before .before .before .args .i)))
@@ -27,4 +18,4 @@ returns-3 c = c .character .ensures ∙ part-other (c .before .before .before .b
 pub string-part-spec : {M : Type 1} → statement M
 string-part-spec =
     tie.close
-    (tie.spec shared-slice-read-b escape-requires returns returns-2 character-requires returns-3)
+    (tie.spec (λ c. search needs) (λ c κs. search needs) returns returns-2 (λ c κs. search needs) returns-3)

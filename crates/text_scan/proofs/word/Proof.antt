@@ -6,35 +6,14 @@ use borrow.Author.Needs.{needs}
 use Rattle.text_scan.proofs.word.Statement.{statement}
 use Rattle.text_scan.proofs.word.Tie as tie
 
-sub-n : tie.Need-sub-n
-sub-n c = search needs
-
-slice-aggregate-begins : tie.Need-slice-aggregate-begins
-slice-aggregate-begins c = search needs
-
-begins-requires : tie.Need-begins-requires
-begins-requires c κs = search needs
-
 returns : tie.Need-returns
 returns c = word-2 (c .before .before .before .before .before .args .s .now) (c .before .before .before .before .before .args .start) (c .before .before .before .before .before .args .end) (c .before .before .before .before .before .pre) (c .before .before .before .if1 .taken) true (sym (c .before .begins .ensures) ∙ c .if2 .taken)
 
 returns-2 : tie.Need-returns-2
 returns-2 c = word-2 (c .before .before .before .before .before .args .s .now) (c .before .before .before .before .before .args .start) (c .before .before .before .before .before .args .end) (c .before .before .before .before .before .pre) (c .before .before .before .if1 .taken) false (sym (c .before .begins .ensures) ∙ c .if2 .left)
 
-slice-aggregate-begins-2 : tie.Need-slice-aggregate-begins-2
-slice-aggregate-begins-2 c = search needs
-
-begins-requires-2 : tie.Need-begins-requires-2
-begins-requires-2 c κs = search needs
-
 returns-3 : tie.Need-returns-3
 returns-3 c = word-4 (c .before .before .before .before .before .before .args .s .now) (c .before .before .before .before .before .before .args .start) (c .before .before .before .before .before .before .args .end) (c .before .before .before .before .before .before .pre) (c .before .before .before .if3 .taken) true _ (sym (c .before .begins2 .ensures) ∙ c .if4 .taken) refl
-
-slice-aggregate-begins-3 : tie.Need-slice-aggregate-begins-3
-slice-aggregate-begins-3 c = search needs
-
-begins-requires-3 : tie.Need-begins-requires-3
-begins-requires-3 c κs = search needs
 
 returns-4 : tie.Need-returns-4
 returns-4 c = word-4 (c .before .before .before .before .before .before .before .before .before .args .s .now) (c .before .before .before .before .before .before .before .before .before .args .start) (c .before .before .before .before .before .before .before .before .before .args .end) (c .before .before .before .before .before .before .before .before .before .pre) (c .before .before .before .before .before .before .if3 .taken) false true (sym (c .before .before .before .before .begins2 .ensures) ∙ c .before .before .before .if4 .left) (sym (c .before .begins3 .ensures) ∙ c .if5 .taken)
@@ -42,20 +21,8 @@ returns-4 c = word-4 (c .before .before .before .before .before .before .before 
 returns-5 : tie.Need-returns-5
 returns-5 c = word-4 (c .before .before .before .before .before .before .before .before .before .args .s .now) (c .before .before .before .before .before .before .before .before .before .args .start) (c .before .before .before .before .before .before .before .before .before .args .end) (c .before .before .before .before .before .before .before .before .before .pre) (c .before .before .before .before .before .before .if3 .taken) false false (sym (c .before .before .before .before .begins2 .ensures) ∙ c .before .before .before .if4 .left) (sym (c .before .begins3 .ensures) ∙ c .if5 .left)
 
-slice-aggregate-begins-4 : tie.Need-slice-aggregate-begins-4
-slice-aggregate-begins-4 c = search needs
-
-begins-requires-4 : tie.Need-begins-requires-4
-begins-requires-4 c κs = search needs
-
 returns-6 : tie.Need-returns-6
 returns-6 c = word-5 (c .before .before .before .before .before .before .before .args .s .now) (c .before .before .before .before .before .before .before .args .start) (c .before .before .before .before .before .before .before .args .end) (c .before .before .before .before .before .before .before .pre) (c .before .before .before .if6 .taken) true _ (sym (c .before .begins4 .ensures) ∙ c .if7 .taken) refl
-
-slice-aggregate-begins-5 : tie.Need-slice-aggregate-begins-5
-slice-aggregate-begins-5 c = search needs
-
-begins-requires-5 : tie.Need-begins-requires-5
-begins-requires-5 c κs = search needs
 
 returns-7 : tie.Need-returns-7
 returns-7 c = word-5 (c .before .before .before .before .before .before .before .before .before .before .args .s .now) (c .before .before .before .before .before .before .before .before .before .before .args .start) (c .before .before .before .before .before .before .before .before .before .before .args .end) (c .before .before .before .before .before .before .before .before .before .before .pre) (c .before .before .before .before .before .before .if6 .taken) false true (sym (c .before .before .before .before .begins4 .ensures) ∙ c .before .before .before .if7 .left) (sym (c .before .begins5 .ensures) ∙ c .if8 .taken)
@@ -63,32 +30,14 @@ returns-7 c = word-5 (c .before .before .before .before .before .before .before 
 returns-8 : tie.Need-returns-8
 returns-8 c = word-5 (c .before .before .before .before .before .before .before .before .before .before .args .s .now) (c .before .before .before .before .before .before .before .before .before .before .args .start) (c .before .before .before .before .before .before .before .before .before .before .args .end) (c .before .before .before .before .before .before .before .before .before .before .pre) (c .before .before .before .before .before .before .if6 .taken) false false (sym (c .before .before .before .before .begins4 .ensures) ∙ c .before .before .before .if7 .left) (sym (c .before .begins5 .ensures) ∙ c .if8 .left)
 
-slice-aggregate-begins-6 : tie.Need-slice-aggregate-begins-6
-slice-aggregate-begins-6 c = search needs
-
-begins-requires-6 : tie.Need-begins-requires-6
-begins-requires-6 c κs = search needs
-
 returns-9 : tie.Need-returns-9
 returns-9 c = word-8 (c .before .before .before .before .before .before .before .before .args .s .now) (c .before .before .before .before .before .before .before .before .args .start) (c .before .before .before .before .before .before .before .before .args .end) (c .before .before .before .before .before .before .before .before .pre) (c .before .before .before .if9 .taken) true _ (sym (c .before .begins6 .ensures) ∙ c .if10 .taken) refl
-
-slice-aggregate-begins-7 : tie.Need-slice-aggregate-begins-7
-slice-aggregate-begins-7 c = search needs
-
-begins-requires-7 : tie.Need-begins-requires-7
-begins-requires-7 c κs = search needs
 
 returns-10 : tie.Need-returns-10
 returns-10 c = word-8 (c .before .before .before .before .before .before .before .before .before .before .before .args .s .now) (c .before .before .before .before .before .before .before .before .before .before .before .args .start) (c .before .before .before .before .before .before .before .before .before .before .before .args .end) (c .before .before .before .before .before .before .before .before .before .before .before .pre) (c .before .before .before .before .before .before .if9 .taken) false true (sym (c .before .before .before .before .begins6 .ensures) ∙ c .before .before .before .if10 .left) (sym (c .before .begins7 .ensures) ∙ c .if11 .taken)
 
 returns-11 : tie.Need-returns-11
 returns-11 c = word-8 (c .before .before .before .before .before .before .before .before .before .before .before .args .s .now) (c .before .before .before .before .before .before .before .before .before .before .before .args .start) (c .before .before .before .before .before .before .before .before .before .before .before .args .end) (c .before .before .before .before .before .before .before .before .before .before .before .pre) (c .before .before .before .before .before .before .if9 .taken) false false (sym (c .before .before .before .before .begins6 .ensures) ∙ c .before .before .before .if10 .left) (sym (c .before .begins7 .ensures) ∙ c .if11 .left)
-
-slice-aggregate-begins-8 : tie.Need-slice-aggregate-begins-8
-slice-aggregate-begins-8 c = search needs
-
-begins-requires-8 : tie.Need-begins-requires-8
-begins-requires-8 c κs = search needs
 
 returns-12 : tie.Need-returns-12
 returns-12 c = word-12 (c .before .before .before .before .before .before .before .before .before .args .s .now) (c .before .before .before .before .before .before .before .before .before .args .start) (c .before .before .before .before .before .before .before .before .before .args .end) (c .before .before .before .before .before .before .before .before .before .pre) (c .before .before .before .if12 .taken) true (sym (c .before .begins8 .ensures) ∙ c .if13 .taken)
@@ -103,34 +52,34 @@ pub word-spec : {M : Type 1} → statement M
 word-spec =
     tie.close
     (tie.spec
-    sub-n
-    slice-aggregate-begins
-    begins-requires
+    (λ c. search needs)
+    (λ c. search needs)
+    (λ c κs. search needs)
     returns
     returns-2
-    slice-aggregate-begins-2
-    begins-requires-2
+    (λ c. search needs)
+    (λ c κs. search needs)
     returns-3
-    slice-aggregate-begins-3
-    begins-requires-3
+    (λ c. search needs)
+    (λ c κs. search needs)
     returns-4
     returns-5
-    slice-aggregate-begins-4
-    begins-requires-4
+    (λ c. search needs)
+    (λ c κs. search needs)
     returns-6
-    slice-aggregate-begins-5
-    begins-requires-5
+    (λ c. search needs)
+    (λ c κs. search needs)
     returns-7
     returns-8
-    slice-aggregate-begins-6
-    begins-requires-6
+    (λ c. search needs)
+    (λ c κs. search needs)
     returns-9
-    slice-aggregate-begins-7
-    begins-requires-7
+    (λ c. search needs)
+    (λ c κs. search needs)
     returns-10
     returns-11
-    slice-aggregate-begins-8
-    begins-requires-8
+    (λ c. search needs)
+    (λ c κs. search needs)
     returns-12
     returns-13
     returns-14)

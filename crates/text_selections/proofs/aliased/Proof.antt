@@ -6,23 +6,11 @@ use borrow.Author.Needs.{needs}
 use Rattle.text_selections.proofs.aliased.Statement.{statement}
 use Rattle.text_selections.proofs.aliased.Tie as tie
 
-add-past : tie.Need-add-past
-add-past c = search needs
-
 past-requires : tie.Need-past-requires
 past-requires c κs = ready-past _ _ _ _ (c .before .before .pre .0)
 
-enum-known-r : tie.Need-enum-known-r
-enum-known-r c = search needs
-
-enum-told : tie.Need-enum-told
-enum-told c = search needs
-
 returns : tie.Need-returns
 returns c = rw (c .enum-told .given .1) (alias-bad _ _ _ (c .before .before .before .before .before .args .parent) (c .before .before .before .before .before .args .left) _ (c .before .before .before .before .before .args .start) (c .before .before .before .before .before .pre .0) (c .before .before .before .before .before .pre .1) (c .before .before .before .before .before .pre .2) _ (c .before .before .past .ensures) (c .before .before .before .before .before .args .rows .now) _ (c .enum-told .given .1))
-
-no-going-requires : tie.Need-no-going-requires
-no-going-requires c κs = search needs
 
 returns-2 : tie.Need-returns-2
 returns-2 c = rw (c .no-going .ensures) (alias-nameless _ _ _ (c .before .before .before .before .before .before .before .before .before .args .parent) (c .before .before .before .before .before .before .before .before .before .args .left) _ (c .before .before .before .before .before .before .before .before .before .args .start) (c .before .before .before .before .before .before .before .before .before .pre .0) (c .before .before .before .before .before .before .before .before .before .pre .1) (c .before .before .before .before .before .before .before .before .before .pre .2) _ (c .before .before .before .before .before .before .past .ensures) _ (c .before .before .before .before .r .given .1) (c .before .if1 .taken) (c .before .before .before .before .before .before .before .before .before .args .rows .now))
@@ -30,20 +18,8 @@ returns-2 c = rw (c .no-going .ensures) (alias-nameless _ _ _ (c .before .before
 sub-put-row : tie.Need-sub-put-row
 sub-put-row c = next-order _ _ _ _ (alias-name _ _ _ 0 0 _ 0 (c .before .before .before .before .before .before .before .before .before .before .pre .0) (c .before .before .before .before .before .before .before .before .before .before .pre .1) (c .before .before .before .before .before .before .before .before .before .before .pre .2) _ (c .before .before .before .before .before .before .before .past .ensures) _ (c .before .before .before .before .before .r .given .1))
 
-put-row-requires : tie.Need-put-row-requires
-put-row-requires c κs = search needs
-
-add-past-2 : tie.Need-add-past-2
-add-past-2 c = search needs
-
 past-requires-2 : tie.Need-past-requires-2
 past-requires-2 c κs = (c .before .before .before .before .before .before .before .before .before .before .before .before .before .pre .0 .short, next-past _ _ _ _ (alias-name _ _ _ 0 0 _ 0 (c .before .before .before .before .before .before .before .before .before .before .before .before .before .pre .0) (c .before .before .before .before .before .before .before .before .before .before .before .before .before .pre .1) (c .before .before .before .before .before .before .before .before .before .before .before .before .before .pre .2) _ (c .before .before .before .before .before .before .before .before .before .before .past .ensures) _ (c .before .before .before .before .before .before .before .before .r .given .1)))
-
-enum-known-t : tie.Need-enum-known-t
-enum-known-t c = search needs
-
-enum-told-2 : tie.Need-enum-told-2
-enum-told-2 c = search needs
 
 same-length : tie.Need-same-length
 same-length c = c .before .before .before .before .before .put-row .kept .0
@@ -64,19 +40,19 @@ pub aliased-spec : {M : Type 1} → statement M
 aliased-spec =
     tie.close
     (tie.spec
-    add-past
+    (λ c. search needs)
     past-requires
-    enum-known-r
-    enum-told
+    (λ c. search needs)
+    (λ c. search needs)
     returns
-    no-going-requires
+    (λ c κs. search needs)
     returns-2
     sub-put-row
-    put-row-requires
-    add-past-2
+    (λ c κs. search needs)
+    (λ c. search needs)
     past-requires-2
-    enum-known-t
-    enum-told-2
+    (λ c. search needs)
+    (λ c. search needs)
     same-length
     returns-3
     field-rest-requires

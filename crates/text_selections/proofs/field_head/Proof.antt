@@ -9,17 +9,8 @@ use Rattle.text_selections.proofs.field_head.Tie as tie
 returns : tie.Need-returns
 returns c = head-full _ _ _ _ _ (c .before .before .before .pre .0) (c .before .before .before .pre .1) (c .if1 .taken)
 
-add-past : tie.Need-add-past
-add-past c = search needs
-
 past-requires : tie.Need-past-requires
 past-requires c κs = ready-past _ _ _ _ (c .before .before .before .pre .0)
-
-enum-known-r : tie.Need-enum-known-r
-enum-known-r c = search needs
-
-enum-told : tie.Need-enum-told
-enum-told c = search needs
 
 returns-2 : tie.Need-returns-2
 returns-2 c = rw (c .enum-told .given .1) (head-bad _ _ _ _ _ (c .before .before .before .before .before .before .pre .0) (c .before .before .before .before .before .before .pre .1) (c .before .before .before .if1 .left) _ (c .before .before .past .ensures) _ (c .enum-told .given .1))
@@ -36,9 +27,6 @@ returns-3 c = head-aliased _ _ _ _ (c .before .before .before .before .before .b
 sub-put-row : tie.Need-sub-put-row
 sub-put-row c = ready-order _ _ _ _ (c .before .before .before .before .before .before .before .before .before .before .before .pre .0)
 
-put-row-requires : tie.Need-put-row-requires
-put-row-requires c κs = search needs
-
 field-rest-requires : tie.Need-field-rest-requires
 field-rest-requires c κs = head-ready _ _ _ _ 0 (c .before .before .before .before .before .before .before .before .before .before .before .before .before .before .before .pre .0) (c .before .before .before .before .before .before .before .before .before .before .before .before .before .before .before .pre .1) (c .before .before .before .before .before .before .before .before .before .before .before .before .if1 .left) _ (c .before .before .before .before .before .before .before .before .before .before .before .past .ensures) _ (c .before .before .before .before .before .before .before .before .before .r .given .1) _ (head-size _ _ _ _ 0 (c .before .before .before .before .before .before .before .before .before .before .before .before .before .before .before .pre .0) (c .before .before .before .before .before .before .before .before .before .before .before .before .before .before .before .pre .1) (c .before .before .before .before .before .before .before .before .before .before .before .before .if1 .left) _ (c .before .before .before .before .before .before .before .before .before .before .before .past .ensures) _ (c .before .before .before .before .before .before .before .before .before .r .given .1) _ (c .before .before .before .put-row .ensures))
 
@@ -53,16 +41,16 @@ field-head-spec =
     tie.close
     (tie.spec
     returns
-    add-past
+    (λ c. search needs)
     past-requires
-    enum-known-r
-    enum-told
+    (λ c. search needs)
+    (λ c. search needs)
     returns-2
     aliased-requires
     same-length
     returns-3
     sub-put-row
-    put-row-requires
+    (λ c κs. search needs)
     field-rest-requires
     same-length-2
     returns-4)

@@ -8,12 +8,6 @@ use Rattle.text_selections.proofs.field_rest.Tie as tie
 arguments-requires : tie.Need-arguments-requires
 arguments-requires c κs = (c .before .before .before .before .before .pre, c .before .if1 .taken)
 
-enum-known-r : tie.Need-enum-known-r
-enum-known-r c = search needs
-
-enum-told : tie.Need-enum-told
-enum-told c = search needs
-
 same-length : tie.Need-same-length
 same-length c = c .before .before .before .before .arguments .kept .1 .0
 
@@ -52,8 +46,8 @@ field-rest-spec =
     tie.close
     (tie.spec
     arguments-requires
-    enum-known-r
-    enum-told
+    (λ c. search needs)
+    (λ c. search needs)
     same-length
     returns
     directives-requires

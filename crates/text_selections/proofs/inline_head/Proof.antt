@@ -5,17 +5,8 @@ use borrow.Author.Needs.{needs}
 use Rattle.text_selections.proofs.inline_head.Statement.{statement}
 use Rattle.text_selections.proofs.inline_head.Tie as tie
 
-put-row-requires : tie.Need-put-row-requires
-put-row-requires c κs = search needs
-
 condition-requires : tie.Need-condition-requires
 condition-requires c κs = (inline-ready _ _ _ _ 0 _ _ (c .before .before .before .before .before .before .before .before .before .pre .0) (c .before .before .before .before .before .before .before .before .before .pre .1) _ (c .before .before .before .before .before .put-row .ensures), inline-on _ _ _ _ 0 _ _ (c .before .before .before .before .before .before .before .before .before .pre .0) (c .before .before .before .before .before .before .before .before .before .pre .1) _ (c .before .before .before .before .before .put-row .ensures) (c .before .if1 .taken))
-
-enum-known-r : tie.Need-enum-known-r
-enum-known-r c = search needs
-
-enum-told : tie.Need-enum-told
-enum-told c = search needs
 
 same-length : tie.Need-same-length
 same-length c = c .before .before .before .before .condition .kept .1 .0 ∙ c .before .before .before .before .before .before .before .before .before .before .put-row .kept .0
@@ -57,10 +48,10 @@ pub inline-head-spec : {M : Type 1} → statement M
 inline-head-spec =
     tie.close
     (tie.spec
-    put-row-requires
+    (λ c κs. search needs)
     condition-requires
-    enum-known-r
-    enum-told
+    (λ c. search needs)
+    (λ c. search needs)
     same-length
     returns
     directives-requires

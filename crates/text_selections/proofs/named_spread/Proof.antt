@@ -10,17 +10,8 @@ use Rattle.text_selections.proofs.named_spread.Tie as tie
 sub-put-row : tie.Need-sub-put-row
 sub-put-row c = ready-order _ _ _ _ (c .before .before .before .before .pre .0)
 
-put-row-requires : tie.Need-put-row-requires
-put-row-requires c κs = search needs
-
 past-requires : tie.Need-past-requires
 past-requires c κs = ready-past _ _ _ _ (c .before .before .before .before .before .before .before .pre .0)
-
-enum-known-r : tie.Need-enum-known-r
-enum-known-r c = search needs
-
-enum-told : tie.Need-enum-told
-enum-told c = search needs
 
 same-length : tie.Need-same-length
 same-length c = c .before .before .before .before .before .put-row .kept .0
@@ -39,12 +30,6 @@ returns-2 c = named-bare _ _ _ _ _ _ _ (c .before .before .before .before .befor
 
 directives-requires : tie.Need-directives-requires
 directives-requires c κs = (named-ready _ _ _ _ 0 _ _ (c .before .before .before .before .before .before .before .before .before .before .before .before .before .before .pre .0) (c .before .before .before .before .before .before .before .before .before .before .before .before .before .before .pre .1) (c .before .before .before .before .before .before .before .before .before .before .before .before .before .before .pre .2) _ (c .before .before .before .before .before .before .before .before .before .put-row .ensures) _ (c .before .before .before .before .before .before .past .ensures) _ (c .before .before .before .before .r .given .1), c .before .if1 .left)
-
-enum-known-t : tie.Need-enum-known-t
-enum-known-t c = search needs
-
-enum-told-2 : tie.Need-enum-told-2
-enum-told-2 c = search needs
 
 same-length-3 : tie.Need-same-length-3
 same-length-3 c = c .before .before .before .before .directives .kept .1 .0 ∙ c .before .before .before .before .before .before .before .before .before .before .before .before .before .before .put-row .kept .0
@@ -66,18 +51,18 @@ named-spread-spec =
     tie.close
     (tie.spec
     sub-put-row
-    put-row-requires
+    (λ c κs. search needs)
     past-requires
-    enum-known-r
-    enum-told
+    (λ c. search needs)
+    (λ c. search needs)
     same-length
     returns
     put-end-requires
     same-length-2
     returns-2
     directives-requires
-    enum-known-t
-    enum-told-2
+    (λ c. search needs)
+    (λ c. search needs)
     same-length-3
     returns-3
     put-end-requires-2

@@ -6,20 +6,8 @@ use borrow.Author.Needs.{needs}
 use Rattle.text_strings.proofs.comment.Statement.{statement}
 use Rattle.text_strings.proofs.comment.Tie as tie
 
-add-comment-end : tie.Need-add-comment-end
-add-comment-end c = search needs
-
-comment-end-requires : tie.Need-comment-end-requires
-comment-end-requires c κs = search needs
-
-sub-result : tie.Need-sub-result
-sub-result c = search needs
-
 returns : tie.Need-returns
 returns c = comment-whole (c .before .before .before .args .s .now) (c .before .before .before .args .i) (c .before .comment-end .result) (c .before .before .before .pre .0) (c .before .before .before .pre .1) (c .before .comment-end .ensures) (omega arith)
-
-shared-slice-read-after : tie.Need-shared-slice-read-after
-shared-slice-read-after c = search needs
 
 sub-result-2 : tie.Need-sub-result-2
 sub-result-2 c = omega (arith, run-past (c .before .before .before .comment-end .ensures .runs))
@@ -40,11 +28,11 @@ pub comment-spec : {M : Type 1} → statement M
 comment-spec =
     tie.close
     (tie.spec
-    add-comment-end
-    comment-end-requires
-    sub-result
+    (λ c. search needs)
+    (λ c κs. search needs)
+    (λ c. search needs)
     returns
-    shared-slice-read-after
+    (λ c. search needs)
     sub-result-2
     returns-2
     sub-result-3

@@ -4,18 +4,6 @@ use borrow.Author.Needs.{needs}
 use Rattle.text_strings.proofs.string.Statement.{statement}
 use Rattle.text_strings.proofs.string.Tie as tie
 
-add-string-end : tie.Need-add-string-end
-add-string-end c = search needs
-
-string-end-requires : tie.Need-string-end-requires
-string-end-requires c κs = search needs
-
-shared-slice-read-if2 : tie.Need-shared-slice-read-if2
-shared-slice-read-if2 c = search needs
-
-add-t9 : tie.Need-add-t9
-add-t9 c = search needs
-
 returns : tie.Need-returns
 returns c = string-found (c .before .before .before .before .before .args .s .now) (c .before .before .before .before .before .args .at) (c .before .before .before .string-end .result) (c .before .before .before .before .before .pre .0) (c .before .before .before .before .before .pre .1) (c .before .before .before .string-end .ensures) (c .before .before .if1 .taken) (c .if2 .taken)
 
@@ -29,10 +17,10 @@ pub string-spec : {M : Type 1} → statement M
 string-spec =
     tie.close
     (tie.spec
-    add-string-end
-    string-end-requires
-    shared-slice-read-if2
-    add-t9
+    (λ c. search needs)
+    (λ c κs. search needs)
+    (λ c. search needs)
+    (λ c. search needs)
     returns
     returns-2
     returns-3)

@@ -6,12 +6,6 @@ use borrow.Author.Needs.{needs}
 use Rattle.text_tokens.proofs.digit_at.Statement.{statement}
 use Rattle.text_tokens.proofs.digit_at.Tie as tie
 
-shared-slice-read-is-digit : tie.Need-shared-slice-read-is-digit
-shared-slice-read-is-digit c = search needs
-
-is-digit-requires : tie.Need-is-digit-requires
-is-digit-requires c κs = search needs
-
 returns : tie.Need-returns
 returns c = c .is-digit .ensures ∙ sym (starts-at digit _ (c .before .before .before .before .args .i) (c .before .before .if1 .taken))
 
@@ -19,4 +13,4 @@ returns-2 : tie.Need-returns-2
 returns-2 c = sym (starts-end digit _ (c .before .before .args .i) (c .if1 .left))
 
 pub digit-at-spec : {M : Type 1} → statement M
-digit-at-spec = tie.close (tie.spec shared-slice-read-is-digit is-digit-requires returns returns-2)
+digit-at-spec = tie.close (tie.spec (λ c. search needs) (λ c κs. search needs) returns returns-2)

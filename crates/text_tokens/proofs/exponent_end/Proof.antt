@@ -15,20 +15,8 @@ is-e c = ⊎-elim (λ w. inr (w .1 .left)) (λ w. inl (w .left)) (c .if2 .came)
 returns : tie.Need-returns
 returns c = exponent-over _ (c .before .before .args .i) (c .if1 .taken)
 
-shared-slice-read-b : tie.Need-shared-slice-read-b
-shared-slice-read-b c = search needs
-
 returns-2 : tie.Need-returns-2
 returns-2 c = exponent-none _ (c .before .before .before .before .before .args .i) (c .before .before .before .if1 .left) (c .before .if2 .taken) (c .if3 .taken)
-
-add-sign-end : tie.Need-add-sign-end
-add-sign-end c = search needs
-
-sign-end-requires : tie.Need-sign-end-requires
-sign-end-requires c κs = search needs
-
-digit-at-requires : tie.Need-digit-at-requires
-digit-at-requires c κs = search needs
 
 add-digits-end : tie.Need-add-digits-end
 add-digits-end c = omega (arith, starts-in (c .before .before .before .before .before .before .before .args .s .now) digit (c .before .before .sign-end .result) (sym (c .before .digit-at .ensures) ∙ c .if4 .taken))
@@ -47,11 +35,11 @@ exponent-end-spec =
     tie.close
     (tie.spec
     returns
-    shared-slice-read-b
+    (λ c. search needs)
     returns-2
-    add-sign-end
-    sign-end-requires
-    digit-at-requires
+    (λ c. search needs)
+    (λ c κs. search needs)
+    (λ c κs. search needs)
     add-digits-end
     digits-end-requires
     returns-3

@@ -8,18 +8,6 @@ use borrow.Author.Needs.{needs}
 use Rattle.text_tokens.proofs.fraction_end.Statement.{statement}
 use Rattle.text_tokens.proofs.fraction_end.Tie as tie
 
-shared-slice-read-if2 : tie.Need-shared-slice-read-if2
-shared-slice-read-if2 c = search needs
-
-add-digit-at : tie.Need-add-digit-at
-add-digit-at c = search needs
-
-digit-at-requires : tie.Need-digit-at-requires
-digit-at-requires c κs = search needs
-
-add-digits-end : tie.Need-add-digits-end
-add-digits-end c = search needs
-
 digits-end-requires : tie.Need-digits-end-requires
 digits-end-requires c κs = omega (arith, starts-in (c .before .before .before .before .before .before .args .s .now) digit (c .before .before .before .before .before .before .args .i + 1) (sym (c .before .digit-at .ensures) ∙ c .if3 .taken))
 
@@ -39,10 +27,10 @@ pub fraction-end-spec : {M : Type 1} → statement M
 fraction-end-spec =
     tie.close
     (tie.spec
-    shared-slice-read-if2
-    add-digit-at
-    digit-at-requires
-    add-digits-end
+    (λ c. search needs)
+    (λ c. search needs)
+    (λ c κs. search needs)
+    (λ c. search needs)
     digits-end-requires
     returns
     returns-2

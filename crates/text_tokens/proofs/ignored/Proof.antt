@@ -7,14 +7,8 @@ use borrow.Author.Needs.{needs}
 use Rattle.text_tokens.proofs.ignored.Statement.{statement}
 use Rattle.text_tokens.proofs.ignored.Tie as tie
 
-shared-slice-read-b : tie.Need-shared-slice-read-b
-shared-slice-read-b c = search needs
-
 returns : tie.Need-returns
 returns c = blank-space _ (c .before .before .before .args .i) (c .before .before .before .pre) (c .if1 .taken)
-
-is-mark-requires : tie.Need-is-mark-requires
-is-mark-requires c κs = search needs
 
 returns-2 : tie.Need-returns-2
 returns-2 c = ap (λ (t : Bool). cond t 3 0) (sym (c .if4 .taken)) ∙ c .before .is-mark .ensures
@@ -39,9 +33,6 @@ returns-7 c = blank-return _ (c .before .before .before .before .before .before 
 returns-8 : tie.Need-returns-8
 returns-8 c = blank-tab _ (c .before .before .before .before .before .before .before .before .args .i) (c .before .before .before .before .before .before .before .before .pre) (c .if8 .taken)
 
-comment-requires : tie.Need-comment-requires
-comment-requires c κs = search needs
-
 returns-9 : tie.Need-returns-9
 returns-9 c = c .comment .ensures
 
@@ -54,9 +45,9 @@ pub ignored-spec : {M : Type 1} → statement M
 ignored-spec =
     tie.close
     (tie.spec
-    shared-slice-read-b
+    (λ c. search needs)
     returns
-    is-mark-requires
+    (λ c κs. search needs)
     returns-2
     returns-3
     returns-4
@@ -64,6 +55,6 @@ ignored-spec =
     returns-6
     returns-7
     returns-8
-    comment-requires
+    (λ c κs. search needs)
     returns-9
     returns-10)

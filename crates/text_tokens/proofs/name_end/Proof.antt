@@ -19,12 +19,6 @@ abbrev μ-loop : tie.MeasureT-loop
 loop-holds : tie.Need-loop-holds Inv-loop μ-loop
 loop-holds c = refl
 
-shared-slice-read-in-name : tie.Need-shared-slice-read-in-name Inv-loop μ-loop
-shared-slice-read-in-name c = search needs
-
-in-name-requires : tie.Need-in-name-requires Inv-loop μ-loop
-in-name-requires c κs = search needs
-
 add-i : tie.Need-add-i Inv-loop μ-loop
 add-i c = omega arith
 
@@ -47,8 +41,8 @@ name-end-spec =
     Inv-loop
     μ-loop
     loop-holds
-    shared-slice-read-in-name
-    in-name-requires
+    (λ c. search needs)
+    (λ c κs. search needs)
     add-i
     loop-less
     loop-again

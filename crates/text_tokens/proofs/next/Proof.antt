@@ -22,41 +22,17 @@ abbrev μ-loop : tie.MeasureT-loop
 loop-holds : tie.Need-loop-holds Inv-loop μ-loop
 loop-holds c = (c .before .pre, refl)
 
-shared-slice-read-b : tie.Need-shared-slice-read-b Inv-loop μ-loop
-shared-slice-read-b c = search needs
-
-add-i : tie.Need-add-i Inv-loop μ-loop
-add-i c = search needs
-
 loop-less : tie.Need-loop-less Inv-loop μ-loop
 loop-less c = omega (arith, c .before .before .loop-test .taken)
 
 loop-again : tie.Need-loop-again Inv-loop μ-loop
 loop-again c = (omega (arith, c .before .before .loop-test .taken), c .before .before .before .loop .inv .1 ∙ from-skip _ (c .before .before .before .loop .i) 1 (c .before .before .loop-test .taken) (sym (blank-space _ (c .before .before .before .loop .i) (c .before .before .loop-test .taken) (c .if1 .taken))) (λ e. omega arith))
 
-starts-name-requires : tie.Need-starts-name-requires Inv-loop μ-loop
-starts-name-requires c κs = search needs
-
-add-name-end : tie.Need-add-name-end Inv-loop μ-loop
-add-name-end c = search needs
-
-name-end-requires : tie.Need-name-end-requires Inv-loop μ-loop
-name-end-requires c κs = search needs
-
 returns : tie.Need-returns Inv-loop μ-loop
 returns c = here-found _ _ _ _ _ (c .before .before .before .before .before .loop-test .taken) (name-at _ _ (c .before .before .before .before .before .loop-test .taken) _ (sym (c .before .before .starts-name .ensures) ∙ c .before .if2 .taken) (c .name-end .ensures)) ∙ ap (λ (t : Text). headOf t) (sym (c .before .before .before .before .before .before .loop .inv .1))
 
-punctuator-requires : tie.Need-punctuator-requires Inv-loop μ-loop
-punctuator-requires c κs = search needs
-
-add-t14 : tie.Need-add-t14 Inv-loop μ-loop
-add-t14 c = search needs
-
 returns-2 : tie.Need-returns-2 Inv-loop μ-loop
 returns-2 c = here-found _ _ _ _ _ (c .before .before .before .before .before .before .loop-test .taken) (mark-at _ _ (c .before .before .before .before .before .before .loop-test .taken) _ (c .before .punctuator .ensures) (c .if3 .taken)) ∙ ap (λ (t : Text). headOf t) (sym (c .before .before .before .before .before .before .before .loop .inv .1))
-
-ignored-requires : tie.Need-ignored-requires Inv-loop μ-loop
-ignored-requires c κs = search needs
 
 other-requires : tie.Need-other-requires Inv-loop μ-loop
 other-requires c κs = record { within = c .before .before .before .before .before .before .before .before .loop-test .taken; no-letter = sym (c .before .before .before .before .before .starts-name .ensures) ∙ c .before .before .before .before .if2 .left; no-mark = sym (c .before .before .before .punctuator .ensures) ∙ c .before .before .if3 .left }
@@ -83,18 +59,18 @@ next-spec =
     Inv-loop
     μ-loop
     loop-holds
-    shared-slice-read-b
-    add-i
+    (λ c. search needs)
+    (λ c. search needs)
     loop-less
     loop-again
-    starts-name-requires
-    add-name-end
-    name-end-requires
+    (λ c κs. search needs)
+    (λ c. search needs)
+    (λ c κs. search needs)
     returns
-    punctuator-requires
-    add-t14
+    (λ c κs. search needs)
+    (λ c. search needs)
     returns-2
-    ignored-requires
+    (λ c κs. search needs)
     other-requires
     returns-3
     add-i-2

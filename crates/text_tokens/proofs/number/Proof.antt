@@ -12,15 +12,6 @@ use Rattle.text_tokens.proofs.number.Tie as tie
 signed : (c : tie.Joined1) → Behind (c .before .before .before .args .s .now) (c .before .before .before .args .at) (c .if1 .d)
 signed c = ⊎-elim (λ w. inl (w .0 .taken, w .1)) (λ w. inr (w .0 .left, w .1)) (c .if1 .came)
 
-shared-slice-read-if1 : tie.Need-shared-slice-read-if1
-shared-slice-read-if1 c = search needs
-
-add-d : tie.Need-add-d
-add-d c = search needs
-
-digit-at-requires : tie.Need-digit-at-requires
-digit-at-requires c κs = search needs
-
 whole-end-requires : tie.Need-whole-end-requires
 whole-end-requires c κs = starts-in (c .before .before .before .before .before .args .s .now) digit (c .before .before .if1 .d) (sym (c .before .digit-at .ensures) ∙ c .if2 .taken)
 
@@ -48,9 +39,9 @@ pub number-spec : {M : Type 1} → statement M
 number-spec =
     tie.close
     (tie.spec
-    shared-slice-read-if1
-    add-d
-    digit-at-requires
+    (λ c. search needs)
+    (λ c. search needs)
+    (λ c κs. search needs)
     whole-end-requires
     fraction-end-requires
     exponent-end-requires

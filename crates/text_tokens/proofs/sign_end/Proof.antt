@@ -4,17 +4,8 @@ use borrow.Author.Needs.{needs}
 use Rattle.text_tokens.proofs.sign_end.Statement.{statement}
 use Rattle.text_tokens.proofs.sign_end.Tie as tie
 
-shared-slice-read-b : tie.Need-shared-slice-read-b
-shared-slice-read-b c = search needs
-
-add-result : tie.Need-add-result
-add-result c = search needs
-
 returns : tie.Need-returns
 returns c = sign-plus _ (c .before .before .before .args .i) (c .before .before .if1 .taken) (c .if2 .taken)
-
-add-result-2 : tie.Need-add-result-2
-add-result-2 c = search needs
 
 returns-2 : tie.Need-returns-2
 returns-2 c = sign-minus _ (c .before .before .before .before .args .i) (c .before .before .before .if1 .taken) (c .if3 .taken)
@@ -28,4 +19,4 @@ returns-4 c = sign-over _ (c .before .args .i) (c .if1 .left)
 pub sign-end-spec : {M : Type 1} → statement M
 sign-end-spec =
     tie.close
-    (tie.spec shared-slice-read-b add-result returns add-result-2 returns-2 returns-3 returns-4)
+    (tie.spec (λ c. search needs) (λ c. search needs) returns (λ c. search needs) returns-2 returns-3 returns-4)

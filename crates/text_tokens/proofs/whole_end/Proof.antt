@@ -5,20 +5,8 @@ use borrow.Author.Needs.{needs}
 use Rattle.text_tokens.proofs.whole_end.Statement.{statement}
 use Rattle.text_tokens.proofs.whole_end.Tie as tie
 
-shared-slice-read-if1 : tie.Need-shared-slice-read-if1
-shared-slice-read-if1 c = search needs
-
-add-result : tie.Need-add-result
-add-result c = search needs
-
 returns : tie.Need-returns
 returns c = whole-zero _ (c .before .before .before .args .i) (c .before .before .before .pre) (c .if1 .taken)
-
-add-digits-end : tie.Need-add-digits-end
-add-digits-end c = search needs
-
-digits-end-requires : tie.Need-digits-end-requires
-digits-end-requires c κs = search needs
 
 returns-2 : tie.Need-returns-2
 returns-2 c = c .digits-end .ensures ∙ whole-more _ (c .before .before .before .before .args .i) (c .before .before .before .before .pre) (c .before .if1 .left)
@@ -27,9 +15,9 @@ pub whole-end-spec : {M : Type 1} → statement M
 whole-end-spec =
     tie.close
     (tie.spec
-    shared-slice-read-if1
-    add-result
+    (λ c. search needs)
+    (λ c. search needs)
     returns
-    add-digits-end
-    digits-end-requires
+    (λ c. search needs)
+    (λ c κs. search needs)
     returns-2)

@@ -5,9 +5,6 @@ use borrow.Author.Needs.{needs}
 use Rattle.text_values.proofs.entry_name.Statement.{statement}
 use Rattle.text_values.proofs.entry_name.Tie as tie
 
-no-going-requires : tie.Need-no-going-requires
-no-going-requires c κs = search needs
-
 returns : tie.Need-returns
 returns c =
     let at-then1 = c .before in
@@ -25,25 +22,10 @@ sub-size c =
     let start = c .before .before .before .before .before .before in
     ready-lies _ _ _ _ (start .pre .0) .1
 
-put-row-requires : tie.Need-put-row-requires
-put-row-requires c κs = search needs
-
-add-past : tie.Need-add-past
-add-past c = search needs
-
 past-requires : tie.Need-past-requires
 past-requires c κs =
     let start = c .before .before .before .before .before .before .before .before .before .before in
     (start .pre .0 .short, ready-lies _ _ _ _ (start .pre .0) .2)
-
-enum-known-r : tie.Need-enum-known-r
-enum-known-r c = search needs
-
-enum-told : tie.Need-enum-told
-enum-told c = search needs
-
-same-length : tie.Need-same-length
-same-length c = search needs
 
 returns-3 : tie.Need-returns-3
 returns-3 c =
@@ -52,12 +34,6 @@ returns-3 c =
     let at-else1 = at-else2 .before in
     let start = at-else1 .before .before .before .before in
     entry-bad _ _ _ _ (start .pre .0) (start .args .kind) (start .pre .1) (at-else1 .if1 .left) (at-else2 .if2 .left) _ _ _ (at-past .past .ensures) (c .enum-told .given .1)
-
-no-going-requires-2 : tie.Need-no-going-requires-2
-no-going-requires-2 c κs = search needs
-
-same-length-2 : tie.Need-same-length-2
-same-length-2 c = search needs
 
 returns-4 : tie.Need-returns-4
 returns-4 c =
@@ -69,9 +45,6 @@ returns-4 c =
     let start = at-else1 .before .before .before .before in
     rw (c .no-going2 .ensures) (entry-no-colon _ _ _ _ (start .pre .0) (start .args .kind) (start .pre .1) (at-else1 .if1 .left) (at-else2 .if2 .left) _ _ (at-past .past .ensures) (at-r .r .given .1) (at-then3 .if3 .taken))
 
-add-past-2 : tie.Need-add-past-2
-add-past-2 c = search needs
-
 past-requires-2 : tie.Need-past-requires-2
 past-requires-2 c κs =
     let at-r = c .before .before .before in
@@ -80,9 +53,6 @@ past-requires-2 c κs =
     let at-else1 = at-else2 .before in
     let start = at-else1 .before .before .before .before in
     (start .pre .0 .short, colon-lies _ _ _ _ (start .pre .0) (start .args .kind) (start .pre .1) (at-else1 .if1 .left) (at-else2 .if2 .left) _ _ (at-past .past .ensures) (at-r .r .given .1) .2)
-
-same-length-3 : tie.Need-same-length-3
-same-length-3 c = search needs
 
 returns-5 : tie.Need-returns-5
 returns-5 c =
@@ -99,21 +69,21 @@ pub entry-name-spec : {M : Type 1} → statement M
 entry-name-spec =
     tie.close
     (tie.spec
-    no-going-requires
+    (λ c κs. search needs)
     returns
     returns-2
     sub-size
-    put-row-requires
-    add-past
+    (λ c κs. search needs)
+    (λ c. search needs)
     past-requires
-    enum-known-r
-    enum-told
-    same-length
+    (λ c. search needs)
+    (λ c. search needs)
+    (λ c. search needs)
     returns-3
-    no-going-requires-2
-    same-length-2
+    (λ c κs. search needs)
+    (λ c. search needs)
     returns-4
-    add-past-2
+    (λ c. search needs)
     past-requires-2
-    same-length-3
+    (λ c. search needs)
     returns-5)

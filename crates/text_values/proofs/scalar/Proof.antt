@@ -5,33 +5,12 @@ use borrow.Author.Needs.{needs}
 use Rattle.text_values.proofs.scalar.Statement.{statement}
 use Rattle.text_values.proofs.scalar.Tie as tie
 
-word-value-requires : tie.Need-word-value-requires
-word-value-requires c κs = search needs
-
-same-length : tie.Need-same-length
-same-length c = search needs
-
-returns : tie.Need-returns
-returns c = search needs
-
-leaf-requires : tie.Need-leaf-requires
-leaf-requires c κs = search needs
-
-same-length-2 : tie.Need-same-length-2
-same-length-2 c = search needs
-
 returns-2 : tie.Need-returns-2
 returns-2 c =
     let at-leaf = c .before .before in
     let at-then2 = at-leaf .before .before in
     let start = at-then2 .before .before .before .before in
     int-said _ _ _ _ _ (start .pre .0) _ (at-then2 .if2 .taken) (at-leaf .leaf .ensures)
-
-leaf-requires-2 : tie.Need-leaf-requires-2
-leaf-requires-2 c κs = search needs
-
-same-length-3 : tie.Need-same-length-3
-same-length-3 c = search needs
 
 returns-3 : tie.Need-returns-3
 returns-3 c =
@@ -40,21 +19,12 @@ returns-3 c =
     let start = at-then3 .before .before .before .before .before in
     float-said _ _ _ _ _ (start .pre .0) _ (at-then3 .if3 .taken) (at-leaf2 .leaf2 .ensures)
 
-leaf-requires-3 : tie.Need-leaf-requires-3
-leaf-requires-3 c κs = search needs
-
-same-length-4 : tie.Need-same-length-4
-same-length-4 c = search needs
-
 returns-4 : tie.Need-returns-4
 returns-4 c =
     let at-leaf3 = c .before .before in
     let at-then4 = at-leaf3 .before .before in
     let start = at-then4 .before .before .before .before .before .before in
     string-said _ _ _ _ _ (start .pre .0) _ (at-then4 .if4 .taken) (at-leaf3 .leaf3 .ensures)
-
-no-going-requires : tie.Need-no-going-requires
-no-going-requires c κs = search needs
 
 returns-5 : tie.Need-returns-5
 returns-5 c =
@@ -69,17 +39,17 @@ pub scalar-spec : {M : Type 1} → statement M
 scalar-spec =
     tie.close
     (tie.spec
-    word-value-requires
-    same-length
-    returns
-    leaf-requires
-    same-length-2
+    (λ c κs. search needs)
+    (λ c. search needs)
+    (λ c. search needs)
+    (λ c κs. search needs)
+    (λ c. search needs)
     returns-2
-    leaf-requires-2
-    same-length-3
+    (λ c κs. search needs)
+    (λ c. search needs)
     returns-3
-    leaf-requires-3
-    same-length-4
+    (λ c κs. search needs)
+    (λ c. search needs)
     returns-4
-    no-going-requires
+    (λ c κs. search needs)
     returns-5)

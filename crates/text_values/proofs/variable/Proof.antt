@@ -11,19 +11,10 @@ returns c =
     let start = c .before .before .before in
     variable-full _ _ [] _ _ (start .pre .0) (start .pre .1) (c .if1 .taken)
 
-add-past : tie.Need-add-past
-add-past c = search needs
-
 past-requires : tie.Need-past-requires
 past-requires c κs =
     let start = c .before .before .before in
     (start .pre .0 .short, ready-lies _ _ _ _ (start .pre .0) .2)
-
-enum-known-r : tie.Need-enum-known-r
-enum-known-r c = search needs
-
-enum-told : tie.Need-enum-told
-enum-told c = search needs
 
 returns-2 : tie.Need-returns-2
 returns-2 c =
@@ -31,9 +22,6 @@ returns-2 c =
     let at-else1 = at-past .before in
     let start = at-else1 .before .before .before in
     variable-bad _ _ [] _ _ (start .pre .0) (start .pre .1) (at-else1 .if1 .left) _ _ (at-past .past .ensures) (c .enum-told .given .1)
-
-no-going-requires : tie.Need-no-going-requires
-no-going-requires c κs = search needs
 
 returns-3 : tie.Need-returns-3
 returns-3 c =
@@ -52,12 +40,6 @@ sub-put-row c =
     let start = at-else1 .before .before .before in
     name-lies _ _ [] _ _ (start .pre .0) (start .pre .1) (at-else1 .if1 .left) _ _ (at-past .past .ensures) (at-r .r .given .1) .1
 
-put-row-requires : tie.Need-put-row-requires
-put-row-requires c κs = search needs
-
-add-past-2 : tie.Need-add-past-2
-add-past-2 c = search needs
-
 past-requires-2 : tie.Need-past-requires-2
 past-requires-2 c κs =
     let at-r = c .before .before .before .before .before .before .before .before in
@@ -65,9 +47,6 @@ past-requires-2 c κs =
     let at-else1 = at-past .before in
     let start = at-else1 .before .before .before in
     (start .pre .0 .short, name-lies _ _ [] _ _ (start .pre .0) (start .pre .1) (at-else1 .if1 .left) _ _ (at-past .past .ensures) (at-r .r .given .1) .2)
-
-same-length : tie.Need-same-length
-same-length c = search needs
 
 returns-4 : tie.Need-returns-4
 returns-4 c =
@@ -84,16 +63,16 @@ variable-spec =
     tie.close
     (tie.spec
     returns
-    add-past
+    (λ c. search needs)
     past-requires
-    enum-known-r
-    enum-told
+    (λ c. search needs)
+    (λ c. search needs)
     returns-2
-    no-going-requires
+    (λ c κs. search needs)
     returns-3
     sub-put-row
-    put-row-requires
-    add-past-2
+    (λ c κs. search needs)
+    (λ c. search needs)
     past-requires-2
-    same-length
+    (λ c. search needs)
     returns-4)

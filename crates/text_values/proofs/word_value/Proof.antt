@@ -6,22 +6,10 @@ use borrow.Author.Needs.{needs}
 use Rattle.text_values.proofs.word_value.Statement.{statement}
 use Rattle.text_values.proofs.word_value.Tie as tie
 
-cast-word : tie.Need-cast-word
-cast-word c = search needs
-
-cast-word-2 : tie.Need-cast-word-2
-cast-word-2 c = search needs
-
 word-requires : tie.Need-word-requires
 word-requires c κs =
     let start = c .before .before in
     let l = ready-lies _ _ _ _ (start .pre .0) in (l .1, l .2)
-
-leaf-requires : tie.Need-leaf-requires
-leaf-requires c κs = search needs
-
-same-length : tie.Need-same-length
-same-length c = search needs
 
 returns : tie.Need-returns
 returns c =
@@ -31,12 +19,6 @@ returns c =
     let start = at-word .before .before .before in
     true-said _ _ _ _ _ (start .pre .0) _ (start .pre .1) (sym (at-word .word .ensures) ∙ at-then1 .if1 .taken) (at-leaf .leaf .ensures)
 
-leaf-requires-2 : tie.Need-leaf-requires-2
-leaf-requires-2 c κs = search needs
-
-same-length-2 : tie.Need-same-length-2
-same-length-2 c = search needs
-
 returns-2 : tie.Need-returns-2
 returns-2 c =
     let at-leaf2 = c .before .before in
@@ -44,12 +26,6 @@ returns-2 c =
     let at-word = at-then2 .before .before in
     let start = at-word .before .before .before in
     false-said _ _ _ _ _ (start .pre .0) _ (start .pre .1) (sym (at-word .word .ensures) ∙ at-then2 .if2 .taken) (at-leaf2 .leaf2 .ensures)
-
-leaf-requires-3 : tie.Need-leaf-requires-3
-leaf-requires-3 c κs = search needs
-
-same-length-3 : tie.Need-same-length-3
-same-length-3 c = search needs
 
 returns-3 : tie.Need-returns-3
 returns-3 c =
@@ -63,12 +39,6 @@ sub-leaf : tie.Need-sub-leaf
 sub-leaf c =
     let start = c .before .before .before .before .before .before .before in
     ready-lies _ _ _ _ (start .pre .0) .1
-
-leaf-requires-4 : tie.Need-leaf-requires-4
-leaf-requires-4 c κs = search needs
-
-same-length-4 : tie.Need-same-length-4
-same-length-4 c = search needs
 
 returns-4 : tie.Need-returns-4
 returns-4 c =
@@ -84,19 +54,19 @@ pub word-value-spec : {M : Type 1} → statement M
 word-value-spec =
     tie.close
     (tie.spec
-    cast-word
-    cast-word-2
+    (λ c. search needs)
+    (λ c. search needs)
     word-requires
-    leaf-requires
-    same-length
+    (λ c κs. search needs)
+    (λ c. search needs)
     returns
-    leaf-requires-2
-    same-length-2
+    (λ c κs. search needs)
+    (λ c. search needs)
     returns-2
-    leaf-requires-3
-    same-length-3
+    (λ c κs. search needs)
+    (λ c. search needs)
     returns-3
     sub-leaf
-    leaf-requires-4
-    same-length-4
+    (λ c κs. search needs)
+    (λ c. search needs)
     returns-4)

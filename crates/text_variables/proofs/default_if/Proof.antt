@@ -11,20 +11,11 @@ returns c = default-none _ _ _ _ _ (c .before .before .before .before .pre) (c .
 past-requires : tie.Need-past-requires
 past-requires c κs = (c .before .before .before .before .pre .short, end-within _ (c .before .before .before .before .args .c) (c .before .before .before .before .pre .within) (c .before .before .before .before .pre .looks) .1)
 
-enum-known-r : tie.Need-enum-known-r
-enum-known-r c = search needs
-
-enum-told : tie.Need-enum-told
-enum-told c = search needs
-
 returns-2 : tie.Need-returns-2
 returns-2 c = default-bad _ _ _ _ _ (c .before .before .before .before .before .before .before .pre) (c .before .before .before .if1 .left) (c .before .before .past .result) (c .before .before .past .ensures) _ _ (c .enum-told .given .1)
 
 value-requires : tie.Need-value-requires
 value-requires c κs = default-ready _ _ _ _ 0 (c .before .before .before .before .before .before .before .before .before .pre) (c .before .before .before .before .before .if1 .left) (c .before .before .before .before .past .result) (c .before .before .before .before .past .ensures) _ (c .before .before .r .given .1)
-
-same-length : tie.Need-same-length
-same-length c = search needs
 
 returns-3 : tie.Need-returns-3
 returns-3 c = default-says _ _ _ _ _ (c .before .before .before .before .before .before .before .before .before .before .before .before .pre) (c .before .before .before .before .before .before .before .before .if1 .left) (c .before .before .before .before .before .before .before .past .result) (c .before .before .before .before .before .before .before .past .ensures) _ (c .before .before .before .before .before .r .given .1) _ (c .before .before .value .result) (c .before .before .value .ensures)
@@ -35,9 +26,9 @@ default-if-spec =
     (tie.spec
     returns
     past-requires
-    enum-known-r
-    enum-told
+    (λ c. search needs)
+    (λ c. search needs)
     returns-2
     value-requires
-    same-length
+    (λ c. search needs)
     returns-3)

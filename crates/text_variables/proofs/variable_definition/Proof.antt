@@ -7,9 +7,6 @@ use borrow.Author.Needs.{needs}
 use Rattle.text_variables.proofs.variable_definition.Statement.{statement}
 use Rattle.text_variables.proofs.variable_definition.Tie as tie
 
-no-going-requires : tie.Need-no-going-requires
-no-going-requires c κs = search needs
-
 returns : tie.Need-returns
 returns c = variable-none _ _ _ _ _ _ (c .before .before .before .before .before .pre) _ (c .before .if1 .taken) (c .no-going .result) (c .no-going .ensures)
 
@@ -19,47 +16,17 @@ returns-2 c = variable-full _ _ _ _ _ _ (c .before .before .before .before .befo
 returns-3 : tie.Need-returns-3
 returns-3 c = variable-many _ _ _ _ _ _ (c .before .before .before .before .before .before .pre) (c .before .before .if1 .left) (c .before .if2 .left) (omega arith)
 
-variable-head-requires : tie.Need-variable-head-requires
-variable-head-requires c κs = search needs
-
-enum-known-r : tie.Need-enum-known-r
-enum-known-r c = search needs
-
-enum-told : tie.Need-enum-told
-enum-told c = search needs
-
-same-length : tie.Need-same-length
-same-length c = search needs
-
 returns-4 : tie.Need-returns-4
 returns-4 c = variable-stop _ _ _ _ _ _ (c .before .before .before .before .before .before .before .before .before .before .before .before .pre) (c .before .before .before .before .before .before .before .before .if1 .left) (c .before .before .before .before .before .before .before .if2 .left) (c .before .before .before .before .before .before .if3 .left) _ _ (c .before .before .before .before .variable-head .result) (c .before .before .before .before .variable-head .ensures (c .before .before .before .before .before .before .before .before .before .before .before .before .args .left)) _ (c .enum-told .given .1)
 
 type-reference-requires : tie.Need-type-reference-requires
 type-reference-requires c κs = counted-ready _ _ _ _ _ _ _ _ _ _ _ _ (c .before .before .before .before .before .before .before .before .before .before .before .before .before .before .pre .short) (counted-went _ _ _ _ _ _ _ _ (c .before .before .before .before .before .before .variable-head .result) _ _ _ (c .before .before .before .before .before .before .variable-head .ensures (c .before .before .before .before .before .before .before .before .before .before .before .before .before .before .args .left)) _ (c .before .before .r .given .1)) _ (c .before .before .before .before .before .before .before .before .before .before .before .before .before .before .pre .few)
 
-enum-known-t : tie.Need-enum-known-t
-enum-known-t c = search needs
-
-enum-told-2 : tie.Need-enum-told-2
-enum-told-2 c = search needs
-
-same-length-2 : tie.Need-same-length-2
-same-length-2 c = search needs
-
 returns-5 : tie.Need-returns-5
 returns-5 c = variable-stop-2 _ _ _ _ _ _ (c .before .before .before .before .before .before .before .before .before .before .before .before .before .before .before .before .before .before .before .pre) (c .before .before .before .before .before .before .before .before .before .before .before .before .before .before .before .if1 .left) (c .before .before .before .before .before .before .before .before .before .before .before .before .before .before .if2 .left) (c .before .before .before .before .before .before .before .before .before .before .before .before .before .if3 .left) _ _ (counted-went _ _ _ _ _ _ _ _ (c .before .before .before .before .before .before .before .before .before .before .before .variable-head .result) _ _ _ (c .before .before .before .before .before .before .before .before .before .before .before .variable-head .ensures (c .before .before .before .before .before .before .before .before .before .before .before .before .before .before .before .before .before .before .before .args .left)) _ (c .before .before .before .before .before .before .before .r .given .1)) _ _ (c .before .before .before .before .type-reference .result) (c .before .before .before .before .type-reference .ensures) _ (c .enum-told2 .given .1)
 
 default-if-requires : tie.Need-default-if-requires
 default-if-requires c κs = type-ready _ _ _ _ _ _ _ (c .before .before .before .before .before .before .before .before .before .before .before .before .before .before .before .before .before .before .before .before .before .pre .short) (type-went _ _ _ _ _ _ (c .before .before .before .before .before .before .type-reference .result) (c .before .before .before .before .before .before .type-reference .ensures) _ (c .before .before .t .given .1)) _ (c .before .before .before .before .before .before .before .before .before .before .before .before .before .before .before .before .before .before .before .before .before .pre .few)
-
-enum-known-v : tie.Need-enum-known-v
-enum-known-v c = search needs
-
-enum-told-3 : tie.Need-enum-told-3
-enum-told-3 c = search needs
-
-same-length-3 : tie.Need-same-length-3
-same-length-3 c = search needs
 
 returns-6 : tie.Need-returns-6
 returns-6 c = variable-stop-3 _ _ _ _ _ _ (c .before .before .before .before .before .before .before .before .before .before .before .before .before .before .before .before .before .before .before .before .before .before .before .before .before .before .pre) (c .before .before .before .before .before .before .before .before .before .before .before .before .before .before .before .before .before .before .before .before .before .before .if1 .left) (c .before .before .before .before .before .before .before .before .before .before .before .before .before .before .before .before .before .before .before .before .before .if2 .left) (c .before .before .before .before .before .before .before .before .before .before .before .before .before .before .before .before .before .before .before .before .if3 .left) _ _ (counted-went _ _ _ _ _ _ _ _ (c .before .before .before .before .before .before .before .before .before .before .before .before .before .before .before .before .before .before .variable-head .result) _ _ _ (c .before .before .before .before .before .before .before .before .before .before .before .before .before .before .before .before .before .before .variable-head .ensures (c .before .before .before .before .before .before .before .before .before .before .before .before .before .before .before .before .before .before .before .before .before .before .before .before .before .before .args .left)) _ (c .before .before .before .before .before .before .before .before .before .before .before .before .before .before .r .given .1)) _ _ (type-went _ _ _ _ _ _ (c .before .before .before .before .before .before .before .before .before .before .before .type-reference .result) (c .before .before .before .before .before .before .before .before .before .before .before .type-reference .ensures) _ (c .before .before .before .before .before .before .before .t .given .1)) _ _ (c .before .before .before .before .default-if .result) (c .before .before .before .before .default-if .ensures) _ (c .enum-told3 .given .1)
@@ -77,24 +44,24 @@ pub variable-definition-spec : {M : Type 1} → statement M
 variable-definition-spec =
     tie.close
     (tie.spec
-    no-going-requires
+    (λ c κs. search needs)
     returns
     returns-2
     returns-3
-    variable-head-requires
-    enum-known-r
-    enum-told
-    same-length
+    (λ c κs. search needs)
+    (λ c. search needs)
+    (λ c. search needs)
+    (λ c. search needs)
     returns-4
     type-reference-requires
-    enum-known-t
-    enum-told-2
-    same-length-2
+    (λ c. search needs)
+    (λ c. search needs)
+    (λ c. search needs)
     returns-5
     default-if-requires
-    enum-known-v
-    enum-told-3
-    same-length-3
+    (λ c. search needs)
+    (λ c. search needs)
+    (λ c. search needs)
     returns-6
     put-end-requires
     same-length-4

@@ -22,12 +22,6 @@ returns c = list-deep _ _ _ _ _ (c .before .before .before .pre .0) (c .before .
 past-requires : tie.Need-past-requires Inv-loop μ-loop
 past-requires c κs = (c .before .before .before .pre .0 .short, end-within _ (c .before .before .before .args .c) (c .before .before .before .pre .0 .within) (c .before .before .before .pre .0 .looks) .1)
 
-enum-known-r : tie.Need-enum-known-r Inv-loop μ-loop
-enum-known-r c = search needs
-
-enum-told : tie.Need-enum-told Inv-loop μ-loop
-enum-told c = search needs
-
 returns-2 : tie.Need-returns-2 Inv-loop μ-loop
 returns-2 c = list-bad _ _ _ _ _ (c .before .before .before .before .before .before .pre .0) (c .before .before .before .before .before .before .pre .1) (c .before .before .before .if1 .left) (c .before .before .past .result) (c .before .before .past .ensures) _ _ (c .enum-told .given .1)
 
@@ -39,12 +33,6 @@ sub-variable-definition c = omega arith
 
 variable-definition-requires : tie.Need-variable-definition-requires Inv-loop μ-loop
 variable-definition-requires c κs = turn-ready _ _ _ _ (c .before .before .before .before .before .before .before .before .before .args .left) (c .before .before .before .before .before .before .before .before .before .pre .0) (c .before .before .before .before .before .before .before .before .before .pre .1) (c .before .before .before .before .before .before .if1 .left) (c .before .before .before .before .before .past .result) (c .before .before .before .before .before .past .ensures) _ (c .before .before .before .r .given .1) _ _ _ (c .before .loop .inv)
-
-enum-known-t : tie.Need-enum-known-t Inv-loop μ-loop
-enum-known-t c = search needs
-
-enum-told-2 : tie.Need-enum-told-2 Inv-loop μ-loop
-enum-told-2 c = search needs
 
 same-length : tie.Need-same-length Inv-loop μ-loop
 same-length c = c .before .before .before .before .variable-definition .kept .1 .0 ∙ c .before .before .before .before .before .before .loop .inv .size ∙ sym (c .before .before .before .before .before .before .before .before .before .before .before .before .before .before .pre .0 .size)
@@ -78,14 +66,14 @@ variable-definitions-spec =
     μ-loop
     returns
     past-requires
-    enum-known-r
-    enum-told
+    (λ c. search needs)
+    (λ c. search needs)
     returns-2
     loop-holds
     sub-variable-definition
     variable-definition-requires
-    enum-known-t
-    enum-told-2
+    (λ c. search needs)
+    (λ c. search needs)
     same-length
     returns-3
     past-requires-2

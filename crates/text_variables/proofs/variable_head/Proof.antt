@@ -6,23 +6,11 @@ use borrow.Author.Needs.{needs}
 use Rattle.text_variables.proofs.variable_head.Statement.{statement}
 use Rattle.text_variables.proofs.variable_head.Tie as tie
 
-add-past : tie.Need-add-past
-add-past c = search needs
-
 past-requires : tie.Need-past-requires
 past-requires c κs = (c .before .before .pre .0 .short, end-within _ (c .before .before .args .c) (c .before .before .pre .0 .within) (c .before .before .pre .0 .looks) .1)
 
-enum-known-r : tie.Need-enum-known-r
-enum-known-r c = search needs
-
-enum-told : tie.Need-enum-told
-enum-told c = search needs
-
 returns : tie.Need-returns
 returns c = head-bad _ _ _ _ (c .before .before .before .before .before .pre .0) (c .before .before .before .before .before .pre .1) (c .before .before .before .before .before .pre .2) (c .before .before .past .result) (c .before .before .past .ensures) _ _ (c .enum-told .given .1)
-
-no-going-requires : tie.Need-no-going-requires
-no-going-requires c κs = search needs
 
 returns-2 : tie.Need-returns-2
 returns-2 c = head-nameless _ _ _ _ (c .before .before .before .before .before .before .before .before .before .pre .0) (c .before .before .before .before .before .before .before .before .before .pre .1) (c .before .before .before .before .before .before .before .before .before .pre .2) (c .before .before .before .before .before .before .past .result) (c .before .before .before .before .before .before .past .ensures) _ (c .before .before .before .before .r .given .1) _ (c .before .if1 .taken) (c .no-going .result) (c .no-going .ensures)
@@ -30,32 +18,11 @@ returns-2 c = head-nameless _ _ _ _ (c .before .before .before .before .before .
 sub-put-row : tie.Need-sub-put-row
 sub-put-row c = name-ends _ _ _ _ (c .before .before .before .before .before .before .before .before .before .before .pre .0) (c .before .before .before .before .before .before .before .before .before .before .pre .1) (c .before .before .before .before .before .before .before .before .before .before .pre .2) (c .before .before .before .before .before .before .before .past .result) (c .before .before .before .before .before .before .before .past .ensures) _ (c .before .before .before .before .before .r .given .1) .0
 
-put-row-requires : tie.Need-put-row-requires
-put-row-requires c κs = search needs
-
-add-past-2 : tie.Need-add-past-2
-add-past-2 c = search needs
-
 past-requires-2 : tie.Need-past-requires-2
 past-requires-2 c κs = (c .before .before .before .before .before .before .before .before .before .before .before .before .before .pre .0 .short, name-ends _ _ _ _ (c .before .before .before .before .before .before .before .before .before .before .before .before .before .pre .0) (c .before .before .before .before .before .before .before .before .before .before .before .before .before .pre .1) (c .before .before .before .before .before .before .before .before .before .before .before .before .before .pre .2) (c .before .before .before .before .before .before .before .before .before .before .past .result) (c .before .before .before .before .before .before .before .before .before .before .past .ensures) _ (c .before .before .before .before .before .before .before .before .r .given .1) .1)
 
-enum-known-t : tie.Need-enum-known-t
-enum-known-t c = search needs
-
-enum-told-2 : tie.Need-enum-told-2
-enum-told-2 c = search needs
-
-same-length : tie.Need-same-length
-same-length c = search needs
-
 returns-3 : tie.Need-returns-3
 returns-3 c = head-bad-2 _ _ _ _ (c .before .before .before .before .before .before .before .before .before .before .before .before .before .before .before .before .pre .0) (c .before .before .before .before .before .before .before .before .before .before .before .before .before .before .before .before .pre .1) (c .before .before .before .before .before .before .before .before .before .before .before .before .before .before .before .before .pre .2) (c .before .before .before .before .before .before .before .before .before .before .before .before .before .past .result) (c .before .before .before .before .before .before .before .before .before .before .before .before .before .past .ensures) _ (c .before .before .before .before .before .before .before .before .before .before .before .r .given .1) (c .before .before .before .before .before .before .before .before .if1 .left) (c .before .before .past2 .result) (c .before .before .past2 .ensures) _ _ (c .enum-told2 .given .1)
-
-no-going-requires-2 : tie.Need-no-going-requires-2
-no-going-requires-2 c κs = search needs
-
-same-length-2 : tie.Need-same-length-2
-same-length-2 c = search needs
 
 returns-4 : tie.Need-returns-4
 returns-4 c = head-colonless _ _ _ _ (c .before .before .before .before .before .before .before .before .before .before .before .before .before .before .before .before .before .before .before .before .pre .0) (c .before .before .before .before .before .before .before .before .before .before .before .before .before .before .before .before .before .before .before .before .pre .1) (c .before .before .before .before .before .before .before .before .before .before .before .before .before .before .before .before .before .before .before .before .pre .2) (c .before .before .before .before .before .before .before .before .before .before .before .before .before .before .before .before .before .past .result) (c .before .before .before .before .before .before .before .before .before .before .before .before .before .before .before .before .before .past .ensures) _ (c .before .before .before .before .before .before .before .before .before .before .before .before .before .before .before .r .given .1) (c .before .before .before .before .before .before .before .before .before .before .before .before .if1 .left) (c .before .before .before .before .before .before .past2 .result) (c .before .before .before .before .before .before .past2 .ensures) _ (c .before .before .before .before .t .given .1) _ (c .before .if2 .taken) (c .no-going2 .result) (c .no-going2 .ensures)
@@ -66,9 +33,6 @@ add-past-3 c = omega (arith, c .before .before .before .before .before .before .
 past-requires-3 : tie.Need-past-requires-3
 past-requires-3 c κs = (c .before .before .before .before .before .before .before .before .before .before .before .before .before .before .before .before .before .before .before .pre .0 .short, colon-end _ _ _ _ (c .before .before .before .before .before .before .before .before .before .before .before .before .before .before .before .before .before .before .before .pre .0) (c .before .before .before .before .before .before .before .before .before .before .before .before .before .before .before .before .before .before .before .pre .1) (c .before .before .before .before .before .before .before .before .before .before .before .before .before .before .before .before .before .before .before .pre .2) (c .before .before .before .before .before .before .before .before .before .before .before .before .before .before .before .before .past .result) (c .before .before .before .before .before .before .before .before .before .before .before .before .before .before .before .before .past .ensures) _ (c .before .before .before .before .before .before .before .before .before .before .before .before .before .before .r .given .1) (c .before .before .before .before .before .before .before .before .before .before .before .if1 .left) (c .before .before .before .before .before .past2 .result) (c .before .before .before .before .before .past2 .ensures) _ (c .before .before .before .t .given .1))
 
-same-length-3 : tie.Need-same-length-3
-same-length-3 c = search needs
-
 returns-5 : tie.Need-returns-5
 returns-5 c = head-says _ _ _ _ (c .before .before .before .before .before .before .before .before .before .before .before .before .before .before .before .before .before .before .before .before .pre .0) (c .before .before .before .before .before .before .before .before .before .before .before .before .before .before .before .before .before .before .before .before .pre .1) (c .before .before .before .before .before .before .before .before .before .before .before .before .before .before .before .before .before .before .before .before .pre .2) (c .before .before .before .before .before .before .before .before .before .before .before .before .before .before .before .before .before .past .result) (c .before .before .before .before .before .before .before .before .before .before .before .before .before .before .before .before .before .past .ensures) _ (c .before .before .before .before .before .before .before .before .before .before .before .before .before .before .before .r .given .1) (c .before .before .before .before .before .before .before .before .before .before .before .before .if1 .left) (c .before .before .before .before .before .before .past2 .result) (c .before .before .before .before .before .before .past2 .ensures) _ (c .before .before .before .before .t .given .1) (c .before .if2 .left) _ (c .before .before .before .before .before .before .before .before .before .put-row .ensures) (c .past3 .result) (c .past3 .ensures)
 
@@ -76,25 +40,25 @@ pub variable-head-spec : {M : Type 1} → statement M
 variable-head-spec =
     tie.close
     (tie.spec
-    add-past
+    (λ c. search needs)
     past-requires
-    enum-known-r
-    enum-told
+    (λ c. search needs)
+    (λ c. search needs)
     returns
-    no-going-requires
+    (λ c κs. search needs)
     returns-2
     sub-put-row
-    put-row-requires
-    add-past-2
+    (λ c κs. search needs)
+    (λ c. search needs)
     past-requires-2
-    enum-known-t
-    enum-told-2
-    same-length
+    (λ c. search needs)
+    (λ c. search needs)
+    (λ c. search needs)
     returns-3
-    no-going-requires-2
-    same-length-2
+    (λ c κs. search needs)
+    (λ c. search needs)
     returns-4
     add-past-3
     past-requires-3
-    same-length-3
+    (λ c. search needs)
     returns-5)

@@ -13,12 +13,6 @@ use Rattle.value_answers.proofs.answer.Tie as tie
 returns : tie.Need-returns
 returns c = short-report (c .if1 .taken) refl refl
 
-sizes-met-requires : tie.Need-sizes-met-requires
-sizes-met-requires c κs = search needs
-
-enum-told : tie.Need-enum-told
-enum-told c = search needs
-
 slice-relend-prefix-tell-call : tie.Need-slice-relend-prefix-tell-call
 slice-relend-prefix-tell-call c = sizes-kept (c .before .before .sizes-met .ensures) (c .enum-told .given .1) .0
 
@@ -30,26 +24,11 @@ tell-call-requires c κs =
     let k = sizes-kept (c .before .before .before .before .sizes-met .ensures) (c .before .before .enum-told .given .1) in
     ((k .1, k .2, k .3), c .before .before .before .before .before .if1 .left, length-take-le {A = ℕ} mostCoerced (c .before .before .before .before .before .before .before .before .before .before .before .before .args .value .now) (k .0))
 
-enum-known-s : tie.Need-enum-known-s
-enum-known-s c = search needs
-
-tell-refusal-requires : tie.Need-tell-refusal-requires
-tell-refusal-requires c κs = search needs
-
-same-length : tie.Need-same-length
-same-length c = search needs
-
-same-length-2 : tie.Need-same-length-2
-same-length-2 c = search needs
-
 returns-2 : tie.Need-returns-2
 returns-2 c =
     let a = c .before .before .before .before .before .before .before .before .before .before .before .before .before .before .before .before .before .args in
     let k = sizes-kept (c .before .before .before .before .before .before .before .before .before .sizes-met .ensures) (c .before .before .before .before .before .before .before .enum-told .given .1) in
     told-beyond (EndFor (a .call) (a .table .now) (a .document .now) (a .operation .now) (a .variables .now)) (a .table .now) (a .document .now) (a .variables .now) (a .value .now) (a .report .now) _ _ _ (c .before .before .before .before .before .before .before .before .before .before .if1 .left, k .0) (k .1, k .2, k .3) refl (c .before .before .before .before .tell-call .ensures)
-
-same-length-3 : tie.Need-same-length-3
-same-length-3 c = search needs
 
 returns-3 : tie.Need-returns-3
 returns-3 c =
@@ -62,15 +41,15 @@ answer-spec =
     tie.close
     (tie.spec
     returns
-    sizes-met-requires
-    enum-told
+    (λ c κs. search needs)
+    (λ c. search needs)
     slice-relend-prefix-tell-call
     slice-aggregate-tell-call
     tell-call-requires
-    enum-known-s
-    tell-refusal-requires
-    same-length
-    same-length-2
+    (λ c. search needs)
+    (λ c κs. search needs)
+    (λ c. search needs)
+    (λ c. search needs)
     returns-2
-    same-length-3
+    (λ c. search needs)
     returns-3)

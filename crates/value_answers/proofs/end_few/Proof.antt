@@ -9,56 +9,29 @@ use borrow.Author.Needs.{needs}
 use Rattle.value_answers.proofs.end_few.Statement.{statement}
 use Rattle.value_answers.proofs.end_few.Tie as tie
 
-enum-known-call : tie.Need-enum-known-call
-enum-known-call c = search needs
-
-enum-told : tie.Need-enum-told
-enum-told c = search needs
-
-slice-aggregate-read-text : tie.Need-slice-aggregate-read-text
-slice-aggregate-read-text c = search needs
-
 read-text-requires : tie.Need-read-text-requires
 read-text-requires c κs =
     let p = c .before .before .before .before .before .before .before .before .before .before .pre in
     (p .0 .stands, tt, sym (room-few _ (p .3)), p .1, p .2)
-
-same-length : tie.Need-same-length
-same-length c = search needs
 
 returns : tie.Need-returns
 returns c =
     let a = c .before .before .before .before .before .before .before .before .before .before .before .before .before .before .args in
     by-call (a .table .now) (docOf (a .document .now) (a .rows .now) (a .n)) (a .op) (a .variables .now) _ (c .before .before .before .before .before .before .enum-told .given .1) (c .before .before .before .read-text .ensures)
 
-cast-i : tie.Need-cast-i
-cast-i c = search needs
-
 find-wanted-requires : tie.Need-find-wanted-requires
 find-wanted-requires c κs = stands-prepared _ _ _ _ _ _ (c .before .before .before .before .before .before .before .before .before .pre .0)
-
-enum-known-w : tie.Need-enum-known-w
-enum-known-w c = search needs
-
-enum-told-2 : tie.Need-enum-told-2
-enum-told-2 c = search needs
 
 returns-2 : tie.Need-returns-2
 returns-2 c =
     let a = c .before .before .before .before .before .before .before .before .before .before .before .before .args in
     by-call (a .table .now) (docOf (a .document .now) (a .rows .now) (a .n)) (a .op) (a .variables .now) _ (c .before .before .before .before .call .given .1) (unreached (subst (Wants (a .table .now) (docOf (a .document .now) (a .rows .now) (a .n)) (a .op) _) (c .enum-told2 .given .1) (c .before .before .find-wanted .ensures)))
 
-slice-aggregate-read-text-2 : tie.Need-slice-aggregate-read-text-2
-slice-aggregate-read-text-2 c = search needs
-
 read-text-requires-2 : tie.Need-read-text-requires-2
 read-text-requires-2 c κs =
     let a = c .before .before .before .before .before .before .before .before .before .before .before .before .before .before .before .args in
     let p = c .before .before .before .before .before .before .before .before .before .before .before .before .before .before .before .pre in
     (p .0 .stands, field-serves (a .table .now) (a .document .now) (a .rows .now) (a .n) (a .op) _ _ _ _ (c .before .before .before .before .before .find-wanted .ensures) (c .before .before .before .w .given .1) .1, sym (room-few _ (p .3)), p .1, p .2)
-
-same-length-2 : tie.Need-same-length-2
-same-length-2 c = search needs
 
 returns-3 : tie.Need-returns-3
 returns-3 c =
@@ -69,18 +42,18 @@ pub end-few-spec : {M : Type 1} → statement M
 end-few-spec =
     tie.close
     (tie.spec
-    enum-known-call
-    enum-told
-    slice-aggregate-read-text
+    (λ c. search needs)
+    (λ c. search needs)
+    (λ c. search needs)
     read-text-requires
-    same-length
+    (λ c. search needs)
     returns
-    cast-i
+    (λ c. search needs)
     find-wanted-requires
-    enum-known-w
-    enum-told-2
+    (λ c. search needs)
+    (λ c. search needs)
     returns-2
-    slice-aggregate-read-text-2
+    (λ c. search needs)
     read-text-requires-2
-    same-length-2
+    (λ c. search needs)
     returns-3)

@@ -6,18 +6,6 @@ use borrow.Author.Needs.{needs}
 use Rattle.value_answers.proofs.end_with.Statement.{statement}
 use Rattle.value_answers.proofs.end_with.Tie as tie
 
-open-requires : tie.Need-open-requires
-open-requires c κs = search needs
-
-enum-known-o : tie.Need-enum-known-o
-enum-known-o c = search needs
-
-same-length : tie.Need-same-length
-same-length c = search needs
-
-same-length-2 : tie.Need-same-length-2
-same-length-2 c = search needs
-
 returns : tie.Need-returns
 returns c =
     let a = c .before .before .before .before .before .before .before .before .before .before .before .before .before .before .before .args in
@@ -28,15 +16,6 @@ end-few-requires c κs =
     let a = c .before .before .before .before .before .before .before .before .before .before .before .before .before .before .before .before .before .before .before .before .before .args in
     let p = c .before .before .before .before .before .before .before .before .before .before .before .before .before .before .before .before .before .before .before .before .before .pre in
     (ready-standing _ _ _ (a .variables .now) _ _ (subst (Opens (a .table .now) (a .document .now) (a .operation .now) _ _) (c .before .before .before .before .before .o .given .1) (c .before .before .before .before .before .before .before .before .before .before .before .«open» .ensures)), p .0 .1, p .3, c .before .before .before .if1 .taken)
-
-same-length-3 : tie.Need-same-length-3
-same-length-3 c = search needs
-
-same-length-4 : tie.Need-same-length-4
-same-length-4 c = search needs
-
-same-length-5 : tie.Need-same-length-5
-same-length-5 c = search needs
 
 returns-2 : tie.Need-returns-2
 returns-2 c =
@@ -50,15 +29,6 @@ end-many-requires c κs =
     let p = c .before .before .before .before .before .before .before .before .before .before .before .before .before .before .before .before .before .before .before .before .before .pre in
     (ready-standing _ _ _ (a .variables .now) _ _ (subst (Opens (a .table .now) (a .document .now) (a .operation .now) _ _) (c .before .before .before .before .before .o .given .1) (c .before .before .before .before .before .before .before .before .before .before .before .«open» .ensures)), p .0 .1, p .3, c .before .before .before .if1 .left)
 
-same-length-6 : tie.Need-same-length-6
-same-length-6 c = search needs
-
-same-length-7 : tie.Need-same-length-7
-same-length-7 c = search needs
-
-same-length-8 : tie.Need-same-length-8
-same-length-8 c = search needs
-
 returns-3 : tie.Need-returns-3
 returns-3 c =
     let a = c .before .before .before .before .before .before .before .before .before .before .before .before .before .before .before .before .before .before .before .before .before .before .before .before .args in
@@ -69,18 +39,18 @@ pub end-with-spec : {M : Type 1} → statement M
 end-with-spec =
     tie.close
     (tie.spec
-    open-requires
-    enum-known-o
-    same-length
-    same-length-2
+    (λ c κs. search needs)
+    (λ c. search needs)
+    (λ c. search needs)
+    (λ c. search needs)
     returns
     end-few-requires
-    same-length-3
-    same-length-4
-    same-length-5
+    (λ c. search needs)
+    (λ c. search needs)
+    (λ c. search needs)
     returns-2
     end-many-requires
-    same-length-6
-    same-length-7
-    same-length-8
+    (λ c. search needs)
+    (λ c. search needs)
+    (λ c. search needs)
     returns-3)

@@ -5,12 +5,6 @@ use borrow.Author.Needs.{needs}
 use Rattle.value_answers.proofs.ended.Statement.{statement}
 use Rattle.value_answers.proofs.ended.Tie as tie
 
-enum-known-o : tie.Need-enum-known-o
-enum-known-o c = search needs
-
-enum-known-o-2 : tie.Need-enum-known-o-2
-enum-known-o-2 c = search needs
-
 returns : tie.Need-returns
 returns c = sym (ap endedOf (c .before .o .given .1))
 
@@ -18,4 +12,4 @@ returns-2 : tie.Need-returns-2
 returns-2 c = sym (ap endedOf (c .before .o2 .given .1))
 
 pub ended-spec : {M : Type 1} → statement M
-ended-spec = tie.close (tie.spec enum-known-o enum-known-o-2 returns returns-2)
+ended-spec = tie.close (tie.spec (λ c. search needs) (λ c. search needs) returns returns-2)

@@ -4,21 +4,9 @@ use borrow.Author.Needs.{needs}
 use Rattle.value_answers.proofs.tell_call.Statement.{statement}
 use Rattle.value_answers.proofs.tell_call.Tie as tie
 
-end-call-requires : tie.Need-end-call-requires
-end-call-requires c κs = search needs
-
-tell-requires : tie.Need-tell-requires
-tell-requires c κs = search needs
-
-same-length : tie.Need-same-length
-same-length c = search needs
-
-same-length-2 : tie.Need-same-length-2
-same-length-2 c = search needs
-
 returns : tie.Need-returns
 returns c = record { ending = _; ends-so = c .before .before .before .before .before .before .before .before .before .end-call .ensures; before = _; size = c .before .before .before .before .before .before .before .before .before .end-call .kept .1 .1 .1 .1 .1 .0 ∙ c .before .before .before .before .before .before .before .before .before .before .before .before .before .before .before .before .before .pre .2; leaves = c .before .before .before .before .tell .ensures }
 
 pub tell-call-spec : {M : Type 1} → statement M
 tell-call-spec =
-    tie.close (tie.spec end-call-requires tell-requires same-length same-length-2 returns)
+    tie.close (tie.spec (λ c κs. search needs) (λ c κs. search needs) (λ c. search needs) (λ c. search needs) returns)

@@ -5,6 +5,7 @@ use mathlib.Core.Logic.{_⊎_}
 use mathlib.Core.Bool.{Bool, true}
 use Prim.Native.Nat.{_+_, _-_, _*_, _≤_}
 use native.Mathlib.Omega.{arith}
+use Rattle.table_fields.proofs.BoundsLaws.{later, narrow}
 use borrow.Author.Needs.{needs}
 use borrow.Author.Tests.{leb-true}
 use Rattle.paper.specs.Numbers.{kindNull, kindVariable, mostWrappers}
@@ -17,10 +18,10 @@ use Rattle.table_members.specs.Members.{memberFrom}
 use Rattle.table_types.proofs.Objects.{number-room, entry-bounds}
 use Rattle.query_rows.specs.Rowed.{docOf, rowIn, Decides}
 use Rattle.query_rows.proofs.RowsIn.{rows-count, rowed-sized}
-use Rattle.paper_values.specs.Written.{fieldOf}
+use Rattle.paper_values.specs.Written.{houseFieldBytes}
 use Rattle.paper_values.specs.Kinds.{dueOf}
 use Rattle.paper_values.specs.ValueNumbers.{reasonKind}
-use Rattle.paper_values.specs.Values.{Pairs, nothing}
+use Rattle.paper_values.specs.Values.{Pairs, no-pairs}
 use Rattle.paper_values.specs.Coercion.{valueIn}
 use Rattle.paper_values.specs.RowValues.{valueAt}
 use Rattle.value_writing.specs.Writing.{placeOf, Room}
@@ -276,7 +277,7 @@ field-add-value : (t : ℕ) → field-lts.Need-add-value (field-calls t) (field-
 field-add-value t c = omega (arith, c .before .before .before .before .before .before .before .before .if1 .left, c .before .before .before .before .before .before .before .before .before .before .before .before .before .before .before .before .before .before .before .before .before .before .pre .1 .0 .treed .rowed .few)
 
 field-value-requires : (t : ℕ) → field-lts.Need-value-requires (field-calls t) (field-at t) field.Post
-field-value-requires t c κs = let a = c .before .before .before .before .before .before .before .before .before .before .before .before .before .before .before .before .before .before .before .before .before .before .before .args in let w = (due-is (a .t .now) (a .book .now) (c .before .before .before .before .before .before .before .before .before .before .before .before .before .before .before .before .before .before .before .before .before .before .before .pre .1 .0 .booked) ((memberFrom (a .t .now) (a .tag) (a .start) (a .end)) .type) _ _ _ _ _ _ (c .before .before .before .before .before .before .before .before .before .before .before .member-type .ensures) (leb-true (wrapperCount ((memberFrom (a .t .now) (a .tag) (a .start) (a .end)) .type)) mostWrappers (c .before .before .before .before .before .before .before .before .before .before .before .before .before .before .before .before .before .before .before .before .before .before .before .pre .1 .3)) (c .before .before .before .before .before .before .before .before .due-of .ensures .0) (c .before .before .before .before .before .before .before .before .due-of .ensures .1)) in (omega (arith, c .before .before .before .before .before .before .before .before .before .before .before .before .before .before .before .before .before .before .before .before .before .before .before .pre .0, w .1 .few), (c .before .before .before .before .before .before .before .before .before .before .before .before .before .before .before .before .before .before .before .before .before .before .before .pre .1 .0, omega (arith, c .before .before .before .before .before .before .before .before .before .if1 .left), w .1, room-after (a .limit) (fieldOf tagName ((memberFrom (a .t .now) (a .tag) (a .start) (a .end)) .name)) (placeOf (a .limit) ((a .from) + 3)) (a .out .now) _ _ (room-first (a .limit) (a .from) (placeOf (a .limit) ((a .from) + 3)) (a .out .now) (c .before .before .before .before .before .before .before .before .before .before .before .before .before .before .before .before .before .before .before .before .before .before .before .pre .1 .4) refl) (c .before .before .before .put-field .kept .0) (name-put (a .limit) (a .from) _ _ (a .out .now) _ (a .t .now) (c .before .before .before .before .before .before .before .before .before .before .before .before .member-name .result .at) (c .before .before .before .before .before .before .before .before .before .before .before .before .member-name .result .size) ((memberFrom (a .t .now) (a .tag) (a .start) (a .end)) .name) (c .before .before .before .before .before .before .before .before .before .before .before .before .member-name .ensures .is) (c .before .before .before .before .before .before .before .place .ensures) (c .before .before .before .put-field .ensures)), record { ref = (memberFrom (a .t .now) (a .tag) (a .start) (a .end)) .type; is = w .0 }, c .before .before .before .before .before .before .before .before .before .before .before .before .before .before .before .before .before .before .before .before .before .before .before .pre .1 .5))
+field-value-requires t c κs = let a = c .before .before .before .before .before .before .before .before .before .before .before .before .before .before .before .before .before .before .before .before .before .before .before .args in let w = (due-is (a .t .now) (a .book .now) (c .before .before .before .before .before .before .before .before .before .before .before .before .before .before .before .before .before .before .before .before .before .before .before .pre .1 .0 .booked) ((memberFrom (a .t .now) (a .tag) (a .start) (a .end)) .type) _ _ _ _ _ _ (c .before .before .before .before .before .before .before .before .before .before .before .member-type .ensures) (leb-true (wrapperCount ((memberFrom (a .t .now) (a .tag) (a .start) (a .end)) .type)) mostWrappers (c .before .before .before .before .before .before .before .before .before .before .before .before .before .before .before .before .before .before .before .before .before .before .before .pre .1 .3)) (c .before .before .before .before .before .before .before .before .due-of .ensures .0) (c .before .before .before .before .before .before .before .before .due-of .ensures .1)) in (omega (arith, c .before .before .before .before .before .before .before .before .before .before .before .before .before .before .before .before .before .before .before .before .before .before .before .pre .0, w .1 .few), (c .before .before .before .before .before .before .before .before .before .before .before .before .before .before .before .before .before .before .before .before .before .before .before .pre .1 .0, omega (arith, c .before .before .before .before .before .before .before .before .before .if1 .left), w .1, room-after (a .limit) (houseFieldBytes tagName ((memberFrom (a .t .now) (a .tag) (a .start) (a .end)) .name)) (placeOf (a .limit) ((a .from) + 3)) (a .out .now) _ _ (room-first (a .limit) (a .from) (placeOf (a .limit) ((a .from) + 3)) (a .out .now) (c .before .before .before .before .before .before .before .before .before .before .before .before .before .before .before .before .before .before .before .before .before .before .before .pre .1 .4) refl) (c .before .before .before .put-field .kept .0) (name-put (a .limit) (a .from) _ _ (a .out .now) _ (a .t .now) (c .before .before .before .before .before .before .before .before .before .before .before .before .member-name .result .at) (c .before .before .before .before .before .before .before .before .before .before .before .before .member-name .result .size) ((memberFrom (a .t .now) (a .tag) (a .start) (a .end)) .name) (c .before .before .before .before .before .before .before .before .before .before .before .before .member-name .ensures .is) (c .before .before .before .before .before .before .before .place .ensures) (c .before .before .before .put-field .ensures)), record { ref = (memberFrom (a .t .now) (a .tag) (a .start) (a .end)) .type; is = w .0 }, c .before .before .before .before .before .before .before .before .before .before .before .before .before .before .before .before .before .before .before .before .before .before .before .pre .1 .5))
 
 field-enum-known-r : (t : ℕ) → field-lts.Need-enum-known-r (field-calls t) (field-at t) field.Post
 field-enum-known-r t c = search needs
@@ -395,7 +396,7 @@ object-loop-holds : (t : ℕ) → object-lts.Need-loop-holds (object-calls t) (o
 object-loop-holds t c = let a = c .before .before .before .before .before .before .before .before .before .before .before .before .before .before .before .args in (room-first (a .limit) (a .from) _ (a .out .now) (c .before .before .before .before .before .before .before .before .before .before .before .before .before .before .before .pre .1 .4) (c .place .ensures), c .before .before .before .before .before .before .before .before .before .before .before .before .before .before .before .pre .1 .2 .order, c .before .before .before .before .before .before .before .before .before .before .before .before .before .before .before .pre .1 .3, λ text ps g. fields-start (a .t .now) (valueIn ps) text (docOf (a .s .now) (a .rows .now) (a .n)) (a .n) (a .k) (a .kind) (a .h) (λ x. duesBy (a .kind) (a .t .now) x (a .end)) (a .start) (a .limit) (a .from) (a .out .now) _ (c .place .ensures))
 
 object-next-due-requires : (t : ℕ) → object-lts.Need-next-due-requires (object-calls t) (object-at t) object.Post object-Inv-loop object-μ-loop
-object-next-due-requires t c κs = record { order = c .loop .inv .1; within = c .before .before .before .before .before .before .before .before .before .before .before .before .before .before .before .before .pre .1 .2 .within; most = c .before .before .before .before .before .before .before .before .before .before .before .before .before .before .before .before .pre .1 .2 .most }
+object-next-due-requires t c κs = later (c .before .before .before .before .before .before .before .before .before .before .before .before .before .before .before .before .pre .1 .2) (c .loop .inv .1)
 
 object-enum-known-tag : (t : ℕ) → object-lts.Need-enum-known-tag (object-calls t) (object-at t) object.Post object-Inv-loop object-μ-loop
 object-enum-known-tag t c = search needs
@@ -413,7 +414,7 @@ object-returns-3 : (t : ℕ) → object-lts.Need-returns-3 (object-calls t) (obj
 object-returns-3 t c = let a = c .before .before .before .before .before .before .before .before .before .before .before .before .before .before .before .before .before .before .before .before .before .before .before .args in λ text ps g. object-fields (a .t .now) (valueIn ps) text (docOf (a .s .now) (a .rows .now) (a .n)) (a .n) (a .k) (a .kind) (a .h) (λ x. duesBy (a .kind) (a .t .now) x (a .end)) (a .start) (a .limit) (a .from) (a .out .now) _ (c .before .before .before .before .before .before .before .before .before .before .before .before .find-again .ensures text (valueAt text (docOf (a .s .now) (a .rows .now) (a .n)) (a .k))) (c .before .before .before .before .before .before .before .before .before .before .before .if1 .left) _ (c .before .before .before .before .before .before .before .before .before .before .find-alien .ensures text (valueAt text (docOf (a .s .now) (a .rows .now) (a .n)) (a .k))) (c .before .before .before .before .before .before .before .before .before .if2 .left) _ _ (fields-end (a .t .now) (valueIn ps) text (docOf (a .s .now) (a .rows .now) (a .n)) (a .n) (a .k) (a .kind) (a .h) (λ x. duesBy (a .kind) (a .t .now) x (a .end)) (a .start) (a .limit) (a .from) (a .out .now) (c .before .before .before .before .before .before .before .loop .out) (c .before .before .before .before .before .before .before .loop .at) (c .before .before .before .before .before .before .before .loop .p) (c .before .before .before .before .before .before .before .loop .inv .3 text ps g) _ _ (next-none (a .kind) (a .t .now) (c .before .before .before .before .before .before .before .loop .p) (a .end) _ (c .before .before .before .before .before .before .next-due .ensures) (c .before .before .before .before .enum-told .given .1)) (c .before .before .close .ensures))
 
 object-field-requires : (t : ℕ) → object-lts.Need-field-requires (object-calls t) (object-at t) object.Post object-Inv-loop object-μ-loop
-object-field-requires t c κs = let a = c .before .before .before .before .before .before .before .before .before .before .before .before .before .before .before .before .before .before .before .before .before .args in let f = (next-found (a .kind) (a .t .now) (c .before .before .before .before .before .loop .p) (a .end) _ (c .before .before .tag .given .0 .0) (c .before .before .tag .given .0 .1 .0) (c .before .before .tag .given .0 .1 .1 .0) (c .before .before .before .before .next-due .ensures) (c .before .before .tag .given .1)) in (omega (arith, c .before .before .before .before .before .before .before .before .before .before .before .before .before .before .before .before .before .before .before .before .before .pre .0), (c .before .before .before .before .before .before .before .before .before .before .before .before .before .before .before .before .before .before .before .before .before .pre .1 .0, c .before .before .before .before .before .before .before .before .before .before .before .before .before .before .before .before .before .before .before .before .before .pre .1 .1, record { order = f .lies .order; within = omega (arith, f .lies .within, c .before .before .before .before .before .before .before .before .before .before .before .before .before .before .before .before .before .before .before .before .before .pre .1 .2 .within); most = c .before .before .before .before .before .before .before .before .before .before .before .before .before .before .before .before .before .before .before .before .before .pre .1 .2 .most }, slim-first (dueOf (memberFrom (a .t .now) (c .before .before .tag .given .0 .0) (c .before .before .tag .given .0 .1 .0) (c .before .before .tag .given .0 .1 .1 .0))) (duesBy (a .kind) (a .t .now) (c .before .before .before .before .before .loop .p) (a .end)) (duesBy (a .kind) (a .t .now) (c .before .before .tag .given .0 .1 .1 .0) (a .end)) (c .before .before .before .before .before .loop .inv .2) (f .all-are), c .before .before .before .before .before .loop .inv .0, c .before .before .before .before .before .before .before .before .before .before .before .before .before .before .before .before .before .before .before .before .before .pre .1 .5))
+object-field-requires t c κs = let a = c .before .before .before .before .before .before .before .before .before .before .before .before .before .before .before .before .before .before .before .before .before .args in let f = (next-found (a .kind) (a .t .now) (c .before .before .before .before .before .loop .p) (a .end) _ (c .before .before .tag .given .0 .0) (c .before .before .tag .given .0 .1 .0) (c .before .before .tag .given .0 .1 .1 .0) (c .before .before .before .before .next-due .ensures) (c .before .before .tag .given .1)) in (omega (arith, c .before .before .before .before .before .before .before .before .before .before .before .before .before .before .before .before .before .before .before .before .before .pre .0), (c .before .before .before .before .before .before .before .before .before .before .before .before .before .before .before .before .before .before .before .before .before .pre .1 .0, c .before .before .before .before .before .before .before .before .before .before .before .before .before .before .before .before .before .before .before .before .before .pre .1 .1, narrow (c .before .before .before .before .before .before .before .before .before .before .before .before .before .before .before .before .before .before .before .before .before .pre .1 .2) (f .lies .order) (f .lies .within), slim-first (dueOf (memberFrom (a .t .now) (c .before .before .tag .given .0 .0) (c .before .before .tag .given .0 .1 .0) (c .before .before .tag .given .0 .1 .1 .0))) (duesBy (a .kind) (a .t .now) (c .before .before .before .before .before .loop .p) (a .end)) (duesBy (a .kind) (a .t .now) (c .before .before .tag .given .0 .1 .1 .0) (a .end)) (c .before .before .before .before .before .loop .inv .2) (f .all-are), c .before .before .before .before .before .loop .inv .0, c .before .before .before .before .before .before .before .before .before .before .before .before .before .before .before .before .before .before .before .before .before .pre .1 .5))
 
 object-enum-known-r : (t : ℕ) → object-lts.Need-enum-known-r (object-calls t) (object-at t) object.Post object-Inv-loop object-μ-loop
 object-enum-known-r t c = search needs
@@ -455,13 +456,13 @@ put-kept-returns-2 : (t : ℕ) → put-kept-lts.Need-returns-2 (put-kept-calls t
 put-kept-returns-2 t c = let a = c .before .before .before .before .before .before .before .before .before .before .args in λ vars text there r ref tree e δ kept. kept-full (a .t .now) vars text there (docOf (a .s .now) (a .rows .now) (a .n)) (a .n) (a .row) (a .i) (a .limit) (a .from) r ref tree (a .out .now) _ (UpTo (a .from)) kept (subst (λ (b : Bool). Decides b ((rowIn (a .rows .now) (a .n) (a .row) .kind ≡ kindNull) ⊎ (rowIn (a .rows .now) (a .n) (a .row) .kind ≡ kindVariable))) (c .before .if1 .left) (c .before .before .is-null .ensures)) (c .if2 .taken) (c .before .before .before .before .before .before .before .before .before .before .pre .1 .3 .place) refl
 
 put-kept-value-requires : (t : ℕ) → put-kept-lts.Need-value-requires (put-kept-calls t) (put-kept-at t) put-kept.Post
-put-kept-value-requires t c κs = let a = c .before .before .before .before .before .before .before .before .before .before .before .args in (omega (arith, c .before .before .before .before .before .before .before .before .before .before .before .pre .0), (c .before .before .before .before .before .before .before .before .before .before .before .pre .1 .0, c .before .before .before .before .before .before .before .before .before .before .before .pre .1 .1, c .before .before .before .before .before .before .before .before .before .before .before .pre .1 .2, c .before .before .before .before .before .before .before .before .before .before .before .pre .1 .3, c .before .before .before .before .before .before .before .before .before .before .before .pre .1 .4, record { ready = c .before .before .before .before .before .before .before .before .before .before .before .pre .1 .0; size = omega arith; pairs = nothing; holds = refl }))
+put-kept-value-requires t c κs = let a = c .before .before .before .before .before .before .before .before .before .before .before .args in (omega (arith, c .before .before .before .before .before .before .before .before .before .before .before .pre .0), (c .before .before .before .before .before .before .before .before .before .before .before .pre .1 .0, c .before .before .before .before .before .before .before .before .before .before .before .pre .1 .1, c .before .before .before .before .before .before .before .before .before .before .before .pre .1 .2, c .before .before .before .before .before .before .before .before .before .before .before .pre .1 .3, c .before .before .before .before .before .before .before .before .before .before .before .pre .1 .4, record { ready = c .before .before .before .before .before .before .before .before .before .before .before .pre .1 .0; size = omega arith; pairs = no-pairs; holds = refl }))
 
 put-kept-same-length-2 : (t : ℕ) → put-kept-lts.Need-same-length-2 (put-kept-calls t) (put-kept-at t) put-kept.Post
 put-kept-same-length-2 t c = search needs
 
 put-kept-returns-3 : (t : ℕ) → put-kept-lts.Need-returns-3 (put-kept-calls t) (put-kept-at t) put-kept.Post
-put-kept-returns-3 t c = let a = c .before .before .before .before .before .before .before .before .before .before .before .before .before .before .args in λ vars text there r ref tree e δ kept. kept-value (a .t .now) vars text there (docOf (a .s .now) (a .rows .now) (a .n)) (a .n) (a .row) (a .i) (a .limit) (a .from) r ref tree (a .out .now) _ (c .before .before .value .result) kept (subst (λ (b : Bool). Decides b ((rowIn (a .rows .now) (a .n) (a .row) .kind ≡ kindNull) ⊎ (rowIn (a .rows .now) (a .n) (a .row) .kind ≡ kindVariable))) (c .before .before .before .before .before .if1 .left) (c .before .before .before .before .before .before .is-null .ensures)) (c .before .before .value .ensures there ref nothing δ refl)
+put-kept-returns-3 t c = let a = c .before .before .before .before .before .before .before .before .before .before .before .before .before .before .args in λ vars text there r ref tree e δ kept. kept-value (a .t .now) vars text there (docOf (a .s .now) (a .rows .now) (a .n)) (a .n) (a .row) (a .i) (a .limit) (a .from) r ref tree (a .out .now) _ (c .before .before .value .result) kept (subst (λ (b : Bool). Decides b ((rowIn (a .rows .now) (a .n) (a .row) .kind ≡ kindNull) ⊎ (rowIn (a .rows .now) (a .n) (a .row) .kind ≡ kindVariable))) (c .before .before .before .before .before .if1 .left) (c .before .before .before .before .before .before .is-null .ensures)) (c .before .before .value .ensures there ref no-pairs δ refl)
 
 single-lists-in-requires : (t : ℕ) → single-lts.Need-lists-in-requires (single-calls t) (single-at t) single.Post
 single-lists-in-requires t c κs = c .before .before .before .before .before .before .before .before .before .before .pre .1 .2 .few

@@ -18,14 +18,8 @@ first-declared-requires c κs =
 name-of-requires : tie.Need-name-of-requires
 name-of-requires c κs = rowed-sized (c .before .before .before .before .before .before .pre .1 .rowed)
 
-wide-requires : tie.Need-wide-requires
-wide-requires c κs = search needs
-
 size-of-requires : tie.Need-size-of-requires
 size-of-requires c κs = rowed-sized (c .before .before .before .before .before .before .before .before .pre .1 .rowed)
-
-wide-requires-2 : tie.Need-wide-requires-2
-wide-requires-2 c κs = search needs
 
 extra-of-requires : tie.Need-extra-of-requires
 extra-of-requires c κs = rowed-sized (c .before .before .before .before .before .before .before .before .before .before .pre .1 .rowed)
@@ -51,9 +45,9 @@ declared-of-spec =
     (tie.spec
     first-declared-requires
     name-of-requires
-    wide-requires
+    (λ c κs. search needs)
     size-of-requires
-    wide-requires-2
+    (λ c κs. search needs)
     extra-of-requires
     due-of-requires
     returns)

@@ -4,9 +4,6 @@ use borrow.Author.Needs.{needs}
 use Rattle.value_definitions.proofs.default_of.Statement.{statement}
 use Rattle.value_definitions.proofs.default_of.Tie as tie
 
-first-default-requires : tie.Need-first-default-requires
-first-default-requires c κs = search needs
-
 returns : tie.Need-returns
 returns c =
     let a = c .before .before .before .before .before .args in
@@ -18,4 +15,4 @@ returns-2 c =
     default-none (a .s .now) (a .rows .now) (a .n) (a .v) (c .before .first-default .result) (c .before .first-default .ensures) (c .if1 .left)
 
 pub default-of-spec : {M : Type 1} → statement M
-default-of-spec = tie.close (tie.spec first-default-requires returns returns-2)
+default-of-spec = tie.close (tie.spec (λ c κs. search needs) returns returns-2)

@@ -6,19 +6,10 @@ use borrow.Author.Needs.{needs}
 use Rattle.value_definitions.proofs.is_declared.Statement.{statement}
 use Rattle.value_definitions.proofs.is_declared.Tie as tie
 
-kind-of-requires : tie.Need-kind-of-requires
-kind-of-requires c κs = search needs
-
 returns : tie.Need-returns
 returns c =
     let a = c .before .before .before .args in
     declared-other (a .v) (rowIn (a .rows .now) (a .n) (a .j)) (λ q. c .if1 .taken (c .before .kind-of .ensures ∙ q))
-
-parent-of-requires : tie.Need-parent-of-requires
-parent-of-requires c κs = search needs
-
-wide-requires : tie.Need-wide-requires
-wide-requires c κs = search needs
 
 returns-2 : tie.Need-returns-2
 returns-2 c =
@@ -28,4 +19,4 @@ returns-2 c =
 
 pub is-declared-spec : {M : Type 1} → statement M
 is-declared-spec =
-    tie.close (tie.spec kind-of-requires returns parent-of-requires wide-requires returns-2)
+    tie.close (tie.spec (λ c κs. search needs) returns (λ c κs. search needs) (λ c κs. search needs) returns-2)

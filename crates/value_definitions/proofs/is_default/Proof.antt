@@ -7,9 +7,6 @@ use borrow.Author.Needs.{needs}
 use Rattle.value_definitions.proofs.is_default.Statement.{statement}
 use Rattle.value_definitions.proofs.is_default.Tie as tie
 
-kind-of-requires : tie.Need-kind-of-requires
-kind-of-requires c κs = search needs
-
 returns : tie.Need-returns
 returns c =
     let a = c .before .before .before .args in
@@ -19,12 +16,6 @@ returns-2 : tie.Need-returns-2
 returns-2 c =
     let a = c .before .before .before .before .args in
     default-more (a .v) (rowIn (a .rows .now) (a .n) (a .j)) (omega (arith, c .before .if1 .left, c .before .before .kind-of .ensures)) (omega (arith, c .if2 .taken, c .before .before .kind-of .ensures))
-
-parent-of-requires : tie.Need-parent-of-requires
-parent-of-requires c κs = search needs
-
-wide-requires : tie.Need-wide-requires
-wide-requires c κs = search needs
 
 returns-3 : tie.Need-returns-3
 returns-3 c =
@@ -36,4 +27,4 @@ returns-3 c =
 pub is-default-spec : {M : Type 1} → statement M
 is-default-spec =
     tie.close
-    (tie.spec kind-of-requires returns returns-2 parent-of-requires wide-requires returns-3)
+    (tie.spec (λ c κs. search needs) returns returns-2 (λ c κs. search needs) (λ c κs. search needs) returns-3)

@@ -16,8 +16,5 @@ returns-3 c = long-variables (c .before .before .if1 .left) (c .before .if2 .lef
 returns-4 : tie.Need-returns-4
 returns-4 c = long-table (c .before .before .before .if1 .left) (c .before .before .if2 .left) (c .before .if3 .left) (c .if4 .taken)
 
-returns-5 : tie.Need-returns-5
-returns-5 c = search needs
-
 pub sizes-met-spec : {M : Type 1} → statement M
-sizes-met-spec = tie.close (tie.spec returns returns-2 returns-3 returns-4 returns-5)
+sizes-met-spec = tie.close (tie.spec returns returns-2 returns-3 returns-4 (λ c. search needs))

@@ -6,9 +6,6 @@ use borrow.Author.Needs.{needs}
 use Rattle.value_entries.proofs.first_child.Statement.{statement}
 use Rattle.value_entries.proofs.first_child.Tie as tie
 
-add-c : tie.Need-add-c
-add-c c = search needs
-
 past-of-requires : tie.Need-past-of-requires
 past-of-requires c κs = (rowed-sized (c .before .before .before .pre .0 .rowed), c .before .before .before .pre .0 .pasts, c .before .before .before .pre .1)
 
@@ -23,4 +20,4 @@ returns-2 c =
     first-none (a .s .now) (a .rows .now) (a .n) (a .past .now) (c .before .before .before .before .before .pre .0) (a .h) (c .before .before .before .before .before .pre .1) (omega (arith, c .if1 .left, c .before .past-of .ensures .0))
 
 pub first-child-spec : {M : Type 1} → statement M
-first-child-spec = tie.close (tie.spec add-c past-of-requires returns returns-2)
+first-child-spec = tie.close (tie.spec (λ c. search needs) past-of-requires returns returns-2)

@@ -5,7 +5,7 @@ use Prim.Native.Nat.{ℕ, _-_, _+_}
 use native.Mathlib.Omega.{arith}
 use Rattle.query_rows.specs.Rowed.{docOf}
 use Rattle.paper_values.specs.Values.{Value}
-use Rattle.paper_values.specs.Coercion.{heads, repeated}
+use Rattle.paper_values.specs.Coercion.{heads, repeatedEntry}
 use Rattle.paper_values.specs.RowValues.{entriesFrom}
 use Rattle.value_entries.specs.Entered.{namesBefore}
 use Rattle.value_entries.proofs.EntryLaws.{repeated-here, repeated-end, marks-none, marks-some}
@@ -14,7 +14,7 @@ use Rattle.value_entries.proofs.first_repeated.Statement.{statement}
 use Rattle.value_entries.proofs.first_repeated.Tie as tie
 
 abbrev Inv-loop : tie.InvT-loop
-Inv-loop s rows n past h kind c₀ c = Stands (docOf s rows n) h n c × ((text : ℕ) (read : ℕ → Value) → repeated [] (heads (entriesFrom text (docOf s rows n) read kind h (n - (h + 1)) (h + 1))) ≡ repeated (namesBefore (docOf s rows n) kind h (c - (h + 1))) (heads (entriesFrom text (docOf s rows n) read kind h (n - c) c)))
+Inv-loop s rows n past h kind c₀ c = Stands (docOf s rows n) h n c × ((text : ℕ) (read : ℕ → Value) → repeatedEntry [] (heads (entriesFrom text (docOf s rows n) read kind h (n - (h + 1)) (h + 1))) ≡ repeatedEntry (namesBefore (docOf s rows n) kind h (c - (h + 1))) (heads (entriesFrom text (docOf s rows n) read kind h (n - c) c)))
 
 abbrev μ-loop : tie.MeasureT-loop
 μ-loop s rows n past h kind c₀ c = n - c

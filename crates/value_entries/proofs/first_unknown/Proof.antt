@@ -4,7 +4,7 @@ use Prim.Native.Nat.{ℕ, _-_, _+_}
 use native.Mathlib.Omega.{arith}
 use Rattle.query_rows.specs.Rowed.{docOf}
 use Rattle.paper_values.specs.Values.{Value}
-use Rattle.paper_values.specs.Coercion.{heads, unknown}
+use Rattle.paper_values.specs.Coercion.{heads, unknownEntry}
 use Rattle.paper_values.specs.RowValues.{entriesFrom}
 use Rattle.value_entries.specs.Entered.{duesBy}
 use Rattle.value_entries.proofs.EntryLaws.{unknown-here, unknown-end, marks-none, marks-some}
@@ -13,7 +13,7 @@ use Rattle.value_entries.proofs.first_unknown.Statement.{statement}
 use Rattle.value_entries.proofs.first_unknown.Tie as tie
 
 abbrev Inv-loop : tie.InvT-loop
-Inv-loop t start end s rows n past h kind c₀ c = Stands (docOf s rows n) h n c × ((text : ℕ) (read : ℕ → Value) → unknown (duesBy kind t start end) (heads (entriesFrom text (docOf s rows n) read kind h (n - (h + 1)) (h + 1))) ≡ unknown (duesBy kind t start end) (heads (entriesFrom text (docOf s rows n) read kind h (n - c) c)))
+Inv-loop t start end s rows n past h kind c₀ c = Stands (docOf s rows n) h n c × ((text : ℕ) (read : ℕ → Value) → unknownEntry (duesBy kind t start end) (heads (entriesFrom text (docOf s rows n) read kind h (n - (h + 1)) (h + 1))) ≡ unknownEntry (duesBy kind t start end) (heads (entriesFrom text (docOf s rows n) read kind h (n - c) c)))
 
 abbrev μ-loop : tie.MeasureT-loop
 μ-loop t start end s rows n past h kind c₀ c = n - c

@@ -6,16 +6,10 @@ use borrow.Author.Needs.{needs}
 use Rattle.value_entries.proofs.has_due.Statement.{statement}
 use Rattle.value_entries.proofs.has_due.Tie as tie
 
-has-argument-requires : tie.Need-has-argument-requires
-has-argument-requires c κs = search needs
-
 returns : tie.Need-returns
 returns c =
     let a = c .before .before .before .before .args in
     c .has-argument .ensures ∙ due-argument (a .kind) (a .t .now) (a .start) (a .end) (part (a .s .now) (a .at) (a .l)) (c .before .if1 .taken)
-
-has-member-requires : tie.Need-has-member-requires
-has-member-requires c κs = search needs
 
 returns-2 : tie.Need-returns-2
 returns-2 c =
@@ -23,4 +17,4 @@ returns-2 c =
     c .has-member .ensures ∙ due-member (a .kind) (a .t .now) (a .start) (a .end) (part (a .s .now) (a .at) (a .l)) (c .before .if1 .left)
 
 pub has-due-spec : {M : Type 1} → statement M
-has-due-spec = tie.close (tie.spec has-argument-requires returns has-member-requires returns-2)
+has-due-spec = tie.close (tie.spec (λ c κs. search needs) returns (λ c κs. search needs) returns-2)

@@ -9,19 +9,10 @@ use borrow.Author.Needs.{needs}
 use Rattle.value_entries.proofs.is_entry.Statement.{statement}
 use Rattle.value_entries.proofs.is_entry.Tie as tie
 
-parent-of-requires : tie.Need-parent-of-requires
-parent-of-requires c κs = search needs
-
-cast-if1 : tie.Need-cast-if1
-cast-if1 c = search needs
-
 returns : tie.Need-returns
 returns c =
     let a = c .before .before .before .before .args in let d = docOf (a .s .now) (a .rows .now) (a .n) in
     and-off (eqb (parentOf d (a .c)) (a .h)) (eqb (kindOf d (a .c)) (a .kind)) (ne-eqb (parentOf d (a .c)) (a .h) (λ e. c .if1 .taken (c .before .parent-of .ensures ∙ e)))
-
-kind-of-requires : tie.Need-kind-of-requires
-kind-of-requires c κs = search needs
 
 returns-2 : tie.Need-returns-2
 returns-2 c =
@@ -29,4 +20,4 @@ returns-2 c =
     and-on (eqb (parentOf d (a .c)) (a .h)) (eqb (kindOf d (a .c)) (a .kind)) _ (eq-eqb (parentOf d (a .c)) (a .h) (sym (c .before .before .parent-of .ensures) ∙ c .before .if1 .left)) (ap (λ x. eqb x (a .kind)) (c .kind-of .ensures))
 
 pub is-entry-spec : {M : Type 1} → statement M
-is-entry-spec = tie.close (tie.spec parent-of-requires cast-if1 returns kind-of-requires returns-2)
+is-entry-spec = tie.close (tie.spec (λ c κs. search needs) (λ c. search needs) returns (λ c κs. search needs) returns-2)

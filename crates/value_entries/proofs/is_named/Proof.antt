@@ -11,16 +11,10 @@ use borrow.Author.Needs.{needs}
 use Rattle.value_entries.proofs.is_named.Statement.{statement}
 use Rattle.value_entries.proofs.is_named.Tie as tie
 
-is-entry-requires : tie.Need-is-entry-requires
-is-entry-requires c κs = search needs
-
 returns : tie.Need-returns
 returns c =
     let a = c .before .before .before .before .before .args in let d = docOf (a .s .now) (a .rows .now) (a .n) in
     and-off (isEntry d (a .kind) (a .h) (a .c)) (same (nameOf d (a .c)) (part (a .t .now) (a .at) (a .l))) (sym (c .before .is-entry .ensures) ∙ not-true _ (c .if1 .taken))
-
-is-called-requires : tie.Need-is-called-requires
-is-called-requires c κs = search needs
 
 returns-2 : tie.Need-returns-2
 returns-2 c =
@@ -28,4 +22,4 @@ returns-2 c =
     and-on (isEntry d (a .kind) (a .h) (a .c)) (same (nameOf d (a .c)) (part (a .t .now) (a .at) (a .l))) _ (sym (c .before .before .is-entry .ensures) ∙ not-false _ (c .before .if1 .left)) (c .is-called .ensures)
 
 pub is-named-spec : {M : Type 1} → statement M
-is-named-spec = tie.close (tie.spec is-entry-requires returns is-called-requires returns-2)
+is-named-spec = tie.close (tie.spec (λ c κs. search needs) returns (λ c κs. search needs) returns-2)

@@ -20,13 +20,10 @@ returns c =
     let a = c .before .before .before .before .before .args in let d = docOf (a .s .now) (a .rows .now) (a .n) in
     and-off (isEntry d (a .kind) (a .h) (a .c)) (anyOf (same (nameOf d (a .c))) (namesBefore d (a .kind) (a .h) (a .c - (a .h + 1)))) (sym (c .before .is-entry .ensures) ∙ not-true _ (c .if1 .taken))
 
-is-seen-requires : tie.Need-is-seen-requires
-is-seen-requires c κs = search needs
-
 returns-2 : tie.Need-returns-2
 returns-2 c =
     let a = c .before .before .before .before .before .before .args in let d = docOf (a .s .now) (a .rows .now) (a .n) in
     and-on (isEntry d (a .kind) (a .h) (a .c)) (anyOf (same (nameOf d (a .c))) (namesBefore d (a .kind) (a .h) (a .c - (a .h + 1)))) _ (sym (c .before .before .is-entry .ensures) ∙ not-false _ (c .before .if1 .left)) (c .is-seen .ensures)
 
 pub is-repeated-spec : {M : Type 1} → statement M
-is-repeated-spec = tie.close (tie.spec is-entry-requires returns is-seen-requires returns-2)
+is-repeated-spec = tie.close (tie.spec is-entry-requires returns (λ c κs. search needs) returns-2)

@@ -10,16 +10,10 @@ use borrow.Author.Needs.{needs}
 use Rattle.value_entries.proofs.is_twin.Statement.{statement}
 use Rattle.value_entries.proofs.is_twin.Tie as tie
 
-is-entry-requires : tie.Need-is-entry-requires
-is-entry-requires c κs = search needs
-
 returns : tie.Need-returns
 returns c =
     let a = c .before .before .before .before .args in let d = docOf (a .s .now) (a .rows .now) (a .n) in
     and-off (isEntry d (a .kind) (a .h) (a .j)) (same (nameOf d (a .c)) (nameOf d (a .j))) (sym (c .before .is-entry .ensures) ∙ not-true _ (c .if1 .taken))
-
-same-names-requires : tie.Need-same-names-requires
-same-names-requires c κs = search needs
 
 returns-2 : tie.Need-returns-2
 returns-2 c =
@@ -27,4 +21,4 @@ returns-2 c =
     and-on (isEntry d (a .kind) (a .h) (a .j)) (same (nameOf d (a .c)) (nameOf d (a .j))) _ (sym (c .before .before .is-entry .ensures) ∙ not-false _ (c .before .if1 .left)) (c .same-names .ensures)
 
 pub is-twin-spec : {M : Type 1} → statement M
-is-twin-spec = tie.close (tie.spec is-entry-requires returns same-names-requires returns-2)
+is-twin-spec = tie.close (tie.spec (λ c κs. search needs) returns (λ c κs. search needs) returns-2)

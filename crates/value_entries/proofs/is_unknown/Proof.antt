@@ -14,25 +14,10 @@ use borrow.Author.Needs.{needs}
 use Rattle.value_entries.proofs.is_unknown.Statement.{statement}
 use Rattle.value_entries.proofs.is_unknown.Tie as tie
 
-is-entry-requires : tie.Need-is-entry-requires
-is-entry-requires c κs = search needs
-
 returns : tie.Need-returns
 returns c =
     let a = c .before .before .before .before .before .args in let d = docOf (a .s .now) (a .rows .now) (a .n) in
     and-off (isEntry d (a .kind) (a .h) (a .c)) (not (anyOf (dueNamed (nameOf d (a .c))) (duesBy (a .kind) (a .t .now) (a .start) (a .end)))) (sym (c .before .is-entry .ensures) ∙ not-true _ (c .if1 .taken))
-
-name-of-requires : tie.Need-name-of-requires
-name-of-requires c κs = search needs
-
-cast-at : tie.Need-cast-at
-cast-at c = search needs
-
-size-of-requires : tie.Need-size-of-requires
-size-of-requires c κs = search needs
-
-cast-l : tie.Need-cast-l
-cast-l c = search needs
 
 has-due-requires : tie.Need-has-due-requires
 has-due-requires c κs =
@@ -50,4 +35,4 @@ returns-3 c =
     not-unknown (isEntry d (a .kind) (a .h) (a .c)) (anyOf (dueNamed (nameOf d (a .c))) (duesBy (a .kind) (a .t .now) (a .start) (a .end))) _ (sym (c .before .before .before .before .before .is-entry .ensures) ∙ not-false _ (c .before .before .before .before .if1 .left)) (due-here (duesBy (a .kind) (a .t .now) (a .start) (a .end)) (a .s .now) _ _ _ _ _ (c .before .before .before .name-of .ensures) (c .before .before .size-of .ensures) (c .before .has-due .ensures)) (c .if2 .left)
 
 pub is-unknown-spec : {M : Type 1} → statement M
-is-unknown-spec = tie.close (tie.spec is-entry-requires returns name-of-requires cast-at size-of-requires cast-l has-due-requires returns-2 returns-3)
+is-unknown-spec = tie.close (tie.spec (λ c κs. search needs) returns (λ c κs. search needs) (λ c. search needs) (λ c κs. search needs) (λ c. search needs) has-due-requires returns-2 returns-3)

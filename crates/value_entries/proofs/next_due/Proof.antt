@@ -6,22 +6,10 @@ use borrow.Author.Needs.{needs}
 use Rattle.value_entries.proofs.next_due.Statement.{statement}
 use Rattle.value_entries.proofs.next_due.Tie as tie
 
-next-member-requires : tie.Need-next-member-requires
-next-member-requires c κs = search needs
-
 returns : tie.Need-returns
 returns c =
     let a = c .before .before .before .args in
     next-member (a .kind) (a .t .now) (a .at) (a .end) (c .before .if1 .taken) (c .next-member .result) (c .next-member .ensures)
-
-next-argument-requires : tie.Need-next-argument-requires
-next-argument-requires c κs = search needs
-
-enum-known-from : tie.Need-enum-known-from
-enum-known-from c = search needs
-
-enum-told : tie.Need-enum-told
-enum-told c = search needs
 
 returns-2 : tie.Need-returns-2
 returns-2 c =
@@ -34,4 +22,4 @@ returns-3 c =
     next-argument (a .kind) (a .t .now) (a .at) (a .end) _ _ (c .before .before .before .before .if1 .left) (subst (NextArgument (a .t .now) (a .at) (a .end)) (c .before .from .given .1) (c .before .before .before .next-argument .ensures))
 
 pub next-due-spec : {M : Type 1} → statement M
-next-due-spec = tie.close (tie.spec next-member-requires returns next-argument-requires enum-known-from enum-told returns-2 returns-3)
+next-due-spec = tie.close (tie.spec (λ c κs. search needs) returns (λ c κs. search needs) (λ c. search needs) (λ c. search needs) returns-2 returns-3)

@@ -15,9 +15,6 @@ field : (c : tie.Start)
     → FieldKept (c .args .t .now) (fieldAt (tableOf (c .args .t .now)) (docOf (c .args .s .now) (c .args .rows .now) (c .args .n)) (c .args .i)) (getD (c .args .at .now) (c .args .i) 0) (getD (c .args .to .now) (c .args .i) 0)
 field c = c .pre .2 .fields (c .args .i) (c .pre .3) (c .pre .4)
 
-mul-a : tie.Need-mul-a
-mul-a c = search needs
-
 shared-slice-read-a : tie.Need-shared-slice-read-a
 shared-slice-read-a c =
     let g = c .before .pre in
@@ -31,9 +28,6 @@ cast-t10 : tie.Need-cast-t10
 cast-t10 c =
     let b = field (c .before .before) .bounds (omega (arith, c .if1 .left)) in
     omega (arith, b .order, b .within, b .most)
-
-mul-t14 : tie.Need-mul-t14
-mul-t14 c = search needs
 
 shared-slice-read-t12 : tie.Need-shared-slice-read-t12
 shared-slice-read-t12 c =
@@ -53,11 +47,11 @@ pub content-at-spec : {M : Type 1} → statement M
 content-at-spec =
     tie.close
     (tie.spec
-    mul-a
+    (λ c. search needs)
     shared-slice-read-a
     returns
     cast-t10
-    mul-t14
+    (λ c. search needs)
     shared-slice-read-t12
     cast-t16
     returns-2)

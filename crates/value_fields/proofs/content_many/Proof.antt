@@ -6,38 +6,20 @@ use borrow.Author.Needs.{needs}
 use Rattle.value_fields.proofs.content_many.Statement.{statement}
 use Rattle.value_fields.proofs.content_many.Tie as tie
 
-slice-aggregate-content-with : tie.Need-slice-aggregate-content-with
-slice-aggregate-content-with c = search needs
-
-slice-aggregate-content-with-2 : tie.Need-slice-aggregate-content-with-2
-slice-aggregate-content-with-2 c = search needs
-
-slice-aggregate-content-with-3 : tie.Need-slice-aggregate-content-with-3
-slice-aggregate-content-with-3 c = search needs
-
-slice-aggregate-content-with-4 : tie.Need-slice-aggregate-content-with-4
-slice-aggregate-content-with-4 c = search needs
-
-slice-aggregate-content-with-5 : tie.Need-slice-aggregate-content-with-5
-slice-aggregate-content-with-5 c = search needs
-
 content-with-requires : tie.Need-content-with-requires
 content-with-requires c κs =
     let p = c .before .before .before .before .before .before .before .before .before .pre in
     let e = sym (room-many _ (p .5)) in
     (p .0, p .1, p .2, refl {a = firstsSize}, e, e, e, e, p .3, p .4)
 
-returns : tie.Need-returns
-returns c = search needs
-
 pub content-many-spec : {M : Type 1} → statement M
 content-many-spec =
     tie.close
     (tie.spec
-    slice-aggregate-content-with
-    slice-aggregate-content-with-2
-    slice-aggregate-content-with-3
-    slice-aggregate-content-with-4
-    slice-aggregate-content-with-5
+    (λ c. search needs)
+    (λ c. search needs)
+    (λ c. search needs)
+    (λ c. search needs)
+    (λ c. search needs)
     content-with-requires
-    returns)
+    (λ c. search needs))

@@ -9,9 +9,6 @@ use borrow.Author.Needs.{needs}
 use Rattle.value_fields.proofs.find_wanted.Statement.{statement}
 use Rattle.value_fields.proofs.find_wanted.Tie as tie
 
-kind-of-requires : tie.Need-kind-of-requires
-kind-of-requires c κs = search needs
-
 returns : tie.Need-returns
 returns c =
     let a = c .before .before .before .before .before .before .args in
@@ -43,4 +40,4 @@ returns-3 c =
 pub find-wanted-spec : {M : Type 1} → statement M
 find-wanted-spec =
     tie.close
-    (tie.spec kind-of-requires returns is-reached-requires returns-2 content-of-requires returns-3)
+    (tie.spec (λ c κs. search needs) returns is-reached-requires returns-2 content-of-requires returns-3)

@@ -8,12 +8,6 @@ use borrow.Author.Needs.{needs}
 use Rattle.value_fields.proofs.search_spreads.Statement.{statement}
 use Rattle.value_fields.proofs.search_spreads.Tie as tie
 
-kinds-requires : tie.Need-kinds-requires
-kinds-requires c κs = search needs
-
-targets-requires : tie.Need-targets-requires
-targets-requires c κs = search needs
-
 spreads-requires : tie.Need-spreads-requires
 spreads-requires c κs =
     let p = c .before .before .before .before .before .before .before .before .before .before .before .before .before .before .before .before .before .before .before .before .before .before .before .before .before .pre in
@@ -38,38 +32,20 @@ same-length-2 : tie.Need-same-length-2
 same-length-2 c =
     c .before .before .before .before .before .before .before .before .before .before .before .before .before .before .before .before .before .before .before .before .before .before .before .before .before .before .before .before .before .kinds .ensures .nexts ∙ room-rows _ _ ∙ sym (c .before .before .before .before .before .before .before .before .before .before .before .before .before .before .before .before .before .before .before .before .before .before .before .before .before .before .before .before .before .before .before .before .before .before .before .before .before .before .before .before .before .before .pre .3)
 
-same-length-3 : tie.Need-same-length-3
-same-length-3 c = search needs
-
-same-length-4 : tie.Need-same-length-4
-same-length-4 c = search needs
-
-same-length-5 : tie.Need-same-length-5
-same-length-5 c = search needs
-
-same-length-6 : tie.Need-same-length-6
-same-length-6 c = search needs
-
-same-length-7 : tie.Need-same-length-7
-same-length-7 c = search needs
-
-returns : tie.Need-returns
-returns c = search needs
-
 pub search-spreads-spec : {M : Type 1} → statement M
 search-spreads-spec =
     tie.close
     (tie.spec
-    kinds-requires
-    targets-requires
+    (λ c κs. search needs)
+    (λ c κs. search needs)
     spreads-requires
     reach-requires
     reaches-requires
     same-length
     same-length-2
-    same-length-3
-    same-length-4
-    same-length-5
-    same-length-6
-    same-length-7
-    returns)
+    (λ c. search needs)
+    (λ c. search needs)
+    (λ c. search needs)
+    (λ c. search needs)
+    (λ c. search needs)
+    (λ c. search needs))

@@ -12,8 +12,5 @@ returns c = let a = c .before .before .before .before .args in λ text read. rep
 first-repeated-requires : tie.Need-first-repeated-requires
 first-repeated-requires c κs = (c .before .before .before .before .pre .0, omega (arith, c .if1 .left))
 
-returns-2 : tie.Need-returns-2
-returns-2 c = search needs
-
 pub find-again-spec : {M : Type 1} → statement M
-find-again-spec = tie.close (tie.spec returns first-repeated-requires returns-2)
+find-again-spec = tie.close (tie.spec returns first-repeated-requires (λ c. search needs))

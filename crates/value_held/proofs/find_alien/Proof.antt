@@ -13,8 +13,5 @@ returns c = let a = c .before .before .before .before .before .args in λ text r
 first-unknown-requires : tie.Need-first-unknown-requires
 first-unknown-requires c κs = (c .before .before .before .before .before .pre .0, c .before .before .before .before .before .pre .1, omega (arith, c .if1 .left))
 
-returns-2 : tie.Need-returns-2
-returns-2 c = search needs
-
 pub find-alien-spec : {M : Type 1} → statement M
-find-alien-spec = tie.close (tie.spec returns first-unknown-requires returns-2)
+find-alien-spec = tie.close (tie.spec returns first-unknown-requires (λ c. search needs))

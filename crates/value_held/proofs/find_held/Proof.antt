@@ -18,29 +18,11 @@ abbrev μ-loop : tie.MeasureT-loop
 loop-holds : tie.Need-loop-holds Inv-loop μ-loop
 loop-holds c = let a = c .before .before .args in ap (λ (x : ℕ). heldFrom (a .s .now) (a .held .now) (part (a .s .now) (a .at) (a .l)) x 0) (omega arith)
 
-cell-of-requires : tie.Need-cell-of-requires Inv-loop μ-loop
-cell-of-requires c κs = search needs
-
-cast-a : tie.Need-cast-a Inv-loop μ-loop
-cast-a c = search needs
-
-cell-of-requires-2 : tie.Need-cell-of-requires-2 Inv-loop μ-loop
-cell-of-requires-2 c κs = search needs
-
-cast-size : tie.Need-cast-size Inv-loop μ-loop
-cast-size c = search needs
-
 is-text-requires : tie.Need-is-text-requires Inv-loop μ-loop
 is-text-requires c κs = let a = c .before .before .before .before .before .before .args in (c .before .before .before .before .before .before .pre .1, rw (c .before .cell-of .ensures, c .cell-of2 .ensures) (c .before .before .before .before .before .before .pre .0 .within (c .before .before .before .loop .j) (c .before .before .loop-test .taken)))
 
 returns : tie.Need-returns Inv-loop μ-loop
 returns c = let a = c .before .before .before .before .before .before .before .before .args in sym (c .before .before .before .before .before .loop .inv ∙ held-here (a .s .now) (a .held .now) (part (a .s .now) (a .at) (a .l)) (a .many) (c .before .before .before .before .before .loop .j) (c .before .before .before .before .loop-test .taken) (rw (← c .before .before .before .cell-of .ensures, ← c .before .before .cell-of2 .ensures) (sym (c .before .is-text .ensures) ∙ c .if1 .taken)))
-
-add-j : tie.Need-add-j Inv-loop μ-loop
-add-j c = search needs
-
-loop-less : tie.Need-loop-less Inv-loop μ-loop
-loop-less c = search needs
 
 loop-again : tie.Need-loop-again Inv-loop μ-loop
 loop-again c = let a = c .before .before .before .before .before .before .before .before .args in c .before .before .before .before .before .loop .inv ∙ held-next (a .s .now) (a .held .now) (part (a .s .now) (a .at) (a .l)) (a .many) (c .before .before .before .before .before .loop .j) (c .before .before .before .before .loop-test .taken) (rw (← c .before .before .before .cell-of .ensures, ← c .before .before .cell-of2 .ensures) (sym (c .before .is-text .ensures) ∙ c .if1 .left))
@@ -49,4 +31,4 @@ returns-2 : tie.Need-returns-2 Inv-loop μ-loop
 returns-2 c = let a = c .before .before .before .before .args in sym (c .before .loop .inv ∙ held-end (a .s .now) (a .held .now) (part (a .s .now) (a .at) (a .l)) (a .many) (c .before .loop .j) (omega (arith, c .loop-test .left)))
 
 pub find-held-spec : {M : Type 1} → statement M
-find-held-spec = tie.close (tie.spec Inv-loop μ-loop loop-holds cell-of-requires cast-a cell-of-requires-2 cast-size is-text-requires returns add-j loop-less loop-again returns-2)
+find-held-spec = tie.close (tie.spec Inv-loop μ-loop loop-holds (λ c κs. search needs) (λ c. search needs) (λ c κs. search needs) (λ c. search needs) is-text-requires returns (λ c. search needs) (λ c. search needs) loop-again returns-2)

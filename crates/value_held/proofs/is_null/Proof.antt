@@ -6,9 +6,6 @@ use borrow.Author.Needs.{needs}
 use Rattle.value_held.proofs.is_null.Statement.{statement}
 use Rattle.value_held.proofs.is_null.Tie as tie
 
-kind-of-requires : tie.Need-kind-of-requires
-kind-of-requires c κs = search needs
-
 returns : tie.Need-returns
 returns c = inl (sym (c .before .kind-of .ensures) ∙ c .if1 .taken)
 
@@ -16,4 +13,4 @@ returns-2 : tie.Need-returns-2
 returns-2 c = null-decides _ _ (c .before .kind-of .ensures) (c .if1 .left)
 
 pub is-null-spec : {M : Type 1} → statement M
-is-null-spec = tie.close (tie.spec kind-of-requires returns returns-2)
+is-null-spec = tie.close (tie.spec (λ c κs. search needs) returns returns-2)

@@ -2,14 +2,10 @@
 use Rattle.value_held.proofs.LackLaws.{lack-refused, lack-nothing}
 use Rattle.value_held.proofs.lacking.Statement.{statement}
 use Rattle.value_held.proofs.lacking.Tie as tie
-use Rattle.value_held.proofs.lacking.Reads as reads
-use Rattle.value_held.proofs.lacking.Lts as lts
 
--- src/lib.rt:88:9
 returns : tie.Need-returns
 returns c = let a = c .before .args in λ text what p e. lack-refused text (a .limit) (a .from) (a .h) (a .wrappers) what p e (c .if1 .taken)
 
--- src/lib.rt:83:1
 returns-2 : tie.Need-returns-2
 returns-2 c = let a = c .before .args in λ text what p e. lack-nothing text (a .limit) (a .from) (a .h) (a .wrappers) what p e (c .if1 .left) (c .before .pre)
 

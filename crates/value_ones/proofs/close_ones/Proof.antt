@@ -32,9 +32,6 @@ loop-holds c =
       λ text o p g. subst (λ (x : ℕ). Told text (a .limit) (ones x o) (placeOf (a .limit) (a .from + 3 * a .m)) p (a .out .now) (UpTo (a .at))) (sym z) g,
     )
 
-sub-j : tie.Need-sub-j Inv-loop μ-loop
-sub-j c = search needs
-
 mul-place : tie.Need-mul-place Inv-loop μ-loop
 mul-place c = omega (arith, c .before .loop .inv .0, c .before .before .before .pre .few)
 
@@ -45,9 +42,6 @@ close-requires : tie.Need-close-requires Inv-loop μ-loop
 close-requires c κs =
     let a = c .before .before .before .before .before .args in let l = c .before .before .before .loop in
     subst (λ (x : ℕ). Behind (a .limit) x (l .e) (l .out)) (sym (c .before .place .ensures)) (head-behind (a .limit) (a .from) (l .j) (l .e) (l .out) (c .before .before .loop-test .taken) (c .before .before .before .before .before .pre .least) (l .inv .1) (l .inv .2) (l .inv .3))
-
-loop-less : tie.Need-loop-less Inv-loop μ-loop
-loop-less c = search needs
 
 loop-again : tie.Need-loop-again Inv-loop μ-loop
 loop-again c =
@@ -78,11 +72,11 @@ close-ones-spec =
     Inv-loop
     μ-loop
     loop-holds
-    sub-j
+    (λ c. search needs)
     mul-place
     place-requires
     close-requires
-    loop-less
+    (λ c. search needs)
     loop-again
     same-length
     returns)

@@ -12,16 +12,10 @@ use borrow.Author.Needs.{needs}
 use Rattle.value_results.proofs.put_arguments.Statement.{statement}
 use Rattle.value_results.proofs.put_arguments.Tie as tie
 
-add-coerce-variables : tie.Need-add-coerce-variables
-add-coerce-variables c = search needs
-
 coerce-variables-requires : tie.Need-coerce-variables-requires
 coerce-variables-requires c κs =
     let p = c .before .before .before .before .before .before .before .before .before .before .before .before .pre in
     (p .0, p .1 .few, p .1 .held-size, record { least = omega arith; place = omega arith; size = p .1 .out-size })
-
-enum-known-r : tie.Need-enum-known-r
-enum-known-r c = search needs
 
 put-held-requires : tie.Need-put-held-requires
 put-held-requires c κs =
@@ -30,32 +24,17 @@ put-held-requires c κs =
     let v = told-valued (a .t .now) (a .book .now) (a .s .now) (a .rows .now) (a .n) (a .s1 .now) (a .rows1 .now) (a .n1) mostCoerced (mostCoerced + 1) (a .out .now) _ _ _ (coercedVariables (a .t .now) (docOf (a .s .now) (a .rows .now) (a .n)) (a .op) (docOf (a .s1 .now) (a .rows1 .now) (a .n1))) _ _ (c .before .before .before .before .before .before .before .before .before .coerce-variables .ensures) (c .before .before .before .r .given .1) in
     (p .0 .ready, p .2, valued-holding (a .op) v (p .0 .ready1) (p .1 .few) (c .before .before .before .before .before .before .before .before .before .coerce-variables .kept .1 .1 .1 .1 .1 .1 .1 .1 .1 .1 .1 .0 ∙ p .1 .held-size), c .before .before .before .before .before .before .before .before .before .coerce-variables .kept .1 .1 .1 .1 .1 .1 .1 .1 .1 .1 .1 .1 .0 ∙ p .1 .out-size)
 
-enum-known-r-2 : tie.Need-enum-known-r-2
-enum-known-r-2 c = search needs
-
 refused-requires : tie.Need-refused-requires
 refused-requires c κs =
     let a = c .before .before .before .before .before .before .before .before .before .before .before .before .before .before .before .before .before .before .before .before .args in
     let p = c .before .before .before .before .before .before .before .before .before .before .before .before .before .before .before .before .before .before .before .before .pre in
     told-row (a .t .now) (a .book .now) (a .s .now) (a .rows .now) (a .n) (a .s1 .now) (a .rows1 .now) (a .n1) mostCoerced (mostCoerced + 1) (a .out .now) _ _ _ (coercedVariables (a .t .now) (docOf (a .s .now) (a .rows .now) (a .n)) (a .op) (docOf (a .s1 .now) (a .rows1 .now) (a .n1))) _ _ _ (variables-rows (a .t .now) (docOf (a .s .now) (a .rows .now) (a .n)) (a .op) (docOf (a .s1 .now) (a .rows1 .now) (a .n1)) (omega (arith, p .0 .ready .treed .rowed .few, rows-count (a .rows .now) (a .n))) (omega (arith, p .0 .ready1 .treed .rowed .few, rows-count (a .rows1 .now) (a .n1)))) (c .before .before .before .before .before .before .before .coerce-variables .ensures) (c .before .r2 .given .1)
 
-same-length : tie.Need-same-length
-same-length c = search needs
-
-same-length-2 : tie.Need-same-length-2
-same-length-2 c = search needs
-
 returns : tie.Need-returns
 returns c =
     let a = c .before .before .before .before .before .before .before .before .before .before .before .before .before .before .before .before .before .before .before .before .before .before .before .before .before .args in
     let v = told-valued (a .t .now) (a .book .now) (a .s .now) (a .rows .now) (a .n) (a .s1 .now) (a .rows1 .now) (a .n1) mostCoerced (mostCoerced + 1) (a .out .now) _ _ _ (coercedVariables (a .t .now) (docOf (a .s .now) (a .rows .now) (a .n)) (a .op) (docOf (a .s1 .now) (a .rows1 .now) (a .n1))) _ _ (c .before .before .before .before .before .before .before .before .before .before .before .before .coerce-variables .ensures) (c .before .before .before .before .before .before .r .given .1) in
     valued-then v (argued (a .t .now) (docOf (a .s .now) (a .rows .now) (a .n)) (a .i)) _ _ (c .before .before .put-held .ensures (v .pairs) (v .holds))
-
-same-length-3 : tie.Need-same-length-3
-same-length-3 c = search needs
-
-same-length-4 : tie.Need-same-length-4
-same-length-4 c = search needs
 
 returns-2 : tie.Need-returns-2
 returns-2 c =
@@ -66,15 +45,15 @@ pub put-arguments-spec : {M : Type 1} → statement M
 put-arguments-spec =
     tie.close
     (tie.spec
-    add-coerce-variables
+    (λ c. search needs)
     coerce-variables-requires
-    enum-known-r
+    (λ c. search needs)
     put-held-requires
-    enum-known-r-2
+    (λ c. search needs)
     refused-requires
-    same-length
-    same-length-2
+    (λ c. search needs)
+    (λ c. search needs)
     returns
-    same-length-3
-    same-length-4
+    (λ c. search needs)
+    (λ c. search needs)
     returns-2)

@@ -12,29 +12,17 @@ object-requires c κs =
     let p = c .before .before .before .before .before .before .before .before .before .before .before .pre in
     (p .0, serves-there (a .t .now) (a .s .now) (a .rows .now) (a .n) (a .i) (a .start) (a .end) (p .1), p .1 .holds .bounds, dues-slim (a .t .now) (a .s .now) (a .rows .now) (a .n) (a .i) (a .start) (a .end) (p .1), record { least = omega arith; place = omega arith; size = p .3 }, p .2)
 
-enum-known-c : tie.Need-enum-known-c
-enum-known-c c = search needs
-
-enum-known-c-2 : tie.Need-enum-known-c-2
-enum-known-c-2 c = search needs
-
 refused-requires : tie.Need-refused-requires
 refused-requires c κs =
     let a = c .before .before .before .before .before .before .before .before .before .before .before .before .before .before .before .before .before .args in
     let p = c .before .before .before .before .before .before .before .before .before .before .before .before .before .before .before .before .before .pre in
     argued-within (a .t .now) (a .s .now) (a .rows .now) (a .n) (a .i) (a .start) (a .end) (p .1) (p .2 .pairs) (a .out .now) _ _ (c .before .before .before .before .before .object .ensures inputDocument (p .2 .pairs) (p .2 .holds)) _ _ (p .0 .treed .rowed .few) (c .before .c2 .given .1)
 
-same-length : tie.Need-same-length
-same-length c = search needs
-
 returns : tie.Need-returns
 returns c =
     let a = c .before .before .before .before .before .before .before .before .before .before .before .before .before .before .before .before .before .args in
     let p = c .before .before .before .before .before .before .before .before .before .before .before .before .before .before .before .before .before .pre in
     λ ps h. argued-gives (a .t .now) (a .s .now) (a .rows .now) (a .n) (a .i) (a .start) (a .end) (p .1) ps (a .out .now) _ _ (c .before .before .before .before .before .object .ensures inputDocument ps h) _ (p .3) (c .before .c .given .1)
-
-same-length-2 : tie.Need-same-length-2
-same-length-2 c = search needs
 
 returns-2 : tie.Need-returns-2
 returns-2 c =
@@ -47,10 +35,10 @@ put-held-spec =
     tie.close
     (tie.spec
     object-requires
-    enum-known-c
-    enum-known-c-2
+    (λ c. search needs)
+    (λ c. search needs)
     refused-requires
-    same-length
+    (λ c. search needs)
     returns
-    same-length-2
+    (λ c. search needs)
     returns-2)

@@ -7,37 +7,16 @@ use borrow.Author.Needs.{needs}
 use Rattle.value_results.proofs.put_task.Statement.{statement}
 use Rattle.value_results.proofs.put_task.Tie as tie
 
-enum-told : tie.Need-enum-told
-enum-told c = search needs
-
-put-variables-requires : tie.Need-put-variables-requires
-put-variables-requires c κs = search needs
-
-enum-known-task : tie.Need-enum-known-task
-enum-known-task c = search needs
-
 put-arguments-requires : tie.Need-put-arguments-requires
 put-arguments-requires c κs =
     let a = c .before .before .before .before .before .before .before .before .before .before .before .before .before .before .before .args in
     let p = c .before .before .before .before .before .before .before .before .before .before .before .before .before .before .before .pre in
     (p .0, p .1, subst (Serves (a .t .now) (docOf (a .s .now) (a .rows .now) (a .n))) (c .before .before .before .task .given .1) (p .2))
 
-same-length : tie.Need-same-length
-same-length c = search needs
-
-same-length-2 : tie.Need-same-length-2
-same-length-2 c = search needs
-
 returns : tie.Need-returns
 returns c =
     let a = c .before .before .before .before .before .before .before .before .before .before .before .before .before .before .before .before .before .before .before .args in
     by-task (a .t .now) (docOf (a .s .now) (a .rows .now) (a .n)) (a .op) (docOf (a .s1 .now) (a .rows1 .now) (a .n1)) _ _ (c .before .before .before .before .before .before .before .enum-told .given .1) (c .before .before .before .before .put-variables .ensures)
-
-same-length-3 : tie.Need-same-length-3
-same-length-3 c = search needs
-
-same-length-4 : tie.Need-same-length-4
-same-length-4 c = search needs
 
 returns-2 : tie.Need-returns-2
 returns-2 c =
@@ -48,13 +27,13 @@ pub put-task-spec : {M : Type 1} → statement M
 put-task-spec =
     tie.close
     (tie.spec
-    enum-told
-    put-variables-requires
-    enum-known-task
+    (λ c. search needs)
+    (λ c κs. search needs)
+    (λ c. search needs)
     put-arguments-requires
-    same-length
-    same-length-2
+    (λ c. search needs)
+    (λ c. search needs)
     returns
-    same-length-3
-    same-length-4
+    (λ c. search needs)
+    (λ c. search needs)
     returns-2)

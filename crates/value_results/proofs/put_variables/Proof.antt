@@ -12,16 +12,10 @@ use borrow.Author.Needs.{needs}
 use Rattle.value_results.proofs.put_variables.Statement.{statement}
 use Rattle.value_results.proofs.put_variables.Tie as tie
 
-place-requires : tie.Need-place-requires
-place-requires c κs = search needs
-
 coerce-variables-requires : tie.Need-coerce-variables-requires
 coerce-variables-requires c κs =
     let p = c .before .before .before .before .before .before .before .before .before .before .before .before .before .pre in
     (p .0, p .1 .few, p .1 .held-size, record { least = omega arith; place = omega (arith, c .before .before .place .ensures); size = p .1 .out-size })
-
-enum-known-r : tie.Need-enum-known-r
-enum-known-r c = search needs
 
 close-requires : tie.Need-close-requires
 close-requires c κs =
@@ -29,32 +23,17 @@ close-requires c κs =
     let p = c .before .before .before .before .before .before .before .before .before .before .before .before .before .before .before .before .before .before .before .before .before .before .pre in
     valued-behind (told-valued (a .t .now) (a .book .now) (a .s .now) (a .rows .now) (a .n) (a .s1 .now) (a .rows1 .now) (a .n1) mostCoerced _ (a .out .now) _ _ _ (coercedVariables (a .t .now) (docOf (a .s .now) (a .rows .now) (a .n)) (a .op) (docOf (a .s1 .now) (a .rows1 .now) (a .n1))) _ _ (c .before .before .before .before .before .before .before .before .coerce-variables .ensures) (c .before .before .r .given .1)) (c .before .before .before .before .before .before .before .before .before .before .before .place .ensures) (c .before .before .before .before .before .before .before .before .coerce-variables .kept .1 .1 .1 .1 .1 .1 .1 .1 .1 .1 .1 .1 .0 ∙ p .1 .out-size)
 
-enum-known-r-2 : tie.Need-enum-known-r-2
-enum-known-r-2 c = search needs
-
 refused-requires : tie.Need-refused-requires
 refused-requires c κs =
     let a = c .before .before .before .before .before .before .before .before .before .before .before .before .before .before .before .before .before .before .before .before .before .args in
     let p = c .before .before .before .before .before .before .before .before .before .before .before .before .before .before .before .before .before .before .before .before .before .pre in
     told-row (a .t .now) (a .book .now) (a .s .now) (a .rows .now) (a .n) (a .s1 .now) (a .rows1 .now) (a .n1) mostCoerced _ (a .out .now) _ _ _ (coercedVariables (a .t .now) (docOf (a .s .now) (a .rows .now) (a .n)) (a .op) (docOf (a .s1 .now) (a .rows1 .now) (a .n1))) _ _ _ (variables-rows (a .t .now) (docOf (a .s .now) (a .rows .now) (a .n)) (a .op) (docOf (a .s1 .now) (a .rows1 .now) (a .n1)) (omega (arith, p .0 .ready .treed .rowed .few, rows-count (a .rows .now) (a .n))) (omega (arith, p .0 .ready1 .treed .rowed .few, rows-count (a .rows1 .now) (a .n1)))) (c .before .before .before .before .before .before .before .coerce-variables .ensures) (c .before .r2 .given .1)
 
-same-length : tie.Need-same-length
-same-length c = search needs
-
-same-length-2 : tie.Need-same-length-2
-same-length-2 c = search needs
-
 returns : tie.Need-returns
 returns c =
     let a = c .before .before .before .before .before .before .before .before .before .before .before .before .before .before .before .before .before .before .before .before .before .before .before .before .before .args in
     let p = c .before .before .before .before .before .before .before .before .before .before .before .before .before .before .before .before .before .before .before .before .before .before .before .before .before .pre in
     valued-object (told-valued (a .t .now) (a .book .now) (a .s .now) (a .rows .now) (a .n) (a .s1 .now) (a .rows1 .now) (a .n1) mostCoerced _ (a .out .now) _ _ _ (coercedVariables (a .t .now) (docOf (a .s .now) (a .rows .now) (a .n)) (a .op) (docOf (a .s1 .now) (a .rows1 .now) (a .n1))) _ _ (c .before .before .before .before .before .before .before .before .before .before .before .coerce-variables .ensures) (c .before .before .before .before .before .r .given .1)) _ _ (c .before .before .before .before .before .before .before .before .before .before .before .before .before .before .place .ensures) (p .1 .out-size) (c .before .before .close .ensures)
-
-same-length-3 : tie.Need-same-length-3
-same-length-3 c = search needs
-
-same-length-4 : tie.Need-same-length-4
-same-length-4 c = search needs
 
 returns-2 : tie.Need-returns-2
 returns-2 c =
@@ -65,15 +44,15 @@ pub put-variables-spec : {M : Type 1} → statement M
 put-variables-spec =
     tie.close
     (tie.spec
-    place-requires
+    (λ c κs. search needs)
     coerce-variables-requires
-    enum-known-r
+    (λ c. search needs)
     close-requires
-    enum-known-r-2
+    (λ c. search needs)
     refused-requires
-    same-length
-    same-length-2
+    (λ c. search needs)
+    (λ c. search needs)
     returns
-    same-length-3
-    same-length-4
+    (λ c. search needs)
+    (λ c. search needs)
     returns-2)

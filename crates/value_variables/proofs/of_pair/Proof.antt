@@ -5,12 +5,6 @@ use borrow.Author.Needs.{needs}
 use Rattle.value_variables.proofs.of_pair.Statement.{statement}
 use Rattle.value_variables.proofs.of_pair.Tie as tie
 
-enum-known-r : tie.Need-enum-known-r
-enum-known-r c = search needs
-
-enum-known-r-2 : tie.Need-enum-known-r-2
-enum-known-r-2 c = search needs
-
 returns : tie.Need-returns
 returns c = ap (told _ _) (sym (c .before .r .given .1))
 
@@ -18,4 +12,4 @@ returns-2 : tie.Need-returns-2
 returns-2 c = ap (told _ _) (sym (c .before .r2 .given .1))
 
 pub of-pair-spec : {M : Type 1} → statement M
-of-pair-spec = tie.close (tie.spec enum-known-r enum-known-r-2 returns returns-2)
+of-pair-spec = tie.close (tie.spec (λ c. search needs) (λ c. search needs) returns returns-2)

@@ -5,9 +5,6 @@ use borrow.Author.Needs.{needs}
 use Rattle.value_variables.proofs.small_number.Statement.{statement}
 use Rattle.value_variables.proofs.small_number.Tie as tie
 
-cast-result : tie.Need-cast-result
-cast-result c = search needs
-
 returns : tie.Need-returns
 returns c = rw (le-leb _ _ (c .if1 .taken)) refl
 
@@ -15,4 +12,4 @@ returns-2 : tie.Need-returns-2
 returns-2 c = rw (lt-leb _ _ (c .if1 .left)) refl
 
 pub small-number-spec : {M : Type 1} → statement M
-small-number-spec = tie.close (tie.spec cast-result returns returns-2)
+small-number-spec = tie.close (tie.spec (λ c. search needs) returns returns-2)

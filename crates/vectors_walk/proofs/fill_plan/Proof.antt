@@ -12,65 +12,23 @@ Inv-loop asked plan₀ i₀ i-end plan i = (length plan ≡ length plan₀) × (
 abbrev μ-loop : tie.MeasureT-loop
 μ-loop asked plan₀ i₀ i-end plan i = i-end - i
 
-count-requires : tie.Need-count-requires Inv-loop μ-loop
-count-requires c κs = search needs
-
-loop-holds : tie.Need-loop-holds Inv-loop μ-loop
-loop-holds c = search needs
-
-mul-at : tie.Need-mul-at Inv-loop μ-loop
-mul-at c = search needs
-
-add-at : tie.Need-add-at Inv-loop μ-loop
-add-at c = search needs
-
-number-requires : tie.Need-number-requires Inv-loop μ-loop
-number-requires c κs = search needs
-
-cast-put : tie.Need-cast-put Inv-loop μ-loop
-cast-put c = search needs
-
-add-long-number : tie.Need-add-long-number Inv-loop μ-loop
-add-long-number c = search needs
-
-long-number-requires : tie.Need-long-number-requires Inv-loop μ-loop
-long-number-requires c κs = search needs
-
-put-requires : tie.Need-put-requires Inv-loop μ-loop
-put-requires c κs = search needs
-
-add-i : tie.Need-add-i Inv-loop μ-loop
-add-i c = search needs
-
-loop-less : tie.Need-loop-less Inv-loop μ-loop
-loop-less c = search needs
-
-loop-again : tie.Need-loop-again Inv-loop μ-loop
-loop-again c = search needs
-
-same-length : tie.Need-same-length Inv-loop μ-loop
-same-length c = search needs
-
-returns : tie.Need-returns Inv-loop μ-loop
-returns c = search needs
-
 pub fill-plan-spec : {M : Type 1} → statement M
 fill-plan-spec =
     tie.close
     (tie.spec
     Inv-loop
     μ-loop
-    count-requires
-    loop-holds
-    mul-at
-    add-at
-    number-requires
-    cast-put
-    add-long-number
-    long-number-requires
-    put-requires
-    add-i
-    loop-less
-    loop-again
-    same-length
-    returns)
+    (λ c κs. search needs)
+    (λ c. search needs)
+    (λ c. search needs)
+    (λ c. search needs)
+    (λ c κs. search needs)
+    (λ c. search needs)
+    (λ c. search needs)
+    (λ c κs. search needs)
+    (λ c κs. search needs)
+    (λ c. search needs)
+    (λ c. search needs)
+    (λ c. search needs)
+    (λ c. search needs)
+    (λ c. search needs))

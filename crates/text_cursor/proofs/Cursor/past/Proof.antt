@@ -7,18 +7,6 @@ use Rattle.text_cursor.proofs.ReaderLaws.{head-within, token-lies, move
 use Rattle.text_cursor.proofs.Cursor.past.Statement.{statement}
 use Rattle.text_cursor.proofs.Cursor.past.Tie as tie
 
-cast-next : tie.Need-cast-next
-cast-next c = search needs
-
-next-requires : tie.Need-next-requires
-next-requires c κs = search needs
-
-enum-known-t : tie.Need-enum-known-t
-enum-known-t c = search needs
-
-enum-told : tie.Need-enum-told
-enum-told c = search needs
-
 located-requires : tie.Need-located-requires
 located-requires c κs =
     rw (c .before .before .next .ensures) (head-within _ _ (c .before .before .before .before .pre .0) (c .before .before .before .before .pre .1))
@@ -39,10 +27,10 @@ pub past-spec : {M : Type 1} → statement M
 past-spec =
     tie.close
     (tie.spec
-    cast-next
-    next-requires
-    enum-known-t
-    enum-told
+    (λ c. search needs)
+    (λ c κs. search needs)
+    (λ c. search needs)
+    (λ c. search needs)
     located-requires
     returns
     cast-t10
