@@ -72,8 +72,8 @@ answered =
 abbrev later : List Told
 later =
     counted (length (D .rows)) (length (planD .first)) (length (planD .steps)) ∷
-    listed (planning.answer unset (λ k. applies (tableOf tableT) k 1) planD (1 ∷ 2 ∷ [])) ∷
-    listed (planning.answer unset (λ k. applies (tableOf tableT) k 2) planD (1 ∷ 2 ∷ [])) ∷
+    listed (planning.walkAnswer unset (λ k. applies (tableOf tableT) k 1) planD (1 ∷ 2 ∷ [])) ∷
+    listed (planning.walkAnswer unset (λ k. applies (tableOf tableT) k 2) planD (1 ∷ 2 ∷ [])) ∷
     judged (judge []) ∷
     []
 

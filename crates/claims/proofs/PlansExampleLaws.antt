@@ -170,12 +170,12 @@ not-reached i at h t (here w) = within-spread i at (spread-is at t) w h
 not-reached i at h t (through {s} {f} r x w) = within-spread f at (spread-is at t) w (spread-to s f (spread-is s (x .spread)) (x .named))
 
 not-broken : (i k : ℕ) → i < count D → Broken (tableOf tableT) D i k → ⊥
-unfolding anyOf allOf firstAt find gather eachFrom isName marked closed readName refFrom wholeRef refOf houseFieldsFrom textOf memberOf definitionOf tableOf builtIns builtInDirectives meaning rootsOf fragmentNamed hasFragment compositeOf rootOf fieldOf isTypename conditionOf typeInsideFrom typeInsideBy typeInside operationRepeated operationUnnamed fragmentRepeated conditionWrong rule-5.fieldMissing hasSelections leafWrong spreadOfNone rowsBelow directiveWrong declared noInputType nameTwice noRoot argumentUnknown
+unfolding anyOf allOf firstAt find gather eachFrom isName marked closed readName refFrom wholeRef refOf houseFieldsFrom textOf memberOf definitionOf tableOf builtIns builtInDirectives meaning rootsOf fragmentNamed hasFragment compositeOf rootOf fieldOf isTypename conditionOf typeInsideFrom typeInsideBy typeInside operationRepeated operationUnnamed fragmentRepeated conditionWrong rule-5.fieldNotOfType hasSelections leafWrong spreadOfNone rowsBelow directiveWrong declared noInputType nameTwice noRoot argumentUnknown
 not-broken i k l (operation-repeated h) = silent (operationRepeated D) refl i l h
 not-broken i k l (operation-unnamed h) = silent (operationUnnamed D) refl i l h
 not-broken i k l (fragment-repeated h) = silent (fragmentRepeated D) refl i l h
 not-broken i k l (condition h) = silent (conditionWrong (tableOf tableT) D) refl i l h
-not-broken i k l (field-not-of-type h) = silent (rule-5.fieldMissing (tableOf tableT) D) refl i l h
+not-broken i k l (field-not-of-type h) = silent (rule-5.fieldNotOfType (tableOf tableT) D) refl i l h
 not-broken i k l (leaf h) = silent (leafWrong (tableOf tableT) D) refl i l h
 not-broken i k l (spread-of-none h) = silent (spreadOfNone D) refl i l h
 not-broken i k l (circle c) = not-reached i (c .circles .at) (c .fragment) (c .circles .spreads .spread) (c .circles .reaches)
@@ -218,28 +218,28 @@ eight-told c l =
 abbrev pub named : Pair → Name × ℕ
 named p = (keyAt D (p .0), p .1)
 
-collected : (o : ℕ) (ps : List Pair) → planning.answer unset (λ k. applies (tableOf tableT) k o) planD (1 ∷ 2 ∷ []) ≡ ps →
+collected : (o : ℕ) (ps : List Pair) → planning.walkAnswer unset (λ k. applies (tableOf tableT) k o) planD (1 ∷ 2 ∷ []) ≡ ps →
     (g : Grouped Name) × Collects (tableOf tableT) D 0 unset o (1 ∷ 7 ∷ []) g × (pairsOf D g ≡ ps)
 unfolding firstAt
 collected o ps e =
     let c = collection-some tableT (D .bytes) (D .rows) D-accepted 0 unset o (1 ∷ 7 ∷ []) in
     (c .0, c .1, sym (walk-answers tableT (D .bytes) (D .rows) D-accepted 0 unset o blocksD (1 ∷ 7 ∷ []) (refl, (refl, tt)) (c .0) (c .1)) ∙ e)
 
-fan-pairs : planning.answer unset (λ k. applies (tableOf tableT) k 1) planD (1 ∷ 2 ∷ []) ≡ (4, 4) ∷ (4, 10) ∷ (13, 13) ∷ []
+fan-pairs : planning.walkAnswer unset (λ k. applies (tableOf tableT) k 1) planD (1 ∷ 2 ∷ []) ≡ (4, 4) ∷ (4, 10) ∷ (13, 13) ∷ []
 unfolding firstAt
 fan-pairs = for-fan
 
-pump-pairs : planning.answer unset (λ k. applies (tableOf tableT) k 2) planD (1 ∷ 2 ∷ []) ≡ (4, 4) ∷ (4, 10) ∷ []
+pump-pairs : planning.walkAnswer unset (λ k. applies (tableOf tableT) k 2) planD (1 ∷ 2 ∷ []) ≡ (4, 4) ∷ (4, 10) ∷ []
 unfolding firstAt
 pump-pairs = for-pump
 
-pub nine : (planning.answer unset (λ k. applies (tableOf tableT) k 1) planD (1 ∷ 2 ∷ []) ≡ (4, 4) ∷ (4, 10) ∷ (13, 13) ∷ [])
+pub nine : (planning.walkAnswer unset (λ k. applies (tableOf tableT) k 1) planD (1 ∷ 2 ∷ []) ≡ (4, 4) ∷ (4, 10) ∷ (13, 13) ∷ [])
     × (map named ((4, 4) ∷ (4, 10) ∷ (13, 13) ∷ []) ≡ (bytes "tag", 4) ∷ (bytes "tag", 10) ∷ (bytes "rpm", 13) ∷ [])
     × ((g : Grouped Name) × Collects (tableOf tableT) D 0 unset 1 (1 ∷ 7 ∷ []) g × (pairsOf D g ≡ (4, 4) ∷ (4, 10) ∷ (13, 13) ∷ []))
 unfolding nameFront
 nine = (fan-pairs, refl, collected 1 ((4, 4) ∷ (4, 10) ∷ (13, 13) ∷ []) fan-pairs)
 
-pub ten : (planning.answer unset (λ k. applies (tableOf tableT) k 2) planD (1 ∷ 2 ∷ []) ≡ (4, 4) ∷ (4, 10) ∷ [])
+pub ten : (planning.walkAnswer unset (λ k. applies (tableOf tableT) k 2) planD (1 ∷ 2 ∷ []) ≡ (4, 4) ∷ (4, 10) ∷ [])
     × (map named ((4, 4) ∷ (4, 10) ∷ []) ≡ (bytes "tag", 4) ∷ (bytes "tag", 10) ∷ [])
     × ((g : Grouped Name) × Collects (tableOf tableT) D 0 unset 2 (1 ∷ 7 ∷ []) g × (pairsOf D g ≡ (4, 4) ∷ (4, 10) ∷ []))
 unfolding nameFront
