@@ -1,0 +1,89 @@
+use Prim.Native.Nat.{_-_}
+use lib.ListN.{length-set}
+use Rattle.table_book.specs.Book.{countIn}
+use Rattle.table_entries.proofs.Spans.{Spanning, spanning-start, spanning-end, next-few, next-room, spanning-more}
+use native.Mathlib.Omega.{arith}
+use Rattle.table_entries.proofs.fill_entries.Statement.{statement}
+use Rattle.table_entries.proofs.fill_entries.Tie as tie
+
+abbrev Inv-loop : tie.InvT-loop
+Inv-loop t book es₀ count i₀ e₀ es i e = Spanning t book es₀ es i e
+
+abbrev μ-loop : tie.MeasureT-loop
+μ-loop t book es₀ count i₀ e₀ es i e = countIn book - i
+
+count-of-requires : tie.Need-count-of-requires Inv-loop μ-loop
+count-of-requires c κs = c .before .before .before .pre .booked .indexed .held .cells
+
+slice-write-es : tie.Need-slice-write-es Inv-loop μ-loop
+slice-write-es c = omega (arith, c .before .before .before .before .pre .cells)
+
+loop-holds : tie.Need-loop-holds Inv-loop μ-loop
+loop-holds c = spanning-start _ _ _ _ (c .before .before .before .before .pre) (omega (arith, length-set (c .before .before .before .before .args .es .now) 0 0))
+
+enter-definition-requires : tie.Need-enter-definition-requires Inv-loop μ-loop
+enter-definition-requires c κs =
+    let a = c .before .before .before .before .before .before .before .args in
+    let p = c .before .before .before .before .before .before .before .pre in
+    (p .booked, (omega (arith, c .before .loop-test .taken, c .before .before .before .count-of .ensures)), c .before .before .loop .inv .cells, omega (arith, next-few (a .t .now) (a .book .now) _ (c .before .before .loop .es) (p .booked) (c .before .before .loop .i) (c .before .before .loop .e) (c .before .before .loop .inv) (omega (arith, c .before .loop-test .taken, c .before .before .before .count-of .ensures))))
+
+add-i : tie.Need-add-i Inv-loop μ-loop
+add-i c =
+    let a = c .before .before .before .before .before .before .before .before .before .before .args in
+    let p = c .before .before .before .before .before .before .before .before .before .before .pre in
+    omega (arith, next-room (a .t .now) (a .book .now) _ (c .before .before .before .before .before .loop .es) (p .booked) (c .before .before .before .before .before .loop .i) (c .before .before .before .before .before .loop .e) (c .before .before .before .before .before .loop .inv) (omega (arith, c .before .before .before .before .loop-test .taken, c .before .before .before .before .before .before .count-of .ensures)))
+
+cast-es : tie.Need-cast-es Inv-loop μ-loop
+cast-es c =
+    let a = c .before .before .before .before .before .before .before .before .before .before .args in
+    let p = c .before .before .before .before .before .before .before .before .before .before .pre in
+    omega (arith, next-few (a .t .now) (a .book .now) _ (c .before .before .before .before .before .loop .es) (p .booked) (c .before .before .before .before .before .loop .i) (c .before .before .before .before .before .loop .e) (c .before .before .before .before .before .loop .inv) (omega (arith, c .before .before .before .before .loop-test .taken, c .before .before .before .before .before .before .count-of .ensures)), c .before .before .enter-definition .ensures .size)
+
+mul-es : tie.Need-mul-es Inv-loop μ-loop
+mul-es c =
+    let a = c .before .before .before .before .before .before .before .before .before .before .args in
+    let p = c .before .before .before .before .before .before .before .before .before .before .pre in
+    omega (arith, next-room (a .t .now) (a .book .now) _ (c .before .before .before .before .before .loop .es) (p .booked) (c .before .before .before .before .before .loop .i) (c .before .before .before .before .before .loop .e) (c .before .before .before .before .before .loop .inv) (omega (arith, c .before .before .before .before .loop-test .taken, c .before .before .before .before .before .before .count-of .ensures)))
+
+slice-write-es-2 : tie.Need-slice-write-es-2 Inv-loop μ-loop
+slice-write-es-2 c =
+    let a = c .before .before .before .before .before .before .before .before .before .before .args in
+    let p = c .before .before .before .before .before .before .before .before .before .before .pre in
+    omega (arith, next-room (a .t .now) (a .book .now) _ (c .before .before .before .before .before .loop .es) (p .booked) (c .before .before .before .before .before .loop .i) (c .before .before .before .before .before .loop .e) (c .before .before .before .before .before .loop .inv) (omega (arith, c .before .before .before .before .loop-test .taken, c .before .before .before .before .before .before .count-of .ensures)), c .before .before .enter-definition .ensures .cells, c .before .before .before .before .before .loop .inv .cells)
+
+loop-less : tie.Need-loop-less Inv-loop μ-loop
+loop-less c = omega (arith, c .before .before .before .before .loop-test .taken, c .before .before .before .before .before .before .count-of .ensures)
+
+loop-again : tie.Need-loop-again Inv-loop μ-loop
+loop-again c =
+    let a = c .before .before .before .before .before .before .before .before .before .before .args in
+    let p = c .before .before .before .before .before .before .before .before .before .before .pre in
+    spanning-more (a .t .now) (a .book .now) _ (c .before .before .before .before .before .loop .es) (p .booked) (c .before .before .before .before .before .loop .i) (c .before .before .before .before .before .loop .e) (c .before .before .before .before .before .loop .inv) (omega (arith, c .before .before .before .before .loop-test .taken, c .before .before .before .before .before .before .count-of .ensures)) _ _ (c .before .before .enter-definition .ensures)
+
+same-length : tie.Need-same-length Inv-loop μ-loop
+same-length c = omega (arith, c .before .loop .inv .whole, length-set (c .before .before .before .before .before .before .args .es .now) 0 0)
+
+returns : tie.Need-returns Inv-loop μ-loop
+returns c =
+    let a = c .before .before .before .before .before .before .args in
+    let p = c .before .before .before .before .before .before .pre in
+    spanning-end (a .t .now) (a .book .now) _ (c .before .loop .es) (p .booked) (c .before .loop .i) (c .before .loop .e) (c .before .loop .inv) (omega (arith, c .loop-test .left, c .before .before .count-of .ensures))
+
+pub fill-entries-spec : {M : Type 1} → statement M
+fill-entries-spec =
+    tie.close
+    (tie.spec
+    Inv-loop
+    μ-loop
+    count-of-requires
+    slice-write-es
+    loop-holds
+    enter-definition-requires
+    add-i
+    cast-es
+    mul-es
+    slice-write-es-2
+    loop-less
+    loop-again
+    same-length
+    returns)

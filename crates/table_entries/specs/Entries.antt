@@ -1,0 +1,251 @@
+-- The entries of a table: what their numbers say of the table's members and arguments.
+-- Assumes nothing.
+use mathlib.Core.Path.{_≡_}
+use mathlib.Core.Bool.{Bool, true, _&&_, _||_, cond}
+use mathlib.Core.Option.{none, some}
+use mathlib.Core.List.{List, [], _∷_}
+use Prim.Native.Nat.{ℕ, suc, _+_, _-_, _*_, _≤_, _<_}
+use lib.ListN.{length, getD}
+use lib.Dec.{leb}
+use Rattle.paper_table.specs.TableNumbers.{tagObject, tagInterface, tagInputObject, tagDirective}
+use Rattle.paper_table.specs.Lists.{find}
+use Rattle.paper_table.specs.References.{Ref, baseOf}
+use Rattle.paper_table.specs.Types.{Argument, Member, Definition, Table, tableOf, nameIn, typeIn, memberNamed, argumentNamed}
+use Rattle.table_book.specs.Book.{part, countIn}
+use Rattle.table_members.specs.Members.{fieldsIn, argumentsIn, memberFrom, Named, Typed, ArgumentsFrom}
+use Rattle.table_types.specs.Booked.{Booked, NumberMeant, definitionOn}
+use Rattle.table_entries.specs.declared.HeaderFound.{HeaderFound}
+use Rattle.table_entries.specs.declared.HeaderFound.the-variants.{Found, Nothing}
+
+-- how many entries there is room for; proofs/Most shows that no table of right framing has more
+abbrev pub roomEntries : ℕ
+roomEntries = 2978
+
+-- cell i says where the entries of definition i begin, cell i + 1 where they end; behind these cells stand the entries, each of so many
+abbrev pub cellsBefore : ℕ
+cellsBefore = 264
+
+abbrev pub cellsEach : ℕ
+cellsEach = 8
+
+abbrev pub entryAt : ℕ → ℕ
+entryAt e = cellsBefore + cellsEach * e
+
+-- how many cells a list must have
+abbrev pub cellsNeeded : ℕ
+cellsNeeded = entryAt roomEntries
+
+-- an entry's cells: its key, the place and size of its name, the place and size of its base's name, its wrappers, the entry beside it, the number of the
+-- definition that its base means
+abbrev pub entryKey : ℕ
+entryKey = 0
+
+abbrev pub entryName : ℕ
+entryName = 1
+
+abbrev pub entrySize : ℕ
+entrySize = 2
+
+abbrev pub entryBase : ℕ
+entryBase = 3
+
+abbrev pub entryExtent : ℕ
+entryExtent = 4
+
+abbrev pub entryWrappers : ℕ
+entryWrappers = 5
+
+abbrev pub entryNext : ℕ
+entryNext = 6
+
+abbrev pub entryMeant : ℕ
+entryMeant = 7
+
+abbrev pub cell : List ℕ → ℕ → ℕ → ℕ
+cell es e j = getD es (entryAt e + j) 0
+
+-- where the next entry beside e stands; where the entries of definition i begin
+abbrev pub nextOf : List ℕ → ℕ → ℕ
+nextOf es e = cell es e entryNext
+
+abbrev pub firstOf : List ℕ → ℕ → ℕ
+firstOf es i = getD es i 0
+
+-- a short number of a name: its last byte and its first
+abbrev pub byteValues : ℕ
+byteValues = 256
+
+unfoldable pub keyOf : List ℕ → ℕ
+keyOf n = byteValues * getD n (length n - 1) 0 + getD n 0 0
+
+-- entry e is of this name and type
+pub record Entry (t book es : List ℕ) (e : ℕ) (name : List ℕ) (type : Ref) : Type 0 where
+  pub key-is : cell es e entryKey ≡ keyOf name
+  pub named : Named t (cell es e entryName) (cell es e entrySize) name
+  pub typed : Typed t (cell es e entryBase) (cell es e entryExtent) (cell es e entryWrappers) type
+  pub means : NumberMeant t book (baseOf type) (cell es e entryMeant)
+
+-- from e up to f stand the entries of this list, one beside the other
+abbrev pub Run : {A : Type 0} → (ℕ → A → Type 0) → List ℕ → ℕ → ℕ → List A → Type 0
+Run P es e f [] = e ≡ f
+Run P es e f (x ∷ xs) = P e x × (e < nextOf es e) × Run P es (nextOf es e) f xs
+
+pub record ArgumentEntry (t book es : List ℕ) (e : ℕ) (a : Argument) : Type 0 where
+  pub entry : Entry t book es e (a .name) (a .type)
+  pub next : nextOf es e ≡ suc e
+
+-- a member's arguments stand behind it
+pub record MemberEntry (t book es : List ℕ) (e : ℕ) (m : Member) : Type 0 where
+  pub entry : Entry t book es e (m .name) (m .type)
+  pub arguments : Run (ArgumentEntry t book es) es (suc e) (nextOf es e) (m .arguments)
+
+abbrev pub Members : List ℕ → List ℕ → List ℕ → ℕ → ℕ → List Member → Type 0
+Members t book es e f ms = Run (MemberEntry t book es) es e f ms
+
+-- the definitions whose members have types
+abbrev pub hasTypes : ℕ → Bool
+hasTypes tag = leb tagObject tag && (leb tag tagInterface || leb tagInputObject tag && leb tag tagDirective)
+
+-- the entries are the table's
+pub record Entered (t book es : List ℕ) : Type 0 where
+  pub cells : cellsNeeded ≤ length es
+  pub most : (i : ℕ) → i ≤ countIn book → firstOf es i ≤ roomEntries
+  pub are : (i : ℕ) → i < countIn book → hasTypes (definitionOn t i .tag) ≡ true → Members t book es (firstOf es i) (firstOf es (suc i)) (definitionOn t i .members)
+
+-- how many there are
+abbrev pub entriesOf : List Member → ℕ
+entriesOf [] = 0
+entriesOf (m ∷ ms) = suc (length (m .arguments)) + entriesOf ms
+
+abbrev pub entriesIn : Definition → ℕ
+entriesIn d = cond (hasTypes (d .tag)) (entriesOf (d .members)) 0
+
+unfoldable pub entriesOn : Table → ℕ
+entriesOn [] = 0
+entriesOn (d ∷ ds) = entriesIn d + entriesOn ds
+
+pub record Enterable (t book es : List ℕ) : Type 0 where
+  pub booked : Booked t book
+  pub cells : cellsNeeded ≤ length es
+  pub few : entriesOn (tableOf t) ≤ roomEntries
+
+-- r is the entry of the first member of the name n, among those from entry `from` up to `end`; `end` if there is none
+pub record Hit (t book es : List ℕ) (end : ℕ) (n : List ℕ) (ms : List Member) (r : ℕ) : Type 0 where
+  pub found : r < end → (m : Member) × (find (memberNamed n) ms ≡ some m) × MemberEntry t book es r m × (r < nextOf es r) × (nextOf es r ≤ end)
+  pub none-is : end ≤ r → find (memberNamed n) ms ≡ none
+  pub within : r ≤ end
+
+pub record HitArgument (t book es : List ℕ) (end : ℕ) (n : List ℕ) (xs : List Argument) (r : ℕ) : Type 0 where
+  pub found : r < end → (a : Argument) × (find (argumentNamed n) xs ≡ some a) × Entry t book es r (a .name) (a .type)
+  pub none-is : end ≤ r → find (argumentNamed n) xs ≡ none
+
+-- a member's entry stands there
+pub record MemberStands (t book es : List ℕ) (e : ℕ) : Type 0 where
+  pub cells : cellsNeeded ≤ length es
+  pub member : Member
+  pub is : MemberEntry t book es e member
+  pub on : e < nextOf es e
+  pub most : nextOf es e ≤ roomEntries
+
+abbrev pub ArgumentAnswer : List ℕ → List ℕ → List ℕ → ℕ → List ℕ → ℕ → Type 0
+ArgumentAnswer t book es e n r = (m : Member) → MemberEntry t book es e m → HitArgument t book es roomEntries n (m .arguments) r
+
+-- whatever table entry e is of: this is its type, this the number of the definition that its base means
+abbrev pub TypeAnswer : List ℕ → ℕ → ℕ → ℕ → ℕ → Type 0
+TypeAnswer es e at n wrappers = (t book name : List ℕ) (type : Ref) → Entry t book es e name type → Typed t at n wrappers type
+
+abbrev pub MeantAnswer : List ℕ → ℕ → ℕ → Type 0
+MeantAnswer es e r = (t book name : List ℕ) (type : Ref) → Entry t book es e name type → NumberMeant t book (baseOf type) r
+
+-- entry e's name, which its key is of
+abbrev pub nameAt : List ℕ → List ℕ → ℕ → List ℕ
+nameAt t es e = part t (cell es e entryName) (cell es e entrySize)
+
+pub record NameStands (t es : List ℕ) (e : ℕ) : Type 0 where
+  pub cells : cellsNeeded ≤ length es
+  pub most : e < roomEntries
+  pub within : cell es e entryName + cell es e entrySize ≤ length t
+  pub key-is : cell es e entryKey ≡ keyOf (nameAt t es e)
+
+-- a list of entries stands there; what is found in any that does
+pub record Standing (t book es : List ℕ) (e f : ℕ) : Type 0 where
+  pub cells : cellsNeeded ≤ length es
+  pub members : List Member
+  pub are : Members t book es e f members
+  pub most : f ≤ roomEntries
+
+abbrev pub FindAnswer : List ℕ → List ℕ → List ℕ → ℕ → ℕ → List ℕ → ℕ → Type 0
+FindAnswer t book es from end n r = (ms : List Member) → Members t book es from end ms → Hit t book es end n ms r
+
+-- entry e alone is written, with these numbers
+pub record Put (old es : List ℕ) (e key name size base extent wrappers next meant : ℕ) : Type 0 where
+  pub cells : length es ≡ length old
+  pub key-is : cell es e entryKey ≡ key
+  pub name-is : cell es e entryName ≡ name
+  pub size-is : cell es e entrySize ≡ size
+  pub base-is : cell es e entryBase ≡ base
+  pub extent-is : cell es e entryExtent ≡ extent
+  pub wrappers-are : cell es e entryWrappers ≡ wrappers
+  pub next-is : cell es e entryNext ≡ next
+  pub meant-is : cell es e entryMeant ≡ meant
+  pub before : (k : ℕ) → k < entryAt e → getD es k 0 ≡ getD old k 0
+  pub behind : (k : ℕ) → entryAt (suc e) ≤ k → getD es k 0 ≡ getD old k 0
+
+-- entry e alone is written, of this name and type
+pub record Entering (t book old es : List ℕ) (e next : ℕ) (name : List ℕ) (type : Ref) : Type 0 where
+  pub cells : length es ≡ length old
+  pub entry : Entry t book es e name type
+  pub next-is : nextOf es e ≡ next
+  pub before : (k : ℕ) → k < entryAt e → getD es k 0 ≡ getD old k 0
+  pub behind : (k : ℕ) → entryAt (suc e) ≤ k → getD es k 0 ≡ getD old k 0
+
+-- whatever the name and the type are that stand there
+abbrev pub HeaderEntered : List ℕ → List ℕ → List ℕ → List ℕ → ℕ → ℕ → ℕ → ℕ → ℕ → ℕ → ℕ → Type 0
+HeaderEntered t book old es e next at n base extent wrappers = (name : List ℕ) (type : Ref) → Named t at n name → Typed t base extent wrappers type → Entering t book old es e next name type
+
+-- a content's name, type and arguments
+pub record HeaderIn (t : List ℕ) (start end name size base extent wrappers from : ℕ) : Type 0 where
+  pub named : Named t name size (nameIn (fieldsIn t start end))
+  pub typed : Typed t base extent wrappers (typeIn (fieldsIn t start end))
+  pub arguments : argumentsIn t from end ≡ argumentsIn t start end
+  pub order : from ≤ end
+
+abbrev pub QuickRead : List ℕ → ℕ → ℕ → HeaderFound → Type 0
+QuickRead t start end (Found name size base extent wrappers from) = HeaderIn t start end name size base extent wrappers from
+QuickRead t start end Nothing = Unit {0}
+
+-- a member's
+pub record HeaderRead (t : List ℕ) (tag start end name size base extent wrappers from : ℕ) : Type 0 where
+  pub named : Named t name size (memberFrom t tag start end .name)
+  pub typed : Typed t base extent wrappers (memberFrom t tag start end .type)
+  pub arguments : ArgumentsFrom t tag start end from
+
+-- from entry e on are written those of this list, so many
+pub record Written {A : Type 0} (P : List ℕ → ℕ → A → Type 0) (weight : List A → ℕ) (old es : List ℕ) (e f : ℕ) (xs : List A) : Type 0 where
+  pub cells : length es ≡ length old
+  pub before : (k : ℕ) → k < entryAt e → getD es k 0 ≡ getD old k 0
+  pub run : Run (P es) es e f xs
+  pub size : f ≡ e + weight xs
+
+-- from entry e on is written this one, up to f
+pub record One {A : Type 0} (P : List ℕ → ℕ → A → Type 0) (old es : List ℕ) (e f : ℕ) (x : A) : Type 0 where
+  pub cells : length es ≡ length old
+  pub before : (k : ℕ) → k < entryAt e → getD es k 0 ≡ getD old k 0
+  pub is : P es e x
+  pub next-is : nextOf es e ≡ f
+
+pub record MemberWritten (t book old es : List ℕ) (e f : ℕ) (m : Member) : Type 0 where
+  pub one : One (MemberEntry t book) old es e f m
+  pub size : f ≡ e + suc (length (m .arguments))
+
+pub record DefinitionWritten (t book old es : List ℕ) (e f : ℕ) (d : Definition) : Type 0 where
+  pub cells : length es ≡ length old
+  pub before : (k : ℕ) → k < entryAt e → getD es k 0 ≡ getD old k 0
+  pub run : hasTypes (d .tag) ≡ true → Members t book es e f (d .members)
+  pub size : f ≡ e + entriesIn d
+
+abbrev pub ArgumentsWritten : List ℕ → List ℕ → List ℕ → List ℕ → ℕ → ℕ → List Argument → Type 0
+ArgumentsWritten t book old es e f xs = Written (ArgumentEntry t book) length old es e f xs
+
+abbrev pub MembersWritten : List ℕ → List ℕ → List ℕ → List ℕ → ℕ → ℕ → List Member → Type 0
+MembersWritten t book old es e f ms = Written (MemberEntry t book) entriesOf old es e f ms
