@@ -67,19 +67,19 @@ module _ (t book es : List ℕ) (from end : ℕ) (n : List ℕ) (e : ℕ) (w : L
           key-is = f .2 .entry .key-is ∙ ap keyOf (sym (f .2 .entry .named .is));
         }
 
-    pub looking-here : same (nameAt t es e) n ≡ true → FindAnswer t book es from end n e
-    looking-here h ms r =
+    pub looking-here : {b : Bool} → b ≡ same (nameAt t es e) n → b ≡ true → FindAnswer t book es from end n e
+    looking-here s h ms r =
         let q = w .found-is ms r in
         let f = first-is (q .0) (q .1) in
-        let y : same (f .0 .name) n ≡ true = ap (λ (x : List ℕ). same x n) (sym (f .2 .entry .named .is)) ∙ h in
+        let y : same (f .0 .name) n ≡ true = ap (λ (x : List ℕ). same x n) (sym (f .2 .entry .named .is)) ∙ sym s ∙ h in
         record {
           found = λ k. (f .0, q .2 ∙ ap (find (memberNamed n)) (f .5) ∙ find-here (memberNamed n) (f .0) (f .1) y, f .2, f .3, looking-less .1);
           none-is = λ k. absurd (omega arith);
           within = looking-within;
         }
 
-    pub looking-on : same (nameAt t es e) n ≡ false → Looking t book es from end n (nextOf es e)
-    looking-on h =
+    pub looking-on : {b : Bool} → b ≡ same (nameAt t es e) n → b ≡ false → Looking t book es from end n (nextOf es e)
+    looking-on s h =
         let g = first-is (w .left) (w .are) in
         record {
           left = g .1;
@@ -87,6 +87,6 @@ module _ (t book es : List ℕ) (from end : ℕ) (n : List ℕ) (e : ℕ) (w : L
           found-is = λ ms r.
               let q = w .found-is ms r in
               let f = first-is (q .0) (q .1) in
-              let y : same (f .0 .name) n ≡ false = ap (λ (x : List ℕ). same x n) (sym (f .2 .entry .named .is)) ∙ h in
+              let y : same (f .0 .name) n ≡ false = ap (λ (x : List ℕ). same x n) (sym (f .2 .entry .named .is)) ∙ sym s ∙ h in
               (f .1, f .4, q .2 ∙ ap (find (memberNamed n)) (f .5) ∙ find-on (memberNamed n) (f .0) (f .1) y);
         }

@@ -4,7 +4,7 @@ use mathlib.Core.Bool.{Bool, true, false}
 use mathlib.Core.List.{List, _∷_}
 use Prim.Native.Nat.{ℕ, suc, _+_, _≤_, _<_}
 use native.Mathlib.Omega.{arith}
-use lib.ListN.{length, drop, set, length-set}
+use lib.ListN.{length, drop, getD, set, length-set}
 use lib.Seq.{drop-cons, getD-set-same, getD-set-other}
 use lib.Dec.{leb, ltb}
 use borrow.Author.Tests.{le-leb, lt-leb, ltb-true, ltb-false}
@@ -12,6 +12,7 @@ use Rattle.paper_table.specs.TableNumbers.{tagObject, tagInterface, tagInputObj
 use Rattle.paper_table.specs.Types.{Definition, Member, Table, tableOf, blankDefinition, tagNothing}
 use Rattle.table_book.specs.Book.{countIn, room}
 use Rattle.table_types.specs.Booked.{Booked, definitionOn}
+use Rattle.table_types.proofs.Entries.{tag-entered}
 use Rattle.table_entries.specs.Entries.{cellsNeeded, roomEntries, entryAt, firstOf, hasTypes, Members, MemberEntry, Entered, Enterable, entriesOf, entriesIn, entriesOn, Written, DefinitionWritten}
 use Rattle.table_entries.proofs.Runs.{Same, run-same, member-same}
 
@@ -28,6 +29,13 @@ types-between k h l = rw (le-leb tagObject k (omega arith), lt-leb k tagInterfac
 pub types-inputs : (k : ℕ) → tagInputObject ≤ k → leb k tagDirective ≡ hasTypes k
 types-inputs k h = rw (le-leb tagObject k (omega arith), lt-leb k tagInterface (omega arith), le-leb tagInputObject k h)
 
+-- the test of the kind in the book is that of the definition's
+pub typed-is : (t book : List ℕ) → Booked t book → (i : ℕ) → i < countIn book → {k : ℕ} {r : Bool} → k ≡ getD book i 0 → r ≡ hasTypes k → hasTypes (definitionOn t i .tag) ≡ r
+typed-is t book b i l p q = ap hasTypes (sym (tag-entered t book b i l p)) ∙ sym q
+
+pub some-entries : (d : Definition) → hasTypes (d .tag) ≡ true → entriesIn d ≡ entriesOf (d .members)
+some-entries d q = rw q
+
 -- a definition's entries
 module _ (t book old : List ℕ) (e : ℕ) (d : Definition) where
   pub none-written : hasTypes (d .tag) ≡ false → DefinitionWritten t book old old e e d
@@ -41,15 +49,12 @@ module _ (t book old : List ℕ) (e : ℕ) (d : Definition) where
       no : _≡_ {A = Bool} false true → ⊥
       no p = let z : _≡_ {A = ℕ} 0 1 = cc in omega arith
 
-  pub some-entries : hasTypes (d .tag) ≡ true → entriesIn d ≡ entriesOf (d .members)
-  some-entries q = rw q
-
   pub some-written : (es : List ℕ) (f : ℕ) (ms : List Member) → hasTypes (d .tag) ≡ true → ms ≡ d .members → Written (MemberEntry t book) entriesOf old es e f ms → DefinitionWritten t book old es e f d
   some-written es f ms q z w = record {
     cells = w .cells;
     before = w .before;
     run = λ h. rw z at (w .run);
-    size = omega (arith, w .size, some-entries q, ap entriesOf z);
+    size = omega (arith, w .size, some-entries d q, ap entriesOf z);
   }
 
 -- definitions up to number i are entered, up to entry e

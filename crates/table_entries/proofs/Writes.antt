@@ -23,7 +23,7 @@ pub record Filling {A : Type 0} (P : List ℕ → ℕ → A → Type 0) (weight 
 abbrev pub Keeps : {A : Type 0} → (List ℕ → ℕ → A → Type 0) → Type 0
 Keeps {A} P = (old es : List ℕ) (e : ℕ) (x : A) → e < nextOf old e → Same old es (entryAt e) (entryAt (nextOf old e)) → P old e x → P es e x
 
-module _ {A : Type 0} (P : List ℕ → ℕ → A → Type 0) (keeps : Keeps P) (weight : List A → ℕ) (old : List ℕ) (e : ℕ) (all : List A) where
+module _ {A : Type 0} (P : List ℕ → ℕ → A → Type 0) (weight : List A → ℕ) (old : List ℕ) (e : ℕ) (all : List A) where
   pub filling-start : Filling P weight old old e e all all
   filling-start = record { cells = refl; before = λ c h. refl; done = []; run = refl; all-are = refl; size = refl }
 
@@ -46,9 +46,9 @@ module _ {A : Type 0} (P : List ℕ → ℕ → A → Type 0) (keeps : Keeps P) 
           size = omega (arith, w .size, q);
         }
 
-    pub filling-more : (es′ : List ℕ) (next : ℕ) (x : A) (rest : List A) → left ≡ x ∷ rest → One P es es′ k next x → k < next → k + weight left ≡ next + weight rest
+    pub filling-more : Keeps P → (es′ : List ℕ) (next : ℕ) (x : A) (rest : List A) → left ≡ x ∷ rest → One P es es′ k next x → k < next → k + weight left ≡ next + weight rest
         → Filling P weight old es′ e next all rest
-    filling-more es′ next x rest n o l s =
+    filling-more keeps es′ next x rest n o l s =
         let h : e ≤ k = filling-order in
         record {
           cells = o .cells ∙ w .cells;

@@ -21,17 +21,18 @@ use Rattle.table_entries.specs.declared.HeaderFound.the-variants.{Found,
 abbrev pub roomEntries : ℕ
 roomEntries = 2978
 
--- cell i says where the entries of definition i begin, cell i + 1 where they end; behind these cells stand the entries, each of so many
+-- how many cells stand before the entries: cell i says where those of definition i begin, cell i + 1 where they end (257 cells, made up to whole entries)
 abbrev pub cellsBefore : ℕ
 cellsBefore = 264
 
+-- how many cells each entry has, and where they begin
 abbrev pub cellsEach : ℕ
 cellsEach = 8
 
 abbrev pub entryAt : ℕ → ℕ
 entryAt e = cellsBefore + cellsEach * e
 
--- how many cells a list must have
+-- how many cells there must be; a list may be longer
 abbrev pub cellsNeeded : ℕ
 cellsNeeded = entryAt roomEntries
 
@@ -71,10 +72,11 @@ nextOf es e = cell es e entryNext
 abbrev pub firstOf : List ℕ → ℕ → ℕ
 firstOf es i = getD es i 0
 
--- a short number of a name: its last byte and its first
+-- how many values a byte has
 abbrev pub byteValues : ℕ
 byteValues = 256
 
+-- a short number of a name: its last byte and its first
 unfoldable pub keyOf : List ℕ → ℕ
 keyOf n = byteValues * getD n (length n - 1) 0 + getD n 0 0
 

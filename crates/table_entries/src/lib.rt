@@ -1,5 +1,5 @@
-// The entries of a table: its members with types and their arguments, in one list of numbers made in one pass over the table,
-// so that a member or argument is found by its name, with its type and what that means, and the table's bytes are not read again.
+// The entries of a table: its members with types and their arguments in one list of numbers, which is made once, so that a member or argument, its type
+// and what that type's name means are looked up and the table's fields are not read again. Of the table nothing is asked but its sizes.
 // No call uses them yet: they are the base of the work on speed.
 use paper_table::RECORD_DIRECTIVE;
 use paper_table::RECORD_INPUT_OBJECT;
@@ -26,19 +26,19 @@ ghost use Rattle.table_members.specs.Members.{membersIn, argumentsIn, memberFro
 ghost use Rattle.table_types.specs.Booked.{Booked, NumberMeant, definitionOn};
 ghost use Rattle.table_entries.specs.Entries.{roomEntries, cellsEach, cellsNeeded, byteValues, cell, firstOf, keyOf, hasTypes, entriesOf, entriesIn, DefinitionWritten, Enterable, Entered, QuickRead, HeaderRead, HeaderEntered, Put, Entering, ArgumentsWritten, MemberWritten, MembersWritten, NameStands, nameAt, Standing, FindAnswer, Hit, MemberStands, ArgumentAnswer, TypeAnswer, MeantAnswer};
 
-// How many entries there is room for; the same number for no entry.
-pub const ROOM_ENTRIES: usize = 2978;
-
+// No entry: so many there is room for.
 pub const NO_ENTRY: usize = 2978;
 
-// The cells before the entries, which say where those of each definition begin; those of each entry; all that a caller lends.
-pub const CELLS_BEFORE: usize = 264;
-
-pub const CELLS_EACH: usize = 8;
-
+// How many cells a caller lends at least.
 pub const CELLS_NEEDED: usize = 24088;
 
-// The cells of an entry: its key, the place and size of its name, the place and size of its base's name, its wrappers, the entry beside it, the number of the definition that its base means.
+// How many cells stand before the entries and say where those of each definition begin; how many each entry has.
+const CELLS_BEFORE: usize = 264;
+
+const CELLS_EACH: usize = 8;
+
+// An entry's cells: its key, the place and size of its name, the place and size of its base's name, its wrappers, the entry beside it, the number of the
+// definition that its base means.
 const ENTRY_KEY: usize = 0;
 
 const ENTRY_NAME: usize = 1;
@@ -55,6 +55,7 @@ const ENTRY_NEXT: usize = 6;
 
 const ENTRY_MEANT: usize = 7;
 
+// How many values a byte has.
 const BYTE_VALUES: u16 = 256;
 
 fn wide(x: u16) -> usize

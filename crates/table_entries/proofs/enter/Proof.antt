@@ -1,3 +1,4 @@
+-- The header read, entered.
 use borrow.Author.Needs.{needs}
 use Rattle.table_entries.proofs.enter.Statement.{statement}
 use Rattle.table_entries.proofs.enter.Tie as tie

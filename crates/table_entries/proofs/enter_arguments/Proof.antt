@@ -1,3 +1,4 @@
+-- What is entered so far, and what is left, are the arguments.
 use borrow.Author.Needs.{needs}
 use mathlib.Core.Path.{_≡_, refl, ap, subst}
 use mathlib.Core.List.{List}
@@ -29,7 +30,7 @@ roomy : (c : tie.After-start Inv-loop μ-loop) → c .before .before .before .lo
 roomy c = omega (arith, one-less c, c .before .before .before .loop .inv .1 .size, c .before .before .before .before .before .before .before .pre .3)
 
 loop-holds : tie.Need-loop-holds Inv-loop μ-loop
-loop-holds c = let a = c .before .before .before .args in (c .before .before .before .pre .0 .order, filling-start (ArgumentEntry (a .t .now) (a .book .now)) (arguments-keep (a .t .now) (a .book .now)) length (a .es .now) (a .e) (argumentsIn (a .t .now) (a .from) (a .end)))
+loop-holds c = (c .before .before .before .pre .0 .order, filling-start _ _ _ _ _)
 
 next-argument-requires : tie.Need-next-argument-requires Inv-loop μ-loop
 next-argument-requires c κs = record { order = c .loop .inv .0; within = c .before .before .before .before .pre .0 .within; most = c .before .before .before .before .pre .0 .most }
@@ -40,7 +41,7 @@ same-length c = c .before .before .before .loop .inv .1 .cells
 returns : tie.Need-returns Inv-loop μ-loop
 returns c =
     let a = c .before .before .before .before .before .before .before .args in
-    filling-end (ArgumentEntry (a .t .now) (a .book .now)) (arguments-keep (a .t .now) (a .book .now)) length (a .es .now) (a .e) (argumentsIn (a .t .now) (a .from) (a .end)) (c .before .before .before .loop .es) (c .before .before .before .loop .k) (argumentsIn (a .t .now) (c .before .before .before .loop .i) (a .end)) (c .before .before .before .loop .inv .1) refl (subst (NextArgument (c .before .before .before .before .before .before .before .args .t .now) (c .before .before .before .loop .i) (c .before .before .before .before .before .before .before .args .end)) (c .enum-told .given .1) (c .before .before .next-argument .ensures))
+    filling-end _ _ _ _ _ _ _ _ (c .before .before .before .loop .inv .1) refl (subst (NextArgument (a .t .now) (c .before .before .before .loop .i) (a .end)) (c .enum-told .given .1) (c .before .before .next-argument .ensures))
 
 add-enter : tie.Need-add-enter Inv-loop μ-loop
 add-enter c = omega (arith, roomy (c .before .before))
@@ -59,9 +60,8 @@ loop-less c = let f = found (c .before .before .before .before .before) in omega
 
 loop-again : tie.Need-loop-again Inv-loop μ-loop
 loop-again c =
-    let a = c .before .before .before .before .before .before .before .before .before .before .before .before .args in
     let f = found (c .before .before .before .before .before) in
-    (f .lies .within, filling-more (ArgumentEntry (a .t .now) (a .book .now)) (arguments-keep (a .t .now) (a .book .now)) length (a .es .now) (a .e) (argumentsIn (a .t .now) (a .from) (a .end)) (c .before .before .before .before .before .before .before .before .loop .es) (c .before .before .before .before .before .before .before .before .loop .k) (argumentsIn (a .t .now) (c .before .before .before .before .before .before .before .before .loop .i) (a .end)) (c .before .before .before .before .before .before .before .before .loop .inv .1) _ (c .before .before .before .before .before .before .before .before .loop .k + 1) _ _ (f .all-are) (argument-entered (a .t .now) (a .book .now) _ _ (c .before .before .before .before .before .before .before .before .loop .k) _ _ (c .before .before .enter .ensures)) (omega arith) (one-less (c .before .before .before .before .before)))
+    (f .lies .within, filling-more _ _ _ _ _ _ _ _ (c .before .before .before .before .before .before .before .before .loop .inv .1) (arguments-keep _ _) _ _ _ _ (f .all-are) (argument-entered _ _ _ _ _ _ _ (c .before .before .enter .ensures)) (omega arith) (one-less (c .before .before .before .before .before)))
 
 pub enter-arguments-spec : {M : Type 1} → statement M
 enter-arguments-spec =

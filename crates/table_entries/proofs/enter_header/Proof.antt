@@ -1,3 +1,4 @@
+-- What is put says of the name and the type what they are.
 use Rattle.table_entries.proofs.Stores.{entering-is}
 use borrow.Author.Needs.{needs}
 use Rattle.table_entries.proofs.enter_header.Statement.{statement}

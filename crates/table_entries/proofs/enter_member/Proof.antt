@@ -1,3 +1,4 @@
+-- The arguments first, then the member before them, so that nothing is written twice.
 use mathlib.Core.Path.{ap}
 use mathlib.Core.List.{List}
 use lib.ListN.{length}

@@ -1,3 +1,4 @@
+-- What is entered so far, and what is left, are the members.
 use borrow.Author.Needs.{needs}
 use mathlib.Core.Path.{_≡_, refl, ap, subst}
 use Prim.Native.Nat.{_+_, _-_, _≤_, suc}
@@ -24,7 +25,7 @@ one-less : (c : tie.After-tag Inv-loop μ-loop) → c .before .before .before .l
 one-less c = let q = ap entriesOf (found c .all-are) in omega (arith, q)
 
 loop-holds : tie.Need-loop-holds Inv-loop μ-loop
-loop-holds c = let a = c .before .before .before .args in (c .before .before .before .pre .0 .order, filling-start (MemberEntry (a .t .now) (a .book .now)) (members-keep (a .t .now) (a .book .now)) entriesOf (a .es .now) (a .e) (membersIn (a .t .now) (a .from) (a .end)))
+loop-holds c = (c .before .before .before .pre .0 .order, filling-start _ _ _ _ _)
 
 next-member-requires : tie.Need-next-member-requires Inv-loop μ-loop
 next-member-requires c κs = record { order = c .loop .inv .0; within = c .before .before .before .before .pre .0 .within; most = c .before .before .before .before .pre .0 .most }
@@ -35,7 +36,7 @@ same-length c = c .before .before .before .loop .inv .1 .cells
 returns : tie.Need-returns Inv-loop μ-loop
 returns c =
     let a = c .before .before .before .before .before .before .before .args in
-    filling-end (MemberEntry (a .t .now) (a .book .now)) (members-keep (a .t .now) (a .book .now)) entriesOf (a .es .now) (a .e) (membersIn (a .t .now) (a .from) (a .end)) (c .before .before .before .loop .es) (c .before .before .before .loop .k) (membersIn (a .t .now) (c .before .before .before .loop .i) (a .end)) (c .before .before .before .loop .inv .1) refl (subst (NextMember (c .before .before .before .before .before .before .before .args .t .now) (c .before .before .before .loop .i) (c .before .before .before .before .before .before .before .args .end)) (c .enum-told .given .1) (c .before .before .next-member .ensures))
+    filling-end _ _ _ _ _ _ _ _ (c .before .before .before .loop .inv .1) refl (subst (NextMember (a .t .now) (c .before .before .before .loop .i) (a .end)) (c .enum-told .given .1) (c .before .before .next-member .ensures))
 
 enter-member-requires : tie.Need-enter-member-requires Inv-loop μ-loop
 enter-member-requires c κs =
@@ -48,10 +49,9 @@ loop-less c = let f = found (c .before .before .before .before .before) in omega
 
 loop-again : tie.Need-loop-again Inv-loop μ-loop
 loop-again c =
-    let a = c .before .before .before .before .before .before .before .before .before .before .before .before .args in
     let f = found (c .before .before .before .before .before) in
     let o = c .before .before .enter-member .ensures in
-    (f .lies .within, filling-more (MemberEntry (a .t .now) (a .book .now)) (members-keep (a .t .now) (a .book .now)) entriesOf (a .es .now) (a .e) (membersIn (a .t .now) (a .from) (a .end)) (c .before .before .before .before .before .before .before .before .loop .es) (c .before .before .before .before .before .before .before .before .loop .k) (membersIn (a .t .now) (c .before .before .before .before .before .before .before .before .loop .i) (a .end)) (c .before .before .before .before .before .before .before .before .loop .inv .1) _ _ _ _ (f .all-are) (o .one) (omega (arith, o .size)) (omega (arith, o .size, one-less (c .before .before .before .before .before))))
+    (f .lies .within, filling-more _ _ _ _ _ _ _ _ (c .before .before .before .before .before .before .before .before .loop .inv .1) (members-keep _ _) _ _ _ _ (f .all-are) (o .one) (omega (arith, o .size)) (omega (arith, o .size, one-less (c .before .before .before .before .before))))
 
 pub enter-members-spec : {M : Type 1} → statement M
 enter-members-spec =

@@ -1,6 +1,9 @@
-use Prim.Native.Nat.{_-_}
+-- The spans of the definitions so far stand, and there is room for the rest.
+use Prim.Native.Nat.{_+_, _-_, _≤_, _<_}
 use lib.ListN.{length-set}
-use Rattle.table_book.specs.Book.{countIn}
+use Rattle.table_book.specs.Book.{room, countIn}
+use Rattle.table_types.specs.Booked.{definitionOn}
+use Rattle.table_entries.specs.Entries.{roomEntries, entriesIn}
 use Rattle.table_entries.proofs.Spans.{Spanning, spanning-start, spanning-end, next-few, next-room, spanning-more}
 use native.Mathlib.Omega.{arith}
 use Rattle.table_entries.proofs.fill_entries.Statement.{statement}
@@ -21,53 +24,42 @@ slice-write-es c = omega (arith, c .before .before .before .before .pre .cells)
 loop-holds : tie.Need-loop-holds Inv-loop μ-loop
 loop-holds c = spanning-start _ _ _ _ (c .before .before .before .before .pre) (omega (arith, length-set (c .before .before .before .before .args .es .now) 0 0))
 
+-- while there are more definitions there is room for their entries
+more : (c : tie.After-enter-definition-arg Inv-loop μ-loop) → c .before .before .loop .i < countIn (c .before .before .before .before .before .before .before .args .book .now)
+more c = omega (arith, c .before .loop-test .taken, c .before .before .before .count-of .ensures)
+
+few : (c : tie.After-enter-definition-arg Inv-loop μ-loop) → c .before .before .loop .e + entriesIn (definitionOn (c .before .before .before .before .before .before .before .args .t .now) (c .before .before .loop .i)) ≤ roomEntries
+few c = omega (arith, next-few _ _ _ _ (c .before .before .before .before .before .before .before .pre .booked) _ _ (c .before .before .loop .inv) (more c))
+
+roomy : (c : tie.After-enter-definition-arg Inv-loop μ-loop) → c .before .before .loop .i < room
+roomy c = next-room _ _ _ _ (c .before .before .before .before .before .before .before .pre .booked) _ _ (c .before .before .loop .inv) (more c)
+
 enter-definition-requires : tie.Need-enter-definition-requires Inv-loop μ-loop
-enter-definition-requires c κs =
-    let a = c .before .before .before .before .before .before .before .args in
-    let p = c .before .before .before .before .before .before .before .pre in
-    (p .booked, (omega (arith, c .before .loop-test .taken, c .before .before .before .count-of .ensures)), c .before .before .loop .inv .cells, omega (arith, next-few (a .t .now) (a .book .now) _ (c .before .before .loop .es) (p .booked) (c .before .before .loop .i) (c .before .before .loop .e) (c .before .before .loop .inv) (omega (arith, c .before .loop-test .taken, c .before .before .before .count-of .ensures))))
+enter-definition-requires c κs = (c .before .before .before .before .before .before .before .pre .booked, more c, c .before .before .loop .inv .cells, few c)
 
 add-i : tie.Need-add-i Inv-loop μ-loop
-add-i c =
-    let a = c .before .before .before .before .before .before .before .before .before .before .args in
-    let p = c .before .before .before .before .before .before .before .before .before .before .pre in
-    omega (arith, next-room (a .t .now) (a .book .now) _ (c .before .before .before .before .before .loop .es) (p .booked) (c .before .before .before .before .before .loop .i) (c .before .before .before .before .before .loop .e) (c .before .before .before .before .before .loop .inv) (omega (arith, c .before .before .before .before .loop-test .taken, c .before .before .before .before .before .before .count-of .ensures)))
+add-i c = omega (arith, roomy (c .before .before .before))
 
 cast-es : tie.Need-cast-es Inv-loop μ-loop
-cast-es c =
-    let a = c .before .before .before .before .before .before .before .before .before .before .args in
-    let p = c .before .before .before .before .before .before .before .before .before .before .pre in
-    omega (arith, next-few (a .t .now) (a .book .now) _ (c .before .before .before .before .before .loop .es) (p .booked) (c .before .before .before .before .before .loop .i) (c .before .before .before .before .before .loop .e) (c .before .before .before .before .before .loop .inv) (omega (arith, c .before .before .before .before .loop-test .taken, c .before .before .before .before .before .before .count-of .ensures)), c .before .before .enter-definition .ensures .size)
+cast-es c = omega (arith, few (c .before .before .before), c .before .before .enter-definition .ensures .size)
 
 mul-es : tie.Need-mul-es Inv-loop μ-loop
-mul-es c =
-    let a = c .before .before .before .before .before .before .before .before .before .before .args in
-    let p = c .before .before .before .before .before .before .before .before .before .before .pre in
-    omega (arith, next-room (a .t .now) (a .book .now) _ (c .before .before .before .before .before .loop .es) (p .booked) (c .before .before .before .before .before .loop .i) (c .before .before .before .before .before .loop .e) (c .before .before .before .before .before .loop .inv) (omega (arith, c .before .before .before .before .loop-test .taken, c .before .before .before .before .before .before .count-of .ensures)))
+mul-es c = omega (arith, roomy (c .before .before .before))
 
 slice-write-es-2 : tie.Need-slice-write-es-2 Inv-loop μ-loop
-slice-write-es-2 c =
-    let a = c .before .before .before .before .before .before .before .before .before .before .args in
-    let p = c .before .before .before .before .before .before .before .before .before .before .pre in
-    omega (arith, next-room (a .t .now) (a .book .now) _ (c .before .before .before .before .before .loop .es) (p .booked) (c .before .before .before .before .before .loop .i) (c .before .before .before .before .before .loop .e) (c .before .before .before .before .before .loop .inv) (omega (arith, c .before .before .before .before .loop-test .taken, c .before .before .before .before .before .before .count-of .ensures)), c .before .before .enter-definition .ensures .cells, c .before .before .before .before .before .loop .inv .cells)
+slice-write-es-2 c = omega (arith, roomy (c .before .before .before), c .before .before .enter-definition .ensures .cells, c .before .before .before .before .before .loop .inv .cells)
 
 loop-less : tie.Need-loop-less Inv-loop μ-loop
-loop-less c = omega (arith, c .before .before .before .before .loop-test .taken, c .before .before .before .before .before .before .count-of .ensures)
+loop-less c = omega (arith, more (c .before .before .before))
 
 loop-again : tie.Need-loop-again Inv-loop μ-loop
-loop-again c =
-    let a = c .before .before .before .before .before .before .before .before .before .before .args in
-    let p = c .before .before .before .before .before .before .before .before .before .before .pre in
-    spanning-more (a .t .now) (a .book .now) _ (c .before .before .before .before .before .loop .es) (p .booked) (c .before .before .before .before .before .loop .i) (c .before .before .before .before .before .loop .e) (c .before .before .before .before .before .loop .inv) (omega (arith, c .before .before .before .before .loop-test .taken, c .before .before .before .before .before .before .count-of .ensures)) _ _ (c .before .before .enter-definition .ensures)
+loop-again c = spanning-more _ _ _ _ (c .before .before .before .before .before .before .before .before .before .before .pre .booked) _ _ (c .before .before .before .before .before .loop .inv) (more (c .before .before .before)) _ _ (c .before .before .enter-definition .ensures)
 
 same-length : tie.Need-same-length Inv-loop μ-loop
 same-length c = omega (arith, c .before .loop .inv .whole, length-set (c .before .before .before .before .before .before .args .es .now) 0 0)
 
 returns : tie.Need-returns Inv-loop μ-loop
-returns c =
-    let a = c .before .before .before .before .before .before .args in
-    let p = c .before .before .before .before .before .before .pre in
-    spanning-end (a .t .now) (a .book .now) _ (c .before .loop .es) (p .booked) (c .before .loop .i) (c .before .loop .e) (c .before .loop .inv) (omega (arith, c .loop-test .left, c .before .before .count-of .ensures))
+returns c = spanning-end _ _ _ _ (c .before .before .before .before .before .before .pre .booked) _ _ (c .before .loop .inv) (omega (arith, c .loop-test .left, c .before .before .count-of .ensures))
 
 pub fill-entries-spec : {M : Type 1} → statement M
 fill-entries-spec =

@@ -1,5 +1,6 @@
+-- What is found from here on is what is found of all.
 use borrow.Author.Needs.{needs}
-use mathlib.Core.Path.{sym, _∙_}
+use mathlib.Core.Path.{_∙_}
 use native.Mathlib.Omega.{arith}
 use Prim.Native.Nat.{_-_}
 use Rattle.table_book.specs.Book.{part}
@@ -21,32 +22,23 @@ loop-holds c = looking-start _ _ _ _ _ _ (c .before .before .before .before .bef
 
 is-named-requires : tie.Need-is-named-requires Inv-loop μ-loop
 is-named-requires c κs =
-    let a = c .before .before .before .before .before .before .before .before .args in let w = c .before .loop .inv in let e = c .before .loop .e in
-    (name-stands (a .t .now) (a .book .now) (a .es .now) (a .from) (a .end) (part (a .s .now) (a .at) (a .n)) e w (c .loop-test .taken) (c .before .before .before .before .before .before .before .before .pre .0 .cells) (c .before .before .before .before .before .before .before .before .pre .0 .most), c .before .before .before .before .before .before .before .before .pre .1, c .before .before .wide .ensures ∙ c .before .before .before .key-of .ensures)
+    let p = c .before .before .before .before .before .before .before .before .pre in
+    (name-stands _ _ _ _ _ _ _ (c .before .loop .inv) (c .loop-test .taken) (p .0 .cells) (p .0 .most), p .1, c .before .before .wide .ensures ∙ c .before .before .before .key-of .ensures)
 
 returns : tie.Need-returns Inv-loop μ-loop
-returns c =
-    let a = c .before .before .before .before .before .before .before .before .before .before .args in let w = c .before .before .before .loop .inv in let e = c .before .before .before .loop .e in
-    looking-here (a .t .now) (a .book .now) (a .es .now) (a .from) (a .end) (part (a .s .now) (a .at) (a .n)) e w (c .before .before .loop-test .taken) (sym (c .before .is-named .ensures) ∙ c .if1 .taken)
+returns c = looking-here _ _ _ _ _ _ _ (c .before .before .before .loop .inv) (c .before .before .loop-test .taken) (c .before .is-named .ensures) (c .if1 .taken)
 
 cell-of-requires : tie.Need-cell-of-requires Inv-loop μ-loop
-cell-of-requires c κs = (c .before .before .before .before .before .before .before .before .before .before .pre .0 .cells, omega (arith, c .before .before .loop-test .taken, c .before .before .before .before .before .before .before .before .before .before .pre .0 .most), omega arith)
+cell-of-requires c κs = let p = c .before .before .before .before .before .before .before .before .before .before .pre in (p .0 .cells, omega (arith, c .before .before .loop-test .taken, p .0 .most), omega arith)
 
 loop-less : tie.Need-loop-less Inv-loop μ-loop
-loop-less c =
-    let a = c .before .before .before .before .before .before .before .before .before .before .before .args in let w = c .before .before .before .before .loop .inv in let e = c .before .before .before .before .loop .e in
-    let n = looking-less (a .t .now) (a .book .now) (a .es .now) (a .from) (a .end) (part (a .s .now) (a .at) (a .n)) e w (c .before .before .before .loop-test .taken) in
-    omega (arith, n .0, n .1, c .cell-of .ensures)
+loop-less c = let n = looking-less _ _ _ _ _ _ _ (c .before .before .before .before .loop .inv) (c .before .before .before .loop-test .taken) in omega (arith, n .0, n .1, c .cell-of .ensures)
 
 loop-again : tie.Need-loop-again Inv-loop μ-loop
-loop-again c =
-    let a = c .before .before .before .before .before .before .before .before .before .before .before .args in let w = c .before .before .before .before .loop .inv in let e = c .before .before .before .before .loop .e in
-    rw (c .cell-of .ensures) (looking-on (a .t .now) (a .book .now) (a .es .now) (a .from) (a .end) (part (a .s .now) (a .at) (a .n)) e w (c .before .before .before .loop-test .taken) (sym (c .before .before .is-named .ensures) ∙ c .before .if1 .left))
+loop-again c = rw (c .cell-of .ensures) (looking-on _ _ _ _ _ _ _ (c .before .before .before .before .loop .inv) (c .before .before .before .loop-test .taken) (c .before .before .is-named .ensures) (c .before .if1 .left))
 
 returns-2 : tie.Need-returns-2 Inv-loop μ-loop
-returns-2 c =
-    let a = c .before .before .before .before .before .before .before .before .args in let w = c .before .loop .inv in let e = c .before .loop .e in
-    looking-end (a .t .now) (a .book .now) (a .es .now) (a .from) (a .end) (part (a .s .now) (a .at) (a .n)) e w (c .loop-test .left)
+returns-2 c = looking-end _ _ _ _ _ _ _ (c .before .loop .inv) (c .loop-test .left)
 
 pub find-spec : {M : Type 1} → statement M
 find-spec =

@@ -1,3 +1,4 @@
+-- A member without arguments for each argument: the search is the same.
 use Rattle.table_book.specs.Book.{part}
 use Rattle.table_entries.proofs.Finds.{arguments-stand, argument-hit, argument-none}
 use borrow.Author.Needs.{needs}

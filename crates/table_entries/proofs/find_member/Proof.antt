@@ -1,3 +1,4 @@
+-- The definition's span, searched.
 use Rattle.table_book.specs.Book.{part}
 use Rattle.table_types.specs.Booked.{definitionOn}
 use Rattle.table_entries.proofs.Finds.{members-stand, standing-is, hit-wide, hit-none}

@@ -1,3 +1,4 @@
+-- Between the tags.
 use Rattle.table_entries.proofs.Spans.{types-below, types-composite, types-between, types-inputs}
 use Rattle.table_entries.proofs.has_types.Statement.{statement}
 use Rattle.table_entries.proofs.has_types.Tie as tie

@@ -1,3 +1,4 @@
+-- Names of other keys are others.
 use mathlib.Core.Path.{sym, _∙_}
 use Rattle.table_book.specs.Book.{part}
 use Rattle.table_entries.specs.Entries.{nameAt}

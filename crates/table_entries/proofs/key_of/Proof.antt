@@ -1,3 +1,4 @@
+-- The part's last byte and first.
 use native.Mathlib.Omega.{arith}
 use Rattle.table_entries.proofs.Keys.{key-none, key-some}
 use borrow.Author.Needs.{needs}

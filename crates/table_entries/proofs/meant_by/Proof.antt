@@ -1,3 +1,4 @@
+-- The entry's cell.
 use borrow.Author.Needs.{needs}
 use Rattle.table_entries.proofs.meant_by.Statement.{statement}
 use Rattle.table_entries.proofs.meant_by.Tie as tie

@@ -1,3 +1,4 @@
+-- A number past the count is the book's room.
 use native.Mathlib.Omega.{arith}
 use borrow.Author.Needs.{needs}
 use Rattle.table_entries.proofs.number_of.Statement.{statement}

@@ -29,7 +29,7 @@ slice-write-es-8 : tie.Need-slice-write-es-8
 slice-write-es-8 c = let a = c .args in omega (arith, stored-length (a .es .now) (entryAt (a .e)) 0 (a .key ∷ a .name ∷ a .size ∷ a .base ∷ a .extent ∷ a .wrappers ∷ a .next ∷ []))
 
 same-length : tie.Need-same-length
-same-length c = let a = c .args in stored-length (a .es .now) (entryAt (a .e)) 0 (a .key ∷ a .name ∷ a .size ∷ a .base ∷ a .extent ∷ a .wrappers ∷ a .next ∷ a .meant ∷ [])
+same-length c = stored-length (c .args .es .now) (entryAt (c .args .e)) 0 (_ ∷ _ ∷ _ ∷ _ ∷ _ ∷ _ ∷ _ ∷ _ ∷ [])
 
 returns : tie.Need-returns
 returns c = let a = c .args in put-is (a .es .now) (a .e) (c .pre .0) (c .pre .1) (a .key) (a .name) (a .size) (a .base) (a .extent) (a .wrappers) (a .next) (a .meant)

@@ -1,3 +1,4 @@
+-- A name, then a reference: both are the first of their tag.
 use mathlib.Core.Path.{sym, subst, _∙_}
 use Rattle.table_fields.specs.Wrappers.{RefersRead}
 use Rattle.table_entries.proofs.Headers.{first-lies, first-bounds, second-bounds, header-in}

@@ -1,3 +1,4 @@
+-- The quick way by the tag, else the slow one.
 use mathlib.Core.Path.{subst}
 use Rattle.table_members.proofs.PartLaws.{arguments-none}
 use Rattle.table_entries.specs.Entries.{QuickRead}

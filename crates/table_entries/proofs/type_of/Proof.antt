@@ -1,3 +1,4 @@
+-- The entry's three cells.
 use borrow.Author.Needs.{needs}
 use Rattle.table_entries.proofs.type_of.Statement.{statement}
 use Rattle.table_entries.proofs.type_of.Tie as tie
