@@ -21,6 +21,7 @@ pub mod DocumentsLaws
 pub mod WalksLaws
 pub mod MainWalks
 pub mod Demand3Laws
+pub mod DepthLaws
 pub mod MainDemand3
 pub mod CoercionsWords
 pub mod CoercionsSome
