@@ -3,7 +3,7 @@
 use mathlib.Core.Path.{_≡_}
 use mathlib.Core.List.{List}
 use Prim.Native.Nat.{ℕ, _≤_}
-pub use Rattle.paper.specs.Numbers.{reportSize, mostText}
+pub use Rattle.paper.specs.Numbers.{reportSize, rowsSize, mostText}
 pub use Rattle.paper.specs.Language.{Document, VariablesText}
 pub use Rattle.paper.specs.Tokens.{Text, Tokens}
 pub use Rattle.paper.specs.Rows.{Row}
