@@ -34,7 +34,12 @@ pub mod CoercedArguments
 pub mod MainCoercions
 pub mod PlansSomeLaws
 pub mod PlansLaws
+pub mod WorkedLaws
 pub mod PlansExampleLaws
 pub mod MainPlans
+pub mod ExamplesWords
+pub mod RowEntriesLaws
+pub mod ExamplesReadLaws
+pub mod ExamplesValuesLaws
 pub mod ExamplesLaws
 pub mod MainExamples

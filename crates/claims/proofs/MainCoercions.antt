@@ -15,20 +15,17 @@ use Rattle.paper.specs.Refusals.{numberOf, shownInText}
 use Rattle.paper.specs.Calls.{filled, tells}
 use Rattle.paper.specs.declared.Refusal.{Refusal}
 use Rattle.paper.specs.declared.Refusal.the-variants.{OverLength}
-use Rattle.paper_table.specs.Lists.{bytes}
-use Rattle.paper_table.specs.TableNumbers.{mostTable, inputTable, tagScalar, tagEnum, tagInputObject, tagArgument, tagEnumValue}
+use Rattle.paper_table.specs.TableNumbers.{mostTable, inputTable}
 use Rattle.paper_table.specs.References.{Ref, named, listOf, nonNull, isNonNull}
-use Rattle.paper_table.specs.Types.{Table}
 use Rattle.paper_query.specs.Constructs.{Doc}
 use Rattle.paper_query.specs.DocumentCalls.{read}
 use Rattle.paper_query.specs.Opening.{AcceptedDocument, operationMeant, stops, opens, Opened}
 use Rattle.paper_values.specs.ValueNumbers.{mostCoerced, reasonKind, reasonRange, reasonMissing, reasonNull, reasonUnknown, reasonRepeated, reasonEnum, reasonSurrogate}
 use Rattle.paper_values.specs.Written.{fourBytes}
-use Rattle.paper_values.specs.Characters.{charactersOf}
 use Rattle.paper_values.specs.NumberTokens.{intOf}
 use Rattle.paper_values.specs.Signed.{numberWritten, numberHeld, isInt}
-use Rattle.paper_values.specs.Values.{Name, At, Value, Values, variable, integer, string, null, object, Entries, no-entries, entry, Due, Tree, Null, Bits, Fields, Pairs, no-pairs, pair, Out, Got, No}
-use Rattle.paper_values.specs.Kinds.{Kind, Int, kindOfType}
+use Rattle.paper_values.specs.Values.{Name, At, Value, Values, variable, integer, null, object, Entries, Due, Tree, Bits, Fields, Pairs, Out, Got, No}
+use Rattle.paper_values.specs.Kinds.{Kind, Int}
 use Rattle.paper_values.specs.Computed.{Given, coerce, coerceAll, variablesOf, argumentsOf}
 use Rattle.paper_values.specs.Coercion.{heads, repeatedEntry, unknownEntry}
 use Rattle.paper_values.specs.CoercionRules.{plainValue, singleValue, asInput, Coerces}
@@ -48,7 +45,6 @@ use Rattle.paper_values.proofs.TrapInt as trap
 use Rattle.paper_values.proofs.TrapOrder as order
 use Rattle.paper_values.proofs.ReasonsExact as reasons
 use Rattle.paper_values.proofs.RowsApart as rows-apart
-use Rattle.paper_values.proofs.ExamplesCoercion as examples
 use Rattle.claims.proofs.CoercionsWords.{VariablesRead, VariablesUnread, VariablesGive, ArgumentsGive, answerOf, valueLeft, reportLeft}
 use Rattle.claims.proofs.CoercionsSome as some-results
 use Rattle.claims.proofs.CoercedVariables as variables-call
@@ -191,49 +187,6 @@ list-of-one-refused = reasons.list-of-one-refused
 -- In the value of a row no value inside an object stands at the object's place.
 pub row-apart : (kinds : Name → Kind) (vars : Name → Option Tree) (text : ℕ) (d : Doc) (k i : ℕ) → ApartInside kinds vars (valueAt text d k i)
 row-apart = rows-apart.row-apart
-
--- ---- 01'S EXAMPLES
-
--- input In {a: String, b: Int!}, scalar S, enum E {A}
-abbrev pub types : Table
-types =
-    record {
-      tag = tagInputObject;
-      name = bytes "In";
-      implements = [];
-      members =
-          record { tag = tagArgument; name = bytes "a"; type = named (bytes "String"); arguments = [] } ∷ record { tag = tagArgument; name = bytes "b"; type = nonNull (named (bytes "Int")); arguments = [] } ∷ [];
-    } ∷
-    record { tag = tagScalar; name = bytes "S"; implements = []; members = [] } ∷
-    record { tag = tagEnum; name = bytes "E"; implements = []; members = record { tag = tagEnumValue; name = bytes "A"; type = named []; arguments = [] } ∷ [] } ∷
-    []
-
--- row i of the document; what a value is at a type, where no variable is set
-abbrev pub here : ℕ → At
-here i = record { text = 0; row = i }
-
-abbrev pub give : Ref → Value → Out Tree
-give r v = coerce (kindOfType types) (λ n. none) v r
-
--- (1) to (7), over one list.
-pub examples-1-to-7 :
-    give (named (bytes "Int")) (integer (here 1) (bytes "2147483647")) ∷
-    give (named (bytes "Int")) (integer (here 1) (bytes "2147483648")) ∷
-    give (named (bytes "Int")) (integer (here 1) (bytes "-2147483648")) ∷
-    give (named (bytes "Int")) (integer (here 1) (bytes "-2147483649")) ∷
-    give (named (bytes "In")) (object (here 0) (entry (here 1) (bytes "a") (string (here 2) (0x22 ∷ (bytes "abc" ++ (0x22 ∷ []))) (charactersOf (0x22 ∷ (bytes "abc" ++ (0x22 ∷ []))))) no-entries)) ∷
-    give (named (bytes "In")) (object (here 0) (entry (here 1) (bytes "a") (null (here 2)) (entry (here 3) (bytes "b") (integer (here 4) (bytes "1")) no-entries))) ∷
-    give (named (bytes "In")) (object (here 0) (entry (here 1) (bytes "a") (variable (here 2) (bytes "var")) (entry (here 3) (bytes "b") (integer (here 4) (bytes "1")) no-entries))) ∷
-    [] ≡
-    Got (Bits 2147483647) ∷
-    No (here 1) 2 ∷
-    Got (Bits 2147483648) ∷
-    No (here 1) 2 ∷
-    No (here 0) 3 ∷
-    Got (Fields (pair (bytes "a") Null (pair (bytes "b") (Bits 1) no-pairs))) ∷
-    Got (Fields (pair (bytes "b") (Bits 1) no-pairs)) ∷
-    []
-examples-1-to-7 = examples.seven
 
 -- ---- THE CALL `gw_coerce_variables`: an operation's variables
 
