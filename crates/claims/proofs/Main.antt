@@ -1,11 +1,12 @@
 -- THE THREE DEMANDS: start here. Each is one theorem, stated in full, and its proof only names laws.
 -- Its names come from the `specs` of the crates `paper`, `paper_table`, `paper_query`, `paper_values` and `paper_plan`: what these say is
--- to be believed. `Words` beside this file gathers them; `Result` and `Fixed` there, and `VariablesRead`, `VariablesGive` and
--- `ArgumentsGive` of `CoercionsWords`, only abbreviate what is said with them. That a call's code meets its statement: `Exported`'s names.
+-- to be believed. `Words` beside this file gathers them, and says what it is to fix a result (`Result`, `Fixed`); `VariablesRead`,
+-- `VariablesGive` and `ArgumentsGive`, of `CoercionsWords`, abbreviate. That a call's code meets its statement, `Exported`'s names say.
 -- What each call promises besides, refusal by refusal and buffer by buffer, stands in `MainParse`, `MainTable`, `MainCheck`,
 -- `MainCoercions`, `MainPlans`, `MainWalks` and `MainDemand3`; 01's examples in `MainExamples`; the library's own facts in `LookUps`.
--- To read it: texts, tables and buffers are lists of numbers. `[]` is the empty list, `x ∷ l` is x and then l, `take n l` the first n of l,
--- `getD l i 0` the one at place i (from 0), `map f l` is f of each. A name with a prime, as `report′`, is what a call leaves in a buffer.
+-- To read it: texts, tables and buffers are lists of numbers from 0 on (`List ℕ`), and a name with a prime, as `report′`, is what a call
+-- leaves in a buffer. `[]` is the empty list, `x ∷ l` is x and then l, `take n l` the first n of l, `getD l i 0` the one at place i
+-- (from 0), `map f l` is f of each; `none` is "nothing there".
 -- `A × B` is "A and B", `A ⊎ B` "A or B", `A → B` "if A, then B", `A → ⊥` "not A", `A ↔ B` "A exactly when B", `a ≡ b` "a is b".
 -- `(x : T) → A` is "A for every x", `{x : T} → A` the same (a proof need not name such an x), `(x : T) × A` "there is an x with A".
 -- `λ x. e` is the function that gives e for x; `r .0`, `r .1`, `r .2` are the parts of r in order, `i .row` is the part of that name.

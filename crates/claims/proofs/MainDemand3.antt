@@ -1,4 +1,4 @@
--- Demand 3, over `gw_plan` and `gw_walk` together, in the manner of `Main`: each theorem is stated in full, and its proof is one name.
+-- Around demand 3 of `Main`, over `gw_plan` and `gw_walk` together, in the manner of `Main`: each theorem is stated in full, and its proof is one name.
 -- What the words mean, and is to be believed, stands in `crates/paper_plan/specs`, and in the specs that `Main` names.
 -- Assumes nothing.
 use mathlib.Core.Path.{_≡_}
@@ -42,7 +42,7 @@ pub plan-blocks-one : {table document name : List ℕ} {rs rs′ : List Row} {op
     BlockRows (read document rs) op rows → BlockRows (read document rs′) op′ rows′ → (rs ≡ rs′) × (op ≡ op′) × (rows ≡ rows′)
 plan-blocks-one = demand.opened-blocks-one
 
--- Demand 3 itself stands in `Main`. Here it is by rows: of the operation or fields whose blocks are walked.
+-- Demand 3 by rows: of the operation or fields whose blocks are walked. (`Main` has it by blocks.)
 pub demand-3-rows : {table document name plan report plan′ report′ : List ℕ} → Planned table document name plan report plan′ report′ 0 →
     (rs : List Row) (op : ℕ) (rows : List ℕ) → Opened table document name (opens rs op) → BlockRows (read document rs) op rows →
     (object : ℕ) (holders variables : List ℕ) → isObject (definitionAt (tableOf table) object) ≡ true → length holders ≤ mostWalked →

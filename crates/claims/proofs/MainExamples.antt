@@ -1,5 +1,5 @@
 -- Document 01's eleven examples, over one list: calls with their answers. What a call is, and what it is to tell something, stands in
--- `ExamplesWords`, by the calls' statements (`Parsed`, `Checked`, `CoercedArguments`, `Planned`, `Walked`); the code meets them (`demand-1`).
+-- `ExamplesWords`, by the calls' statements (`Parsed`, `Checked`, `CoercedArguments`, `Planned`, `Walked`), which the code meets.
 -- The refuted traps stand in `MainCoercions` (an Int tested after it is narrowed), `MainPlans` (a fragment marked before its skip test) and
 -- `MainWalks` (fresh marks for each merged block).
 -- Assumes nothing.
