@@ -1,22 +1,91 @@
 #!/usr/bin/env python3
 """docs/TRACE.md: from each sentence of document 01 to definition, theorem of claims, wrong program and test.
-   tests/trace.py write   writes its two lists at the end anew: all promises, all wrong programs
-   tests/trace.py check   fails where a row names a theorem of claims or an edit that is not there, where a list at the end is stale (so each theorem of
-                          claims and each edit has its row), or where a crate's tower or a refusal is missing in the README's tables"""
+   tests/trace.py write      writes its two lists at the end anew: all promises, all wrong programs
+   tests/trace.py sentences  cuts document 01 (../shared/01-scope.md) into tests/trace_sentences.txt
+   tests/trace.py check      fails where
+     a word of 01 is in no row's quote, or a quote is not 01's; where 01 is at hand, also where the list of its sentences is not as it is cut;
+     a row has an empty cell, or names a definition, theorem, edit, crate, vector's note, path or function that is not there;
+     a theorem of claims or an edit is in no row and not in the list of those of no sentence, or a file of claims with `pub` is in no list;
+     a list at the end is stale; a crate or a refusal is in no line of the README's tables."""
+import fnmatch
+import json
 import pathlib
 import re
 import sys
 
 ROOT = pathlib.Path(__file__).resolve().parent.parent
-TRACE, README = ROOT / "docs/TRACE.md", ROOT / "README.md"
+TRACE, README, SENTENCES = ROOT / "docs/TRACE.md", ROOT / "README.md", ROOT / "tests/trace_sentences.txt"
 LISTS = "\n## All promises\n"
+NONE = "none, because "
+VECTORS = {"V": ["parse"], "T": ["tables"], "Q": ["check"], "K": ["coerce_vars", "coerce_args"], "P": ["plan", "walk"]}
 
+
+# ---- document 01
+
+def paper_01():
+    """document 01, where it is at hand"""
+    return next((p for p in (ROOT.parent / "shared/01-scope.md", ROOT.parent.parent / "shared/01-scope.md") if p.exists()), None)
+
+
+def cut(text):
+    """a line for each sentence, for each row of a table of refusals ("number: when; shown") and for each point of a list; the headings of its parts"""
+    for line in text.split("\n"):
+        cells = [c.strip() for c in line.strip("|").split("|")]
+        if line.startswith("## "):
+            yield line
+        elif line.startswith("|") and cells[0].isdigit():
+            yield f"{cells[0]}: {'; '.join(cells[1:])}"
+        elif line.startswith("- "):
+            yield line[2:]
+        elif line and not line.startswith(("# ", "|")):
+            yield from re.sub(r"(?m)^(\d+\.)\n", r"\1 ", re.sub(r"(?<=[^\s.][.?!])\s+", "\n", line.replace("**", ""))).split("\n")
+
+
+def sentences():
+    return [s for s in SENTENCES.read_text().split("\n") if s and not s.startswith("## ")]
+
+
+def spans(quote, text, starts):
+    """where a quote's words stand in the text, all places; `..` in it passes over words of one sentence, which it does not quote"""
+    parts = [(r"(?<!\w)" if p[0].isalnum() else "") + re.escape(p) + (r"(?!\w)" if p[-1].isalnum() else "") for p in quote.split(" .. ") if p]
+    if len(parts) == 1:
+        yield from (m.span() for m in re.finditer(parts[0], text))
+        return
+    for start, end in zip(starts, starts[1:] + [len(text)]):
+        found = re.search(r".*?".join(f"({p})" for p in parts), text[start:end])
+        if found:
+            yield from ((start + found.start(i), start + found.end(i)) for i in range(1, len(parts) + 1))
+
+
+def quoted(first):
+    """a row's first cell without its remark *..*"""
+    return re.sub(r"\s*\*[^*]*\*$", "", first)
+
+
+def unquoted(quotes):
+    """faults: quotes that are not in 01, and words of 01 that no quote has"""
+    all_of = sentences()
+    text, starts = " ".join(all_of), [0]
+    for sentence in all_of[:-1]:
+        starts.append(starts[-1] + len(sentence) + 1)
+    covered = bytearray(len(text))
+    for quote in quotes:
+        where = list(spans(quote, text, starts))
+        if not where:
+            yield f"{quote[:60]}: these words are not in 01"
+        for start, end in where:
+            covered[start:end] = b"\1" * (end - start)
+    for start, sentence in zip(starts, all_of):
+        left = [m.group() for m in re.finditer(r"\w+", sentence) if not all(covered[start + m.start() : start + m.end()])]
+        if left:
+            yield f"01, \"{sentence[:90]}\": no row quotes \"{' '.join(left)[:90]}\""
+
+
+# ---- what rows may name
 
 def theorems():
     """of each file of claims that states promises: the theorems in order, with the comment above each or above those before it"""
-    for path in sorted((ROOT / "crates/claims/proofs").glob("*.antt")):
-        if not (path.stem.startswith("Main") or path.stem == "LookUps"):
-            continue
+    for path in promising():
         words, above = "", []
         for line in path.read_text().split("\n"):
             if line.startswith("-- ----"):
@@ -31,13 +100,75 @@ def theorems():
                 above = []
 
 
+def promising():
+    return [p for p in sorted((ROOT / "crates/claims/proofs").glob("*.antt")) if p.stem.startswith("Main") or p.stem == "LookUps"]
+
+
 def edits():
     for path in sorted((ROOT / "crates").glob("*/must-fail/*.edit")):
         yield path.parts[-3], path.stem, path.read_text().split("\n")[0].lstrip("# ")
 
 
-def cell(text):
-    return text.replace("|", "\\|")
+def crates():
+    return [line.split(":")[0] for line in (ROOT / "crates.txt").read_text().split("\n") if line.strip() and not line.startswith("#")]
+
+
+def names_of(text):
+    """the names that a file of definitions defines: definitions, constructors, parts of records"""
+    names = set()
+    for line in text.split("\n"):
+        if re.match(r"\s*--|(?:unfoldable )?(?:pub )?use ", line):
+            continue
+        top = re.match(r"\s*(?:(?:pub|abbrev|unfoldable|data|record)\s+)+([^\s:=(){}]+)|([^\s:=(){}]+)", line)
+        inner = re.match(r"\s+(?:pub )?([^:=(){}→]+?) :", line)
+        names.update(n for n in (top.groups() if top else ()) if n)
+        names.update(inner.group(1).split() if inner else ())
+    return names
+
+
+def definitions():
+    """by file: what the paper crates define; of their proofs the wrong definitions of traps and the examples"""
+    found = {p.stem: names_of(p.read_text()) for p in sorted((ROOT / "crates").glob("paper*/specs/*.antt"))}
+    for p in sorted((ROOT / "crates").glob("paper*/proofs/*.antt")):
+        if p.stem.startswith(("Trap", "Examples", "Worked", "ReferenceTexts")):
+            found.setdefault(p.stem, set()).update(names_of(p.read_text()))
+    return found
+
+
+def notes():
+    return {letter: {json.loads(line).get("note") or "" for f in files for line in open(ROOT / f"tests/vectors/{f}.jsonl")} for letter, files in VECTORS.items()}
+
+
+def is_defined(name, defined):
+    """`File`, `File.name`, `name`, `Type.constructor`, or the beginning of names, `File.kind..`"""
+    parts = name.removesuffix("..").split(".")
+    files = [parts[0]] if parts[0] in defined else list(defined)
+    rest = parts[1:] if parts[0] in defined else parts
+    has = lambda names, n: n in names or (name.endswith("..") and n == rest[-1] and any(m.startswith(n) for m in names))
+    return any(all(has(defined[f], n) for n in rest) for f in files)
+
+
+def named_edits(text):
+    """crate/`edit`, and behind it `edit`s of the same crate"""
+    crate = None
+    for found in re.finditer(r"(?:(\w+)/)?`(\w+)`", text):
+        crate = found.group(1) or crate
+        yield crate, found.group(2)
+
+
+def named_theorems(text):
+    return re.findall(r"(?<![\w-])[a-z0-9]+(?:-[a-z0-9]+)+", text)
+
+
+def named_notes(text):
+    """of a test's cell: the quoted notes behind V, T, Q, K or P"""
+    for letter, quotes in re.findall(r"(?:^|; )([A-Z]) ((?:\"[^\"]*\"(?:, )?)+)", text):
+        yield from ((letter, q) for q in re.findall(r"\"([^\"]*)\"", quotes))
+
+
+def is_note(quote, of):
+    pattern = re.compile(".*".join(re.escape(p.strip()) for p in quote.split("..")))
+    return any(pattern.fullmatch(n) for n in of)
 
 
 def lists():
@@ -50,52 +181,155 @@ def lists():
     return "\n".join(lines) + "\n"
 
 
-def rows(text):
+def cell(text):
+    return text.replace("|", "\\|")
+
+
+# ---- rows
+
+def tables(text):
+    """each row of a table, by the heading of its section: the heading, the cells"""
+    heading, before = "", ""
     for line in text.split("\n"):
-        cells = [c.strip() for c in line.strip().strip("|").split("|")]
-        if line.startswith("|") and len(cells) == 5 and not set(cells[0]) <= set("-"):
-            yield cells
+        if line.startswith("## "):
+            heading = line[3:]
+        if line.startswith("|") and before.startswith("|") and not set(line) <= set("|- "):
+            yield heading, [c.strip() for c in line.strip().strip("|").split("|")]
+        before = line
 
 
-def named_edits(text):
-    """crate/`edit`, and behind it `edit`s of the same crate"""
-    crate = None
-    for found in re.finditer(r"(?:(\w+)/)?`(\w+)`|(\w+)/:", text):
-        crate = found.group(1) or found.group(3) or crate
-        if found.group(2):
-            yield crate, found.group(2)
+def faults_of_row(cells, defined, names, have, noted):
+    """of a row of a sentence: 01, definition, theorem, edit, test"""
+    first, definition, theorem, edit, test = cells
+    for what, text in (("definition", definition), ("theorem", theorem), ("edit", edit), ("test", test)):
+        if not text:
+            yield f"no {what}"
+    for name in re.findall(r"`([^`]+)`", definition) if not definition.startswith(NONE) else []:
+        yield from (f"no definition {n} in the paper crates" for n in name.split() if not is_defined(n, defined))
+    told = [] if theorem.startswith(NONE) else named_theorems(theorem)
+    yield from (f"no theorem {n} in claims" for n in told if n not in names)
+    if not told and not theorem.startswith(NONE):
+        yield "names no theorem"
+    wrong = [(c, e) for c, e in named_edits(edit) if c]
+    yield from (f"no edit {c}/{e}" for c, e in wrong if (c, e) not in have)
+    if not wrong and not edit.startswith(NONE):
+        yield f"names no edit, and does not say \"{NONE}..\""
+    yield from (f"no crate {c}" for c in re.findall(r"(\w+)/", edit) if c not in crates())
+    yield from (f"no vector has the note {l} \"{q}\"" for l, q in named_notes(test) if not is_note(q, noted.get(l, ())))
+
+
+def faults_of_form(where):
+    """of a row of "What to write where": paths, and behind each what stands in it; or the request with which it is due"""
+    due = re.search(r"due with (W-\d+)", where)
+    if due:
+        if (ROOT / f"docs/changes/{due.group(1)}.md").exists():
+            yield f"{due.group(1)} has landed"
+        return
+    path = None
+    for name in re.findall(r"`([^`]+)`", where):
+        if "/" in name:
+            path = ROOT / name
+            if not path.exists():
+                yield f"no file {name}"
+                path = None
+        elif path:
+            files = sorted(p for p in path.rglob("*") if p.is_file()) if path.is_dir() else [path]
+            last = name.split("::")[-1]
+            if not any(re.search(rf"(?m)\b(?:fn|struct|enum) {re.escape(last)}\b|\b{re.escape(last)}: |^## {re.escape(last)} |\b{re.escape(last)}\(", p.read_text()) or
+                       (p.suffix == ".antt" and last in names_of(p.read_text())) for p in files):
+                yield f"no {name} in {path.relative_to(ROOT)}"
+    if not re.search(r"`[^`]+/", where):
+        yield "names no file"
 
 
 def faults(text):
-    names = {n for _, n, _ in theorems()}
-    have = {(c, e) for c, e, _ in edits()}
-    for first, _, theorem, edit, _ in rows(text[: text.index(LISTS)] if LISTS in text else text):
-        if first == "01":
+    head = text[: text.index(LISTS)] if LISTS in text else text
+    names, have, defined, noted = {n for _, n, _ in theorems()}, {(c, e) for c, e, _ in edits()}, definitions(), notes()
+    quotes, told, wrong, kept, files = [], set(), set(), [], set()
+    for heading, cells in tables(head):
+        if heading == "Of no sentence of 01":
+            kept += [cells]
             continue
-        if not theorem:
-            yield f"{first[:60]}: no theorem"
-        for name in re.findall(r"[a-z0-9]+(?:-[a-z0-9]+)+", re.sub(r"`Main\w+`", "", theorem)):
-            if name not in names:
-                yield f"{first[:60]}: no theorem {name} in claims"
-        for crate, name in named_edits(edit):
-            if (crate, name) not in have:
-                yield f"{first[:60]}: no edit {crate}/{name}"
+        if heading == "Files of claims that state no promise":
+            files |= set(re.findall(r"`(\w+)`", cells[0]))
+            continue
+        if cells[0] == "01":
+            continue
+        quotes.append(quoted(cells[0]))
+        if heading == "What to write where" and len(cells) == 2:
+            yield from (f"{cells[0][:60]}: {f}" for f in faults_of_form(cells[1]))
+        elif len(cells) != 5:
+            yield f"{cells[0][:60]}: {len(cells)} cells"
+        else:
+            yield from (f"{cells[0][:60]}: {f}" for f in faults_of_row(cells, defined, names, have, noted))
+            told |= set(named_theorems(cells[2]))
+            wrong |= set() if cells[3].startswith(NONE) else set(named_edits(cells[3]))
+    yield from unquoted(quotes)
+    yield from faults_of_kept(kept, told, wrong, names, have)
+    yield from faults_of_files(files)
+    yield from faults_of_paths(head)
     if LISTS not in text or text[text.index(LISTS) + 1 :] != lists():
         yield "the lists at the end are stale: python3 tests/trace.py write"
-    readme = README.read_text()
-    for name in sorted({p.name.split("_")[0] for p in (ROOT / "crates").iterdir()}):
-        if not re.search(rf"`(?:crates/)?{name}(?:_\*|\*)?`", readme):
-            yield f"README: no tower {name}"
-    for number in range(1, 17):
-        if not re.search(rf"(?m)^\| {number} \| `GW_REFUSE_\w+` \|", readme):
-            yield f"README: no refusal {number}"
+    at_hand = paper_01()
+    if at_hand and [s for s in cut(at_hand.read_text())] != [s for s in SENTENCES.read_text().split("\n") if s]:
+        yield f"tests/trace_sentences.txt is not {at_hand} as it is cut: python3 tests/trace.py sentences"
+    yield from faults_of_readme()
+
+
+def faults_of_kept(kept, told, wrong, names, have):
+    """what is in no row stands in the list of those of no sentence, with a reason; and nothing else stands there"""
+    for cells in kept:
+        if len(cells) != 2 or not cells[1]:
+            yield f"Of no sentence of 01: {cells[0][:60]}: no reason"
+    free, wild = {n for c in kept for n in named_theorems(c[0])}, {e for c in kept for e in named_edits(c[0])}
+    yield from (f"Of no sentence of 01: no theorem {n} in claims" for n in sorted(free - names))
+    yield from (f"Of no sentence of 01: no edit {c}/{e}" for c, e in sorted(wild - have))
+    yield from (f"Of no sentence of 01: {n} is in a row" for n in sorted(free & told))
+    yield from (f"Of no sentence of 01: {c}/{e} is in a row" for c, e in sorted(wild & wrong))
+    yield from (f"no row names the theorem {n}" for n in sorted(names - told - free))
+    yield from (f"no row names the edit {c}/{e}" for c, e in sorted(have - wrong - wild))
+
+
+def faults_of_files(files):
+    for path in promising():
+        for line in path.read_text().split("\n"):
+            if re.match(r"pub (?!use )", line) and not re.match(r"pub \S+ :", line):
+                yield f"{path.name}: a promise in no form that is read: {line[:60]}"
+    others = {p.stem for p in (ROOT / "crates/claims/proofs").glob("*.antt") if p not in promising() and re.search(r"(?m)^pub ", p.read_text())}
+    yield from (f"crates/claims/proofs/{f}.antt has `pub` and is in no list" for f in sorted(others - files))
+    yield from (f"Files of claims that state no promise: no {f}" for f in sorted(files) if not (ROOT / f"crates/claims/proofs/{f}.antt").exists())
+
+
+def faults_of_paths(head):
+    for name in sorted(set(re.findall(r"`((?:crates|tests|host|bench|docs|include)/[\w./*-]+)`", head))):
+        if not list(ROOT.glob(name)):
+            yield f"no path {name}"
+
+
+def faults_of_readme():
+    text = README.read_text()
+    part = lambda heading: [line for line in text[text.index(heading) :].split("\n## ")[0].split("\n") if line.startswith("|")]
+    patterns = []
+    for line in part("## What is where"):
+        first = line.strip("|").split("|")[0]
+        if "`crates/" in first:
+            patterns += [p for p in (n.removeprefix("crates/") for n in re.findall(r"`([^`]+)`", first)) if "/" not in p]
+    yield from (f"README, \"What is where\": no line for the crate {c}" for c in crates() if not any(fnmatch.fnmatch(c, p) for p in patterns))
+    yield from (f"README, \"What is where\": no crate is {p}" for p in patterns if not fnmatch.filter(crates(), p))
+    refused = part("## What is refused")
+    for name, number in re.findall(r"(?m)^#define (GW_REFUSE_\w+) (\d+)\b", (ROOT / "include/gateway.h").read_text()):
+        if not any(re.match(rf"\| {number} \| `{name}` \| [^|]+ \|", line) for line in refused):
+            yield f"README, \"What is refused\": no refusal {number}, {name}"
 
 
 def main():
     what = sys.argv[1] if len(sys.argv) == 2 else ""
     text = TRACE.read_text()
     if what == "write":
-        TRACE.write_text((text[: text.index(LISTS)] if LISTS in text else text.rstrip("\n") + "\n") + "\n" + lists())
+        TRACE.write_text((text[: text.index(LISTS)] if LISTS in text else text.rstrip("\n") + "\n") + "\n" + lists().rstrip("\n") + "\n")
+        return 0
+    if what == "sentences":
+        SENTENCES.write_text("\n".join(cut(paper_01().read_text())) + "\n")
         return 0
     if what != "check":
         print(__doc__, file=sys.stderr)
@@ -103,7 +337,11 @@ def main():
     found = list(faults(text))
     for fault in found:
         print(fault)
-    print(f"trace: {sum(1 for _ in rows(text))} rows, {sum(1 for _ in theorems())} theorems, {sum(1 for _ in edits())} edits, {len(found)} faults")
+    head = text[: text.index(LISTS)] if LISTS in text else text
+    rows = [c for h, c in tables(head) if c[0] != "01" and h not in ("Of no sentence of 01", "Files of claims that state no promise")]
+    told, wrong = {n for c in rows if len(c) == 5 for n in named_theorems(c[2])}, {e for c in rows if len(c) == 5 and not c[3].startswith(NONE) for e in named_edits(c[3])}
+    print(f"trace: {len(sentences())} sentences of 01, {len(rows)} rows; in them {len(told & {n for _, n, _ in theorems()})} of {len({n for _, n, _ in theorems()})} theorems, "
+          f"{len(wrong & {(c, e) for c, e, _ in edits()})} of {sum(1 for _ in edits())} edits; {len(found)} faults")
     return 1 if found else 0
 
 
