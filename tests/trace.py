@@ -216,6 +216,8 @@ def faults_of_row(cells, defined, names, have, noted):
         yield f"names no edit, and does not say \"{NONE}..\""
     yield from (f"no crate {c}" for c in re.findall(r"(\w+)/", edit) if c not in crates())
     yield from (f"no vector has the note {l} \"{q}\"" for l, q in named_notes(test) if not is_note(q, noted.get(l, ())))
+    if len(list(named_notes(test))) != test.count("\"") / 2:
+        yield "a quote among the tests is not behind V, T, Q, K or P"
 
 
 def faults_of_form(where):
