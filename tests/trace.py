@@ -16,6 +16,7 @@ import sys
 ROOT = pathlib.Path(__file__).resolve().parent.parent
 TRACE, README, SENTENCES = ROOT / "docs/TRACE.md", ROOT / "README.md", ROOT / "tests/trace_sentences.txt"
 LISTS = "\n## All promises\n"
+FORMS, FREE, FILES = "What to write where", "Of no sentence of 01", "Files of claims that state no promise"
 NONE = "none, because "
 VECTORS = {"V": ["parse"], "T": ["tables"], "Q": ["check"], "K": ["coerce_vars", "coerce_args"], "P": ["plan", "walk"]}
 
@@ -188,7 +189,7 @@ def cell(text):
 # ---- rows
 
 def tables(text):
-    """each row of a table, by the heading of its section: the heading, the cells"""
+    """each row of a table below its head, by the heading of its section: the heading, the cells"""
     heading, before = "", ""
     for line in text.split("\n"):
         if line.startswith("## "):
@@ -198,137 +199,129 @@ def tables(text):
         before = line
 
 
+def head_of(text):
+    return text[: text.index(LISTS)] if LISTS in text else text
+
+
+def rows(text):
+    """the rows of sentences: five cells, or two where the form of the code is told"""
+    return [(h, c) for h, c in tables(head_of(text)) if h not in (FREE, FILES)]
+
+
+def told_in(text):
+    """theorems and edits that rows of sentences name"""
+    cells = [c for _, c in rows(text) if len(c) == 5]
+    return {n for c in cells if not c[2].startswith(NONE) for n in named_theorems(c[2])}, {e for c in cells if not c[3].startswith(NONE) for e in named_edits(c[3])}
+
+
 def faults_of_row(cells, defined, names, have, noted):
     """of a row of a sentence: 01, definition, theorem, edit, test"""
     first, definition, theorem, edit, test = cells
-    for what, text in (("definition", definition), ("theorem", theorem), ("edit", edit), ("test", test)):
-        if not text:
-            yield f"no {what}"
-    for name in re.findall(r"`([^`]+)`", definition) if not definition.startswith(NONE) else []:
+    yield from (f"no {what}" for what, text in zip(("definition", "theorem", "edit", "test"), cells[1:]) if not text)
+    for name in [] if definition.startswith(NONE) else re.findall(r"`([^`]+)`", definition):
         yield from (f"no definition {n} in the paper crates" for n in name.split() if not is_defined(n, defined))
-    told = [] if theorem.startswith(NONE) else named_theorems(theorem)
-    yield from (f"no theorem {n} in claims" for n in told if n not in names)
-    if not told and not theorem.startswith(NONE):
-        yield "names no theorem"
+    if theorem and not theorem.startswith(NONE):
+        yield from (f"no theorem {n} in claims" for n in named_theorems(theorem) if n not in names)
+        yield from [] if named_theorems(theorem) else [f"names no theorem, and does not say \"{NONE}..\""]
     wrong = [(c, e) for c, e in named_edits(edit) if c]
     yield from (f"no edit {c}/{e}" for c, e in wrong if (c, e) not in have)
-    if not wrong and not edit.startswith(NONE):
-        yield f"names no edit, and does not say \"{NONE}..\""
     yield from (f"no crate {c}" for c in re.findall(r"(\w+)/", edit) if c not in crates())
+    if edit and not wrong and not edit.startswith(NONE):
+        yield f"names no edit, and does not say \"{NONE}..\""
     yield from (f"no vector has the note {l} \"{q}\"" for l, q in named_notes(test) if not is_note(q, noted.get(l, ())))
     if len(list(named_notes(test))) != test.count("\"") / 2:
         yield "a quote among the tests is not behind V, T, Q, K or P"
 
 
+def stands_in(name, path):
+    """a function, type or parameter of the code, a definition of a paper crate, a decision; of a directory in one of its files"""
+    last = re.escape(name.split("::")[-1])
+    looks = rf"(?m)\b(?:fn|struct|enum) {last}\b|\b{last}: |^## {last} "
+    texts = [(p.suffix, p.read_text()) for p in (sorted(path.rglob("*.*")) if path.is_dir() else [path])]
+    return any(re.search(looks, text) or (suffix == ".antt" and name in names_of(text)) for suffix, text in texts)
+
+
 def faults_of_form(where):
-    """of a row of "What to write where": paths, and behind each what stands in it; or the request with which it is due"""
-    due = re.search(r"due with (W-\d+)", where)
-    if due:
-        if (ROOT / f"docs/changes/{due.group(1)}.md").exists():
-            yield f"{due.group(1)} has landed"
+    """of a row of "What to write where": paths, and behind each what stands in it; or the requests with which it is due"""
+    if "due with W-" in where:
+        yield from (f"{request} has landed" for request in re.findall(r"W-\d+", where) if (ROOT / f"docs/changes/{request}.md").exists())
         return
     path = None
     for name in re.findall(r"`([^`]+)`", where):
         if "/" in name:
             path = ROOT / name
-            if not path.exists():
-                yield f"no file {name}"
-                path = None
-        elif path:
-            files = sorted(p for p in path.rglob("*") if p.is_file()) if path.is_dir() else [path]
-            last = name.split("::")[-1]
-            if not any(re.search(rf"(?m)\b(?:fn|struct|enum) {re.escape(last)}\b|\b{re.escape(last)}: |^## {re.escape(last)} |\b{re.escape(last)}\(", p.read_text()) or
-                       (p.suffix == ".antt" and last in names_of(p.read_text())) for p in files):
-                yield f"no {name} in {path.relative_to(ROOT)}"
-    if not re.search(r"`[^`]+/", where):
+            yield from [] if path.exists() else [f"no file {name}"]
+        elif path and path.exists() and not stands_in(name, path):
+            yield f"no {name} in {path.relative_to(ROOT)}"
+    if not path:
         yield "names no file"
 
 
-def faults(text):
-    head = text[: text.index(LISTS)] if LISTS in text else text
-    names, have, defined, noted = {n for _, n, _ in theorems()}, {(c, e) for c, e, _ in edits()}, definitions(), notes()
-    quotes, told, wrong, kept, files = [], set(), set(), [], set()
-    for heading, cells in tables(head):
-        if heading == "Of no sentence of 01":
-            kept += [cells]
-            continue
-        if heading == "Files of claims that state no promise":
-            files |= set(re.findall(r"`(\w+)`", cells[0]))
-            continue
-        if cells[0] == "01":
-            continue
-        quotes.append(quoted(cells[0]))
-        if heading == "What to write where" and len(cells) == 2:
-            yield from (f"{cells[0][:60]}: {f}" for f in faults_of_form(cells[1]))
-        elif len(cells) != 5:
-            yield f"{cells[0][:60]}: {len(cells)} cells"
-        else:
-            yield from (f"{cells[0][:60]}: {f}" for f in faults_of_row(cells, defined, names, have, noted))
-            told |= set(named_theorems(cells[2]))
-            wrong |= set() if cells[3].startswith(NONE) else set(named_edits(cells[3]))
-    yield from unquoted(quotes)
-    yield from faults_of_kept(kept, told, wrong, names, have)
-    yield from faults_of_files(files)
-    yield from faults_of_paths(head)
-    if LISTS not in text or text[text.index(LISTS) + 1 :] != lists():
-        yield "the lists at the end are stale: python3 tests/trace.py write"
-    at_hand = paper_01()
-    if at_hand and [s for s in cut(at_hand.read_text())] != [s for s in SENTENCES.read_text().split("\n") if s]:
-        yield f"tests/trace_sentences.txt is not {at_hand} as it is cut: python3 tests/trace.py sentences"
-    yield from faults_of_readme()
-
-
-def faults_of_kept(kept, told, wrong, names, have):
+def faults_of_kept(text, names, have):
     """what is in no row stands in the list of those of no sentence, with a reason; and nothing else stands there"""
-    for cells in kept:
-        if len(cells) != 2 or not cells[1]:
-            yield f"Of no sentence of 01: {cells[0][:60]}: no reason"
+    kept = [c for h, c in tables(head_of(text)) if h == FREE]
+    told, wrong = told_in(text)
     free, wild = {n for c in kept for n in named_theorems(c[0])}, {e for c in kept for e in named_edits(c[0])}
-    yield from (f"Of no sentence of 01: no theorem {n} in claims" for n in sorted(free - names))
-    yield from (f"Of no sentence of 01: no edit {c}/{e}" for c, e in sorted(wild - have))
-    yield from (f"Of no sentence of 01: {n} is in a row" for n in sorted(free & told))
-    yield from (f"Of no sentence of 01: {c}/{e} is in a row" for c, e in sorted(wild & wrong))
+    yield from (f"{FREE}: {c[0][:60]}: no reason" for c in kept if len(c) != 2 or not c[1])
+    yield from (f"{FREE}: no theorem {n} in claims" for n in sorted(free - names))
+    yield from (f"{FREE}: no edit {c}/{e}" for c, e in sorted(wild - have))
+    yield from (f"{FREE}: {n} is in a row" for n in sorted(free & told))
+    yield from (f"{FREE}: {c}/{e} is in a row" for c, e in sorted(wild & wrong))
     yield from (f"no row names the theorem {n}" for n in sorted(names - told - free))
     yield from (f"no row names the edit {c}/{e}" for c, e in sorted(have - wrong - wild))
 
 
-def faults_of_files(files):
+def faults_of_files(text):
+    """each file of claims with `pub` is read for promises, all of it, or is in the list of those without"""
     for path in promising():
         for line in path.read_text().split("\n"):
             if re.match(r"pub (?!use )", line) and not re.match(r"pub \S+ :", line):
                 yield f"{path.name}: a promise in no form that is read: {line[:60]}"
-    others = {p.stem for p in (ROOT / "crates/claims/proofs").glob("*.antt") if p not in promising() and re.search(r"(?m)^pub ", p.read_text())}
-    yield from (f"crates/claims/proofs/{f}.antt has `pub` and is in no list" for f in sorted(others - files))
-    yield from (f"Files of claims that state no promise: no {f}" for f in sorted(files) if not (ROOT / f"crates/claims/proofs/{f}.antt").exists())
-
-
-def faults_of_paths(head):
-    for name in sorted(set(re.findall(r"`((?:crates|tests|host|bench|docs|include)/[\w./*-]+)`", head))):
-        if not list(ROOT.glob(name)):
-            yield f"no path {name}"
+    listed = {f for h, c in tables(head_of(text)) if h == FILES for f in re.findall(r"`(\w+)`", c[0])}
+    others = {p.stem for p in (ROOT / "crates/claims/proofs").rglob("*.antt") if p not in promising() and re.search(r"(?m)^pub ", p.read_text())}
+    yield from (f"crates/claims/proofs/{f}.antt has `pub` and is in no list" for f in sorted(others - listed))
+    yield from (f"{FILES}: no {f}" for f in sorted(listed) if not (ROOT / f"crates/claims/proofs/{f}.antt").exists())
 
 
 def faults_of_readme():
+    """each crate has its line in "What is where", each refusal of gateway.h its row in "What is refused\""""
     text = README.read_text()
-    part = lambda heading: [line for line in text[text.index(heading) :].split("\n## ")[0].split("\n") if line.startswith("|")]
-    patterns = []
-    for line in part("## What is where"):
-        first = line.strip("|").split("|")[0]
-        if "`crates/" in first:
-            patterns += [p for p in (n.removeprefix("crates/") for n in re.findall(r"`([^`]+)`", first)) if "/" not in p]
+    part = lambda heading: [line for line in text.partition(f"\n## {heading}\n")[2].split("\n## ")[0].split("\n") if line.startswith("|")]
+    firsts = [line.strip("|").split("|")[0] for line in part("What is where")]
+    patterns = [p.removeprefix("crates/") for first in firsts if "`crates/" in first for p in re.findall(r"`([^`]+)`", first) if p.count("/") < 2]
     yield from (f"README, \"What is where\": no line for the crate {c}" for c in crates() if not any(fnmatch.fnmatch(c, p) for p in patterns))
     yield from (f"README, \"What is where\": no crate is {p}" for p in patterns if not fnmatch.filter(crates(), p))
-    refused = part("## What is refused")
     for name, number in re.findall(r"(?m)^#define (GW_REFUSE_\w+) (\d+)\b", (ROOT / "include/gateway.h").read_text()):
-        if not any(re.match(rf"\| {number} \| `{name}` \| [^|]+ \|", line) for line in refused):
+        if not any(re.match(rf"\| {number} \| `{name}` \| [^|]+ \|", line) for line in part("What is refused")):
             yield f"README, \"What is refused\": no refusal {number}, {name}"
+
+
+def faults(text):
+    names, have, defined, noted = {n for _, n, _ in theorems()}, {(c, e) for c, e, _ in edits()}, definitions(), notes()
+    for heading, cells in rows(text):
+        if len(cells) == 5:
+            found = faults_of_row(cells, defined, names, have, noted)
+        else:
+            found = faults_of_form(cells[1]) if len(cells) == 2 and heading == FORMS else [f"{len(cells)} cells"]
+        yield from (f"{cells[0][:60]}: {f}" for f in found)
+    yield from unquoted([quoted(c[0]) for _, c in rows(text)])
+    yield from faults_of_kept(text, names, have)
+    yield from faults_of_files(text)
+    for name in sorted(set(re.findall(r"`((?:crates|tests|host|bench|docs|include)/[\w./*-]+)`", head_of(text)))):
+        yield from [] if list(ROOT.glob(name)) else [f"no path {name}"]
+    if text[len(head_of(text)) + 1 :] != lists():
+        yield "the lists at the end are stale: python3 tests/trace.py write"
+    at_hand = paper_01()
+    if at_hand and list(cut(at_hand.read_text())) != SENTENCES.read_text().split("\n")[:-1]:
+        yield f"tests/trace_sentences.txt is not {at_hand} as it is cut: python3 tests/trace.py sentences"
+    yield from faults_of_readme()
 
 
 def main():
     what = sys.argv[1] if len(sys.argv) == 2 else ""
     text = TRACE.read_text()
     if what == "write":
-        TRACE.write_text((text[: text.index(LISTS)] if LISTS in text else text.rstrip("\n") + "\n") + "\n" + lists().rstrip("\n") + "\n")
+        TRACE.write_text(head_of(text).rstrip("\n") + "\n\n" + lists())
         return 0
     if what == "sentences":
         SENTENCES.write_text("\n".join(cut(paper_01().read_text())) + "\n")
@@ -339,11 +332,10 @@ def main():
     found = list(faults(text))
     for fault in found:
         print(fault)
-    head = text[: text.index(LISTS)] if LISTS in text else text
-    rows = [c for h, c in tables(head) if c[0] != "01" and h not in ("Of no sentence of 01", "Files of claims that state no promise")]
-    told, wrong = {n for c in rows if len(c) == 5 for n in named_theorems(c[2])}, {e for c in rows if len(c) == 5 and not c[3].startswith(NONE) for e in named_edits(c[3])}
-    print(f"trace: {len(sentences())} sentences of 01, {len(rows)} rows; in them {len(told & {n for _, n, _ in theorems()})} of {len({n for _, n, _ in theorems()})} theorems, "
-          f"{len(wrong & {(c, e) for c, e, _ in edits()})} of {sum(1 for _ in edits())} edits; {len(found)} faults")
+    told, wrong = told_in(text)
+    names, have = {n for _, n, _ in theorems()}, {(c, e) for c, e, _ in edits()}
+    print(f"trace: {len(sentences())} sentences of 01, {len(rows(text))} rows; in them {len(told & names)} of {len(names)} theorems, {len(wrong & have)} of {len(have)} edits; "
+          f"{len(found)} faults")
     return 1 if found else 0
 
 
