@@ -6,6 +6,7 @@
      a word of 01 is in no row's quote, or a quote is not 01's; where 01 is at hand, also where the list of its sentences is not as it is cut;
      a row has an empty cell, or names a definition, theorem, edit, crate, vector's note, path or function that is not there;
      a theorem of claims or an edit is in no row and not in the list of those of no sentence, or a file of claims with `pub` is in no list;
+     an edit quotes words of 01 in its first line, and no row with any of these words names it;
      a list at the end is stale; a crate or a refusal is in no line of the README's tables."""
 import fnmatch
 import json
@@ -46,16 +47,21 @@ def sentences():
     return [s for s in SENTENCES.read_text().split("\n") if s and not s.startswith("## ")]
 
 
+def laid_out():
+    """01 as one text, and where each sentence begins in it"""
+    starts = [0]
+    for sentence in sentences()[:-1]:
+        starts.append(starts[-1] + len(sentence) + 1)
+    return " ".join(sentences()), starts
+
+
 def spans(quote, text, starts):
     """where a quote's words stand in the text, all places; `..` in it passes over words of one sentence, which it does not quote"""
     parts = [(r"(?<!\w)" if p[0].isalnum() else "") + re.escape(p) + (r"(?!\w)" if p[-1].isalnum() else "") for p in quote.split(" .. ") if p]
     if len(parts) == 1:
-        yield from (m.span() for m in re.finditer(parts[0], text))
-        return
-    for start, end in zip(starts, starts[1:] + [len(text)]):
-        found = re.search(r".*?".join(f"({p})" for p in parts), text[start:end])
-        if found:
-            yield from ((start + found.start(i), start + found.end(i)) for i in range(1, len(parts) + 1))
+        return [m.span() for m in re.finditer(parts[0], text)]
+    found = [(start, re.search(r".*?".join(f"({p})" for p in parts), text[start:end])) for start, end in zip(starts, starts[1:] + [len(text)])]
+    return [(start + f.start(i), start + f.end(i)) for start, f in found if f for i in range(1, len(parts) + 1)]
 
 
 def quoted(first):
@@ -65,21 +71,32 @@ def quoted(first):
 
 def unquoted(quotes):
     """faults: quotes that are not in 01, and words of 01 that no quote has"""
-    all_of = sentences()
-    text, starts = " ".join(all_of), [0]
-    for sentence in all_of[:-1]:
-        starts.append(starts[-1] + len(sentence) + 1)
+    text, starts = laid_out()
     covered = bytearray(len(text))
     for quote in quotes:
-        where = list(spans(quote, text, starts))
+        where = spans(quote, text, starts)
         if not where:
             yield f"{quote[:60]}: these words are not in 01"
         for start, end in where:
             covered[start:end] = b"\1" * (end - start)
-    for start, sentence in zip(starts, all_of):
+    for start, sentence in zip(starts, sentences()):
         left = [m.group() for m in re.finditer(r"\w+", sentence) if not all(covered[start + m.start() : start + m.end()])]
         if left:
             yield f"01, \"{sentence[:90]}\": no row quotes \"{' '.join(left)[:90]}\""
+
+
+def misplaced(text_of_trace):
+    """faults: edits that quote 01 in their first line, where no row that names them has any of these words"""
+    text, starts = laid_out()
+    at = {}
+    for _, cells in rows(text_of_trace):
+        for edit in named_edits(cells[3]) if len(cells) == 5 else ():
+            at.setdefault(edit, []).extend(spans(quoted(cells[0]), text, starts))
+    for crate, edit, words in edits():
+        quotes = [re.sub(r"\s*\.\.,?\s*", " .. ", q).strip(" .") for q in re.findall(r"\"([^\"]{6,})\"", words)]
+        where = [s for q in quotes for s in spans(q, text, starts)]
+        if where and (crate, edit) in at and not any(a < d and c < b for a, b in where for c, d in at[crate, edit]):
+            yield f"{crate}/{edit} quotes 01, \"{quotes[0][:60]}\", and no row with these words names it"
 
 
 # ---- what rows may name
@@ -305,6 +322,7 @@ def faults(text):
             found = faults_of_form(cells[1]) if len(cells) == 2 and heading == FORMS else [f"{len(cells)} cells"]
         yield from (f"{cells[0][:60]}: {f}" for f in found)
     yield from unquoted([quoted(c[0]) for _, c in rows(text)])
+    yield from misplaced(text)
     yield from faults_of_kept(text, names, have)
     yield from faults_of_files(text)
     for name in sorted(set(re.findall(r"`((?:crates|tests|host|bench|docs|include)/[\w./*-]+)`", head_of(text)))):
