@@ -175,13 +175,19 @@ def usage_told(folder, room):
     (room / 'document').write_text('{ tower { name machines { id } } }')
     (room / 'two').write_text('1 127.0.0.1:1502/1\n1 127.0.0.1:1502/2\n')
     (room / 'bad').write_text('# none\n\n1 127.0.0.1:1502/1 # the first\n2\n')
+    (room / 'json').write_text('{"no": 1}')
+    (room / 'long').write_text('type Query { tower: Int }' + ' ' * 32768)
+    types = os.path.relpath(TABLE.with_suffix('.types'), ROOT)
     table, document = os.path.relpath(TABLE, ROOT), str(room / 'document')
     for words in ([], [table], [table, document, document], [table, document, '--speed', '3'], [table, document, '--timeout'],
                   [table, document, '--timeout', '0'], [table, 'tests/plant/none.graphql'], [table, document, '--drives', 'tests/plant/none'],
                   [table, document, '--drives', str(room / 'two')], [table, document, '--drives', str(room / 'bad')],
                   [table, document, '--drive', '127.0.0.1:1502/0'], [table, document, '--drive', '127.0.0.1:70000/1'],
                   [table, document, '--drive', '[::1:1502'], [table, document, '--drive', '127.0.0.1:1502/1,:1502/1'], ['-', '-'], [document, table],
-                  [document, document], [table, document]):
+                  [document, document], [types, document], [str(room / 'long'), document], [table, document, '--variables', str(room / 'json')],
+                  [table, types], [table, 'tests/plant/none.graphql', '--json'], [table, document, '--json', '--drives', 'tests/plant/none'],
+                  [table, document, '--json', '--drives', str(room / 'bad')], [table, document, '--variables', 'tests/plant/none', '--json'],
+                  [table, document, '--help'], [table, '--version'], [table, document]):
         done = subprocess.run([f'{folder}/gateway', 'run', *words], capture_output=True, timeout=SECONDS, cwd=ROOT, stdin=subprocess.DEVNULL)
         said = f'## run {" ".join(words)}\nstatus {done.returncode}\n{done.stdout.decode()}{done.stderr.decode()}'
         yield said.replace(str(room), 'ROOM')
