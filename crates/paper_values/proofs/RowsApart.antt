@@ -116,15 +116,15 @@ module _ (kinds : Name → Kind) (vars : Name → Option Tree) (text : ℕ) (d :
   pub arguments-apart : (i : ℕ) → Apart kinds vars (placed text d i) (argumentsAt text d i)
   arguments-apart i = entries-apart kindArgument (suc mostLevels) i (i + 1) (count d - (i + 1)) (omega arith)
 
-  -- what the variables text gives stands in another text than the document's rows
-  other-text : (i c : ℕ) → placed inputVariables d c ≡ placed inputDocument d i → ⊥
-  other-text i c q = let e = ap (λ (j : At). j .text) q in omega (arith, e)
+-- what the variables text gives stands in another text than the document's rows
+other-text : (d : Doc) (e : At) → e .text ≡ inputDocument → (c : ℕ) → placed inputVariables d c ≡ e → ⊥
+other-text d e t c q = let z = ap (λ (j : At). j .text) q in omega (arith, z, t)
 
-  pub given-apart : (i : ℕ) → Apart kinds vars (placed inputDocument d i) (givenIn d)
-  given-apart i =
-      entry-placed (λ j. j ≡ placed inputDocument d i → ⊥) kinds vars _
-      (entries-later (λ j. j ≡ placed inputDocument d i → ⊥) inputVariables d 0 (λ c l. other-text i c) (valueAt inputVariables d (suc mostLevels))
-      (value-later (λ j. j ≡ placed inputDocument d i → ⊥) inputVariables d 0 (λ c l. other-text i c) (suc mostLevels)) kindObjectField 0 (count d - 1) 1 (omega arith))
+pub given-apart : (kinds : Name → Kind) (vars : Name → Option Tree) (d : Doc) (e : At) → e .text ≡ inputDocument → Apart kinds vars e (givenIn d)
+given-apart kinds vars d e t =
+    entry-placed (λ j. j ≡ e → ⊥) kinds vars _
+    (entries-later (λ j. j ≡ e → ⊥) inputVariables d 0 (λ c l. other-text d e t c) (valueAt inputVariables d (suc mostLevels))
+    (value-later (λ j. j ≡ e → ⊥) inputVariables d 0 (λ c l. other-text d e t c) (suc mostLevels)) kindObjectField 0 (count d - 1) 1 (omega arith))
 
 -- an argument has no default so far
 no-defaults : (kinds : Name → Kind) (e i : At) (bs : List Argument) → ApartDefaults e (duly kinds (map dueArgument bs) i)
