@@ -56,9 +56,11 @@ use Rattle.paper_values.proofs.DuesExact as dues
 use Rattle.paper_values.proofs.RowsApart as rows-apart
 use Rattle.paper_values.proofs.ExamplesCoercion as examples
 use Rattle.claims.proofs.CoercionsWords.{VariablesRead, VariablesUnread, VariablesGive, ArgumentsGive, answerOf, valueLeft, reportLeft}
+use Rattle.claims.proofs.TagLaws.{FieldIn, TokenGiven, TokenOfField}
 use Rattle.claims.proofs.CoercionsSome as some-results
 use Rattle.claims.proofs.CoercedVariables as variables-call
 use Rattle.claims.proofs.CoercedArguments as arguments-call
+use Rattle.claims.proofs.TagLaws as tags
 use Rattle.gateway.proofs.coerce_variables.gw_coerce_variables.Statement as gw-coerce-variables
 use Rattle.gateway.proofs.coerce_variables.gw_coerce_variables.Met as gw-coerce-variables-met
 use Rattle.gateway.proofs.coerce_arguments.gw_coerce_arguments.Statement as gw-coerce-arguments
@@ -354,6 +356,13 @@ pub coerced-variables-success : (table document name variables : List ℕ) {valu
     × (take mostCoerced value′ ≡ encode (Fields ps) ++ replicate (mostCoerced - length (encode (Fields ps))) 0) × (take 2 report′ ≡ 0 ∷ length (encode (Fields ps)) ∷ [])
 coerced-variables-success = variables-call.variables-success
 
+-- Each tag 33 among these bytes, read as House fields however deep (`FieldIn`), holds, as a signed number, exactly the number that its token writes.
+pub coerced-variables-tag-33 : (table document name variables : List ℕ) {value report value′ report′ : List ℕ} {a : ℕ} → CoercedVariables table document name variables value report value′ report′ a → a ≡ 0 →
+    (rs : List Row) × (op : ℕ) × (vs : List Row) × (bs : List ℕ) × VariablesRead table document name variables rs op vs
+    × (take mostCoerced value′ ≡ bs ++ replicate (mostCoerced - length bs) 0) × (take 2 report′ ≡ 0 ∷ length bs ∷ [])
+    × ((c : List ℕ) → FieldIn 33 c bs → (s : List ℕ) × TokenGiven document variables rs op vs s × (numberRead c ≡ numberWritten s))
+coerced-variables-tag-33 = tags.variables-tag-33
+
 -- 11 with a text, row and reason exactly when the rules refuse so; and 11 always shows them.
 pub coerced-variables-refused-exactly : (table document name variables : List ℕ) {value report value′ report′ : List ℕ} {a : ℕ} → CoercedVariables table document name variables value report value′ report′ a → (i : At) (w : ℕ) →
     ((a ≡ 11) × (take 4 report′ ≡ 11 ∷ i .text ∷ i .row ∷ w ∷ []))
@@ -473,6 +482,13 @@ pub coerced-arguments-success : (table document name variables : List ℕ) (row 
     × ArgumentsGive table document variables row rs op vs (Got t)
     × (take mostCoerced value′ ≡ encode t ++ replicate (mostCoerced - length (encode t)) 0) × (take 2 report′ ≡ 0 ∷ length (encode t) ∷ [])
 coerced-arguments-success = arguments-call.arguments-success
+
+-- Each tag 33 among these bytes holds the number that its token writes: an argument's, or one of the variables'.
+pub coerced-arguments-tag-33 : (table document name variables : List ℕ) (row : ℕ) {value report value′ report′ : List ℕ} {a : ℕ} → CoercedArguments table document name variables row value report value′ report′ a → a ≡ 0 →
+    (rs : List Row) × (op : ℕ) × (vs : List Row) × (bs : List ℕ) × ReachedField (read document rs) op row × VariablesRead table document name variables rs op vs
+    × (take mostCoerced value′ ≡ bs ++ replicate (mostCoerced - length bs) 0) × (take 2 report′ ≡ 0 ∷ length bs ∷ [])
+    × ((c : List ℕ) → FieldIn 33 c bs → (s : List ℕ) × (TokenOfField table document row rs s ⊎ TokenGiven document variables rs op vs s) × (numberRead c ≡ numberWritten s))
+coerced-arguments-tag-33 = tags.arguments-tag-33
 
 -- 11 with a text, row and reason exactly when the rules refuse so; and 11 always shows them.
 pub coerced-arguments-refused-exactly : (table document name variables : List ℕ) (row : ℕ) {value report value′ report′ : List ℕ} {a : ℕ} → CoercedArguments table document name variables row value report value′ report′ a → (i : At) (w : ℕ) →
