@@ -40,7 +40,7 @@ use Rattle.paper_values.specs.DocumentDues.{givenIn, argumentDues, ReachedField
 use Rattle.paper_values.specs.ValueCalls.{Ending, VariablesEnd, ArgumentsEnd, ValueLent, ValueShort, CoercedVariables, CoercedArguments}
 use Rattle.paper_values.proofs.ReasonTables.{takes, outside, noMember, noText, placeOf}
 use Rattle.paper_values.proofs.ReasonsExact.{asNull, Apart, ApartInside, Lacks, Refused, RefusedItem}
-use Rattle.paper_values.proofs.DuesExact.{ApartDefaults, LacksDue}
+use Rattle.paper_values.proofs.ReasonsOfDues.{ApartDefaults, LacksDue}
 use Rattle.paper_values.proofs.TagInts.{HasInt, HasToken, HasTokenEntry, DefaultToken, HeldInt, numberRead}
 use Rattle.paper_values.proofs.TrapInt.{narrowedIntOf}
 use Rattle.paper_values.proofs.CoercionExact as exact
@@ -52,7 +52,7 @@ use Rattle.paper_values.proofs.TagInts as tag-ints
 use Rattle.paper_values.proofs.TrapInt as trap
 use Rattle.paper_values.proofs.TrapOrder as order
 use Rattle.paper_values.proofs.ReasonsExact as reasons
-use Rattle.paper_values.proofs.DuesExact as dues
+use Rattle.paper_values.proofs.ReasonsOfDues as dues
 use Rattle.paper_values.proofs.RowsApart as rows-apart
 use Rattle.paper_values.proofs.ExamplesCoercion as examples
 use Rattle.claims.proofs.CoercionsWords.{VariablesRead, VariablesUnread, VariablesGive, ArgumentsGive, answerOf, valueLeft, reportLeft}

@@ -11,7 +11,7 @@ pub mod PlacesLaws
 pub mod IntExact
 pub mod ReasonTables
 pub mod ReasonsExact
-pub mod DuesExact
+pub mod ReasonsOfDues
 pub mod RowsApart
 pub mod TagInt
 pub mod TagInts

@@ -1,4 +1,4 @@
--- The eight reasons, each exactly when: a value at a named type, null at any type; and what the wrappers of a type add. `DuesExact` has what is due in a call.
+-- The eight reasons, each exactly when: a value at a named type, null at any type; and what the wrappers of a type add. `ReasonsOfDues` has what is due in a call.
 -- Assumes nothing. Only in an object can a refusal be another value's; `Apart` says that a place is none inside its entries' values, and the values of rows keep it.
 use mathlib.Core.Path.{_≡_, refl, sym, ap, _∙_, subst}
 use mathlib.Core.Bool.{Bool, true, false}

@@ -21,7 +21,7 @@ use Rattle.paper_values.specs.DocumentDues.{givenIn, argumentDues}
 use Rattle.paper_values.proofs.PlacesLaws.{Placed, PlacedAll, PlacedEntries}
 use Rattle.paper_values.proofs.CallsExact.{duly}
 use Rattle.paper_values.proofs.ReasonsExact.{Apart, ApartInside}
-use Rattle.paper_values.proofs.DuesExact.{ApartDefaults}
+use Rattle.paper_values.proofs.ReasonsOfDues.{ApartDefaults}
 
 none≢some : {v : Value} → none ≡ some v → ⊥
 none≢some q = let z : _≡_ {A = ℕ} 0 1 = cc in omega arith
