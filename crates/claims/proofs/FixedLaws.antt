@@ -24,7 +24,7 @@ use Rattle.claims.proofs.PlansSomeLaws.{planned-some}
 use Rattle.claims.proofs.NumbersLaws.{parse-number, table-number-of, check-number, variables-answer, arguments-answer, plan-number, walk-number}
 
 -- two results are one where answer, output and report are
-same-result : (r s : Result) → (r .0 ≡ s .0) × (r .1 ≡ s .1) × (r .2 ≡ s .2) → r ≡ s
+pub same-result : (r s : Result) → (r .0 ≡ s .0) × (r .1 ≡ s .1) × (r .2 ≡ s .2) → r ≡ s
 same-result r s e =
     ap {B = Result} (λ (x : ℕ). (x, r .1, r .2)) (e .0) ∙ (ap {B = Result} (λ (x : List ℕ). (s .0, x, r .2)) (e .1) ∙ ap {B = Result} (λ (x : List ℕ). (s .0, s .1, x)) (e .2))
 

@@ -21,6 +21,7 @@ pub mod DocumentsLaws
 pub mod WalksLaws
 pub mod MainWalks
 pub mod Demand3Laws
+pub mod DepthLaws
 pub mod MainDemand3
 pub mod CoercionsWords
 pub mod CoercionsSome
@@ -34,7 +35,12 @@ pub mod TagLaws
 pub mod MainCoercions
 pub mod PlansSomeLaws
 pub mod PlansLaws
+pub mod WorkedLaws
 pub mod PlansExampleLaws
 pub mod MainPlans
+pub mod ExamplesWords
+pub mod RowEntriesLaws
+pub mod ExamplesReadLaws
+pub mod ExamplesValuesLaws
 pub mod ExamplesLaws
 pub mod MainExamples

@@ -8,27 +8,21 @@ use mathlib.Core.List.{List, [], _∷_, map}
 use Prim.Native.Nat.{ℕ, _≤_, _<_}
 use native.Mathlib.Decide.{decLt}
 use native.Mathlib.Omega.{arith}
-use lib.ListN.{length, take, replicate, length-replicate}
-use lib.Dec.{T, eqb, lit<, lit≤}
+use lib.ListN.{length, take}
+use lib.Dec.{T, eqb, lit≤}
 use borrow.Author.Tests.{eqb-true}
 use Rattle.paper.proofs.Bools.{T→eq as so}
-use Rattle.paper.specs.Grammar.{nt}
-use Rattle.paper.specs.Numbers.{rowsSize, kindFragment, kindSpread, kindVariable}
-use Rattle.paper.specs.Language.{Class, Mark, Document, language}
+use Rattle.paper.specs.Numbers.{kindFragment, kindSpread, kindVariable}
+use Rattle.paper.specs.Language.{Document, language}
 use Rattle.paper.specs.Lexical.{lexical}
-use Rattle.paper.specs.Rows.{Row, book, rowsOf}
-use Rattle.paper.specs.Reading.{tokensOf, classesOf, rows-are, TextAnswer, accepts}
-use Rattle.paper.proofs.Machine.{enter, choose, step, run, Answer, stopped}
-use Rattle.paper.proofs.Machine.{accepted as derived}
+use Rattle.paper.specs.Reading.{rows-are, TextAnswer}
+use Rattle.paper.proofs.Machine.{enter, choose, step}
 use Rattle.paper.proofs.Longest.{scan}
-use Rattle.paper.proofs.Tables.{graphql, factored}
+use Rattle.paper.proofs.Tables.{factored}
 use Rattle.paper.proofs.LexTables.{lexFactored}
 use Rattle.paper.proofs.Lexing.{text, from}
-use Rattle.paper.proofs.Going.{Out, start, whole, halt, go}
-use Rattle.paper.proofs.Worked.{rowsBy}
+use Rattle.paper.proofs.Going.{go}
 use Rattle.paper_theory.proofs.TokensLaws.{tokens-are}
-use Rattle.paper_theory.proofs.ReadingLaws as reading
-use Rattle.paper_theory.proofs.GoingSaid.{going-whole}
 use Rattle.paper_table.specs.Lists.{bytes, anyOf, allOf, firstAt, find, gather, eachFrom}
 use Rattle.paper_table.specs.References.{isName, sameRef, marked, closed, readName, refFrom, wholeRef, refOf}
 use Rattle.paper_table.specs.House.{houseFieldsFrom, contents, lookUp, openAfter, inOrder, byContent, wrongs, tableWrongs, smallest, framingOffset}
@@ -54,9 +48,9 @@ use Rattle.paper_table.specs.Rule15ArgumentExtra.{argumentExtra}
 use Rattle.paper_table.specs.Rule16Root.{rootNotObject, queryNotObject}
 use Rattle.paper_table.specs.Judging.{rules, breaksOf, breaks, notAfter, leastBreak, tableAnswer, judge}
 use Rattle.paper_table.specs.declared.TableAnswer.the-variants.{Accepted}
-use Rattle.paper_query.specs.Constructs.{Doc, count, rowOf, is, nameOf, fragmentNamed, hasFragment, numbersWhere}
+use Rattle.paper_query.specs.Constructs.{count, rowOf, is, nameOf, fragmentNamed, hasFragment, numbersWhere}
 use Rattle.paper_query.specs.Enclosing.{compositeOf, rootOf, fieldOf, isTypename, conditionOf, typeInsideFrom, typeInsideBy, typeInside}
-use Rattle.paper_query.specs.Reaching.{Within, itself, deeper, Spreads, Reaches, here, through}
+use Rattle.paper_query.specs.Reaching.{Within, itself, deeper, Reaches, here, through}
 use Rattle.paper_query.specs.Rule1OperationRepeated.{operationRepeated}
 use Rattle.paper_query.specs.Rule2OperationUnnamed.{operationUnnamed}
 use Rattle.paper_query.specs.Rule3FragmentRepeated.{fragmentRepeated}
@@ -64,56 +58,36 @@ use Rattle.paper_query.specs.Rule4Condition.{conditionWrong}
 use Rattle.paper_query.specs.Rule5Field as rule-5
 use Rattle.paper_query.specs.Rule6Leaf.{hasSelections, leafWrong}
 use Rattle.paper_query.specs.Rule7Spread.{spreadOfNone}
-use Rattle.paper_query.specs.Rule8Circle.{ReachesItself}
 use Rattle.paper_query.specs.Rule9Directive.{rowsBelow, directiveWrong}
 use Rattle.paper_query.specs.Rule11VariableType.{declared, noInputType}
 use Rattle.paper_query.specs.Rule12NameTwice.{nameTwice}
 use Rattle.paper_query.specs.Rule13NoRoot.{noRoot}
 use Rattle.paper_query.specs.Rule14Argument.{argumentUnknown}
 use Rattle.paper_query.specs.QueryRules.{Broken, operation-repeated, operation-unnamed, fragment-repeated, condition, field-not-of-type, leaf, spread-of-none, circle, directive, undefined, no-input-type, other-type, name-twice, no-root, unknown-argument, no-break}
-use Rattle.paper_query.specs.DocumentCalls.{read}
 use Rattle.paper_query.specs.Opening.{AcceptedDocument, operationMeant, opened}
 use Rattle.paper_query.proofs.WorkedRules.{tableT}
 use Rattle.paper_query.proofs.BrokenAt.{past-broken}
-use Rattle.paper_plan.specs.Keys.{nameFront, keyAt, keyNumber}
+use Rattle.paper_plan.specs.Keys.{nameFront, keyAt}
 use Rattle.paper_plan.specs.Applies.{applies}
 use Rattle.paper_plan.specs.Collecting.{Grouped, Pair}
-use Rattle.paper_plan.specs.Planning.{Step}
 use Rattle.paper_plan.specs.Planning as planning
-use Rattle.paper_plan.specs.PlanNumbers.{planSize}
 use Rattle.paper_plan.specs.Selecting.{Name, Collects, pairsOf}
 use Rattle.paper_plan.specs.PlanCalls.{PlanLent, PlanIs, Planned, plans}
 use Rattle.paper_plan.proofs.ExamplesPlans.{D, blocksD, planD, unset, rows-of-D, first-steps, steps-of-D, for-fan, for-pump}
-use Rattle.paper_plan.proofs.ExamplesBlocks.{upTo, up-to, blocks-of-D}
+use Rattle.paper_plan.proofs.ExamplesBlocks.{up-to, blocks-of-D}
 use Rattle.plan_theory.proofs.Plannable.{in-range}
 use Rattle.plan_theory.proofs.PlanCallsOne.{planned-one}
 use Rattle.plan_theory.proofs.Demand3.{collection-some, walk-answers}
+use Rattle.claims.proofs.WorkedLaws.{goes, isWhole, said-by, silent}
 
 -- ---- D's bytes are read into its rows
 
-abbrev isWhole : Out → Bool
-isWhole (whole s) = true
-isWhole (halt r) = false
-
-D-whole : isWhole (go (start (replicate rowsSize 0)) (nt Document ∷ []) (from (D .bytes) 0)) ≡ true
+D-whole : isWhole (goes Document (D .bytes)) ≡ true
 unfolding from text scan step enter choose lexical lexFactored language factored go
 D-whole = refl
 
-D-said : TextAnswer Document (from (D .bytes) 0) (rows-are (D .rows))
-D-said = of-run (run graphql (nt Document ∷ []) (classesOf (from (D .bytes) 0))) refl
-  where
-    with-events : {rs : List Row} → TextAnswer Document (from (D .bytes) 0) (rows-are rs) → {es : List _} → run graphql (nt Document ∷ []) (classesOf (from (D .bytes) 0)) ≡ derived es →
-        rowsOf es (tokensOf (from (D .bytes) 0)) ≡ D .rows → TextAnswer Document (from (D .bytes) 0) (rows-are (D .rows))
-    with-events (accepts w r c) {es} e q = subst (λ (rs : List Row). TextAnswer Document (from (D .bytes) 0) (rows-are rs)) q (accepts {es = es} w (reading.accepts Document (classesOf (from (D .bytes) 0)) e) c)
-
-    of-out : {es : List _} → run graphql (nt Document ∷ []) (classesOf (from (D .bytes) 0)) ≡ derived es → rowsOf es (tokensOf (from (D .bytes) 0)) ≡ D .rows →
-        (o : Out) → go (start (replicate rowsSize 0)) (nt Document ∷ []) (from (D .bytes) 0) ≡ o → TextAnswer Document (from (D .bytes) 0) (rows-are (D .rows))
-    of-out e q (whole s) w = with-events (going-whole Document (from (D .bytes) 0) (replicate rowsSize 0) s (length-replicate {A = ℕ} rowsSize 0) w .1) e q
-    of-out e q (halt r) w = absurd (true≢false (sym D-whole ∙ ap isWhole w))
-
-    of-run : (a : Answer Class Mark) → run graphql (nt Document ∷ []) (classesOf (from (D .bytes) 0)) ≡ a → TextAnswer Document (from (D .bytes) 0) (rows-are (D .rows))
-    of-run (derived es) e = of-out e (rw e at rows-of-D) (go (start (replicate rowsSize 0)) (nt Document ∷ []) (from (D .bytes) 0)) refl
-    of-run (stopped k) e = let q : [] ≡ D .rows = rw e at rows-of-D in let z : _≡_ {A = ℕ} 0 1 = cc in absurd (omega arith)
+pub D-said : TextAnswer Document (from (D .bytes) 0) (rows-are (D .rows))
+D-said = said-by Document (D .bytes) (D .rows) D-whole _ _ refl rows-of-D
 
 -- ---- T is a right table
 
@@ -122,10 +96,6 @@ unfolding anyOf allOf firstAt find gather eachFrom isName sameRef marked closed 
 T-right = refl
 
 -- ---- no row of D breaks a rule
-
--- what no row passes
-silent : (p : ℕ → Bool) → upTo (λ i. not (p i)) (count D) ≡ true → (i : ℕ) → i < count D → T (p i) → ⊥
-silent p h i l t = true≢false (sym (up-to (λ j. not (p j)) (count D) h i l) ∙ ap not (so (p i) t))
 
 -- D's spreads are the rows 5 and 6, and no fragment has one of these in it
 spread-is : (s : ℕ) → T (is kindSpread (rowOf D s)) → (s ≡ 5) ⊎ (s ≡ 6)
@@ -171,23 +141,23 @@ not-reached i at h t (through {s} {f} r x w) = within-spread f at (spread-is at 
 
 not-broken : (i k : ℕ) → i < count D → Broken (tableOf tableT) D i k → ⊥
 unfolding anyOf allOf firstAt find gather eachFrom isName marked closed readName refFrom wholeRef refOf houseFieldsFrom textOf memberOf definitionOf tableOf builtIns builtInDirectives meaning rootsOf fragmentNamed hasFragment compositeOf rootOf fieldOf isTypename conditionOf typeInsideFrom typeInsideBy typeInside operationRepeated operationUnnamed fragmentRepeated conditionWrong rule-5.fieldNotOfType hasSelections leafWrong spreadOfNone rowsBelow directiveWrong declared noInputType nameTwice noRoot argumentUnknown
-not-broken i k l (operation-repeated h) = silent (operationRepeated D) refl i l h
-not-broken i k l (operation-unnamed h) = silent (operationUnnamed D) refl i l h
-not-broken i k l (fragment-repeated h) = silent (fragmentRepeated D) refl i l h
-not-broken i k l (condition h) = silent (conditionWrong (tableOf tableT) D) refl i l h
-not-broken i k l (field-not-of-type h) = silent (rule-5.fieldNotOfType (tableOf tableT) D) refl i l h
-not-broken i k l (leaf h) = silent (leafWrong (tableOf tableT) D) refl i l h
-not-broken i k l (spread-of-none h) = silent (spreadOfNone D) refl i l h
+not-broken i k l (operation-repeated h) = silent D (operationRepeated D) refl i l h
+not-broken i k l (operation-unnamed h) = silent D (operationUnnamed D) refl i l h
+not-broken i k l (fragment-repeated h) = silent D (fragmentRepeated D) refl i l h
+not-broken i k l (condition h) = silent D (conditionWrong (tableOf tableT) D) refl i l h
+not-broken i k l (field-not-of-type h) = silent D (rule-5.fieldNotOfType (tableOf tableT) D) refl i l h
+not-broken i k l (leaf h) = silent D (leafWrong (tableOf tableT) D) refl i l h
+not-broken i k l (spread-of-none h) = silent D (spreadOfNone D) refl i l h
 not-broken i k l (circle c) = not-reached i (c .circles .at) (c .fragment) (c .circles .spreads .spread) (c .circles .reaches)
-not-broken i k l (directive h) = silent (directiveWrong D) refl i l h
-not-broken i k l (undefined u) = silent (λ j. is kindVariable (rowOf D j)) refl i l (u .variable)
-not-broken i k l (no-input-type h) = silent (noInputType (tableOf tableT) D) refl i l h
-not-broken i k l (other-type u) = silent (λ j. is kindVariable (rowOf D j)) refl i l (u .variable)
-not-broken i k l (name-twice h) = silent (nameTwice D) refl i l h
-not-broken i k l (no-root h) = silent (noRoot (tableOf tableT) D) refl i l h
-not-broken i k l (unknown-argument h) = silent (argumentUnknown (tableOf tableT) D) refl i l h
+not-broken i k l (directive h) = silent D (directiveWrong D) refl i l h
+not-broken i k l (undefined u) = silent D (λ j. is kindVariable (rowOf D j)) refl i l (u .variable)
+not-broken i k l (no-input-type h) = silent D (noInputType (tableOf tableT) D) refl i l h
+not-broken i k l (other-type u) = silent D (λ j. is kindVariable (rowOf D j)) refl i l (u .variable)
+not-broken i k l (name-twice h) = silent D (nameTwice D) refl i l h
+not-broken i k l (no-root h) = silent D (noRoot (tableOf tableT) D) refl i l h
+not-broken i k l (unknown-argument h) = silent D (argumentUnknown (tableOf tableT) D) refl i l h
 
-D-accepted : AcceptedDocument tableT (D .bytes) (D .rows)
+pub D-accepted : AcceptedDocument tableT (D .bytes) (D .rows)
 D-accepted = record { table-right = T-right; text = from (D .bytes) 0; tokens = tokens-are (D .bytes); said = D-said; judged = no-break (λ i k b. go i k b (decLt i (count D))) }
   where
     go : (i k : ℕ) → Broken (tableOf tableT) D i k → Dec (i < count D) → ⊥
@@ -196,11 +166,11 @@ D-accepted = record { table-right = T-right; text = from (D .bytes) 0; tokens = 
 
 -- ---- (8)
 
-D-meant : operationMeant D [] ≡ some 0
+pub D-meant : operationMeant D [] ≡ some 0
 unfolding numbersWhere eachFrom
 D-meant = refl
 
-D-plan : PlanIs tableT (D .bytes) [] planD
+pub D-plan : PlanIs tableT (D .bytes) [] planD
 D-plan = record { rows = D .rows; operation = 0; blocks = blocksD; opened = opened D-accepted D-meant; their = blocks-of-D; is = refl }
 
 pub eight : AcceptedDocument tableT (D .bytes) (D .rows) × (length (D .rows) ≡ 20) × PlanIs tableT (D .bytes) [] planD × (length (planD .first) ≡ 4) × (length (planD .steps) ≡ 11)

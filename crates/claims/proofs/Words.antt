@@ -3,7 +3,7 @@
 use mathlib.Core.Path.{_≡_}
 use mathlib.Core.List.{List}
 use Prim.Native.Nat.{ℕ, _≤_}
-pub use Rattle.paper.specs.Numbers.{reportSize, mostText}
+pub use Rattle.paper.specs.Numbers.{reportSize, rowsSize, mostText}
 pub use Rattle.paper.specs.Language.{Document, VariablesText}
 pub use Rattle.paper.specs.Tokens.{Text, Tokens}
 pub use Rattle.paper.specs.Rows.{Row}
@@ -16,7 +16,6 @@ unfoldable pub use Rattle.paper_table.specs.Types.{tableOf}
 pub use Rattle.paper_table.specs.Types.{isObject}
 unfoldable pub use Rattle.paper_table.specs.Judging.{breaks, judge}
 pub use Rattle.paper_table.specs.TableCalls.{Checked}
-use Rattle.paper_table.specs.declared.TableAnswer.{TableAnswer}
 pub use Rattle.paper_table.specs.declared.TableAnswer.the-variants.{Accepted}
 pub use Rattle.paper_query.specs.QueryRules.{Broken}
 pub use Rattle.paper_query.specs.DocumentCalls.{read, Lent, Short, CheckedDocument}
@@ -24,12 +23,12 @@ pub use Rattle.paper_query.specs.Enclosing.{definitionAt}
 pub use Rattle.paper_query.specs.Opening.{opens, Opened}
 use Rattle.paper_values.specs.ValueNumbers.{refuseTooLong}
 pub use Rattle.paper_values.specs.ValueNumbers.{mostCoerced}
-pub use Rattle.paper_values.specs.Values.{At, Tree, Fields, Pairs, Out, Got, No}
+pub use Rattle.paper_values.specs.Values.{At, Tree, Fields, Pairs, Got, No}
 pub use Rattle.paper_values.specs.Encoding.{encode}
 pub use Rattle.paper_values.specs.DocumentDues.{ReachedField}
 pub use Rattle.paper_values.specs.ValueCalls.{CoercedVariables, CoercedArguments, ValueLent, ValueShort}
 pub use Rattle.paper_plan.specs.PlanCalls.{Planned}
-pub use Rattle.paper_plan.specs.Collecting.{Grouped, Pair}
+pub use Rattle.paper_plan.specs.Collecting.{Grouped}
 pub use Rattle.paper_plan.specs.Selecting.{Name, BlockRows, Collects, pairsOf}
 pub use Rattle.paper_plan.specs.PlanNumbers.{blocksIn}
 pub use Rattle.paper_plan.specs.LentPlan.{isOne, pairNumbers}
@@ -44,10 +43,3 @@ Result = ℕ × List ℕ × List ℕ
 -- A statement of results fixes them: that no result satisfies it is refuted, two that do are equal, and the answer is 0 or the number of one of the sixteen refusals.
 abbrev pub Fixed : (Result → Type 0) → Type 0
 Fixed R = (((r : Result) → R r → ⊥) → ⊥) × ((r s : Result) → R r → R s → r ≡ s) × ((r : Result) → R r → r .0 ≤ refuseTooLong)
-
--- What an example of 01 tells: a value coerced or refused; counts of rows, blocks and steps; the pairs of a walk; what is said of a table.
-pub data Told : Type 0 where
-  coerced : Out Tree → Told
-  counted : ℕ → ℕ → ℕ → Told
-  listed : List Pair → Told
-  judged : TableAnswer → Told
