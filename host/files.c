@@ -56,12 +56,10 @@ int read_input(const char *path, uint8_t *room, size_t size, int json, struct in
     return good;
 }
 
-int write_file(const char *path, const uint8_t *bytes, size_t length) {
+int write_file(const char *path, const uint8_t *bytes, size_t length, int json) {
     FILE *file = fopen(path, "wb");
     int good = file && fwrite(bytes, 1, length, file) == length;
     if (file && fclose(file) != 0)
         good = 0;
-    if (!good)
-        perror(path);
-    return good;
+    return good ? 1 : unusable(path, strerror(errno), json);
 }

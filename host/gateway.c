@@ -14,7 +14,7 @@ static const struct {
 } commands[] = {
     {"parse", run_parse, "parse [--json] DOCUMENT..", "reads documents and prints their rows"},
     {"check-table", run_check_table, "check-table [--json] TABLE..", "judges type tables"},
-    {"check", run_check, "check [--json] TABLE DOCUMENT..", "judges documents by a type table: accepted, or which rule is broken and where"},
+    {"check", run_check, "check [--json] TABLE DOCUMENT..", "judges documents by a type table: accepted, or which rule is broken and where; what is wrong with the table is told once"},
     {"coerce", run_coerce, "coerce [--json] TABLE DOCUMENT [--operation NAME] [--variables FILE] [--row N]",
      "coerces an operation's variables or, with a row, the arguments of the field there"},
     {"plan", run_plan, "plan [--json] TABLE DOCUMENT [--operation NAME] [--dot] [--save FILE]",
@@ -34,12 +34,13 @@ static int help(void) {
     for (int i = 0; i < COMMANDS; i++)
         printf("  %s\n      %s\n", commands[i].usage, commands[i].help);
     printf("\nOptions\n"
-           "  --json             one JSON object on a line for each document, accepted or refused\n"
+           "  --json             one JSON object on a line for each document: accepted, refused, or the file that cannot be used\n"
            "  --operation NAME   the operation; without it the only one\n"
            "  --variables FILE   the variables text, a GraphQL object { name: value }; without it {}\n"
            "  --unchecked        write or print a table that breaks a rule or has too many of something, too\n"
-           "  --help, --version  this text; the version\n"
+           "  --help, --version  this text, or that of a command; the version\n"
            "A file - is standard input. Options stand anywhere behind the command, as --row 3 or --row=3; behind -- all are files.\n"
+           "What is wrong with the words of a command is told on standard error alone.\n"
            "\nExit status\n"
            "  0  accepted\n"
            "  1  a document is refused\n"
@@ -61,26 +62,29 @@ static int misused(const char *word) {
     return TROUBLE;
 }
 
-static int is_help(const char *word) {
-    return strcmp(word, "--help") == 0 || strcmp(word, "-h") == 0;
+static int version(void) {
+    printf("gateway %s\n", GATEWAY_VERSION);
+    return ACCEPTED;
+}
+
+static int run_one(int i, char **words) {
+    int status = commands[i].run(words, commands[i].usage);
+    if (wanted == VERSION)
+        return version();
+    if (wanted != HELP)
+        return status;
+    printf("usage: gateway %s\n%s\n", commands[i].usage, commands[i].help);
+    return ACCEPTED;
 }
 
 static int run(char **words) {
     if (!words[0])
         return misused(NULL);
-    if (is_help(words[0]) || strcmp(words[0], "help") == 0)
-        return help();
-    if (strcmp(words[0], "--version") == 0) {
-        printf("gateway %s\n", GATEWAY_VERSION);
-        return ACCEPTED;
-    }
+    if (wants(words[0]) || strcmp(words[0], "help") == 0)
+        return wanted == VERSION ? version() : help();
     for (int i = 0; i < COMMANDS; i++)
-        if (strcmp(words[0], commands[i].name) == 0) {
-            if (!words[1] || !is_help(words[1]))
-                return commands[i].run(words + 1, commands[i].usage);
-            printf("usage: gateway %s\n%s\n", commands[i].usage, commands[i].help);
-            return ACCEPTED;
-        }
+        if (strcmp(words[0], commands[i].name) == 0)
+            return run_one(i, words + 1);
     return misused(words[0]);
 }
 

@@ -28,8 +28,15 @@ struct option {
     const char **place;
 };
 
+/* What a word of the command line wants in place of the command. */
+enum wanted { NOTHING, HELP, VERSION };
+extern enum wanted wanted;
+
+/* Whether a word wants help or the version, which is then kept in `wanted`. */
+int wants(const char *word);
+
 /* Takes the options out of a command's words and leaves the others, which are files: `least` of them, and at most `most`. What is wrong is
-   told with the command's usage, and 0 returned, else their count. */
+   told with the command's usage, and 0 returned, else their count. 0 also where a word wants help or the version. */
 int take_options(char **words, const struct option *options, int least, int most, const char *usage);
 
 /* A number below 2^32; 0 if it is none, which is told. */
@@ -49,14 +56,15 @@ int is_standard(const char *path);
 /* Whether standard input is meant more than once, which is told. */
 int is_standard_twice(char **paths, const char *other);
 
-/* Tells why a file cannot be used, with --json also as an object; returns 0. */
+/* Tells why a file cannot be used, with --json also as an object; returns 0. The words of a command that are wrong are told to people
+   alone. */
 int unusable(const char *called, const char *why, int json);
 
 /* Reads a file; 0 if that cannot be done, which is told so. */
 int read_input(const char *path, uint8_t *room, size_t size, int json, struct input *input);
 
-/* Writes a file; 0 if that cannot be done, which is told. */
-int write_file(const char *path, const uint8_t *bytes, size_t length);
+/* Writes a file; 0 if that cannot be done, which is told so. */
+int write_file(const char *path, const uint8_t *bytes, size_t length, int json);
 
 /* ---- refusals */
 

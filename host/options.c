@@ -13,6 +13,16 @@ int worse(int status, int other) {
     return status > other ? status : other;
 }
 
+enum wanted wanted;
+
+int wants(const char *word) {
+    if (strcmp(word, "--help") == 0 || strcmp(word, "-h") == 0)
+        wanted = HELP;
+    else if (strcmp(word, "--version") == 0)
+        wanted = VERSION;
+    return wanted != NOTHING;
+}
+
 static int misused(const char *usage, const char *said, const char *word) {
     fprintf(stderr, said, word);
     fprintf(stderr, "\nusage: gateway %s\n", usage);
@@ -40,6 +50,8 @@ int take_options(char **words, const struct option *options, int least, int most
             ended = 1;
             continue;
         }
+        if (wants(*word))
+            return 0;
         const struct option *o = option_of(*word, options);
         if (!o || (equal && !o->takes))
             return misused(usage, o ? "%s: this option takes no word" : "%s is no option of this command", *word);

@@ -71,9 +71,8 @@ struct words key_at(const struct pair *p, uint32_t row) {
 }
 
 void names_of(const struct pair *p, uint32_t operation, struct plan_names *names) {
-    static uint32_t blocks[GW_MOST_BLOCKS];
+    uint32_t blocks[GW_MOST_BLOCKS], definition = 0;
     uint8_t reached[GW_MOST_ROWS];
-    uint32_t definition = 0;
     memset(names, 0, sizeof *names);
     mark_reached(p, operation, reached);
     for (uint32_t i = 0; i < p->count; i++) {

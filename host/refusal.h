@@ -8,7 +8,7 @@
          printf("%u:%u: refusal %u: %s\n    %s\n", told.line, told.column, told.number, told.text, told.detail);
      }
 
-   No heap, no global state, of stdio snprintf alone. */
+   No heap, nothing that threads share, of stdio snprintf alone. */
 #ifndef GATEWAY_REFUSAL_H
 #define GATEWAY_REFUSAL_H
 

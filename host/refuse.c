@@ -1,10 +1,7 @@
 /* How a command tells what the library refused: to people, or as one JSON object. */
+#include "hints.h"
 #include "json.h"
-#include "plans.h"
 #include "show.h"
-#include "types.h"
-
-#include <string.h>
 
 void set_given(struct job *job) {
     struct gw_given *g = &job->given;
@@ -14,65 +11,6 @@ void set_given(struct job *job) {
         g->document = job->document->text.bytes, g->document_len = job->document->size;
     if (job->variables)
         g->variables = job->variables->text.bytes, g->variables_len = job->variables->size;
-}
-
-/* ---- hints */
-
-static int is_table(const struct text *t) {
-    uint32_t report[GW_REPORT_SIZE], answer = gw_check_table(t->bytes, t->length, report, GW_REPORT_SIZE);
-    return answer == GW_ACCEPTED || answer == GW_REFUSE_TOO_MANY || (answer == GW_REFUSE_SCHEMA && t->length > 0);
-}
-
-static int is_document(const struct text *t) {
-    static uint32_t rows[GW_ROWS_SIZE];
-    uint32_t report[GW_REPORT_SIZE];
-    return gw_parse(t->bytes, t->length, rows, GW_ROWS_SIZE, report, GW_REPORT_SIZE) == GW_ACCEPTED;
-}
-
-/* A table begins with a byte from 1 to 8; a blank is none of these. */
-static int begins_as_text(const struct text *t) {
-    return t->length > 0 && (t->bytes[0] >= ' ' || t->bytes[0] == '\t' || t->bytes[0] == '\n' || t->bytes[0] == '\r');
-}
-
-static const char *hint_of_table(const struct job *job) {
-    const struct text *table = &job->table->text;
-    if (job->document && is_document(table) && is_table(&job->document->text))
-        return "the two files stand in each other's place: the table comes first, then the document";
-    if (is_document(table))
-        return "this is a GraphQL document; a type table is due here";
-    if (is_saved_plan(table))
-        return "this is a saved plan; a type table is due here";
-    if (is_type_text(table))
-        return "this is a text of types: `gateway table FILE -o TABLE` makes a table of it";
-    return begins_as_text(table) ? "this looks like a text; a type table is bytes, which `gateway table` makes of a text of types" : NULL;
-}
-
-static const char *hint_of_document(const struct job *job) {
-    const struct text *document = &job->document->text;
-    if (is_saved_plan(document))
-        return "this is a saved plan, which `gateway walk` takes; a document is due here";
-    if (is_table(document))
-        return "this is a type table; a document is due here";
-    return is_type_text(document) ? "this is a text of types; a document is due here" : NULL;
-}
-
-/* A name in quotes, where JSON has one. */
-static const char *hint_of_variables(const struct job *job, const struct gw_told *told) {
-    const struct text *text = &job->variables->text;
-    int quoted = told->offset < text->length && text->bytes[told->offset] == '"';
-    for (uint32_t i = 0; quoted && i < told->expected_count; i++)
-        if (strcmp(told->expected[i], "an object field") == 0)
-            return "a variables text is a GraphQL value, not JSON: names have no quotes, { time: 20 }";
-    return NULL;
-}
-
-/* What may have gone wrong with the files themselves; NULL for nothing. */
-static const char *hint_of(const struct job *job, const struct gw_told *told) {
-    if (told->number == GW_REFUSE_FRAMING)
-        return hint_of_table(job);
-    if (told->number != GW_REFUSE_NO_TOKEN && told->number != GW_REFUSE_NO_GOING)
-        return NULL;
-    return told->input == GW_INPUT_DOCUMENT ? hint_of_document(job) : hint_of_variables(job, told);
 }
 
 /* ---- as JSON */
@@ -162,9 +100,14 @@ static int tell_told(const struct job *job, const struct gw_told *told, const ch
 
 static struct gw_told told;
 
+static const struct text *text_of_input(const struct input *input) {
+    return input ? &input->text : NULL;
+}
+
 int refuse(const struct job *job, const uint32_t *report) {
+    const struct files files = {text_of_input(job->table), text_of_input(job->document), text_of_input(job->variables)};
     gw_tell(&job->given, report, &told);
-    return tell_told(job, &told, hint_of(job, &told));
+    return tell_told(job, &told, hint_of(&files, &told));
 }
 
 int refuse_in(const struct job *job, const uint32_t *report, size_t offset) {

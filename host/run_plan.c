@@ -71,7 +71,7 @@ int run_plan(char **words, const char *usage) {
     int status = make_plan(&job, operation, &p);
     if (status != ACCEPTED)
         return status;
-    if (path && !write_file(path, saved_bytes, save_plan(plan, &names, saved_bytes)))
+    if (path && !write_file(path, saved_bytes, save_plan(plan, &names, saved_bytes), job.json))
         return TROUBLE;
     struct made_plan made = {&p, operation_row(&p, words_of(operation)), plan, &names};
     if (json)
@@ -110,17 +110,23 @@ static int read_blocks(const char *list, uint32_t *blocks, size_t *count) {
     return 1;
 }
 
+static int no_variable(const struct job *job, struct words word) {
+    char said[256];
+    struct out o = {.room = said, .size = sizeof said};
+    say_words(&o, word);
+    say(&o, " is no variable of the operation");
+    return unusable(job->document->text.called, said, job->json);
+}
+
 /* Marks the variables that are named as true. */
-static int read_true(const char *list, uint8_t *variables) {
+static int read_true(const char *list, uint8_t *variables, const struct job *job) {
     while (*list) {
         struct words word = next_word(&list);
         uint32_t i = 0;
         while (i < names.variable_count && !same_words(names.variables[i], word))
             i++;
-        if (i == names.variable_count) {
-            fprintf(stderr, "%.*s is no variable of the operation\n", (int)word.length, (const char *)word.bytes);
-            return 0;
-        }
+        if (i == names.variable_count)
+            return no_variable(job, word);
         variables[i] = 1;
     }
     return 1;
@@ -200,5 +206,5 @@ int run_walk(char **words, const char *usage) {
     int status = get_plan(&job, operation);
     if (status != ACCEPTED)
         return status;
-    return read_true(true_ones, variables) ? walk(&job, variables) : TROUBLE;
+    return read_true(true_ones, variables, &job) ? walk(&job, variables) : TROUBLE;
 }

@@ -62,7 +62,7 @@ static int write_table(const struct input *types, const char *path, int json) {
         fwrite(made.bytes, 1, made.length, stdout);
         return ACCEPTED;
     }
-    if (!write_file(path, made.bytes, made.length))
+    if (!write_file(path, made.bytes, made.length, json))
         return TROUBLE;
     if (!json) {
         printf("%s: a table of %zu bytes, written to %s\n", types->text.called, made.length, path);

@@ -51,7 +51,7 @@ extern "C" {
 #define GW_CHECK_STACK 131072
 #define GW_COERCE_VARIABLES_STACK 212992
 #define GW_COERCE_ARGUMENTS_STACK 212992
-#define GW_PLAN_STACK 270336
+#define GW_PLAN_STACK 245760
 #define GW_WALK_STACK 32768
 
 /* What a call answers, which is also report[0]. Shown: report[1], of refusal 9 report[1] to report[5], of 10 report[1] and

@@ -3,8 +3,8 @@
 
      harness_plan vectors CASES..         the cases of `plan_reader.py cases` or `plans.py`, compared in full
      harness_plan buffers                 short and long buffers and inputs, NULL for no length
-     harness_plan random COUNT CASES..    so many walks, of plans of changed documents, of changed plans and of plans made by chance; each is
-                                          compared with a plain walker
+     harness_plan random COUNT CASES..    so many plans that are changed or made by chance, beside those of changed documents, each walked
+                                          at least once; each walk is compared with a plain walker
      harness_plan sample COUNT CASES..    prints so many changed documents, planned and walked for their object types, and now and then a
                                           changed plan, with the answers, for `plan_reader.py compare`
 
@@ -248,8 +248,16 @@ static int plan_some(struct pair *p, struct some_bytes *operation, uint32_t *pla
     return answer == GW_ACCEPTED;
 }
 
+static uint64_t plans_by_chance; /* how many were changed, or made */
+
+static void make_some(uint32_t *plan, struct some_bytes table) {
+    make_plan(plan, table);
+    plans_by_chance++;
+}
+
 /* Some changes in a plan, mostly one. */
 static void change_some(uint32_t *plan, struct some_bytes table) {
+    plans_by_chance++;
     for (uint32_t changes = random_below(4) ? 1 : 1 + random_below(6); changes > 0; changes--)
         change_plan(plan, table);
 }
@@ -261,19 +269,19 @@ static void walk_some(struct some_bytes table, const uint32_t *plan, long count)
     for (long i = 0; i < count; i++) {
         size_t tail = random_below(16) ? 0 : 1 + random_below(TAIL);
         make_ask(&a, plan, table);
-        lend_walk(table, plan, GW_PLAN_SIZE, &a, GW_PAIRS_SIZE + tail, GW_REPORT_SIZE + tail, i & 1);
+        lend_walk(table, plan, GW_PLAN_SIZE, &a, GW_PAIRS_SIZE + tail, GW_REPORT_SIZE + tail, seen.walks_done & 1);
         checked_walk();
     }
 }
 
-/* Walks of one plan, then of changed ones: each change stays for some walks, then the plan is as before. */
+/* Walks of one plan, then one of each changed plan. */
 static void walk_changed(struct some_bytes table, const uint32_t *plan, int changes) {
     static uint32_t changed[GW_PLAN_SIZE];
     walk_some(table, plan, 4);
     for (int i = 0; i < changes; i++) {
         memcpy(changed, plan, sizeof changed);
         change_some(changed, table);
-        walk_some(table, changed, 2);
+        walk_some(table, changed, 1);
     }
 }
 
@@ -318,21 +326,21 @@ static int run_random(uint64_t count, const struct given_pairs *pairs) {
     static uint32_t plan[GW_PLAN_SIZE];
     struct some_bytes operation;
     random_start(SEED);
-    while (seen.walks_done < count) {
+    while (plans_by_chance < count) {
         if (plan_some(&p, &operation, plan, pairs, random_below(16) ? 0 : 1 + random_below(TAIL), seen.walks_done & 1))
-            walk_changed(p.table, plan, 12);
-        make_plan(plan, p.table);
-        walk_changed(p.table, plan, 6);
+            walk_changed(p.table, plan, 24);
+        make_some(plan, p.table);
+        walk_changed(p.table, plan, 12);
         if (random_below(4) == 0)
             walk_by_changed_table(p.table, plan);
         if (given_plans.count) {
             const struct given_plan *g = &given_plans.all[random_below(given_plans.count)];
             given_plan_by(g, plan);
-            walk_changed(g->family->tables[0], plan, 3);
+            walk_changed(g->family->tables[0], plan, 6);
         }
     }
-    printf("harness_plan: %" PRIu64 " random plans of documents and %" PRIu64 " walks, of %zu tables\n", seen.plans_done, seen.walks_done,
-           families.count);
+    printf("harness_plan: %" PRIu64 " random documents planned, %" PRIu64 " plans changed or made by chance, %" PRIu64 " walks, of %zu tables\n",
+           seen.plans_done, plans_by_chance, seen.walks_done, families.count);
     print_seen();
     return 0;
 }
@@ -410,7 +418,7 @@ static int run_sample(long count, const struct given_pairs *pairs) {
         if (i % 4)
             continue;
         if (i % 8 == 0)
-            make_plan(plan, p.table);
+            make_some(plan, p.table);
         change_some(plan, p.table);
         printf("walk ");
         print_hex(p.table.bytes, p.table.length);

@@ -1,6 +1,8 @@
 /* The addresses of drives. */
 #include "drive.h"
 
+#include "../host.h"
+
 #include <errno.h>
 #include <stdio.h>
 #include <stdlib.h>
@@ -65,31 +67,24 @@ int add_drive(struct plant *plant, const char *id, const char *address) {
 }
 
 /* A line's drive; a line may have none. */
-static int add_line(struct plant *plant, char *line, const char *path, int number) {
+static int add_line(struct plant *plant, char *line) {
     line[strcspn(line, "#\r\n")] = 0;
     char *rest, *id = strtok_r(line, " \t", &rest), *address = id ? strtok_r(NULL, " \t", &rest) : NULL;
-    if (!id || (address && !strtok_r(NULL, " \t", &rest) && add_drive(plant, id, address)))
-        return 1;
-    fprintf(stderr, "%s:%d: an id and an address are due, as in: 4 192.0.2.17:502/1\n", path, number);
-    return 0;
+    return !id || (address && !strtok_r(NULL, " \t", &rest) && add_drive(plant, id, address));
 }
 
-int add_drives(struct plant *plant, const char *path) {
-    char line[LINE_LENGTH];
+int add_drives(struct plant *plant, const char *path, int json) {
+    char line[LINE_LENGTH], why[128] = "";
     FILE *file = fopen(path, "r");
-    if (!file) {
-        perror(path);
-        return 0;
-    }
-    int good = 1;
-    for (int number = 1; good && fgets(line, sizeof line, file); number++)
-        good = add_line(plant, line, path, number);
-    if (ferror(file)) {
-        perror(path);
-        good = 0;
-    }
+    if (!file)
+        return unusable(path, strerror(errno), json);
+    for (int number = 1; !why[0] && fgets(line, sizeof line, file); number++)
+        if (!add_line(plant, line))
+            snprintf(why, sizeof why, "line %d: an id and an address are due, as in: 4 192.0.2.17:502/1", number);
+    if (ferror(file))
+        snprintf(why, sizeof why, "%s", strerror(errno));
     fclose(file);
-    return good;
+    return why[0] ? unusable(path, why, json) : 1;
 }
 
 int drive_called(const struct plant *plant, const uint8_t *id, size_t length) {

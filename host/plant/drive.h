@@ -25,8 +25,9 @@ struct plant {
    count of drives. 0 if that is no address, if there are too many or the id is taken, which is told. */
 int add_drive(struct plant *plant, const char *id, const char *address);
 
-/* Adds the drives of a file, an id and an address in each line, # before a comment; 0 if something is wrong, which is told. */
-int add_drives(struct plant *plant, const char *path);
+/* Adds the drives of a file, an id and an address in each line, # before a comment; 0 if something is wrong, which is told, with --json also
+   as an object. */
+int add_drives(struct plant *plant, const char *path, int json);
 
 /* The drive of an id, by its number; -1 for none. */
 int drive_called(const struct plant *plant, const uint8_t *id, size_t length);

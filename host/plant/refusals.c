@@ -1,6 +1,7 @@
 /* What the core refuses, as errors of a response. */
 #include "refusals.h"
 
+#include "../hints.h"
 #include "../host.h"
 #include "../variables.h"
 
@@ -34,7 +35,14 @@ static void add_place(json_t *error, const struct request *r, uint32_t row) {
 
 /* ---- the error */
 
-static json_t *extensions(void) {
+static json_t *expected_ones(void) {
+    json_t *expected = json_array();
+    for (uint32_t i = 0; i < told.expected_count; i++)
+        json_array_append_new(expected, json_string(told.expected[i]));
+    return expected;
+}
+
+static json_t *extensions(const char *hint) {
     json_t *more = json_object();
     json_object_set_new(more, "refusal", json_integer(told.number));
     json_object_set_new(more, "name", json_string(told.name));
@@ -49,23 +57,22 @@ static json_t *extensions(void) {
     } else if (told.has_offset) {
         json_object_set_new(more, "offset", json_integer((json_int_t)told.offset));
     }
-    if (told.expected_count) {
-        json_t *expected = json_array();
-        for (uint32_t i = 0; i < told.expected_count; i++)
-            json_array_append_new(expected, json_string(told.expected[i]));
-        json_object_set_new(more, "expected", expected);
-    }
+    if (told.expected_count)
+        json_object_set_new(more, "expected", expected_ones());
+    if (hint)
+        json_object_set_new(more, "hint", json_string(hint));
     return more;
 }
 
 json_t *refusal_error(const struct request *r, const struct gw_given *given, const uint32_t *report, uint32_t row, const struct path *path,
                       int *status) {
+    const struct files files = {&r->table, &r->document, &r->variables};
     char words[sizeof told.text + sizeof told.detail + 32];
     gw_tell(given, report, &told);
     snprintf(words, sizeof words, "%s%s%s%s", told.input == GW_INPUT_TABLE ? "the type table: " : "", told.text, told.detail[0] ? ": " : "", told.detail);
     json_t *error = new_error(words, path);
     add_place(error, r, row);
-    json_object_set_new(error, "extensions", extensions());
+    json_object_set_new(error, "extensions", extensions(hint_of(&files, &told)));
     if (status)
         *status = status_of(&told);
     return error;

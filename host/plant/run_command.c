@@ -48,8 +48,10 @@ static int add_listed(const char *list) {
 
 static int read_files(char **words, const struct run_options *o) {
     struct input table, document, variables = {{"no variables", (const uint8_t *)"{}", 2}, 2};
-    if (!read_input(words[0], table_bytes, sizeof table_bytes, 0, &table) || !read_input(words[1], document_bytes, sizeof document_bytes, 0, &document) ||
-        (o->variables && !read_input(o->variables, variables_bytes, sizeof variables_bytes, 0, &variables)))
+    int json = o->json != NULL;
+    if ((o->drives && !add_drives(&plant, o->drives, json)) || !read_input(words[0], table_bytes, sizeof table_bytes, json, &table) ||
+        !read_input(words[1], document_bytes, sizeof document_bytes, json, &document) ||
+        (o->variables && !read_input(o->variables, variables_bytes, sizeof variables_bytes, json, &variables)))
         return 0;
     request.table = table.text;
     request.document = document.text;
@@ -94,7 +96,7 @@ int run_command(char **words, const char *usage) {
                                      {"--drive", 1, &o.addresses}, {"--timeout", 1, &o.timeout}, {"--json", 0, &o.json}, {NULL, 0, NULL}};
     int status;
     if (!take_options(words, options, 2, 2, usage) || is_standard_twice(words, o.variables) || (o.timeout && !read_timeout(o.timeout)) ||
-        (o.drives && !add_drives(&plant, o.drives)) || (o.addresses && !add_listed(o.addresses)) || !read_files(words, &o))
+        !read_files(words, &o) || (o.addresses && !add_listed(o.addresses)))
         return TROUBLE;
     json_set_alloc_funcs(sure_memory, free);
     json_t *response = respond(&status);

@@ -4,7 +4,7 @@
   cc -shared -Wl,--whole-archive build/native/libgateway.a -Wl,--no-whole-archive -o build/libgateway.so
   host/python/gateway.py build/libgateway.so host/examples/T.table host/examples/D.graphql 3    (3: the number of the record of type Query)
 
-A call takes up to 720,896 bytes of stack (gateway.h), which the main thread has; a thread of your own may need threading.stack_size.
+A call takes up to 245,760 bytes of stack (gateway.h), which the main thread has; a thread of your own may need threading.stack_size.
 """
 import ctypes
 import sys

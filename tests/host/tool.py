@@ -1,6 +1,7 @@
 #!/usr/bin/env python3
 """The host program under a JSON reader, and its tables.   tool.py GATEWAY COUNT
 
+  - each object of tests/host/expected_tool is JSON
   - whatever the files hold, each line of --json is an object, its verdict is that of the words beside it, and so is the status
   - tables made by chance come out of show-table and table as they went in, and tables.py makes the same of the text
 """
@@ -49,6 +50,12 @@ def compare(gateway, *words):
             assert f":{said['line']}:{said['column']}: " in text, (words, text, said)
             assert f"{said['line']:5} | " in text, (words, text, said)  # the line shown is the line told
     return said
+
+
+def stored_objects():
+    """How many lines of the stored answers are objects; each is read."""
+    with open('tests/host/expected_tool', encoding='utf-8') as file:
+        return len([json.loads(line) for line in file if line.startswith('{"')])
 
 
 def mutated(rng, some):
@@ -129,6 +136,7 @@ def main(gateway, count):
         assert due <= seen, due - seen
         round_trips(gateway, room, count // 5)
         long_ones(gateway, room)
+    assert stored_objects() > 30
     print(f'host: {count} files changed by chance are told alike in words and as JSON; {count // 5} tables by chance to text and back')
 
 

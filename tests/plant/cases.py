@@ -29,6 +29,7 @@ HERE = pathlib.Path(__file__).resolve().parent
 ROOT = HERE.parent.parent
 TABLE = ROOT / 'host/plant/tower.table'
 SECONDS = 60  # the longest that a program may take
+PATIENCE = '20000'  # how long a drive may take to answer, in milliseconds: a machine with much else to do is no fault
 
 
 class Case:
@@ -150,14 +151,12 @@ def run(folder, case, room):
     if case.types:
         case.table = room / 'other.table'
         case.table.write_bytes(subprocess.run([sys.executable, ROOT / 'tests/tables.py', 'text', case.types.read_text()], check=True, capture_output=True).stdout)
-    words = [f'{folder}/gateway', 'run', str(case.table), str(room / 'document'), '--json']
+    words = [f'{folder}/gateway', 'run', str(case.table), str(room / 'document'), '--json', '--timeout', case.timeout or PATIENCE]
     if case.variables is not None:
         (room / 'variables').write_text(case.variables)
         words += ['--variables', str(room / 'variables')]
     if case.operation is not None:
         words += ['--operation', case.operation]
-    if case.timeout is not None:
-        words += ['--timeout', case.timeout]
     with Drives(folder, case, room) as drives:
         words += ['--drives', str(drives.addresses)]
         done = subprocess.run(words, capture_output=True, timeout=SECONDS)
@@ -175,13 +174,19 @@ def usage_told(folder, room):
     (room / 'document').write_text('{ tower { name machines { id } } }')
     (room / 'two').write_text('1 127.0.0.1:1502/1\n1 127.0.0.1:1502/2\n')
     (room / 'bad').write_text('# none\n\n1 127.0.0.1:1502/1 # the first\n2\n')
+    (room / 'json').write_text('{"no": 1}')
+    (room / 'long').write_text('type Query { tower: Int }' + ' ' * 32768)
+    types = os.path.relpath(TABLE.with_suffix('.types'), ROOT)
     table, document = os.path.relpath(TABLE, ROOT), str(room / 'document')
     for words in ([], [table], [table, document, document], [table, document, '--speed', '3'], [table, document, '--timeout'],
                   [table, document, '--timeout', '0'], [table, 'tests/plant/none.graphql'], [table, document, '--drives', 'tests/plant/none'],
                   [table, document, '--drives', str(room / 'two')], [table, document, '--drives', str(room / 'bad')],
                   [table, document, '--drive', '127.0.0.1:1502/0'], [table, document, '--drive', '127.0.0.1:70000/1'],
                   [table, document, '--drive', '[::1:1502'], [table, document, '--drive', '127.0.0.1:1502/1,:1502/1'], ['-', '-'], [document, table],
-                  [document, document], [table, document]):
+                  [document, document], [types, document], [str(room / 'long'), document], [table, document, '--variables', str(room / 'json')],
+                  [table, types], [table, 'tests/plant/none.graphql', '--json'], [table, document, '--json', '--drives', 'tests/plant/none'],
+                  [table, document, '--json', '--drives', str(room / 'bad')], [table, document, '--variables', 'tests/plant/none', '--json'],
+                  [table, document, '--help'], [table, '--version'], [table, document]):
         done = subprocess.run([f'{folder}/gateway', 'run', *words], capture_output=True, timeout=SECONDS, cwd=ROOT, stdin=subprocess.DEVNULL)
         said = f'## run {" ".join(words)}\nstatus {done.returncode}\n{done.stdout.decode()}{done.stderr.decode()}'
         yield said.replace(str(room), 'ROOM')
@@ -195,7 +200,8 @@ def addressed_told(folder, room):
     with Drives(folder, case, room) as drives:
         port = drives.addresses.read_text().split(':', 2)[2].split('/')[0]
         for words in ([f'127.0.0.1:{port}/3,localhost:{port}'], [f'127.0.0.1:{port}/9']):
-            done = subprocess.run([f'{folder}/gateway', 'run', '--json', str(TABLE), str(document), '--drive', *words], capture_output=True, timeout=SECONDS)
+            done = subprocess.run([f'{folder}/gateway', 'run', '--json', '--timeout', PATIENCE, str(TABLE), str(document), '--drive', *words],
+                                  capture_output=True, timeout=SECONDS)
             yield f'## run --drive {words[0]}\nstatus {done.returncode}\n{done.stdout.decode()}{done.stderr.decode()}'.replace(port, 'PORT')
 
 
@@ -218,7 +224,7 @@ def registers_told(folder, room):
         port = int(drives.addresses.read_text().split(':', 2)[2].split('/')[0])
         for register, value in ((8, 4), (3, 500), (8, 0), (3, 500), (77, 0)):
             said += f'register {register}, {value}: {write_register(port, 1, register, value)}\n'
-            done = subprocess.run([f'{folder}/gateway', 'run', '--json', str(TABLE), str(document), '--drives', str(drives.addresses)],
+            done = subprocess.run([f'{folder}/gateway', 'run', '--json', '--timeout', PATIENCE, str(TABLE), str(document), '--drives', str(drives.addresses)],
                                   capture_output=True, timeout=SECONDS)
             said += f'status {done.returncode}\n{done.stdout.decode()}{done.stderr.decode()}'
         return said + drives.log.read_text()

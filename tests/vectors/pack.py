@@ -1,7 +1,8 @@
 #!/usr/bin/env python3
-# Makes stdin and stdout of crates/vectors_parse, vectors_tables, vectors_check, vectors_walk and vectors_coerce of the cases in parse.jsonl,
-# tables.jsonl, check.jsonl, walk.jsonl and coerce_vars.jsonl with coerce_args.jsonl beside it; with --check only says whether they are as it would
-# make them. The form of a case is told in crates/vectors/src/lib.rt, of a walk's second part and of a coercion in their programs' src/main.rt.
+# Makes stdin and stdout of crates/vectors_parse, vectors_tables, vectors_check, vectors_plan, vectors_walk and vectors_coerce of the cases in
+# parse.jsonl, tables.jsonl, check.jsonl, plan.jsonl, walk.jsonl and coerce_vars.jsonl with coerce_args.jsonl beside it; with --check only says
+# whether they are as it would make them. The form of a case is told in crates/vectors/src/lib.rt, that of a plan, of a walk's second part and of a
+# coercion in their programs' src/main.rt.
 import json
 import pathlib
 import struct
@@ -60,6 +61,28 @@ def wrong_pairs(case):
     return [(table, walk, report, other, "OTHER") for other in (pairs[:-1] + [pairs[-1] + 1], pairs[:-2])]
 
 
+# A plan: table, document, name, report, the plan's numbers, and what is to be said.
+
+def plan_cases():
+    cases = [(case["table"], case["doc"], case["op"], case["report"], case["out"], "same") for case in read("plan.jsonl")]
+    made = next(case for case in cases if case[3][0] == 0)
+    broken = next(case for case in cases if case[3][0] == 10)
+    return cases + wrong_plans(made) + wrong_counts(made, broken)
+
+
+def wrong_plans(case):
+    """The last step's second number changed, the last step left out."""
+    *others, plan, _ = case
+    return [(*others, other, "OTHER") for other in (plan[:-1] + [plan[-1] + 1], plan[:-3])]
+
+
+def wrong_counts(made, broken):
+    """The count of steps changed; a number behind all that is shown of a break."""
+    *others, report, plan, _ = made
+    *texts, shown, none, _ = broken
+    return [(*others, report[:2] + [report[2] + 1] + report[3:], plan, "OTHER"), (*texts, shown[:7] + [1], none, "OTHER")]
+
+
 # A coercion: the call (1 for arguments) and its row, table, document, name, variables text, report, value, and what is to be said.
 
 def coerce_cases():
@@ -102,6 +125,17 @@ def packed(cases):
     return {"stdin": b"".join(stdin), "stdout": "".join(stdout).encode()}
 
 
+def packed_plans(cases):
+    stdin, stdout = [], []
+    for n, (*texts, report, plan, same) in enumerate(cases, 1):
+        table, document, name = (bytes.fromhex(text) for text in texts)
+        entries = b"".join(numbers([place, number]) for place, number in enumerate(plan) if number)
+        head = numbers([len(table), len(document), len(entries)] + report + [len(name)])
+        stdin.append(head + table + document + name + entries)
+        stdout.append("%d %d %d %s\n" % (n, report[0], report[1], same))
+    return {"stdin": b"".join(stdin), "stdout": "".join(stdout).encode()}
+
+
 def packed_coercions(cases):
     stdin, stdout = [], []
     for n, (call, row, *texts, report, value, same) in enumerate(cases, 1):
@@ -116,7 +150,7 @@ def packed_coercions(cases):
 def main(check):
     wrong = 0
     made = {"vectors_parse": packed(parse_cases()), "vectors_tables": packed(table_cases()), "vectors_check": packed(check_cases()),
-            "vectors_walk": packed(walk_cases()), "vectors_coerce": packed_coercions(coerce_cases())}
+            "vectors_plan": packed_plans(plan_cases()), "vectors_walk": packed(walk_cases()), "vectors_coerce": packed_coercions(coerce_cases())}
     for crate, files in made.items():
         for name, data in files.items():
             path = CRATES / crate / name

@@ -31,6 +31,7 @@ pub mod NumbersLaws
 pub mod CoercionsStops
 pub mod CoercedVariables
 pub mod CoercedArguments
+pub mod TagLaws
 pub mod MainCoercions
 pub mod PlansSomeLaws
 pub mod PlansLaws

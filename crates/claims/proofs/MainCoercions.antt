@@ -15,40 +15,52 @@ use Rattle.paper.specs.Refusals.{numberOf, shownInText}
 use Rattle.paper.specs.Calls.{filled, tells}
 use Rattle.paper.specs.declared.Refusal.{Refusal}
 use Rattle.paper.specs.declared.Refusal.the-variants.{OverLength}
-use Rattle.paper_table.specs.TableNumbers.{mostTable, inputTable}
+use Rattle.paper_table.specs.Lists.{bytes}
+use Rattle.paper_table.specs.TableNumbers.{mostTable, inputTable, tagScalar, tagEnum, tagInputObject, tagArgument, tagEnumValue}
 use Rattle.paper_table.specs.References.{Ref, named, listOf, nonNull, isNonNull}
+use Rattle.paper_table.specs.Types.{Table}
 use Rattle.paper_query.specs.Constructs.{Doc}
+use Rattle.paper_query.specs.Enclosing.{FieldIs}
 use Rattle.paper_query.specs.DocumentCalls.{read}
 use Rattle.paper_query.specs.Opening.{AcceptedDocument, operationMeant, stops, opens, Opened}
 use Rattle.paper_values.specs.ValueNumbers.{mostCoerced, reasonKind, reasonRange, reasonMissing, reasonNull, reasonUnknown, reasonRepeated, reasonEnum, reasonSurrogate}
 use Rattle.paper_values.specs.Written.{fourBytes}
+use Rattle.paper_values.specs.Characters.{charactersOf}
 use Rattle.paper_values.specs.NumberTokens.{intOf}
 use Rattle.paper_values.specs.Signed.{numberWritten, numberHeld, isInt}
-use Rattle.paper_values.specs.Values.{Name, At, Value, Values, variable, integer, null, object, Entries, Due, Tree, Bits, Fields, Pairs, Out, Got, No}
-use Rattle.paper_values.specs.Kinds.{Kind, Int}
-use Rattle.paper_values.specs.Computed.{Given, coerce, coerceAll, variablesOf, argumentsOf}
-use Rattle.paper_values.specs.Coercion.{heads, repeatedEntry, unknownEntry}
+use Rattle.paper_values.specs.Values.{Name, At, Value, Values, variable, integer, string, null, list, object, Entries, no-entries, entry, Due, Tree, Null, Bits, Fields, Pairs, no-pairs, pair, Out, Got, No}
+use Rattle.paper_values.specs.Kinds.{Kind, Int, kindOfType}
+use Rattle.paper_values.specs.Computed.{Given, coerce, coerceAll, variablesFrom, variablesOf, argumentsOf}
+use Rattle.paper_values.specs.Coercion.{Head, heads, repeatedEntry, unknownEntry, valueIn}
 use Rattle.paper_values.specs.CoercionRules.{plainValue, singleValue, asInput, Coerces}
-use Rattle.paper_values.specs.CallRules.{CoercesVariables, CoercesArguments}
+use Rattle.paper_values.specs.CallRules.{noVariables, CoercesVariables, CoercesArguments}
 use Rattle.paper_values.specs.Encoding.{encode}
-use Rattle.paper_values.specs.RowValues.{valueAt}
-use Rattle.paper_values.specs.DocumentDues.{ReachedField}
+use Rattle.paper_values.specs.RowValues.{placed, valueAt, argumentsAt}
+use Rattle.paper_values.specs.DocumentDues.{givenIn, argumentDues, ReachedField}
 use Rattle.paper_values.specs.ValueCalls.{Ending, VariablesEnd, ArgumentsEnd, ValueLent, ValueShort, CoercedVariables, CoercedArguments}
 use Rattle.paper_values.proofs.ReasonTables.{takes, outside, noMember, noText, placeOf}
-use Rattle.paper_values.proofs.ReasonsExact.{asNull, Apart, ApartInside, Lacks, Refused}
+use Rattle.paper_values.proofs.ReasonsExact.{asNull, Apart, ApartInside, Lacks, Refused, RefusedItem}
+use Rattle.paper_values.proofs.ReasonsOfDues.{ApartDefaults, LacksDue}
+use Rattle.paper_values.proofs.TagInts.{HasInt, HasToken, HasTokenEntry, DefaultToken, HeldInt, numberRead}
 use Rattle.paper_values.proofs.TrapInt.{narrowedIntOf}
 use Rattle.paper_values.proofs.CoercionExact as exact
+use Rattle.paper_values.proofs.CallsExact.{duly}
 use Rattle.paper_values.proofs.CallsExact as calls-exact
 use Rattle.paper_values.proofs.ValueCallsOne as calls-one
 use Rattle.paper_values.proofs.TagInt as tag-int
+use Rattle.paper_values.proofs.TagInts as tag-ints
 use Rattle.paper_values.proofs.TrapInt as trap
 use Rattle.paper_values.proofs.TrapOrder as order
 use Rattle.paper_values.proofs.ReasonsExact as reasons
+use Rattle.paper_values.proofs.ReasonsOfDues as dues
 use Rattle.paper_values.proofs.RowsApart as rows-apart
+use Rattle.paper_values.proofs.ExamplesCoercion as examples
 use Rattle.claims.proofs.CoercionsWords.{VariablesRead, VariablesUnread, VariablesGive, ArgumentsGive, answerOf, valueLeft, reportLeft}
+use Rattle.claims.proofs.TagLaws.{FieldIn, TokenGiven, TokenOfField}
 use Rattle.claims.proofs.CoercionsSome as some-results
 use Rattle.claims.proofs.CoercedVariables as variables-call
 use Rattle.claims.proofs.CoercedArguments as arguments-call
+use Rattle.claims.proofs.TagLaws as tags
 use Rattle.gateway.proofs.coerce_variables.gw_coerce_variables.Statement as gw-coerce-variables
 use Rattle.gateway.proofs.coerce_variables.gw_coerce_variables.Met as gw-coerce-variables-met
 use Rattle.gateway.proofs.coerce_arguments.gw_coerce_arguments.Statement as gw-coerce-arguments
@@ -65,7 +77,29 @@ gw-coerce-arguments-meets = gw-coerce-arguments-met.met
 
 -- ---- AN INT
 
--- Each tag 33 holds, as a signed number of 32 bits, exactly the number that its token writes. (An integer token has a byte or more.)
+-- Each tag 33 holds, as a signed number, exactly the number that its token writes. Wherever the result of a value has an Int (`HasInt`), its field's four bytes, read high
+-- byte first as two's complement (`numberRead`), are the number that an integer token of the value writes; or a variable held that Int.
+pub tag-33-exact : (kinds : Name → Kind) (vars : Name → Option Tree) (v : Value) (r : Ref) (t : Tree) (x : ℕ) → Coerces kinds vars v r (Got t) → HasInt x t →
+    HeldInt vars x ⊎ ((s : List ℕ) × HasToken s v × ((encode (Bits x) ≡ 33 ∷ 0 ∷ 4 ∷ fourBytes x) × (numberRead (fourBytes x) ≡ numberWritten s)))
+tag-33-exact = tag-ints.tag-33-of-a-value
+
+-- In an operation's variables the token stands in the variables text or in a default; in a field's arguments it stands among these, or is one of the variables'.
+pub tag-33-of-variables : (kinds : Name → Kind) (es : Entries) (vs : List (At × Due)) (ps : Pairs) (x : ℕ) → CoercesVariables kinds es vs (Got ps) → HasInt x (Fields ps) →
+    (s : List ℕ) × (HasTokenEntry s es ⊎ DefaultToken s vs) × ((encode (Bits x) ≡ 33 ∷ 0 ∷ 4 ∷ fourBytes x) × (numberRead (fourBytes x) ≡ numberWritten s))
+tag-33-of-variables = tag-ints.tag-33-of-variables
+
+pub tag-33-of-arguments : (kinds : Name → Kind) (given : Entries) (vs : List (At × Due)) (i : At) (es : Entries) (ds : List Due) (t : Tree) (x : ℕ) →
+    CoercesArguments kinds given vs i es ds (Got t) → HasInt x t →
+    (s : List ℕ) × ((HasTokenEntry s es ⊎ DefaultToken s (duly kinds ds i)) ⊎ (HasTokenEntry s given ⊎ DefaultToken s vs))
+    × ((encode (Bits x) ≡ 33 ∷ 0 ∷ 4 ∷ fourBytes x) × (numberRead (fourBytes x) ≡ numberWritten s))
+tag-33-of-arguments = tag-ints.tag-33-of-arguments
+
+-- Nothing but an integer token at a type whose kind is Int gives one: of a value at a named type that is neither null nor a variable.
+pub only-integers : (kinds : Name → Kind) (vars : Name → Option Tree) (v : Value) (n : Name) (x : ℕ) → plainValue v ≡ true → coerce kinds vars v (named n) ≡ Got (Bits x) →
+    (i : At) × (s : List ℕ) × (v ≡ integer i s) × (kinds n ≡ Int) × ((encode (Bits x) ≡ 33 ∷ 0 ∷ 4 ∷ fourBytes x) × (numberRead (fourBytes x) ≡ numberWritten s))
+only-integers = tag-ints.only-integers
+
+-- Of an integer token at Int: its 32 bits hold its number. (An integer token has a byte or more.)
 pub tag-int-exact : (kinds : Name → Kind) (vars : Name → Option Tree) (i : At) (b : ℕ) (bs : List ℕ) (n : Name) (x : ℕ) → kinds n ≡ Int →
     coerce kinds vars (integer i (b ∷ bs)) (named n) ≡ Got (Bits x) →
     (encode (Bits x) ≡ 33 ∷ 0 ∷ 4 ∷ fourBytes x) × (numberHeld x ≡ numberWritten (b ∷ bs))
@@ -96,6 +130,14 @@ least-row-differs = order.least-differs
 -- An absent variable in a list is null; it is not left out.
 pub item-left-out-differs : ((vs : Values) (r : Ref) → order.itemsLeft vs r ≡ coerceAll order.kinds order.unset vs r) → ⊥
 item-left-out-differs = order.leaving-differs
+
+-- Of a repeated name the later entry is told, not the first.
+pub first-entry-differs : ((es : List Head) → order.repeatedFirst es ≡ repeatedEntry [] es) → ⊥
+first-entry-differs = order.first-differs
+
+-- A default is judged only where it is taken.
+pub default-judged-differs : ((gs : List Given) (vs : List (At × Due)) → order.defaultsJudged gs vs ≡ variablesFrom order.kinds gs vs) → ⊥
+default-judged-differs = order.judging-differs
 
 -- ---- ONE RESULT OR REFUSAL
 
@@ -141,6 +183,20 @@ pub reason-3-exactly : (kinds : Name → Kind) (vars : Name → Option Tree) (i 
     ↔ ((ds : List Due) × (asInput (kinds n) ≡ some ds) × (repeatedEntry [] (heads es) ≡ none) × (unknownEntry ds (heads es) ≡ none) × Lacks kinds vars es ds)
 reason-3-exactly = reasons.missing-exactly
 
+-- Of an operation's variables, told at a definition: exactly when no name is repeated, and the first variable that fails is this one, Non-Null, with neither an entry nor a
+-- default (`LacksDue`). No given value (`given-apart`) and no default stands at the definition's place.
+pub reason-3-of-a-variable : (kinds : Name → Kind) (es : Entries) (vs : List (At × Due)) (i : At) → Apart kinds noVariables i es → ApartDefaults i vs →
+    (variablesOf kinds es vs ≡ No i reasonMissing) ↔ ((repeatedEntry [] (heads es) ≡ none) × LacksDue kinds noVariables es i vs)
+reason-3-of-a-variable = dues.missing-of-a-variable
+
+-- Of a field's arguments, once the variables are ps, told at the field: exactly when no name is repeated or unknown, and the first argument that fails is such a one. No argument's
+-- value (`arguments-apart`) and no default (`arguments-without-defaults`) stands at the field's place.
+pub reason-3-of-a-field : (kinds : Name → Kind) (given : Entries) (vs : List (At × Due)) (ps : Pairs) → variablesOf kinds given vs ≡ Got ps →
+    (i : At) (es : Entries) (ds : List Due) → Apart kinds (valueIn ps) i es → ApartDefaults i (duly kinds ds i) →
+    (argumentsOf kinds given vs i es ds ≡ No i reasonMissing)
+    ↔ ((repeatedEntry [] (heads es) ≡ none) × (unknownEntry ds (heads es) ≡ none) × LacksDue kinds (valueIn ps) es i (duly kinds ds i))
+reason-3-of-a-field = dues.missing-of-a-field
+
 -- 4, null: at any type, exactly at a Non-Null one.
 pub reason-4-exactly : (kinds : Name → Kind) (vars : Name → Option Tree) (i : At) (r : Ref) → (coerce kinds vars (null i) r ≡ No i reasonNull) ↔ (isNonNull r ≡ true)
 reason-4-exactly = reasons.null-exactly
@@ -156,10 +212,25 @@ pub reason-5-exactly : (kinds : Name → Kind) (vars : Name → Option Tree) (i 
     ↔ ((ds : List Due) × (asInput (kinds n) ≡ some ds) × (repeatedEntry [] (heads es) ≡ none) × (unknownEntry ds (heads es) ≡ some e))
 reason-5-exactly = reasons.unknown-exactly
 
+pub reason-5-of-a-field : (kinds : Name → Kind) (given : Entries) (vs : List (At × Due)) (ps : Pairs) → variablesOf kinds given vs ≡ Got ps →
+    (i : At) (es : Entries) (ds : List Due) (e : At) → Apart kinds (valueIn ps) e es → ApartDefaults e (duly kinds ds i) →
+    (argumentsOf kinds given vs i es ds ≡ No e reasonUnknown) ↔ ((repeatedEntry [] (heads es) ≡ none) × (unknownEntry ds (heads es) ≡ some e))
+reason-5-of-a-field = dues.unknown-of-a-field
+
 -- 6, repeated: told at an entry, exactly when it is the first whose name an earlier one has.
 pub reason-6-exactly : (kinds : Name → Kind) (vars : Name → Option Tree) (i : At) (es : Entries) (n : Name) (e : At) → Apart kinds vars e es →
     (coerce kinds vars (object i es) (named n) ≡ No e reasonRepeated) ↔ ((ds : List Due) × (asInput (kinds n) ≡ some ds) × (repeatedEntry [] (heads es) ≡ some e))
 reason-6-exactly = reasons.repeated-exactly
+
+pub reason-6-of-a-field : (kinds : Name → Kind) (given : Entries) (vs : List (At × Due)) (ps : Pairs) → variablesOf kinds given vs ≡ Got ps →
+    (i : At) (es : Entries) (ds : List Due) (e : At) → Apart kinds (valueIn ps) e es → ApartDefaults e (duly kinds ds i) →
+    (argumentsOf kinds given vs i es ds ≡ No e reasonRepeated) ↔ (repeatedEntry [] (heads es) ≡ some e)
+reason-6-of-a-field = dues.repeated-of-a-field
+
+-- In the outer object of the variables, before all else, so with no word of what is due.
+pub reason-6-of-the-variables : (kinds : Name → Kind) (es : Entries) (vs : List (At × Due)) (e : At) → Apart kinds noVariables e es → ApartDefaults e vs →
+    (variablesOf kinds es vs ≡ No e reasonRepeated) ↔ (repeatedEntry [] (heads es) ≡ some e)
+reason-6-of-the-variables = dues.repeated-of-the-variables
 
 -- 7, no member: exactly for a name at an enum that has none such (`noMember`).
 pub reason-7-exactly : (kinds : Name → Kind) (vars : Name → Option Tree) (v : Value) (n : Name) → plainValue v ≡ true → ApartInside kinds vars v →
@@ -184,9 +255,67 @@ pub list-of-one-refused : (kinds : Name → Kind) (vars : Name → Option Tree) 
     (coerce kinds vars v (listOf r) ≡ No e w) ↔ (coerce kinds vars v r ≡ No e w)
 list-of-one-refused = reasons.list-of-one-refused
 
+-- A list at a list type is refused exactly as the first of its items that is refused at the type inside (`RefusedItem`: those before it are coerced).
+pub list-refused-exactly : (kinds : Name → Kind) (vars : Name → Option Tree) (i : At) (vs : Values) (r : Ref) (e : At) (w : ℕ) →
+    (coerce kinds vars (list i vs) (listOf r) ≡ No e w) ↔ RefusedItem kinds vars r e w vs
+list-refused-exactly = reasons.list-refused-exactly
+
 -- In the value of a row no value inside an object stands at the object's place.
 pub row-apart : (kinds : Name → Kind) (vars : Name → Option Tree) (text : ℕ) (d : Doc) (k i : ℕ) → ApartInside kinds vars (valueAt text d k i)
 row-apart = rows-apart.row-apart
+
+-- Nor does one among a field's arguments stand at the field's place, nor one that the variables text gives at a place of the document; and an argument has no default so far.
+pub arguments-apart : (kinds : Name → Kind) (vars : Name → Option Tree) (text : ℕ) (d : Doc) (i : ℕ) → Apart kinds vars (placed text d i) (argumentsAt text d i)
+arguments-apart = rows-apart.arguments-apart
+
+pub given-apart : (kinds : Name → Kind) (vars : Name → Option Tree) (d : Doc) (e : At) → e .text ≡ inputDocument → Apart kinds vars e (givenIn d)
+given-apart = rows-apart.given-apart
+
+pub arguments-without-defaults : (kinds : Name → Kind) (e i : At) (f : FieldIs) → ApartDefaults e (duly kinds (argumentDues f) i)
+arguments-without-defaults = rows-apart.arguments-without-defaults
+
+-- ---- 01'S EXAMPLES
+
+-- input In {a: String, b: Int!}, scalar S, enum E {A}
+abbrev pub types : Table
+types =
+    record {
+      tag = tagInputObject;
+      name = bytes "In";
+      implements = [];
+      members =
+          record { tag = tagArgument; name = bytes "a"; type = named (bytes "String"); arguments = [] } ∷ record { tag = tagArgument; name = bytes "b"; type = nonNull (named (bytes "Int")); arguments = [] } ∷ [];
+    } ∷
+    record { tag = tagScalar; name = bytes "S"; implements = []; members = [] } ∷
+    record { tag = tagEnum; name = bytes "E"; implements = []; members = record { tag = tagEnumValue; name = bytes "A"; type = named []; arguments = [] } ∷ [] } ∷
+    []
+
+-- row i of the document; what a value is at a type, where no variable is set
+abbrev pub here : ℕ → At
+here i = record { text = 0; row = i }
+
+abbrev pub give : Ref → Value → Out Tree
+give r v = coerce (kindOfType types) (λ n. none) v r
+
+-- (1) to (7), over one list.
+pub examples-1-to-7 :
+    give (named (bytes "Int")) (integer (here 1) (bytes "2147483647")) ∷
+    give (named (bytes "Int")) (integer (here 1) (bytes "2147483648")) ∷
+    give (named (bytes "Int")) (integer (here 1) (bytes "-2147483648")) ∷
+    give (named (bytes "Int")) (integer (here 1) (bytes "-2147483649")) ∷
+    give (named (bytes "In")) (object (here 0) (entry (here 1) (bytes "a") (string (here 2) (0x22 ∷ (bytes "abc" ++ (0x22 ∷ []))) (charactersOf (0x22 ∷ (bytes "abc" ++ (0x22 ∷ []))))) no-entries)) ∷
+    give (named (bytes "In")) (object (here 0) (entry (here 1) (bytes "a") (null (here 2)) (entry (here 3) (bytes "b") (integer (here 4) (bytes "1")) no-entries))) ∷
+    give (named (bytes "In")) (object (here 0) (entry (here 1) (bytes "a") (variable (here 2) (bytes "var")) (entry (here 3) (bytes "b") (integer (here 4) (bytes "1")) no-entries))) ∷
+    [] ≡
+    Got (Bits 2147483647) ∷
+    No (here 1) 2 ∷
+    Got (Bits 2147483648) ∷
+    No (here 1) 2 ∷
+    No (here 0) 3 ∷
+    Got (Fields (pair (bytes "a") Null (pair (bytes "b") (Bits 1) no-pairs))) ∷
+    Got (Fields (pair (bytes "b") (Bits 1) no-pairs)) ∷
+    []
+examples-1-to-7 = examples.seven
 
 -- ---- THE CALL `gw_coerce_variables`: an operation's variables
 
@@ -226,6 +355,13 @@ pub coerced-variables-success : (table document name variables : List ℕ) {valu
     × VariablesGive table document variables rs op vs (Got ps)
     × (take mostCoerced value′ ≡ encode (Fields ps) ++ replicate (mostCoerced - length (encode (Fields ps))) 0) × (take 2 report′ ≡ 0 ∷ length (encode (Fields ps)) ∷ [])
 coerced-variables-success = variables-call.variables-success
+
+-- Each tag 33 among these bytes, read as House fields however deep (`FieldIn`), holds, as a signed number, exactly the number that its token writes.
+pub coerced-variables-tag-33 : (table document name variables : List ℕ) {value report value′ report′ : List ℕ} {a : ℕ} → CoercedVariables table document name variables value report value′ report′ a → a ≡ 0 →
+    (rs : List Row) × (op : ℕ) × (vs : List Row) × (bs : List ℕ) × VariablesRead table document name variables rs op vs
+    × (take mostCoerced value′ ≡ bs ++ replicate (mostCoerced - length bs) 0) × (take 2 report′ ≡ 0 ∷ length bs ∷ [])
+    × ((c : List ℕ) → FieldIn 33 c bs → (s : List ℕ) × TokenGiven document variables rs op vs s × (numberRead c ≡ numberWritten s))
+coerced-variables-tag-33 = tags.variables-tag-33
 
 -- 11 with a text, row and reason exactly when the rules refuse so; and 11 always shows them.
 pub coerced-variables-refused-exactly : (table document name variables : List ℕ) {value report value′ report′ : List ℕ} {a : ℕ} → CoercedVariables table document name variables value report value′ report′ a → (i : At) (w : ℕ) →
@@ -346,6 +482,13 @@ pub coerced-arguments-success : (table document name variables : List ℕ) (row 
     × ArgumentsGive table document variables row rs op vs (Got t)
     × (take mostCoerced value′ ≡ encode t ++ replicate (mostCoerced - length (encode t)) 0) × (take 2 report′ ≡ 0 ∷ length (encode t) ∷ [])
 coerced-arguments-success = arguments-call.arguments-success
+
+-- Each tag 33 among these bytes holds the number that its token writes: an argument's, or one of the variables'.
+pub coerced-arguments-tag-33 : (table document name variables : List ℕ) (row : ℕ) {value report value′ report′ : List ℕ} {a : ℕ} → CoercedArguments table document name variables row value report value′ report′ a → a ≡ 0 →
+    (rs : List Row) × (op : ℕ) × (vs : List Row) × (bs : List ℕ) × ReachedField (read document rs) op row × VariablesRead table document name variables rs op vs
+    × (take mostCoerced value′ ≡ bs ++ replicate (mostCoerced - length bs) 0) × (take 2 report′ ≡ 0 ∷ length bs ∷ [])
+    × ((c : List ℕ) → FieldIn 33 c bs → (s : List ℕ) × (TokenOfField table document row rs s ⊎ TokenGiven document variables rs op vs s) × (numberRead c ≡ numberWritten s))
+coerced-arguments-tag-33 = tags.arguments-tag-33
 
 -- 11 with a text, row and reason exactly when the rules refuse so; and 11 always shows them.
 pub coerced-arguments-refused-exactly : (table document name variables : List ℕ) (row : ℕ) {value report value′ report′ : List ℕ} {a : ℕ} → CoercedArguments table document name variables row value report value′ report′ a → (i : At) (w : ℕ) →

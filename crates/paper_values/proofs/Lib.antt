@@ -11,8 +11,10 @@ pub mod PlacesLaws
 pub mod IntExact
 pub mod ReasonTables
 pub mod ReasonsExact
+pub mod ReasonsOfDues
 pub mod RowsApart
 pub mod TagInt
+pub mod TagInts
 pub mod TrapInt
 pub mod TrapOrder
 pub mod ExamplesTable

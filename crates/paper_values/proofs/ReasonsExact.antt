@@ -1,4 +1,4 @@
--- The eight reasons, each exactly when: a value at a named type, null at any type; and what the wrappers of a type add.
+-- The eight reasons, each exactly when: a value at a named type, null at any type; and what the wrappers of a type add. `ReasonsOfDues` has what is due in a call.
 -- Assumes nothing. Only in an object can a refusal be another value's; `Apart` says that a place is none inside its entries' values, and the values of rows keep it.
 use mathlib.Core.Path.{_≡_, refl, sym, ap, _∙_, subst}
 use mathlib.Core.Bool.{Bool, true, false}
@@ -9,9 +9,9 @@ use Prim.Native.Nat.{ℕ}
 use native.Mathlib.Omega.{arith}
 use Rattle.paper_table.specs.References.{Ref, named, listOf, nonNull, isNonNull}
 use Rattle.paper_values.specs.ValueNumbers.{reasonKind, reasonRange, reasonMissing, reasonNull, reasonUnknown, reasonRepeated, reasonEnum, reasonSurrogate}
-use Rattle.paper_values.specs.Values.{Name, At, Value, variable, integer, float, string, boolean, null, enum, list, object, Entries, Due, Tree, Null, Bits, Decimal, Text, Truth, Member, Many, Fields, Token, no-more, also, Pairs, pair, Out, Got, No, andThen}
+use Rattle.paper_values.specs.Values.{Name, At, Value, variable, integer, float, string, boolean, null, enum, list, object, Values, no-values, item, Entries, Due, Tree, Null, Bits, Decimal, Text, Truth, Member, Many, Fields, Token, Trees, no-more, also, Pairs, pair, Out, Got, No, andThen}
 use Rattle.paper_values.specs.Kinds.{Kind, Int, Float, String, Boolean, ID, Own, Other, Enum, Input}
-use Rattle.paper_values.specs.Computed.{nullAt, held, coerce}
+use Rattle.paper_values.specs.Computed.{nullAt, held, coerce, coerceAll}
 use Rattle.paper_values.specs.Coercion.{heads, repeatedEntry, unknownEntry}
 use Rattle.paper_values.specs.CoercionRules.{plainValue, singleValue, asInput, valueFor, Coerces, at-non-null, list-of-one, no-object, entry-repeated, entry-unknown, an-object, InFields, no-fields, required-missing, left-out, field-refused, field-got}
 use Rattle.paper_values.proofs.CoercionExact.{coerces-is, coerces-has}
@@ -61,7 +61,7 @@ module _ (kinds : Name → Kind) (vars : Name → Option Tree) where
   Outer e i es ds (Got ps) = Unit
   Outer e i es ds (No j w) = j ≡ e → (j ≡ i) × (w ≡ reasonMissing) × Lacks es ds
 
-  refused-inside : (e : At) {j : At} {v : Value} {r : Ref} {w : ℕ} → Placed (λ k. k ≡ e → ⊥) v → Coerces kinds vars v r (No j w) → j ≡ e → ⊥
+  pub refused-inside : (e : At) {j : At} {v : Value} {r : Ref} {w : ℕ} → Placed (λ k. k ≡ e → ⊥) v → Coerces kinds vars v r (No j w) → j ≡ e → ⊥
   refused-inside e {v = v} {r} p c = subst (λ (o : Out Tree). Kept (λ k. k ≡ e → ⊥) o) (coerces-is kinds vars c) (value-kept (λ k. k ≡ e → ⊥) kinds vars v p r)
 
   outer-pair : (e i : At) (es : Entries) (d : Due) (ds : List Due) {t : Tree} (v : Value) (o : Out Pairs) → valueFor kinds vars (d .name) es ≡ some v → Coerces kinds vars v (d .type) (Got t)
@@ -88,7 +88,7 @@ module _ (kinds : Name → Kind) (vars : Name → Option Tree) where
     for-a-field : {e : At} {w : ℕ} (ds : List Due) → asInput (kinds n) ≡ some ds → repeatedEntry [] (heads es) ≡ none → unknownEntry ds (heads es) ≡ none →
         InFields kinds vars i es ds (No e w) → Refused i es n e w
 
-  no-fields-refused : (o : Out Pairs) {e : At} {w : ℕ} → andThen o (λ ps. Got (Fields ps)) ≡ No e w → o ≡ No e w
+  pub no-fields-refused : (o : Out Pairs) {e : At} {w : ℕ} → andThen o (λ ps. Got (Fields ps)) ≡ No e w → o ≡ No e w
   no-fields-refused (Got ps) q = let z : _≡_ {A = ℕ} 0 1 = cc in absurd (omega (arith, z))
   no-fields-refused (No j x) q = cc
 
@@ -254,3 +254,38 @@ module _ (kinds : Name → Kind) (vars : Name → Option Tree) where
   list-of-one-refused v r e w p =
       let s = coerces-is kinds vars (list-of-one p (coerces-has kinds vars v r) refl) in
       (λ q. one-refused (coerce kinds vars v r) .0 (sym s ∙ q), λ q. s ∙ one-refused (coerce kinds vars v r) .1 q)
+
+  -- a list: an item is refused so, and those before it are coerced
+  pub data RefusedItem (r : Ref) (e : At) (w : ℕ) : Values → Type 0 where
+    this-item : {v : Value} {vs : Values} → coerce kinds vars v r ≡ No e w → RefusedItem r e w (item v vs)
+    later-item : {v : Value} {vs : Values} (t : Tree) → coerce kinds vars v r ≡ Got t → RefusedItem r e w vs → RefusedItem r e w (item v vs)
+
+  rest-refused : (t : Tree) (o : Out Trees) {e : At} {w : ℕ} → andThen o (λ ts. Got (also t ts)) ≡ No e w → o ≡ No e w
+  rest-refused t (Got ts) q = let z : _≡_ {A = ℕ} 0 1 = cc in absurd (omega (arith, z))
+  rest-refused t (No j x) q = cc
+
+  many-refused : (o : Out Trees) {e : At} {w : ℕ} → (andThen o (λ ts. Got (Many ts)) ≡ No e w) ↔ (o ≡ No e w)
+  many-refused (Got ts) = (λ q. let z : _≡_ {A = ℕ} 0 1 = cc in absurd (omega (arith, z)), λ q. let z : _≡_ {A = ℕ} 0 1 = cc in absurd (omega (arith, z)))
+  many-refused (No j x) = (λ q. cc, λ q. cc)
+
+  item-by : (v : Value) (vs : Values) (r : Ref) (e : At) (w : ℕ) (o : Out Tree) → coerce kinds vars v r ≡ o → andThen o (λ t. andThen (coerceAll kinds vars vs r) (λ ts. Got (also t ts))) ≡ No e w →
+      (coerceAll kinds vars vs r ≡ No e w → RefusedItem r e w vs) → RefusedItem r e w (item v vs)
+  item-by v vs r e w (Got t) c z f = later-item t c (f (rest-refused t (coerceAll kinds vars vs r) z))
+  item-by v vs r e w (No j x) c z f = let y : _≡_ {A = Out Tree} (No j x) (No e w) = cc in this-item (c ∙ y)
+
+  item-from : (vs : Values) (r : Ref) (e : At) (w : ℕ) → coerceAll kinds vars vs r ≡ No e w → RefusedItem r e w vs
+  unfolding coerce
+  item-from no-values r e w q = let z : _≡_ {A = ℕ} 0 1 = cc in absurd (omega (arith, z))
+  item-from (item v vs) r e w q = item-by v vs r e w (coerce kinds vars v r) refl q (λ z. item-from vs r e w z)
+
+  to-item : {r : Ref} {e : At} {w : ℕ} {vs : Values} → RefusedItem r e w vs → coerceAll kinds vars vs r ≡ No e w
+  unfolding coerce
+  to-item (this-item q) = rw q
+  to-item (later-item t q h) = rw (q, to-item h)
+
+  pub list-refused-exactly : (i : At) (vs : Values) (r : Ref) (e : At) (w : ℕ) → (coerce kinds vars (list i vs) (listOf r) ≡ No e w) ↔ RefusedItem r e w vs
+  unfolding coerce
+  list-refused-exactly i vs r e w = (
+    λ q. item-from vs r e w (many-refused (coerceAll kinds vars vs r) .0 q),
+    λ h. many-refused (coerceAll kinds vars vs r) .1 (to-item h),
+  )

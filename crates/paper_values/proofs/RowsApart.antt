@@ -6,16 +6,22 @@ use mathlib.Core.Option.{Option, none, some}
 use Prim.Native.Nat.{ℕ, zero, suc, _+_, _-_, _<_}
 use native.Mathlib.Omega.{arith}
 use lib.Dec.{eqb}
-use Rattle.paper.specs.Numbers.{kindVariable, kindInteger, kindFloat, kindString, kindBoolean, kindNull, kindEnum, kindList, kindObjectField}
+use Rattle.paper.specs.Numbers.{kindVariable, kindInteger, kindFloat, kindString, kindBoolean, kindNull, kindEnum, kindList, kindObjectField, kindArgument, inputDocument, inputVariables, mostLevels}
 use Rattle.paper.specs.Tokens.{same}
+use mathlib.Core.List.{List, [], _∷_, map}
+use Rattle.paper_table.specs.Types.{Argument}
 use Rattle.paper_query.specs.Constructs.{Doc, count, kindOf, parentOf, nameOf}
+use Rattle.paper_query.specs.Enclosing.{FieldIs, typename, member, missing, unknown}
 use Rattle.paper_values.specs.Values.{Name, At, Value, Values, item, Entries, no-entries, entry, Tree}
-use Rattle.paper_values.specs.Kinds.{Kind}
+use Rattle.paper_values.specs.Kinds.{Kind, dueArgument}
 use Rattle.paper_values.specs.Coercion.{leftOut}
 use Rattle.paper_values.specs.CoercionRules.{valueFor}
-use Rattle.paper_values.specs.RowValues.{placed, itemsFrom, entriesFrom, valueBy, valueAt}
+use Rattle.paper_values.specs.RowValues.{placed, itemsFrom, entriesFrom, valueBy, valueAt, argumentsAt}
+use Rattle.paper_values.specs.DocumentDues.{givenIn, argumentDues}
 use Rattle.paper_values.proofs.PlacesLaws.{Placed, PlacedAll, PlacedEntries}
+use Rattle.paper_values.proofs.CallsExact.{duly}
 use Rattle.paper_values.proofs.ReasonsExact.{Apart, ApartInside}
+use Rattle.paper_values.proofs.ReasonsOfDues.{ApartDefaults}
 
 none≢some : {v : Value} → none ≡ some v → ⊥
 none≢some q = let z : _≡_ {A = ℕ} 0 1 = cc in omega arith
@@ -88,10 +94,10 @@ module _ (kinds : Name → Kind) (vars : Name → Option Tree) (text : ℕ) (d :
   other-row : (i c : ℕ) → i < c → placed text d c ≡ placed text d i → ⊥
   other-row i c l q = let e = ap (λ (j : At). j .row) q in omega (arith, e)
 
-  entries-apart : (k i c n : ℕ) → i < c → Apart kinds vars (placed text d i) (entriesFrom text d (valueAt text d k) kindObjectField i n c)
-  entries-apart k i c n l =
+  entries-apart : (kind k i c n : ℕ) → i < c → Apart kinds vars (placed text d i) (entriesFrom text d (valueAt text d k) kind i n c)
+  entries-apart kind k i c n l =
       entry-placed (λ j. j ≡ placed text d i → ⊥) kinds vars _
-      (entries-later (λ j. j ≡ placed text d i → ⊥) text d i (other-row i) (valueAt text d k) (value-later (λ j. j ≡ placed text d i → ⊥) text d i (other-row i) k) kindObjectField i n c l)
+      (entries-later (λ j. j ≡ placed text d i → ⊥) text d i (other-row i) (valueAt text d k) (value-later (λ j. j ≡ placed text d i → ⊥) text d i (other-row i) k) kind i n c l)
 
   pub row-apart : (k i : ℕ) → ApartInside kinds vars (valueAt text d k i)
   unfolding valueAt valueBy
@@ -104,4 +110,29 @@ module _ (kinds : Name → Kind) (vars : Name → Option Tree) (text : ℕ) (d :
       (apart-if (eqb (kindOf d i) kindBoolean) _ _ tt
       (apart-if (eqb (kindOf d i) kindNull) _ _ tt
       (apart-if (eqb (kindOf d i) kindEnum) _ _ tt
-      (apart-if (eqb (kindOf d i) kindList) _ _ tt (entries-apart k i (i + 1) (count d - (i + 1)) (omega arith)))))))))
+      (apart-if (eqb (kindOf d i) kindList) _ _ tt (entries-apart kindObjectField k i (i + 1) (count d - (i + 1)) (omega arith)))))))))
+
+  -- the arguments of the field at a row
+  pub arguments-apart : (i : ℕ) → Apart kinds vars (placed text d i) (argumentsAt text d i)
+  arguments-apart i = entries-apart kindArgument (suc mostLevels) i (i + 1) (count d - (i + 1)) (omega arith)
+
+-- what the variables text gives stands in another text than the document's rows
+other-text : (d : Doc) (e : At) → e .text ≡ inputDocument → (c : ℕ) → placed inputVariables d c ≡ e → ⊥
+other-text d e t c q = let z = ap (λ (j : At). j .text) q in omega (arith, z, t)
+
+pub given-apart : (kinds : Name → Kind) (vars : Name → Option Tree) (d : Doc) (e : At) → e .text ≡ inputDocument → Apart kinds vars e (givenIn d)
+given-apart kinds vars d e t =
+    entry-placed (λ j. j ≡ e → ⊥) kinds vars _
+    (entries-later (λ j. j ≡ e → ⊥) inputVariables d 0 (λ c l. other-text d e t c) (valueAt inputVariables d (suc mostLevels))
+    (value-later (λ j. j ≡ e → ⊥) inputVariables d 0 (λ c l. other-text d e t c) (suc mostLevels)) kindObjectField 0 (count d - 1) 1 (omega arith))
+
+-- an argument has no default so far
+no-defaults : (kinds : Name → Kind) (e i : At) (bs : List Argument) → ApartDefaults e (duly kinds (map dueArgument bs) i)
+no-defaults kinds e i [] = tt
+no-defaults kinds e i (b ∷ bs) = (tt, no-defaults kinds e i bs)
+
+pub arguments-without-defaults : (kinds : Name → Kind) (e i : At) (f : FieldIs) → ApartDefaults e (duly kinds (argumentDues f) i)
+arguments-without-defaults kinds e i typename = tt
+arguments-without-defaults kinds e i (member m) = no-defaults kinds e i (m .arguments)
+arguments-without-defaults kinds e i missing = tt
+arguments-without-defaults kinds e i unknown = tt

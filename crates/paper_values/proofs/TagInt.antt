@@ -24,7 +24,7 @@ module _ (kinds : Name → Kind) (vars : Name → Option Tree) where
   unfolding coerce
   at-int i s n k = ap (integerAt i s) k
 
-  bits-in : (i : At) (x : ℕ) (o : Option ℕ) → inRange i Bits o ≡ Got (Bits x) → o ≡ some x
+  pub bits-in : (i : At) (x : ℕ) (o : Option ℕ) → inRange i Bits o ≡ Got (Bits x) → o ≡ some x
   bits-in i x none q = let z : _≡_ {A = ℕ} 0 1 = cc in absurd (omega (arith, z))
   bits-in i x (some y) q = cc
 

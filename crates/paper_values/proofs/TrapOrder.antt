@@ -1,5 +1,6 @@
 -- Wrong programs that differ from `coerce` on a worked example: one tells an object's refusals as its entries are written and one tells the least row,
--- where 01 says "fields in definition order"; one leaves an absent variable's item out of a list, where 01 says "in a list it is null".
+-- where 01 says "fields in definition order"; one leaves an absent variable's item out of a list, where 01 says "in a list it is null"; one tells a repeated
+-- name at the first entry that has it, where 01 says "for 5 and 6 the entry's"; one judges a default that is not taken, where 01 says that an absent variable takes it.
 -- Assumes nothing.
 use mathlib.Core.Path.{_≡_, refl, ap}
 use mathlib.Core.Bool.{true, cond}
@@ -12,10 +13,11 @@ use Rattle.paper.specs.Tokens.{same}
 use Rattle.paper_table.specs.Lists.{bytes, anyOf, firstAt, gather}
 use Rattle.paper_table.specs.References.{Ref, named}
 use Rattle.paper_table.specs.Types.{builtIns, meaning}
-use Rattle.paper_values.specs.Values.{Name, At, variable, boolean, Values, no-values, item, no-entries, entry, Due, Tree, Null, Trees, no-more, also, Pairs, no-pairs, pair, Out, Got, No, andThen}
+use Rattle.paper_values.specs.NumberTokens.{valueFrom, intOf}
+use Rattle.paper_values.specs.Values.{Name, At, Value, variable, integer, boolean, Values, no-values, item, Entries, no-entries, entry, Due, Tree, Null, Bits, Trees, no-more, also, Pairs, no-pairs, pair, Out, Got, No, andThen}
 use Rattle.paper_values.specs.Kinds.{Kind, kindOfType}
-use Rattle.paper_values.specs.Computed.{Given, missingDue, entryOf, dueFields, coerce, coerceAll, givens}
-use Rattle.paper_values.specs.Coercion.{leftOut}
+use Rattle.paper_values.specs.Computed.{Given, missingDue, entryOf, dueField, dueFields, coerce, coerceAll, givens, constant, orDefault, variablesFrom}
+use Rattle.paper_values.specs.Coercion.{Head, repeatedEntry, heads, leftOut}
 
 abbrev int : Ref
 int = named (bytes "Int")
@@ -115,3 +117,55 @@ isEmpty (No i w) = 0
 pub leaving-differs : ((vs : Values) (r : Ref) → itemsLeft vs r ≡ coerceAll kinds unset vs r) → ⊥
 unfolding coerce
 leaving-differs h = let z : _≡_ {A = ℕ} 1 0 = ap isEmpty (h items int) in omega (arith, z)
+
+-- ---- a repeated name
+
+-- `repeatedEntry`, but that the first of two entries is told: one whose name a later one has
+abbrev pub repeatedFirst : List Head → Option At
+repeatedFirst [] = none
+repeatedFirst (e ∷ es) = cond (anyOf (λ f. same (e .1) (f .1)) es) (some (e .0)) (repeatedFirst es)
+
+-- `{a: true, a: true}`: the second is told
+abbrev twice : List Head
+twice = heads (entry (here 1) (bytes "a") (boolean (here 2) true) (entry (here 3) (bytes "a") (boolean (here 4) true) no-entries))
+
+pub second-told : repeatedEntry [] twice ∷ repeatedFirst twice ∷ [] ≡ some (here 3) ∷ some (here 1) ∷ []
+unfolding anyOf
+second-told = refl
+
+abbrev rowOr : Option At → ℕ
+rowOr none = 0
+rowOr (some i) = i .row
+
+pub first-differs : ((es : List Head) → repeatedFirst es ≡ repeatedEntry [] es) → ⊥
+unfolding anyOf
+first-differs h = let z : _≡_ {A = ℕ} 1 3 = ap rowOr (h twice) in omega (arith, z)
+
+-- ---- a default that is not taken
+
+abbrev judged : Ref → Option Value → Out Tree
+judged r none = Got Null
+judged r (some v) = constant kinds v r
+
+-- `variablesFrom`, but that a default is judged also where an entry is given
+abbrev pub defaultsJudged : List Given → List (At × Due) → Out Pairs
+defaultsJudged gs [] = Got no-pairs
+defaultsJudged gs (v ∷ vs) =
+    andThen (judged (v .1 .type) (v .1 .default)) (λ t.
+    dueField (orDefault kinds (v .0) (v .1) (v .1 .default) (defaultsJudged gs vs)) (v .1) (entryOf (v .1 .name) gs) (defaultsJudged gs vs))
+
+-- `$v: Int = true`, given `{v: 1}`: v is 1
+abbrev one : Entries
+one = entry (record { text = 1; row = 1 }) (bytes "v") (integer (record { text = 1; row = 2 }) (bytes "1")) no-entries
+
+abbrev wrongDefault : List (At × Due)
+wrongDefault = (here 1, record { name = bytes "v"; type = int; default = some (boolean (here 3) true) }) ∷ []
+
+pub default-passed-over :
+    variablesFrom kinds (givens kinds unset one) wrongDefault ∷ defaultsJudged (givens kinds unset one) wrongDefault ∷ [] ≡ Got (pair (bytes "v") (Bits 1) no-pairs) ∷ No (here 3) 1 ∷ []
+unfolding coerce kindOfType builtIns meaning anyOf firstAt gather intOf valueFrom
+default-passed-over = refl
+
+pub judging-differs : ((gs : List Given) (vs : List (At × Due)) → defaultsJudged gs vs ≡ variablesFrom kinds gs vs) → ⊥
+unfolding coerce kindOfType builtIns meaning anyOf firstAt gather intOf valueFrom
+judging-differs h = let z : _≡_ {A = ℕ} 3 0 = ap rowTold (h (givens kinds unset one) wrongDefault) in omega (arith, z)

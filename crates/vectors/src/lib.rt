@@ -44,6 +44,13 @@ pub fn number(bytes: &[u8], at: usize) -> u32 {
     word(bytes[at], bytes[at + 1])
 }
 
+// Sets a number of a list, where there is one
+pub fn put(list: &mut [u32], at: usize, x: u32) {
+    if at < list.len() {
+        list[at] = x;
+    }
+}
+
 // What number i of the report must be
 fn report_expected(head: &[u8], i: usize) -> u32 {
     if REPORT_SIZE <= i {

@@ -63,18 +63,11 @@ fn count(asked: &[u8], at: usize) -> usize
     n as usize
 }
 
-// Sets a number of a list, where there is one
-fn put(list: &mut [u32], at: usize, x: u32) {
-    if at < list.len() {
-        list[at] = x;
-    }
-}
-
 // Sets the plan's numbers that are not 0
 fn fill_plan(asked: &[u8], plan: &mut [u32]) {
     for i in 0..count(asked, ASKED_NUMBERS) {
         let at = ASKED_HEAD + ENTRY_SIZE * i;
-        put(
+        vectors::put(
             plan,
             vectors::number(asked, at) as usize,
             long_number(asked, at + 2),
@@ -87,7 +80,7 @@ fn fill_blocks(asked: &[u8], from: usize, blocks: &mut [u32])
     requires { ⌜ from ≤ 1000000 ⌝ }
 {
     for i in 0..count(asked, ASKED_BLOCKS) {
-        put(blocks, i, long_number(asked, from + LONG_SIZE * i));
+        vectors::put(blocks, i, long_number(asked, from + LONG_SIZE * i));
     }
 }
 
