@@ -133,7 +133,7 @@ fn type_named(t: &[u8], book: &[u32], s: &[u8], rows: &[u32], n: usize, j: usize
     if c == query_types::NO_TYPE {
         return table_book::count_of(book) as u32;
     }
-    c - 1
+    (c - 1) as u32
 }
 
 // The number of the type of the fragment of row f; the count of definitions if it has no condition.

@@ -19,7 +19,7 @@ use Rattle.query_alike.specs.Flags.Likened.{copy, model}
 use Rattle.query_alike.proofs.FlagsLaws.{FirstKind, VariableLoop, variables-start, variables-skip, variables-set, variables-end}
 
 -- comparing asks for no links
-pub unlinked : {t s rows : List ℕ} {n : ℕ} {first next at size wrappers owner : List ℕ} → Known t s rows n first next at size wrappers owner → Unlinked t s rows n at size wrappers owner
+pub unlinked : {t s rows : List ℕ} {n : ℕ} {first next at es wrappers owner : List ℕ} → Known t s rows n first next at es wrappers owner → Unlinked t s rows n at es wrappers owner
 unlinked k = record { rowed = k .rowed; placed = k .placed; owned = k .owned }
 
 module _ (t : Table) (d : Doc) where

@@ -62,10 +62,10 @@ abbrev pub FragmentsTo : Doc → List ℕ → ℕ → List ℕ → Type 0
 FragmentsTo d old g new = (t : Table) → FlagsTo t d 0 0 old → FlagsTo t d g 0 new
 
 -- what is known of a document before variables are judged
-pub record Known (t s rows : List ℕ) (n : ℕ) (first next at size wrappers owner : List ℕ) : Type 0 where
+pub record Known (t s rows : List ℕ) (n : ℕ) (first next at es wrappers owner : List ℕ) : Type 0 where
   pub rowed : Rowed s rows n
   pub family : Family (rowsIn rows n) first next
-  pub placed : Placed t s rows n at size wrappers n
+  pub placed : Placed t s rows n at es wrappers
   pub owned : Owned (docOf s rows n) owner
 
 -- the first m of the stack are variables before row i

@@ -43,15 +43,15 @@ fn model_of(
     s: &[u8],
     rows: &[u32],
     n: usize,
-    at: &[u32],
-    size: &[u32],
-    wrappers: &[u32],
+    at: &[u16],
+    es: &[u16],
+    wrappers: &[u16],
     owner: &[u32],
     stack: &[u16],
     m: usize,
     i: usize,
 ) -> usize
-    requires { ⌜ Unlinked (now t) (now s) (now rows) n (now at) (now size) (now wrappers) (now owner) × Models (docOf (now s) (now rows) n) (now stack) m i × (rowIn (now rows) n i .kind ≡ kindVariable) ⌝ }
+    requires { ⌜ Unlinked (now t) (now s) (now rows) n (now at) (now es) (now wrappers) (now owner) × Models (docOf (now s) (now rows) n) (now stack) m i × (rowIn (now rows) n i .kind ≡ kindVariable) ⌝ }
     ensures { λ r. ⌜ (r < n → ModelOf (tableOf (now (t .entry))) (docOf (now (s .entry)) (now (rows .entry)) n) (now (stack .entry)) m i r) ⌝ }
 {
     let end = newest(m);
@@ -59,7 +59,7 @@ fn model_of(
     while end < k {
         k -= 1;
         let model = model_at(stack, k);
-        if is_like(t, s, rows, n, at, size, wrappers, owner, i, model) {
+        if is_like(t, s, rows, n, at, es, wrappers, owner, i, model) {
             return model;
         }
     }
@@ -72,19 +72,19 @@ fn liken_one(
     s: &[u8],
     rows: &[u32],
     n: usize,
-    at: &[u32],
-    size: &[u32],
-    wrappers: &[u32],
+    at: &[u16],
+    es: &[u16],
+    wrappers: &[u16],
     owner: &[u32],
     stack: &mut [u16],
     flag: &mut [u32],
     m: usize,
     i: usize,
 ) -> usize
-    requires { ⌜ Unlinked (now t) (now s) (now rows) n (now at) (now size) (now wrappers) (now owner) × Models (docOf (now s) (now rows) n) (now stack) m i × (rowIn (now rows) n i .kind ≡ kindVariable) × (length (now flag) ≡ roomOf n) ⌝ }
+    requires { ⌜ Unlinked (now t) (now s) (now rows) n (now at) (now es) (now wrappers) (now owner) × Models (docOf (now s) (now rows) n) (now stack) m i × (rowIn (now rows) n i .kind ≡ kindVariable) × (length (now flag) ≡ roomOf n) ⌝ }
     ensures { λ r. ⌜ Likened (tableOf (now (t .entry))) (docOf (now (s .entry)) (now (rows .entry)) n) i (now (stack .entry)) (now (flag .entry)) m (now (stack .exit)) (now (flag .exit)) r ⌝ }
 {
-    let model = model_of(t, s, rows, n, at, size, wrappers, owner, stack, m, i);
+    let model = model_of(t, s, rows, n, at, es, wrappers, owner, stack, m, i);
     if model < n {
         flag[i] = LIKE_FIRST + model as u32;
         return m;
@@ -101,20 +101,20 @@ pub fn liken(
     n: usize,
     firstk: &[u32],
     nextk: &[u32],
-    at: &[u32],
-    size: &[u32],
-    wrappers: &[u32],
+    at: &[u16],
+    es: &[u16],
+    wrappers: &[u16],
     owner: &[u32],
     stack: &mut [u16],
     flag: &mut [u32],
 )
-    requires { ⌜ Unlinked (now t) (now s) (now rows) n (now at) (now size) (now wrappers) (now owner) × Kinds (rowsIn (now rows) n) (now firstk) (now nextk) × (length (now stack) ≡ roomOf n) × FlagsTo (tableOf (now t)) (docOf (now s) (now rows) n) n 0 (now flag) ⌝ }
+    requires { ⌜ Unlinked (now t) (now s) (now rows) n (now at) (now es) (now wrappers) (now owner) × Kinds (rowsIn (now rows) n) (now firstk) (now nextk) × (length (now stack) ≡ roomOf n) × FlagsTo (tableOf (now t)) (docOf (now s) (now rows) n) n 0 (now flag) ⌝ }
     ensures { λ _. ⌜ LikenedTo (tableOf (now (t .entry))) (docOf (now (s .entry)) (now (rows .entry)) n) n 0 (now (flag .exit)) ⌝ }
 {
     let mut m = 0;
     let mut v = link_of(firstk, KIND_VARIABLE as usize);
     while v < n {
-        m = liken_one(t, s, rows, n, at, size, wrappers, owner, stack, flag, m, v);
+        m = liken_one(t, s, rows, n, at, es, wrappers, owner, stack, flag, m, v);
         v = link_of(nextk, v);
     }
 }

@@ -66,24 +66,23 @@ pub variable-within : (d : Doc) (i : ℕ) → kindOf d i ≡ kindVariable → i 
 variable-within d i e = row-within d (is kindVariable) i refl (rw e tt)
 
 -- a variable is one of the rows, and in room
-pub variable-room : {t s rows : List ℕ} {n : ℕ} {at size wrappers owner : List ℕ} → Unlinked t s rows n at size wrappers owner → (i : ℕ) → rowIn rows n i .kind ≡ kindVariable → i < roomOf n
+pub variable-room : {t s rows : List ℕ} {n : ℕ} {at es wrappers owner : List ℕ} → Unlinked t s rows n at es wrappers owner → (i : ℕ) → rowIn rows n i .kind ≡ kindVariable → i < roomOf n
 variable-room {s = s} {rows = rows} {n = n} u i k = omega (arith, variable-within (docOf s rows n) i k, rows-count rows n, room-enough n (u .rowed .few))
 
 -- two variables of a document, by the numbers that are kept of them
-module _ (t s rows : List ℕ) (n : ℕ) (at size wrappers owner : List ℕ) (u : Unlinked t s rows n at size wrappers owner) where
+module _ (t s rows : List ℕ) (n : ℕ) (at es wrappers owner : List ℕ) (u : Unlinked t s rows n at es wrappers owner) where
   abbrev d : Doc
   d = docOf s rows n
 
   variable-below : (i : ℕ) → rowIn rows n i .kind ≡ kindVariable → i < n
   variable-below i k = omega (arith, variable-within d i k, rows-count rows n)
 
-  place-kept : (i : ℕ) → rowIn rows n i .kind ≡ kindVariable → place (tableOf t) d i ≡ coded t (record { at = getD at i 0; size = getD size i 0; wrappers = getD wrappers i 0 })
-  place-kept i k = placed-at t s rows n (u .rowed) at size wrappers (u .placed) i .is ∙ ap (coded t) (in-row rows n at size wrappers i (variable-below i k) (rw k))
+  place-kept : (i : ℕ) → rowIn rows n i .kind ≡ kindVariable → place (tableOf t) d i ≡ coded t es (record { at = getD at i 0; wrappers = getD wrappers i 0 })
+  place-kept i k = placed-at t (u .placed .book) es s rows n (u .rowed) at wrappers (u .placed .all) i .is ∙ ap (coded t es) (in-row rows n at wrappers i (variable-below i k) (rw k))
 
-  pub alike : (i j : ℕ) → rowIn rows n i .kind ≡ kindVariable → rowIn rows n j .kind ≡ kindVariable → getD owner i 0 ≡ getD owner j 0 → getD at i 0 ≡ getD at j 0 → getD size i 0 ≡ getD size j 0
-      → getD wrappers i 0 ≡ getD wrappers j 0 → nameOf d i ≡ nameOf d j → Alike (tableOf t) d i j
-  alike i j k l o a b c e =
+  pub alike : (i j : ℕ) → rowIn rows n i .kind ≡ kindVariable → rowIn rows n j .kind ≡ kindVariable → getD owner i 0 ≡ getD owner j 0 → getD at i 0 ≡ getD at j 0 → getD wrappers i 0 ≡ getD wrappers j 0 → nameOf d i ≡ nameOf d j → Alike (tableOf t) d i j
+  alike i j k l o a c e =
       let x = variable-within d i k in
       let y = variable-within d j l in
-      let z : place (tableOf t) d i ≡ coded t (record { at = getD at j 0; size = getD size j 0; wrappers = getD wrappers j 0 }) = rw (← a, ← b, ← c) (place-kept i k) in
+      let z : place (tableOf t) d i ≡ coded t es (record { at = getD at j 0; wrappers = getD wrappers j 0 }) = rw (← a, ← c) (place-kept i k) in
       least-alike (tableOf t) d i j e (z ∙ sym (place-kept j l)) (reaching-alike d owner (u .owned) i j x y o) (reaching-alike d owner (u .owned) j i y x (sym o))

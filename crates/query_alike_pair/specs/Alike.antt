@@ -53,7 +53,7 @@ abbrev pub Alike : Table → Doc → ℕ → ℕ → Type 0
 Alike t d i j = (m f : ℕ) → Least t d m j f → Least t d m i f
 
 -- what is known of a document before its variables are compared
-pub record Unlinked (t s rows : List ℕ) (n : ℕ) (at size wrappers owner : List ℕ) : Type 0 where
+pub record Unlinked (t s rows : List ℕ) (n : ℕ) (at es wrappers owner : List ℕ) : Type 0 where
   pub rowed : Rowed s rows n
-  pub placed : Placed t s rows n at size wrappers n
+  pub placed : Placed t s rows n at es wrappers
   pub owned : Owned (docOf s rows n) owner

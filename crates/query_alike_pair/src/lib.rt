@@ -1,4 +1,5 @@
 // Whether two variables are alike, in name, place and owner: what operations say of the one, they say of the other.
+use query_links::link_of;
 use query_rows::same_names;
 ghost use mathlib.Core.Path.{_≡_};
 ghost use mathlib.Core.Bool.{true};
@@ -11,7 +12,7 @@ ghost use Rattle.query_rows.specs.Rowed.{rowIn, docOf};
 ghost use Rattle.query_alike_pair.specs.Alike.{Alike, Unlinked};
 
 // Is the same number kept for rows i and j?
-fn same_number(kept: &[u32], i: usize, j: usize) -> bool
+fn same_number(kept: &[u16], i: usize, j: usize) -> bool
     requires { ⌜ (i < length (now kept)) × (j < length (now kept)) ⌝ }
     ensures { λ r. ⌜ r ≡ eqb (getD (now (kept .entry)) i 0) (getD (now (kept .entry)) j 0) ⌝ }
 {
@@ -24,23 +25,20 @@ pub fn is_like(
     s: &[u8],
     rows: &[u32],
     n: usize,
-    at: &[u32],
-    size: &[u32],
-    wrappers: &[u32],
+    at: &[u16],
+    es: &[u16],
+    wrappers: &[u16],
     owner: &[u32],
     i: usize,
     j: usize,
 ) -> bool
-    requires { ⌜ Unlinked (now t) (now s) (now rows) n (now at) (now size) (now wrappers) (now owner) × (rowIn (now rows) n i .kind ≡ kindVariable) × (rowIn (now rows) n j .kind ≡ kindVariable) ⌝ }
+    requires { ⌜ Unlinked (now t) (now s) (now rows) n (now at) (now es) (now wrappers) (now owner) × (rowIn (now rows) n i .kind ≡ kindVariable) × (rowIn (now rows) n j .kind ≡ kindVariable) ⌝ }
     ensures { λ r. ⌜ (r ≡ true → Alike (tableOf (now (t .entry))) (docOf (now (s .entry)) (now (rows .entry)) n) i j) ⌝ }
 {
-    if !same_number(owner, i, j) {
+    if link_of(owner, i) != link_of(owner, j) {
         return false;
     }
     if !same_number(at, i, j) {
-        return false;
-    }
-    if !same_number(size, i, j) {
         return false;
     }
     if !same_number(wrappers, i, j) {

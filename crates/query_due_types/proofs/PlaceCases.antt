@@ -1,5 +1,5 @@
 -- The type due at a row, by its kind and its parent's; and what is due at an argument or an object's field, by the numbers kept.
-use mathlib.Core.Path.{_≡_, refl, sym, ap, _∙_}
+use mathlib.Core.Path.{_≡_, refl, sym, ap, subst, _∙_}
 use mathlib.Core.Bool.{Bool, true, false, cond}
 use mathlib.Core.Option.{Option, none, some}
 use mathlib.Core.List.{List}
@@ -9,26 +9,24 @@ use native.Mathlib.Omega.{arith}
 use lib.Dec.{eqb}
 use borrow.Author.Tests.{eq-eqb, ne-eqb, eqb-true, eqb-false, le-leb, lt-leb, le-ltb}
 use Rattle.paper.specs.Numbers.{kindField, kindArgument, kindDirective, kindObjectField, kindList, kindVariable, kindObject}
-use Rattle.paper_table.specs.TableNumbers.{tagInputObject, tagField, tagScalar}
+use Rattle.paper_table.specs.TableNumbers.{tagInputObject, tagScalar}
 use Rattle.paper_table.specs.Lists.{bytes, anyOf, allOf, find}
 use Rattle.paper_table.specs.Types.{Member, Definition, Table, tableOf, builtIns, meaning, meant, memberNamed, argumentNamed}
 use Rattle.paper_query.specs.Constructs.{Doc, kindOf, parentOf, nameOf}
-use Rattle.paper_query.specs.Enclosing.{FieldIs, typename, member, missing, unknown, then, definitionAt, fieldAt, enclosing, argumentCalled}
+use Rattle.paper_query.specs.Enclosing.{FieldIs, typename, member, missing, unknown, then, fieldAt, enclosing, argumentCalled}
 use Rattle.paper_query.specs.PlaceTypes.{Shape, shape, itemOf, inputFieldOf, argumentPlace, placeFrom}
-use Rattle.table_book.specs.Book.{part, countIn}
-use Rattle.table_members.specs.Members.{membersIn, argumentsIn, memberFrom, fieldFrom}
-use Rattle.table_members.proofs.MemberLaws.{field-is}
-use Rattle.table_types.specs.Booked.{startIn, endIn, kindIn, Booked, NumberMeant}
+use Rattle.table_book.specs.Book.{countIn}
+use Rattle.table_types.specs.Booked.{definitionOn, kindIn, Booked, NumberMeant}
+use Rattle.table_entries.specs.Entries.{hasTypes, MeantAnswer}
 use Rattle.query_rows.specs.Rowed.{rowIn}
 use Rattle.query_rows.proofs.RowsIn.{row-none}
-use Rattle.query_fields.specs.Kept.{fieldTypename, fieldUnknown, fieldMissing, fieldCoded, FieldKept}
+use Rattle.query_fields.specs.Kept.{fieldTypename, fieldFirst, FieldKept}
 use Rattle.query_types.proofs.CompositeLaws.{kind-is}
-use Rattle.query_fields.proofs.FieldLaws.{coded-member}
-use Rattle.query_place_types.specs.Shapes.{placeUnknown, placeFirst, coded, Keeps, slimArgument, slimInput, argumentShape, memberShape}
+use Rattle.query_place_types.specs.Shapes.{placeUnknown, placeFirst, baseAt, coded, Within, Keeps, ArgumentPlace, slimArgument, argumentShape, memberShape}
 use Rattle.query_due_types.specs.Dues.{Fitted}
 use Rattle.query_place_types.specs.declared.Place.{Place}
 use Rattle.query_place_types.proofs.ShapeLaws.{coded-unknown, coded-boolean, coded-base, keeps-unknown}
-use Rattle.query_due_types.proofs.FittedLaws.{arguments-slim, inputs-slim}
+use Rattle.query_due_types.proofs.FittedLaws.{arguments-slim}
 
 -- a row of a kind is there
 pub field-there : (rows : List ℕ) (n p : ℕ) → rowIn rows n p .kind ≡ kindField → p < n
@@ -83,35 +81,30 @@ module _ (t : Table) (d : Doc) (i : ℕ) where
               rw (ne-eqb (kindOf d i) kindArgument a, ne-eqb (kindOf d i) kindObjectField b, le-leb kindVariable (kindOf d i) h, le-leb (kindOf d i) kindObject l, ne-eqb (kindOf d (parentOf d i)) kindList e)
 
 -- a field as it is kept: no member
-none-of-leaf : (t : List ℕ) (at to : ℕ) (n : List ℕ) → at ≤ fieldTypename → argumentCalled (fieldCoded t at to) n ≡ none
-unfolding fieldCoded
-none-of-leaf t at to n h = go (eqb at fieldUnknown) refl (eqb at fieldMissing) refl (eqb at fieldTypename) refl
-  where
-    go : (a : Bool) → eqb at fieldUnknown ≡ a → (b : Bool) → eqb at fieldMissing ≡ b → (c : Bool) → eqb at fieldTypename ≡ c
-        → argumentCalled (cond a unknown (cond b missing (cond c typename (member (memberFrom t tagField at to))))) n ≡ none
-    go true p b q c r = refl
-    go false p true q c r = refl
-    go false p false q true r = refl
-    go false p false q false r = absurd (omega (arith, eqb-false at fieldUnknown p, eqb-false at fieldMissing q, eqb-false at fieldTypename r))
+none-of-leaf : {t book es : List ℕ} (at : ℕ) (n : List ℕ) (f : FieldIs) → FieldKept t book es f at → at ≤ fieldTypename → argumentCalled f n ≡ none
+none-of-leaf at n unknown k h = refl
+none-of-leaf at n missing k h = refl
+none-of-leaf at n typename k h = refl
+none-of-leaf at n (member m) k h = absurd (omega (arith, k .kept .first))
 
-module _ (t : List ℕ) (d : Doc) (i at to : ℕ) (e : kindOf d (parentOf d i) ≡ kindField) (k : FieldKept t (fieldAt (tableOf t) d (parentOf d i)) at to) where
+module _ (t book es : List ℕ) (d : Doc) (i at : ℕ) (e : kindOf d (parentOf d i) ≡ kindField) (k : FieldKept t book es (fieldAt (tableOf t) d (parentOf d i)) at) (r : Place) where
   -- an argument of what is no member
-  pub argument-of-leaf : at ≤ fieldTypename → (r : Place) → r .at ≡ placeUnknown → Keeps t (argumentPlace (tableOf t) d i) r
-  argument-of-leaf h r z =
-      let q : argumentPlace (tableOf t) d i ≡ none = argument-of-field (tableOf t) d i e ∙ ap (λ (f : FieldIs). argumentShape (argumentCalled f (nameOf d i))) (k .is) ∙ ap argumentShape (none-of-leaf t at to (nameOf d i) h) in
-      rw q (keeps-unknown t r z)
+  pub argument-of-leaf : at ≤ fieldTypename → r .at ≡ placeUnknown → Keeps t book es (argumentPlace (tableOf t) d i) r
+  argument-of-leaf h z =
+      rw (argument-of-field (tableOf t) d i e, none-of-leaf at (nameOf d i) (fieldAt (tableOf t) d (parentOf d i)) k h) (keeps-unknown t book es r z)
 
   -- an argument of a member
-  module _ (h : fieldTypename < at) where
-    member-is : fieldAt (tableOf t) d (parentOf d i) ≡ member (fieldFrom t at to)
-    member-is = k .is ∙ sym (coded-member t to at h) ∙ ap member (field-is t tagField at to refl)
-
-    pub member-slim : Fitted t → allOf slimArgument (argumentsIn t at to) ≡ true
-    member-slim f = arguments-slim t f (enclosing (tableOf t) d (parentOf d i)) (nameOf d (parentOf d i)) (fieldFrom t at to) member-is
-
-    pub argument-of-member : (r : Place) → Keeps t (argumentShape (find (argumentNamed (nameOf d i)) (argumentsIn t at to))) r → Keeps t (argumentPlace (tableOf t) d i) r
-    argument-of-member r y =
-        rw (argument-of-field (tableOf t) d i e ∙ ap (λ (f : FieldIs). argumentShape (argumentCalled f (nameOf d i))) member-is) y
+  pub argument-of-member : Fitted t → fieldTypename < at → ArgumentPlace t book es (at - fieldFirst) (nameOf d i) r → Keeps t book es (argumentPlace (tableOf t) d i) r
+  argument-of-member w h a = rw (argument-of-field (tableOf t) d i e) (go (fieldAt (tableOf t) d (parentOf d i)) refl k)
+    where
+      go : (f : FieldIs) → fieldAt (tableOf t) d (parentOf d i) ≡ f → FieldKept t book es f at → Keeps t book es (argumentShape (argumentCalled f (nameOf d i))) r
+      go unknown q x = absurd (omega (arith, x .kept))
+      go missing q x = absurd (omega (arith, x .kept))
+      go typename q x = absurd (omega (arith, x .kept))
+      go (member m) q x =
+          let s = x .kept .stands in
+          let l : allOf slimArgument (m .arguments) ≡ true = arguments-slim t w (enclosing (tableOf t) d (parentOf d i)) (nameOf d (parentOf d i)) m q in
+          subst (λ (y : Member). Keeps t book es (argumentShape (find (argumentNamed (nameOf d i)) (y .arguments))) r) (x .kept .is) (a (s .member) (s .is) (rw (x .kept .is) l))
 
 -- an object's field, by the definition that the base means
 module _ (t : Table) (n base : List ℕ) (w : ℕ) where
@@ -128,28 +121,32 @@ boolean-scalar : (t : Table) → meant t (bytes "Boolean") .tag ≡ tagScalar
 unfolding meaning builtIns anyOf
 boolean-scalar t = refl
 
-module _ (t book : List ℕ) (b : Booked t book) (n : List ℕ) (p r : Place) where
-  pub input-of-none : p .at < placeFirst → r .at ≡ placeUnknown → Keeps t (then (coded t p) (inputFieldOf (tableOf t) n)) r
-  input-of-none h z = rw (go (eqb (p .at) placeUnknown) refl) (keeps-unknown t r z)
+module _ (t book es : List ℕ) (b : Booked t book) (n : List ℕ) (p r : Place) where
+  pub input-of-none : p .at < placeFirst → r .at ≡ placeUnknown → Keeps t book es (then (coded t es p) (inputFieldOf (tableOf t) n)) r
+  input-of-none h z = rw (go (eqb (p .at) placeUnknown) refl) (keeps-unknown t book es r z)
     where
-      go : (a : Bool) → eqb (p .at) placeUnknown ≡ a → then (coded t p) (inputFieldOf (tableOf t) n) ≡ none
-      go true q = rw (coded-unknown t p (eqb-true (p .at) placeUnknown q))
+      go : (a : Bool) → eqb (p .at) placeUnknown ≡ a → then (coded t es p) (inputFieldOf (tableOf t) n) ≡ none
+      go true q = rw (coded-unknown t es p (eqb-true (p .at) placeUnknown q))
       go false q =
-          rw (coded-boolean t p (omega (arith, eqb-false (p .at) placeUnknown q)))
+          rw (coded-boolean t es p (omega (arith, eqb-false (p .at) placeUnknown q)))
           (field-of-other (tableOf t) n (bytes "Boolean") (p .wrappers) (λ e. omega (arith, boolean-scalar (tableOf t))))
 
-  module _ (h : placeFirst ≤ p .at) (k : ℕ) (m : NumberMeant t book (part t (p .at - placeFirst) (p .size)) k) where
-    base-is : then (coded t p) (inputFieldOf (tableOf t) n) ≡ inputFieldOf (tableOf t) n (shape (part t (p .at - placeFirst) (p .size)) (p .wrappers))
-    base-is = ap (λ (o : Option Shape). then o (inputFieldOf (tableOf t) n)) (coded-base t p h)
+  module _ (h : placeFirst ≤ p .at) (w : Within t book es p) (k : ℕ) (a : MeantAnswer es (p .at - placeFirst) k) where
+    meant-is : NumberMeant t book (baseAt t es (p .at - placeFirst)) k
+    meant-is = let s = w h in rw (s .is .typed .base) (a t book (s .name) (s .type) (s .is))
 
-    pub input-of-other : (kindIn book k ≡ tagInputObject → ⊥) → r .at ≡ placeUnknown → Keeps t (then (coded t p) (inputFieldOf (tableOf t) n)) r
-    input-of-other e z = rw (base-is ∙ field-of-other (tableOf t) n (part t (p .at - placeFirst) (p .size)) (p .wrappers) (λ q. go q (decLt k (countIn book)))) (keeps-unknown t r z)
+    base-is : then (coded t es p) (inputFieldOf (tableOf t) n) ≡ inputFieldOf (tableOf t) n (shape (baseAt t es (p .at - placeFirst)) (p .wrappers))
+    base-is = ap (λ (o : Option Shape). then o (inputFieldOf (tableOf t) n)) (coded-base t es p h)
+
+    pub input-of-other : (kindIn book k ≡ tagInputObject → ⊥) → r .at ≡ placeUnknown → Keeps t book es (then (coded t es p) (inputFieldOf (tableOf t) n)) r
+    input-of-other e z =
+        rw (base-is ∙ field-of-other (tableOf t) n (baseAt t es (p .at - placeFirst)) (p .wrappers) (λ q. go q (decLt k (countIn book)))) (keeps-unknown t book es r z)
       where
-        go : meant (tableOf t) (part t (p .at - placeFirst) (p .size)) .tag ≡ tagInputObject → Dec (k < countIn book) → ⊥
-        go q (yes l) = e (kind-is t book b k ∙ ap (λ (d : Definition). d .tag) (sym (m .is l)) ∙ q)
-        go q (no l) = omega (arith, m .none (omega arith))
+        go : meant (tableOf t) (baseAt t es (p .at - placeFirst)) .tag ≡ tagInputObject → Dec (k < countIn book) → ⊥
+        go q (yes l) = e (kind-is t book b k ∙ ap (λ (d : Definition). d .tag) (sym (meant-is .is l)) ∙ q)
+        go q (no l) = omega (arith, meant-is .none (omega arith))
 
-    module _ (e : kindIn book k ≡ tagInputObject) (start end : ℕ) (u : start ≡ startIn book k) (v : end ≡ endIn book k) where
+    module _ (e : kindIn book k ≡ tagInputObject) where
       pub input-below : k < countIn book
       input-below = go (decLt k (countIn book))
         where
@@ -157,15 +154,14 @@ module _ (t book : List ℕ) (b : Booked t book) (n : List ℕ) (p r : Place) wh
           go (yes l) = l
           go (no l) = let o : countIn book ≤ k = omega arith in absurd (omega (arith, rw (le-ltb k (countIn book) o) at e))
 
-      members-are : definitionAt (tableOf t) k .members ≡ membersIn t start end
-      members-are = rw (u, v) (ap (λ (d : Definition). d .members) (b .entered k input-below .is))
+      tag-is : definitionOn t k .tag ≡ tagInputObject
+      tag-is = sym (kind-is t book b k) ∙ e
 
-      pub input-slims : Fitted t → allOf slimInput (membersIn t start end) ≡ true
-      input-slims f =
-          sym (ap (allOf slimInput) members-are) ∙ inputs-slim t f k (omega (arith, input-below, b .count)) (sym (kind-is t book b k) ∙ e)
+      pub input-typed : hasTypes (definitionOn t k .tag) ≡ true
+      input-typed = rw tag-is
 
-      pub input-of-object : Keeps t (memberShape (find (memberNamed n) (membersIn t start end))) r → Keeps t (then (coded t p) (inputFieldOf (tableOf t) n)) r
+      pub input-of-object : Keeps t book es (memberShape (find (memberNamed n) (definitionOn t k .members))) r → Keeps t book es (then (coded t es p) (inputFieldOf (tableOf t) n)) r
       input-of-object y =
-          let a = m .is input-below in
-          rw (base-is ∙ field-of-object (tableOf t) n (part t (p .at - placeFirst) (p .size)) (p .wrappers) (ap (λ (d : Definition). d .tag) a ∙ sym (kind-is t book b k) ∙ e)
-          ∙ ap (λ (xs : List Member). memberShape (find (memberNamed n) xs)) (ap (λ (d : Definition). d .members) a ∙ members-are)) y
+          let a = meant-is .is input-below in
+          rw (base-is ∙ field-of-object (tableOf t) n (baseAt t es (p .at - placeFirst)) (p .wrappers) (ap (λ (d : Definition). d .tag) a ∙ tag-is)
+          ∙ ap (λ (d : Definition). memberShape (find (memberNamed n) (d .members))) a) y

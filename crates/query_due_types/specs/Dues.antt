@@ -19,7 +19,6 @@ pub record Fitted (t : List ℕ) : Type 0 where
   pub counted : countsOffset t ≡ none
 
 -- what is kept of each field of a document
-pub record FieldsKept (t s rows : List ℕ) (n : ℕ) (at to : List ℕ) : Type 0 where
+pub record FieldsKept (t book es s rows : List ℕ) (n : ℕ) (at : List ℕ) : Type 0 where
   pub ats : length at ≡ roomOf n
-  pub tos : length to ≡ roomOf n
-  pub fields : (i : ℕ) → rowIn rows n i .kind ≡ kindField → FieldKept t (fieldAt (tableOf t) (docOf s rows n) i) (getD at i 0) (getD to i 0)
+  pub fields : (i : ℕ) → rowIn rows n i .kind ≡ kindField → FieldKept t book es (fieldAt (tableOf t) (docOf s rows n) i) (getD at i 0)

@@ -7,8 +7,8 @@ use paper::KIND_OBJECT;
 use paper::KIND_OBJECT_FIELD;
 use paper::KIND_VARIABLE;
 use paper_table::TAG_INPUT_OBJECT;
+use query_fields::FIELD_FIRST;
 use query_fields::FIELD_TYPENAME;
-use query_links::link_of;
 use query_place_types::PLACE_BOOLEAN;
 use query_place_types::PLACE_FIRST;
 use query_place_types::Place;
@@ -19,6 +19,7 @@ ghost use Rattle.paper_query.specs.Constructs.{nameOf};
 ghost use Rattle.paper_query.specs.Enclosing.{then};
 ghost use Rattle.paper_query.specs.PlaceTypes.{inputFieldOf, argumentPlace, placeFrom};
 ghost use Rattle.table_types.specs.Booked.{Booked};
+ghost use Rattle.table_entries.specs.Entries.{Entered};
 ghost use Rattle.query_rows.specs.Rowed.{docOf, Rowed};
 ghost use Rattle.query_place_types.specs.Shapes.{coded, Within, Keeps};
 ghost use Rattle.query_due_types.specs.Dues.{Fitted, FieldsKept};
@@ -26,87 +27,80 @@ ghost use Rattle.query_due_types.specs.Dues.{Fitted, FieldsKept};
 // The type due at the argument of row i: of a directive Boolean, of a field its definition's.
 fn argument_place(
     t: &[u8],
+    book: &[u32],
+    es: &[u16],
     s: &[u8],
     rows: &[u32],
     n: usize,
-    at: &[u32],
-    to: &[u32],
+    at: &[u16],
     i: usize,
 ) -> Place
-    requires { ⌜ Fitted (now t) × Rowed (now s) (now rows) n × FieldsKept (now t) (now s) (now rows) n (now at) (now to) ⌝ }
-    ensures { λ r. ⌜ Keeps (now (t .entry)) (argumentPlace (tableOf (now (t .entry))) (docOf (now (s .entry)) (now (rows .entry)) n) i) r ⌝ }
+    requires { ⌜ Fitted (now t) × Rowed (now s) (now rows) n × FieldsKept (now t) (now book) (now es) (now s) (now rows) n (now at) ⌝ }
+    ensures { λ r. ⌜ Keeps (now (t .entry)) (now (book .entry)) (now (es .entry)) (argumentPlace (tableOf (now (t .entry))) (docOf (now (s .entry)) (now (rows .entry)) n) i) r ⌝ }
 {
     let p = parent_of(rows, n, i) as usize;
     let kind = kind_of(rows, n, p);
     if kind == KIND_DIRECTIVE {
         return Place {
             at: PLACE_BOOLEAN,
-            size: 0,
             wrappers: 0,
         };
     }
     if kind != KIND_FIELD {
         return query_place_types::unknown();
     }
-    let start = link_of(at, p);
-    if start <= FIELD_TYPENAME as usize {
+    let f = at[p];
+    if f <= FIELD_TYPENAME {
         return query_place_types::unknown();
     }
-    query_place_types::argument_typed(t, start, link_of(to, p), s, rows, n, i)
+    query_place_types::argument_typed(t, book, es, (f - FIELD_FIRST) as usize, s, rows, n, i)
 }
 
 // The type due at the object's field of row i, where p is due at the object.
 fn input_place(
     t: &[u8],
     book: &[u32],
+    es: &[u16],
     s: &[u8],
     rows: &[u32],
     n: usize,
     i: usize,
     p: Place,
 ) -> Place
-    requires { ⌜ Fitted (now t) × Booked (now t) (now book) × Rowed (now s) (now rows) n × Within (now t) p ⌝ }
-    ensures { λ r. ⌜ Keeps (now (t .entry)) (then (coded (now (t .entry)) p) (inputFieldOf (tableOf (now (t .entry))) (nameOf (docOf (now (s .entry)) (now (rows .entry)) n) i))) r ⌝ }
+    requires { ⌜ Fitted (now t) × Booked (now t) (now book) × Entered (now t) (now book) (now es) × Rowed (now s) (now rows) n × Within (now t) (now book) (now es) p ⌝ }
+    ensures { λ r. ⌜ Keeps (now (t .entry)) (now (book .entry)) (now (es .entry)) (then (coded (now (t .entry)) (now (es .entry)) p) (inputFieldOf (tableOf (now (t .entry))) (nameOf (docOf (now (s .entry)) (now (rows .entry)) n) i))) r ⌝ }
 {
     if p.at < PLACE_FIRST {
         return query_place_types::unknown();
     }
-    let k = table_types::number_meant(t, book, t, (p.at - PLACE_FIRST) as usize, p.size as usize);
+    let k = table_entries::meant_by(es, (p.at - PLACE_FIRST) as usize);
     if table_types::kind_in(book, k) != TAG_INPUT_OBJECT as u32 {
         return query_place_types::unknown();
     }
-    query_place_types::input_typed(
-        t,
-        table_book::start_of(book, k),
-        table_book::end_of(book, k),
-        s,
-        rows,
-        n,
-        i,
-    )
+    query_place_types::input_typed(t, book, es, k, s, rows, n, i)
 }
 
 // The type due at row i, where that due at its parent is p.
 pub fn place_from(
     t: &[u8],
     book: &[u32],
+    es: &[u16],
     s: &[u8],
     rows: &[u32],
     n: usize,
-    at: &[u32],
-    to: &[u32],
+    at: &[u16],
     i: usize,
     p: Place,
 ) -> Place
-    requires { ⌜ Fitted (now t) × Booked (now t) (now book) × Rowed (now s) (now rows) n × FieldsKept (now t) (now s) (now rows) n (now at) (now to) × Within (now t) p ⌝ }
-    ensures { λ r. ⌜ Keeps (now (t .entry)) (placeFrom (tableOf (now (t .entry))) (docOf (now (s .entry)) (now (rows .entry)) n) i (coded (now (t .entry)) p)) r ⌝ }
+    requires { ⌜ Fitted (now t) × Booked (now t) (now book) × Entered (now t) (now book) (now es) × Rowed (now s) (now rows) n × FieldsKept (now t) (now book) (now es) (now s) (now rows) n (now at) × Within (now t) (now book) (now es) p ⌝ }
+    ensures { λ r. ⌜ Keeps (now (t .entry)) (now (book .entry)) (now (es .entry)) (placeFrom (tableOf (now (t .entry))) (docOf (now (s .entry)) (now (rows .entry)) n) i (coded (now (t .entry)) (now (es .entry)) p)) r ⌝ }
 {
     let kind = kind_of(rows, n, i);
     if kind == KIND_ARGUMENT {
-        return argument_place(t, s, rows, n, at, to, i);
+        return argument_place(t, book, es, s, rows, n, at, i);
     }
     if kind == KIND_OBJECT_FIELD {
-        return input_place(t, book, s, rows, n, i, p);
+        return input_place(t, book, es, s, rows, n, i, p);
     }
     if kind < KIND_VARIABLE {
         return query_place_types::unknown();

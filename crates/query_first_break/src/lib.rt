@@ -17,13 +17,13 @@ pub fn judge_rows(
     next: &[u32],
     firstk: &[u32],
     nextk: &[u32],
-    inside: &[u32],
-    at: &[u32],
-    to: &[u32],
+    inside: &[u16],
+    at: &[u16],
+    es: &[u16],
     target: &[u32],
     flags: &[u32],
 ) -> QueryAnswer
-    requires { ⌜ Ready (now t) (now book) (now s) (now rows) n (now first) (now next) (now firstk) (now nextk) (now inside) (now at) (now to) (now target) (now flags) ⌝ }
+    requires { ⌜ Ready (now t) (now book) (now s) (now rows) n (now first) (now next) (now firstk) (now nextk) (now inside) (now at) (now es) (now target) (now flags) ⌝ }
     ensures { λ r. ⌜ Judged (tableOf (now (t .entry))) (docOf (now (s .entry)) (now (rows .entry)) n) r ⌝ }
 {
     let mut i = 0;
@@ -40,7 +40,7 @@ pub fn judge_rows(
             nextk,
             inside,
             at,
-            to,
+            es,
             target,
             flags,
             i,

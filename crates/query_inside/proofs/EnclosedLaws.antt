@@ -18,8 +18,8 @@ use Rattle.query_rows.specs.Rowed.{rowIn, docOf, Rowed, roomOf}
 use Rattle.query_rows.proofs.RowsIn.{rows-count, parent-before}
 use Rattle.query_rows.proofs.Rooms.{room-enough}
 use Rattle.query_types.specs.Coded.{typeCoded, TypeKnown}
-use Rattle.query_fields.specs.Kept.{fieldCoded, FieldKept}
-use Rattle.query_inside.specs.Enclosed.{encloses, typeKept, EnclosedTo, Enclosed}
+use Rattle.query_fields.specs.Kept.{FieldKept, FieldTyped}
+use Rattle.query_inside.specs.Enclosed.{encloses, typeKept, EnclosedTo}
 use Rattle.query_inside.proofs.KindLaws.{encloses-there, no-operation, no-fragment, no-field, no-inline}
 
 -- parents stand before their rows
@@ -31,7 +31,7 @@ module _ (t s rows : List ℕ) (n : ℕ) (r : Rowed s rows n) where
   step : (i : ℕ) → typeInside (tableOf t) (docOf s rows n) i ≡ typeInsideFrom (tableOf t) (docOf s rows n) i (enclosing (tableOf t) (docOf s rows n) i)
   step i = inside-step (tableOf t) (docOf s rows n) (rowed-before s rows n r) i
 
-  module _ {m : ℕ} {inner at to : List ℕ} (e : EnclosedTo t s rows n m inner at to) where
+  module _ {m : ℕ} {book es inner at : List ℕ} (e : EnclosedTo t book es s rows n m inner at) where
     -- the type inside a row that is behind, or is not there
     pub kept-inside : (p : ℕ) → (p < m) ⊎ (n ≤ p) → typeInside (tableOf t) (docOf s rows n) p ≡ typeCoded (typeKept rows n inner p)
     kept-inside p h = go (encloses (rowIn rows n p .kind)) refl
@@ -55,16 +55,15 @@ module _ (t s rows : List ℕ) (n : ℕ) (r : Rowed s rows n) where
   pub above-known : (i above : ℕ) → enclosing (tableOf t) (docOf s rows n) i ≡ typeCoded above → TypeKnown (tableOf t) above
   above-known i above e k q = inside-is (tableOf t) (docOf s rows n) (rowIn rows n i .parent) k (e ∙ q)
 
-  pub enclosed-begin : {inner at to : List ℕ} → length inner ≡ roomOf n → length at ≡ roomOf n → length to ≡ roomOf n → EnclosedTo t s rows n 0 inner at to
-  enclosed-begin a b c = record {
+  pub enclosed-begin : {book es inner at : List ℕ} → length inner ≡ roomOf n → length at ≡ roomOf n → EnclosedTo t book es s rows n 0 inner at
+  enclosed-begin a b = record {
     inners = a;
     ats = b;
-    tos = c;
     types = λ i h. absurd (omega arith);
     fields = λ i h. absurd (omega arith);
   }
 
-  module _ (i : ℕ) (l : i < n) (inner at to : List ℕ) (e : EnclosedTo t s rows n i inner at to) where
+  module _ (i : ℕ) (l : i < n) (book es inner at : List ℕ) (e : EnclosedTo t book es s rows n i inner at) where
     room : i < roomOf n
     room = omega (arith, room-enough n (r .few))
 
@@ -82,11 +81,10 @@ module _ (t s rows : List ℕ) (n : ℕ) (r : Rowed s rows n) where
     kept-here : (xs : List ℕ) (x : ℕ) → length xs ≡ roomOf n → x ≡ getD (set xs i x) i 0
     kept-here xs x h = sym (getD-set-same xs i x 0 (omega (arith, room)))
 
-    pub enclosed-skip : encloses (rowIn rows n i .kind) ≡ false → EnclosedTo t s rows n (suc i) inner at to
+    pub enclosed-skip : encloses (rowIn rows n i .kind) ≡ false → EnclosedTo t book es s rows n (suc i) inner at
     enclosed-skip q = record {
       inners = e .inners;
       ats = e .ats;
-      tos = e .tos;
       types = upTo (e .types) (λ z. absurd (true≢false (sym z ∙ q)));
       fields = upTo (e .fields) (λ z. absurd (no-field (rowIn rows n i .kind) q z));
     }
@@ -98,58 +96,41 @@ module _ (t s rows : List ℕ) (n : ℕ) (r : Rowed s rows n) where
         (λ j h k. e .types j h k ∙ ap typeCoded (kept-before inner c j h)) (λ k. q ∙ ap typeCoded (kept-here inner c (e .inners)))
 
     pub enclosed-type : (c above : ℕ) → (rowIn rows n i .kind ≡ kindField → ⊥) → enclosing (tableOf t) (docOf s rows n) i ≡ typeCoded above
-        → typeCoded c ≡ typeInsideFrom (tableOf t) (docOf s rows n) i (typeCoded above) → EnclosedTo t s rows n (suc i) (set inner i c) at to
+        → typeCoded c ≡ typeInsideFrom (tableOf t) (docOf s rows n) i (typeCoded above) → EnclosedTo t book es s rows n (suc i) (set inner i c) at
     enclosed-type c above k a q = record {
       inners = length-set inner i c ∙ e .inners;
       ats = e .ats;
-      tos = e .tos;
       types = types-kept c (step i ∙ rw a (sym q));
       fields = upTo (e .fields) (λ z. absurd (k z));
     }
 
-    pub enclosed-field : (c a b above : ℕ) → rowIn rows n i .kind ≡ kindField → enclosing (tableOf t) (docOf s rows n) i ≡ typeCoded above
-        → FieldKept t (fieldNamed (tableOf t) (typeCoded above) (nameOf (docOf s rows n) i)) a b → typeCoded c ≡ selectionsType (tableOf t) (fieldCoded t a b)
-        → EnclosedTo t s rows n (suc i) (set inner i c) (set at i a) (set to i b)
-    enclosed-field c a b above k u f q = record {
+    pub enclosed-field : (c a above : ℕ) → rowIn rows n i .kind ≡ kindField → enclosing (tableOf t) (docOf s rows n) i ≡ typeCoded above
+        → FieldKept t book es (fieldNamed (tableOf t) (typeCoded above) (nameOf (docOf s rows n) i)) a → FieldTyped t book es a c
+        → EnclosedTo t book es s rows n (suc i) (set inner i c) (set at i a)
+    enclosed-field c a above k u f q = record {
       inners = length-set inner i c ∙ e .inners;
       ats = length-set at i a ∙ e .ats;
-      tos = length-set to i b ∙ e .tos;
-      types = types-kept c (field-inside i k ∙ rw (u, f .is) (sym q));
+      types = types-kept c (field-inside i k ∙ rw u (sym (q (fieldNamed (tableOf t) (typeCoded above) (nameOf (docOf s rows n) i)) f)));
       fields =
-          upTo {P = λ j. rowIn rows n j .kind ≡ kindField → FieldKept t (fieldAt (tableOf t) (docOf s rows n) j) (getD (set at i a) j 0) (getD (set to i b) j 0)}
-          (λ j h z. rw (← kept-before at a j h, ← kept-before to b j h) (e .fields j h z))
-          (λ z. rw (← kept-here at a (e .ats), ← kept-here to b (e .tos), u) f);
+          upTo {P = λ j. rowIn rows n j .kind ≡ kindField → FieldKept t book es (fieldAt (tableOf t) (docOf s rows n) j) (getD (set at i a) j 0)}
+          (λ j h z. rw (← kept-before at a j h) (e .fields j h z))
+          (λ z. rw (← kept-here at a (e .ats), u) f);
     }
 
 -- what is kept of a row of another kind may be anything
-module _ {t s rows : List ℕ} {n : ℕ} {inner at to : List ℕ} (e : Enclosed t s rows n inner at to) (j x : ℕ) where
-  pub enclosed-other-inside : encloses (rowIn rows n j .kind) ≡ false → Enclosed t s rows n (set inner j x) at to
+module _ {t book es s rows : List ℕ} {n : ℕ} {inner at : List ℕ} (e : EnclosedTo t book es s rows n n inner at) (j x : ℕ) where
+  pub enclosed-other-inside : encloses (rowIn rows n j .kind) ≡ false → EnclosedTo t book es s rows n n (set inner j x) at
   enclosed-other-inside q = record {
     inners = length-set inner j x ∙ e .inners;
     ats = e .ats;
-    tos = e .tos;
     types = λ i h k. e .types i h k ∙ ap typeCoded (sym (getD-set-other inner j i x 0 (λ z. true≢false (sym k ∙ ap (λ (y : ℕ). encloses (rowIn rows n y .kind)) z ∙ q))));
     fields = e .fields;
   }
 
-  module _ (q : rowIn rows n j .kind ≡ kindField → ⊥) where
-    elsewhere : (xs : List ℕ) (i : ℕ) → rowIn rows n i .kind ≡ kindField → getD xs i 0 ≡ getD (set xs j x) i 0
-    elsewhere xs i k = sym (getD-set-other xs j i x 0 (λ z. q (ap (λ (y : ℕ). rowIn rows n y .kind) (sym z) ∙ k)))
-
-    pub enclosed-other-at : Enclosed t s rows n inner (set at j x) to
-    enclosed-other-at = record {
-      inners = e .inners;
-      ats = length-set at j x ∙ e .ats;
-      tos = e .tos;
-      types = e .types;
-      fields = λ i h k. rw (← elsewhere at i k) (e .fields i h k);
-    }
-
-    pub enclosed-other-to : Enclosed t s rows n inner at (set to j x)
-    enclosed-other-to = record {
-      inners = e .inners;
-      ats = e .ats;
-      tos = length-set to j x ∙ e .tos;
-      types = e .types;
-      fields = λ i h k. rw (← elsewhere to i k) (e .fields i h k);
-    }
+  pub enclosed-other-at : (rowIn rows n j .kind ≡ kindField → ⊥) → EnclosedTo t book es s rows n n inner (set at j x)
+  enclosed-other-at q = record {
+    inners = e .inners;
+    ats = length-set at j x ∙ e .ats;
+    types = e .types;
+    fields = λ i h k. rw (getD-set-other at j i x 0 (λ z. q (ap (λ (y : ℕ). rowIn rows n y .kind) (sym z) ∙ k))) (e .fields i h k);
+  }

@@ -19,10 +19,10 @@ ghost use Rattle.paper.specs.Numbers.{kindField};
 ghost use Rattle.paper_table.specs.Types.{tableOf};
 ghost use Rattle.paper_query.specs.Enclosing.{conditionOf, conditioned, typeInsideFrom, enclosing};
 ghost use Rattle.table_types.specs.Booked.{Booked};
+ghost use Rattle.table_entries.specs.Entries.{Entered};
 ghost use Rattle.query_rows.specs.Rowed.{rowIn, docOf, Rowed, Sized, roomOf};
 ghost use Rattle.query_types.specs.Coded.{typeCoded};
-ghost use Rattle.query_fields.specs.Kept.{Fielded};
-ghost use Rattle.query_inside.specs.Enclosed.{encloses, typeKept, Asked, EnclosedTo, Enclosed};
+ghost use Rattle.query_inside.specs.Enclosed.{encloses, typeKept, Asked, EnclosedTo};
 
 // Has a row of this kind a type inside?
 pub fn encloses(kind: u32) -> bool
@@ -41,7 +41,7 @@ pub fn encloses(kind: u32) -> bool
 }
 
 // The type kept for row i; none for a row without a type inside, or one that is not there.
-pub fn type_inside(rows: &[u32], n: usize, inside: &[u32], i: usize) -> u32
+pub fn type_inside(rows: &[u32], n: usize, inside: &[u16], i: usize) -> u16
     requires { ⌜ Sized (now rows) n × (length (now inside) ≡ roomOf n) ⌝ }
     ensures { λ r. ⌜ r ≡ typeKept (now (rows .entry)) n (now (inside .entry)) i ⌝ }
 {
@@ -61,8 +61,8 @@ fn condition_type(
     first: &[u32],
     next: &[u32],
     i: usize,
-    above: u32,
-) -> u32
+    above: u16,
+) -> u16
     requires { ⌜ Asked (now t) (now book) (now s) (now rows) n (now first) (now next) × (i < n) ⌝ }
     ensures { λ r. ⌜ typeCoded r ≡ conditioned (tableOf (now (t .entry))) (docOf (now (s .entry)) (now (rows .entry)) n) (typeCoded above) (conditionOf (docOf (now (s .entry)) (now (rows .entry)) n) i) ⌝ }
 {
@@ -80,7 +80,7 @@ fn condition_type(
 }
 
 // The type inside an operation or a fragment, where that inside its parent is `above`.
-fn other_type(
+pub fn other_type(
     t: &[u8],
     book: &[u32],
     s: &[u8],
@@ -89,8 +89,8 @@ fn other_type(
     first: &[u32],
     next: &[u32],
     i: usize,
-    above: u32,
-) -> u32
+    above: u16,
+) -> u16
     requires { ⌜ Asked (now t) (now book) (now s) (now rows) n (now first) (now next) × (i < n) × (encloses (rowIn (now rows) n i .kind) ≡ true) × (rowIn (now rows) n i .kind ≡ kindField → ⊥) ⌝ }
     ensures { λ r. ⌜ typeCoded r ≡ typeInsideFrom (tableOf (now (t .entry))) (docOf (now (s .entry)) (now (rows .entry)) n) i (typeCoded above) ⌝ }
 {
@@ -108,47 +108,47 @@ fn other_type(
 fn enclose_field(
     t: &[u8],
     book: &[u32],
+    es: &[u16],
     s: &[u8],
     rows: &[u32],
     n: usize,
-    inside: &mut [u32],
-    at: &mut [u32],
-    to: &mut [u32],
+    inside: &mut [u16],
+    at: &mut [u16],
     i: usize,
-    above: u32,
+    above: u16,
 )
-    requires { ⌜ Booked (now t) (now book) × Fielded (tableOf (now t)) × Rowed (now s) (now rows) n × EnclosedTo (now t) (now s) (now rows) n i (now inside) (now at) (now to) × (i < n) × (rowIn (now rows) n i .kind ≡ kindField) × (enclosing (tableOf (now t)) (docOf (now s) (now rows) n) i ≡ typeCoded above) ⌝ }
-    ensures { λ _. ⌜ EnclosedTo (now (t .entry)) (now (s .entry)) (now (rows .entry)) n (suc i) (now (inside .exit)) (now (at .exit)) (now (to .exit)) ⌝ }
+    requires { ⌜ Booked (now t) (now book) × Entered (now t) (now book) (now es) × Rowed (now s) (now rows) n × EnclosedTo (now t) (now book) (now es) (now s) (now rows) n i (now inside) (now at) × (i < n) × (rowIn (now rows) n i .kind ≡ kindField) × (enclosing (tableOf (now t)) (docOf (now s) (now rows) n) i ≡ typeCoded above) ⌝ }
+    ensures { λ _. ⌜ EnclosedTo (now (t .entry)) (now (book .entry)) (now (es .entry)) (now (s .entry)) (now (rows .entry)) n (suc i) (now (inside .exit)) (now (at .exit)) ⌝ }
 {
     let f = query_fields::field_in(
         t,
         book,
+        es,
         above,
         s,
         name_of(rows, n, i) as usize,
         size_of(rows, n, i) as usize,
     );
-    inside[i] = query_fields::field_type(t, book, f.at, f.to);
-    at[i] = f.at;
-    to[i] = f.to;
+    inside[i] = query_fields::field_type(t, book, es, f);
+    at[i] = f;
 }
 
 // Keeps what there is of row i.
 fn enclose_row(
     t: &[u8],
     book: &[u32],
+    es: &[u16],
     s: &[u8],
     rows: &[u32],
     n: usize,
     first: &[u32],
     next: &[u32],
-    inside: &mut [u32],
-    at: &mut [u32],
-    to: &mut [u32],
+    inside: &mut [u16],
+    at: &mut [u16],
     i: usize,
 )
-    requires { ⌜ Asked (now t) (now book) (now s) (now rows) n (now first) (now next) × EnclosedTo (now t) (now s) (now rows) n i (now inside) (now at) (now to) × (i < n) ⌝ }
-    ensures { λ _. ⌜ EnclosedTo (now (t .entry)) (now (s .entry)) (now (rows .entry)) n (suc i) (now (inside .exit)) (now (at .exit)) (now (to .exit)) ⌝ }
+    requires { ⌜ Asked (now t) (now book) (now s) (now rows) n (now first) (now next) × Entered (now t) (now book) (now es) × EnclosedTo (now t) (now book) (now es) (now s) (now rows) n i (now inside) (now at) × (i < n) ⌝ }
+    ensures { λ _. ⌜ EnclosedTo (now (t .entry)) (now (book .entry)) (now (es .entry)) (now (s .entry)) (now (rows .entry)) n (suc i) (now (inside .exit)) (now (at .exit)) ⌝ }
 {
     let kind = kind_of(rows, n, i);
     if !encloses(kind) {
@@ -156,7 +156,7 @@ fn enclose_row(
     }
     let above = type_inside(rows, n, inside, parent_of(rows, n, i) as usize);
     if kind == KIND_FIELD {
-        enclose_field(t, book, s, rows, n, inside, at, to, i, above);
+        enclose_field(t, book, es, s, rows, n, inside, at, i, above);
         return;
     }
     inside[i] = other_type(t, book, s, rows, n, first, next, i, above);
@@ -166,21 +166,21 @@ fn enclose_row(
 pub fn enclose(
     t: &[u8],
     book: &[u32],
+    es: &[u16],
     s: &[u8],
     rows: &[u32],
     n: usize,
     first: &[u32],
     next: &[u32],
-    inside: &mut [u32],
-    at: &mut [u32],
-    to: &mut [u32],
+    inside: &mut [u16],
+    at: &mut [u16],
 )
-    requires { ⌜ Asked (now t) (now book) (now s) (now rows) n (now first) (now next) × (length (now inside) ≡ roomOf n) × (length (now at) ≡ roomOf n) × (length (now to) ≡ roomOf n) ⌝ }
-    ensures { λ _. ⌜ Enclosed (now (t .entry)) (now (s .entry)) (now (rows .entry)) n (now (inside .exit)) (now (at .exit)) (now (to .exit)) ⌝ }
+    requires { ⌜ Asked (now t) (now book) (now s) (now rows) n (now first) (now next) × Entered (now t) (now book) (now es) × (length (now inside) ≡ roomOf n) × (length (now at) ≡ roomOf n) ⌝ }
+    ensures { λ _. ⌜ EnclosedTo (now (t .entry)) (now (book .entry)) (now (es .entry)) (now (s .entry)) (now (rows .entry)) n n (now (inside .exit)) (now (at .exit)) ⌝ }
 {
     let mut i = 0;
     while i < n {
-        enclose_row(t, book, s, rows, n, first, next, inside, at, to, i);
+        enclose_row(t, book, es, s, rows, n, first, next, inside, at, i);
         i += 1;
     }
 }

@@ -1,10 +1,12 @@
 // Judges a document that was read against an accepted table: makes all ready that the rules ask of it, then judges its rows.
-// What is lent mutably is scratch. It is made at once, with room for few rows where there are few: less is cleared then.
+// The table's entries are made first, for all that looks members and arguments up. What is lent mutably is scratch. It is made at once, with room for few rows
+// where there are few: less is cleared then.
 use paper_query::QueryAnswer;
 use query_links::FEW_ROWS;
 use query_links::FIRSTS;
 use query_links::KINDS;
 use query_links::ROWS;
+use table_entries::CELLS_NEEDED;
 ghost use mathlib.Core.Path.{_≡_};
 ghost use Prim.Native.Nat.{_≤_, _<_};
 ghost use lib.ListN.{length};
@@ -13,6 +15,7 @@ ghost use Rattle.paper_table.specs.Types.{tableOf};
 ghost use Rattle.paper_table.specs.Judging.{judge};
 ghost use Rattle.paper_table.specs.declared.TableAnswer.the-variants.{Accepted};
 ghost use Rattle.table_types.specs.Booked.{Booked};
+ghost use Rattle.table_entries.specs.Entries.{Entered};
 ghost use Rattle.paper_query.specs.QueryRules.{Judged};
 ghost use Rattle.query_rows.specs.Rowed.{rowsIn, docOf, Rowed, fewRows, roomOf};
 ghost use Rattle.query_links.specs.Links.{Kinds};
@@ -31,13 +34,13 @@ fn judge_placed(
     next: &[u32],
     firstk: &[u32],
     nextk: &[u32],
-    inside: &[u32],
-    at: &[u32],
-    to: &[u32],
+    inside: &[u16],
+    at: &[u16],
+    es: &[u16],
     target: &mut [u32],
     flags: &mut [u32],
 ) -> QueryAnswer
-    requires { ⌜ (length (now t) ≤ mostTable) × Asked (now t) (now book) (now s) (now rows) n (now first) (now next) × Kinds (rowsIn (now rows) n) (now firstk) (now nextk) × Placed (now t) (now s) (now rows) n (now at) (now to) (now inside) n × (length (now target) ≡ roomOf n) × (length (now flags) ≡ roomOf n) ⌝ }
+    requires { ⌜ (length (now t) ≤ mostTable) × Asked (now t) (now book) (now s) (now rows) n (now first) (now next) × Kinds (rowsIn (now rows) n) (now firstk) (now nextk) × Placed (now t) (now s) (now rows) n (now at) (now es) (now inside) × (length (now target) ≡ roomOf n) × (length (now flags) ≡ roomOf n) ⌝ }
     ensures { λ r. ⌜ Judged (tableOf (now (t .entry))) (docOf (now (s .entry)) (now (rows .entry)) n) r ⌝ }
 {
     query_spreads::targets(s, rows, n, firstk, nextk, target);
@@ -51,7 +54,7 @@ fn judge_placed(
         firstk,
         nextk,
         at,
-        to,
+        es,
         inside,
         target,
         flags,
@@ -68,7 +71,7 @@ fn judge_placed(
         nextk,
         inside,
         at,
-        to,
+        es,
         target,
         flags,
     )
@@ -78,6 +81,7 @@ fn judge_placed(
 fn judge_linked(
     t: &[u8],
     book: &[u32],
+    es: &[u16],
     s: &[u8],
     rows: &[u32],
     n: usize,
@@ -85,17 +89,16 @@ fn judge_linked(
     next: &[u32],
     firstk: &[u32],
     nextk: &[u32],
-    inside: &mut [u32],
-    at: &mut [u32],
-    to: &mut [u32],
+    inside: &mut [u16],
+    at: &mut [u16],
     target: &mut [u32],
     flags: &mut [u32],
 ) -> QueryAnswer
-    requires { ⌜ (length (now t) ≤ mostTable) × Fitted (now t) × Asked (now t) (now book) (now s) (now rows) n (now first) (now next) × Kinds (rowsIn (now rows) n) (now firstk) (now nextk) × (length (now inside) ≡ roomOf n) × (length (now at) ≡ roomOf n) × (length (now to) ≡ roomOf n) × (length (now target) ≡ roomOf n) × (length (now flags) ≡ roomOf n) ⌝ }
+    requires { ⌜ (length (now t) ≤ mostTable) × Fitted (now t) × Asked (now t) (now book) (now s) (now rows) n (now first) (now next) × Entered (now t) (now book) (now es) × Kinds (rowsIn (now rows) n) (now firstk) (now nextk) × (length (now inside) ≡ roomOf n) × (length (now at) ≡ roomOf n) × (length (now target) ≡ roomOf n) × (length (now flags) ≡ roomOf n) ⌝ }
     ensures { λ r. ⌜ Judged (tableOf (now (t .entry))) (docOf (now (s .entry)) (now (rows .entry)) n) r ⌝ }
 {
-    query_inside::enclose(t, book, s, rows, n, first, next, inside, at, to);
-    query_places::places(t, book, s, rows, n, at, to, inside);
+    query_inside::enclose(t, book, es, s, rows, n, first, next, inside, at);
+    query_places::places(t, book, es, s, rows, n, at, inside);
     judge_placed(
         t,
         book,
@@ -108,24 +111,23 @@ fn judge_linked(
         nextk,
         inside,
         at,
-        to,
+        es,
         target,
         flags,
     )
 }
 
 // Links and judges few rows, in room for few.
-fn judge_few(t: &[u8], book: &[u32], s: &[u8], rows: &[u32], n: usize) -> QueryAnswer
-    requires { ⌜ (length (now t) ≤ mostTable) × Fitted (now t) × Booked (now t) (now book) × Rowed (now s) (now rows) n × (n ≤ fewRows) ⌝ }
+fn judge_few(t: &[u8], book: &[u32], es: &[u16], s: &[u8], rows: &[u32], n: usize) -> QueryAnswer
+    requires { ⌜ (length (now t) ≤ mostTable) × Fitted (now t) × Booked (now t) (now book) × Entered (now t) (now book) (now es) × Rowed (now s) (now rows) n × (n ≤ fewRows) ⌝ }
     ensures { λ r. ⌜ Judged (tableOf (now (t .entry))) (docOf (now (s .entry)) (now (rows .entry)) n) r ⌝ }
 {
     let mut first = [0u32; FIRSTS];
     let mut next = [0u32; FEW_ROWS];
     let mut firstk = [0u32; KINDS];
     let mut nextk = [0u32; FEW_ROWS];
-    let mut inside = [0u32; FEW_ROWS];
-    let mut at = [0u32; FEW_ROWS];
-    let mut to = [0u32; FEW_ROWS];
+    let mut inside = [0u16; FEW_ROWS];
+    let mut at = [0u16; FEW_ROWS];
     let mut target = [0u32; FEW_ROWS];
     let mut flags = [0u32; FEW_ROWS];
     query_links::families(s, rows, n, &mut first, &mut next);
@@ -133,6 +135,7 @@ fn judge_few(t: &[u8], book: &[u32], s: &[u8], rows: &[u32], n: usize) -> QueryA
     judge_linked(
         t,
         book,
+        es,
         s,
         rows,
         n,
@@ -142,24 +145,22 @@ fn judge_few(t: &[u8], book: &[u32], s: &[u8], rows: &[u32], n: usize) -> QueryA
         &nextk,
         &mut inside,
         &mut at,
-        &mut to,
         &mut target,
         &mut flags,
     )
 }
 
 // Links and judges more rows than few.
-fn judge_many(t: &[u8], book: &[u32], s: &[u8], rows: &[u32], n: usize) -> QueryAnswer
-    requires { ⌜ (length (now t) ≤ mostTable) × Fitted (now t) × Booked (now t) (now book) × Rowed (now s) (now rows) n × (fewRows < n) ⌝ }
+fn judge_many(t: &[u8], book: &[u32], es: &[u16], s: &[u8], rows: &[u32], n: usize) -> QueryAnswer
+    requires { ⌜ (length (now t) ≤ mostTable) × Fitted (now t) × Booked (now t) (now book) × Entered (now t) (now book) (now es) × Rowed (now s) (now rows) n × (fewRows < n) ⌝ }
     ensures { λ r. ⌜ Judged (tableOf (now (t .entry))) (docOf (now (s .entry)) (now (rows .entry)) n) r ⌝ }
 {
     let mut first = [0u32; FIRSTS];
     let mut next = [0u32; ROWS];
     let mut firstk = [0u32; KINDS];
     let mut nextk = [0u32; ROWS];
-    let mut inside = [0u32; ROWS];
-    let mut at = [0u32; ROWS];
-    let mut to = [0u32; ROWS];
+    let mut inside = [0u16; ROWS];
+    let mut at = [0u16; ROWS];
     let mut target = [0u32; ROWS];
     let mut flags = [0u32; ROWS];
     query_links::families(s, rows, n, &mut first, &mut next);
@@ -167,6 +168,7 @@ fn judge_many(t: &[u8], book: &[u32], s: &[u8], rows: &[u32], n: usize) -> Query
     judge_linked(
         t,
         book,
+        es,
         s,
         rows,
         n,
@@ -176,10 +178,27 @@ fn judge_many(t: &[u8], book: &[u32], s: &[u8], rows: &[u32], n: usize) -> Query
         &nextk,
         &mut inside,
         &mut at,
-        &mut to,
         &mut target,
         &mut flags,
     )
+}
+
+// Judges the rows by the table's entries.
+fn judge_entered(
+    t: &[u8],
+    book: &[u32],
+    es: &[u16],
+    s: &[u8],
+    rows: &[u32],
+    n: usize,
+) -> QueryAnswer
+    requires { ⌜ (length (now t) ≤ mostTable) × Fitted (now t) × Booked (now t) (now book) × Entered (now t) (now book) (now es) × Rowed (now s) (now rows) n ⌝ }
+    ensures { λ r. ⌜ Judged (tableOf (now (t .entry))) (docOf (now (s .entry)) (now (rows .entry)) n) r ⌝ }
+{
+    if n <= FEW_ROWS {
+        return judge_few(t, book, es, s, rows, n);
+    }
+    judge_many(t, book, es, s, rows, n)
 }
 
 // What is said of a document that was read, against an accepted table.
@@ -187,8 +206,7 @@ pub fn first_break(t: &[u8], book: &[u32], s: &[u8], rows: &[u32], n: usize) -> 
     requires { ⌜ (length (now t) ≤ mostTable) × (judge (now t) ≡ Accepted) × Booked (now t) (now book) × Rowed (now s) (now rows) n ⌝ }
     ensures { λ r. ⌜ Judged (tableOf (now (t .entry))) (docOf (now (s .entry)) (now (rows .entry)) n) r ⌝ }
 {
-    if n <= FEW_ROWS {
-        return judge_few(t, book, s, rows, n);
-    }
-    judge_many(t, book, s, rows, n)
+    let mut es = [0u16; CELLS_NEEDED];
+    table_entries::fill_entries(t, book, &mut es);
+    judge_entered(t, book, &es, s, rows, n)
 }

@@ -22,9 +22,9 @@ fn flag_with(
     next: &[u32],
     firstk: &[u32],
     nextk: &[u32],
-    at: &[u32],
-    to: &[u32],
-    inside: &[u32],
+    at: &[u16],
+    es: &[u16],
+    inside: &[u16],
     target: &[u32],
     owner: &mut [u32],
     firsts: &mut [u32],
@@ -33,7 +33,7 @@ fn flag_with(
     stack: &mut [u16],
     flag: &mut [u32],
 )
-    requires { ⌜ Rowed (now s) (now rows) n × Family (rowsIn (now rows) n) (now first) (now next) × Kinds (rowsIn (now rows) n) (now firstk) (now nextk) × Placed (now t) (now s) (now rows) n (now at) (now to) (now inside) n × Targeted (docOf (now s) (now rows) n) (now target) × (length (now owner) ≡ roomOf n) × (length (now firsts) ≡ roomOf n) × (length (now nexts) ≡ roomOf n) × (length (now mark) ≡ roomOf n) × (length (now stack) ≡ roomOf n) × (length (now flag) ≡ roomOf n) ⌝ }
+    requires { ⌜ Rowed (now s) (now rows) n × Family (rowsIn (now rows) n) (now first) (now next) × Kinds (rowsIn (now rows) n) (now firstk) (now nextk) × Placed (now t) (now s) (now rows) n (now at) (now es) (now inside) × Targeted (docOf (now s) (now rows) n) (now target) × (length (now owner) ≡ roomOf n) × (length (now firsts) ≡ roomOf n) × (length (now nexts) ≡ roomOf n) × (length (now mark) ≡ roomOf n) × (length (now stack) ≡ roomOf n) × (length (now flag) ≡ roomOf n) ⌝ }
     ensures { λ _. ⌜ Flagged (tableOf (now (t .entry))) (docOf (now (s .entry)) (now (rows .entry)) n) (now (flag .exit)) ⌝ }
 {
     query_spreads::owners(s, rows, n, owner);
@@ -48,7 +48,7 @@ fn flag_with(
         firstk,
         nextk,
         at,
-        to,
+        es,
         inside,
         owner,
         target,
@@ -70,13 +70,13 @@ fn flag_few(
     next: &[u32],
     firstk: &[u32],
     nextk: &[u32],
-    at: &[u32],
-    to: &[u32],
-    inside: &[u32],
+    at: &[u16],
+    es: &[u16],
+    inside: &[u16],
     target: &[u32],
     flag: &mut [u32],
 )
-    requires { ⌜ Rowed (now s) (now rows) n × Family (rowsIn (now rows) n) (now first) (now next) × Kinds (rowsIn (now rows) n) (now firstk) (now nextk) × Placed (now t) (now s) (now rows) n (now at) (now to) (now inside) n × Targeted (docOf (now s) (now rows) n) (now target) × (length (now flag) ≡ roomOf n) × (n ≤ fewRows) ⌝ }
+    requires { ⌜ Rowed (now s) (now rows) n × Family (rowsIn (now rows) n) (now first) (now next) × Kinds (rowsIn (now rows) n) (now firstk) (now nextk) × Placed (now t) (now s) (now rows) n (now at) (now es) (now inside) × Targeted (docOf (now s) (now rows) n) (now target) × (length (now flag) ≡ roomOf n) × (n ≤ fewRows) ⌝ }
     ensures { λ _. ⌜ Flagged (tableOf (now (t .entry))) (docOf (now (s .entry)) (now (rows .entry)) n) (now (flag .exit)) ⌝ }
 {
     let mut owner = [0u32; FEW_ROWS];
@@ -94,7 +94,7 @@ fn flag_few(
         firstk,
         nextk,
         at,
-        to,
+        es,
         inside,
         target,
         &mut owner,
@@ -116,13 +116,13 @@ fn flag_many(
     next: &[u32],
     firstk: &[u32],
     nextk: &[u32],
-    at: &[u32],
-    to: &[u32],
-    inside: &[u32],
+    at: &[u16],
+    es: &[u16],
+    inside: &[u16],
     target: &[u32],
     flag: &mut [u32],
 )
-    requires { ⌜ Rowed (now s) (now rows) n × Family (rowsIn (now rows) n) (now first) (now next) × Kinds (rowsIn (now rows) n) (now firstk) (now nextk) × Placed (now t) (now s) (now rows) n (now at) (now to) (now inside) n × Targeted (docOf (now s) (now rows) n) (now target) × (length (now flag) ≡ roomOf n) × (fewRows < n) ⌝ }
+    requires { ⌜ Rowed (now s) (now rows) n × Family (rowsIn (now rows) n) (now first) (now next) × Kinds (rowsIn (now rows) n) (now firstk) (now nextk) × Placed (now t) (now s) (now rows) n (now at) (now es) (now inside) × Targeted (docOf (now s) (now rows) n) (now target) × (length (now flag) ≡ roomOf n) × (fewRows < n) ⌝ }
     ensures { λ _. ⌜ Flagged (tableOf (now (t .entry))) (docOf (now (s .entry)) (now (rows .entry)) n) (now (flag .exit)) ⌝ }
 {
     let mut owner = [0u32; ROWS];
@@ -140,7 +140,7 @@ fn flag_many(
         firstk,
         nextk,
         at,
-        to,
+        es,
         inside,
         target,
         &mut owner,
@@ -162,13 +162,13 @@ pub fn flags(
     next: &[u32],
     firstk: &[u32],
     nextk: &[u32],
-    at: &[u32],
-    to: &[u32],
-    inside: &[u32],
+    at: &[u16],
+    es: &[u16],
+    inside: &[u16],
     target: &[u32],
     flag: &mut [u32],
 )
-    requires { ⌜ Rowed (now s) (now rows) n × Family (rowsIn (now rows) n) (now first) (now next) × Kinds (rowsIn (now rows) n) (now firstk) (now nextk) × Placed (now t) (now s) (now rows) n (now at) (now to) (now inside) n × Targeted (docOf (now s) (now rows) n) (now target) × (length (now flag) ≡ roomOf n) ⌝ }
+    requires { ⌜ Rowed (now s) (now rows) n × Family (rowsIn (now rows) n) (now first) (now next) × Kinds (rowsIn (now rows) n) (now firstk) (now nextk) × Placed (now t) (now s) (now rows) n (now at) (now es) (now inside) × Targeted (docOf (now s) (now rows) n) (now target) × (length (now flag) ≡ roomOf n) ⌝ }
     ensures { λ _. ⌜ Flagged (tableOf (now (t .entry))) (docOf (now (s .entry)) (now (rows .entry)) n) (now (flag .exit)) ⌝ }
 {
     if n <= FEW_ROWS {
@@ -182,7 +182,7 @@ pub fn flags(
             firstk,
             nextk,
             at,
-            to,
+            es,
             inside,
             target,
             flag,
@@ -198,7 +198,7 @@ pub fn flags(
         firstk,
         nextk,
         at,
-        to,
+        es,
         inside,
         target,
         flag,

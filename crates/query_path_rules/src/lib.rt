@@ -29,15 +29,15 @@ fn judge_variables(
     next: &[u32],
     firstk: &[u32],
     nextk: &[u32],
-    at: &[u32],
-    size: &[u32],
-    wrappers: &[u32],
+    at: &[u16],
+    es: &[u16],
+    wrappers: &[u16],
     owner: &[u32],
     mark: &[u32],
     o: usize,
     flag: &mut [u32],
 )
-    requires { ⌜ Known (now t) (now s) (now rows) n (now first) (now next) (now at) (now size) (now wrappers) (now owner) × Kinds (rowsIn (now rows) n) (now firstk) (now nextk) × Reached (docOf (now s) (now rows) n) o (now mark) × (rowIn (now rows) n o .kind ≡ kindOperation) × LikenedTo (tableOf (now t)) (docOf (now s) (now rows) n) n o (now flag) ⌝ }
+    requires { ⌜ Known (now t) (now s) (now rows) n (now first) (now next) (now at) (now es) (now wrappers) (now owner) × Kinds (rowsIn (now rows) n) (now firstk) (now nextk) × Reached (docOf (now s) (now rows) n) o (now mark) × (rowIn (now rows) n o .kind ≡ kindOperation) × LikenedTo (tableOf (now t)) (docOf (now s) (now rows) n) n o (now flag) ⌝ }
     ensures { λ _. ⌜ LikenedTo (tableOf (now (t .entry))) (docOf (now (s .entry)) (now (rows .entry)) n) n (o + 1) (now (flag .exit)) ⌝ }
 {
     let mut i = link_of(firstk, KIND_VARIABLE as usize);
@@ -52,7 +52,7 @@ fn judge_variables(
                 first,
                 next,
                 at,
-                size,
+                es,
                 wrappers,
                 owner,
                 mark,
@@ -75,9 +75,9 @@ fn judge_operations(
     next: &[u32],
     firstk: &[u32],
     nextk: &[u32],
-    at: &[u32],
-    size: &[u32],
-    wrappers: &[u32],
+    at: &[u16],
+    es: &[u16],
+    wrappers: &[u16],
     owner: &[u32],
     target: &[u32],
     firsts: &[u32],
@@ -86,7 +86,7 @@ fn judge_operations(
     stack: &mut [u16],
     flag: &mut [u32],
 )
-    requires { ⌜ Known (now t) (now s) (now rows) n (now first) (now next) (now at) (now size) (now wrappers) (now owner) × Kinds (rowsIn (now rows) n) (now firstk) (now nextk) × Graph (docOf (now s) (now rows) n) (now target) (now firsts) (now nexts) × Stamped (docOf (now s) (now rows) n) 0 (now mark) × (length (now stack) ≡ roomOf n) × LikenedTo (tableOf (now t)) (docOf (now s) (now rows) n) n 0 (now flag) ⌝ }
+    requires { ⌜ Known (now t) (now s) (now rows) n (now first) (now next) (now at) (now es) (now wrappers) (now owner) × Kinds (rowsIn (now rows) n) (now firstk) (now nextk) × Graph (docOf (now s) (now rows) n) (now target) (now firsts) (now nexts) × Stamped (docOf (now s) (now rows) n) 0 (now mark) × (length (now stack) ≡ roomOf n) × LikenedTo (tableOf (now t)) (docOf (now s) (now rows) n) n 0 (now flag) ⌝ }
     ensures { λ _. ⌜ LikenedTo (tableOf (now (t .entry))) (docOf (now (s .entry)) (now (rows .entry)) n) n n (now (flag .exit)) ⌝ }
 {
     let mut o = link_of(firstk, KIND_OPERATION as usize);
@@ -102,7 +102,7 @@ fn judge_operations(
             firstk,
             nextk,
             at,
-            size,
+            es,
             wrappers,
             owner,
             mark,
@@ -123,9 +123,9 @@ fn judge_uses(
     next: &[u32],
     firstk: &[u32],
     nextk: &[u32],
-    at: &[u32],
-    size: &[u32],
-    wrappers: &[u32],
+    at: &[u16],
+    es: &[u16],
+    wrappers: &[u16],
     owner: &[u32],
     target: &[u32],
     firsts: &[u32],
@@ -134,7 +134,7 @@ fn judge_uses(
     stack: &mut [u16],
     flag: &mut [u32],
 )
-    requires { ⌜ Known (now t) (now s) (now rows) n (now first) (now next) (now at) (now size) (now wrappers) (now owner) × Kinds (rowsIn (now rows) n) (now firstk) (now nextk) × Graph (docOf (now s) (now rows) n) (now target) (now firsts) (now nexts) × Stamped (docOf (now s) (now rows) n) 0 (now mark) × (length (now stack) ≡ roomOf n) × FlagsTo (tableOf (now t)) (docOf (now s) (now rows) n) n 0 (now flag) ⌝ }
+    requires { ⌜ Known (now t) (now s) (now rows) n (now first) (now next) (now at) (now es) (now wrappers) (now owner) × Kinds (rowsIn (now rows) n) (now firstk) (now nextk) × Graph (docOf (now s) (now rows) n) (now target) (now firsts) (now nexts) × Stamped (docOf (now s) (now rows) n) 0 (now mark) × (length (now stack) ≡ roomOf n) × FlagsTo (tableOf (now t)) (docOf (now s) (now rows) n) n 0 (now flag) ⌝ }
     ensures { λ _. ⌜ FlagsTo (tableOf (now (t .entry))) (docOf (now (s .entry)) (now (rows .entry)) n) n n (now (flag .exit)) ⌝ }
 {
     query_alike::liken(
@@ -145,7 +145,7 @@ fn judge_uses(
         firstk,
         nextk,
         at,
-        size,
+        es,
         wrappers,
         owner,
         stack,
@@ -161,7 +161,7 @@ fn judge_uses(
         firstk,
         nextk,
         at,
-        size,
+        es,
         wrappers,
         owner,
         target,
@@ -229,9 +229,9 @@ pub fn flags(
     next: &[u32],
     firstk: &[u32],
     nextk: &[u32],
-    at: &[u32],
-    size: &[u32],
-    wrappers: &[u32],
+    at: &[u16],
+    es: &[u16],
+    wrappers: &[u16],
     owner: &[u32],
     target: &[u32],
     firsts: &[u32],
@@ -240,7 +240,7 @@ pub fn flags(
     stack: &mut [u16],
     flag: &mut [u32],
 )
-    requires { ⌜ Known (now t) (now s) (now rows) n (now first) (now next) (now at) (now size) (now wrappers) (now owner) × Kinds (rowsIn (now rows) n) (now firstk) (now nextk) × Graph (docOf (now s) (now rows) n) (now target) (now firsts) (now nexts) × (length (now mark) ≡ roomOf n) × (length (now stack) ≡ roomOf n) × (length (now flag) ≡ roomOf n) ⌝ }
+    requires { ⌜ Known (now t) (now s) (now rows) n (now first) (now next) (now at) (now es) (now wrappers) (now owner) × Kinds (rowsIn (now rows) n) (now firstk) (now nextk) × Graph (docOf (now s) (now rows) n) (now target) (now firsts) (now nexts) × (length (now mark) ≡ roomOf n) × (length (now stack) ≡ roomOf n) × (length (now flag) ≡ roomOf n) ⌝ }
     ensures { λ _. ⌜ Flagged (tableOf (now (t .entry))) (docOf (now (s .entry)) (now (rows .entry)) n) (now (flag .exit)) ⌝ }
 {
     query_links::clear(flag, 0);
@@ -269,7 +269,7 @@ pub fn flags(
         firstk,
         nextk,
         at,
-        size,
+        es,
         wrappers,
         owner,
         target,

@@ -1,25 +1,19 @@
--- The type of an argument or input field that a search finds in a content.
-use mathlib.Core.Path.{_≡_, sym, ap, subst, _∙_}
+-- The type of an argument or input field that a search of the entries finds.
+use mathlib.Core.Path.{_≡_, subst}
 use mathlib.Core.Bool.{Bool, true}
-use mathlib.Core.Option.{Option, none, some}
+use mathlib.Core.Option.{none, some}
 use mathlib.Core.List.{List, []}
-use Prim.Native.Nat.{ℕ}
-use native.Mathlib.Omega.{arith}
-use lib.Dec.{eqb}
-use Rattle.paper.proofs.Bools.{and-left, and-right}
-use Rattle.table_fields.proofs.BoundsLaws.{narrow}
-use borrow.Author.Tests.{eqb-true}
-use Rattle.paper_table.specs.TableNumbers.{tagArgument}
+use Prim.Native.Nat.{ℕ, _≤_, _<_}
+use lib.ListN.{length}
+use Rattle.paper.proofs.Bools.{and-left}
 use Rattle.paper_table.specs.Lists.{allOf, find}
 use Rattle.paper_table.specs.References.{named}
-use Rattle.paper_table.specs.Types.{Argument, Member, typeIn, nameOnly, tagNothing, memberNamed, argumentNamed}
+use Rattle.paper_table.specs.Types.{Argument, Member, nameOnly, tagNothing, memberNamed, argumentNamed}
 use Rattle.paper_table.proofs.ListsLaws.{find-some}
-use Rattle.paper_query.specs.PlaceTypes.{shapeOf}
-use Rattle.table_fields.specs.Fields.{Bounds}
-use Rattle.table_members.specs.Members.{fieldsIn, membersIn, argumentsIn, memberFrom, argumentFrom, inputFrom, Finds}
-use Rattle.table_members.proofs.MemberLaws.{input-is, member-tag}
+use Rattle.table_types.specs.Sizes.{slimMember}
 use Rattle.table_types.proofs.Fitting.{all-at}
-use Rattle.query_place_types.specs.Shapes.{Keeps, slim, slimArgument, slimInput, argumentShape, memberShape}
+use Rattle.table_entries.specs.Entries.{cellsNeeded, roomEntries, Hit, HitArgument}
+use Rattle.query_place_types.specs.Shapes.{placeUnknown, SomeEntry, Keeps, EntryPlace, slim, slimArgument, argumentShape, memberShape}
 use Rattle.query_place_types.specs.declared.Place.{Place}
 use Rattle.query_place_types.proofs.ShapeLaws.{keeps-unknown}
 
@@ -33,39 +27,35 @@ find-passes p q d xs x e f =
 abbrev noArgument : Argument
 noArgument = record { name = []; type = named [] }
 
-module _ (t : List ℕ) (start end : ℕ) (b : Bounds t start end) where
-  -- what is found lies in the content
-  pub found-bounds : {A : Type 0} {o : Option A} {x : A} (from to : ℕ) → Finds start end from to o x → Bounds t from to
-  found-bounds from to f = narrow b (f .lies .order) (f .lies .within)
+module _ (t book es n : List ℕ) where
+  -- an argument
+  module _ (xs : List Argument) (e : ℕ) (h : HitArgument t book es roomEntries n xs e) where
+    pub argument-stands : cellsNeeded ≤ length es → e < roomEntries → SomeEntry es e
+    argument-stands c l =
+        let g = h .found l in
+        (t, record { book = book; stands = record { cells = c; most = l; name = g .0 .name; type = g .0 .type; is = g .2 } })
 
-  module _ (n : List ℕ) (r : Place) where
-    pub argument-none : find (argumentNamed n) (argumentsIn t start end) ≡ none → r .at ≡ 0 → Keeps t (argumentShape (find (argumentNamed n) (argumentsIn t start end))) r
-    argument-none e z = rw e (keeps-unknown t r z)
+    module _ (r : Place) where
+      pub argument-none : roomEntries ≤ e → r .at ≡ placeUnknown → Keeps t book es (argumentShape (find (argumentNamed n) xs)) r
+      argument-none l z = rw (h .none-is l) (keeps-unknown t book es r z)
 
-    pub input-none : find (memberNamed n) (membersIn t start end) ≡ none → r .at ≡ 0 → Keeps t (memberShape (find (memberNamed n) (membersIn t start end))) r
-    input-none e z = rw e (keeps-unknown t r z)
+      pub argument-kept : allOf slimArgument xs ≡ true → e < roomEntries → EntryPlace es e r → Keeps t book es (argumentShape (find (argumentNamed n) xs)) r
+      argument-kept a l k =
+          let g = h .found l in
+          rw (g .1) (k t book (g .0 .name) (g .0 .type) (g .2) (find-passes (argumentNamed n) slimArgument noArgument xs (g .0) a (g .1)))
 
-    module _ (from to : ℕ) where
-      pub argument-slim : allOf slimArgument (argumentsIn t start end) ≡ true → Finds start end from to (find (argumentNamed n) (argumentsIn t start end)) (argumentFrom t from to)
-          → slim (typeIn (fieldsIn t from to)) ≡ true
-      argument-slim a f = find-passes (argumentNamed n) slimArgument noArgument (argumentsIn t start end) (argumentFrom t from to) a (f .is)
+  -- an input field
+  module _ (xs : List Member) (e : ℕ) (h : Hit t book es roomEntries n xs e) where
+    pub input-stands : cellsNeeded ≤ length es → e < roomEntries → SomeEntry es e
+    input-stands c l =
+        let g = h .found l in
+        (t, record { book = book; stands = record { cells = c; most = l; name = g .0 .name; type = g .0 .type; is = g .2 .entry } })
 
-      pub argument-kept : Finds start end from to (find (argumentNamed n) (argumentsIn t start end)) (argumentFrom t from to) → Keeps t (some (shapeOf (typeIn (fieldsIn t from to)))) r
-          → Keeps t (argumentShape (find (argumentNamed n) (argumentsIn t start end))) r
-      argument-kept f k = rw (f .is) k
+    module _ (r : Place) where
+      pub input-none : roomEntries ≤ e → r .at ≡ placeUnknown → Keeps t book es (memberShape (find (memberNamed n) xs)) r
+      input-none l z = rw (h .none-is l) (keeps-unknown t book es r z)
 
-      module _ (tag : ℕ) (a : allOf slimInput (membersIn t start end) ≡ true) (f : Finds start end from to (find (memberNamed n) (membersIn t start end)) (memberFrom t tag from to)) where
-        passes : slimInput (memberFrom t tag from to) ≡ true
-        passes = find-passes (memberNamed n) slimInput (nameOnly tagNothing []) (membersIn t start end) (memberFrom t tag from to) a (f .is)
-
-        is-input : memberFrom t tag from to ≡ inputFrom t from to
-        is-input =
-            input-is t tag from to
-            (sym (member-tag t tag from to) ∙ eqb-true (memberFrom t tag from to .tag) tagArgument (and-left (eqb (memberFrom t tag from to .tag) tagArgument) (slim (memberFrom t tag from to .type)) passes))
-
-        pub input-slim : slim (typeIn (fieldsIn t from to)) ≡ true
-        input-slim =
-            sym (ap (λ (e : Member). slim (e .type)) is-input) ∙ and-right (eqb (memberFrom t tag from to .tag) tagArgument) (slim (memberFrom t tag from to .type)) passes
-
-        pub input-kept : Keeps t (some (shapeOf (typeIn (fieldsIn t from to)))) r → Keeps t (memberShape (find (memberNamed n) (membersIn t start end))) r
-        input-kept k = rw (f .is ∙ ap some is-input) k
+      pub input-kept : allOf slimMember xs ≡ true → e < roomEntries → EntryPlace es e r → Keeps t book es (memberShape (find (memberNamed n) xs)) r
+      input-kept a l k =
+          let g = h .found l in
+          rw (g .1) (k t book (g .0 .name) (g .0 .type) (g .2 .entry) (and-left (slim (g .0 .type)) (allOf slimArgument (g .0 .arguments)) (find-passes (memberNamed n) slimMember (nameOnly tagNothing []) xs (g .0) a (g .1))))

@@ -1,38 +1,45 @@
-// The type of a place as three numbers: a list's items', and that of an argument or input field of a table.
+// The type of a place as two numbers: a list's items', and that of an argument or input field of a table.
 use paper::WRAP_LIST;
 use paper::WRAP_NON_NULL;
 use query_rows::name_of;
 use query_rows::size_of;
-use table_members::FieldFound;
+use table_entries::NO_ENTRY;
 ghost use mathlib.Core.Path.{_≡_};
 ghost use mathlib.Core.Bool.{true};
-ghost use mathlib.Core.Option.{some};
+ghost use Prim.Native.Nat.{_≤_, _<_};
 ghost use Rattle.paper_table.specs.Lists.{allOf, find};
-ghost use Rattle.paper_table.specs.Types.{typeIn, argumentNamed, memberNamed};
+ghost use Rattle.paper_table.specs.Types.{memberNamed};
 ghost use Rattle.paper_query.specs.Constructs.{nameOf};
-ghost use Rattle.paper_query.specs.PlaceTypes.{shapeOf, nullable};
-ghost use Rattle.table_fields.specs.Fields.{Bounds};
-ghost use Rattle.table_members.specs.Members.{fieldsIn, argumentsIn, membersIn};
+ghost use Rattle.paper_query.specs.PlaceTypes.{nullable};
+ghost use Rattle.table_book.specs.Book.{countIn};
+ghost use Rattle.table_types.specs.Booked.{Booked, definitionOn};
+ghost use Rattle.table_types.specs.Sizes.{slimMember};
+ghost use Rattle.table_entries.specs.Entries.{hasTypes, Entered, MemberStands};
 ghost use Rattle.query_rows.specs.Rowed.{docOf, Rowed};
-ghost use Rattle.query_place_types.specs.Shapes.{placeUnknown, Keeps, Items, slim, slimArgument, slimInput, argumentShape, memberShape, inputTag};
+ghost use Rattle.query_place_types.specs.Shapes.{placeUnknown, SomeEntry, Keeps, Items, EntryPlace, ArgumentPlace, memberShape, inputTag};
 
-// A place's type: where its base begins in the table, two bytes on, or 0 where it is not known, or 1 for Boolean; the base's size; the wrappers.
+// A place's type: that of an entry, so much more, or 0 where it is not known, or 1 for Boolean; the wrappers that are left of it.
 pub struct Place {
-    pub at: u32,
-    pub size: u32,
-    pub wrappers: u32,
+    pub at: u16,
+    pub wrappers: u16,
 }
 
-pub const PLACE_UNKNOWN: u32 = 0;
+pub const PLACE_UNKNOWN: u16 = 0;
 
-pub const PLACE_BOOLEAN: u32 = 1;
+pub const PLACE_BOOLEAN: u16 = 1;
 
-pub const PLACE_FIRST: u32 = 2;
+pub const PLACE_FIRST: u16 = 2;
 
 const WRAPPERS: u32 = 4;
 
 // the tag of what a name of no type means
 const TAG_NOTHING: u32 = 0;
+
+fn wide(x: u16) -> u32
+    ensures { λ r. ⌜ r ≡ x ⌝ }
+{
+    x as u32
+}
 
 // A place whose type is not known.
 pub fn unknown() -> Place
@@ -40,14 +47,13 @@ pub fn unknown() -> Place
 {
     Place {
         at: PLACE_UNKNOWN,
-        size: 0,
         wrappers: 0,
     }
 }
 
 // Wrappers without the outermost Non-Null.
 pub fn nullable_of(wrappers: u32) -> u32
-    ensures { λ r. ⌜ r ≡ nullable wrappers ⌝ }
+    ensures { λ r. ⌜ (r ≡ nullable wrappers) × (r ≤ wrappers) ⌝ }
 {
     if wrappers % WRAPPERS == WRAP_NON_NULL {
         return wrappers / WRAPPERS;
@@ -55,94 +61,83 @@ pub fn nullable_of(wrappers: u32) -> u32
     wrappers
 }
 
+// The same of a place's.
+pub fn nullable_at(p: Place) -> u32
+    ensures { λ r. ⌜ (r ≡ nullable (p .wrappers)) × (r ≤ p .wrappers) ⌝ }
+{
+    nullable_of(wide(p.wrappers))
+}
+
 // The type of a list's items.
 pub fn item_of(p: Place) -> Place
     ensures { λ r. ⌜ Items p r ⌝ }
 {
-    let w = nullable_of(p.wrappers);
+    let w = nullable_at(p);
     if w % WRAPPERS != WRAP_LIST {
         return unknown();
     }
     Place {
         at: p.at,
-        size: p.size,
-        wrappers: w / WRAPPERS,
+        wrappers: (w / WRAPPERS) as u16,
     }
 }
 
-// The type of the argument or input field with this content.
-fn typed(t: &[u8], start: usize, end: usize) -> Place
-    requires { ⌜ Bounds (now t) start end × (slim (typeIn (fieldsIn (now t) start end)) ≡ true) ⌝ }
-    ensures { λ r. ⌜ Keeps (now (t .entry)) (some (shapeOf (typeIn (fieldsIn (now (t .entry)) start end)))) r ⌝ }
+// The type of entry e.
+fn entry_place(es: &[u16], e: usize) -> Place
+    requires { ⌜ SomeEntry (now es) e ⌝ }
+    ensures { λ r. ⌜ EntryPlace (now (es .entry)) e r ⌝ }
 {
-    let r = table_members::type_in(t, start, end);
+    let r = table_entries::type_of(es, e);
     Place {
-        at: r.at as u32 + PLACE_FIRST,
-        size: r.size as u32,
-        wrappers: r.wrappers,
+        at: e as u16 + PLACE_FIRST,
+        wrappers: r.wrappers as u16,
     }
 }
 
-// The type of the argument of row i's name, in the field with this content.
+// The type of the argument of row i's name, of the member with entry m.
 pub fn argument_typed(
     t: &[u8],
-    start: usize,
-    end: usize,
+    book: &[u32],
+    es: &[u16],
+    m: usize,
     s: &[u8],
     rows: &[u32],
     n: usize,
     i: usize,
 ) -> Place
-    requires { ⌜ Bounds (now t) start end × Rowed (now s) (now rows) n × (allOf slimArgument (argumentsIn (now t) start end) ≡ true) ⌝ }
-    ensures { λ r. ⌜ Keeps (now (t .entry)) (argumentShape (find (argumentNamed (nameOf (docOf (now (s .entry)) (now (rows .entry)) n) i)) (argumentsIn (now (t .entry)) start end))) r ⌝ }
+    requires { ⌜ MemberStands (now t) (now book) (now es) m × Rowed (now s) (now rows) n ⌝ }
+    ensures { λ r. ⌜ ArgumentPlace (now (t .entry)) (now (book .entry)) (now (es .entry)) m (nameOf (docOf (now (s .entry)) (now (rows .entry)) n) i) r ⌝ }
 {
-    let FieldFound::Found {
-        tag: _,
-        start: from,
-        end: to,
-    } = table_members::find_argument(
-        t,
-        start,
-        end,
-        s,
-        name_of(rows, n, i) as usize,
-        size_of(rows, n, i) as usize,
-    )
-    else {
+    let at = name_of(rows, n, i) as usize;
+    let size = size_of(rows, n, i) as usize;
+    let e = table_entries::find_argument(t, book, es, m, s, at, size);
+    if NO_ENTRY <= e {
         return unknown();
-    };
-    typed(t, from, to)
+    }
+    entry_place(es, e)
 }
 
-// The type of the input field of row i's name, in the input object with this content.
+// The type of the input field of row i's name, of the input object that is definition k.
 pub fn input_typed(
     t: &[u8],
-    start: usize,
-    end: usize,
+    book: &[u32],
+    es: &[u16],
+    k: usize,
     s: &[u8],
     rows: &[u32],
     n: usize,
     i: usize,
 ) -> Place
-    requires { ⌜ Bounds (now t) start end × Rowed (now s) (now rows) n × (allOf slimInput (membersIn (now t) start end) ≡ true) ⌝ }
-    ensures { λ r. ⌜ Keeps (now (t .entry)) (memberShape (find (memberNamed (nameOf (docOf (now (s .entry)) (now (rows .entry)) n) i)) (membersIn (now (t .entry)) start end))) r ⌝ }
+    requires { ⌜ Booked (now t) (now book) × Entered (now t) (now book) (now es) × (k < countIn (now book)) × (hasTypes (definitionOn (now t) k .tag) ≡ true) × (allOf slimMember (definitionOn (now t) k .members) ≡ true) × Rowed (now s) (now rows) n ⌝ }
+    ensures { λ r. ⌜ Keeps (now (t .entry)) (now (book .entry)) (now (es .entry)) (memberShape (find (memberNamed (nameOf (docOf (now (s .entry)) (now (rows .entry)) n) i)) (definitionOn (now (t .entry)) k .members))) r ⌝ }
 {
-    let FieldFound::Found {
-        tag: _,
-        start: from,
-        end: to,
-    } = table_members::find_member(
-        t,
-        start,
-        end,
-        s,
-        name_of(rows, n, i) as usize,
-        size_of(rows, n, i) as usize,
-    )
-    else {
+    let at = name_of(rows, n, i) as usize;
+    let size = size_of(rows, n, i) as usize;
+    let e = table_entries::find_member(t, book, es, k, s, at, size);
+    if NO_ENTRY <= e {
         return unknown();
-    };
-    typed(t, from, to)
+    }
+    entry_place(es, e)
 }
 
 // Is it the tag of a scalar, an enum or an input object?

@@ -14,41 +14,32 @@ ghost use lib.ListN.{length};
 ghost use Rattle.paper_table.specs.Types.{tableOf};
 ghost use Rattle.paper_query.specs.Rule11VariableType.{noInputType};
 ghost use Rattle.table_types.specs.Booked.{Booked};
+ghost use Rattle.table_entries.specs.Entries.{Entered};
 ghost use Rattle.query_rows.specs.Rowed.{docOf, rowsIn, Rowed, Sized, roomOf};
 ghost use Rattle.query_links.specs.Links.{Family};
-ghost use Rattle.query_inside.specs.Enclosed.{Enclosed};
+ghost use Rattle.query_inside.specs.Enclosed.{EnclosedTo};
 ghost use Rattle.query_due_types.specs.Dues.{Fitted};
-ghost use Rattle.query_places.specs.Placed.{placeIn, Placed};
+ghost use Rattle.query_places.specs.Placed.{placeIn, PlacedTo, Placed};
 
 // The type due at row i, as it is kept.
-pub fn place_of(
-    rows: &[u32],
-    n: usize,
-    at: &[u32],
-    size: &[u32],
-    wrappers: &[u32],
-    i: usize,
-) -> Place
-    requires { ⌜ Sized (now rows) n × (length (now at) ≡ roomOf n) × (length (now size) ≡ roomOf n) × (length (now wrappers) ≡ roomOf n) ⌝ }
-    ensures { λ r. ⌜ r ≡ placeIn (now (rows .entry)) n (now (at .entry)) (now (size .entry)) (now (wrappers .entry)) i ⌝ }
+pub fn place_of(rows: &[u32], n: usize, at: &[u16], wrappers: &[u16], i: usize) -> Place
+    requires { ⌜ Sized (now rows) n × (length (now at) ≡ roomOf n) × (length (now wrappers) ≡ roomOf n) ⌝ }
+    ensures { λ r. ⌜ r ≡ placeIn (now (rows .entry)) n (now (at .entry)) (now (wrappers .entry)) i ⌝ }
 {
     if n <= i {
         return Place {
             at: PLACE_UNKNOWN,
-            size: 0,
             wrappers: 0,
         };
     }
     if query_inside::encloses(kind_of(rows, n, i)) {
         return Place {
             at: PLACE_UNKNOWN,
-            size: 0,
             wrappers: 0,
         };
     }
     Place {
         at: at[i],
-        size: size[i],
         wrappers: wrappers[i],
     }
 }
@@ -57,24 +48,23 @@ pub fn place_of(
 fn keep_place(
     t: &[u8],
     book: &[u32],
+    es: &[u16],
     s: &[u8],
     rows: &[u32],
     n: usize,
-    at: &mut [u32],
-    size: &mut [u32],
-    wrappers: &mut [u32],
+    at: &mut [u16],
+    wrappers: &mut [u16],
     i: usize,
 )
-    requires { ⌜ Fitted (now t) × Booked (now t) (now book) × Rowed (now s) (now rows) n × Placed (now t) (now s) (now rows) n (now at) (now size) (now wrappers) i × (i < n) ⌝ }
-    ensures { λ _. ⌜ Placed (now (t .entry)) (now (s .entry)) (now (rows .entry)) n (now (at .exit)) (now (size .exit)) (now (wrappers .exit)) (i + 1) ⌝ }
+    requires { ⌜ Fitted (now t) × Booked (now t) (now book) × Entered (now t) (now book) (now es) × Rowed (now s) (now rows) n × PlacedTo (now t) (now book) (now es) (now s) (now rows) n (now at) (now wrappers) i × (i < n) ⌝ }
+    ensures { λ _. ⌜ PlacedTo (now (t .entry)) (now (book .entry)) (now (es .entry)) (now (s .entry)) (now (rows .entry)) n (now (at .exit)) (now (wrappers .exit)) (i + 1) ⌝ }
 {
     if query_inside::encloses(kind_of(rows, n, i)) {
         return;
     }
-    let above = place_of(rows, n, at, size, wrappers, parent_of(rows, n, i) as usize);
-    let p = query_due_types::place_from(t, book, s, rows, n, at, size, i, above);
+    let above = place_of(rows, n, at, wrappers, parent_of(rows, n, i) as usize);
+    let p = query_due_types::place_from(t, book, es, s, rows, n, at, i, above);
     at[i] = p.at;
-    size[i] = p.size;
     wrappers[i] = p.wrappers;
 }
 
@@ -82,19 +72,19 @@ fn keep_place(
 pub fn places(
     t: &[u8],
     book: &[u32],
+    es: &[u16],
     s: &[u8],
     rows: &[u32],
     n: usize,
-    at: &mut [u32],
-    size: &mut [u32],
-    wrappers: &mut [u32],
+    at: &mut [u16],
+    wrappers: &mut [u16],
 )
-    requires { ⌜ Fitted (now t) × Booked (now t) (now book) × Rowed (now s) (now rows) n × Enclosed (now t) (now s) (now rows) n (now wrappers) (now at) (now size) ⌝ }
-    ensures { λ _. ⌜ Placed (now (t .entry)) (now (s .entry)) (now (rows .entry)) n (now (at .exit)) (now (size .exit)) (now (wrappers .exit)) n ⌝ }
+    requires { ⌜ Fitted (now t) × Booked (now t) (now book) × Entered (now t) (now book) (now es) × Rowed (now s) (now rows) n × EnclosedTo (now t) (now book) (now es) (now s) (now rows) n n (now wrappers) (now at) ⌝ }
+    ensures { λ _. ⌜ Placed (now (t .entry)) (now (s .entry)) (now (rows .entry)) n (now (at .exit)) (now (es .entry)) (now (wrappers .exit)) ⌝ }
 {
     let mut i = 0;
     while i < n {
-        keep_place(t, book, s, rows, n, at, size, wrappers, i);
+        keep_place(t, book, es, s, rows, n, at, wrappers, i);
         i += 1;
     }
 }

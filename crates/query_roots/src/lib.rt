@@ -90,7 +90,7 @@ pub fn has_root(t: &[u8], book: &[u32], x: u32) -> bool
 }
 
 // The type of the root of an operation's kind.
-pub fn root_type(t: &[u8], book: &[u32], x: u32) -> u32
+pub fn root_type(t: &[u8], book: &[u32], x: u32) -> u16
     requires { ⌜ Booked (now t) (now book) ⌝ }
     ensures { λ r. ⌜ typeCoded r ≡ then (rootOf (tableOf (now (t .entry))) x) (λ m. compositeOf (tableOf (now (t .entry))) (m .name)) ⌝ }
 {

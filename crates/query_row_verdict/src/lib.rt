@@ -99,18 +99,18 @@ fn field_rule(
     n: usize,
     first: &[u32],
     next: &[u32],
-    inside: &[u32],
-    at: &[u32],
-    to: &[u32],
+    inside: &[u16],
+    at: &[u16],
+    es: &[u16],
     i: usize,
 ) -> u32
-    requires { ⌜ Rowed (now s) (now rows) n × Family (rowsIn (now rows) n) (now first) (now next) × Enclosed (now t) (now s) (now rows) n (now inside) (now at) (now to) × (i < n) × (rowIn (now rows) n i .kind ≡ kindField) ⌝ }
+    requires { ⌜ Rowed (now s) (now rows) n × Family (rowsIn (now rows) n) (now first) (now next) × Enclosed (now t) (now s) (now rows) n (now inside) (now at) (now es) × (i < n) × (rowIn (now rows) n i .kind ≡ kindField) ⌝ }
     ensures { λ r. ⌜ LeastAt (tableOf (now (t .entry))) (docOf (now (s .entry)) (now (rows .entry)) n) i r ⌝ }
 {
-    if query_rules_5_6::field_missing(t, s, rows, n, inside, at, to, i) {
+    if query_rules_5_6::field_missing(t, s, rows, n, inside, at, es, i) {
         return RULE_FIELD;
     }
-    let wrong = query_rules_5_6::leaf_wrong(t, s, rows, n, first, next, inside, at, to, i);
+    let wrong = query_rules_5_6::leaf_wrong(t, s, rows, n, first, next, inside, at, es, i);
     rule_if(wrong, RULE_LEAF)
 }
 
@@ -122,18 +122,18 @@ fn argument_rule(
     n: usize,
     first: &[u32],
     next: &[u32],
-    inside: &[u32],
-    at: &[u32],
-    to: &[u32],
+    inside: &[u16],
+    at: &[u16],
+    es: &[u16],
     i: usize,
 ) -> u32
-    requires { ⌜ Rowed (now s) (now rows) n × Family (rowsIn (now rows) n) (now first) (now next) × Placed (now t) (now s) (now rows) n (now at) (now to) (now inside) n × (i < n) × (rowIn (now rows) n i .kind ≡ kindArgument) ⌝ }
+    requires { ⌜ Rowed (now s) (now rows) n × Family (rowsIn (now rows) n) (now first) (now next) × Placed (now t) (now s) (now rows) n (now at) (now es) (now inside) × (i < n) × (rowIn (now rows) n i .kind ≡ kindArgument) ⌝ }
     ensures { λ r. ⌜ LeastAt (tableOf (now (t .entry))) (docOf (now (s .entry)) (now (rows .entry)) n) i r ⌝ }
 {
     if query_siblings::name_twice(s, rows, n, first, next, i) {
         return RULE_NAME_TWICE;
     }
-    let unknown = query_rule_14::argument_unknown(t, s, rows, n, inside, at, to, i);
+    let unknown = query_rule_14::argument_unknown(t, s, rows, n, inside, at, es, i);
     rule_if(unknown, RULE_ARGUMENT)
 }
 
@@ -171,26 +171,26 @@ pub fn rule_at(
     next: &[u32],
     firstk: &[u32],
     nextk: &[u32],
-    inside: &[u32],
-    at: &[u32],
-    to: &[u32],
+    inside: &[u16],
+    at: &[u16],
+    es: &[u16],
     target: &[u32],
     flags: &[u32],
     i: usize,
 ) -> u32
-    requires { ⌜ Ready (now t) (now book) (now s) (now rows) n (now first) (now next) (now firstk) (now nextk) (now inside) (now at) (now to) (now target) (now flags) × (i < n) ⌝ }
+    requires { ⌜ Ready (now t) (now book) (now s) (now rows) n (now first) (now next) (now firstk) (now nextk) (now inside) (now at) (now es) (now target) (now flags) × (i < n) ⌝ }
     ensures { λ r. ⌜ LeastAt (tableOf (now (t .entry))) (docOf (now (s .entry)) (now (rows .entry)) n) i r ⌝ }
 {
     let kind = kind_of(rows, n, i);
     match kind {
         KIND_OPERATION => operation_rule(t, book, s, rows, n, firstk, nextk, i),
         KIND_FRAGMENT => fragment_rule(s, rows, n, firstk, nextk, flags, i),
-        KIND_FIELD => field_rule(t, s, rows, n, first, next, inside, at, to, i),
+        KIND_FIELD => field_rule(t, s, rows, n, first, next, inside, at, es, i),
         KIND_SPREAD => rule_if(
             query_spreads::spread_of_none(s, rows, n, target, i),
             RULE_SPREAD,
         ),
-        KIND_ARGUMENT => argument_rule(t, s, rows, n, first, next, inside, at, to, i),
+        KIND_ARGUMENT => argument_rule(t, s, rows, n, first, next, inside, at, es, i),
         KIND_DIRECTIVE => rule_if(
             query_rule_9::directive_wrong(s, rows, n, first, next, i),
             RULE_DIRECTIVE,

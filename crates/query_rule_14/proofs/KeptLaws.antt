@@ -12,7 +12,7 @@ use Rattle.paper.specs.Numbers.{kindField, kindArgument}
 use Rattle.paper_table.specs.References.{found}
 use Rattle.paper_table.specs.Types.{tableOf}
 use Rattle.paper_query.specs.Constructs.{parentOf, nameOf}
-use Rattle.paper_query.specs.Enclosing.{FieldIs, fieldAt, argumentCalled}
+use Rattle.paper_query.specs.Enclosing.{fieldAt, argumentCalled}
 use Rattle.paper_query.specs.PlaceTypes.{Shape, place}
 use Rattle.paper_query.specs.Rule14Argument.{hasNoArgument}
 use Rattle.paper_query.proofs.PlaceLaws.{place-step}
@@ -36,13 +36,13 @@ argument-there rows n i e = go (decLt i n)
     go (yes h) = h
     go (no h) = absurd (omega (arith, rw (row-none rows n i (omega arith)) at e))
 
-module _ (t s rows : List ℕ) (n : ℕ) (at to inside : List ℕ) (r : Rowed s rows n) (k : Placed t s rows n at to inside n) (i : ℕ) (a : rowIn rows n i .kind ≡ kindArgument) (p : ℕ) (q : p ≡ rowIn rows n i .parent) (f : rowIn rows n p .kind ≡ kindField) where
-  field : FieldKept t (fieldAt (tableOf t) (docOf s rows n) p) (getD at p 0) (getD to p 0)
-  field = k .enclosed .fields p (field-there rows n p f) f
+module _ (t s rows : List ℕ) (n : ℕ) (at es inside : List ℕ) (r : Rowed s rows n) (k : Placed t s rows n at es inside) (i : ℕ) (a : rowIn rows n i .kind ≡ kindArgument) (p : ℕ) (q : p ≡ rowIn rows n i .parent) (f : rowIn rows n p .kind ≡ kindField) where
+  field : FieldKept t (k .book) es (fieldAt (tableOf t) (docOf s rows n) p) (getD at p 0)
+  field = k .all .enclosed .fields p (field-there rows n p f) f
 
   pub unknown-field : getD at p 0 < fieldTypename → false ≡ hasNoArgument (fieldAt (tableOf t) (docOf s rows n) p) (nameOf (docOf s rows n) i)
   unknown-field h =
-      sym (ap (λ (x : FieldIs). hasNoArgument x (nameOf (docOf s rows n) i)) (field .is) ∙ lacks-unknown t (getD at p 0) (getD to p 0) (nameOf (docOf s rows n) i) h)
+      sym (lacks-unknown (nameOf (docOf s rows n) i) (getD at p 0) (fieldAt (tableOf t) (docOf s rows n) p) field h)
 
   no-inside : encloses (rowIn rows n i .kind) ≡ false
   no-inside = ap encloses a
@@ -55,14 +55,14 @@ module _ (t s rows : List ℕ) (n : ℕ) (at to inside : List ℕ) (r : Rowed s 
       ∙ argument-of-field (tableOf t) (docOf s rows n) i (ap (λ (x : ℕ). rowIn rows n x .kind) (sym q) ∙ f)
       ∙ ap (λ (x : ℕ). argumentShape (argumentCalled (fieldAt (tableOf t) (docOf s rows n) x) (nameOf (docOf s rows n) i))) (sym q)
 
-  place-kept : place (tableOf t) (docOf s rows n) i ≡ coded t (record { at = getD at i 0; size = getD to i 0; wrappers = getD inside i 0 })
+  place-kept : place (tableOf t) (docOf s rows n) i ≡ coded t es (record { at = getD at i 0; wrappers = getD inside i 0 })
   place-kept =
       let h : i < n = argument-there rows n i a in
-      k .kept i h .is ∙ ap (coded t) (in-row rows n at to inside i h no-inside)
+      k .all .kept i h .is ∙ ap (coded t es) (in-row rows n at inside i h no-inside)
 
   lacks-is : fieldTypename ≤ getD at p 0 → hasNoArgument (fieldAt (tableOf t) (docOf s rows n) p) (nameOf (docOf s rows n) i) ≡ not (found (argumentCalled (fieldAt (tableOf t) (docOf s rows n) p) (nameOf (docOf s rows n) i)))
-  lacks-is h = rw (field .is) (lacks-known t (getD at p 0) (getD to p 0) (nameOf (docOf s rows n) i) h)
+  lacks-is h = lacks-known (nameOf (docOf s rows n) i) (getD at p 0) (fieldAt (tableOf t) (docOf s rows n) p) field h
 
   pub known-field : fieldTypename ≤ getD at p 0 → eqb (getD at i 0) placeUnknown ≡ hasNoArgument (fieldAt (tableOf t) (docOf s rows n) p) (nameOf (docOf s rows n) i)
   known-field h =
-      sym (lacks-is h ∙ ap not (sym (shape-found (argumentCalled (fieldAt (tableOf t) (docOf s rows n) p) (nameOf (docOf s rows n) i)))) ∙ ap (λ (o : Option Shape). not (found o)) (sym place-is ∙ place-kept) ∙ coded-found t (record { at = getD at i 0; size = getD to i 0; wrappers = getD inside i 0 }))
+      sym (lacks-is h ∙ ap not (sym (shape-found (argumentCalled (fieldAt (tableOf t) (docOf s rows n) p) (nameOf (docOf s rows n) i)))) ∙ ap (λ (o : Option Shape). not (found o)) (sym place-is ∙ place-kept) ∙ coded-found t es (record { at = getD at i 0; wrappers = getD inside i 0 }))

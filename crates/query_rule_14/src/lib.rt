@@ -18,12 +18,12 @@ pub fn argument_unknown(
     s: &[u8],
     rows: &[u32],
     n: usize,
-    inside: &[u32],
-    at: &[u32],
-    to: &[u32],
+    inside: &[u16],
+    at: &[u16],
+    es: &[u16],
     i: usize,
 ) -> bool
-    requires { ⌜ Rowed (now s) (now rows) n × Placed (now t) (now s) (now rows) n (now at) (now to) (now inside) n ⌝ }
+    requires { ⌜ Rowed (now s) (now rows) n × Placed (now t) (now s) (now rows) n (now at) (now es) (now inside) ⌝ }
     ensures { λ r. ⌜ r ≡ argumentUnknown (tableOf (now (t .entry))) (docOf (now (s .entry)) (now (rows .entry)) n) i ⌝ }
 {
     if kind_of(rows, n, i) != KIND_ARGUMENT {

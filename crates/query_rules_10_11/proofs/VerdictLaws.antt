@@ -19,10 +19,9 @@ use Rattle.paper_query.specs.Constructs.{Doc, count, is, called, below, rowOf, 
 use Rattle.paper_query.specs.PlaceTypes.{Shape, shape, shapeIn, nullable, sameButNonNull, place}
 use Rattle.paper_query.specs.Rule10Undefined.{definesIt, defines}
 use Rattle.paper_query.specs.Rule11VariableType.{declared, declaredBy, differ}
-use Rattle.table_book.specs.Book.{part}
 use Rattle.query_links.proofs.Walks.{and-known}
 use Rattle.query_siblings.specs.Alike.{firstBelow}
-use Rattle.query_place_types.specs.Shapes.{placeUnknown, placeBoolean, placeFirst, coded}
+use Rattle.query_place_types.specs.Shapes.{placeUnknown, placeBoolean, placeFirst, baseAt, coded}
 use Rattle.query_place_types.specs.declared.Place.{Place}
 use Rattle.query_place_types.proofs.ShapeLaws.{coded-unknown, coded-boolean, coded-base}
 use Rattle.query_places.proofs.DeclaredLaws.{declared-some, declared-none}
@@ -47,27 +46,27 @@ module _ (q x : Shape) where
       and-true false = refl
 
 -- a type and that of a place
-module _ (t : List ℕ) (q : Shape) (p : Place) where
-  pub differ-unknown : p .at ≡ placeUnknown → false ≡ differ (some q) (coded t p)
-  differ-unknown e = rw (coded-unknown t p e)
+module _ (t es : List ℕ) (q : Shape) (p : Place) where
+  pub differ-unknown : p .at ≡ placeUnknown → false ≡ differ (some q) (coded t es p)
+  differ-unknown e = rw (coded-unknown t es p e)
 
   module _ (k : p .at ≡ placeUnknown → ⊥) where
-    pub differ-wrappers : (nullable (q .wrappers) ≡ nullable (p .wrappers) → ⊥) → true ≡ differ (some q) (coded t p)
+    pub differ-wrappers : (nullable (q .wrappers) ≡ nullable (p .wrappers) → ⊥) → true ≡ differ (some q) (coded t es p)
     differ-wrappers h = go (eqb (p .at) placeBoolean) refl
       where
-        go : (b : Bool) → eqb (p .at) placeBoolean ≡ b → true ≡ differ (some q) (coded t p)
-        go true e = rw (coded-boolean t p (eqb-true (p .at) placeBoolean e), fits-not q (shape (bytes "Boolean") (p .wrappers)) h)
+        go : (b : Bool) → eqb (p .at) placeBoolean ≡ b → true ≡ differ (some q) (coded t es p)
+        go true e = rw (coded-boolean t es p (eqb-true (p .at) placeBoolean e), fits-not q (shape (bytes "Boolean") (p .wrappers)) h)
         go false e =
             let z : p .at ≡ placeBoolean → ⊥ = eqb-false (p .at) placeBoolean e in
-            rw (coded-base t p (omega arith), fits-not q (shape (part t (p .at - placeFirst) (p .size)) (p .wrappers)) h)
+            rw (coded-base t es p (omega arith), fits-not q (shape (baseAt t es (p .at - placeFirst)) (p .wrappers)) h)
 
     module _ (h : nullable (q .wrappers) ≡ nullable (p .wrappers)) where
-      pub differ-boolean : {b : Bool} → p .at ≡ placeBoolean → b ≡ same (q .base) (bytes "Boolean") → not b ≡ differ (some q) (coded t p)
-      differ-boolean e f = rw (coded-boolean t p e, fits-base q (shape (bytes "Boolean") (p .wrappers)) h) (ap not f)
+      pub differ-boolean : {b : Bool} → p .at ≡ placeBoolean → b ≡ same (q .base) (bytes "Boolean") → not b ≡ differ (some q) (coded t es p)
+      differ-boolean e f = rw (coded-boolean t es p e, fits-base q (shape (bytes "Boolean") (p .wrappers)) h) (ap not f)
 
-      pub differ-base : {b : Bool} → (p .at ≡ placeBoolean → ⊥) → b ≡ same (q .base) (part t (p .at - placeFirst) (p .size)) → not b ≡ differ (some q) (coded t p)
+      pub differ-base : {b : Bool} → (p .at ≡ placeBoolean → ⊥) → b ≡ same (q .base) (baseAt t es (p .at - placeFirst)) → not b ≡ differ (some q) (coded t es p)
       differ-base e f =
-          rw (coded-base t p (omega arith), fits-base q (shape (part t (p .at - placeFirst) (p .size)) (p .wrappers)) h) (ap not f)
+          rw (coded-base t es p (omega arith), fits-base q (shape (baseAt t es (p .at - placeFirst)) (p .wrappers)) h) (ap not f)
 
 -- a definition by row o, among the rows right below it
 module _ (d : Doc) (o : ℕ) (n : List ℕ) (r : Row) where

@@ -8,6 +8,7 @@ use query_place_types::PLACE_BOOLEAN;
 use query_place_types::PLACE_FIRST;
 use query_place_types::PLACE_UNKNOWN;
 use query_place_types::Place;
+use query_place_types::nullable_at;
 use query_place_types::nullable_of;
 use query_places::place_of;
 use query_rows::extra_of;
@@ -29,7 +30,7 @@ ghost use Rattle.paper_query.specs.Rule11VariableType.{differ};
 ghost use Rattle.query_rows.specs.Rowed.{rowIn, rowsIn, docOf, Rowed};
 ghost use Rattle.query_links.specs.Links.{Family};
 ghost use Rattle.query_reach_pass.specs.Marks.{Reached};
-ghost use Rattle.query_place_types.specs.Shapes.{coded, Within};
+ghost use Rattle.query_place_types.specs.Shapes.{coded, Based};
 ghost use Rattle.query_places.specs.Placed.{Placed};
 ghost use Rattle.query_alike_pair.specs.Alike.{verdictOf, Least};
 ghost use Rattle.query_alike.specs.Flags.{Known};
@@ -73,31 +74,24 @@ pub fn definition_of(
 }
 
 // Is the type reference of row r another type than that of the place p, but for the outermost Non-Null? Wrappers are compared first.
-fn differs(t: &[u8], s: &[u8], rows: &[u32], n: usize, r: usize, p: Place) -> bool
-    requires { ⌜ Rowed (now s) (now rows) n × Within (now t) p ⌝ }
-    ensures { λ b. ⌜ b ≡ differ (some (shapeIn (docOf (now (s .entry)) (now (rows .entry)) n) (rowIn (now (rows .entry)) n r))) (coded (now (t .entry)) p) ⌝ }
+fn differs(t: &[u8], es: &[u16], s: &[u8], rows: &[u32], n: usize, r: usize, p: Place) -> bool
+    requires { ⌜ Rowed (now s) (now rows) n × Based (now t) (now es) p ⌝ }
+    ensures { λ b. ⌜ b ≡ differ (some (shapeIn (docOf (now (s .entry)) (now (rows .entry)) n) (rowIn (now (rows .entry)) n r))) (coded (now (t .entry)) (now (es .entry)) p) ⌝ }
 {
     if p.at == PLACE_UNKNOWN {
         return false;
     }
     let declared = extra_of(rows, n, r);
     let bare = nullable_of(declared);
-    let due = nullable_of(p.wrappers);
+    let due = nullable_at(p);
     if bare != due {
         return true;
     }
     if p.at == PLACE_BOOLEAN {
         return !is_called(s, rows, n, r, b"Boolean", 0, 7);
     }
-    !is_called(
-        s,
-        rows,
-        n,
-        r,
-        t,
-        (p.at - PLACE_FIRST) as usize,
-        p.size as usize,
-    )
+    let b = table_entries::type_of(es, (p.at - PLACE_FIRST) as usize);
+    !is_called(s, rows, n, r, t, b.at, b.size)
 }
 
 // What the operation of row o says of the variable of row i: rule 10, 11 or none.
@@ -108,13 +102,13 @@ fn verdict(
     n: usize,
     first: &[u32],
     next: &[u32],
-    at: &[u32],
-    size: &[u32],
-    wrappers: &[u32],
+    at: &[u16],
+    es: &[u16],
+    wrappers: &[u16],
     o: usize,
     i: usize,
 ) -> u32
-    requires { ⌜ Rowed (now s) (now rows) n × Family (rowsIn (now rows) n) (now first) (now next) × Placed (now t) (now s) (now rows) n (now at) (now size) (now wrappers) n × (o < n) ⌝ }
+    requires { ⌜ Rowed (now s) (now rows) n × Family (rowsIn (now rows) n) (now first) (now next) × Placed (now t) (now s) (now rows) n (now at) (now es) (now wrappers) × (o < n) ⌝ }
     ensures { λ r. ⌜ r ≡ verdictOf (tableOf (now (t .entry))) (docOf (now (s .entry)) (now (rows .entry)) n) o i ⌝ }
 {
     let v = definition_of(s, rows, n, first, next, o, i);
@@ -125,8 +119,8 @@ fn verdict(
     if n <= r {
         return NO_RULE;
     }
-    let p = place_of(rows, n, at, size, wrappers, i);
-    if differs(t, s, rows, n, r, p) {
+    let p = place_of(rows, n, at, wrappers, i);
+    if differs(t, es, s, rows, n, r, p) {
         return RULE_VARIABLE_TYPE;
     }
     NO_RULE
@@ -140,16 +134,16 @@ pub fn lesser(
     n: usize,
     first: &[u32],
     next: &[u32],
-    at: &[u32],
-    size: &[u32],
-    wrappers: &[u32],
+    at: &[u16],
+    es: &[u16],
+    wrappers: &[u16],
     owner: &[u32],
     mark: &[u32],
     o: usize,
     i: usize,
     f: u32,
 ) -> u32
-    requires { ⌜ Known (now t) (now s) (now rows) n (now first) (now next) (now at) (now size) (now wrappers) (now owner) × Reached (docOf (now s) (now rows) n) o (now mark) × (rowIn (now rows) n o .kind ≡ kindOperation) × (i < n) × Least (tableOf (now t)) (docOf (now s) (now rows) n) o i f ⌝ }
+    requires { ⌜ Known (now t) (now s) (now rows) n (now first) (now next) (now at) (now es) (now wrappers) (now owner) × Reached (docOf (now s) (now rows) n) o (now mark) × (rowIn (now rows) n o .kind ≡ kindOperation) × (i < n) × Least (tableOf (now t)) (docOf (now s) (now rows) n) o i f ⌝ }
     ensures { λ r. ⌜ Least (tableOf (now (t .entry))) (docOf (now (s .entry)) (now (rows .entry)) n) (o + 1) i r ⌝ }
 {
     if f == RULE_UNDEFINED {
@@ -158,7 +152,7 @@ pub fn lesser(
     if !query_reach::reaches(s, rows, n, owner, mark, o, i) {
         return f;
     }
-    let v = verdict(t, s, rows, n, first, next, at, size, wrappers, o, i);
+    let v = verdict(t, s, rows, n, first, next, at, es, wrappers, o, i);
     if v == NO_RULE {
         return f;
     }

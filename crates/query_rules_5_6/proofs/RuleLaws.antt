@@ -17,10 +17,10 @@ use Rattle.paper_query.specs.Rule5Field.{fieldNotOfType}
 use Rattle.paper_query.specs.Rule6Leaf.{hasSelections, leafWrong}
 use Rattle.query_types.specs.Coded.{typeCoded}
 use Rattle.query_fields.specs.Kept.{fieldMissing as numberMissing, fieldTypename, FieldKept}
-use Rattle.query_rules_5_6.proofs.CodedLaws.{coded-misses, leaf-unknown, leaf-known, type-found}
+use Rattle.query_rules_5_6.proofs.CodedLaws.{kept-misses, leaf-unknown, leaf-known, type-found}
 
 module _ (x : Table) (d : Doc) (i : ℕ) where
-  -- of a field by its numbers
+  -- of a field by its number
   pub field-other : (kindOf d i ≡ kindField → ⊥) → false ≡ fieldNotOfType x d i
   unfolding fieldNotOfType
   field-other k = rw (ne-eqb (kindOf d i) kindField k)
@@ -29,21 +29,21 @@ module _ (x : Table) (d : Doc) (i : ℕ) where
   unfolding leafWrong
   leaf-other k = rw (ne-eqb (kindOf d i) kindField k)
 
-  module _ (k : kindOf d i ≡ kindField) (t : List ℕ) (at to : ℕ) (f : FieldKept t (fieldAt x d i) at to) where
+  module _ (k : kindOf d i ≡ kindField) {t book es : List ℕ} (at : ℕ) (f : FieldKept t book es (fieldAt x d i) at) where
     pub field-judged : eqb at numberMissing ≡ fieldNotOfType x d i
     unfolding fieldNotOfType
-    field-judged = rw (eq-eqb (kindOf d i) kindField k, f .is) (sym (coded-misses t at to))
+    field-judged = rw (eq-eqb (kindOf d i) kindField k) (sym (kept-misses at (fieldAt x d i) f))
 
     pub leaf-nowhere : at < fieldTypename → false ≡ leafWrong x d i
     unfolding leafWrong
-    leaf-nowhere h = rw (eq-eqb (kindOf d i) kindField k, f .is) (sym (leaf-unknown t at to x (hasSelections d i) h))
+    leaf-nowhere h = rw (eq-eqb (kindOf d i) kindField k) (sym (leaf-unknown x at (fieldAt x d i) f (hasSelections d i) h))
 
     module _ (h : fieldTypename ≤ at) (c : ℕ) (e : selectionsType x (fieldAt x d i) ≡ typeCoded c) where
       by-type : (b : Bool) → hasSelections d i ≡ b → leafWrong x d i ≡ cond b (not (not (eqb c 0))) (not (eqb c 0))
       unfolding leafWrong
       by-type b q =
-          rw (eq-eqb (kindOf d i) kindField k, f .is, q)
-          (leaf-known t at to x b h ∙ ap (λ (o : Bool). cond b (not o) o) (ap found (ap (selectionsType x) (sym (f .is)) ∙ e) ∙ type-found c))
+          rw (eq-eqb (kindOf d i) kindField k, q)
+          (leaf-known x at (fieldAt x d i) f b h ∙ ap (λ (o : Bool). cond b (not o) o) (ap found e ∙ type-found c))
 
       pub leaf-selects : true ≡ hasSelections d i → eqb c 0 ≡ leafWrong x d i
       leaf-selects q = twice (eqb c 0) ∙ sym (by-type true (sym q))

@@ -21,12 +21,12 @@ pub fn field_missing(
     s: &[u8],
     rows: &[u32],
     n: usize,
-    inside: &[u32],
-    at: &[u32],
-    to: &[u32],
+    inside: &[u16],
+    at: &[u16],
+    es: &[u16],
     i: usize,
 ) -> bool
-    requires { ⌜ Rowed (now s) (now rows) n × Enclosed (now t) (now s) (now rows) n (now inside) (now at) (now to) × (i < n) ⌝ }
+    requires { ⌜ Rowed (now s) (now rows) n × Enclosed (now t) (now s) (now rows) n (now inside) (now at) (now es) × (i < n) ⌝ }
     ensures { λ r. ⌜ r ≡ fieldNotOfType (tableOf (now (t .entry))) (docOf (now (s .entry)) (now (rows .entry)) n) i ⌝ }
 {
     if kind_of(rows, n, i) != KIND_FIELD {
@@ -65,12 +65,12 @@ pub fn leaf_wrong(
     n: usize,
     first: &[u32],
     next: &[u32],
-    inside: &[u32],
-    at: &[u32],
-    to: &[u32],
+    inside: &[u16],
+    at: &[u16],
+    es: &[u16],
     i: usize,
 ) -> bool
-    requires { ⌜ Rowed (now s) (now rows) n × Family (rowsIn (now rows) n) (now first) (now next) × Enclosed (now t) (now s) (now rows) n (now inside) (now at) (now to) × (i < n) ⌝ }
+    requires { ⌜ Rowed (now s) (now rows) n × Family (rowsIn (now rows) n) (now first) (now next) × Enclosed (now t) (now s) (now rows) n (now inside) (now at) (now es) × (i < n) ⌝ }
     ensures { λ r. ⌜ r ≡ leafWrong (tableOf (now (t .entry))) (docOf (now (s .entry)) (now (rows .entry)) n) i ⌝ }
 {
     if kind_of(rows, n, i) != KIND_FIELD {

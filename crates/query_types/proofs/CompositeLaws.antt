@@ -8,11 +8,12 @@ use native.Mathlib.Numerals.{add-one}
 use native.Mathlib.Decide.{decLt}
 use native.Mathlib.Omega.{arith}
 use lib.ListN.{List·getD-eq-default}
-use borrow.Author.Tests.{lt-ltb, le-ltb}
-use Rattle.paper_table.specs.Types.{Definition, Meaning, builtIn, noMeaning, definition, meaning, tableOf, blankDefinition, tagNothing, isComposite}
+use borrow.Author.Tests.{lt-ltb, le-ltb, lt-leb}
+use Rattle.paper_table.specs.TableNumbers.{tagObject, tagScalar}
+use Rattle.paper_table.specs.Types.{Definition, Meaning, builtIn, noMeaning, definition, definitionBy, meaning, tableOf, blankDefinition, tagNothing, isComposite}
 use Rattle.paper_query.specs.Enclosing.{definitionAt, ifComposite, compositeOf}
 use Rattle.table_book.specs.Book.{countIn, room}
-use Rattle.table_types.specs.Booked.{Booked, spoken, kindIn, isCompositeTag}
+use Rattle.table_types.specs.Booked.{Booked, NumberMeant, spoken, kindIn, isCompositeTag}
 use Rattle.query_types.specs.Coded.{typeCoded}
 
 module _ (t book : List ℕ) (b : Booked t book) where
@@ -65,3 +66,21 @@ module _ (t n : List ℕ) where
   pub composite-by : (k : Meaning) {r : Option ℕ} → spoken k ≡ spoken (meaning (tableOf t) n) → r ≡ ifComposite (tableOf t) k → r ≡ compositeOf (tableOf t) n
   unfolding compositeOf
   composite-by k e f = f ∙ ap (ifComposite (tableOf t)) (sym (means (meaning (tableOf t) n) k e))
+
+-- what means a built-in scalar or nothing is no such type
+low-none : (t : List ℕ) (m : Meaning) → definitionBy (tableOf t) m .tag ≤ tagScalar → ifComposite (tableOf t) m ≡ none
+low-none t builtIn h = refl
+low-none t noMeaning h = refl
+low-none t (definition k) h = rw (lt-leb tagObject (definitionAt (tableOf t) k .tag) (omega arith))
+
+-- by the number of the definition that a name means
+pub composite-number : (t book n : List ℕ) (k : ℕ) → Booked t book → NumberMeant t book n k → ifComposite (tableOf t) (definition k) ≡ compositeOf (tableOf t) n
+unfolding compositeOf
+composite-number t book n k b m = go (decLt k (countIn book))
+  where
+    go : Dec (k < countIn book) → ifComposite (tableOf t) (definition k) ≡ ifComposite (tableOf t) (meaning (tableOf t) n)
+    go (yes h) = sym (ap (ifComposite (tableOf t)) (m .number h))
+    go (no h) =
+        let q : definitionAt (tableOf t) k ≡ blankDefinition tagNothing = List·getD-eq-default (tableOf t) (blankDefinition tagNothing) (omega (arith, b .count)) in
+        low-none t (definition k) (rw q (omega arith))
+        ∙ sym (low-none t (meaning (tableOf t) n) (m .none (omega arith)))

@@ -11,21 +11,21 @@ ghost use Rattle.table_types.specs.Booked.{Booked};
 ghost use Rattle.query_types.specs.Coded.{typeCoded};
 
 // no type
-pub const NO_TYPE: u32 = 0;
+pub const NO_TYPE: u16 = 0;
 
 // The type that is definition k, if it is an object, interface or union.
-fn if_composite(t: &[u8], book: &[u32], k: usize) -> u32
+pub fn if_composite(t: &[u8], book: &[u32], k: usize) -> u16
     requires { ⌜ Booked (now t) (now book) ⌝ }
     ensures { λ r. ⌜ typeCoded r ≡ ifComposite (tableOf (now (t .entry))) (definition k) ⌝ }
 {
     if table_types::is_composite(table_types::kind_in(book, k)) {
-        return k as u32 + 1;
+        return k as u16 + 1;
     }
     NO_TYPE
 }
 
 // The object, interface or union that a name means.
-pub fn composite(t: &[u8], book: &[u32], s: &[u8], at: usize, n: usize) -> u32
+pub fn composite(t: &[u8], book: &[u32], s: &[u8], at: usize, n: usize) -> u16
     requires { ⌜ Booked (now t) (now book) × (at + n ≤ length (now s)) ⌝ }
     ensures { λ r. ⌜ typeCoded r ≡ compositeOf (tableOf (now (t .entry))) (part (now (s .entry)) at n) ⌝ }
 {

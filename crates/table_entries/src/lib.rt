@@ -1,6 +1,6 @@
 // The entries of a table: its members with types and their arguments in one list of numbers, which is made once, so that a member or argument, its type
 // and what that type's name means are looked up and the table's fields are not read again. Of the table nothing is asked but its sizes.
-// No call uses them yet: they are the base of the work on speed.
+// The judge of documents looks members and arguments up in them.
 use paper_table::RECORD_DIRECTIVE;
 use paper_table::RECORD_INPUT_OBJECT;
 use paper_table::RECORD_INTERFACE;

@@ -41,10 +41,11 @@ module _ (t book : List ℕ) (b : Booked t book) (n : List ℕ) where
   directive-first = ap (firstAt (keyed 7 7 n)) (b .keys) ∙ firstAt-map (keyed 7 7 n) (directiveNamed n) keyOf (directive-keyed n) (tableOf t)
 
   module _ {k : ℕ} (e : k ≡ firstAt (typeNamed n) (tableOf t)) where
+    definition-meant : isBuiltIn n ≡ false → k < countIn book → meaning (tableOf t) n ≡ definition k
+    definition-meant q l = meaning-first (tableOf t) n ∙ rw (q, ← e, lt-ltb k (length (tableOf t)) (omega (arith, b .count)))
+
     pub means-definition : isBuiltIn n ≡ false → k < countIn book → Defined k ≡ spoken (meaning (tableOf t) n)
-    means-definition q l =
-        let f : meaning (tableOf t) n ≡ definition k = meaning-first (tableOf t) n ∙ rw (q, ← e, lt-ltb k (length (tableOf t)) (omega (arith, b .count))) in
-        sym (ap spoken f)
+    means-definition q l = sym (ap spoken (definition-meant q l))
 
     pub means-nothing : isBuiltIn n ≡ false → countIn book ≤ k → Nothing ≡ spoken (meaning (tableOf t) n)
     means-nothing q l =
@@ -71,12 +72,14 @@ module _ (t book : List ℕ) (b : Booked t book) (n : List ℕ) where
   -- the number of the definition meant
   pub number-built-in : {i : ℕ} → isBuiltIn n ≡ true → i ≡ countIn book → NumberMeant t book n i
   number-built-in q e = record {
+    number = λ l. absurd (omega arith);
     is = λ l. absurd (omega arith);
     none = λ l. let k = tag-built-in q in omega (arith, k);
   }
 
   pub number-first : {i : ℕ} → isBuiltIn n ≡ false → i ≡ firstAt (typeNamed n) (tableOf t) → NumberMeant t book n i
   number-first q e = record {
+    number = definition-meant e q;
     is = λ l. meant-first (tableOf t) n ∙ rw (q, ← e);
     none = λ l. let k = tag-nothing e q l in omega (arith, k);
   }

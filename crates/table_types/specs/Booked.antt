@@ -9,7 +9,7 @@ use lib.Dec.{leb, ltb}
 use Rattle.paper.specs.Numbers.{mostWrappers}
 use Rattle.paper_table.specs.TableNumbers.{mostTable, tagScalar, tagObject, tagUnion}
 use Rattle.paper_table.specs.References.{Ref}
-use Rattle.paper_table.specs.Types.{Definition, tableOf, blankDefinition, tagNothing, Meaning, builtIn, noMeaning, definition, meant, canBe}
+use Rattle.paper_table.specs.Types.{Definition, tableOf, blankDefinition, tagNothing, Meaning, builtIn, noMeaning, definition, meaning, meant, canBe}
 use Rattle.paper_table.specs.SubTypes.{subTest}
 use Rattle.paper_table.proofs.ReferenceSizes.{wrappers as wrapperCount}
 use Rattle.table_book.specs.Book.{Key, key, part, room, cellName, cellSize, cellStart, cellEnd, bookSize, countIn, keysOf, Indexed}
@@ -99,6 +99,7 @@ isCompositeTag k = leb tagObject k && leb k tagUnion
 
 -- i is the number of the definition that the name n means; if there is no such entry it means a built-in scalar or nothing
 pub record NumberMeant (t book n : List ℕ) (i : ℕ) : Type 0 where
+  pub number : i < countIn book → meaning (tableOf t) n ≡ definition i
   pub is : i < countIn book → meant (tableOf t) n ≡ definitionOn t i
   pub none : countIn book ≤ i → meant (tableOf t) n .tag ≤ tagScalar
 

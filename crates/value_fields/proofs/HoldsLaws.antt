@@ -1,9 +1,9 @@
--- Where a field's arguments stand, by its two numbers; and that each has at most seven wrappers.
+-- Where a field's arguments stand, by its content; and that each has at most seven wrappers.
 use mathlib.Core.Path.{_≡_, refl, sym, ap, _∙_}
 use mathlib.Core.Bool.{Bool, true, false, cond, true≢false}
 use mathlib.Core.Option.{Option, none, some}
 use mathlib.Core.List.{List, [], _∷_, map}
-use Prim.Native.Nat.{ℕ, _≤_, _<_}
+use Prim.Native.Nat.{ℕ, zero, suc, _<_}
 use native.Mathlib.Decide.{decLt}
 use native.Mathlib.Omega.{arith}
 use lib.ListN.{length, List·getD-eq-default}
@@ -17,12 +17,10 @@ use Rattle.table_members.specs.Members.{argumentsIn, fieldFrom}
 use Rattle.table_members.proofs.MemberLaws.{field-is}
 use Rattle.table_types.specs.Sizes.{slimMember, slimDefinition, Slim}
 use Rattle.table_types.proofs.SlimLaws.{all-at, all-found, slim-arguments}
-use Rattle.query_fields.specs.Kept.{fieldTypename, fieldCoded, FieldKept}
-use Rattle.query_fields.proofs.FieldLaws.{coded-member, by-number}
 use Rattle.paper_values.specs.Values.{Due}
 use Rattle.paper_values.specs.Kinds.{dueArgument}
 use Rattle.paper_values.specs.DocumentDues.{argumentDues}
-use Rattle.value_fields.specs.Wants.{Known, Holds}
+use Rattle.value_fields.specs.Wants.{Known, Contains, Holds}
 
 each-due : (xs : List Argument) → gather (λ a. dueArgument a ∷ []) xs ≡ map dueArgument xs
 unfolding gather
@@ -64,27 +62,26 @@ module _ (t : List ℕ) (s : Slim (tableOf t)) where
       go true q = let z : _≡_ {A = FieldIs} typename (member m) = q in let y : true ≡ false = cc in absurd (true≢false y)
       go false q = missing-slim (fieldOf (tableOf t) k n) m (λ x. found-slim k n x) q
 
--- the field of row i, as it is kept
-module _ (t : List ℕ) (k : Known t) (d : Doc) (i at to : ℕ) (f : FieldKept t (fieldAt (tableOf t) d i) at to) where
-  leaf-dues : at ≤ fieldTypename → argumentDues (fieldCoded t at to) ≡ []
-  leaf-dues = by-number t to (λ x g. x ≤ fieldTypename → argumentDues g ≡ []) (λ h. refl) (λ h. refl) (λ h. refl) (λ x l h. absurd (omega arith)) at
+-- what is no member has no arguments
+no-dues : (f : FieldIs) → ((m : Member) → f ≡ member m → ⊥) → argumentDues f ≡ []
+no-dues unknown h = refl
+no-dues missing h = refl
+no-dues typename h = refl
+no-dues (member m) h = absurd (h m refl)
 
-  -- no member: nothing stands in an empty content
-  pub holds-none : at ≤ fieldTypename → Holds t (fieldAt (tableOf t) d i) 0 0
-  unfolding gather allOf
-  holds-none h = record {
-    bounds = record { order = omega arith; within = omega arith; most = k .short };
-    dues = rw (no-arguments t, f .is) (sym (leaf-dues h));
-    slim = rw (no-arguments t) refl;
-  }
-
-  -- a member: its own content
-  pub holds-member : fieldTypename < at → Holds t (fieldAt (tableOf t) d i) at to
-  holds-member h = record {
-    bounds = f .bounds h;
-    dues = each-due (argumentsIn t at to) ∙ ap argumentDues (sym is);
-    slim = slim-arguments (fieldFrom t at to) (member-slim t (k .slim) (enclosing (tableOf t) d i) (nameOf d i) (fieldFrom t at to) is);
-  }
-    where
-      is : fieldAt (tableOf t) d i ≡ member (fieldFrom t at to)
-      is = f .is ∙ sym (coded-member t to at h) ∙ ap member (field-is t tagField at to refl)
+-- the arguments of the field of row i, by its content
+pub contains-holds : (t : List ℕ) → Known t → (d : Doc) (i start end : ℕ) → Contains t (fieldAt (tableOf t) d i) start end → Holds t (fieldAt (tableOf t) d i) start end
+unfolding gather allOf
+contains-holds t k d i zero end c = record {
+  bounds = c .bounds;
+  dues = rw (c .ends refl, no-arguments t) (sym (no-dues (fieldAt (tableOf t) d i) (c .none refl)));
+  slim = rw (c .ends refl, no-arguments t) refl;
+}
+contains-holds t k d i (suc x) end c = record {
+  bounds = c .bounds;
+  dues = each-due (argumentsIn t (suc x) end) ∙ ap argumentDues (sym is);
+  slim = slim-arguments (fieldFrom t (suc x) end) (member-slim t (k .slim) (enclosing (tableOf t) d i) (nameOf d i) (fieldFrom t (suc x) end) is);
+}
+  where
+    is : fieldAt (tableOf t) d i ≡ member (fieldFrom t (suc x) end)
+    is = c .is (omega arith) ∙ ap member (field-is t tagField (suc x) end refl)

@@ -1,6 +1,8 @@
 -- Laws of this crate.
 pub mod AcceptedLaws
 pub mod MeantLaws
+pub mod ContentLaws
 pub mod HoldsLaws
+pub mod InsideLaws
 pub mod ReachLaws
 pub mod WantsLaws

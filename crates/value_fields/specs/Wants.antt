@@ -4,21 +4,22 @@
 use mathlib.Core.Path.{_≡_}
 use mathlib.Core.Bool.{true}
 use mathlib.Core.List.{List, [], _∷_}
-use Prim.Native.Nat.{ℕ, _≤_}
+use Prim.Native.Nat.{ℕ, _≤_, _<_}
 use lib.ListN.{length}
 use Rattle.paper.specs.Numbers.{kindOperation}
-use Rattle.paper_table.specs.TableNumbers.{mostTable}
+use Rattle.paper_table.specs.TableNumbers.{mostTable, tagField}
 use Rattle.paper_table.specs.Lists.{allOf, gather}
-use Rattle.paper_table.specs.Types.{tableOf}
+use Rattle.paper_table.specs.Types.{Member, tableOf}
 use Rattle.paper_table.specs.Judging.{judge}
 use Rattle.paper_table.specs.declared.TableAnswer.the-variants.{Accepted}
 use Rattle.paper_query.specs.Constructs.{Doc}
-use Rattle.paper_query.specs.Enclosing.{FieldIs, fieldAt}
+use Rattle.paper_query.specs.Enclosing.{FieldIs, member, fieldAt, selectionsType}
 use Rattle.table_fields.specs.Fields.{Bounds}
-use Rattle.table_members.specs.Members.{argumentsIn}
+use Rattle.table_members.specs.Members.{argumentsIn, memberFrom}
 use Rattle.table_types.specs.Booked.{Booked}
 use Rattle.table_types.specs.Sizes.{slimArgument, Slim}
 use Rattle.query_rows.specs.Rowed.{rowIn, Rowed}
+use Rattle.query_types.specs.Coded.{typeCoded}
 use Rattle.query_fields.specs.Kept.{Fielded}
 use Rattle.paper_values.specs.Kinds.{dueArgument}
 use Rattle.paper_values.specs.DocumentDues.{argumentDues, ReachedField}
@@ -30,6 +31,17 @@ pub record Known (t : List ℕ) : Type 0 where
   pub short : length t ≤ mostTable
   pub slim : Slim (tableOf t)
   pub fielded : Fielded (tableOf t)
+
+-- the content of this field, which is a member, stands from `start` up to `end`; of one that is none both are 0
+pub record Contains (t : List ℕ) (f : FieldIs) (start end : ℕ) : Type 0 where
+  pub bounds : Bounds t start end
+  pub ends : start ≡ 0 → end ≡ 0
+  pub none : start ≡ 0 → (m : Member) → f ≡ member m → ⊥
+  pub is : 0 < start → f ≡ member (memberFrom t tagField start end)
+
+-- c is the type that the selections of this field are of
+abbrev pub ContentTyped : List ℕ → ℕ → ℕ → ℕ → Type 0
+ContentTyped t start end c = (f : FieldIs) → Contains t f start end → typeCoded c ≡ selectionsType (tableOf t) f
 
 -- the arguments of this field stand from `start` up to `end`
 pub record Holds (t : List ℕ) (f : FieldIs) (start end : ℕ) : Type 0 where

@@ -18,10 +18,10 @@ use Rattle.query_alike.proofs.liken.Statement.{statement}
 use Rattle.query_alike.proofs.liken.Tie as tie
 
 abbrev Inv-loop : tie.InvT-loop
-Inv-loop t s rows n firstk nextk at size wrappers owner stack₀ flag₀ m₀ v₀ stack flag m v = LikenLoop (tableOf t) (docOf s rows n) n stack flag m v
+Inv-loop t s rows n firstk nextk at es wrappers owner stack₀ flag₀ m₀ v₀ stack flag m v = LikenLoop (tableOf t) (docOf s rows n) n stack flag m v
 
 abbrev μ-loop : tie.MeasureT-loop
-μ-loop t s rows n firstk nextk at size wrappers owner stack₀ flag₀ m₀ v₀ stack flag m v = n - v
+μ-loop t s rows n firstk nextk at es wrappers owner stack₀ flag₀ m₀ v₀ stack flag m v = n - v
 
 below : (c : tie.In-loop Inv-loop μ-loop) → c .before .loop .v < count (docOf (c .before .before .before .before .before .before .before .before .before .before .before .before .before .before .args .s .now) (c .before .before .before .before .before .before .before .before .before .before .before .before .before .before .args .rows .now) (c .before .before .before .before .before .before .before .before .before .before .before .before .before .before .args .n))
 below c =

@@ -9,10 +9,10 @@ use Rattle.query_alike.proofs.model_of.Statement.{statement}
 use Rattle.query_alike.proofs.model_of.Tie as tie
 
 abbrev Inv-loop : tie.InvT-loop
-Inv-loop t s rows n at size wrappers owner stack m i end k₀ k = k ≤ m
+Inv-loop t s rows n at es wrappers owner stack m i end k₀ k = k ≤ m
 
 abbrev μ-loop : tie.MeasureT-loop
-μ-loop t s rows n at size wrappers owner stack m i end k₀ k = k
+μ-loop t s rows n at es wrappers owner stack m i end k₀ k = k
 
 room : (c : tie.Start Inv-loop μ-loop) → c .args .m < roomOf (c .args .n)
 room c = omega (arith, variable-room (c .pre .0) (c .args .i) (c .pre .2), c .pre .1 .few)

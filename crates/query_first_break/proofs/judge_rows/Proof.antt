@@ -8,10 +8,10 @@ use Rattle.query_first_break.proofs.judge_rows.Statement.{statement}
 use Rattle.query_first_break.proofs.judge_rows.Tie as tie
 
 abbrev Inv-loop : tie.InvT-loop
-Inv-loop t book s rows n first next firstk nextk inside at to target flags i₀ i = NoneBefore (tableOf t) (docOf s rows n) i
+Inv-loop t book s rows n first next firstk nextk inside at es target flags i₀ i = NoneBefore (tableOf t) (docOf s rows n) i
 
 abbrev μ-loop : tie.MeasureT-loop
-μ-loop t book s rows n first next firstk nextk inside at to target flags i₀ i = n - i
+μ-loop t book s rows n first next firstk nextk inside at es target flags i₀ i = n - i
 
 loop-holds : tie.Need-loop-holds Inv-loop μ-loop
 loop-holds c = none-first _ _

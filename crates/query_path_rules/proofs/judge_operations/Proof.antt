@@ -18,10 +18,10 @@ use Rattle.query_path_rules.proofs.judge_operations.Statement.{statemen
 use Rattle.query_path_rules.proofs.judge_operations.Tie as tie
 
 abbrev Inv-loop : tie.InvT-loop
-Inv-loop t s rows n first next firstk nextk at size wrappers owner target firsts nexts mark₀ stack₀ flag₀ o₀ mark stack flag o = OperationLoop (tableOf t) (docOf s rows n) n flag mark stack o
+Inv-loop t s rows n first next firstk nextk at es wrappers owner target firsts nexts mark₀ stack₀ flag₀ o₀ mark stack flag o = OperationLoop (tableOf t) (docOf s rows n) n flag mark stack o
 
 abbrev μ-loop : tie.MeasureT-loop
-μ-loop t s rows n first next firstk nextk at size wrappers owner target firsts nexts mark₀ stack₀ flag₀ o₀ mark stack flag o = n - o
+μ-loop t s rows n first next firstk nextk at es wrappers owner target firsts nexts mark₀ stack₀ flag₀ o₀ mark stack flag o = n - o
 
 below : (c : tie.In-loop Inv-loop μ-loop)
     → (c .before .loop .o) < count (docOf (c .before .before .before .before .before .before .before .before .before .before .before .before .before .before .before .before .before .before .before .before .args .s .now) (c .before .before .before .before .before .before .before .before .before .before .before .before .before .before .before .before .before .before .before .before .args .rows .now) (c .before .before .before .before .before .before .before .before .before .before .before .before .before .before .before .before .before .before .before .before .args .n))

@@ -20,10 +20,10 @@ use Rattle.query_path_rules.proofs.judge_variables.Statement.{statement
 use Rattle.query_path_rules.proofs.judge_variables.Tie as tie
 
 abbrev Inv-loop : tie.InvT-loop
-Inv-loop t s rows n first next firstk nextk at size wrappers owner mark o flag₀ i₀ flag i = JudgeLoop (tableOf t) (docOf s rows n) n o flag i
+Inv-loop t s rows n first next firstk nextk at es wrappers owner mark o flag₀ i₀ flag i = JudgeLoop (tableOf t) (docOf s rows n) n o flag i
 
 abbrev μ-loop : tie.MeasureT-loop
-μ-loop t s rows n first next firstk nextk at size wrappers owner mark o flag₀ i₀ flag i = n - i
+μ-loop t s rows n first next firstk nextk at es wrappers owner mark o flag₀ i₀ flag i = n - i
 
 below : (c : tie.In-loop Inv-loop μ-loop) → c .before .loop .i < count (docOf (c .before .before .before .before .before .before .before .before .before .before .before .before .before .before .before .before .args .s .now) (c .before .before .before .before .before .before .before .before .before .before .before .before .before .before .before .before .args .rows .now) (c .before .before .before .before .before .before .before .before .before .before .before .before .before .before .before .before .args .n))
 below c =

@@ -1,48 +1,35 @@
--- The input field's type is read where the search ends.
-use borrow.Author.Needs.{needs}
-use mathlib.Core.Path.{subst}
-use Rattle.table_members.specs.Members.{membersIn, memberFrom, Finds, FindMember}
-use Rattle.paper_table.specs.Lists.{find}
-use Rattle.paper_table.specs.Types.{memberNamed}
+-- The input field's type is read off the entry where the search ends.
+use native.Mathlib.Omega.{arith}
 use Rattle.paper_query.specs.Constructs.{nameOf}
+use Rattle.table_types.specs.Booked.{definitionOn}
+use Rattle.table_entries.specs.Entries.{roomEntries, Hit}
 use Rattle.query_rows.specs.Rowed.{docOf}
 use Rattle.query_rows.proofs.RowsIn.{rowed-sized, name-within}
-use Rattle.query_place_types.proofs.FoundLaws.{found-bounds, input-none, input-slim, input-kept}
+use Rattle.query_place_types.proofs.FoundLaws.{input-stands, input-none, input-kept}
+use borrow.Author.Needs.{needs}
 use Rattle.query_place_types.proofs.input_typed.Statement.{statement}
 use Rattle.query_place_types.proofs.input_typed.Tie as tie
 
-found : (c : tie.After-from)
-    → Finds (c .before .before .before .before .before .before .before .before .args .start) (c .before .before .before .before .before .before .before .before .args .end) (c .from .given .0 .1 .0) (c .from .given .0 .1 .1 .0) (find (memberNamed (nameOf (docOf (c .before .before .before .before .before .before .before .before .args .s .now) (c .before .before .before .before .before .before .before .before .args .rows .now) (c .before .before .before .before .before .before .before .before .args .n)) (c .before .before .before .before .before .before .before .before .args .i))) (membersIn (c .before .before .before .before .before .before .before .before .args .t .now) (c .before .before .before .before .before .before .before .before .args .start) (c .before .before .before .before .before .before .before .before .args .end))) (memberFrom (c .before .before .before .before .before .before .before .before .args .t .now) (c .from .given .0 .0) (c .from .given .0 .1 .0) (c .from .given .0 .1 .1 .0))
-found c =
-    let s = c .before .before .before .before .before .before .before .before in
-    subst (FindMember (s .args .t .now) (s .args .start) (s .args .end) (nameOf (docOf (s .args .s .now) (s .args .rows .now) (s .args .n)) (s .args .i))) (c .from .given .1) (rw (← c .before .before .before .before .name-of .ensures, ← c .before .before .before .size-of .ensures) (c .before .before .find-member .ensures))
+hit : (c : tie.After-find-member) → Hit (c .before .before .before .before .before .before .before .before .args .t .now) (c .before .before .before .before .before .before .before .before .args .book .now) (c .before .before .before .before .before .before .before .before .args .es .now) roomEntries (nameOf (docOf (c .before .before .before .before .before .before .before .before .args .s .now) (c .before .before .before .before .before .before .before .before .args .rows .now) (c .before .before .before .before .before .before .before .before .args .n)) (c .before .before .before .before .before .before .before .before .args .i)) (definitionOn (c .before .before .before .before .before .before .before .before .args .t .now) (c .before .before .before .before .before .before .before .before .args .k) .members) (c .find-member .result)
+hit c = rw (← c .before .before .name-of .ensures, ← c .before .size-of .ensures) (c .find-member .ensures)
 
 name-of-requires : tie.Need-name-of-requires
-name-of-requires c κs = rowed-sized (c .before .before .before .pre .1)
+name-of-requires c κs = rowed-sized (c .before .before .before .before .before .pre .5)
 
 size-of-requires : tie.Need-size-of-requires
-size-of-requires c κs = rowed-sized (c .before .before .before .before .pre .1)
+size-of-requires c κs = rowed-sized (c .before .before .before .before .before .before .pre .5)
 
 find-member-requires : tie.Need-find-member-requires
-find-member-requires c κs =
-    let s = c .before .before .before .before .before in
-    (s .pre .0, rw (c .before .name-of .ensures, c .size-of .ensures) (name-within (s .args .s .now) (s .args .rows .now) (s .args .n) (s .pre .1) (s .args .i)))
+find-member-requires c κs = (c .before .before .before .before .before .before .before .pre .0, c .before .before .before .before .before .before .before .pre .1, c .before .before .before .before .before .before .before .pre .2, c .before .before .before .before .before .before .before .pre .3, rw (c .before .name-of .ensures, c .size-of .ensures) (name-within (c .before .before .before .before .before .before .before .args .s .now) (c .before .before .before .before .before .before .before .args .rows .now) (c .before .before .before .before .before .before .before .args .n) (c .before .before .before .before .before .before .before .pre .5) (c .before .before .before .before .before .before .before .args .i)))
 
 returns : tie.Need-returns
-returns c =
-    let s = c .before .before .before .before .before .before .before .before .before in
-    let d = docOf (s .args .s .now) (s .args .rows .now) (s .args .n) in
-    input-none (s .args .t .now) (s .args .start) (s .args .end) (s .pre .0) (nameOf d (s .args .i)) (c .unknown .result) (subst (FindMember (s .args .t .now) (s .args .start) (s .args .end) (nameOf d (s .args .i))) (c .before .enum-told .given .1) (rw (← c .before .before .before .before .before .name-of .ensures, ← c .before .before .before .before .size-of .ensures) (c .before .before .before .find-member .ensures))) (c .unknown .ensures)
+returns c = input-none (c .before .before .before .before .before .before .before .before .before .before .args .t .now) (c .before .before .before .before .before .before .before .before .before .before .args .book .now) (c .before .before .before .before .before .before .before .before .before .before .args .es .now) (nameOf (docOf (c .before .before .before .before .before .before .before .before .before .before .args .s .now) (c .before .before .before .before .before .before .before .before .before .before .args .rows .now) (c .before .before .before .before .before .before .before .before .before .before .args .n)) (c .before .before .before .before .before .before .before .before .before .before .args .i)) (definitionOn (c .before .before .before .before .before .before .before .before .before .before .args .t .now) (c .before .before .before .before .before .before .before .before .before .before .args .k) .members) _ (hit (c .before .before)) (c .unknown .result) (c .before .if1 .taken) (c .unknown .ensures)
 
-typed-requires : tie.Need-typed-requires
-typed-requires c κs =
-    let s = c .before .before .before .before .before .before .before .before .before in
-    (found-bounds (s .args .t .now) (s .args .start) (s .args .end) (s .pre .0) _ _ (found (c .before)), input-slim (s .args .t .now) (s .args .start) (s .args .end) (s .pre .0) (nameOf (docOf (s .args .s .now) (s .args .rows .now) (s .args .n)) (s .args .i)) (record { at = 0; size = 0; wrappers = 0 }) _ _ _ (s .pre .2) (found (c .before)))
+entry-place-requires : tie.Need-entry-place-requires
+entry-place-requires c κs = input-stands (c .before .before .before .before .before .before .before .before .before .args .t .now) (c .before .before .before .before .before .before .before .before .before .args .book .now) (c .before .before .before .before .before .before .before .before .before .args .es .now) (nameOf (docOf (c .before .before .before .before .before .before .before .before .before .args .s .now) (c .before .before .before .before .before .before .before .before .before .args .rows .now) (c .before .before .before .before .before .before .before .before .before .args .n)) (c .before .before .before .before .before .before .before .before .before .args .i)) (definitionOn (c .before .before .before .before .before .before .before .before .before .args .t .now) (c .before .before .before .before .before .before .before .before .before .args .k) .members) _ (hit (c .before)) (c .before .before .before .before .before .before .before .before .before .pre .1 .cells) (omega arith)
 
 returns-2 : tie.Need-returns-2
-returns-2 c =
-    let s = c .before .before .before .before .before .before .before .before .before .before in
-    input-kept (s .args .t .now) (s .args .start) (s .args .end) (s .pre .0) (nameOf (docOf (s .args .s .now) (s .args .rows .now) (s .args .n)) (s .args .i)) (c .typed .result) _ _ _ (s .pre .2) (found (c .before .before)) (c .typed .ensures)
+returns-2 c = input-kept (c .before .before .before .before .before .before .before .before .before .before .args .t .now) (c .before .before .before .before .before .before .before .before .before .before .args .book .now) (c .before .before .before .before .before .before .before .before .before .before .args .es .now) (nameOf (docOf (c .before .before .before .before .before .before .before .before .before .before .args .s .now) (c .before .before .before .before .before .before .before .before .before .before .args .rows .now) (c .before .before .before .before .before .before .before .before .before .before .args .n)) (c .before .before .before .before .before .before .before .before .before .before .args .i)) (definitionOn (c .before .before .before .before .before .before .before .before .before .before .args .t .now) (c .before .before .before .before .before .before .before .before .before .before .args .k) .members) _ (hit (c .before .before)) (c .entry-place .result) (c .before .before .before .before .before .before .before .before .before .before .pre .4) (omega arith) (c .entry-place .ensures)
 
 pub input-typed-spec : {M : Type 1} → statement M
 input-typed-spec =
@@ -53,9 +40,7 @@ input-typed-spec =
     size-of-requires
     (λ c. search needs)
     find-member-requires
-    (λ c. search needs)
-    (λ c. search needs)
     (λ c κs. search needs)
     returns
-    typed-requires
+    entry-place-requires
     returns-2)

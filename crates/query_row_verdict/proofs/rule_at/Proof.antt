@@ -1,5 +1,6 @@
 use mathlib.Core.Path.{sym, _∙_}
 use Rattle.query_rows.proofs.Rooms.{room-at}
+use Rattle.query_places.proofs.PlacedLaws.{placed-enclosed}
 use Rattle.query_row_verdict.proofs.RowLaws.{spread-only, directive-only, condition-only, variable-only, other-kind}
 use borrow.Author.Needs.{needs}
 use Rattle.query_row_verdict.proofs.rule_at.Statement.{statement}
@@ -10,6 +11,12 @@ fragment-rule-requires c κs =
     let p = c .before .before .before .before .before .before .before .before .before .before .before .before .before .before .before .pre in
     let r = p .0 in
     (r .asked .rowed, r .kinds, room-at _ _ _ (r .flagged .size) (r .asked .rowed .few) (p .1), p .1, sym (c .before .kind-of .ensures) ∙ c .match .keys2)
+
+field-rule-requires : tie.Need-field-rule-requires
+field-rule-requires c κs =
+    let p = c .before .before .before .before .before .before .before .before .before .before .before .before .before .before .before .pre in
+    let r = p .0 in
+    (r .asked .rowed, r .asked .family, placed-enclosed (r .placed), p .1, sym (c .before .kind-of .ensures) ∙ c .match .keys3)
 
 shared-slice-read-result : tie.Need-shared-slice-read-result
 shared-slice-read-result c =
@@ -45,7 +52,7 @@ rule-at-spec =
     (λ c κs. search needs)
     (λ c κs. search needs)
     fragment-rule-requires
-    (λ c κs. search needs)
+    field-rule-requires
     (λ c κs. search needs)
     (λ c κs. search needs)
     (λ c κs. search needs)

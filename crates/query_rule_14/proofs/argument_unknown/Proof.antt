@@ -55,7 +55,7 @@ returns-2 c =
 shared-slice-read-if3 : tie.Need-shared-slice-read-if3
 shared-slice-read-if3 c =
     let g = c .before .before .before .before .before .before .before .before .before .before .before .before .pre in
-    omega (arith, g .1 .enclosed .ats, field-there _ _ _ (above (c .before)), room-enough _ (g .0 .few))
+    omega (arith, g .1 .all .enclosed .ats, field-there _ _ _ (above (c .before)), room-enough _ (g .0 .few))
 
 returns-3 : tie.Need-returns-3
 returns-3 c =
@@ -70,7 +70,7 @@ mul-result c =
 shared-slice-read-result : tie.Need-shared-slice-read-result
 shared-slice-read-result c =
     let g = c .before .before .before .before .before .before .before .before .before .before .before .before .before .before .pre in
-    omega (arith, g .1 .enclosed .ats, argument-there _ _ _ (kind (c .before .before .before .before .before .before)), field-there _ _ _ (above (c .before .before .before)), room-enough _ (g .0 .few))
+    omega (arith, g .1 .all .enclosed .ats, argument-there _ _ _ (kind (c .before .before .before .before .before .before)), field-there _ _ _ (above (c .before .before .before)), room-enough _ (g .0 .few))
 
 returns-4 : tie.Need-returns-4
 returns-4 c =

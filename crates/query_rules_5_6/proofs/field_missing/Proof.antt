@@ -1,4 +1,4 @@
--- By the field's first number.
+-- By the field's number.
 use mathlib.Core.Path.{sym, _∙_}
 use native.Mathlib.Omega.{arith}
 use lib.ListN.{getD}
@@ -22,14 +22,14 @@ returns c =
 shared-slice-read-result : tie.Need-shared-slice-read-result
 shared-slice-read-result c =
     let g = c .before .before .before .before .before .before .before .before .before .pre in
-    omega (arith, g .1 .ats, g .2, room-enough _ (g .0 .few))
+    omega (arith, g .1 .all .ats, g .2, room-enough _ (g .0 .few))
 
 returns-2 : tie.Need-returns-2
 returns-2 c =
     let a = c .before .before .before .before .before .before .before .before .before .args in
     let g = c .before .before .before .before .before .before .before .before .before .pre in
     let k = sym (c .before .before .kind-of .ensures) ∙ c .before .if1 .left in
-    field-judged (tableOf (a .t .now)) (docOf (a .s .now) (a .rows .now) (a .n)) (a .i) k (a .t .now) (getD (a .at .now) (a .i) 0) (getD (a .to .now) (a .i) 0) (g .1 .fields (a .i) (g .2) k)
+    field-judged (tableOf (a .t .now)) (docOf (a .s .now) (a .rows .now) (a .n)) (a .i) k (getD (a .at .now) (a .i) 0) (g .1 .all .fields (a .i) (g .2) k)
 
 pub field-missing-spec : {M : Type 1} → statement M
 field-missing-spec =

@@ -1,57 +1,29 @@
--- By the first of the field's two numbers.
-use native.Mathlib.Omega.{arith}
-use lib.ListN.{getD}
-use Rattle.paper_table.specs.Types.{tableOf}
-use Rattle.paper_query.specs.Enclosing.{fieldAt}
-use Rattle.query_rows.specs.Rowed.{docOf}
-use Rattle.query_rows.proofs.Rooms.{room-enough}
-use Rattle.query_fields.specs.Kept.{FieldKept}
-use Rattle.value_fields.proofs.HoldsLaws.{holds-none, holds-member}
+-- By the row's name.
+use Rattle.query_rows.proofs.RowsIn.{rowed-sized, name-within}
+use Rattle.query_inside.proofs.EnclosedLaws.{above-known}
 use borrow.Author.Needs.{needs}
 use Rattle.value_fields.proofs.content_at.Statement.{statement}
 use Rattle.value_fields.proofs.content_at.Tie as tie
 
-field : (c : tie.Start)
-    → FieldKept (c .args .t .now) (fieldAt (tableOf (c .args .t .now)) (docOf (c .args .s .now) (c .args .rows .now) (c .args .n)) (c .args .i)) (getD (c .args .at .now) (c .args .i) 0) (getD (c .args .to .now) (c .args .i) 0)
-field c = c .pre .2 .fields (c .args .i) (c .pre .3) (c .pre .4)
+name-of-requires : tie.Need-name-of-requires
+name-of-requires c κs = rowed-sized (c .before .before .before .before .pre .2)
 
-shared-slice-read-a : tie.Need-shared-slice-read-a
-shared-slice-read-a c =
-    let g = c .before .pre in
-    omega (arith, g .2 .ats, g .3, room-enough _ (g .1 .few))
+size-of-requires : tie.Need-size-of-requires
+size-of-requires c κs = rowed-sized (c .before .before .before .before .before .pre .2)
+
+content-in-requires : tie.Need-content-in-requires
+content-in-requires c κs = (c .before .before .before .before .before .before .pre .0, c .before .before .before .before .before .before .pre .1, above-known (c .before .before .before .before .before .before .args .t .now) (c .before .before .before .before .before .before .args .s .now) (c .before .before .before .before .before .before .args .rows .now) (c .before .before .before .before .before .before .args .n) (c .before .before .before .before .before .before .pre .2) (c .before .before .before .before .before .before .args .i) (c .before .before .before .before .before .before .args .above) (c .before .before .before .before .before .before .pre .3), rw (c .before .name-of .ensures, c .size-of .ensures) (name-within (c .before .before .before .before .before .before .args .s .now) (c .before .before .before .before .before .before .args .rows .now) (c .before .before .before .before .before .before .args .n) (c .before .before .before .before .before .before .pre .2) (c .before .before .before .before .before .before .args .i)))
 
 returns : tie.Need-returns
-returns c =
-    holds-none _ (c .before .before .pre .0) _ _ _ _ (field (c .before .before)) (c .if1 .taken)
-
-cast-t10 : tie.Need-cast-t10
-cast-t10 c =
-    let b = field (c .before .before) .bounds (omega (arith, c .if1 .left)) in
-    omega (arith, b .order, b .within, b .most)
-
-shared-slice-read-t12 : tie.Need-shared-slice-read-t12
-shared-slice-read-t12 c =
-    let g = c .before .before .before .pre in
-    omega (arith, g .2 .tos, g .3, room-enough _ (g .1 .few))
-
-cast-t16 : tie.Need-cast-t16
-cast-t16 c =
-    let b = field (c .before .before .before) .bounds (omega (arith, c .before .if1 .left)) in
-    omega (arith, b .within, b .most)
-
-returns-2 : tie.Need-returns-2
-returns-2 c =
-    holds-member _ (c .before .before .before .pre .0) _ _ _ _ (field (c .before .before .before)) (omega (arith, c .before .if1 .left))
+returns c = rw (c .before .before .before .before .before .before .before .pre .3, ← c .before .before .name-of .ensures, ← c .before .size-of .ensures) (c .content-in .ensures)
 
 pub content-at-spec : {M : Type 1} → statement M
 content-at-spec =
     tie.close
     (tie.spec
+    name-of-requires
     (λ c. search needs)
-    shared-slice-read-a
-    returns
-    cast-t10
+    size-of-requires
     (λ c. search needs)
-    shared-slice-read-t12
-    cast-t16
-    returns-2)
+    content-in-requires
+    returns)

@@ -29,8 +29,7 @@ content-of-requires : tie.Need-content-of-requires
 content-of-requires c κs =
     let a = c .before .before .before .before .before .before .before .before .args in
     let p = c .before .before .before .before .before .before .before .before .pre in
-    let e = sym (c .before .before .before .kind-of .ensures) ∙ c .before .before .if1 .left in
-    (accepted-known (a .t .now) (p .accepted) (p .booked), p .booked, p .rowed, e, field-there (a .s .now) (a .rows .now) (a .n) (a .row) e)
+    (accepted-known (a .t .now) (p .accepted) (p .booked), p .booked, p .rowed)
 
 returns-3 : tie.Need-returns-3
 returns-3 c =
