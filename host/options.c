@@ -38,8 +38,22 @@ static const struct option *option_of(const char *word, const struct option *opt
     return o->name ? o : NULL;
 }
 
+/* Whether a word wants help or the version: one before -- that is not what an option is to be. */
+static int is_wanted(char **words, const struct option *options) {
+    for (; *words && strcmp(*words, "--") != 0; words++) {
+        const struct option *o = option_of(*words, options);
+        if (wants(*words))
+            return 1;
+        if (o && o->takes && !strchr(*words, '=') && words[1])
+            words++;
+    }
+    return 0;
+}
+
 int take_options(char **words, const struct option *options, int least, int most, const char *usage) {
     int files = 0, ended = 0;
+    if (is_wanted(words, options))
+        return 0;
     for (char **word = words; *word; word++) {
         const char *equal = strchr(*word, '=');
         if (ended || **word != '-' || (*word)[1] == 0) {
@@ -50,8 +64,6 @@ int take_options(char **words, const struct option *options, int least, int most
             ended = 1;
             continue;
         }
-        if (wants(*word))
-            return 0;
         const struct option *o = option_of(*word, options);
         if (!o || (equal && !o->takes))
             return misused(usage, o ? "%s: this option takes no word" : "%s is no option of this command", *word);
