@@ -9,6 +9,7 @@ use Rattle.paper.specs.Tokens.{same}
 use Rattle.paper_table.specs.TableNumbers.{tagArgument}
 use Rattle.paper_table.specs.Lists.{find}
 use Rattle.paper_table.specs.Types.{Argument, Member, memberNamed, argumentNamed}
+use Rattle.table_entries.proofs.Runs.{roomy-less}
 use Rattle.table_book.specs.Book.{countIn}
 use Rattle.table_types.specs.Booked.{definitionOn}
 use Rattle.table_entries.specs.Entries.{roomEntries, nextOf, firstOf, hasTypes, Run, ArgumentEntry, Members, MemberEntry, Entered, Standing, FindAnswer, Hit, MemberStands, ArgumentAnswer}
@@ -18,14 +19,14 @@ module _ (t book es : List ℕ) (n : Entered t book es) (i : ℕ) (l : i < count
   members-stand = let z : suc i ≡ i + 1 = omega arith in rw (p, q, ← z) (n .are i l h)
 
   pub standing-is : Standing t book es from end
-  standing-is = record { cells = n .cells; members = definitionOn t i .members; are = members-stand; most = omega (arith, q, n .most (i + 1) (omega arith)) }
+  standing-is = record { members = definitionOn t i .members; are = members-stand; most = rw q (n .most (i + 1) (omega arith)) }
 
 -- an answer up to `end` as one up to the room
 pub hit-wide : (t book es : List ℕ) (end : ℕ) (n : List ℕ) (ms : List Member) (r : ℕ) → end ≤ roomEntries → r < end → Hit t book es end n ms r → Hit t book es roomEntries n ms r
 hit-wide t book es end n ms r m l h =
     let f = h .found l in
     record {
-      found = λ k. (f .0, f .1, f .2, f .3, omega (arith, f .4));
+      found = λ k. (f .0, f .1, f .2, f .3, omega (arith, f .4), f .5);
       none-is = λ k. absurd (omega arith);
       within = omega arith;
     }
@@ -77,10 +78,9 @@ module _ (t book es : List ℕ) where
     arguments-stand end q =
         let z : suc e ≡ e + 1 = omega arith in
         record {
-          cells = w .cells;
           members = map asMember (w .member .arguments);
           are = rw (q, ← z) (as-members (suc e) (nextOf es e) (w .member .arguments) (w .is .arguments));
-          most = omega (arith, w .most, q);
+          most = rw q (w .most);
         }
 
     module _ (n : List ℕ) (end r : ℕ) (q : end ≡ nextOf es e) (x : FindAnswer t book es (e + 1) end n r) where
@@ -94,8 +94,8 @@ module _ (t book es : List ℕ) where
           let f = hit-is m y .found l in
           let g = found-argument n (m .arguments) (f .0) (f .1) in
           record {
-            found = λ k. (g .0, g .1, rw (g .2) at (f .2 .entry));
-            none-is = λ k. absurd (omega (arith, w .most, q));
+            found = λ k. (g .0, g .1, rw (g .2) at (f .2 .entry), roomy-less (f .5) (omega (arith, f .3)));
+            none-is = λ k. absurd (omega (arith, w .most .most, q));
           }
 
       pub argument-none : end ≤ r → ArgumentAnswer t book es e n roomEntries

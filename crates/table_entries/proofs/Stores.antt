@@ -9,7 +9,7 @@ use Rattle.paper_table.specs.References.{Ref}
 use Rattle.table_book.specs.Book.{part}
 use Rattle.table_members.specs.Members.{Named, Typed}
 use Rattle.table_types.specs.Booked.{NumberMeant}
-use Rattle.table_entries.specs.Entries.{roomEntries, cellsEach, cellsNeeded, entryAt, entryKey, entryName, entrySize, entryBase, entryExtent, entryWrappers, entryNext, entryMeant, cell, keyOf, Put, Entering}
+use Rattle.table_entries.specs.Entries.{cellsEach, Roomy, entryAt, entryKey, entryName, entrySize, entryBase, entryExtent, entryWrappers, entryNext, entryMeant, cell, keyOf, Put, Entering}
 
 abbrev pub storedFrom : List ℕ → ℕ → ℕ → List ℕ → List ℕ
 storedFrom old i j [] = old
@@ -36,7 +36,7 @@ stored-at old i j (v ∷ vs) (suc m) l h =
     let z : i + (j + suc m) ≡ i + (suc j + m) = omega arith in
     rw z (stored-at (set old (i + j) v) i (suc j) vs m (omega arith) (omega (arith, length-set old (i + j) v)))
 
-module _ (old : List ℕ) (e : ℕ) (l : cellsNeeded ≤ length old) (r : e < roomEntries) (key name size base extent wrappers next meant : ℕ) where
+module _ (old : List ℕ) (e : ℕ) (l : Roomy old (suc e)) (key name size base extent wrappers next meant : ℕ) where
   abbrev values : List ℕ
   values = key ∷ name ∷ size ∷ base ∷ extent ∷ wrappers ∷ next ∷ meant ∷ []
 
@@ -44,7 +44,7 @@ module _ (old : List ℕ) (e : ℕ) (l : cellsNeeded ≤ length old) (r : e < ro
   made = storedFrom old (entryAt e) 0 values
 
   at : (m : ℕ) → m < cellsEach → cell made e m ≡ getD values m 0
-  at m h = let z : 0 + m ≡ m = omega arith in rw z at (stored-at old (entryAt e) 0 values m h (omega arith))
+  at m h = let z : 0 + m ≡ m = omega arith in rw z at (stored-at old (entryAt e) 0 values m h (omega (arith, l .cells)))
 
   pub put-is : Put old made e key name size base extent wrappers next meant
   put-is = record {
