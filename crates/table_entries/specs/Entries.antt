@@ -6,14 +6,14 @@ use mathlib.Core.Option.{none, some}
 use mathlib.Core.List.{List, [], _∷_}
 use Prim.Native.Nat.{ℕ, suc, _+_, _-_, _*_, _/_, _%_, _≤_, _<_}
 use lib.ListN.{length, getD}
-use lib.Dec.{leb}
-use Rattle.paper_table.specs.TableNumbers.{tagObject, tagInterface, tagInputObject, tagDirective}
+use lib.Dec.{leb, eqb}
+use Rattle.paper_table.specs.TableNumbers.{tagScalar, tagObject, tagInterface, tagInputObject, tagDirective}
 use Rattle.paper_table.specs.Lists.{find}
 use Rattle.paper_table.specs.References.{Ref, baseOf}
-use Rattle.paper_table.specs.Types.{Argument, Member, Definition, Table, tableOf, nameIn, typeIn, memberNamed, argumentNamed}
+use Rattle.paper_table.specs.Types.{Argument, Member, Definition, Table, tableOf, meant, nameIn, typeIn, memberNamed, argumentNamed}
 use Rattle.table_book.specs.Book.{part, countIn}
 use Rattle.table_members.specs.Members.{fieldsIn, argumentsIn, memberFrom, Named, Typed, ArgumentsFrom}
-use Rattle.table_types.specs.Booked.{Booked, NumberMeant, definitionOn}
+use Rattle.table_types.specs.Booked.{Booked, NumberMeant, kindIn, definitionOn}
 use Rattle.table_entries.specs.declared.HeaderFound.{HeaderFound}
 use Rattle.table_entries.specs.declared.HeaderFound.the-variants.{Found, Nothing}
 
@@ -117,12 +117,28 @@ lastBut k n = getD n (length n - k) 0
 unfoldable pub keyOf : List ℕ → ℕ
 keyOf n = (lastBut 1 n + second * lastBut 2 n + third * lastBut 3 n + fourth * lastBut 4 n + first * getD n 0 0 + size * (length n % keySizes)) % keyValues
 
+-- what stands for a definition's number where a name means a built-in scalar, or no type
+abbrev pub builtIn : ℕ
+builtIn = 256
+
+abbrev pub noType : ℕ
+noType = 257
+
+-- the tag of what a number stands for
+abbrev pub kindMeant : List ℕ → ℕ → ℕ
+kindMeant book k = cond (eqb k builtIn) tagScalar (kindIn book k)
+
+-- k stands for what the name n means
+pub record Means (t book n : List ℕ) (k : ℕ) : Type 0 where
+  pub number : NumberMeant t book n k
+  pub kind : kindMeant book k ≡ meant (tableOf t) n .tag
+
 -- entry e is of this name and type
 pub record Entry (t book es : List ℕ) (e : ℕ) (name : List ℕ) (type : Ref) : Type 0 where
   pub key-is : cell es e entryKey ≡ keyOf name
   pub named : Named t (cell es e entryName) (cell es e entrySize) name
   pub typed : Typed t (cell es e entryBase) (cell es e entryExtent) (cell es e entryWrappers) type
-  pub means : NumberMeant t book (baseOf type) (cell es e entryMeant)
+  pub means : Means t book (baseOf type) (cell es e entryMeant)
 
 -- from e up to f stand the entries of this list, one beside the other
 abbrev pub Run : {A : Type 0} → (ℕ → A → Type 0) → List ℕ → ℕ → ℕ → List A → Type 0
@@ -192,6 +208,9 @@ TypeAnswer es e at n wrappers = (t book name : List ℕ) (type : Ref) → Entry 
 
 abbrev pub MeantAnswer : List ℕ → ℕ → ℕ → Type 0
 MeantAnswer es e r = (t book name : List ℕ) (type : Ref) → Entry t book es e name type → NumberMeant t book (baseOf type) r
+
+abbrev pub KindAnswer : List ℕ → List ℕ → ℕ → ℕ → Type 0
+KindAnswer book es e r = (t name : List ℕ) (type : Ref) → Entry t book es e name type → r ≡ meant (tableOf t) (baseOf type) .tag
 
 -- entry e's name, which its key is of
 abbrev pub nameAt : List ℕ → List ℕ → ℕ → List ℕ
@@ -283,3 +302,15 @@ ArgumentsWritten t book old es e f xs = Written (ArgumentEntry t book) length ol
 
 abbrev pub MembersWritten : List ℕ → List ℕ → List ℕ → List ℕ → ℕ → ℕ → List Member → Type 0
 MembersWritten t book old es e f ms = Written (MemberEntry t book) entriesOf old es e f ms
+
+-- entry e stands behind those of a list, which stand from `from` on; whether none of them has its name
+pub record Here (t book es : List ℕ) (from e : ℕ) : Type 0 where
+  pub before : List Member
+  pub are : Members t book es from e before
+  pub name : List ℕ
+  pub type : Ref
+  pub is : Entry t book es e name type
+  pub most : Roomy es (suc e)
+
+abbrev pub NewAnswer : List ℕ → List ℕ → List ℕ → ℕ → ℕ → Bool → Type 0
+NewAnswer t book es from e r = (before : List Member) (name : List ℕ) (type : Ref) → Members t book es from e before → Entry t book es e name type → r ≡ true → find (memberNamed name) before ≡ none

@@ -5,6 +5,7 @@ use paper_table::RECORD_DIRECTIVE;
 use paper_table::RECORD_INPUT_OBJECT;
 use paper_table::RECORD_INTERFACE;
 use paper_table::RECORD_OBJECT;
+use paper_table::RECORD_SCALAR;
 use paper_table::TAG_ARGUMENT;
 use paper_table::TAG_FIELD;
 use paper_table::TAG_NAME;
@@ -21,10 +22,10 @@ ghost use Rattle.paper.specs.Tokens.{same};
 ghost use Rattle.paper_table.specs.TableNumbers.{mostTable};
 ghost use Rattle.table_fields.specs.Fields.{Bounds};
 ghost use Rattle.table_fields.specs.Wrappers.{packLimit};
-ghost use Rattle.table_book.specs.Book.{part, countIn, room};
+ghost use Rattle.table_book.specs.Book.{part, countIn, room, bookSize};
 ghost use Rattle.table_members.specs.Members.{membersIn, argumentsIn, memberFrom};
-ghost use Rattle.table_types.specs.Booked.{Booked, NumberMeant, definitionOn};
-ghost use Rattle.table_entries.specs.Entries.{roomEntries, cellsEach, cellsBefore, byteValues, Roomy, cell, firstOf, keyOf, hasTypes, entriesOf, entriesIn, DefinitionWritten, Enterable, Entered, QuickRead, HeaderRead, HeaderEntered, Put, Entering, ArgumentsWritten, MemberWritten, MembersWritten, NameStands, nameAt, Standing, FindAnswer, Hit, MemberStands, ArgumentAnswer, TypeAnswer, MeantAnswer};
+ghost use Rattle.table_types.specs.Booked.{Booked, definitionOn};
+ghost use Rattle.table_entries.specs.Entries.{roomEntries, cellsEach, cellsBefore, byteValues, Roomy, entryKey, entryName, entrySize, nextOf, noType, Means, cell, firstOf, keyOf, hasTypes, entriesOf, entriesIn, DefinitionWritten, Enterable, Entered, QuickRead, HeaderRead, HeaderEntered, Put, Entering, ArgumentsWritten, MemberWritten, MembersWritten, NameStands, nameAt, Standing, FindAnswer, Hit, MemberStands, ArgumentAnswer, TypeAnswer, MeantAnswer, KindAnswer, Here, NewAnswer};
 
 // No entry: so many there are at most.
 pub const NO_ENTRY: usize = 2978;
@@ -109,7 +110,7 @@ fn last_but(s: &[u8], at: usize, n: usize, k: usize) -> usize
 }
 
 // A short number of the name of n bytes from `at` on.
-fn key_of(s: &[u8], at: usize, n: usize) -> u16
+pub fn key_of(s: &[u8], at: usize, n: usize) -> u16
     requires { ⌜ at + n ≤ length (now s) ⌝ }
     ensures { λ r. ⌜ r ≡ keyOf (part (now (s .entry)) at n) ⌝ }
 {
@@ -129,6 +130,35 @@ fn cell_of(es: &[u16], e: usize, j: usize) -> usize
     ensures { λ r. ⌜ r ≡ cell (now (es .entry)) e j ⌝ }
 {
     wide(es[CELLS_BEFORE + CELLS_EACH * e + j])
+}
+
+// Entry e's key, the place and size of its name, and the entry beside it.
+pub fn key_at(es: &[u16], e: usize) -> usize
+    requires { ⌜ Roomy (now es) (suc e) ⌝ }
+    ensures { λ r. ⌜ r ≡ cell (now (es .entry)) e entryKey ⌝ }
+{
+    cell_of(es, e, ENTRY_KEY)
+}
+
+pub fn name_at(es: &[u16], e: usize) -> usize
+    requires { ⌜ Roomy (now es) (suc e) ⌝ }
+    ensures { λ r. ⌜ r ≡ cell (now (es .entry)) e entryName ⌝ }
+{
+    cell_of(es, e, ENTRY_NAME)
+}
+
+pub fn size_at(es: &[u16], e: usize) -> usize
+    requires { ⌜ Roomy (now es) (suc e) ⌝ }
+    ensures { λ r. ⌜ r ≡ cell (now (es .entry)) e entrySize ⌝ }
+{
+    cell_of(es, e, ENTRY_SIZE)
+}
+
+pub fn next_of(es: &[u16], e: usize) -> usize
+    requires { ⌜ Roomy (now es) (suc e) ⌝ }
+    ensures { λ r. ⌜ r ≡ nextOf (now (es .entry)) e ⌝ }
+{
+    cell_of(es, e, ENTRY_NEXT)
 }
 
 // Is entry e of the name that is the n bytes of s from `at` on, with this key?
@@ -187,7 +217,7 @@ fn put(
     next: usize,
     meant: usize,
 )
-    requires { ⌜ Roomy (now es) (suc e) × (name ≤ mostTable) × (size ≤ mostTable) × (base ≤ mostTable) × (extent ≤ mostTable) × (wrappers < packLimit) × (next ≤ roomEntries) × (meant ≤ room) ⌝ }
+    requires { ⌜ Roomy (now es) (suc e) × (name ≤ mostTable) × (size ≤ mostTable) × (base ≤ mostTable) × (extent ≤ mostTable) × (wrappers < packLimit) × (next ≤ roomEntries) × (meant ≤ noType) ⌝ }
     ensures { λ _. ⌜ Put (now (es .entry)) (now (es .exit)) e key name size base extent wrappers next meant ⌝ }
 {
     let i = CELLS_BEFORE + CELLS_EACH * e;
@@ -201,16 +231,24 @@ fn put(
     es[i + ENTRY_MEANT] = meant as u16;
 }
 
-// The number of the definition that the table's n bytes from `at` on mean; at least the count if it is none of the table's.
+// What stands for the number of a definition where a name means a built-in scalar, or no type.
+const BUILT_IN: usize = 256;
+
+const NO_TYPE: usize = 257;
+
+// The number of the definition that the table's n bytes from `at` on mean; BUILT_IN or NO_TYPE if it is none of the table's.
 fn number_of(t: &[u8], book: &[u32], at: usize, n: usize) -> usize
     requires { ⌜ Booked (now t) (now book) × (at + n ≤ length (now t)) ⌝ }
-    ensures { λ r. ⌜ NumberMeant (now (t .entry)) (now (book .entry)) (part (now (t .entry)) at n) r × (r ≤ room) ⌝ }
+    ensures { λ r. ⌜ Means (now (t .entry)) (now (book .entry)) (part (now (t .entry)) at n) r × (r ≤ noType) ⌝ }
 {
-    let k = table_types::number_meant(t, book, t, at, n);
+    if table_types::is_built_in(t, at, n) {
+        return BUILT_IN;
+    }
+    let k = table_types::first_type(t, book, t, at, n);
     if k < table_book::count_of(book) {
         return k;
     }
-    table_book::ROOM
+    NO_TYPE
 }
 
 // What a member or argument says of itself: where its name and its base's name lie, its wrappers, from where on its arguments stand.
@@ -447,7 +485,7 @@ fn enter_members(t: &[u8], book: &[u32], es: &mut [u16], e: usize, from: usize, 
 }
 
 // Have the members of a definition of this kind types?
-fn has_types(kind: u32) -> bool
+pub fn has_types(kind: u32) -> bool
     ensures { λ r. ⌜ r ≡ hasTypes kind ⌝ }
 {
     if kind < RECORD_OBJECT {
@@ -492,7 +530,7 @@ pub fn fill_entries(t: &[u8], book: &[u32], es: &mut [u16])
 }
 
 // Where the entries of definition i begin; those of the one before it end there.
-fn first_of(es: &[u16], i: usize) -> usize
+pub fn first_of(es: &[u16], i: usize) -> usize
     requires { ⌜ (cellsBefore ≤ length (now es)) × (i ≤ room) ⌝ }
     ensures { λ r. ⌜ r ≡ firstOf (now (es .entry)) i ⌝ }
 {
@@ -554,10 +592,31 @@ pub fn type_of(es: &[u16], e: usize) -> TypeRead
     }
 }
 
-// The number of the definition that the base of entry e's type means; ROOM if it is none of the table's.
+// The number of the definition that the base of entry e's type means; at least the count if it is none of the table's.
 pub fn meant_by(es: &[u16], e: usize) -> usize
     requires { ⌜ Roomy (now es) (suc e) ⌝ }
     ensures { λ r. ⌜ MeantAnswer (now (es .entry)) e r ⌝ }
 {
     cell_of(es, e, ENTRY_MEANT)
+}
+
+// The tag of the type that the base of entry e's type means: 0 of no type.
+pub fn kind_by(book: &[u32], es: &[u16], e: usize) -> u32
+    requires { ⌜ (length (now book) ≡ bookSize) × (countIn (now book) ≤ room) × Roomy (now es) (suc e) ⌝ }
+    ensures { λ r. ⌜ KindAnswer (now (book .entry)) (now (es .entry)) e r ⌝ }
+{
+    let k = cell_of(es, e, ENTRY_MEANT);
+    if k == BUILT_IN {
+        return RECORD_SCALAR;
+    }
+    table_types::kind_in(book, k)
+}
+
+// Has no entry from `from` up to e the name of entry e?
+pub fn is_new(t: &[u8], book: &[u32], es: &[u16], from: usize, e: usize) -> bool
+    requires { ⌜ Here (now t) (now book) (now es) from e ⌝ }
+    ensures { λ r. ⌜ NewAnswer (now (t .entry)) (now (book .entry)) (now (es .entry)) from e r ⌝ }
+{
+    let x = find(t, book, es, from, e, t, name_at(es, e), size_at(es, e));
+    x == e
 }
