@@ -16,7 +16,7 @@ use Rattle.paper_query.proofs.EnclosingLaws.{Composite}
 use Rattle.paper_query.specs.Enclosing.{FieldIs, typename, member, missing, unknown, definitionAt, ifComposite, compositeOf, fieldOf, isTypename, orMissing, fieldNamed, selectionsType}
 use Rattle.table_book.specs.Book.{room, countIn}
 use Rattle.table_types.specs.Booked.{Booked}
-use Rattle.table_entries.specs.Entries.{roomEntries, nextOf, hasTypes, MemberEntry, Entered, Hit, MemberStands, MeantAnswer}
+use Rattle.table_entries.specs.Entries.{roomEntries, Roomy, nextOf, hasTypes, MemberEntry, Entered, Hit, MemberStands, MeantAnswer}
 use Rattle.query_types.specs.Coded.{typeCoded}
 use Rattle.query_types.proofs.CompositeLaws.{output-below, composite-number}
 use Rattle.query_fields.specs.Kept.{fieldUnknown, fieldMissing, fieldTypename, fieldFirst, MemberKept, FieldKept, FieldStands, FieldTyped}
@@ -40,11 +40,10 @@ module _ (t book es : List ℕ) where
         kept = record {
           first = omega arith;
           stands = record {
-            cells = w .cells;
             member = w .member;
             is = subst (λ (x : ℕ). MemberEntry t book es x (w .member)) back (w .is);
             on = subst (λ (x : ℕ). x < nextOf es x) back (w .on);
-            most = subst (λ (x : ℕ). nextOf es x ≤ roomEntries) back (w .most);
+            most = subst (λ (x : ℕ). Roomy es (nextOf es x)) back (w .most);
           };
           is = q;
         };
@@ -102,10 +101,10 @@ module _ (t book : List ℕ) (b : Booked t book) (k : ℕ) (o : Composite (table
         pub field-lacks : roomEntries ≤ r → FieldKept t book es (orMissing (fieldOf (tableOf t) k n)) fieldMissing
         field-lacks l = rw (field-sought ∙ h .none-is l) (kept-missing t book es)
 
-        pub field-kept : Entered t book es → r < roomEntries → (at : ℕ) → at ≡ r + fieldFirst → FieldKept t book es (orMissing (fieldOf (tableOf t) k n)) at
-        field-kept w l at q =
+        pub field-kept : r < roomEntries → (at : ℕ) → at ≡ r + fieldFirst → FieldKept t book es (orMissing (fieldOf (tableOf t) k n)) at
+        field-kept l at q =
             let g = h .found l in
-            rw (field-sought ∙ g .1) (kept-member t book es (g .0) r at (record { cells = w .cells; member = g .0; is = g .2; on = g .3; most = g .4 }) refl q)
+            rw (field-sought ∙ g .1) (kept-member t book es (g .0) r at (record { member = g .0; is = g .2; on = g .3; most = g .5 }) refl q)
 
 -- what a field is in the type above
 module _ (t book es : List ℕ) (above : ℕ) (n : List ℕ) where

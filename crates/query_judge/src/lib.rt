@@ -6,7 +6,7 @@ use query_links::FEW_ROWS;
 use query_links::FIRSTS;
 use query_links::KINDS;
 use query_links::ROWS;
-use table_entries::CELLS_NEEDED;
+use table_entries::MOST_CELLS;
 ghost use mathlib.Core.Path.{_≡_};
 ghost use Prim.Native.Nat.{_≤_, _<_};
 ghost use lib.ListN.{length};
@@ -206,7 +206,7 @@ pub fn first_break(t: &[u8], book: &[u32], s: &[u8], rows: &[u32], n: usize) -> 
     requires { ⌜ (length (now t) ≤ mostTable) × (judge (now t) ≡ Accepted) × Booked (now t) (now book) × Rowed (now s) (now rows) n ⌝ }
     ensures { λ r. ⌜ Judged (tableOf (now (t .entry))) (docOf (now (s .entry)) (now (rows .entry)) n) r ⌝ }
 {
-    let mut es = [0u16; CELLS_NEEDED];
+    let mut es = [0u16; MOST_CELLS];
     table_entries::fill_entries(t, book, &mut es);
     judge_entered(t, book, &es, s, rows, n)
 }

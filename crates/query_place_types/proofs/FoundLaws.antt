@@ -12,7 +12,8 @@ use Rattle.paper_table.specs.Types.{Argument, Member, nameOnly, tagNothing, mem
 use Rattle.paper_table.proofs.ListsLaws.{find-some}
 use Rattle.table_types.specs.Sizes.{slimMember}
 use Rattle.table_types.proofs.Fitting.{all-at}
-use Rattle.table_entries.specs.Entries.{cellsNeeded, roomEntries, Hit, HitArgument}
+use Rattle.table_entries.proofs.Runs.{roomy-less}
+use Rattle.table_entries.specs.Entries.{roomEntries, Hit, HitArgument}
 use Rattle.query_place_types.specs.Shapes.{placeUnknown, SomeEntry, Keeps, EntryPlace, slim, slimArgument, argumentShape, memberShape}
 use Rattle.query_place_types.specs.declared.Place.{Place}
 use Rattle.query_place_types.proofs.ShapeLaws.{keeps-unknown}
@@ -30,10 +31,10 @@ noArgument = record { name = []; type = named [] }
 module _ (t book es n : List ℕ) where
   -- an argument
   module _ (xs : List Argument) (e : ℕ) (h : HitArgument t book es roomEntries n xs e) where
-    pub argument-stands : cellsNeeded ≤ length es → e < roomEntries → SomeEntry es e
-    argument-stands c l =
+    pub argument-stands : e < roomEntries → SomeEntry es e
+    argument-stands l =
         let g = h .found l in
-        (t, record { book = book; stands = record { cells = c; most = l; name = g .0 .name; type = g .0 .type; is = g .2 } })
+        (t, record { book = book; stands = record { most = g .3; name = g .0 .name; type = g .0 .type; is = g .2 } })
 
     module _ (r : Place) where
       pub argument-none : roomEntries ≤ e → r .at ≡ placeUnknown → Keeps t book es (argumentShape (find (argumentNamed n) xs)) r
@@ -46,10 +47,10 @@ module _ (t book es n : List ℕ) where
 
   -- an input field
   module _ (xs : List Member) (e : ℕ) (h : Hit t book es roomEntries n xs e) where
-    pub input-stands : cellsNeeded ≤ length es → e < roomEntries → SomeEntry es e
-    input-stands c l =
+    pub input-stands : e < roomEntries → SomeEntry es e
+    input-stands l =
         let g = h .found l in
-        (t, record { book = book; stands = record { cells = c; most = l; name = g .0 .name; type = g .0 .type; is = g .2 .entry } })
+        (t, record { book = book; stands = record { most = roomy-less (g .5) (g .3); name = g .0 .name; type = g .0 .type; is = g .2 .entry } })
 
     module _ (r : Place) where
       pub input-none : roomEntries ≤ e → r .at ≡ placeUnknown → Keeps t book es (memberShape (find (memberNamed n) xs)) r

@@ -4,7 +4,7 @@ use mathlib.Core.Path.{_≡_}
 use mathlib.Core.Bool.{Bool, true, not, _&&_, cond}
 use mathlib.Core.Option.{Option, none, some}
 use mathlib.Core.List.{List}
-use Prim.Native.Nat.{ℕ, _-_, _≤_, _<_}
+use Prim.Native.Nat.{ℕ, suc, _-_, _≤_, _<_}
 use lib.ListN.{length}
 use lib.Dec.{eqb, leb}
 use Rattle.paper.specs.Numbers.{mostWrappers}
@@ -16,7 +16,7 @@ use Rattle.paper_table.proofs.ReferenceSizes.{wrappers as wrapperCount}
 use Rattle.paper_query.specs.Enclosing.{then}
 use Rattle.paper_query.specs.PlaceTypes.{Shape, shape, shapeOf, itemOf}
 use Rattle.table_book.specs.Book.{part}
-use Rattle.table_entries.specs.Entries.{cellsNeeded, roomEntries, entryBase, entryExtent, cell, Entry, MemberEntry}
+use Rattle.table_entries.specs.Entries.{Roomy, entryBase, entryExtent, cell, Entry, MemberEntry}
 use Rattle.query_place_types.specs.declared.Place.{Place}
 
 -- the first number: the type is not known; it is Boolean, whose name need not stand in the table; else it is that of an entry, so much more
@@ -41,8 +41,7 @@ coded t es p =
 
 -- entry e is of some name and type
 pub record EntryStands (t book es : List ℕ) (e : ℕ) : Type 0 where
-  pub cells : cellsNeeded ≤ length es
-  pub most : e < roomEntries
+  pub most : Roomy es (suc e)
   pub name : List ℕ
   pub type : Ref
   pub is : Entry t book es e name type

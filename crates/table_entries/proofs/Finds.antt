@@ -5,27 +5,30 @@ use mathlib.Core.Option.{Option, none, some}
 use mathlib.Core.List.{List, [], _∷_, map}
 use Prim.Native.Nat.{ℕ, suc, _+_, _≤_, _<_}
 use native.Mathlib.Omega.{arith}
+use lib.Dec.{eqb}
+use borrow.Author.Tests.{eqb-true}
 use Rattle.paper.specs.Tokens.{same}
 use Rattle.paper_table.specs.TableNumbers.{tagArgument}
 use Rattle.paper_table.specs.Lists.{find}
 use Rattle.paper_table.specs.Types.{Argument, Member, memberNamed, argumentNamed}
-use Rattle.table_book.specs.Book.{countIn}
+use Rattle.table_entries.proofs.Runs.{roomy-less}
+use Rattle.table_book.specs.Book.{part, countIn}
 use Rattle.table_types.specs.Booked.{definitionOn}
-use Rattle.table_entries.specs.Entries.{roomEntries, nextOf, firstOf, hasTypes, Run, ArgumentEntry, Members, MemberEntry, Entered, Standing, FindAnswer, Hit, MemberStands, ArgumentAnswer}
+use Rattle.table_entries.specs.Entries.{roomEntries, nextOf, firstOf, hasTypes, Run, ArgumentEntry, Members, MemberEntry, Entered, Standing, FindAnswer, Hit, MemberStands, ArgumentAnswer, entryName, entrySize, cell, Here, NewAnswer}
 
 module _ (t book es : List ℕ) (n : Entered t book es) (i : ℕ) (l : i < countIn book) (h : hasTypes (definitionOn t i .tag) ≡ true) (from end : ℕ) (p : from ≡ firstOf es i) (q : end ≡ firstOf es (i + 1)) where
   pub members-stand : Members t book es from end (definitionOn t i .members)
   members-stand = let z : suc i ≡ i + 1 = omega arith in rw (p, q, ← z) (n .are i l h)
 
   pub standing-is : Standing t book es from end
-  standing-is = record { cells = n .cells; members = definitionOn t i .members; are = members-stand; most = omega (arith, q, n .most (i + 1) (omega arith)) }
+  standing-is = record { members = definitionOn t i .members; are = members-stand; most = rw q (n .most (i + 1) (omega arith)) }
 
 -- an answer up to `end` as one up to the room
 pub hit-wide : (t book es : List ℕ) (end : ℕ) (n : List ℕ) (ms : List Member) (r : ℕ) → end ≤ roomEntries → r < end → Hit t book es end n ms r → Hit t book es roomEntries n ms r
 hit-wide t book es end n ms r m l h =
     let f = h .found l in
     record {
-      found = λ k. (f .0, f .1, f .2, f .3, omega (arith, f .4));
+      found = λ k. (f .0, f .1, f .2, f .3, omega (arith, f .4), f .5);
       none-is = λ k. absurd (omega arith);
       within = omega arith;
     }
@@ -34,11 +37,11 @@ pub hit-none : (t book es : List ℕ) (end : ℕ) (n : List ℕ) (ms : List Memb
 hit-none t book es end n ms r l h = record { found = λ k. absurd (omega arith); none-is = λ k. h .none-is l; within = omega arith }
 
 -- arguments as members
-abbrev asMember : Argument → Member
+abbrev pub asMember : Argument → Member
 asMember a = record { tag = tagArgument; name = a .name; type = a .type; arguments = [] }
 
 module _ (t book es : List ℕ) where
-  as-members : (e f : ℕ) (xs : List Argument) → Run (ArgumentEntry t book es) es e f xs → Members t book es e f (map asMember xs)
+  pub as-members : (e f : ℕ) (xs : List Argument) → Run (ArgumentEntry t book es) es e f xs → Members t book es e f (map asMember xs)
   as-members e f [] r = r
   as-members e f (x ∷ xs) r = (record { entry = r .0 .entry; arguments = sym (r .0 .next) }, r .1, as-members (nextOf es e) f xs (r .2))
 
@@ -77,10 +80,9 @@ module _ (t book es : List ℕ) where
     arguments-stand end q =
         let z : suc e ≡ e + 1 = omega arith in
         record {
-          cells = w .cells;
           members = map asMember (w .member .arguments);
           are = rw (q, ← z) (as-members (suc e) (nextOf es e) (w .member .arguments) (w .is .arguments));
-          most = omega (arith, w .most, q);
+          most = rw q (w .most);
         }
 
     module _ (n : List ℕ) (end r : ℕ) (q : end ≡ nextOf es e) (x : FindAnswer t book es (e + 1) end n r) where
@@ -94,9 +96,20 @@ module _ (t book es : List ℕ) where
           let f = hit-is m y .found l in
           let g = found-argument n (m .arguments) (f .0) (f .1) in
           record {
-            found = λ k. (g .0, g .1, rw (g .2) at (f .2 .entry));
-            none-is = λ k. absurd (omega (arith, w .most, q));
+            found = λ k. (g .0, g .1, rw (g .2) at (f .2 .entry), roomy-less (f .5) (omega (arith, f .3)));
+            none-is = λ k. absurd (omega (arith, w .most .most, q));
           }
 
       pub argument-none : end ≤ r → ArgumentAnswer t book es e n roomEntries
       argument-none l m y = record { found = λ k. absurd (omega arith); none-is = λ k. no-argument n (m .arguments) (hit-is m y .none-is l) }
+
+-- none before entry e has its name
+module _ (t book es : List ℕ) (from e : ℕ) where
+  pub here-stands : Here t book es from e → Standing t book es from e
+  here-stands h = record { members = h .before; are = h .are; most = roomy-less (h .most) (omega arith) }
+
+  pub new-is : (at n r : ℕ) → at ≡ cell es e entryName → n ≡ cell es e entrySize → FindAnswer t book es from e (part t at n) r → NewAnswer t book es from e (eqb r e)
+  new-is at n r p q f before name type m x z =
+      let w : part t at n ≡ name = rw (p, q) (x .named .is) in
+      let g : r ≡ e = eqb-true r e z in
+      rw w at (f before m .none-is (omega arith))

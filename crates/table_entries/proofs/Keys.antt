@@ -2,14 +2,14 @@
 use mathlib.Core.Path.{_≡_, refl, ap}
 use mathlib.Core.Bool.{Bool, true, false}
 use mathlib.Core.List.{List}
-use Prim.Native.Nat.{ℕ, _+_, _-_, _*_, _≤_, _<_}
+use Prim.Native.Nat.{ℕ, _+_, _-_, _*_, _%_, _≤_, _<_}
 use native.Mathlib.Omega.{arith}
 use lib.ListN.{length, getD, length-take, length-drop}
 use lib.Seq.{getD-drop, getD-take}
 use Rattle.paper.specs.Tokens.{same}
 use Rattle.paper_table.proofs.TextLaws.{same-sound}
 use Rattle.table_book.specs.Book.{part}
-use Rattle.table_entries.specs.Entries.{byteValues, keyOf}
+use Rattle.table_entries.specs.Entries.{keyValues, keySizes, second, third, fourth, first, size, lastBut, keyOf}
 
 module _ (s : List ℕ) (at n : ℕ) (h : at + n ≤ length s) where
   part-length : length (part s at n) ≡ n
@@ -22,14 +22,16 @@ module _ (s : List ℕ) (at n : ℕ) (h : at + n ≤ length s) where
   unfolding keyOf
   key-none e = rw e
 
-  pub key-some : (l : 0 < n) (last first : ℕ) → last ≡ getD s (at + n - 1) 0 → first ≡ getD s at 0 → byteValues * last + first ≡ keyOf (part s at n)
+  last-is : (l : 0 < n) (k x : ℕ) → 0 < k → x ≡ getD s (at + (n - k)) 0 → lastBut k (part s at n) ≡ x
+  last-is l k x o p = let a : getD (part s at n) (n - k) 0 ≡ getD s (at + (n - k)) 0 = part-byte (n - k) (omega arith) in rw (part-length, a, p)
+
+  pub key-some : (l : 0 < n) (a b c d e : ℕ) → a ≡ getD s (at + (n - 1)) 0 → b ≡ getD s (at + (n - 2)) 0 → c ≡ getD s (at + (n - 3)) 0 → d ≡ getD s (at + (n - 4)) 0 → e ≡ getD s (at + (n - n)) 0
+      → (a + second * b + third * c + fourth * d + first * e + size * (n % keySizes)) % keyValues ≡ keyOf (part s at n)
   unfolding keyOf
-  key-some l last first p q =
-      let a : getD (part s at n) (n - 1) 0 ≡ getD s (at + (n - 1)) 0 = part-byte (n - 1) (omega arith) in
-      let b : getD (part s at n) 0 0 ≡ getD s (at + 0) 0 = part-byte 0 l in
-      let z : at + 0 ≡ at = omega arith in
-      let y : at + (n - 1) ≡ at + n - 1 = omega arith in
-      rw (part-length, a, b, z, y, p, q)
+  key-some l a b c d e p q r u v =
+      let z : n - n ≡ 0 = omega arith in
+      let y : getD (part s at n) 0 0 ≡ e = rw z at (rw part-length at (last-is l n e l v)) in
+      rw (last-is l 1 a (omega arith) p, last-is l 2 b (omega arith) q, last-is l 3 c (omega arith) r, last-is l 4 d (omega arith) u, y, part-length)
 
 -- names of other keys are others
 pub other-key : (x y : List ℕ) → (keyOf x ≡ keyOf y → ⊥) → same x y ≡ false

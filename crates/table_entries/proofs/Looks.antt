@@ -5,12 +5,11 @@ use mathlib.Core.Option.{none, some}
 use mathlib.Core.List.{List, [], _∷_}
 use Prim.Native.Nat.{ℕ, _≤_, _<_}
 use native.Mathlib.Omega.{arith}
-use lib.ListN.{length}
 use Rattle.paper.specs.Tokens.{same}
 use Rattle.paper_table.specs.Lists.{find}
 use Rattle.paper_table.specs.Types.{Member, memberNamed}
-use Rattle.table_entries.specs.Entries.{roomEntries, cellsNeeded, keyOf, nextOf, Members, MemberEntry, nameAt, NameStands, Standing, FindAnswer}
-use Rattle.table_entries.proofs.Runs.{run-order}
+use Rattle.table_entries.specs.Entries.{Roomy, keyOf, nextOf, Members, MemberEntry, nameAt, NameStands, Standing, FindAnswer}
+use Rattle.table_entries.proofs.Runs.{run-order, roomy-less}
 
 module _ {A : Type 0} (p : A → Bool) where
   find-nil : find p [] ≡ none
@@ -57,23 +56,22 @@ module _ (t book es : List ℕ) (from end : ℕ) (n : List ℕ) (e : ℕ) (w : L
         let f = first-is (w .left) (w .are) in
         (f .3, run-order (MemberEntry t book es) es (nextOf es e) end (f .1) (f .4))
 
-    pub name-stands : cellsNeeded ≤ length es → end ≤ roomEntries → NameStands t es e
-    name-stands c h =
+    pub name-stands : Roomy es end → NameStands t es e
+    name-stands h =
         let f = first-is (w .left) (w .are) in
         record {
-          cells = c;
-          most = omega arith;
+          most = roomy-less h (omega arith);
           within = f .2 .entry .named .within;
           key-is = f .2 .entry .key-is ∙ ap keyOf (sym (f .2 .entry .named .is));
         }
 
-    pub looking-here : {b : Bool} → b ≡ same (nameAt t es e) n → b ≡ true → FindAnswer t book es from end n e
-    looking-here s h ms r =
+    pub looking-here : Roomy es end → {b : Bool} → b ≡ same (nameAt t es e) n → b ≡ true → FindAnswer t book es from end n e
+    looking-here o s h ms r =
         let q = w .found-is ms r in
         let f = first-is (q .0) (q .1) in
         let y : same (f .0 .name) n ≡ true = ap (λ (x : List ℕ). same x n) (sym (f .2 .entry .named .is)) ∙ sym s ∙ h in
         record {
-          found = λ k. (f .0, q .2 ∙ ap (find (memberNamed n)) (f .5) ∙ find-here (memberNamed n) (f .0) (f .1) y, f .2, f .3, looking-less .1);
+          found = λ k. (f .0, q .2 ∙ ap (find (memberNamed n)) (f .5) ∙ find-here (memberNamed n) (f .0) (f .1) y, f .2, f .3, looking-less .1, roomy-less o (looking-less .1));
           none-is = λ k. absurd (omega arith);
           within = looking-within;
         }

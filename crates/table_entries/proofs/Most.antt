@@ -18,7 +18,7 @@ use Rattle.paper_table.proofs.Filled.{Filled, filled, the-one, not-there, once,
 use Rattle.paper_table.proofs.PiecesLaws.{Laid, nil, torn, next, pieces-laid}
 use Rattle.paper_table.proofs.FramedLaws.{holder-right, name-right, reference-right}
 use Rattle.paper_table.proofs.FramedTable.{one-of-eight, framing-wrongs}
-use Rattle.table_entries.specs.Entries.{roomEntries, entriesOf, entriesIn, entriesOn}
+use Rattle.table_entries.specs.Entries.{entryBytes, cellsFor, Roomy, entriesOf, entriesIn, entriesOn}
 
 -- how many bytes some fields take
 abbrev bytesOf : List HouseField → ℕ
@@ -152,7 +152,9 @@ table-size (houseField at tag s ∷ ps) roots e = go (recordInPlace roots tag) r
     go true q e ih = let z = append-inv (wrongs mostDeep at tag s) _ e in omega (arith, record-size at s roots tag q (z .0), ih (z .1))
     go false q e ih = absurd (cons≢nil e)
 
--- so the room is enough
-pub framed-few : (t : List ℕ) → framingOffset t ≡ none → length t ≤ mostTable → entriesOn (tableOf t) ≤ roomEntries
+-- so the cells for its size are enough
+pub framed-few : (t es : List ℕ) → framingOffset t ≡ none → length t ≤ mostTable → cellsFor (length t) ≤ length es → Roomy es (entriesOn (tableOf t))
 unfolding tableOf
-framed-few t e h = omega (arith, table-size (houseFields 0 t) true (framing-wrongs t e), house-fields-bytes 0 t)
+framed-few t es e h c =
+    let z : entryBytes * entriesOn (tableOf t) ≤ length t = omega (arith, table-size (houseFields 0 t) true (framing-wrongs t e), house-fields-bytes 0 t) in
+    record { cells = omega (arith, z); most = omega (arith, z) }

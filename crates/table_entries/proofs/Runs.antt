@@ -3,10 +3,10 @@ use mathlib.Core.Path.{_≡_, refl, _∙_}
 use mathlib.Core.List.{List, [], _∷_, _++_}
 use Prim.Native.Nat.{ℕ, suc, _+_, _≤_, _<_}
 use native.Mathlib.Omega.{arith}
-use lib.ListN.{getD}
+use lib.ListN.{length, getD}
 use Rattle.paper_table.specs.References.{Ref}
 use Rattle.paper_table.specs.Types.{Argument, Member}
-use Rattle.table_entries.specs.Entries.{entryAt, entryKey, entryName, entrySize, entryBase, entryExtent, entryWrappers, entryNext, entryMeant, nextOf, Entry, Run, ArgumentEntry, MemberEntry}
+use Rattle.table_entries.specs.Entries.{entryAt, Roomy, entryKey, entryName, entrySize, entryBase, entryExtent, entryWrappers, entryNext, entryMeant, nextOf, Entry, Run, ArgumentEntry, MemberEntry}
 
 module _ {A : Type 0} (P : ℕ → A → Type 0) (es : List ℕ) where
   pub run-order : (e f : ℕ) (xs : List A) → Run P es e f xs → e ≤ f
@@ -17,6 +17,13 @@ module _ {A : Type 0} (P : ℕ → A → Type 0) (es : List ℕ) where
   pub run-snoc : (e k : ℕ) (xs : List A) → Run P es e k xs → (x : A) → P k x → k < nextOf es k → Run P es e (nextOf es k) (xs ++ x ∷ [])
   run-snoc e k [] r x p l = rw r (p, l, refl)
   run-snoc e k (y ∷ ys) r x p l = (r .0, r .1, run-snoc (nextOf es e) k ys (r .2) x p l)
+
+-- what there is room for
+pub roomy-less : {es : List ℕ} {e f : ℕ} → Roomy es f → e ≤ f → Roomy es e
+roomy-less r h = record { cells = omega (arith, r .cells); most = omega (arith, r .most) }
+
+pub roomy-same : {old es : List ℕ} {e f : ℕ} → Roomy old f → e ≤ f → length es ≡ length old → Roomy es e
+roomy-same r h l = record { cells = omega (arith, r .cells, l); most = omega (arith, r .most) }
 
 -- the cells from one place up to another are as they were
 abbrev pub Same : List ℕ → List ℕ → ℕ → ℕ → Type 0

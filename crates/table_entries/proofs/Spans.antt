@@ -13,8 +13,8 @@ use Rattle.paper_table.specs.Types.{Definition, Member, Table, tableOf, blankDe
 use Rattle.table_book.specs.Book.{countIn, room}
 use Rattle.table_types.specs.Booked.{Booked, definitionOn}
 use Rattle.table_types.proofs.Entries.{tag-entered}
-use Rattle.table_entries.specs.Entries.{cellsNeeded, roomEntries, entryAt, firstOf, hasTypes, Members, MemberEntry, Entered, Enterable, entriesOf, entriesIn, entriesOn, Written, DefinitionWritten}
-use Rattle.table_entries.proofs.Runs.{Same, run-same, member-same}
+use Rattle.table_entries.specs.Entries.{cellsBefore, Roomy, entryAt, firstOf, hasTypes, Members, MemberEntry, Entered, Enterable, entriesOf, entriesIn, entriesOn, Written, DefinitionWritten}
+use Rattle.table_entries.proofs.Runs.{roomy-less, Same, run-same, member-same}
 
 -- by kinds
 pub types-below : (k : ℕ) → k < tagObject → false ≡ hasTypes k
@@ -60,11 +60,10 @@ module _ (t book old : List ℕ) (e : ℕ) (d : Definition) where
 -- definitions up to number i are entered, up to entry e
 pub record Spanning (t book old es : List ℕ) (i e : ℕ) : Type 0 where
   pub whole : length es ≡ length old
-  pub cells : cellsNeeded ≤ length es
   pub count : i ≤ countIn book
   pub here : firstOf es i ≡ e
   pub order : (j : ℕ) → j ≤ i → firstOf es j ≤ e
-  pub few : e + entriesOn (drop i (tableOf t)) ≤ roomEntries
+  pub few : Roomy es (e + entriesOn (drop i (tableOf t)))
   pub are : (j : ℕ) → j < i → hasTypes (definitionOn t j .tag) ≡ true → Members t book es (firstOf es j) (firstOf es (suc j)) (definitionOn t j .members)
 
 -- entries behind the spans keep what they say
@@ -79,22 +78,20 @@ entries-cons d ds = refl
 pub spanning-start : (t book old es : List ℕ) → Enterable t book es → length (set es 0 0) ≡ length old → Spanning t book old (set es 0 0) 0 0
 spanning-start t book old es b q = record {
   whole = q;
-  cells = omega (arith, length-set es 0 0, b .cells);
   count = omega arith;
   here = z;
   order = λ j h. let q : j ≡ 0 = omega arith in rw q (omega (arith, z));
-  few = omega (arith, b .few);
+  few = record { cells = omega (arith, length-set es 0 0, b .few .cells); most = omega (arith, b .few .most) };
   are = λ j l. absurd (omega arith);
 }
   where
     z : firstOf (set es 0 0) 0 ≡ 0
-    z = getD-set-same es 0 0 0 (omega (arith, b .cells))
+    z = getD-set-same es 0 0 0 (omega (arith, b .few .cells))
 
 module _ (t book old es : List ℕ) (b : Booked t book) (i e : ℕ) (w : Spanning t book old es i e) where
   pub spanning-end : countIn book ≤ i → Entered t book es
   spanning-end h = record {
-    cells = w .cells;
-    most = λ j l. omega (arith, w .order j (omega (arith, w .count)), w .few);
+    most = λ j l. roomy-less (w .few) (omega (arith, w .order j (omega (arith, w .count))));
     are = λ j l. w .are j (omega arith);
   }
 
@@ -102,8 +99,8 @@ module _ (t book old es : List ℕ) (b : Booked t book) (i e : ℕ) (w : Spannin
     next-is : drop i (tableOf t) ≡ definitionOn t i ∷ drop (suc i) (tableOf t)
     next-is = drop-cons (tableOf t) i (blankDefinition tagNothing) (omega (arith, b .count))
 
-    pub next-few : e + entriesIn (definitionOn t i) + entriesOn (drop (suc i) (tableOf t)) ≤ roomEntries
-    next-few = omega (arith, w .few, ap entriesOn next-is, entries-cons (definitionOn t i) (drop (suc i) (tableOf t)))
+    pub next-few : Roomy es (e + entriesIn (definitionOn t i) + entriesOn (drop (suc i) (tableOf t)))
+    next-few = roomy-less (w .few) (omega (arith, ap entriesOn next-is, entries-cons (definitionOn t i) (drop (suc i) (tableOf t))))
 
     pub next-room : i < room
     next-room = omega (arith, b .indexed .held .most)
@@ -112,8 +109,8 @@ module _ (t book old es : List ℕ) (b : Booked t book) (i e : ℕ) (w : Spannin
       abbrev es′ : List ℕ
       es′ = set mid (i + 1) f
 
-      mid-cells : cellsNeeded ≤ length mid
-      mid-cells = omega (arith, x .cells, w .cells)
+      mid-cells : cellsBefore ≤ length mid
+      mid-cells = omega (arith, x .cells, w .few .cells)
 
       first-same : (j : ℕ) → j ≤ i → firstOf es′ j ≡ firstOf es j
       first-same j h = getD-set-other mid (i + 1) j f 0 (λ z. omega arith) ∙ x .before j (omega (arith, next-room))
@@ -133,11 +130,13 @@ module _ (t book old es : List ℕ) (b : Booked t book) (i e : ℕ) (w : Spannin
       pub spanning-more : Spanning t book old es′ (i + 1) f
       spanning-more = record {
         whole = length-set mid (i + 1) f ∙ x .cells ∙ w .whole;
-        cells = omega (arith, length-set mid (i + 1) f, mid-cells);
         count = omega arith;
         here = first-next;
         order = λ j h. order-go j h (ltb j (i + 1)) refl;
-        few = let z : i + 1 ≡ suc i = omega arith in rw z (omega (arith, next-few, x .size));
+        few =
+            let z : i + 1 ≡ suc i = omega arith in
+            let n = next-few in
+            rw z (record { cells = omega (arith, length-set mid (suc i) f, x .cells, x .size, n .cells); most = omega (arith, x .size, n .most) });
         are = λ j h. are-go j h (ltb j i) refl;
       }
         where

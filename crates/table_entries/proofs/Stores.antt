@@ -8,8 +8,7 @@ use lib.Seq.{getD-set-same, getD-set-other}
 use Rattle.paper_table.specs.References.{Ref}
 use Rattle.table_book.specs.Book.{part}
 use Rattle.table_members.specs.Members.{Named, Typed}
-use Rattle.table_types.specs.Booked.{NumberMeant}
-use Rattle.table_entries.specs.Entries.{roomEntries, cellsEach, cellsNeeded, entryAt, entryKey, entryName, entrySize, entryBase, entryExtent, entryWrappers, entryNext, entryMeant, cell, keyOf, Put, Entering}
+use Rattle.table_entries.specs.Entries.{cellsEach, Roomy, entryAt, entryKey, entryName, entrySize, entryBase, entryExtent, entryWrappers, entryNext, entryMeant, cell, keyOf, Means, Put, Entering}
 
 abbrev pub storedFrom : List ℕ → ℕ → ℕ → List ℕ → List ℕ
 storedFrom old i j [] = old
@@ -36,7 +35,7 @@ stored-at old i j (v ∷ vs) (suc m) l h =
     let z : i + (j + suc m) ≡ i + (suc j + m) = omega arith in
     rw z (stored-at (set old (i + j) v) i (suc j) vs m (omega arith) (omega (arith, length-set old (i + j) v)))
 
-module _ (old : List ℕ) (e : ℕ) (l : cellsNeeded ≤ length old) (r : e < roomEntries) (key name size base extent wrappers next meant : ℕ) where
+module _ (old : List ℕ) (e : ℕ) (l : Roomy old (suc e)) (key name size base extent wrappers next meant : ℕ) where
   abbrev values : List ℕ
   values = key ∷ name ∷ size ∷ base ∷ extent ∷ wrappers ∷ next ∷ meant ∷ []
 
@@ -44,7 +43,7 @@ module _ (old : List ℕ) (e : ℕ) (l : cellsNeeded ≤ length old) (r : e < ro
   made = storedFrom old (entryAt e) 0 values
 
   at : (m : ℕ) → m < cellsEach → cell made e m ≡ getD values m 0
-  at m h = let z : 0 + m ≡ m = omega arith in rw z at (stored-at old (entryAt e) 0 values m h (omega arith))
+  at m h = let z : 0 + m ≡ m = omega arith in rw z at (stored-at old (entryAt e) 0 values m h (omega (arith, l .cells)))
 
   pub put-is : Put old made e key name size base extent wrappers next meant
   put-is = record {
@@ -62,7 +61,7 @@ module _ (old : List ℕ) (e : ℕ) (l : cellsNeeded ≤ length old) (r : e < ro
   }
 
 pub entering-is : (t book old es : List ℕ) (e key at n base extent wrappers next meant : ℕ) (name : List ℕ) (type : Ref) → Named t at n name → Typed t base extent wrappers type
-    → key ≡ keyOf (part t at n) → NumberMeant t book (part t base extent) meant → Put old es e key at n base extent wrappers next meant → Entering t book old es e next name type
+    → key ≡ keyOf (part t at n) → Means t book (part t base extent) meant → Put old es e key at n base extent wrappers next meant → Entering t book old es e next name type
 entering-is t book old es e key at n base extent wrappers next meant name type m r k u p = record {
   cells = p .cells;
   entry = record {

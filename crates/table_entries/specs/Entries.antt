@@ -4,20 +4,26 @@ use mathlib.Core.Path.{_≡_}
 use mathlib.Core.Bool.{Bool, true, _&&_, _||_, cond}
 use mathlib.Core.Option.{none, some}
 use mathlib.Core.List.{List, [], _∷_}
-use Prim.Native.Nat.{ℕ, suc, _+_, _-_, _*_, _≤_, _<_}
+use Prim.Native.Nat.{ℕ, suc, _+_, _-_, _*_, _/_, _%_, _≤_, _<_}
 use lib.ListN.{length, getD}
-use lib.Dec.{leb}
-use Rattle.paper_table.specs.TableNumbers.{tagObject, tagInterface, tagInputObject, tagDirective}
+use lib.Dec.{leb, eqb}
+use Rattle.paper_table.specs.TableNumbers.{tagScalar, tagObject, tagInterface, tagInputObject, tagDirective}
 use Rattle.paper_table.specs.Lists.{find}
 use Rattle.paper_table.specs.References.{Ref, baseOf}
-use Rattle.paper_table.specs.Types.{Argument, Member, Definition, Table, tableOf, nameIn, typeIn, memberNamed, argumentNamed}
+use Rattle.paper_table.specs.Types.{Argument, Member, Definition, Table, tableOf, meant, nameIn, typeIn, memberNamed, argumentNamed}
 use Rattle.table_book.specs.Book.{part, countIn}
 use Rattle.table_members.specs.Members.{fieldsIn, argumentsIn, memberFrom, Named, Typed, ArgumentsFrom}
-use Rattle.table_types.specs.Booked.{Booked, NumberMeant, definitionOn}
+use Rattle.table_types.specs.Booked.{Booked, NumberMeant, kindIn, definitionOn}
 use Rattle.table_entries.specs.declared.HeaderFound.{HeaderFound}
 use Rattle.table_entries.specs.declared.HeaderFound.the-variants.{Found, Nothing}
 
--- how many entries there is room for; proofs/Most shows that no table of right framing has more
+-- how many entries a table of so many bytes has at most, if its framing is right (proofs/Most); the most of all, which no entry has as its number
+abbrev pub entryBytes : ℕ
+entryBytes = 11
+
+abbrev pub mostEntries : ℕ → ℕ
+mostEntries size = size / entryBytes
+
 abbrev pub roomEntries : ℕ
 roomEntries = 2978
 
@@ -32,9 +38,14 @@ cellsEach = 8
 abbrev pub entryAt : ℕ → ℕ
 entryAt e = cellsBefore + cellsEach * e
 
--- how many cells there must be; a list may be longer
-abbrev pub cellsNeeded : ℕ
-cellsNeeded = entryAt roomEntries
+-- how many cells there must be for a table of so many bytes; a list may be longer
+abbrev pub cellsFor : ℕ → ℕ
+cellsFor size = entryAt (mostEntries size)
+
+-- entries up to number e lie in the list, and are no more than there may be
+pub record Roomy (es : List ℕ) (e : ℕ) : Type 0 where
+  pub cells : entryAt e ≤ length es
+  pub most : e ≤ roomEntries
 
 -- an entry's cells: its key, the place and size of its name, the place and size of its base's name, its wrappers, the entry beside it, the number of the
 -- definition that its base means
@@ -76,16 +87,58 @@ firstOf es i = getD es i 0
 abbrev pub byteValues : ℕ
 byteValues = 256
 
--- a short number of a name: its last byte and its first
+-- what bytes and the size of a name count in its key
+abbrev pub keyValues : ℕ
+keyValues = 65536
+
+abbrev pub keySizes : ℕ
+keySizes = 64
+
+abbrev pub second : ℕ
+second = 79
+
+abbrev pub third : ℕ
+third = 6241
+
+abbrev pub fourth : ℕ
+fourth = 34287
+
+abbrev pub first : ℕ
+first = 21697
+
+abbrev pub size : ℕ
+size = 10127
+
+-- the byte so far from a name's end, or its first
+abbrev pub lastBut : ℕ → List ℕ → ℕ
+lastBut k n = getD n (length n - k) 0
+
+-- a short number of a name, by its last four bytes, its first, and its size
 unfoldable pub keyOf : List ℕ → ℕ
-keyOf n = byteValues * getD n (length n - 1) 0 + getD n 0 0
+keyOf n = (lastBut 1 n + second * lastBut 2 n + third * lastBut 3 n + fourth * lastBut 4 n + first * getD n 0 0 + size * (length n % keySizes)) % keyValues
+
+-- what stands for a definition's number where a name means a built-in scalar, or no type
+abbrev pub builtIn : ℕ
+builtIn = 256
+
+abbrev pub noType : ℕ
+noType = 257
+
+-- the tag of what a number stands for
+abbrev pub kindMeant : List ℕ → ℕ → ℕ
+kindMeant book k = cond (eqb k builtIn) tagScalar (kindIn book k)
+
+-- k stands for what the name n means
+pub record Means (t book n : List ℕ) (k : ℕ) : Type 0 where
+  pub number : NumberMeant t book n k
+  pub kind : kindMeant book k ≡ meant (tableOf t) n .tag
 
 -- entry e is of this name and type
 pub record Entry (t book es : List ℕ) (e : ℕ) (name : List ℕ) (type : Ref) : Type 0 where
   pub key-is : cell es e entryKey ≡ keyOf name
   pub named : Named t (cell es e entryName) (cell es e entrySize) name
   pub typed : Typed t (cell es e entryBase) (cell es e entryExtent) (cell es e entryWrappers) type
-  pub means : NumberMeant t book (baseOf type) (cell es e entryMeant)
+  pub means : Means t book (baseOf type) (cell es e entryMeant)
 
 -- from e up to f stand the entries of this list, one beside the other
 abbrev pub Run : {A : Type 0} → (ℕ → A → Type 0) → List ℕ → ℕ → ℕ → List A → Type 0
@@ -110,8 +163,7 @@ hasTypes tag = leb tagObject tag && (leb tag tagInterface || leb tagInputObject 
 
 -- the entries are the table's
 pub record Entered (t book es : List ℕ) : Type 0 where
-  pub cells : cellsNeeded ≤ length es
-  pub most : (i : ℕ) → i ≤ countIn book → firstOf es i ≤ roomEntries
+  pub most : (i : ℕ) → i ≤ countIn book → Roomy es (firstOf es i)
   pub are : (i : ℕ) → i < countIn book → hasTypes (definitionOn t i .tag) ≡ true → Members t book es (firstOf es i) (firstOf es (suc i)) (definitionOn t i .members)
 
 -- how many there are
@@ -128,26 +180,24 @@ entriesOn (d ∷ ds) = entriesIn d + entriesOn ds
 
 pub record Enterable (t book es : List ℕ) : Type 0 where
   pub booked : Booked t book
-  pub cells : cellsNeeded ≤ length es
-  pub few : entriesOn (tableOf t) ≤ roomEntries
+  pub few : Roomy es (entriesOn (tableOf t))
 
 -- r is the entry of the first member of the name n, among those from entry `from` up to `end`; `end` if there is none
 pub record Hit (t book es : List ℕ) (end : ℕ) (n : List ℕ) (ms : List Member) (r : ℕ) : Type 0 where
-  pub found : r < end → (m : Member) × (find (memberNamed n) ms ≡ some m) × MemberEntry t book es r m × (r < nextOf es r) × (nextOf es r ≤ end)
+  pub found : r < end → (m : Member) × (find (memberNamed n) ms ≡ some m) × MemberEntry t book es r m × (r < nextOf es r) × (nextOf es r ≤ end) × Roomy es (nextOf es r)
   pub none-is : end ≤ r → find (memberNamed n) ms ≡ none
   pub within : r ≤ end
 
 pub record HitArgument (t book es : List ℕ) (end : ℕ) (n : List ℕ) (xs : List Argument) (r : ℕ) : Type 0 where
-  pub found : r < end → (a : Argument) × (find (argumentNamed n) xs ≡ some a) × Entry t book es r (a .name) (a .type)
+  pub found : r < end → (a : Argument) × (find (argumentNamed n) xs ≡ some a) × Entry t book es r (a .name) (a .type) × Roomy es (suc r)
   pub none-is : end ≤ r → find (argumentNamed n) xs ≡ none
 
 -- a member's entry stands there
 pub record MemberStands (t book es : List ℕ) (e : ℕ) : Type 0 where
-  pub cells : cellsNeeded ≤ length es
   pub member : Member
   pub is : MemberEntry t book es e member
   pub on : e < nextOf es e
-  pub most : nextOf es e ≤ roomEntries
+  pub most : Roomy es (nextOf es e)
 
 abbrev pub ArgumentAnswer : List ℕ → List ℕ → List ℕ → ℕ → List ℕ → ℕ → Type 0
 ArgumentAnswer t book es e n r = (m : Member) → MemberEntry t book es e m → HitArgument t book es roomEntries n (m .arguments) r
@@ -159,22 +209,23 @@ TypeAnswer es e at n wrappers = (t book name : List ℕ) (type : Ref) → Entry 
 abbrev pub MeantAnswer : List ℕ → ℕ → ℕ → Type 0
 MeantAnswer es e r = (t book name : List ℕ) (type : Ref) → Entry t book es e name type → NumberMeant t book (baseOf type) r
 
+abbrev pub KindAnswer : List ℕ → List ℕ → ℕ → ℕ → Type 0
+KindAnswer book es e r = (t name : List ℕ) (type : Ref) → Entry t book es e name type → r ≡ meant (tableOf t) (baseOf type) .tag
+
 -- entry e's name, which its key is of
 abbrev pub nameAt : List ℕ → List ℕ → ℕ → List ℕ
 nameAt t es e = part t (cell es e entryName) (cell es e entrySize)
 
 pub record NameStands (t es : List ℕ) (e : ℕ) : Type 0 where
-  pub cells : cellsNeeded ≤ length es
-  pub most : e < roomEntries
+  pub most : Roomy es (suc e)
   pub within : cell es e entryName + cell es e entrySize ≤ length t
   pub key-is : cell es e entryKey ≡ keyOf (nameAt t es e)
 
 -- a list of entries stands there; what is found in any that does
 pub record Standing (t book es : List ℕ) (e f : ℕ) : Type 0 where
-  pub cells : cellsNeeded ≤ length es
   pub members : List Member
   pub are : Members t book es e f members
-  pub most : f ≤ roomEntries
+  pub most : Roomy es f
 
 abbrev pub FindAnswer : List ℕ → List ℕ → List ℕ → ℕ → ℕ → List ℕ → ℕ → Type 0
 FindAnswer t book es from end n r = (ms : List Member) → Members t book es from end ms → Hit t book es end n ms r
@@ -251,3 +302,15 @@ ArgumentsWritten t book old es e f xs = Written (ArgumentEntry t book) length ol
 
 abbrev pub MembersWritten : List ℕ → List ℕ → List ℕ → List ℕ → ℕ → ℕ → List Member → Type 0
 MembersWritten t book old es e f ms = Written (MemberEntry t book) entriesOf old es e f ms
+
+-- entry e stands behind those of a list, which stand from `from` on; whether none of them has its name
+pub record Here (t book es : List ℕ) (from e : ℕ) : Type 0 where
+  pub before : List Member
+  pub are : Members t book es from e before
+  pub name : List ℕ
+  pub type : Ref
+  pub is : Entry t book es e name type
+  pub most : Roomy es (suc e)
+
+abbrev pub NewAnswer : List ℕ → List ℕ → List ℕ → ℕ → ℕ → Bool → Type 0
+NewAnswer t book es from e r = (before : List Member) (name : List ℕ) (type : Ref) → Members t book es from e before → Entry t book es e name type → r ≡ true → find (memberNamed name) before ≡ none

@@ -5,6 +5,7 @@ use paper_table::RECORD_DIRECTIVE;
 use paper_table::RECORD_INPUT_OBJECT;
 use paper_table::RECORD_INTERFACE;
 use paper_table::RECORD_OBJECT;
+use paper_table::RECORD_SCALAR;
 use paper_table::TAG_ARGUMENT;
 use paper_table::TAG_FIELD;
 use paper_table::TAG_NAME;
@@ -15,22 +16,30 @@ use table_members::FieldFound;
 use table_members::TypeRead;
 ghost use mathlib.Core.Path.{_≡_};
 ghost use mathlib.Core.Bool.{true, false};
-ghost use Prim.Native.Nat.{_+_, _≤_, _<_};
-ghost use lib.ListN.{length};
+ghost use Prim.Native.Nat.{suc, _+_, _-_, _≤_, _<_};
+ghost use lib.ListN.{length, getD};
 ghost use Rattle.paper.specs.Tokens.{same};
 ghost use Rattle.paper_table.specs.TableNumbers.{mostTable};
 ghost use Rattle.table_fields.specs.Fields.{Bounds};
 ghost use Rattle.table_fields.specs.Wrappers.{packLimit};
-ghost use Rattle.table_book.specs.Book.{part, countIn, room};
+ghost use Rattle.table_book.specs.Book.{part, countIn, room, bookSize};
 ghost use Rattle.table_members.specs.Members.{membersIn, argumentsIn, memberFrom};
-ghost use Rattle.table_types.specs.Booked.{Booked, NumberMeant, definitionOn};
-ghost use Rattle.table_entries.specs.Entries.{roomEntries, cellsEach, cellsNeeded, byteValues, cell, firstOf, keyOf, hasTypes, entriesOf, entriesIn, DefinitionWritten, Enterable, Entered, QuickRead, HeaderRead, HeaderEntered, Put, Entering, ArgumentsWritten, MemberWritten, MembersWritten, NameStands, nameAt, Standing, FindAnswer, Hit, MemberStands, ArgumentAnswer, TypeAnswer, MeantAnswer};
+ghost use Rattle.table_types.specs.Booked.{Booked, definitionOn};
+ghost use Rattle.table_entries.specs.Entries.{roomEntries, cellsEach, cellsBefore, byteValues, Roomy, entryKey, entryName, entrySize, nextOf, noType, Means, cell, firstOf, keyOf, hasTypes, entriesOf, entriesIn, DefinitionWritten, Enterable, Entered, QuickRead, HeaderRead, HeaderEntered, Put, Entering, ArgumentsWritten, MemberWritten, MembersWritten, NameStands, nameAt, Standing, FindAnswer, Hit, MemberStands, ArgumentAnswer, TypeAnswer, MeantAnswer, KindAnswer, Here, NewAnswer};
 
-// No entry: so many there is room for.
+// No entry: so many there are at most.
 pub const NO_ENTRY: usize = 2978;
 
-// How many cells a caller lends at least.
-pub const CELLS_NEEDED: usize = 24088;
+// How many cells a caller lends for a table of so many bytes; an entry takes eleven of them. What is lent is cleared, so little for a small table.
+pub const SMALL_TABLE: usize = 748;
+
+pub const SMALL_CELLS: usize = 808;
+
+pub const MIDDLE_TABLE: usize = 4096;
+
+pub const MIDDLE_CELLS: usize = 3240;
+
+pub const MOST_CELLS: usize = 24088;
 
 // How many cells stand before the entries and say where those of each definition begin; how many each entry has.
 const CELLS_BEFORE: usize = 264;
@@ -55,8 +64,21 @@ const ENTRY_NEXT: usize = 6;
 
 const ENTRY_MEANT: usize = 7;
 
-// How many values a byte has.
-const BYTE_VALUES: u16 = 256;
+// What a name's bytes count in its key: powers of 79 modulo 2^16, for the last byte, those before it, the first byte, and the size. 79 is a prime above the
+// distance of any two bytes of names, so that names which differ in their last two bytes alone never have one key.
+const KEY_VALUES: usize = 65536;
+
+const KEY_SIZES: usize = 64;
+
+const SECOND: usize = 79;
+
+const THIRD: usize = 6241;
+
+const FOURTH: usize = 34287;
+
+const FIRST: usize = 21697;
+
+const SIZE: usize = 10127;
 
 fn wide(x: u16) -> usize
     ensures { λ r. ⌜ r ≡ x ⌝ }
@@ -70,31 +92,73 @@ fn wide_half(x: u16) -> u32
     x as u32
 }
 
-fn wide_byte(x: u8) -> u16
+fn wide_byte(x: u8) -> usize
     ensures { λ r. ⌜ (r ≡ x) × (r < byteValues) ⌝ }
 {
-    x as u16
+    x as usize
+}
+
+// The byte that stands k before the end of the n bytes from `at` on; the first where they are fewer.
+fn last_but(s: &[u8], at: usize, n: usize, k: usize) -> usize
+    requires { ⌜ (0 < n) × (0 < k) × (at + n ≤ length (now s)) ⌝ }
+    ensures { λ r. ⌜ (r ≡ getD (now (s .entry)) (at + (n - k)) 0) × (r < byteValues) ⌝ }
+{
+    if n < k {
+        return wide_byte(s[at]);
+    }
+    wide_byte(s[at + (n - k)])
 }
 
 // A short number of the name of n bytes from `at` on.
-fn key_of(s: &[u8], at: usize, n: usize) -> u16
+pub fn key_of(s: &[u8], at: usize, n: usize) -> u16
     requires { ⌜ at + n ≤ length (now s) ⌝ }
     ensures { λ r. ⌜ r ≡ keyOf (part (now (s .entry)) at n) ⌝ }
 {
     if n == 0 {
         return 0;
     }
-    let last = wide_byte(s[at + n - 1]);
-    let first = wide_byte(s[at]);
-    BYTE_VALUES * last + first
+    let ends = last_but(s, at, n, 1)
+        + SECOND * last_but(s, at, n, 2)
+        + THIRD * last_but(s, at, n, 3)
+        + FOURTH * last_but(s, at, n, 4);
+    ((ends + FIRST * last_but(s, at, n, n) + SIZE * (n % KEY_SIZES)) % KEY_VALUES) as u16
 }
 
 // Cell j of entry e.
 fn cell_of(es: &[u16], e: usize, j: usize) -> usize
-    requires { ⌜ (cellsNeeded ≤ length (now es)) × (e < roomEntries) × (j < cellsEach) ⌝ }
+    requires { ⌜ Roomy (now es) (suc e) × (j < cellsEach) ⌝ }
     ensures { λ r. ⌜ r ≡ cell (now (es .entry)) e j ⌝ }
 {
     wide(es[CELLS_BEFORE + CELLS_EACH * e + j])
+}
+
+// Entry e's key, the place and size of its name, and the entry beside it.
+pub fn key_at(es: &[u16], e: usize) -> usize
+    requires { ⌜ Roomy (now es) (suc e) ⌝ }
+    ensures { λ r. ⌜ r ≡ cell (now (es .entry)) e entryKey ⌝ }
+{
+    cell_of(es, e, ENTRY_KEY)
+}
+
+pub fn name_at(es: &[u16], e: usize) -> usize
+    requires { ⌜ Roomy (now es) (suc e) ⌝ }
+    ensures { λ r. ⌜ r ≡ cell (now (es .entry)) e entryName ⌝ }
+{
+    cell_of(es, e, ENTRY_NAME)
+}
+
+pub fn size_at(es: &[u16], e: usize) -> usize
+    requires { ⌜ Roomy (now es) (suc e) ⌝ }
+    ensures { λ r. ⌜ r ≡ cell (now (es .entry)) e entrySize ⌝ }
+{
+    cell_of(es, e, ENTRY_SIZE)
+}
+
+pub fn next_of(es: &[u16], e: usize) -> usize
+    requires { ⌜ Roomy (now es) (suc e) ⌝ }
+    ensures { λ r. ⌜ r ≡ nextOf (now (es .entry)) e ⌝ }
+{
+    cell_of(es, e, ENTRY_NEXT)
 }
 
 // Is entry e of the name that is the n bytes of s from `at` on, with this key?
@@ -153,7 +217,7 @@ fn put(
     next: usize,
     meant: usize,
 )
-    requires { ⌜ (cellsNeeded ≤ length (now es)) × (e < roomEntries) × (name ≤ mostTable) × (size ≤ mostTable) × (base ≤ mostTable) × (extent ≤ mostTable) × (wrappers < packLimit) × (next ≤ roomEntries) × (meant ≤ room) ⌝ }
+    requires { ⌜ Roomy (now es) (suc e) × (name ≤ mostTable) × (size ≤ mostTable) × (base ≤ mostTable) × (extent ≤ mostTable) × (wrappers < packLimit) × (next ≤ roomEntries) × (meant ≤ noType) ⌝ }
     ensures { λ _. ⌜ Put (now (es .entry)) (now (es .exit)) e key name size base extent wrappers next meant ⌝ }
 {
     let i = CELLS_BEFORE + CELLS_EACH * e;
@@ -167,16 +231,24 @@ fn put(
     es[i + ENTRY_MEANT] = meant as u16;
 }
 
-// The number of the definition that the table's n bytes from `at` on mean; at least the count if it is none of the table's.
+// What stands for the number of a definition where a name means a built-in scalar, or no type.
+const BUILT_IN: usize = 256;
+
+const NO_TYPE: usize = 257;
+
+// The number of the definition that the table's n bytes from `at` on mean; BUILT_IN or NO_TYPE if it is none of the table's.
 fn number_of(t: &[u8], book: &[u32], at: usize, n: usize) -> usize
     requires { ⌜ Booked (now t) (now book) × (at + n ≤ length (now t)) ⌝ }
-    ensures { λ r. ⌜ NumberMeant (now (t .entry)) (now (book .entry)) (part (now (t .entry)) at n) r × (r ≤ room) ⌝ }
+    ensures { λ r. ⌜ Means (now (t .entry)) (now (book .entry)) (part (now (t .entry)) at n) r × (r ≤ noType) ⌝ }
 {
-    let k = table_types::number_meant(t, book, t, at, n);
+    if table_types::is_built_in(t, at, n) {
+        return BUILT_IN;
+    }
+    let k = table_types::first_type(t, book, t, at, n);
     if k < table_book::count_of(book) {
         return k;
     }
-    table_book::ROOM
+    NO_TYPE
 }
 
 // What a member or argument says of itself: where its name and its base's name lie, its wrappers, from where on its arguments stand.
@@ -306,7 +378,7 @@ fn read_header(t: &[u8], tag: u8, start: usize, end: usize) -> Header
 
 // Enters what a header says as entry e, with `next` beside it.
 fn enter_header(t: &[u8], book: &[u32], es: &mut [u16], e: usize, next: usize, h: Header)
-    requires { ⌜ Booked (now t) (now book) × (cellsNeeded ≤ length (now es)) × (e < roomEntries) × (next ≤ roomEntries) × (h .name + h .size ≤ length (now t)) × (h .base + h .extent ≤ length (now t)) × (h .wrappers < packLimit) ⌝ }
+    requires { ⌜ Booked (now t) (now book) × Roomy (now es) (suc e) × (next ≤ roomEntries) × (h .name + h .size ≤ length (now t)) × (h .base + h .extent ≤ length (now t)) × (h .wrappers < packLimit) ⌝ }
     ensures { λ _. ⌜ HeaderEntered (now (t .entry)) (now (book .entry)) (now (es .entry)) (now (es .exit)) e next (h .name) (h .size) (h .base) (h .extent) (h .wrappers) ⌝ }
 {
     let key = key_of(t, h.name, h.size);
@@ -336,7 +408,7 @@ fn enter(
     start: usize,
     end: usize,
 )
-    requires { ⌜ Bounds (now t) start end × Booked (now t) (now book) × (cellsNeeded ≤ length (now es)) × (e < roomEntries) × (next ≤ roomEntries) ⌝ }
+    requires { ⌜ Bounds (now t) start end × Booked (now t) (now book) × Roomy (now es) (suc e) × (next ≤ roomEntries) ⌝ }
     ensures { λ _. ⌜ Entering (now (t .entry)) (now (book .entry)) (now (es .entry)) (now (es .exit)) e next (memberFrom (now (t .entry)) tag start end .name) (memberFrom (now (t .entry)) tag start end .type) ⌝ }
 {
     let h = read_header(t, tag, start, end);
@@ -352,7 +424,7 @@ fn enter_arguments(
     from: usize,
     end: usize,
 ) -> usize
-    requires { ⌜ Bounds (now t) from end × Booked (now t) (now book) × (cellsNeeded ≤ length (now es)) × (e + length (argumentsIn (now t) from end) ≤ roomEntries) ⌝ }
+    requires { ⌜ Bounds (now t) from end × Booked (now t) (now book) × Roomy (now es) (e + length (argumentsIn (now t) from end)) ⌝ }
     ensures { λ r. ⌜ ArgumentsWritten (now (t .entry)) (now (book .entry)) (now (es .entry)) (now (es .exit)) e r (argumentsIn (now (t .entry)) from end) ⌝ }
 {
     let mut i = from;
@@ -382,7 +454,7 @@ fn enter_member(
     start: usize,
     end: usize,
 ) -> usize
-    requires { ⌜ Bounds (now t) start end × Booked (now t) (now book) × (cellsNeeded ≤ length (now es)) × (e + 1 + length (memberFrom (now t) tag start end .arguments) ≤ roomEntries) ⌝ }
+    requires { ⌜ Bounds (now t) start end × Booked (now t) (now book) × Roomy (now es) (e + 1 + length (memberFrom (now t) tag start end .arguments)) ⌝ }
     ensures { λ r. ⌜ MemberWritten (now (t .entry)) (now (book .entry)) (now (es .entry)) (now (es .exit)) e r (memberFrom (now (t .entry)) tag start end) ⌝ }
 {
     let h = read_header(t, tag, start, end);
@@ -393,7 +465,7 @@ fn enter_member(
 
 // Enters the members from `from` up to `end`; one past the last.
 fn enter_members(t: &[u8], book: &[u32], es: &mut [u16], e: usize, from: usize, end: usize) -> usize
-    requires { ⌜ Bounds (now t) from end × Booked (now t) (now book) × (cellsNeeded ≤ length (now es)) × (e + entriesOf (membersIn (now t) from end) ≤ roomEntries) ⌝ }
+    requires { ⌜ Bounds (now t) from end × Booked (now t) (now book) × Roomy (now es) (e + entriesOf (membersIn (now t) from end)) ⌝ }
     ensures { λ r. ⌜ MembersWritten (now (t .entry)) (now (book .entry)) (now (es .entry)) (now (es .exit)) e r (membersIn (now (t .entry)) from end) ⌝ }
 {
     let mut i = from;
@@ -413,7 +485,7 @@ fn enter_members(t: &[u8], book: &[u32], es: &mut [u16], e: usize, from: usize, 
 }
 
 // Have the members of a definition of this kind types?
-fn has_types(kind: u32) -> bool
+pub fn has_types(kind: u32) -> bool
     ensures { λ r. ⌜ r ≡ hasTypes kind ⌝ }
 {
     if kind < RECORD_OBJECT {
@@ -430,7 +502,7 @@ fn has_types(kind: u32) -> bool
 
 // Enters the members of definition i; one past the last entry.
 fn enter_definition(t: &[u8], book: &[u32], es: &mut [u16], i: usize, e: usize) -> usize
-    requires { ⌜ Booked (now t) (now book) × (i < countIn (now book)) × (cellsNeeded ≤ length (now es)) × (e + entriesIn (definitionOn (now t) i) ≤ roomEntries) ⌝ }
+    requires { ⌜ Booked (now t) (now book) × (i < countIn (now book)) × Roomy (now es) (e + entriesIn (definitionOn (now t) i)) ⌝ }
     ensures { λ r. ⌜ DefinitionWritten (now (t .entry)) (now (book .entry)) (now (es .entry)) (now (es .exit)) e r (definitionOn (now (t .entry)) i) ⌝ }
 {
     if !has_types(table_book::kind_of(book, i)) {
@@ -458,8 +530,8 @@ pub fn fill_entries(t: &[u8], book: &[u32], es: &mut [u16])
 }
 
 // Where the entries of definition i begin; those of the one before it end there.
-fn first_of(es: &[u16], i: usize) -> usize
-    requires { ⌜ (cellsNeeded ≤ length (now es)) × (i ≤ room) ⌝ }
+pub fn first_of(es: &[u16], i: usize) -> usize
+    requires { ⌜ (cellsBefore ≤ length (now es)) × (i ≤ room) ⌝ }
     ensures { λ r. ⌜ r ≡ firstOf (now (es .entry)) i ⌝ }
 {
     wide(es[i])
@@ -510,7 +582,7 @@ pub fn find_argument(
 
 // The type of entry e: where its base's name lies, and its wrappers.
 pub fn type_of(es: &[u16], e: usize) -> TypeRead
-    requires { ⌜ (cellsNeeded ≤ length (now es)) × (e < roomEntries) ⌝ }
+    requires { ⌜ Roomy (now es) (suc e) ⌝ }
     ensures { λ r. ⌜ TypeAnswer (now (es .entry)) e (r .at) (r .size) (r .wrappers) ⌝ }
 {
     TypeRead {
@@ -520,10 +592,31 @@ pub fn type_of(es: &[u16], e: usize) -> TypeRead
     }
 }
 
-// The number of the definition that the base of entry e's type means; ROOM if it is none of the table's.
+// The number of the definition that the base of entry e's type means; at least the count if it is none of the table's.
 pub fn meant_by(es: &[u16], e: usize) -> usize
-    requires { ⌜ (cellsNeeded ≤ length (now es)) × (e < roomEntries) ⌝ }
+    requires { ⌜ Roomy (now es) (suc e) ⌝ }
     ensures { λ r. ⌜ MeantAnswer (now (es .entry)) e r ⌝ }
 {
     cell_of(es, e, ENTRY_MEANT)
+}
+
+// The tag of the type that the base of entry e's type means: 0 of no type.
+pub fn kind_by(book: &[u32], es: &[u16], e: usize) -> u32
+    requires { ⌜ (length (now book) ≡ bookSize) × (countIn (now book) ≤ room) × Roomy (now es) (suc e) ⌝ }
+    ensures { λ r. ⌜ KindAnswer (now (book .entry)) (now (es .entry)) e r ⌝ }
+{
+    let k = cell_of(es, e, ENTRY_MEANT);
+    if k == BUILT_IN {
+        return RECORD_SCALAR;
+    }
+    table_types::kind_in(book, k)
+}
+
+// Has no entry from `from` up to e the name of entry e?
+pub fn is_new(t: &[u8], book: &[u32], es: &[u16], from: usize, e: usize) -> bool
+    requires { ⌜ Here (now t) (now book) (now es) from e ⌝ }
+    ensures { λ r. ⌜ NewAnswer (now (t .entry)) (now (book .entry)) (now (es .entry)) from e r ⌝ }
+{
+    let x = find(t, book, es, from, e, t, name_at(es, e), size_at(es, e));
+    x == e
 }

@@ -15,7 +15,7 @@ returns c = input-of-none (c .before .before .before .before .before .before .be
 meant-by-requires : tie.Need-meant-by-requires
 meant-by-requires c κs =
     let w = c .before .before .before .before .before .before .before .before .pre .4 (omega arith) in
-    (w .cells, w .most)
+    w .most
 
 returns-2 : tie.Need-returns-2
 returns-2 c = input-of-other (c .before .before .before .before .before .before .before .before .before .before .before .before .args .t .now) (c .before .before .before .before .before .before .before .before .before .before .before .before .args .book .now) (c .before .before .before .before .before .before .before .before .before .before .before .before .args .es .now) (c .before .before .before .before .before .before .before .before .before .before .before .before .pre .1) (nameOf (docOf (c .before .before .before .before .before .before .before .before .before .before .before .before .args .s .now) (c .before .before .before .before .before .before .before .before .before .before .before .before .args .rows .now) (c .before .before .before .before .before .before .before .before .before .before .before .before .args .n)) (c .before .before .before .before .before .before .before .before .before .before .before .before .args .i)) (c .before .before .before .before .before .before .before .before .before .before .before .before .args .p) (c .unknown2 .result) (omega arith) (c .before .before .before .before .before .before .before .before .before .before .before .before .pre .4) (c .before .before .before .meant-by .result) (c .before .before .before .meant-by .ensures) (λ z. c .before .if2 .taken (c .before .before .kind-in .ensures ∙ z)) (c .unknown2 .ensures)

@@ -1,5 +1,6 @@
 -- By the number.
 use native.Mathlib.Omega.{arith}
+use Rattle.table_entries.proofs.Runs.{roomy-less}
 use Rattle.query_fields.proofs.FieldLaws.{leaf-type, member-type}
 use borrow.Author.Needs.{needs}
 use Rattle.query_fields.proofs.field_type.Statement.{statement}
@@ -11,7 +12,7 @@ returns c = leaf-type (c .before .before .before .before .args .t .now) (c .befo
 meant-by-requires : tie.Need-meant-by-requires
 meant-by-requires c κs =
     let w = c .before .before .before .before .pre .1 (omega (arith, c .if1 .left)) in
-    (w .cells, omega (arith, w .on, w .most))
+    roomy-less (w .most) (w .on)
 
 returns-2 : tie.Need-returns-2
 returns-2 c =

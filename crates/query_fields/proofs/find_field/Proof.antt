@@ -32,7 +32,7 @@ returns-3 : tie.Need-returns-3
 returns-3 c =
     let a = c .before .before .before .before .before .before .before .before .args in
     let g = c .before .before .before .before .before .before .before .before .pre in
-    field-kept (a .t .now) (a .book .now) (g .0) (a .k) (g .2) (a .es .now) (part (a .s .now) (a .at) (a .n)) (λ z. c .before .before .if1 .left (c .before .before .before .kind-of .ensures ∙ z)) _ (c .before .find-member .ensures) (g .1) (omega arith) _ refl
+    field-kept (a .t .now) (a .book .now) (g .0) (a .k) (g .2) (a .es .now) (part (a .s .now) (a .at) (a .n)) (λ z. c .before .before .if1 .left (c .before .before .before .kind-of .ensures ∙ z)) _ (c .before .find-member .ensures) (omega arith) _ refl
 
 pub find-field-spec : {M : Type 1} → statement M
 find-field-spec =

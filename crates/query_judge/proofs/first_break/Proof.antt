@@ -10,7 +10,7 @@ slice-aggregate-fill-entries : tie.Need-slice-aggregate-fill-entries
 slice-aggregate-fill-entries c = refl
 
 fill-entries-requires : tie.Need-fill-entries-requires
-fill-entries-requires c κs = record { booked = c .before .before .before .before .before .pre .2; cells = omega arith; few = framed-few _ (judge-accepted _ .0 (c .before .before .before .before .before .pre .1) .0) (c .before .before .before .before .before .pre .0) }
+fill-entries-requires c κs = record { booked = c .before .before .before .before .before .pre .2; few = framed-few _ _ (judge-accepted _ .0 (c .before .before .before .before .before .pre .1) .0) (c .before .before .before .before .before .pre .0) (omega (arith, c .before .before .before .before .before .pre .0)) }
 
 judge-entered-requires : tie.Need-judge-entered-requires
 judge-entered-requires c κs =

@@ -27,7 +27,7 @@ returns c = λ m x a. argument-none (c .before .before .before .before .before .
 entry-place-requires : tie.Need-entry-place-requires
 entry-place-requires c κs =
     let w = c .before .before .before .before .before .before .before .before .before .pre .0 in
-    argument-stands (c .before .before .before .before .before .before .before .before .before .args .t .now) (c .before .before .before .before .before .before .before .before .before .args .book .now) (c .before .before .before .before .before .before .before .before .before .args .es .now) (nameOf (docOf (c .before .before .before .before .before .before .before .before .before .args .s .now) (c .before .before .before .before .before .before .before .before .before .args .rows .now) (c .before .before .before .before .before .before .before .before .before .args .n)) (c .before .before .before .before .before .before .before .before .before .args .i)) (w .member .arguments) _ (hit (c .before) (w .member) (w .is)) (w .cells) (omega arith)
+    argument-stands (c .before .before .before .before .before .before .before .before .before .args .t .now) (c .before .before .before .before .before .before .before .before .before .args .book .now) (c .before .before .before .before .before .before .before .before .before .args .es .now) (nameOf (docOf (c .before .before .before .before .before .before .before .before .before .args .s .now) (c .before .before .before .before .before .before .before .before .before .args .rows .now) (c .before .before .before .before .before .before .before .before .before .args .n)) (c .before .before .before .before .before .before .before .before .before .args .i)) (w .member .arguments) _ (hit (c .before) (w .member) (w .is)) (omega arith)
 
 returns-2 : tie.Need-returns-2
 returns-2 c = λ m x a. argument-kept (c .before .before .before .before .before .before .before .before .before .before .args .t .now) (c .before .before .before .before .before .before .before .before .before .before .args .book .now) (c .before .before .before .before .before .before .before .before .before .before .args .es .now) (nameOf (docOf (c .before .before .before .before .before .before .before .before .before .before .args .s .now) (c .before .before .before .before .before .before .before .before .before .before .args .rows .now) (c .before .before .before .before .before .before .before .before .before .before .args .n)) (c .before .before .before .before .before .before .before .before .before .before .args .i)) (m .arguments) _ (hit (c .before .before) m x) (c .entry-place .result) a (omega arith) (c .entry-place .ensures)

@@ -46,7 +46,7 @@ cast-type-of c = omega (arith, c .before .before .before .before .before .before
 type-of-requires : tie.Need-type-of-requires
 type-of-requires c κs =
     let w = c .before .before .before .before .before .before .before .before .before .before .before .before .before .pre .1 (omega (arith, c .before .before .before .before .before .before .before .if1 .left, c .before .if3 .left)) .stands in
-    (w .cells, w .most)
+    w .most
 
 is-called-requires-2 : tie.Need-is-called-requires-2
 is-called-requires-2 c κs = (c .before .before .before .before .before .before .before .before .before .before .before .before .before .before .pre .0, typed c .within)

@@ -7,7 +7,8 @@ use Rattle.paper_table.specs.Types.{Argument}
 use lib.ListN.{length}
 use Rattle.table_members.specs.Members.{argumentsIn, NextArgument}
 use Rattle.table_members.specs.declared.FieldFound.the-variants.{Found}
-use Rattle.table_entries.specs.Entries.{roomEntries, ArgumentEntry}
+use Rattle.table_entries.specs.Entries.{Roomy, ArgumentEntry}
+use Rattle.table_entries.proofs.Runs.{roomy-less, roomy-same}
 use Rattle.table_entries.proofs.Writes.{Filling, filling-start, filling-end, filling-more, arguments-keep, argument-entered}
 use native.Mathlib.Omega.{arith}
 use Rattle.table_entries.proofs.enter_arguments.Statement.{statement}
@@ -26,8 +27,8 @@ found c = subst (NextArgument (c .before .before .before .before .before .before
 one-less : (c : tie.After-start Inv-loop μ-loop) → c .before .before .before .loop .k + length (argumentsIn (c .before .before .before .before .before .before .before .args .t .now) (c .before .before .before .loop .i) (c .before .before .before .before .before .before .before .args .end)) ≡ c .before .before .before .loop .k + 1 + length (argumentsIn (c .before .before .before .before .before .before .before .args .t .now) (c .start .given .0 .1 .1 .0) (c .before .before .before .before .before .before .before .args .end))
 one-less c = let q = ap (λ (xs : List Argument). length xs) (found c .all-are) in omega (arith, q)
 
-roomy : (c : tie.After-start Inv-loop μ-loop) → c .before .before .before .loop .k + 1 ≤ roomEntries
-roomy c = omega (arith, one-less c, c .before .before .before .loop .inv .1 .size, c .before .before .before .before .before .before .before .pre .3)
+roomy : (c : tie.After-start Inv-loop μ-loop) → Roomy (c .before .before .before .before .before .before .before .args .es .now) (c .before .before .before .loop .k + 1)
+roomy c = roomy-less (c .before .before .before .before .before .before .before .pre .2) (omega (arith, one-less c, c .before .before .before .loop .inv .1 .size))
 
 loop-holds : tie.Need-loop-holds Inv-loop μ-loop
 loop-holds c = (c .before .before .before .pre .0 .order, filling-start _ _ _ _ _)
@@ -44,16 +45,16 @@ returns c =
     filling-end _ _ _ _ _ _ _ _ (c .before .before .before .loop .inv .1) refl (subst (NextArgument (a .t .now) (c .before .before .before .loop .i) (a .end)) (c .enum-told .given .1) (c .before .before .next-argument .ensures))
 
 add-enter : tie.Need-add-enter Inv-loop μ-loop
-add-enter c = omega (arith, roomy (c .before .before))
+add-enter c = omega (arith, roomy (c .before .before) .most)
 
 enter-requires : tie.Need-enter-requires Inv-loop μ-loop
 enter-requires c κs =
     let f = found (c .before .before) in
     let p = c .before .before .before .before .before .before .before .before .before .pre in
-    (record { order = f .lies .order; within = omega (arith, f .lies .within, p .0 .within); most = p .0 .most }, p .1, omega (arith, c .before .before .before .before .before .loop .inv .1 .cells, p .2), omega (arith, roomy (c .before .before)), roomy (c .before .before))
+    (record { order = f .lies .order; within = omega (arith, f .lies .within, p .0 .within); most = p .0 .most }, p .1, roomy-same (roomy (c .before .before)) (omega arith) (c .before .before .before .before .before .loop .inv .1 .cells), roomy (c .before .before) .most)
 
 add-k : tie.Need-add-k Inv-loop μ-loop
-add-k c = omega (arith, roomy (c .before .before .before .before .before))
+add-k c = omega (arith, roomy (c .before .before .before .before .before) .most)
 
 loop-less : tie.Need-loop-less Inv-loop μ-loop
 loop-less c = let f = found (c .before .before .before .before .before) in omega (arith, f .lies .begins, f .lies .order, f .lies .within)

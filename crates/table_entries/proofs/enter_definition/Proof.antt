@@ -3,6 +3,7 @@ use mathlib.Core.Path.{ap, _∙_}
 use Rattle.table_types.specs.Booked.{definitionOn}
 use Rattle.table_types.proofs.Entries.{bounds-entered, members-entered}
 use Rattle.table_entries.specs.Entries.{entriesOf}
+use Rattle.table_entries.proofs.Runs.{roomy-less}
 use Rattle.table_entries.proofs.Spans.{typed-is, none-written, some-entries, some-written}
 use borrow.Author.Tests.{not-true, not-false}
 use native.Mathlib.Omega.{arith}
@@ -24,7 +25,7 @@ enter-members-requires c κs =
     let e = c .before .end-of .ensures in
     let q = typed-is (a .t .now) (a .book .now) (p .0) (a .i) (p .1) (c .before .before .before .before .before .kind-of .ensures) (c .before .before .before .before .has-types .ensures) ∙ not-false _ (c .before .before .before .if1 .left) in
     let m = members-entered (a .t .now) (a .book .now) (p .0) (a .i) (p .1) _ _ s e in
-    (bounds-entered (a .t .now) (a .book .now) (p .0) (a .i) (p .1) _ _ s e, p .0, p .2, omega (arith, some-entries (definitionOn (a .t .now) (a .i)) q, ap entriesOf m, p .3))
+    (bounds-entered (a .t .now) (a .book .now) (p .0) (a .i) (p .1) _ _ s e, p .0, roomy-less (p .2) (omega (arith, some-entries (definitionOn (a .t .now) (a .i)) q, ap entriesOf m)))
 
 returns-2 : tie.Need-returns-2
 returns-2 c =

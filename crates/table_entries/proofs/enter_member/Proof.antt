@@ -4,6 +4,7 @@ use mathlib.Core.List.{List}
 use lib.ListN.{length}
 use Rattle.paper_table.specs.Types.{Argument}
 use Rattle.table_members.specs.Members.{memberFrom}
+use Rattle.table_entries.proofs.Runs.{roomy-less, roomy-same}
 use Rattle.table_entries.proofs.Writes.{member-written}
 use native.Mathlib.Omega.{arith}
 use borrow.Author.Needs.{needs}
@@ -14,14 +15,14 @@ enter-arguments-requires : tie.Need-enter-arguments-requires
 enter-arguments-requires c κs =
     let p = c .before .before .before .before .before .pre in
     let f = c .before .read-header .ensures .arguments in
-    (record { order = f .order; within = p .0 .within; most = p .0 .most }, p .1, p .2, omega (arith, ap (λ (xs : List Argument). length xs) (f .are), p .3))
+    (record { order = f .order; within = p .0 .within; most = p .0 .most }, p .1, roomy-less (p .2) (omega (arith, ap (λ (xs : List Argument). length xs) (f .are))))
 
 enter-header-requires : tie.Need-enter-header-requires
 enter-header-requires c κs =
     let p = c .before .before .before .before .before .before .before .before .before .pre in
     let h = c .before .before .before .before .before .read-header .ensures in
     let w = c .before .before .before .enter-arguments .ensures in
-    (p .1, omega (arith, w .cells, p .2), omega (arith, p .3), omega (arith, w .size, ap (λ (xs : List Argument). length xs) (h .arguments .are), p .3), h .named .within, h .typed .within, omega (arith, h .typed .packs))
+    (p .1, roomy-same (p .2) (omega arith) (w .cells), omega (arith, w .size, ap (λ (xs : List Argument). length xs) (h .arguments .are), p .2 .most), h .named .within, h .typed .within, omega (arith, h .typed .packs))
 
 returns : tie.Need-returns
 returns c =

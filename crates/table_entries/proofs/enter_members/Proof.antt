@@ -6,6 +6,7 @@ use lib.ListN.{length}
 use Rattle.table_members.specs.Members.{membersIn, memberFrom, NextMember}
 use Rattle.table_members.specs.declared.FieldFound.the-variants.{Found}
 use Rattle.table_entries.specs.Entries.{entriesOf, MemberEntry}
+use Rattle.table_entries.proofs.Runs.{roomy-same}
 use Rattle.table_entries.proofs.Writes.{Filling, filling-start, filling-end, filling-more, members-keep}
 use native.Mathlib.Omega.{arith}
 use Rattle.table_entries.proofs.enter_members.Statement.{statement}
@@ -42,7 +43,7 @@ enter-member-requires : tie.Need-enter-member-requires Inv-loop μ-loop
 enter-member-requires c κs =
     let f = found (c .before .before) in
     let p = c .before .before .before .before .before .before .before .before .before .pre in
-    (record { order = f .lies .order; within = omega (arith, f .lies .within, p .0 .within); most = p .0 .most }, p .1, omega (arith, c .before .before .before .before .before .loop .inv .1 .cells, p .2), omega (arith, one-less (c .before .before), c .before .before .before .before .before .loop .inv .1 .size, p .3))
+    (record { order = f .lies .order; within = omega (arith, f .lies .within, p .0 .within); most = p .0 .most }, p .1, roomy-same (p .2) (omega (arith, one-less (c .before .before), c .before .before .before .before .before .loop .inv .1 .size)) (c .before .before .before .before .before .loop .inv .1 .cells))
 
 loop-less : tie.Need-loop-less Inv-loop μ-loop
 loop-less c = let f = found (c .before .before .before .before .before) in omega (arith, f .lies .begins, f .lies .order, f .lies .within)

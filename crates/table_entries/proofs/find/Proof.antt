@@ -4,6 +4,7 @@ use mathlib.Core.Path.{_∙_}
 use native.Mathlib.Omega.{arith}
 use Prim.Native.Nat.{_-_}
 use Rattle.table_book.specs.Book.{part}
+use Rattle.table_entries.proofs.Runs.{roomy-less}
 use Rattle.table_entries.proofs.Looks.{Looking, looking-start, looking-end, looking-less, name-stands, looking-here, looking-on}
 use Rattle.table_entries.proofs.find.Statement.{statement}
 use Rattle.table_entries.proofs.find.Tie as tie
@@ -23,13 +24,13 @@ loop-holds c = looking-start _ _ _ _ _ _ (c .before .before .before .before .bef
 is-named-requires : tie.Need-is-named-requires Inv-loop μ-loop
 is-named-requires c κs =
     let p = c .before .before .before .before .before .before .before .before .pre in
-    (name-stands _ _ _ _ _ _ _ (c .before .loop .inv) (c .loop-test .taken) (p .0 .cells) (p .0 .most), p .1, c .before .before .wide .ensures ∙ c .before .before .before .key-of .ensures)
+    (name-stands _ _ _ _ _ _ _ (c .before .loop .inv) (c .loop-test .taken) (p .0 .most), p .1, c .before .before .wide .ensures ∙ c .before .before .before .key-of .ensures)
 
 returns : tie.Need-returns Inv-loop μ-loop
-returns c = looking-here _ _ _ _ _ _ _ (c .before .before .before .loop .inv) (c .before .before .loop-test .taken) (c .before .is-named .ensures) (c .if1 .taken)
+returns c = looking-here _ _ _ _ _ _ _ (c .before .before .before .loop .inv) (c .before .before .loop-test .taken) (c .before .before .before .before .before .before .before .before .before .before .pre .0 .most) (c .before .is-named .ensures) (c .if1 .taken)
 
 cell-of-requires : tie.Need-cell-of-requires Inv-loop μ-loop
-cell-of-requires c κs = let p = c .before .before .before .before .before .before .before .before .before .before .pre in (p .0 .cells, omega (arith, c .before .before .loop-test .taken, p .0 .most), omega arith)
+cell-of-requires c κs = let p = c .before .before .before .before .before .before .before .before .before .before .pre in (roomy-less (p .0 .most) (omega (arith, c .before .before .loop-test .taken)), omega arith)
 
 loop-less : tie.Need-loop-less Inv-loop μ-loop
 loop-less c = let n = looking-less _ _ _ _ _ _ _ (c .before .before .before .before .loop .inv) (c .before .before .before .loop-test .taken) in omega (arith, n .0, n .1, c .cell-of .ensures)

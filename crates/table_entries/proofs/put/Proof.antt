@@ -32,7 +32,7 @@ same-length : tie.Need-same-length
 same-length c = stored-length (c .args .es .now) (entryAt (c .args .e)) 0 (_ ∷ _ ∷ _ ∷ _ ∷ _ ∷ _ ∷ _ ∷ _ ∷ [])
 
 returns : tie.Need-returns
-returns c = let a = c .args in put-is (a .es .now) (a .e) (c .pre .0) (c .pre .1) (a .key) (a .name) (a .size) (a .base) (a .extent) (a .wrappers) (a .next) (a .meant)
+returns c = let a = c .args in put-is (a .es .now) (a .e) (c .pre .0) (a .key) (a .name) (a .size) (a .base) (a .extent) (a .wrappers) (a .next) (a .meant)
 
 pub put-spec : {M : Type 1} → statement M
 put-spec =
