@@ -9,10 +9,12 @@ use native.Mathlib.Decide.{decLt}
 use native.Mathlib.Omega.{arith}
 use lib.ListN.{List·getD-eq-default}
 use borrow.Author.Tests.{lt-ltb, le-ltb}
-use Rattle.paper_table.specs.Types.{Definition, Meaning, builtIn, noMeaning, definition, meaning, tableOf, blankDefinition, tagNothing, isComposite}
+use Rattle.paper_table.specs.Types.{Definition, Meaning, builtIn, noMeaning, definition, meaning, tableOf, typeNamed, isBuiltIn, blankDefinition, tagNothing, isComposite}
+use Rattle.paper_table.specs.Lists.{firstAt}
 use Rattle.paper_query.specs.Enclosing.{definitionAt, ifComposite, compositeOf}
 use Rattle.table_book.specs.Book.{countIn, room}
 use Rattle.table_types.specs.Booked.{Booked, spoken, kindIn, isCompositeTag}
+use Rattle.table_types.proofs.Meanings.{means-definition, means-nothing}
 use Rattle.query_types.specs.Coded.{typeCoded}
 
 module _ (t book : List ℕ) (b : Booked t book) where
@@ -65,3 +67,16 @@ module _ (t n : List ℕ) where
   pub composite-by : (k : Meaning) {r : Option ℕ} → spoken k ≡ spoken (meaning (tableOf t) n) → r ≡ ifComposite (tableOf t) k → r ≡ compositeOf (tableOf t) n
   unfolding compositeOf
   composite-by k e f = f ∙ ap (ifComposite (tableOf t)) (sym (means (meaning (tableOf t) n) k e))
+
+-- by the number of the first type of a name, which is no built-in scalar's
+pub composite-first : (t book : List ℕ) → Booked t book → (n : List ℕ) {k : ℕ} {r : Option ℕ} → k ≡ firstAt (typeNamed n) (tableOf t) → isBuiltIn n ≡ false
+    → r ≡ ifComposite (tableOf t) (definition k) → r ≡ compositeOf (tableOf t) n
+composite-first t book b n {k} {r} e q f = go (decLt k (countIn book))
+  where
+    go : Dec (k < countIn book) → r ≡ compositeOf (tableOf t) n
+    go (yes h) = composite-by t n (definition k) (means-definition t book b n e q h) f
+    go (no h) =
+        let l : countIn book ≤ k = omega arith in
+        let o : definitionAt (tableOf t) k ≡ blankDefinition tagNothing = List·getD-eq-default (tableOf t) (blankDefinition tagNothing) (omega (arith, b .count)) in
+        let z : ifComposite (tableOf t) (definition k) ≡ none = rw o in
+        composite-by t n noMeaning (means-nothing t book b n e q l) (f ∙ z)

@@ -10,11 +10,11 @@ ghost use Rattle.table_book.specs.Book.{part};
 ghost use Rattle.table_types.specs.Booked.{Booked};
 ghost use Rattle.query_types.specs.Coded.{typeCoded};
 
-// no type
-pub const NO_TYPE: u32 = 0;
+// the code of no type
+pub const NO_TYPE: u32 = table_types::NO_TYPE;
 
 // The type that is definition k, if it is an object, interface or union.
-fn if_composite(t: &[u8], book: &[u32], k: usize) -> u32
+pub fn if_composite(t: &[u8], book: &[u32], k: usize) -> u32
     requires { ⌜ Booked (now t) (now book) ⌝ }
     ensures { λ r. ⌜ typeCoded r ≡ ifComposite (tableOf (now (t .entry))) (definition k) ⌝ }
 {
