@@ -121,6 +121,7 @@ extern "C" {
 #define GW_EXTRA_TRUE 1
 #define GW_WRAP_LIST 1
 #define GW_WRAP_NON_NULL 2
+#define GW_WRAP_BASE 4     /* the outermost wrapper is extra % GW_WRAP_BASE, those inside it extra / GW_WRAP_BASE */
 
 /* Reads a document.
 

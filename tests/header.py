@@ -3,7 +3,7 @@
 crates/paper_plan: each number of the one is in the other, with GW_ before its name, a query rule with GW_QUERY_, the tag of a coerced
 value with GW_VALUE_.
 
-The header alone names the columns of a row, a step and a pair, the places of a plan and the stack of a call.
+The header alone names the columns of a row, a step and a pair, and the stack of a call.
 """
 import pathlib
 import re
@@ -15,9 +15,7 @@ NUMBER = r'^pub const (\w+): \w+ = (\d+);'
 VALUES = {'TAG_ENUM_NAME': 'VALUE_ENUM', 'TAG_INPUT': 'VALUE_OBJECT', 'TAG_PAIR': 'VALUE_ENTRY', 'TAG_OWN': 'VALUE_OWN_SCALAR'}
 COLUMNS = 'ROW_KIND ROW_START ROW_END ROW_PARENT ROW_NAME_START ROW_NAME_LENGTH ROW_EXTRA'.split()
 # of plans and walks: what the header may have alone
-PLANS = {'PLAN_SIZE': 14338, 'MOST_BLOCKS': 2048, 'MOST_STEPS': 4096, 'REFUSE_TOO_MANY_STEPS': 13, 'PLAN_BLOCKS': 0, 'PLAN_STEPS': 1,
-         'PLAN_FIRSTS': 2, 'PLAN_STEP_0': 2050, 'STEP_SIZE': 3, 'STEP_KIND': 0, 'STEP_FIRST': 1, 'STEP_SECOND': 2, 'STEP_IF_TRUE': 1,
-         'STEP_UNLESS_TRUE': 2, 'STEP_UNLESS_APPLIES': 3, 'STEP_IF_MET': 4, 'STEP_LIST': 5, 'PAIR_SIZE': 2, 'PAIR_KEY': 0, 'PAIR_ROW': 1}
+PLANS = {'STEP_KIND': 0, 'STEP_FIRST': 1, 'STEP_SECOND': 2, 'PAIR_SIZE': 2, 'PAIR_KEY': 0, 'PAIR_ROW': 1}
 
 
 def numbers(path, pattern):
@@ -33,8 +31,9 @@ def main():
     for name, number in numbers('crates/paper_values/src/lib.rt', NUMBER).items():
         code[VALUES.get(name, name.replace('TAG_', 'VALUE_'))] = number
     code.update(numbers('crates/paper_plan/src/lib.rt', NUMBER))
-    # the records' tags as 32-bit numbers are the tags
-    code = {name: number for name, number in code.items() if not (name.startswith('RECORD_') and code[name.replace('RECORD_', 'TAG_')] == number)}
+    # the records' tags as 32-bit numbers are the tags, and the tests of the planner's table as 16-bit numbers are steps
+    for one, other in (('RECORD_', 'TAG_'), ('TEST_', 'STEP_')):
+        code = {name: number for name, number in code.items() if not (name.startswith(one) and code[name.replace(one, other)] == number)}
     header = numbers('include/gateway.h', r'^#define GW_(\w+) (\d+)\b')
     code.update({name: number for name, number in PLANS.items() if name not in code})
     for call in ('PARSE', 'CHECK_TABLE', 'CHECK', 'COERCE_VARIABLES', 'COERCE_ARGUMENTS', 'PLAN', 'WALK'):

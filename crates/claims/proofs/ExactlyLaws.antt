@@ -78,6 +78,14 @@ module _ {document rows report rows′ report′ : List ℕ} where
       (reportSize ≤ length report) × (rowsSize ≤ length rows) × (length document ≤ mostText) × ((r : Refusal) × NoRows document r × (a ≡ numberOf r) × (report′ ≡ tells r report))
   parse-told = to-refused
 
+  -- 1 and 2: the sizes are tested in this order, and the rows are left as they were
+  pub parse-short-rows : {a : ℕ} → Parsed document rows report rows′ report′ a → reportSize ≤ length report → length rows < rowsSize → (a ≡ 1) × (rows′ ≡ rows) × (report′ ≡ tells Buffer report)
+  parse-short-rows c h w = parsed-one c (short-rows h w refl refl)
+
+  pub parse-over-length : {a : ℕ} → Parsed document rows report rows′ report′ a → reportSize ≤ length report → rowsSize ≤ length rows → mostText < length document →
+      (a ≡ 2) × (rows′ ≡ rows) × (report′ ≡ tells (OverLength inputDocument) report)
+  parse-over-length c h w m = parsed-one c (over-length h w m refl refl)
+
 -- ---- gw_check_table
 module _ {table report report′ : List ℕ} where
   to-accepted : {a : ℕ} → Checked table report report′ a → a ≡ 0 → (reportSize ≤ length report) × (length table ≤ mostTable) × (framingOffset table ≡ none) × (countsOffset table ≡ none) × (breaks (tableOf table) ≡ [])

@@ -92,7 +92,7 @@ reaches-meets = reaches-met.met
 pub circles-meets : {M : Type 1} → circles.statement M
 circles-meets = circles-met.met
 
--- `query_inside::enclose` keeps the type inside each row and what each field is (`inside`, `fieldAt`); `query_places::places` the type due at each argument,
+-- `query_inside::enclose` keeps the type inside each row and what each field is (`typeInside`, `fieldAt`); `query_places::places` the type due at each argument,
 -- object field and value (`place`).
 pub enclose-meets : {M : Type 1} → enclose.statement M
 enclose-meets = enclose-met.met

@@ -19,7 +19,7 @@ use Rattle.paper.specs.Reading.{tokensOf, classesOf, placeOf, EndsWell, Reads, 
 use Rattle.paper.specs.Refusals.{numberOf, shownInText}
 use Rattle.paper.specs.Calls.{Parsed, filled, tells}
 use Rattle.paper.specs.declared.Refusal.{Refusal}
-use Rattle.paper.specs.declared.Refusal.the-variants.{NoToken, NoGoing, TooDeep, TooManyRows, TooMany}
+use Rattle.paper.specs.declared.Refusal.the-variants.{Buffer, OverLength, NoToken, NoGoing, TooDeep, TooManyRows, TooMany}
 use Rattle.paper_table.specs.TableSizes.{countsOffset}
 use Rattle.paper_table.specs.Judging.{notAfter, tableAnswer}
 use Rattle.paper_query.specs.Constructs.{noRow}
@@ -119,6 +119,15 @@ accepted-exactly = fits.fits-exactly
 pub parse-accepted-exactly : {document rows report rows′ report′ : List ℕ} {a : ℕ} → Parsed document rows report rows′ report′ a →
     (a ≡ 0) ↔ ((reportSize ≤ length report) × (rowsSize ≤ length rows) × (length document ≤ mostText) × ((rs : List Row) × ((t : Text) × Tokens 0 document t × TextAnswer Document t (rows-are rs))))
 parse-accepted-exactly = exactly.parsed-exactly
+
+-- 1 for rows that are too short, in a report that is long enough; 2 for a document that is too long, in buffers that are: told with what they show, the rows as they were.
+pub parse-short-rows-told : {document rows report rows′ report′ : List ℕ} {a : ℕ} → Parsed document rows report rows′ report′ a → reportSize ≤ length report → length rows < rowsSize →
+    (a ≡ 1) × (rows′ ≡ rows) × (report′ ≡ tells Buffer report)
+parse-short-rows-told = exactly.parse-short-rows
+
+pub parse-over-length-told : {document rows report rows′ report′ : List ℕ} {a : ℕ} → Parsed document rows report rows′ report′ a →
+    reportSize ≤ length report → rowsSize ≤ length rows → mostText < length document → (a ≡ 2) × (rows′ ≡ rows) × (report′ ≡ tells (OverLength inputDocument) report)
+parse-over-length-told = exactly.parse-over-length
 
 -- 3 to 6 and 8, with their offset, exactly when the text is refused so: what is said of the text is told, and every answer above 2 is said of the text.
 pub parse-refusal-told : {document rows report rows′ report′ : List ℕ} {a : ℕ} → Parsed document rows report rows′ report′ a →
@@ -223,7 +232,7 @@ document-shows = variables.document-shown
 pub variables-text-meets : {M : Type 1} → variables-text.statement M
 variables-text-meets = variables-text-met.met
 
--- That contract says what `Said VariablesText` does: the rows and their count, or the refusal.
+-- That contract says what `TextAnswer VariablesText` does: the rows and their count, or the refusal.
 pub variables-text-reads : (s rows rows′ : List ℕ) (d : Cursor) → length rows ≡ rowsSize → Ended VariablesText s rows rows′ (Done d) →
     (t : Text) × (rs : List Row) × Tokens 0 s t × TextAnswer VariablesText t (rows-are rs) × (d .rows ≡ length rs) × (length rs ≤ mostRows) × (take (rowSize * length rs) rows′ ≡ flat rs)
 variables-text-reads = variables.variables-read

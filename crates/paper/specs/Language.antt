@@ -1,6 +1,8 @@
 -- The language of documents: the productions of the draft, sections 2.2 to 2.12, part by part.
 -- States: source document 002. `X?` is X or nothing, `X+` one X or more, `X*` none or more; `t c` is the terminal that is a token of class c.
 -- The marks stand for 01, "Rows": they take no token, and say where a row begins and ends, and what is its kind, extra and name.
+-- The productions are the draft's as they stand; none is left-factored here. The machine that the proofs run reads them left-factored, in seven parts: Selection,
+-- Field, ListValue, ObjectValue, ConstListValue, ConstObjectValue, TypeRef (`changed` in proofs/Tables). Both are proved to be one language (`SameLanguage` in crate `paper_theory`).
 -- Assumes nothing.
 use mathlib.Core.Bool.{Bool, true, false, _&&_, _||_, not}
 use mathlib.Core.List.{List, [], _∷_}
@@ -170,7 +172,7 @@ language ConstObjectValue = (t braceL ∷ t braceR ∷ []) ∷ (t braceL ∷ nt 
 language ConstObjectField+ = (nt ConstObjectField ∷ nt ConstObjectField* ∷ []) ∷ []
 language ConstObjectField* = [] ∷ (nt ConstObjectField ∷ nt ConstObjectField* ∷ []) ∷ []
 language ConstObjectField = (act row ∷ act (kind kindObjectField 0) ∷ act named ∷ nt Name ∷ t colon ∷ nt ConstValue ∷ act end ∷ []) ∷ []
--- 2.9.5 Enum value
+-- 2.9.6 Enum value
 language EnumValue = (tm nameButLiteral ∷ []) ∷ []
 -- 2.10 Variables
 language VariableDefinitions? = [] ∷ (nt VariableDefinitions ∷ []) ∷ []

@@ -148,3 +148,6 @@ wrapList = 1
 
 abbrev pub wrapNonNull : ℕ
 wrapNonNull = 2
+
+abbrev pub wrapBase : ℕ
+wrapBase = 4

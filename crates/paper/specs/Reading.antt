@@ -97,7 +97,7 @@ pub data Answer : Type 0 where
   rows-are : List Row → Answer
   refuses : Refusal → Answer
 
--- `Said n t a`: a is what is said of the text t, read as a text of the part n. The rows are those of its derivation, where it has one and no
+-- `TextAnswer n t a`: a is what is said of the text t, read as a text of the part n. The rows are those of its derivation, where it has one and no
 -- fault; or the refusal is the least of its faults
 pub data TextAnswer (n : Part) (t : Text) : Answer → Type 0 where
   accepts : {es : List (Ev Class Mark)} → EndsWell t → Reads n (classesOf t) es → ((r : Refusal) → Fault n t r → ⊥) → TextAnswer n t (rows-are (rowsOf es (tokensOf t)))

@@ -34,17 +34,17 @@ abbrev pub orElse : Bool → Class → Class → Class
 orElse true a b = a
 orElse false a b = b
 
--- query, mutation, subscription, fragment, on, true, false, null
+-- the class of a name, by its bytes in ASCII
 abbrev pub nameClass : List ℕ → Class
 nameClass w =
-    orElse (same w (113 ∷ 117 ∷ 101 ∷ 114 ∷ 121 ∷ [])) n-query
-    (orElse (same w (109 ∷ 117 ∷ 116 ∷ 97 ∷ 116 ∷ 105 ∷ 111 ∷ 110 ∷ [])) n-mutation
-    (orElse (same w (115 ∷ 117 ∷ 98 ∷ 115 ∷ 99 ∷ 114 ∷ 105 ∷ 112 ∷ 116 ∷ 105 ∷ 111 ∷ 110 ∷ [])) n-subscription
-    (orElse (same w (102 ∷ 114 ∷ 97 ∷ 103 ∷ 109 ∷ 101 ∷ 110 ∷ 116 ∷ [])) n-fragment
-    (orElse (same w (111 ∷ 110 ∷ [])) n-on
-    (orElse (same w (116 ∷ 114 ∷ 117 ∷ 101 ∷ [])) n-true
-    (orElse (same w (102 ∷ 97 ∷ 108 ∷ 115 ∷ 101 ∷ [])) n-false
-    (orElse (same w (110 ∷ 117 ∷ 108 ∷ 108 ∷ [])) n-null n-other)))))))
+    orElse (same w (113 ∷ 117 ∷ 101 ∷ 114 ∷ 121 ∷ [])) n-query  -- query
+    (orElse (same w (109 ∷ 117 ∷ 116 ∷ 97 ∷ 116 ∷ 105 ∷ 111 ∷ 110 ∷ [])) n-mutation  -- mutation
+    (orElse (same w (115 ∷ 117 ∷ 98 ∷ 115 ∷ 99 ∷ 114 ∷ 105 ∷ 112 ∷ 116 ∷ 105 ∷ 111 ∷ 110 ∷ [])) n-subscription  -- subscription
+    (orElse (same w (102 ∷ 114 ∷ 97 ∷ 103 ∷ 109 ∷ 101 ∷ 110 ∷ 116 ∷ [])) n-fragment  -- fragment
+    (orElse (same w (111 ∷ 110 ∷ [])) n-on  -- on
+    (orElse (same w (116 ∷ 114 ∷ 117 ∷ 101 ∷ [])) n-true  -- true
+    (orElse (same w (102 ∷ 97 ∷ 108 ∷ 115 ∷ 101 ∷ [])) n-false  -- false
+    (orElse (same w (110 ∷ 117 ∷ 108 ∷ 108 ∷ [])) n-null n-other)))))))  -- null
 
 -- a token's class: that of its piece, but for a name that of its bytes w
 abbrev pub classed : Class → List ℕ → Class
@@ -71,7 +71,7 @@ pub record Longest (bs p : List ℕ) (w : What) : Type 0 where
   pub what : whatOf events ≡ w
   pub most : (q : List ℕ) (fs : List (Ev ℕ What)) → Starts bs q fs → length q ≤ length p
 
--- a comment goes to the end of its line
+-- a comment goes to the end of its line: before a newline (10) or a carriage return (13)
 abbrev pub lineEnd : List ℕ → Bool
 lineEnd [] = true
 lineEnd (b ∷ bs) = eqb b 10 || eqb b 13

@@ -96,10 +96,12 @@ pub const EXTRA_FALSE: u32 = 0;
 
 pub const EXTRA_TRUE: u32 = 1;
 
-// a wrapper's two bits in a type reference's extra
+// a wrapper's two bits in a type reference's extra; the wrappers are packed from outside in, the outermost lowest
 pub const WRAP_LIST: u32 = 1;
 
 pub const WRAP_NON_NULL: u32 = 2;
+
+pub const WRAP_BASE: u32 = 4;
 
 // A refusal with what it shows, the column "Shown".
 pub enum Refusal {

@@ -9,7 +9,7 @@ use borrow.Author.Tests.{ltb-true, ltb-false, eqb-true, eqb-false, lt-ltb, eq-eq
 use Rattle.paper_table.specs.Lists.{onlyIf}
 use Rattle.paper_table.specs.Judging.{notAfter}
 
--- what the test `before` decides
+-- what the test `notAfter` decides
 pub data Before : List ℕ → List ℕ → Type 0 where
   empty : {ys : List ℕ} → Before [] ys
   less : {x y : ℕ} {xs ys : List ℕ} → x < y → Before (x ∷ xs) (y ∷ ys)

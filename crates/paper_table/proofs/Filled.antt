@@ -1,4 +1,4 @@
--- A holder is right exactly where its fields fill its slots one after the other: what `inOrder` and `lacks` say together.
+-- A holder is right exactly where its fields fill its slots one after the other: what `inOrder` and `lacksHouseField` say together.
 use mathlib.Core.Path.{_≡_, refl, sym, ap, subst, _∙_}
 use mathlib.Core.Bool.{Bool, true, false, not, _&&_, _||_, cond, true≢false, false≢true}
 use mathlib.Core.List.{List, [], _∷_, _++_, cons≢nil}

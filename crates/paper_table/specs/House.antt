@@ -139,7 +139,7 @@ wrongs (suc d) at tag s = byContent (wrongs d) at s (contentOf tag)
 abbrev pub mostDeep : ℕ
 mostDeep = 4
 
--- "Records: 1 scalar .. 8 roots (at most one)", in any order; `query_roots` is whether an 8 may still come
+-- "Records: 1 scalar .. 8 roots (at most one)", in any order; `roots` is whether an 8 may still come
 abbrev pub recordInPlace : Bool → ℕ → Bool
 recordInPlace roots tag = leb tagScalar tag && leb tag tagRoots && (not (eqb tag tagRoots) || roots)
 

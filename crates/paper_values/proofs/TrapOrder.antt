@@ -59,7 +59,7 @@ abbrev lesserField : At → Due → Option (Ref → Out Tree) → Out Pairs → 
 lesserField i d none rest = missingDue i d rest
 lesserField i d (some f) rest = lesser (d .name) (f (d .type)) rest
 
--- `table_fields`, but that the least row is told
+-- `dueFields`, but that the least row is told
 abbrev pub leastRow : At → List Given → List Due → Out Pairs
 leastRow i gs [] = Got no-pairs
 leastRow i gs (d ∷ ds) = lesserField i d (entryOf (d .name) gs) (leastRow i gs ds)

@@ -3,9 +3,10 @@ use call_buffers::Sizes;
 use paper::ACCEPTED;
 use paper::ROWS_SIZE;
 use paper::Refusal;
+use paper_plan::PLAN_BLOCKS;
 use paper_plan::PLAN_SIZE;
 use paper_plan::REFUSE_TOO_MANY_STEPS;
-use plan_writing::TOO_MANY_STEPS;
+use plan_steps::TOO_MANY_STEPS;
 ghost use mathlib.Core.Path.{_≡_};
 ghost use Prim.Native.Nat.{suc, _≤_};
 ghost use lib.ListN.{length};
@@ -33,6 +34,6 @@ pub fn tell_made(plan: &mut [u32], report: &mut [u32], steps: usize) -> u32
         call_report::tell(report, REFUSE_TOO_MANY_STEPS, 0);
         return REFUSE_TOO_MANY_STEPS;
     }
-    call_report::tell_five(report, ACCEPTED, plan[0], steps as u32, 0, 0, 0);
+    call_report::tell_five(report, ACCEPTED, plan[PLAN_BLOCKS], steps as u32, 0, 0, 0);
     ACCEPTED
 }

@@ -1,7 +1,9 @@
 // Makes the plan of an operation of a document that was opened: links its rows, finds its blocks, fills the table, then writes the plan.
 // What is lent mutably is scratch but the plan. The document's rows stand in the plan's buffer until all is read off them.
 use paper::ROWS_SIZE;
+use plan_keys::BUCKETS;
 use plan_keys::number_keys;
+use plan_steps::ROW_CELLS;
 use plan_writing::write_plan;
 use query_links::FEW_ROWS;
 use query_links::FIRSTS;
@@ -25,12 +27,10 @@ ghost use Rattle.plan_tests.specs.Right.{TableTo};
 ghost use Rattle.plan_writing.specs.Writing.{Tables, Holders, Writes};
 ghost use Rattle.plan_making.specs.Made.{PlanMade, Asked, Room, Prepared};
 
-// How many buckets keys are in; how many numbers the table has, for few rows and for all.
-const BUCKETS: usize = 2048;
+// how many numbers the table has, for few rows and for all
+const FEW_CELLS: usize = ROW_CELLS * FEW_ROWS;
 
-const FEW_CELLS: usize = 3072;
-
-const CELLS: usize = 24576;
+const CELLS: usize = ROW_CELLS * ROWS;
 
 // Lists the rows of the blocks behind the operation's in `target`, and says how many there are.
 fn find_blocks(

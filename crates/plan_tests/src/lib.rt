@@ -3,11 +3,20 @@
 use paper::KIND_FIELD;
 use paper::KIND_SPREAD;
 use paper::KIND_TYPE_REFERENCE;
-use paper_plan::STEP_IF_MET;
-use paper_plan::STEP_IF_TRUE;
-use paper_plan::STEP_UNLESS_APPLIES;
-use paper_plan::STEP_UNLESS_TRUE;
+use paper_plan::TEST_IF_MET;
+use paper_plan::TEST_IF_TRUE;
+use paper_plan::TEST_UNLESS_APPLIES;
+use paper_plan::TEST_UNLESS_TRUE;
 use plan_conditions::If;
+use plan_steps::CELL_ABOVE;
+use plan_steps::CELL_BEHIND;
+use plan_steps::CELL_COUNT;
+use plan_steps::CELL_TESTS;
+use plan_steps::ROW_CELLS;
+use plan_steps::WHAT_DROPPED;
+use plan_steps::WHAT_FIELD;
+use plan_steps::WHAT_NESTED;
+use plan_steps::WHAT_NONE;
 use query_links::link_of;
 use query_rows::is_selection;
 use query_rows::kind_of;
@@ -33,34 +42,12 @@ ghost use Rattle.paper_plan.specs.Planning.{skipTests, includeTests, dropped};
 ghost use Rattle.paper_plan.specs.Selecting.{typeNumber, typeOn, typeIf, fragmentNumber, ifOf};
 ghost use Rattle.plan_tests.specs.Right.{rowCells, Given, Small, PutIf, skipDropsBy, includeDropsBy, dropsBy, spreadRow, inlineRow, TestsAre, RightRow, TableTo};
 
-// a row's numbers; where they stand: what the row is, its parent, its key or the row whose selections stand behind it, how many tests; the tests
-const ROW_CELLS: usize = 12;
-
-const CELL_WHAT: usize = 0;
-
-const CELL_ABOVE: usize = 1;
-
-const CELL_BEHIND: usize = 2;
-
-const CELL_COUNT: usize = 3;
-
-const CELL_TESTS: usize = 4;
-
-// what a row is: no selection, a field, a spread or an inline fragment, a dropped selection
-const WHAT_NONE: u16 = 0;
-
-const WHAT_FIELD: u16 = 1;
-
-const WHAT_NESTED: u16 = 2;
-
-const WHAT_DROPPED: u16 = 3;
-
 // Writes what a row is.
 fn put_head(row: &mut [u16], what: u16, above: u32, behind: u32, count: u32)
     requires { ⌜ (length (now row) ≡ rowCells) × (above ≤ mostRows) × (behind ≤ mostRows) × (count ≤ mostRows) ⌝ }
     ensures { λ _. ⌜ now (row .exit) ≡ sets (now (row .entry)) 0 (what ∷ above ∷ behind ∷ count ∷ []) ⌝ }
 {
-    row[CELL_WHAT] = what;
+    row[0] = what;
     row[CELL_ABOVE] = above as u16;
     row[CELL_BEHIND] = behind as u16;
     row[CELL_COUNT] = count as u16;
@@ -181,8 +168,8 @@ fn fill_spread(
     let f = query_rule_3::fragment_named(s, rows, n, firstk, nextk, i);
     let number = link_of(ranks, f);
     let type_number = type_on(t, book, s, rows, n, first, next, f);
-    put_test(row, m, STEP_IF_MET, number as u32);
-    put_test(row, m + 1, STEP_UNLESS_APPLIES, type_number);
+    put_test(row, m, TEST_IF_MET, number as u32);
+    put_test(row, m + 1, TEST_UNLESS_APPLIES, type_number);
     put_head(row, WHAT_NESTED, above, f as u32, (m + 2) as u32);
 }
 
@@ -209,7 +196,7 @@ fn fill_inline(
         return;
     }
     let type_number = type_named(t, book, s, rows, n, j);
-    put_test(row, m, STEP_UNLESS_APPLIES, type_number);
+    put_test(row, m, TEST_UNLESS_APPLIES, type_number);
     put_head(row, WHAT_NESTED, above, i as u32, (m + 1) as u32);
 }
 
@@ -293,8 +280,8 @@ fn fill_row(
         put_head(row, WHAT_DROPPED, parent_of(rows, n, i), 0, 0);
         return;
     }
-    let k = put_if(row, 0, STEP_IF_TRUE, skip);
-    let m = put_if(row, k, STEP_UNLESS_TRUE, include);
+    let k = put_if(row, 0, TEST_IF_TRUE, skip);
+    let m = put_if(row, k, TEST_UNLESS_TRUE, include);
     fill_kept(
         t,
         book,

@@ -1,5 +1,6 @@
 // May these numbers be walked: is the plan well-formed, with the blocks asked for, and is all else given that a walk asks for?
 use paper_plan::MOST_WALKED;
+use paper_plan::PLAN_BLOCKS;
 use paper_plan::VARIABLES_SIZE;
 use paper_table::TAG_OBJECT;
 ghost use mathlib.Core.Path.{_≡_};
@@ -26,7 +27,7 @@ fn all_known(p: &[u32], blocks: &[u32]) -> bool
     requires { ⌜ planSize ≤ length (now p) ⌝ }
     ensures { λ r. ⌜ Decides r (Known (now (p .entry)) (now (blocks .entry))) ⌝ }
 {
-    let n = p[0];
+    let n = p[PLAN_BLOCKS];
     let mut j = 0;
     while j < blocks.len() {
         if blocks[j] < n {

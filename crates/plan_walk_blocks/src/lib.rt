@@ -1,6 +1,10 @@
 // The walk over blocks with one set of marks, and the pairs grouped by key.
+use paper::MOST_FRAGMENTS;
+use paper_plan::PAIRS_SIZE;
+use paper_plan::PLAN_FIRSTS;
 use plan_walk_formed::end_of;
 use plan_walk_formed::number_at;
+use plan_walk_steps::TOO_MANY_PAIRS;
 use plan_walk_steps::walk_block;
 ghost use mathlib.Core.Path.{_≡_};
 ghost use mathlib.Core.List.{List, [], _++_};
@@ -11,6 +15,9 @@ ghost use Rattle.paper_plan.specs.PlanNumbers.{blocksIn};
 ghost use Rattle.plan_walk_steps.specs.Numbers.{Marks, Listed};
 ghost use Rattle.plan_walk_steps.proofs.TwoPass.{byKey};
 ghost use Rattle.plan_walk_blocks.specs.Answers.{Walkable, Room, Given, Walks, pairsFrom, keyIn, before, Emitted, Grouped, Answered};
+
+// how many fragments can be marked as met
+const MARKS: usize = MOST_FRAGMENTS as usize;
 
 // Walks block b.
 fn walk_one(
@@ -27,7 +34,7 @@ fn walk_one(
 {
     walk_block(
         p,
-        number_at(p, 2 + b),
+        number_at(p, PLAN_FIRSTS + b),
         end_of(p, b),
         vars,
         fits,
@@ -54,8 +61,8 @@ pub fn walk_blocks(
     while j < blocks.len() {
         let b = number_at(blocks, j);
         let m = walk_one(p, b, vars, fits, met, out, n);
-        if m == 513 {
-            return 513;
+        if m == TOO_MANY_PAIRS {
+            return TOO_MANY_PAIRS;
         }
         n = m;
         j += 1;
@@ -121,12 +128,12 @@ pub fn answer(p: &[u32], blocks: &[u32], vars: &[u8], fits: &[u8], out: &mut [u3
     requires { ⌜ Walkable (now p) × ((j : _) → j < length (now blocks) → getD (now blocks) j 0 < blocksIn (now p)) × (64 ≤ length (now vars)) × (256 ≤ length (now fits)) × (length (now out) ≡ 1024) ⌝ }
     ensures { λ r. ⌜ Answered (now (p .entry)) (now (blocks .entry)) (now (vars .entry)) (now (fits .entry)) (now (out .exit)) r ⌝ }
 {
-    let mut met = [0u8; 64];
-    let mut found = [0u32; 1024];
+    let mut met = [0u8; MARKS];
+    let mut found = [0u32; PAIRS_SIZE];
     let n = walk_blocks(p, blocks, vars, fits, &mut met, &mut found);
-    if n == 513 {
+    if n == TOO_MANY_PAIRS {
         call_buffers::clear(out, 0);
-        return 513;
+        return TOO_MANY_PAIRS;
     }
     group(&found, n, out);
     call_buffers::clear(out, 2 * n);

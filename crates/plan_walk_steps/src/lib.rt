@@ -1,4 +1,14 @@
 // The walk's inner loop, over the plan's numbers.
+use paper_plan::MOST_PAIRS;
+use paper_plan::PLAN_STEP_0;
+use paper_plan::PLAN_STEP_0_FIRST;
+use paper_plan::PLAN_STEP_0_SECOND;
+use paper_plan::STEP_IF_MET;
+use paper_plan::STEP_IF_TRUE;
+use paper_plan::STEP_LIST;
+use paper_plan::STEP_SIZE;
+use paper_plan::STEP_UNLESS_APPLIES;
+use paper_plan::STEP_UNLESS_TRUE;
 ghost use mathlib.Core.Path.{_≡_};
 ghost use mathlib.Core.List.{List};
 ghost use Prim.Native.Nat.{ℕ, _≤_, _<_};
@@ -6,18 +16,21 @@ ghost use lib.ListN.{length};
 ghost use Rattle.paper_plan.specs.Planning.{says};
 ghost use Rattle.plan_walk_steps.specs.Numbers.{testOf, isOne, Marks, Ready, Walked};
 
+// what is told of too many pairs
+pub const TOO_MANY_PAIRS: usize = MOST_PAIRS + 1;
+
 // Whether a step of kind 1 to 4 leaves.
 fn leaves(kind: u32, first: usize, vars: &[u8], fits: &[u8], met: &[u8]) -> bool
     requires { ⌜ (1 ≤ kind) × (kind ≤ 4) × (kind ≡ 3 → first < 256) × ((kind ≡ 3 → ⊥) → first < 64) × (64 ≤ length (now vars)) × (256 ≤ length (now fits)) × (64 ≤ length (now met)) ⌝ }
     ensures { λ r. ⌜ ((l : List ℕ) → Marks (now (met .entry)) l → r ≡ says (isOne (now (vars .entry))) (isOne (now (fits .entry))) (testOf kind first) l) ⌝ }
 {
-    if kind == 1 {
+    if kind == STEP_IF_TRUE {
         return vars[first] == 1;
     }
-    if kind == 2 {
+    if kind == STEP_UNLESS_TRUE {
         return vars[first] != 1;
     }
-    if kind == 3 {
+    if kind == STEP_UNLESS_APPLIES {
         return fits[first] != 1;
     }
     met[first] == 1
@@ -41,12 +54,12 @@ pub fn walk_block(
     let mut i = from;
     let mut n = start;
     while i < end {
-        let kind = p[2050 + 3 * i];
-        let first = p[2051 + 3 * i];
-        let second = p[2052 + 3 * i];
-        if kind == 5 {
-            if n == 512 {
-                return 513;
+        let kind = p[PLAN_STEP_0 + STEP_SIZE * i];
+        let first = p[PLAN_STEP_0_FIRST + STEP_SIZE * i];
+        let second = p[PLAN_STEP_0_SECOND + STEP_SIZE * i];
+        if kind == STEP_LIST {
+            if n == MOST_PAIRS {
+                return TOO_MANY_PAIRS;
             }
             out[2 * n] = first;
             out[2 * n + 1] = second;
@@ -58,7 +71,7 @@ pub fn walk_block(
             i = second as usize;
             continue;
         }
-        if kind == 4 {
+        if kind == STEP_IF_MET {
             met[first as usize] = 1;
             i += 1;
             continue;

@@ -1,4 +1,8 @@
 // Writes a plan: its blocks, one after the other, by the table of the document's rows; then its counts.
+use paper_plan::PLAN_BLOCKS;
+use paper_plan::PLAN_FIRSTS;
+use paper_plan::PLAN_STEPS;
+use plan_steps::TOO_MANY_STEPS;
 use plan_steps::expand;
 ghost use mathlib.Core.Path.{_≡_};
 ghost use mathlib.Core.List.{_∷_};
@@ -6,11 +10,6 @@ ghost use Prim.Native.Nat.{_≤_};
 ghost use lib.ListN.{length, getD, take, replicate};
 ghost use Rattle.paper_plan.specs.PlanNumbers.{planSize};
 ghost use Rattle.plan_writing.specs.Writing.{Tables, Holders, Writes, Blocks};
-
-// where the blocks' first steps stand; what is told of too many steps
-const FIRSTS: usize = 2;
-
-pub const TOO_MANY_STEPS: usize = 4097;
 
 // The row of block b: the operation's, then those of the list.
 fn block_row(o: u32, out: &[u32], b: usize) -> u32
@@ -44,7 +43,7 @@ fn write_blocks(
     let mut b = 0;
     while b <= m {
         let holder = block_row(o, out, b);
-        plan[FIRSTS + b] = at as u32;
+        plan[PLAN_FIRSTS + b] = at as u32;
         at = expand(
             cells,
             n,
@@ -85,7 +84,7 @@ pub fn write_plan(
     if steps == TOO_MANY_STEPS {
         return steps;
     }
-    plan[0] = (m + 1) as u32;
-    plan[1] = steps as u32;
+    plan[PLAN_BLOCKS] = (m + 1) as u32;
+    plan[PLAN_STEPS] = steps as u32;
     steps
 }

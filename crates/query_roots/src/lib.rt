@@ -2,6 +2,7 @@
 use paper_table::TAG_QUERY_ROOT;
 use query_types::NO_TYPE;
 use query_types::composite;
+use query_types::if_composite;
 use table_members::FieldFound;
 ghost use mathlib.Core.Path.{_≡_};
 ghost use Rattle.paper_table.specs.References.{found};
@@ -100,7 +101,7 @@ pub fn root_type(t: &[u8], book: &[u32], x: u32) -> u16
             let m = table_members::member_name(t, tag, start, end);
             composite(t, book, t, m.at, m.size)
         }
-        RootFound::Query => composite(t, book, b"Query", 0, 5),
+        RootFound::Query => if_composite(t, book, table_types::first_query(t, book)),
         RootFound::Nothing => NO_TYPE,
     }
 }

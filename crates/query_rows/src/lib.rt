@@ -14,6 +14,11 @@ ghost use Rattle.table_book.specs.Book.{part};
 ghost use Rattle.paper_query.specs.Constructs.{nameOf};
 ghost use Rattle.query_rows.specs.Rowed.{rowIn, docOf, Rowed, Sized};
 
+// where a row's numbers stand, behind its kind: its start and end, its parent, its name's start and length, its extra
+const CELL_START: usize = 1;
+
+const CELL_END: usize = 2;
+
 const CELL_PARENT: usize = 3;
 
 const CELL_NAME: usize = 4;
@@ -29,6 +34,28 @@ pub fn kind_of(rows: &[u32], n: usize, i: usize) -> u32
 {
     if i < n {
         return rows[ROW_SIZE * i];
+    }
+    0
+}
+
+// Where row i starts; 0 if there is no such row.
+pub fn start_of(rows: &[u32], n: usize, i: usize) -> u32
+    requires { ⌜ Sized (now rows) n ⌝ }
+    ensures { λ r. ⌜ r ≡ rowIn (now (rows .entry)) n i .start ⌝ }
+{
+    if i < n {
+        return rows[ROW_SIZE * i + CELL_START];
+    }
+    0
+}
+
+// Where row i ends; 0 if there is no such row.
+pub fn end_of(rows: &[u32], n: usize, i: usize) -> u32
+    requires { ⌜ Sized (now rows) n ⌝ }
+    ensures { λ r. ⌜ r ≡ rowIn (now (rows .entry)) n i .end ⌝ }
+{
+    if i < n {
+        return rows[ROW_SIZE * i + CELL_END];
     }
     0
 }

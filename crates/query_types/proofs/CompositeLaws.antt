@@ -10,10 +10,12 @@ use native.Mathlib.Omega.{arith}
 use lib.ListN.{List·getD-eq-default}
 use borrow.Author.Tests.{lt-ltb, le-ltb, lt-leb}
 use Rattle.paper_table.specs.TableNumbers.{tagObject, tagScalar}
-use Rattle.paper_table.specs.Types.{Definition, Meaning, builtIn, noMeaning, definition, definitionBy, meaning, tableOf, blankDefinition, tagNothing, isComposite}
+use Rattle.paper_table.specs.Types.{Definition, Meaning, builtIn, noMeaning, definition, definitionBy, meaning, tableOf, typeNamed, isBuiltIn, blankDefinition, tagNothing, isComposite}
+use Rattle.paper_table.specs.Lists.{firstAt}
 use Rattle.paper_query.specs.Enclosing.{definitionAt, ifComposite, compositeOf}
 use Rattle.table_book.specs.Book.{countIn, room}
 use Rattle.table_types.specs.Booked.{Booked, NumberMeant, spoken, kindIn, isCompositeTag}
+use Rattle.table_types.proofs.Meanings.{means-definition, means-nothing}
 use Rattle.query_types.specs.Coded.{typeCoded}
 
 module _ (t book : List ℕ) (b : Booked t book) where
@@ -84,3 +86,16 @@ composite-number t book n k b m = go (decLt k (countIn book))
         let q : definitionAt (tableOf t) k ≡ blankDefinition tagNothing = List·getD-eq-default (tableOf t) (blankDefinition tagNothing) (omega (arith, b .count)) in
         low-none t (definition k) (rw q (omega arith))
         ∙ sym (low-none t (meaning (tableOf t) n) (m .none (omega arith)))
+
+-- by the number of the first type of a name, which is no built-in scalar's
+pub composite-first : (t book : List ℕ) → Booked t book → (n : List ℕ) {k : ℕ} {r : Option ℕ} → k ≡ firstAt (typeNamed n) (tableOf t) → isBuiltIn n ≡ false
+    → r ≡ ifComposite (tableOf t) (definition k) → r ≡ compositeOf (tableOf t) n
+composite-first t book b n {k} {r} e q f = go (decLt k (countIn book))
+  where
+    go : Dec (k < countIn book) → r ≡ compositeOf (tableOf t) n
+    go (yes h) = composite-by t n (definition k) (means-definition t book b n e q h) f
+    go (no h) =
+        let l : countIn book ≤ k = omega arith in
+        let o : definitionAt (tableOf t) k ≡ blankDefinition tagNothing = List·getD-eq-default (tableOf t) (blankDefinition tagNothing) (omega (arith, b .count)) in
+        let z : ifComposite (tableOf t) (definition k) ≡ none = rw o in
+        composite-by t n noMeaning (means-nothing t book b n e q l) (f ∙ z)

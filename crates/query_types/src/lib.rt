@@ -10,7 +10,7 @@ ghost use Rattle.table_book.specs.Book.{part};
 ghost use Rattle.table_types.specs.Booked.{Booked};
 ghost use Rattle.query_types.specs.Coded.{typeCoded};
 
-// no type
+// the code of no type
 pub const NO_TYPE: u16 = 0;
 
 // The type that is definition k, if it is an object, interface or union.

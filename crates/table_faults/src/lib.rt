@@ -9,6 +9,7 @@ use paper_table::RULE_NO_TYPE;
 use paper_table::RULE_RESERVED_MEMBER;
 use paper_table::TAG_ARGUMENT;
 use paper_table::TAG_FIELD;
+use table_types::NO_TYPE;
 ghost use mathlib.Core.Path.{_≡_};
 ghost use Rattle.paper_table.specs.Types.{tableOf};
 ghost use Rattle.paper_table.specs.Rule7NoType.{memberTypeUnknown};
@@ -17,9 +18,6 @@ ghost use Rattle.table_fields.specs.Fields.{Bounds};
 ghost use Rattle.table_members.specs.Members.{membersIn, argumentsIn, memberFrom, argumentFrom};
 ghost use Rattle.table_types.specs.Booked.{Booked};
 ghost use Rattle.table_faults.specs.Faults.{memberFails, argumentFails};
-
-// the tags of meant types
-const NO_TYPE: u32 = 0;
 
 // Rule 7, of the member with this tag and content.
 fn is_member_unknown(t: &[u8], book: &[u32], tag: u8, start: usize, end: usize) -> bool

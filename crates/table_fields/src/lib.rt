@@ -1,5 +1,8 @@
 // Reads a table's parts: one house field, one name, one type reference's text, the first field of a tag.
 // Nothing is asked of the bytes; a part is named by where it starts and where it ends.
+use paper::WRAP_BASE;
+use paper::WRAP_LIST;
+use paper::WRAP_NON_NULL;
 ghost use mathlib.Core.Path.{_≡_};
 ghost use Prim.Native.Nat.{_+_};
 ghost use lib.Seq.{slice};
@@ -138,16 +141,16 @@ fn wrapper(wrappers: u32, lists: usize, b: u8) -> u32
     ensures { λ r. ⌜ r ≡ wrapperOf (isMarked wrappers) lists b ⌝ }
 {
     if b == BYTE_BANG {
-        if wrappers % 4 == 2 {
+        if wrappers % WRAP_BASE == WRAP_NON_NULL {
             return 0;
         }
-        return 2;
+        return WRAP_NON_NULL;
     }
     if b == BYTE_BRACKET_R {
         if lists == 0 {
             return 0;
         }
-        return 1;
+        return WRAP_LIST;
     }
     0
 }
@@ -173,7 +176,7 @@ pub fn read_reference(t: &[u8], start: usize, end: usize) -> RefRead
         if w == 0 {
             return RefRead::Bad;
         }
-        wrappers = (4 * wrappers + w) % PACK_LIMIT;
+        wrappers = (WRAP_BASE * wrappers + w) % PACK_LIMIT;
         lists -= (w % 2) as usize;
         i += 1;
     }

@@ -250,7 +250,7 @@ fn first_wrong(t: &[u8], at: usize, tag: u8, end: usize, depth: u32) -> Framed
     Framed::Right
 }
 
-// Records are 1 to 8 in any order, and 8 only once: `query_roots` is whether it may still come.
+// Records are 1 to 8 in any order, and 8 only once: `roots` is whether it may still come.
 pub fn record_in_place(roots: bool, k: u8) -> bool
     ensures { λ r. ⌜ r ≡ recordInPlace roots k ⌝ }
 {
@@ -276,7 +276,7 @@ pub fn roots_after(roots: bool, k: u8) -> bool
 }
 
 // A record, a field of it, its argument, its name.
-const MOST_DEEP: u32 = 4;
+pub const MOST_DEEP: u32 = 4;
 
 // Refusal 7: the smallest wrong offset of a table.
 pub fn framing(t: &[u8]) -> Framed

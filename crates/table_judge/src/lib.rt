@@ -249,7 +249,7 @@ fn query_break(t: &[u8], book: &[u32]) -> TableAnswer
     if has_roots(t, book) {
         return TableAnswer::Accepted;
     }
-    if table_types::tag_meant(t, book, b"Query", 0, 5) == RECORD_OBJECT {
+    if table_types::kind_in(book, table_types::first_query(t, book)) == RECORD_OBJECT {
         return TableAnswer::Accepted;
     }
     TableAnswer::Breaks {

@@ -1,5 +1,7 @@
 // The schema rules 13 to 15 at the arguments of one field and another's of the same names, by the rule's number: the first place, or none.
 // Of the table nothing is asked but its sizes.
+use paper::WRAP_BASE;
+use paper::WRAP_NON_NULL;
 use paper_table::RULE_ARGUMENT_EXTRA;
 use paper_table::RULE_ARGUMENT_MISSING;
 use paper_table::RULE_ARGUMENT_TYPE;
@@ -17,10 +19,6 @@ ghost use Rattle.table_members.specs.Members.{argumentsIn, argumentFrom};
 ghost use Rattle.table_types.specs.Sizes.{slimArgument};
 ghost use Rattle.table_rules_13_15.specs.Asked.{failing, argumentsAsked};
 
-const WRAPPERS: u32 = 4;
-
-const NON_NULL: u32 = 2;
-
 // Does the argument with this content break the rule, where the other field has none of its name?
 fn is_alone_wrong(t: &[u8], rule: u32, start: usize, end: usize) -> bool
     requires { ⌜ Bounds (now t) start end ⌝ }
@@ -33,7 +31,7 @@ fn is_alone_wrong(t: &[u8], rule: u32, start: usize, end: usize) -> bool
         return false;
     }
     let x = table_members::type_in(t, start, end);
-    x.wrappers % WRAPPERS == NON_NULL
+    x.wrappers % WRAP_BASE == WRAP_NON_NULL
 }
 
 // Does it, where the other field's has the content from `from` up to `stop`?

@@ -7,6 +7,7 @@ use paper_table::TAG_SCALAR;
 use table_fields::FieldRead;
 use table_fields::read_field;
 use table_framing::Holding;
+use table_framing::MOST_DEEP;
 use table_framing::content_of;
 use table_rooms::Counted;
 use table_rooms::rest_room;
@@ -112,9 +113,6 @@ fn is_record(k: u8) -> u32
     }
     0
 }
-
-// A record, a field of it, its argument, its name.
-const MOST_DEEP: u32 = 4;
 
 // Refusal 8: the first over a size.
 pub fn over(t: &[u8]) -> Counted

@@ -1,4 +1,7 @@
 // The sub-type test on packed wrappers: whether one type reference is a sub-type of another, given what is known of their base names.
+use paper::WRAP_BASE;
+use paper::WRAP_LIST;
+use paper::WRAP_NON_NULL;
 ghost use mathlib.Core.Path.{_≡_};
 ghost use mathlib.Core.Bool.{_&&_};
 ghost use lib.Dec.{eqb};
@@ -28,11 +31,11 @@ pub fn sub_type(alike: bool, can: bool, o: u32, i: u32) -> bool
         }
         return false;
     }
-    if o % 4 == 2 {
-        return sub_type(alike, can, o / 4, i);
+    if o % WRAP_BASE == WRAP_NON_NULL {
+        return sub_type(alike, can, o / WRAP_BASE, i);
     }
-    if i % 4 == 1 {
-        return sub_type(alike, can, o / 4, i / 4);
+    if i % WRAP_BASE == WRAP_LIST {
+        return sub_type(alike, can, o / WRAP_BASE, i / WRAP_BASE);
     }
     false
 }

@@ -3,18 +3,24 @@ use mathlib.Core.Path.{_≡_, refl, sym, ap, _∙_}
 use mathlib.Core.Bool.{Bool, true, false, _&&_}
 use mathlib.Core.List.{List}
 use Prim.Native.Nat.{ℕ, _≤_, _<_}
+use native.Mathlib.Decide.{decLt}
 use native.Mathlib.Omega.{arith}
 use lib.ListN.{length, getD, List·getD-eq-default}
 use lib.Dec.{leb, eqb}
 use borrow.Author.Tests.{le-leb, le-ltb, lt-ltb, eqb-true, eqb-false, leb-true, leb-false}
 use Rattle.paper.specs.Tokens.{same}
-use Rattle.paper_table.specs.Lists.{firstAt}
-use Rattle.paper_table.specs.Types.{Definition, tableOf, typeNamed, directiveNamed, isBuiltIn, builtIn, noMeaning, definition, meaning, blankDefinition, tagNothing, meant}
+use Rattle.paper_table.specs.Lists.{firstAt, anyOf, bytes}
+use Rattle.paper_table.specs.Types.{Definition, tableOf, typeNamed, directiveNamed, isBuiltIn, builtIns, builtIn, noMeaning, definition, meaning, blankDefinition, tagNothing, meant}
 use Rattle.paper_table.proofs.ListsLaws.{firstAt-map}
 use Rattle.paper_table.proofs.MeaningLaws.{meaning-first, meant-first}
 use Rattle.table_book.specs.Book.{countIn, keysOf, keyed}
-use Rattle.table_types.specs.Booked.{keyOf, Booked, NumberMeant, spoken}
+use Rattle.table_types.specs.Booked.{keyOf, Booked, NumberMeant, kindIn, spoken}
 use Rattle.table_types.specs.declared.Meant.the-variants.{BuiltIn, Definition as Defined, Nothing}
+
+-- `Query` is the table's own
+pub query-own : isBuiltIn (bytes "Query") ≡ false
+unfolding anyOf builtIns
+query-own = refl
 
 type-keyed : (n : List ℕ) (d : Definition) → keyed 0 6 n (keyOf d) ≡ typeNamed n d
 type-keyed n d = rw (le-leb 0 (d .tag) (omega arith))
@@ -60,6 +66,14 @@ module _ (t book : List ℕ) (b : Booked t book) (n : List ℕ) where
     tag-nothing q l =
         sym (ap (λ (d : Definition). d .tag) (meant-first (tableOf t) n)
         ∙ rw (q, ← e) (ap (λ (d : Definition). d .tag) (List·getD-eq-default (tableOf t) (blankDefinition tagNothing) (omega (arith, b .count)))))
+
+    -- the same tag, asked of any number
+    pub tag-first : isBuiltIn n ≡ false → kindIn book k ≡ meant (tableOf t) n .tag
+    tag-first q = go (decLt k (countIn book))
+      where
+        go : Dec (k < countIn book) → kindIn book k ≡ meant (tableOf t) n .tag
+        go (yes h) = rw (lt-ltb k (countIn book) h) (tag-definition q h)
+        go (no h) = let l : countIn book ≤ k = omega arith in rw (le-ltb k (countIn book) l) (tag-nothing q l)
 
   pub means-built-in : isBuiltIn n ≡ true → BuiltIn ≡ spoken (meaning (tableOf t) n)
   means-built-in q =

@@ -1,6 +1,7 @@
 // The types of a table: its definitions in a book, what a name means, which objects an interface or union can be, sub-types.
 // Nothing is asked of the table but its sizes.
 use paper_table::RECORD_DIRECTIVE;
+use paper_table::RECORD_INPUT_OBJECT;
 use paper_table::RECORD_INTERFACE;
 use paper_table::RECORD_OBJECT;
 use paper_table::RECORD_ROOTS;
@@ -19,7 +20,7 @@ ghost use mathlib.Core.Bool.{true, false};
 ghost use Prim.Native.Nat.{_+_, _-_, _≤_, _<_};
 ghost use lib.ListN.{length, getD, set};
 ghost use Rattle.paper_table.specs.TableNumbers.{mostTable};
-ghost use Rattle.paper_table.specs.Lists.{anyOf, firstAt};
+ghost use Rattle.paper_table.specs.Lists.{anyOf, firstAt, bytes};
 ghost use Rattle.paper_table.specs.Types.{tableOf, typeNamed, directiveNamed, isRoots, isBuiltIn, meaning, meant, canBe, memberNamed};
 ghost use Rattle.table_fields.specs.Fields.{Bounds};
 ghost use Rattle.table_book.specs.Book.{part, room, bookSize, countIn};
@@ -116,10 +117,10 @@ pub fn is_built_in(s: &[u8], at: usize, n: usize) -> bool
     table_book::is_text(s, at, n, b"ID", 0, 2)
 }
 
-// tags, as a book has them
-const NO_TYPE: u32 = 0;
+// tags, as a book has them: of no type; the highest of a type
+pub const NO_TYPE: u32 = 0;
 
-const HIGHEST_TYPE: u32 = 6;
+pub const HIGHEST_TYPE: u32 = RECORD_INPUT_OBJECT;
 
 // The number of the first type whose name is the n bytes of s from `at` on; the count of definitions if there is none.
 pub fn first_type(t: &[u8], book: &[u32], s: &[u8], at: usize, n: usize) -> usize
@@ -151,6 +152,14 @@ pub fn first_roots(t: &[u8], book: &[u32]) -> usize
         i += 1;
     }
     i
+}
+
+// The number of the type `Query`, the only root where there is no record 8; the count of definitions if there is none.
+pub fn first_query(t: &[u8], book: &[u32]) -> usize
+    requires { ⌜ Booked (now t) (now book) ⌝ }
+    ensures { λ r. ⌜ r ≡ firstAt (typeNamed (bytes "Query")) (tableOf (now (t .entry))) ⌝ }
+{
+    first_type(t, book, b"Query", 0, 5)
 }
 
 // What the name of n bytes of s from `at` on means.

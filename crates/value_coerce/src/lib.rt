@@ -4,6 +4,8 @@ use paper::KIND_LIST;
 use paper::KIND_NULL;
 use paper::KIND_OBJECT_FIELD;
 use paper::KIND_VARIABLE;
+use paper::WRAP_BASE;
+use paper::WRAP_LIST;
 use paper_table::TAG_NAME;
 use paper_values::REASON_KIND;
 use paper_values::REASON_REPEATED;
@@ -143,7 +145,7 @@ pub fn value(
         );
     }
     let inside = nullable(w);
-    if inside % 4 != 1 {
+    if inside % WRAP_BASE != WRAP_LIST {
         return Coerced::Refused {
             row: i,
             why: REASON_KIND,
@@ -152,7 +154,7 @@ pub fn value(
     let items = Due {
         sort: due.sort,
         number: due.number,
-        wrappers: inside / 4,
+        wrappers: inside / WRAP_BASE,
     };
     list(
         t,

@@ -3,6 +3,8 @@
 use paper::KIND_NULL;
 use paper::KIND_VARIABLE;
 use paper::ROW_SIZE;
+use paper::WRAP_BASE;
+use paper::WRAP_NON_NULL;
 use paper_values::REASON_MISSING;
 use value_entries::find_entry;
 use value_entries::first_repeated;
@@ -183,7 +185,7 @@ pub fn lacking(limit: usize, from: usize, h: usize, wrappers: u32) -> Coerced
     requires { ⌜ from ≤ limit + 1 ⌝ }
     ensures { λ c. ⌜ ((text : ℕ) (what : Dues) (p : List ℕ) → packOf (what .type) ≡ wrappers → ToldPairs text limit (missingDue (placedAt text h) what (Got no-pairs)) from p p c) ⌝ }
 {
-    if wrappers % 4 == 2 {
+    if wrappers % WRAP_BASE == WRAP_NON_NULL {
         return Coerced::Refused {
             row: h,
             why: REASON_MISSING,

@@ -1,4 +1,6 @@
 // The wrappers of a type: how many are lists, and those without Non-Null outside; and the heads of lists of one, each in the other.
+use paper::WRAP_BASE;
+use paper::WRAP_NON_NULL;
 use paper_values::TAG_LIST;
 use value_writing::close;
 use value_writing::place;
@@ -22,7 +24,7 @@ pub fn lists_in(wrappers: u32) -> usize
     let mut w = wrappers;
     while 0 < w {
         m += (w % 2) as usize;
-        w = w / 4;
+        w = w / WRAP_BASE;
     }
     m
 }
@@ -32,8 +34,8 @@ pub fn nullable(wrappers: u32) -> u32
     ensures { λ w. ⌜ (w ≤ wrappers) × (w % 4 ≡ 2 → ⊥) × ((r : Ref) → packOf r ≡ wrappers → packOf (nullableOf r) ≡ w) ⌝ }
 {
     let mut rest = wrappers;
-    while rest % 4 == 2 {
-        rest = rest / 4;
+    while rest % WRAP_BASE == WRAP_NON_NULL {
+        rest = rest / WRAP_BASE;
     }
     rest
 }

@@ -36,12 +36,6 @@ use Rattle.value_tokens.specs.Spans.{Spanned, isObjectKind, takesFields,
 
 -- ---- rows
 
-pub start-at : (rows : List ℕ) (n i : ℕ) → i < n → getD rows (rowSize * i + 1) 0 ≡ rowIn rows n i .start
-start-at rows n i h = rw (row-at rows n i h) refl
-
-pub stop-at : (rows : List ℕ) (n i : ℕ) → i < n → getD rows (rowSize * i + 2) 0 ≡ rowIn rows n i .end
-stop-at rows n i h = rw (row-at rows n i h) refl
-
 module _ (s rows : List ℕ) (n : ℕ) (r : Spanned s rows n) where
   -- a row lies in the bytes, also one that is not there
   pub row-span : (i : ℕ) → (rowIn rows n i .start ≤ rowIn rows n i .end) × (rowIn rows n i .end ≤ length s)

@@ -7,7 +7,6 @@ use paper::KIND_INTEGER;
 use paper::KIND_LIST;
 use paper::KIND_STRING;
 use paper::KIND_VARIABLE;
-use paper::ROW_SIZE;
 use paper_values::REASON_KIND;
 use value_kinds::put_enum;
 use value_leaves::SORT_INPUT;
@@ -27,7 +26,7 @@ ghost use Rattle.paper_table.specs.References.{named};
 ghost use Rattle.paper_table.specs.Types.{tableOf};
 ghost use Rattle.table_book.specs.Book.{countIn};
 ghost use Rattle.table_types.specs.Booked.{Booked};
-ghost use Rattle.query_rows.specs.Rowed.{rowIn, docOf, Rowed, Sized};
+ghost use Rattle.query_rows.specs.Rowed.{rowIn, docOf, Rowed};
 ghost use Rattle.paper_values.specs.Values.{Name, Value, Tree};
 ghost use Rattle.paper_values.specs.Kinds.{kindOfType};
 ghost use Rattle.paper_values.specs.Computed.{coerce};
@@ -35,32 +34,6 @@ ghost use Rattle.paper_values.specs.RowValues.{valueBy};
 ghost use Rattle.value_writing.specs.Writing.{Room};
 ghost use Rattle.value_kinds.specs.Dues.{Sorted, told, Told};
 ghost use Rattle.value_tokens.specs.Spans.{Spanned, takesFields, Tokened};
-
-const CELL_START: usize = 1;
-
-const CELL_STOP: usize = 2;
-
-// Where row i starts; 0 if there is no such row.
-pub fn start_of(rows: &[u32], n: usize, i: usize) -> u32
-    requires { ⌜ Sized (now rows) n ⌝ }
-    ensures { λ r. ⌜ r ≡ rowIn (now (rows .entry)) n i .start ⌝ }
-{
-    if i < n {
-        return rows[ROW_SIZE * i + CELL_START];
-    }
-    0
-}
-
-// Where row i stops; 0 if there is no such row.
-pub fn stop_of(rows: &[u32], n: usize, i: usize) -> u32
-    requires { ⌜ Sized (now rows) n ⌝ }
-    ensures { λ r. ⌜ r ≡ rowIn (now (rows .entry)) n i .end ⌝ }
-{
-    if i < n {
-        return rows[ROW_SIZE * i + CELL_STOP];
-    }
-    0
-}
 
 // Is a row of this kind an object, where one of this sort is due?
 pub fn takes_fields(kind: u32, sort: u32) -> bool
@@ -90,8 +63,8 @@ fn put_token(
     ensures { λ r. ⌜ Tokened (docOf (now (s .entry)) (now (rows .entry)) n) i sort limit from (now (out .entry)) (now (out .exit)) r ⌝ }
 {
     let kind = query_rows::kind_of(rows, n, i);
-    let start = start_of(rows, n, i) as usize;
-    let stop = stop_of(rows, n, i) as usize;
+    let start = query_rows::start_of(rows, n, i) as usize;
+    let stop = query_rows::end_of(rows, n, i) as usize;
     if kind == KIND_INTEGER {
         return put_integer(out, limit, from, sort, &s[start..stop]);
     }

@@ -88,7 +88,7 @@ fn keep(held: &mut [u32], many: usize, at: u32, size: u32, text: u32, row: u32, 
     held[from + HELD_WRAPPERS] = due.wrappers;
 }
 
-// Writes the pair of a name, the l bytes of `table_names` from `at` on, and the constant of row i at its type.
+// Writes the pair of a name, the l bytes of `names` from `at` on, and the constant of row i at its type.
 fn put_pair(
     t: &[u8],
     book: &[u32],

@@ -1,6 +1,8 @@
 -- By what is found.
 use mathlib.Core.Path.{refl, subst}
 use Rattle.paper_table.specs.Lists.{bytes}
+use Rattle.table_types.proofs.Meanings.{query-own}
+use Rattle.query_types.proofs.CompositeLaws.{composite-first}
 use Rattle.query_roots.specs.Rooted.{RootFinds, RootWritten}
 use Rattle.query_roots.proofs.RootLaws.{root-typed, root-untyped}
 use borrow.Author.Needs.{needs}
@@ -23,8 +25,9 @@ returns c =
 
 returns-2 : tie.Need-returns-2
 returns-2 c =
-    let a = c .before .before .before .before .before .before .before .args in
-    root-typed (a .t .now) (a .x) _ (subst (RootFinds (a .t .now) (a .x)) (c .before .before .enum-told .given .1) (c .before .before .before .before .find-root .ensures)) (bytes "Query") refl (c .composite2 .ensures)
+    let o = c .before .before .before .before .before .before .before in let a = o .args in
+    root-typed (a .t .now) (a .x) _ (subst (RootFinds (a .t .now) (a .x)) (c .before .before .enum-told .given .1) (c .before .before .before .before .find-root .ensures)) (bytes "Query") refl
+    (composite-first (a .t .now) (a .book .now) (o .pre) (bytes "Query") (c .before .first-query .ensures) query-own (c .if-composite .ensures))
 
 returns-3 : tie.Need-returns-3
 returns-3 c =
