@@ -253,22 +253,19 @@ pub fn spread(s: &[u8], at: usize) -> TokenRead
 pub fn is_punctuator(b: u8) -> bool
     ensures { λ r. ⌜ r ≡ isPunctuator b ⌝ }
 {
-    if b == b'{' {
-        return true;
+    if b'{' <= b {
+        return b <= b'}';
     }
-    if b == b'}' {
-        return true;
-    }
-    if b == b'(' {
-        return true;
-    }
-    if b == b')' {
-        return true;
+    if b <= b')' {
+        if b'(' <= b {
+            return true;
+        }
+        if b == b'$' {
+            return true;
+        }
+        return b == b'!';
     }
     if b == b':' {
-        return true;
-    }
-    if b == b'$' {
         return true;
     }
     if b == b'@' {
@@ -280,16 +277,7 @@ pub fn is_punctuator(b: u8) -> bool
     if b == b']' {
         return true;
     }
-    if b == b'!' {
-        return true;
-    }
-    if b == b'=' {
-        return true;
-    }
-    if b == b'|' {
-        return true;
-    }
-    false
+    b == b'='
 }
 
 // The string, spread or number at `at`, where no name and no punctuator of one byte stands.

@@ -3,6 +3,7 @@ use mathlib.Core.Path.{sym, ap, _∙_}
 use native.Mathlib.Omega.{arith}
 use borrow.Author.Needs.{needs}
 use Rattle.text_cursor.specs.Reader.{movedTo}
+use Rattle.text_tokens.proofs.PackedLaws.{scanned}
 use Rattle.text_cursor.proofs.ReaderLaws.{head-within, token-lies, moved-bad}
 use Rattle.text_documents.proofs.begin.Statement.{statement}
 use Rattle.text_documents.proofs.begin.Tie as tie

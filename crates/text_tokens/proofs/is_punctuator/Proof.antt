@@ -1,24 +1,37 @@
--- `text_tokens::is_punctuator` meets its contract, byte by byte.
+-- `text_tokens::is_punctuator` meets its contract, range by range.
+use mathlib.Core.Path.{_≡_}
+use mathlib.Core.Bool.{true, _||_}
+use Prim.Native.Nat.{ℕ, _≤_, _<_}
+use native.Mathlib.Omega.{arith}
 use borrow.Author.Tests.{ne-eqb}
+use lib.Dec.{leb, eqb}
+use Rattle.text_characters.proofs.ByteLaws.{bytes-agree}
 use Rattle.text_tokens.specs.Skip.{isPunctuator}
 use Rattle.text_tokens.proofs.is_punctuator.Statement.{statement}
 use Rattle.text_tokens.proofs.is_punctuator.Tie as tie
 
+low : (b : ℕ) → b < 40 → (eqb b 36 || eqb b 33) ≡ isPunctuator b
+unfolding isPunctuator
+low b h = bytes-agree (λ k. eqb k 36 || eqb k 33) isPunctuator 0 40 tt b (omega arith) (omega arith)
+
+high : (b : ℕ) → 42 ≤ b → b < 123 → (eqb b 58 || (eqb b 64 || (eqb b 91 || (eqb b 93 || eqb b 61)))) ≡ isPunctuator b
+unfolding isPunctuator
+high b g h = bytes-agree (λ k. eqb k 58 || (eqb k 64 || (eqb k 91 || (eqb k 93 || eqb k 61)))) isPunctuator 42 81 tt b (omega arith) (omega arith)
+
 returns : tie.Need-returns
 unfolding isPunctuator
-returns c = rw (c .if1 .taken)
+returns c = bytes-agree (λ b. leb b 125) isPunctuator 123 133 tt (c .before .args .b) (omega arith) (omega arith)
 
 returns-2 : tie.Need-returns-2
 unfolding isPunctuator
-returns-2 c = rw (c .if2 .taken)
+returns-2 c = bytes-agree (λ b. true) isPunctuator 40 2 tt (c .before .before .before .args .b) (omega arith) (omega arith)
 
 returns-3 : tie.Need-returns-3
 unfolding isPunctuator
-returns-3 c = rw (c .if3 .taken)
+returns-3 c = rw (c .if4 .taken)
 
 returns-4 : tie.Need-returns-4
-unfolding isPunctuator
-returns-4 c = rw (c .if4 .taken)
+returns-4 c = rw (ne-eqb _ _ (c .if4 .left)) at (low (c .before .before .before .before .args .b) (omega arith))
 
 returns-5 : tie.Need-returns-5
 unfolding isPunctuator
@@ -37,24 +50,7 @@ unfolding isPunctuator
 returns-8 c = rw (c .if8 .taken)
 
 returns-9 : tie.Need-returns-9
-unfolding isPunctuator
-returns-9 c = rw (c .if9 .taken)
-
-returns-10 : tie.Need-returns-10
-unfolding isPunctuator
-returns-10 c = rw (c .if10 .taken)
-
-returns-11 : tie.Need-returns-11
-unfolding isPunctuator
-returns-11 c = rw (c .if11 .taken)
-
-returns-12 : tie.Need-returns-12
-unfolding isPunctuator
-returns-12 c = rw (c .if12 .taken)
-
-returns-13 : tie.Need-returns-13
-unfolding isPunctuator
-returns-13 c = rw (ne-eqb _ _ (c .before .before .before .before .before .before .before .before .before .before .before .if1 .left), ne-eqb _ _ (c .before .before .before .before .before .before .before .before .before .before .if2 .left), ne-eqb _ _ (c .before .before .before .before .before .before .before .before .before .if3 .left), ne-eqb _ _ (c .before .before .before .before .before .before .before .before .if4 .left), ne-eqb _ _ (c .before .before .before .before .before .before .before .if5 .left), ne-eqb _ _ (c .before .before .before .before .before .before .if6 .left), ne-eqb _ _ (c .before .before .before .before .before .if7 .left), ne-eqb _ _ (c .before .before .before .before .if8 .left), ne-eqb _ _ (c .before .before .before .if9 .left), ne-eqb _ _ (c .before .before .if10 .left), ne-eqb _ _ (c .before .if11 .left), ne-eqb _ _ (c .if12 .left))
+returns-9 c = rw (ne-eqb _ _ (c .before .before .before .if5 .left), ne-eqb _ _ (c .before .before .if6 .left), ne-eqb _ _ (c .before .if7 .left), ne-eqb _ _ (c .if8 .left)) at (high (c .before .before .before .before .before .before .args .b) (omega arith) (omega arith))
 
 pub is-punctuator-spec : {M : Type 1} → statement M
 is-punctuator-spec =
@@ -68,8 +64,4 @@ is-punctuator-spec =
     returns-6
     returns-7
     returns-8
-    returns-9
-    returns-10
-    returns-11
-    returns-12
-    returns-13)
+    returns-9)
