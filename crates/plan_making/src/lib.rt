@@ -37,16 +37,16 @@ fn find_blocks(
     s: &[u8],
     rows: &[u32],
     n: usize,
-    first: &[u32],
-    next: &[u32],
-    firstk: &[u32],
-    nextk: &[u32],
+    first: &[u16],
+    next: &[u16],
+    firstk: &[u16],
+    nextk: &[u16],
     o: usize,
-    owner: &mut [u32],
-    mark: &mut [u32],
-    target: &mut [u32],
-    firsts: &mut [u32],
-    nexts: &mut [u32],
+    owner: &mut [u16],
+    mark: &mut [u16],
+    target: &mut [u16],
+    firsts: &mut [u16],
+    nexts: &mut [u16],
     stack: &mut [u16],
 ) -> usize
     requires { ⌜ Rowed (now s) (now rows) n × Family (rowsIn (now rows) n) (now first) (now next) × Kinds (rowsIn (now rows) n) (now firstk) (now nextk) × Defines (docOf (now s) (now rows) n) o × Room n (now owner) × Room n (now mark) × Room n (now target) × (length (now firsts) ≡ firstsSize) × Room n (now nexts) × Room n (now stack) ⌝ }
@@ -67,15 +67,15 @@ fn fill_cells(
     s: &[u8],
     rows: &[u32],
     n: usize,
-    first: &[u32],
-    next: &[u32],
-    firstk: &[u32],
-    nextk: &[u32],
+    first: &[u16],
+    next: &[u16],
+    firstk: &[u16],
+    nextk: &[u16],
     o: usize,
-    ranks: &mut [u32],
-    keys: &mut [u32],
-    heads: &mut [u32],
-    nexts: &mut [u32],
+    ranks: &mut [u16],
+    keys: &mut [u16],
+    heads: &mut [u16],
+    nexts: &mut [u16],
     cells: &mut [u16],
 )
     requires { ⌜ Asked (now t) (now book) (now s) (now rows) n o × Family (rowsIn (now rows) n) (now first) (now next) × Kinds (rowsIn (now rows) n) (now firstk) (now nextk) × Room n (now ranks) × Room n (now keys) × (length (now heads) ≡ buckets) × Room n (now nexts) × (12 * n ≤ length (now cells)) ⌝ }
@@ -108,15 +108,15 @@ fn ready(
     rows: &[u32],
     n: usize,
     o: usize,
-    first: &mut [u32],
-    next: &mut [u32],
-    firstk: &mut [u32],
-    nextk: &mut [u32],
-    owner: &mut [u32],
-    mark: &mut [u32],
-    target: &mut [u32],
-    firsts: &mut [u32],
-    nexts: &mut [u32],
+    first: &mut [u16],
+    next: &mut [u16],
+    firstk: &mut [u16],
+    nextk: &mut [u16],
+    owner: &mut [u16],
+    mark: &mut [u16],
+    target: &mut [u16],
+    firsts: &mut [u16],
+    nexts: &mut [u16],
     stack: &mut [u16],
     cells: &mut [u16],
 ) -> usize
@@ -165,13 +165,13 @@ fn ready(
 fn write_cleared(
     cells: &[u16],
     n: usize,
-    first: &[u32],
-    next: &[u32],
-    o: u32,
-    out: &[u32],
+    first: &[u16],
+    next: &[u16],
+    o: u16,
+    out: &[u16],
     m: usize,
-    opened: &mut [u32],
-    begun: &mut [u32],
+    opened: &mut [u16],
+    begun: &mut [u16],
     plan: &mut [u32],
 ) -> usize
     requires { ⌜ Tables (now cells) n (now first) (now next) × Holders o (now out) m × (length (now plan) ≡ planSize) × (n ≤ length (now opened)) × (n ≤ length (now begun)) ⌝ }
@@ -186,15 +186,15 @@ fn make_few(t: &[u8], book: &[u32], s: &[u8], plan: &mut [u32], n: usize, o: usi
     requires { ⌜ Asked (now t) (now book) (now s) (take rowsSize (now plan)) n o × (length (now plan) ≡ planSize) × (n ≤ fewRows) ⌝ }
     ensures { λ r. ⌜ PlanMade (tableOf (now (t .entry))) (docOf (now (s .entry)) (take rowsSize (now (plan .entry))) n) o (now (plan .exit)) r ⌝ }
 {
-    let mut first = [0u32; FIRSTS];
-    let mut next = [0u32; FEW_ROWS];
-    let mut firstk = [0u32; KINDS];
-    let mut nextk = [0u32; FEW_ROWS];
-    let mut owner = [0u32; FEW_ROWS];
-    let mut mark = [0u32; FEW_ROWS];
-    let mut target = [0u32; FEW_ROWS];
-    let mut firsts = [0u32; FIRSTS];
-    let mut nexts = [0u32; FEW_ROWS];
+    let mut first = [0u16; FIRSTS];
+    let mut next = [0u16; FEW_ROWS];
+    let mut firstk = [0u16; KINDS];
+    let mut nextk = [0u16; FEW_ROWS];
+    let mut owner = [0u16; FEW_ROWS];
+    let mut mark = [0u16; FEW_ROWS];
+    let mut target = [0u16; FEW_ROWS];
+    let mut firsts = [0u16; FIRSTS];
+    let mut nexts = [0u16; FEW_ROWS];
     let mut stack = [0u16; FEW_ROWS];
     let mut cells = [0u16; FEW_CELLS];
     let m = ready(
@@ -221,7 +221,7 @@ fn make_few(t: &[u8], book: &[u32], s: &[u8], plan: &mut [u32], n: usize, o: usi
         n,
         &first,
         &next,
-        o as u32,
+        o as u16,
         &target,
         m,
         &mut owner,
@@ -235,15 +235,15 @@ fn make_many(t: &[u8], book: &[u32], s: &[u8], plan: &mut [u32], n: usize, o: us
     requires { ⌜ Asked (now t) (now book) (now s) (take rowsSize (now plan)) n o × (length (now plan) ≡ planSize) × (fewRows < n) ⌝ }
     ensures { λ r. ⌜ PlanMade (tableOf (now (t .entry))) (docOf (now (s .entry)) (take rowsSize (now (plan .entry))) n) o (now (plan .exit)) r ⌝ }
 {
-    let mut first = [0u32; FIRSTS];
-    let mut next = [0u32; ROWS];
-    let mut firstk = [0u32; KINDS];
-    let mut nextk = [0u32; ROWS];
-    let mut owner = [0u32; ROWS];
-    let mut mark = [0u32; ROWS];
-    let mut target = [0u32; ROWS];
-    let mut firsts = [0u32; FIRSTS];
-    let mut nexts = [0u32; ROWS];
+    let mut first = [0u16; FIRSTS];
+    let mut next = [0u16; ROWS];
+    let mut firstk = [0u16; KINDS];
+    let mut nextk = [0u16; ROWS];
+    let mut owner = [0u16; ROWS];
+    let mut mark = [0u16; ROWS];
+    let mut target = [0u16; ROWS];
+    let mut firsts = [0u16; FIRSTS];
+    let mut nexts = [0u16; ROWS];
     let mut stack = [0u16; ROWS];
     let mut cells = [0u16; CELLS];
     let m = ready(
@@ -270,7 +270,7 @@ fn make_many(t: &[u8], book: &[u32], s: &[u8], plan: &mut [u32], n: usize, o: us
         n,
         &first,
         &next,
-        o as u32,
+        o as u16,
         &target,
         m,
         &mut owner,

@@ -12,7 +12,7 @@ ghost use Rattle.paper_plan.specs.PlanNumbers.{planSize};
 ghost use Rattle.plan_writing.specs.Writing.{Tables, Holders, Writes, Blocks};
 
 // The row of block b: the operation's, then those of the list.
-fn block_row(o: u32, out: &[u32], b: usize) -> u32
+fn block_row(o: u16, out: &[u16], b: usize) -> u16
     requires { ⌜ b ≤ length (now out) ⌝ }
     ensures { λ r. ⌜ r ≡ getD (o ∷ now (out .entry)) b 0 ⌝ }
 {
@@ -27,13 +27,13 @@ fn block_row(o: u32, out: &[u32], b: usize) -> u32
 fn write_blocks(
     cells: &[u16],
     n: usize,
-    first: &[u32],
-    next: &[u32],
-    o: u32,
-    out: &[u32],
+    first: &[u16],
+    next: &[u16],
+    o: u16,
+    out: &[u16],
     m: usize,
-    opened: &mut [u32],
-    begun: &mut [u32],
+    opened: &mut [u16],
+    begun: &mut [u16],
     plan: &mut [u32],
 ) -> usize
     requires { ⌜ Tables (now cells) n (now first) (now next) × Holders o (now out) m × (now plan ≡ replicate planSize 0) × (n ≤ length (now opened)) × (n ≤ length (now begun)) ⌝ }
@@ -68,13 +68,13 @@ fn write_blocks(
 pub fn write_plan(
     cells: &[u16],
     n: usize,
-    first: &[u32],
-    next: &[u32],
-    o: u32,
-    out: &[u32],
+    first: &[u16],
+    next: &[u16],
+    o: u16,
+    out: &[u16],
     m: usize,
-    opened: &mut [u32],
-    begun: &mut [u32],
+    opened: &mut [u16],
+    begun: &mut [u16],
     plan: &mut [u32],
 ) -> usize
     requires { ⌜ Tables (now cells) n (now first) (now next) × Holders o (now out) m × (now plan ≡ replicate planSize 0) × (n ≤ length (now opened)) × (n ≤ length (now begun)) ⌝ }

@@ -14,7 +14,7 @@ ghost use Rattle.query_alike_pair.specs.Alike.{Unlinked};
 ghost use Rattle.query_alike.specs.Flags.{likeFirst, FlagsTo, LikenedTo, Models, ModelOf, Likened, ownFlag};
 
 // from here on a flag says which row the variable is like, until it is settled
-pub const LIKE_FIRST: u32 = 4096;
+pub const LIKE_FIRST: u16 = 4096;
 
 // how many models, the newest, a variable is compared with: a bound on the work
 const MOST_MODELS: usize = 64;
@@ -46,7 +46,7 @@ fn model_of(
     at: &[u16],
     es: &[u16],
     wrappers: &[u16],
-    owner: &[u32],
+    owner: &[u16],
     stack: &[u16],
     m: usize,
     i: usize,
@@ -75,9 +75,9 @@ fn liken_one(
     at: &[u16],
     es: &[u16],
     wrappers: &[u16],
-    owner: &[u32],
+    owner: &[u16],
     stack: &mut [u16],
-    flag: &mut [u32],
+    flag: &mut [u16],
     m: usize,
     i: usize,
 ) -> usize
@@ -86,7 +86,7 @@ fn liken_one(
 {
     let model = model_of(t, s, rows, n, at, es, wrappers, owner, stack, m, i);
     if model < n {
-        flag[i] = LIKE_FIRST + model as u32;
+        flag[i] = LIKE_FIRST + model as u16;
         return m;
     }
     stack[m] = i as u16;
@@ -99,14 +99,14 @@ pub fn liken(
     s: &[u8],
     rows: &[u32],
     n: usize,
-    firstk: &[u32],
-    nextk: &[u32],
+    firstk: &[u16],
+    nextk: &[u16],
     at: &[u16],
     es: &[u16],
     wrappers: &[u16],
-    owner: &[u32],
+    owner: &[u16],
     stack: &mut [u16],
-    flag: &mut [u32],
+    flag: &mut [u16],
 )
     requires { ⌜ Unlinked (now t) (now s) (now rows) n (now at) (now es) (now wrappers) (now owner) × Kinds (rowsIn (now rows) n) (now firstk) (now nextk) × (length (now stack) ≡ roomOf n) × FlagsTo (tableOf (now t)) (docOf (now s) (now rows) n) n 0 (now flag) ⌝ }
     ensures { λ _. ⌜ LikenedTo (tableOf (now (t .entry))) (docOf (now (s .entry)) (now (rows .entry)) n) n 0 (now (flag .exit)) ⌝ }
@@ -120,7 +120,7 @@ pub fn liken(
 }
 
 // The flag of row i, or of the row that it is said to be like.
-fn own_flag(flag: &[u32], i: usize) -> u32
+fn own_flag(flag: &[u16], i: usize) -> u16
     requires { ⌜ (i < length (now flag)) × (likeFirst ≤ getD (now flag) i 0 → getD (now flag) i 0 - likeFirst < length (now flag)) ⌝ }
     ensures { λ r. ⌜ r ≡ ownFlag (now (flag .entry)) i ⌝ }
 {
@@ -137,9 +137,9 @@ pub fn settle(
     s: &[u8],
     rows: &[u32],
     n: usize,
-    firstk: &[u32],
-    nextk: &[u32],
-    flag: &mut [u32],
+    firstk: &[u16],
+    nextk: &[u16],
+    flag: &mut [u16],
 )
     requires { ⌜ Sized (now rows) n × Kinds (rowsIn (now rows) n) (now firstk) (now nextk) × LikenedTo (tableOf (now t)) (docOf (now s) (now rows) n) n n (now flag) ⌝ }
     ensures { λ _. ⌜ FlagsTo (tableOf (now (t .entry))) (docOf (now (s .entry)) (now (rows .entry)) n) n n (now (flag .exit)) ⌝ }

@@ -1,5 +1,4 @@
 // Whether two variables are alike, in name, place and owner: what operations say of the one, they say of the other.
-use query_links::link_of;
 use query_rows::same_names;
 ghost use mathlib.Core.Path.{_≡_};
 ghost use mathlib.Core.Bool.{true};
@@ -28,14 +27,14 @@ pub fn is_like(
     at: &[u16],
     es: &[u16],
     wrappers: &[u16],
-    owner: &[u32],
+    owner: &[u16],
     i: usize,
     j: usize,
 ) -> bool
     requires { ⌜ Unlinked (now t) (now s) (now rows) n (now at) (now es) (now wrappers) (now owner) × (rowIn (now rows) n i .kind ≡ kindVariable) × (rowIn (now rows) n j .kind ≡ kindVariable) ⌝ }
     ensures { λ r. ⌜ (r ≡ true → Alike (tableOf (now (t .entry))) (docOf (now (s .entry)) (now (rows .entry)) n) i j) ⌝ }
 {
-    if link_of(owner, i) != link_of(owner, j) {
+    if !same_number(owner, i, j) {
         return false;
     }
     if !same_number(at, i, j) {

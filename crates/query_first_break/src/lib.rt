@@ -13,15 +13,15 @@ pub fn judge_rows(
     s: &[u8],
     rows: &[u32],
     n: usize,
-    first: &[u32],
-    next: &[u32],
-    firstk: &[u32],
-    nextk: &[u32],
+    first: &[u16],
+    next: &[u16],
+    firstk: &[u16],
+    nextk: &[u16],
     inside: &[u16],
     at: &[u16],
     es: &[u16],
-    target: &[u32],
-    flags: &[u32],
+    target: &[u16],
+    flags: &[u16],
 ) -> QueryAnswer
     requires { ⌜ Ready (now t) (now book) (now s) (now rows) n (now first) (now next) (now firstk) (now nextk) (now inside) (now at) (now es) (now target) (now flags) ⌝ }
     ensures { λ r. ⌜ Judged (tableOf (now (t .entry))) (docOf (now (s .entry)) (now (rows .entry)) n) r ⌝ }

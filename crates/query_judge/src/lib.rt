@@ -30,15 +30,15 @@ fn judge_placed(
     s: &[u8],
     rows: &[u32],
     n: usize,
-    first: &[u32],
-    next: &[u32],
-    firstk: &[u32],
-    nextk: &[u32],
+    first: &[u16],
+    next: &[u16],
+    firstk: &[u16],
+    nextk: &[u16],
     inside: &[u16],
     at: &[u16],
     es: &[u16],
-    target: &mut [u32],
-    flags: &mut [u32],
+    target: &mut [u16],
+    flags: &mut [u16],
 ) -> QueryAnswer
     requires { ⌜ (length (now t) ≤ mostTable) × Asked (now t) (now book) (now s) (now rows) n (now first) (now next) × Kinds (rowsIn (now rows) n) (now firstk) (now nextk) × Placed (now t) (now s) (now rows) n (now at) (now es) (now inside) × (length (now target) ≡ roomOf n) × (length (now flags) ≡ roomOf n) ⌝ }
     ensures { λ r. ⌜ Judged (tableOf (now (t .entry))) (docOf (now (s .entry)) (now (rows .entry)) n) r ⌝ }
@@ -85,14 +85,14 @@ fn judge_linked(
     s: &[u8],
     rows: &[u32],
     n: usize,
-    first: &[u32],
-    next: &[u32],
-    firstk: &[u32],
-    nextk: &[u32],
+    first: &[u16],
+    next: &[u16],
+    firstk: &[u16],
+    nextk: &[u16],
     inside: &mut [u16],
     at: &mut [u16],
-    target: &mut [u32],
-    flags: &mut [u32],
+    target: &mut [u16],
+    flags: &mut [u16],
 ) -> QueryAnswer
     requires { ⌜ (length (now t) ≤ mostTable) × Fitted (now t) × Asked (now t) (now book) (now s) (now rows) n (now first) (now next) × Entered (now t) (now book) (now es) × Kinds (rowsIn (now rows) n) (now firstk) (now nextk) × (length (now inside) ≡ roomOf n) × (length (now at) ≡ roomOf n) × (length (now target) ≡ roomOf n) × (length (now flags) ≡ roomOf n) ⌝ }
     ensures { λ r. ⌜ Judged (tableOf (now (t .entry))) (docOf (now (s .entry)) (now (rows .entry)) n) r ⌝ }
@@ -122,14 +122,14 @@ fn judge_few(t: &[u8], book: &[u32], es: &[u16], s: &[u8], rows: &[u32], n: usiz
     requires { ⌜ (length (now t) ≤ mostTable) × Fitted (now t) × Booked (now t) (now book) × Entered (now t) (now book) (now es) × Rowed (now s) (now rows) n × (n ≤ fewRows) ⌝ }
     ensures { λ r. ⌜ Judged (tableOf (now (t .entry))) (docOf (now (s .entry)) (now (rows .entry)) n) r ⌝ }
 {
-    let mut first = [0u32; FIRSTS];
-    let mut next = [0u32; FEW_ROWS];
-    let mut firstk = [0u32; KINDS];
-    let mut nextk = [0u32; FEW_ROWS];
+    let mut first = [0u16; FIRSTS];
+    let mut next = [0u16; FEW_ROWS];
+    let mut firstk = [0u16; KINDS];
+    let mut nextk = [0u16; FEW_ROWS];
     let mut inside = [0u16; FEW_ROWS];
     let mut at = [0u16; FEW_ROWS];
-    let mut target = [0u32; FEW_ROWS];
-    let mut flags = [0u32; FEW_ROWS];
+    let mut target = [0u16; FEW_ROWS];
+    let mut flags = [0u16; FEW_ROWS];
     query_links::families(s, rows, n, &mut first, &mut next);
     query_links::kinds(rows, n, &mut firstk, &mut nextk);
     judge_linked(
@@ -155,14 +155,14 @@ fn judge_many(t: &[u8], book: &[u32], es: &[u16], s: &[u8], rows: &[u32], n: usi
     requires { ⌜ (length (now t) ≤ mostTable) × Fitted (now t) × Booked (now t) (now book) × Entered (now t) (now book) (now es) × Rowed (now s) (now rows) n × (fewRows < n) ⌝ }
     ensures { λ r. ⌜ Judged (tableOf (now (t .entry))) (docOf (now (s .entry)) (now (rows .entry)) n) r ⌝ }
 {
-    let mut first = [0u32; FIRSTS];
-    let mut next = [0u32; ROWS];
-    let mut firstk = [0u32; KINDS];
-    let mut nextk = [0u32; ROWS];
+    let mut first = [0u16; FIRSTS];
+    let mut next = [0u16; ROWS];
+    let mut firstk = [0u16; KINDS];
+    let mut nextk = [0u16; ROWS];
     let mut inside = [0u16; ROWS];
     let mut at = [0u16; ROWS];
-    let mut target = [0u32; ROWS];
-    let mut flags = [0u32; ROWS];
+    let mut target = [0u16; ROWS];
+    let mut flags = [0u16; ROWS];
     query_links::families(s, rows, n, &mut first, &mut next);
     query_links::kinds(rows, n, &mut firstk, &mut nextk);
     judge_linked(

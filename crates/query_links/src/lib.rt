@@ -18,14 +18,14 @@ pub const FIRSTS: usize = 2049;
 
 pub const KINDS: usize = 32;
 
-fn wide(x: u32) -> usize
+fn wide(x: u16) -> usize
     ensures { λ r. ⌜ r ≡ x ⌝ }
 {
     x as usize
 }
 
 // The first of a chain, or the next after a row.
-pub fn link_of(links: &[u32], i: usize) -> usize
+pub fn link_of(links: &[u16], i: usize) -> usize
     requires { ⌜ i < length (now links) ⌝ }
     ensures { λ r. ⌜ r ≡ getD (now (links .entry)) i 0 ⌝ }
 {
@@ -33,11 +33,11 @@ pub fn link_of(links: &[u32], i: usize) -> usize
 }
 
 // Ends every chain: n stands for no row.
-pub fn clear(first: &mut [u32], n: usize)
+pub fn clear(first: &mut [u16], n: usize)
     requires { ⌜ n ≤ mostRows ⌝ }
     ensures { λ _. ⌜ now (first .exit) ≡ replicate (length (now (first .entry))) n ⌝ }
 {
-    let end = n as u32;
+    let end = n as u16;
     let mut p = 0;
     while p < first.len() {
         first[p] = end;
@@ -46,16 +46,16 @@ pub fn clear(first: &mut [u32], n: usize)
 }
 
 // Puts row j in front of the chain p.
-pub fn put_first(first: &mut [u32], next: &mut [u32], p: usize, j: usize)
+pub fn put_first(first: &mut [u16], next: &mut [u16], p: usize, j: usize)
     requires { ⌜ (p < length (now first)) × (j < length (now next)) × (length (now next) ≤ mostRows) ⌝ }
     ensures { λ _. ⌜ (now (first .exit) ≡ set (now (first .entry)) p j) × (now (next .exit) ≡ set (now (next .entry)) j (getD (now (first .entry)) p 0)) ⌝ }
 {
     next[j] = first[p];
-    first[p] = j as u32;
+    first[p] = j as u16;
 }
 
 // Links the rows right below each row.
-pub fn families(s: &[u8], rows: &[u32], n: usize, first: &mut [u32], next: &mut [u32])
+pub fn families(s: &[u8], rows: &[u32], n: usize, first: &mut [u16], next: &mut [u16])
     requires { ⌜ Rowed (now s) (now rows) n × (length (now first) ≡ firstsSize) × (length (now next) ≡ roomOf n) ⌝ }
     ensures { λ _. ⌜ Family (rowsIn (now (rows .entry)) n) (now (first .exit)) (now (next .exit)) ⌝ }
 {
@@ -69,7 +69,7 @@ pub fn families(s: &[u8], rows: &[u32], n: usize, first: &mut [u32], next: &mut 
 }
 
 // Links the rows of each kind.
-pub fn kinds(rows: &[u32], n: usize, first: &mut [u32], next: &mut [u32])
+pub fn kinds(rows: &[u32], n: usize, first: &mut [u16], next: &mut [u16])
     requires { ⌜ Sized (now rows) n × (length (now first) ≡ kindsSize) × (length (now next) ≡ roomOf n) ⌝ }
     ensures { λ _. ⌜ Kinds (rowsIn (now (rows .entry)) n) (now (first .exit)) (now (next .exit)) ⌝ }
 {

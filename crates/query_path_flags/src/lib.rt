@@ -18,20 +18,20 @@ fn flag_with(
     s: &[u8],
     rows: &[u32],
     n: usize,
-    first: &[u32],
-    next: &[u32],
-    firstk: &[u32],
-    nextk: &[u32],
+    first: &[u16],
+    next: &[u16],
+    firstk: &[u16],
+    nextk: &[u16],
     at: &[u16],
     es: &[u16],
     inside: &[u16],
-    target: &[u32],
-    owner: &mut [u32],
-    firsts: &mut [u32],
-    nexts: &mut [u32],
-    mark: &mut [u32],
+    target: &[u16],
+    owner: &mut [u16],
+    firsts: &mut [u16],
+    nexts: &mut [u16],
+    mark: &mut [u16],
     stack: &mut [u16],
-    flag: &mut [u32],
+    flag: &mut [u16],
 )
     requires { ⌜ Rowed (now s) (now rows) n × Family (rowsIn (now rows) n) (now first) (now next) × Kinds (rowsIn (now rows) n) (now firstk) (now nextk) × Placed (now t) (now s) (now rows) n (now at) (now es) (now inside) × Targeted (docOf (now s) (now rows) n) (now target) × (length (now owner) ≡ roomOf n) × (length (now firsts) ≡ roomOf n) × (length (now nexts) ≡ roomOf n) × (length (now mark) ≡ roomOf n) × (length (now stack) ≡ roomOf n) × (length (now flag) ≡ roomOf n) ⌝ }
     ensures { λ _. ⌜ Flagged (tableOf (now (t .entry))) (docOf (now (s .entry)) (now (rows .entry)) n) (now (flag .exit)) ⌝ }
@@ -66,23 +66,23 @@ fn flag_few(
     s: &[u8],
     rows: &[u32],
     n: usize,
-    first: &[u32],
-    next: &[u32],
-    firstk: &[u32],
-    nextk: &[u32],
+    first: &[u16],
+    next: &[u16],
+    firstk: &[u16],
+    nextk: &[u16],
     at: &[u16],
     es: &[u16],
     inside: &[u16],
-    target: &[u32],
-    flag: &mut [u32],
+    target: &[u16],
+    flag: &mut [u16],
 )
     requires { ⌜ Rowed (now s) (now rows) n × Family (rowsIn (now rows) n) (now first) (now next) × Kinds (rowsIn (now rows) n) (now firstk) (now nextk) × Placed (now t) (now s) (now rows) n (now at) (now es) (now inside) × Targeted (docOf (now s) (now rows) n) (now target) × (length (now flag) ≡ roomOf n) × (n ≤ fewRows) ⌝ }
     ensures { λ _. ⌜ Flagged (tableOf (now (t .entry))) (docOf (now (s .entry)) (now (rows .entry)) n) (now (flag .exit)) ⌝ }
 {
-    let mut owner = [0u32; FEW_ROWS];
-    let mut firsts = [0u32; FEW_ROWS];
-    let mut nexts = [0u32; FEW_ROWS];
-    let mut mark = [0u32; FEW_ROWS];
+    let mut owner = [0u16; FEW_ROWS];
+    let mut firsts = [0u16; FEW_ROWS];
+    let mut nexts = [0u16; FEW_ROWS];
+    let mut mark = [0u16; FEW_ROWS];
     let mut stack = [0u16; FEW_ROWS];
     flag_with(
         t,
@@ -112,23 +112,23 @@ fn flag_many(
     s: &[u8],
     rows: &[u32],
     n: usize,
-    first: &[u32],
-    next: &[u32],
-    firstk: &[u32],
-    nextk: &[u32],
+    first: &[u16],
+    next: &[u16],
+    firstk: &[u16],
+    nextk: &[u16],
     at: &[u16],
     es: &[u16],
     inside: &[u16],
-    target: &[u32],
-    flag: &mut [u32],
+    target: &[u16],
+    flag: &mut [u16],
 )
     requires { ⌜ Rowed (now s) (now rows) n × Family (rowsIn (now rows) n) (now first) (now next) × Kinds (rowsIn (now rows) n) (now firstk) (now nextk) × Placed (now t) (now s) (now rows) n (now at) (now es) (now inside) × Targeted (docOf (now s) (now rows) n) (now target) × (length (now flag) ≡ roomOf n) × (fewRows < n) ⌝ }
     ensures { λ _. ⌜ Flagged (tableOf (now (t .entry))) (docOf (now (s .entry)) (now (rows .entry)) n) (now (flag .exit)) ⌝ }
 {
-    let mut owner = [0u32; ROWS];
-    let mut firsts = [0u32; ROWS];
-    let mut nexts = [0u32; ROWS];
-    let mut mark = [0u32; ROWS];
+    let mut owner = [0u16; ROWS];
+    let mut firsts = [0u16; ROWS];
+    let mut nexts = [0u16; ROWS];
+    let mut mark = [0u16; ROWS];
     let mut stack = [0u16; ROWS];
     flag_with(
         t,
@@ -158,15 +158,15 @@ pub fn flags(
     s: &[u8],
     rows: &[u32],
     n: usize,
-    first: &[u32],
-    next: &[u32],
-    firstk: &[u32],
-    nextk: &[u32],
+    first: &[u16],
+    next: &[u16],
+    firstk: &[u16],
+    nextk: &[u16],
     at: &[u16],
     es: &[u16],
     inside: &[u16],
-    target: &[u32],
-    flag: &mut [u32],
+    target: &[u16],
+    flag: &mut [u16],
 )
     requires { ⌜ Rowed (now s) (now rows) n × Family (rowsIn (now rows) n) (now first) (now next) × Kinds (rowsIn (now rows) n) (now firstk) (now nextk) × Placed (now t) (now s) (now rows) n (now at) (now es) (now inside) × Targeted (docOf (now s) (now rows) n) (now target) × (length (now flag) ≡ roomOf n) ⌝ }
     ensures { λ _. ⌜ Flagged (tableOf (now (t .entry))) (docOf (now (s .entry)) (now (rows .entry)) n) (now (flag .exit)) ⌝ }

@@ -19,23 +19,26 @@ ghost use Rattle.query_spreads.specs.Spreads.{Graph};
 ghost use Rattle.query_reach_pass.specs.Marks.{Stamped, Reached};
 ghost use Rattle.query_alike.specs.Flags.{Circled, FlagsTo, LikenedTo, FragmentsTo, Known, Flagged};
 
+// rule 8, as it is flagged
+const CIRCLE: u16 = RULE_CIRCLE as u16;
+
 // Judges every variable that is like none by the operation of row o, after the search from it.
 fn judge_variables(
     t: &[u8],
     s: &[u8],
     rows: &[u32],
     n: usize,
-    first: &[u32],
-    next: &[u32],
-    firstk: &[u32],
-    nextk: &[u32],
+    first: &[u16],
+    next: &[u16],
+    firstk: &[u16],
+    nextk: &[u16],
     at: &[u16],
     es: &[u16],
     wrappers: &[u16],
-    owner: &[u32],
-    mark: &[u32],
+    owner: &[u16],
+    mark: &[u16],
     o: usize,
-    flag: &mut [u32],
+    flag: &mut [u16],
 )
     requires { ⌜ Known (now t) (now s) (now rows) n (now first) (now next) (now at) (now es) (now wrappers) (now owner) × Kinds (rowsIn (now rows) n) (now firstk) (now nextk) × Reached (docOf (now s) (now rows) n) o (now mark) × (rowIn (now rows) n o .kind ≡ kindOperation) × LikenedTo (tableOf (now t)) (docOf (now s) (now rows) n) n o (now flag) ⌝ }
     ensures { λ _. ⌜ LikenedTo (tableOf (now (t .entry))) (docOf (now (s .entry)) (now (rows .entry)) n) n (o + 1) (now (flag .exit)) ⌝ }
@@ -71,20 +74,20 @@ fn judge_operations(
     s: &[u8],
     rows: &[u32],
     n: usize,
-    first: &[u32],
-    next: &[u32],
-    firstk: &[u32],
-    nextk: &[u32],
+    first: &[u16],
+    next: &[u16],
+    firstk: &[u16],
+    nextk: &[u16],
     at: &[u16],
     es: &[u16],
     wrappers: &[u16],
-    owner: &[u32],
-    target: &[u32],
-    firsts: &[u32],
-    nexts: &[u32],
-    mark: &mut [u32],
+    owner: &[u16],
+    target: &[u16],
+    firsts: &[u16],
+    nexts: &[u16],
+    mark: &mut [u16],
     stack: &mut [u16],
-    flag: &mut [u32],
+    flag: &mut [u16],
 )
     requires { ⌜ Known (now t) (now s) (now rows) n (now first) (now next) (now at) (now es) (now wrappers) (now owner) × Kinds (rowsIn (now rows) n) (now firstk) (now nextk) × Graph (docOf (now s) (now rows) n) (now target) (now firsts) (now nexts) × Stamped (docOf (now s) (now rows) n) 0 (now mark) × (length (now stack) ≡ roomOf n) × LikenedTo (tableOf (now t)) (docOf (now s) (now rows) n) n 0 (now flag) ⌝ }
     ensures { λ _. ⌜ LikenedTo (tableOf (now (t .entry))) (docOf (now (s .entry)) (now (rows .entry)) n) n n (now (flag .exit)) ⌝ }
@@ -119,20 +122,20 @@ fn judge_uses(
     s: &[u8],
     rows: &[u32],
     n: usize,
-    first: &[u32],
-    next: &[u32],
-    firstk: &[u32],
-    nextk: &[u32],
+    first: &[u16],
+    next: &[u16],
+    firstk: &[u16],
+    nextk: &[u16],
     at: &[u16],
     es: &[u16],
     wrappers: &[u16],
-    owner: &[u32],
-    target: &[u32],
-    firsts: &[u32],
-    nexts: &[u32],
-    mark: &mut [u32],
+    owner: &[u16],
+    target: &[u16],
+    firsts: &[u16],
+    nexts: &[u16],
+    mark: &mut [u16],
     stack: &mut [u16],
-    flag: &mut [u32],
+    flag: &mut [u16],
 )
     requires { ⌜ Known (now t) (now s) (now rows) n (now first) (now next) (now at) (now es) (now wrappers) (now owner) × Kinds (rowsIn (now rows) n) (now firstk) (now nextk) × Graph (docOf (now s) (now rows) n) (now target) (now firsts) (now nexts) × Stamped (docOf (now s) (now rows) n) 0 (now mark) × (length (now stack) ≡ roomOf n) × FlagsTo (tableOf (now t)) (docOf (now s) (now rows) n) n 0 (now flag) ⌝ }
     ensures { λ _. ⌜ FlagsTo (tableOf (now (t .entry))) (docOf (now (s .entry)) (now (rows .entry)) n) n n (now (flag .exit)) ⌝ }
@@ -179,18 +182,18 @@ fn circle_of(
     s: &[u8],
     rows: &[u32],
     n: usize,
-    target: &[u32],
-    firsts: &[u32],
-    nexts: &[u32],
-    mark: &mut [u32],
+    target: &[u16],
+    firsts: &[u16],
+    nexts: &[u16],
+    mark: &mut [u16],
     stack: &mut [u16],
     i: usize,
-) -> u32
+) -> u16
     requires { ⌜ Sized (now rows) n × Graph (docOf (now s) (now rows) n) (now target) (now firsts) (now nexts) × Stamped (docOf (now s) (now rows) n) i (now mark) × (length (now stack) ≡ roomOf n) ⌝ }
     ensures { λ r. ⌜ Circled (docOf (now (s .entry)) (now (rows .entry)) n) i r × Stamped (docOf (now (s .entry)) (now (rows .entry)) n) (i + 1) (now (mark .exit)) ⌝ }
 {
     if query_reach::circles(s, rows, n, target, firsts, nexts, mark, stack, i) {
-        return RULE_CIRCLE;
+        return CIRCLE;
     }
     NO_RULE
 }
@@ -200,14 +203,14 @@ fn judge_fragments(
     s: &[u8],
     rows: &[u32],
     n: usize,
-    firstk: &[u32],
-    nextk: &[u32],
-    target: &[u32],
-    firsts: &[u32],
-    nexts: &[u32],
-    mark: &mut [u32],
+    firstk: &[u16],
+    nextk: &[u16],
+    target: &[u16],
+    firsts: &[u16],
+    nexts: &[u16],
+    mark: &mut [u16],
     stack: &mut [u16],
-    flag: &mut [u32],
+    flag: &mut [u16],
 )
     requires { ⌜ Sized (now rows) n × Kinds (rowsIn (now rows) n) (now firstk) (now nextk) × Graph (docOf (now s) (now rows) n) (now target) (now firsts) (now nexts) × Stamped (docOf (now s) (now rows) n) 0 (now mark) × (length (now stack) ≡ roomOf n) × (length (now flag) ≡ roomOf n) ⌝ }
     ensures { λ _. ⌜ FragmentsTo (docOf (now (s .entry)) (now (rows .entry)) n) (now (flag .entry)) n (now (flag .exit)) ⌝ }
@@ -225,20 +228,20 @@ pub fn flags(
     s: &[u8],
     rows: &[u32],
     n: usize,
-    first: &[u32],
-    next: &[u32],
-    firstk: &[u32],
-    nextk: &[u32],
+    first: &[u16],
+    next: &[u16],
+    firstk: &[u16],
+    nextk: &[u16],
     at: &[u16],
     es: &[u16],
     wrappers: &[u16],
-    owner: &[u32],
-    target: &[u32],
-    firsts: &[u32],
-    nexts: &[u32],
-    mark: &mut [u32],
+    owner: &[u16],
+    target: &[u16],
+    firsts: &[u16],
+    nexts: &[u16],
+    mark: &mut [u16],
     stack: &mut [u16],
-    flag: &mut [u32],
+    flag: &mut [u16],
 )
     requires { ⌜ Known (now t) (now s) (now rows) n (now first) (now next) (now at) (now es) (now wrappers) (now owner) × Kinds (rowsIn (now rows) n) (now firstk) (now nextk) × Graph (docOf (now s) (now rows) n) (now target) (now firsts) (now nexts) × (length (now mark) ≡ roomOf n) × (length (now stack) ≡ roomOf n) × (length (now flag) ≡ roomOf n) ⌝ }
     ensures { λ _. ⌜ Flagged (tableOf (now (t .entry))) (docOf (now (s .entry)) (now (rows .entry)) n) (now (flag .exit)) ⌝ }

@@ -96,8 +96,8 @@ pub fn no_input_type(
     s: &[u8],
     rows: &[u32],
     n: usize,
-    first: &[u32],
-    next: &[u32],
+    first: &[u16],
+    next: &[u16],
     i: usize,
 ) -> bool
     requires { ⌜ Booked (now t) (now book) × Rowed (now s) (now rows) n × Family (rowsIn (now rows) n) (now first) (now next) × (i < n) ⌝ }

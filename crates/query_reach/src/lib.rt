@@ -18,10 +18,10 @@ pub fn reach(
     s: &[u8],
     rows: &[u32],
     n: usize,
-    target: &[u32],
-    first: &[u32],
-    next: &[u32],
-    mark: &mut [u32],
+    target: &[u16],
+    first: &[u16],
+    next: &[u16],
+    mark: &mut [u16],
     stack: &mut [u16],
     a: usize,
 )
@@ -41,10 +41,10 @@ pub fn circles(
     s: &[u8],
     rows: &[u32],
     n: usize,
-    target: &[u32],
-    first: &[u32],
-    next: &[u32],
-    mark: &mut [u32],
+    target: &[u16],
+    first: &[u16],
+    next: &[u16],
+    mark: &mut [u16],
     stack: &mut [u16],
     i: usize,
 ) -> bool
@@ -55,7 +55,7 @@ pub fn circles(
         return false;
     }
     reach(s, rows, n, target, first, next, mark, stack, i);
-    mark[i] == i as u32 + 1
+    mark[i] == i as u16 + 1
 }
 
 // Does the definition of row o reach row i, by the marks of the search from it?
@@ -63,8 +63,8 @@ pub fn reaches(
     s: &[u8],
     rows: &[u32],
     n: usize,
-    owner: &[u32],
-    mark: &[u32],
+    owner: &[u16],
+    mark: &[u16],
     o: usize,
     i: usize,
 ) -> bool
@@ -78,5 +78,5 @@ pub fn reaches(
     if n <= w {
         return false;
     }
-    mark[w] == o as u32 + 1
+    mark[w] == o as u16 + 1
 }

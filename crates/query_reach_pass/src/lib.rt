@@ -4,7 +4,7 @@ ghost use Rattle.query_spreads.specs.Spreads.{Graph};
 ghost use Rattle.query_reach_pass.specs.Marks.{Noted, Room, Search, Passed};
 
 // Marks the fragment of row f and puts it on the stack, if there is one and it is not marked yet; the stack's new height.
-fn note(n: usize, mark: &mut [u32], stack: &mut [u16], top: usize, stamp: u32, f: usize) -> usize
+fn note(n: usize, mark: &mut [u16], stack: &mut [u16], top: usize, stamp: u16, f: usize) -> usize
     requires { ⌜ Room n stamp (now mark) (now stack) top ⌝ }
     ensures { λ r. ⌜ Noted n stamp f (now (mark .entry)) (now (stack .entry)) top (now (mark .exit)) (now (stack .exit)) r ⌝ }
 {
@@ -24,10 +24,10 @@ pub fn pass(
     s: &[u8],
     rows: &[u32],
     n: usize,
-    target: &[u32],
-    first: &[u32],
-    next: &[u32],
-    mark: &mut [u32],
+    target: &[u16],
+    first: &[u16],
+    next: &[u16],
+    mark: &mut [u16],
     stack: &mut [u16],
     top: usize,
     a: usize,
@@ -36,7 +36,7 @@ pub fn pass(
     requires { ⌜ Graph (docOf (now s) (now rows) n) (now target) (now first) (now next) × Search (docOf (now s) (now rows) n) a (now mark) (now stack) top g 0 ⌝ }
     ensures { λ r. ⌜ Passed (docOf (now (s .entry)) (now (rows .entry)) n) a (now (mark .entry)) (now (stack .entry)) top g (now (mark .exit)) (now (stack .exit)) r ⌝ }
 {
-    let stamp = a as u32 + 1;
+    let stamp = a as u16 + 1;
     let mut height = top;
     let mut j = first[g] as usize;
     while j < n {

@@ -53,8 +53,8 @@ fn operation_rule(
     s: &[u8],
     rows: &[u32],
     n: usize,
-    firstk: &[u32],
-    nextk: &[u32],
+    firstk: &[u16],
+    nextk: &[u16],
     i: usize,
 ) -> u32
     requires { ⌜ Booked (now t) (now book) × Rowed (now s) (now rows) n × Kinds (rowsIn (now rows) n) (now firstk) (now nextk) × (i < n) × (rowIn (now rows) n i .kind ≡ kindOperation) ⌝ }
@@ -77,9 +77,9 @@ fn fragment_rule(
     s: &[u8],
     rows: &[u32],
     n: usize,
-    firstk: &[u32],
-    nextk: &[u32],
-    flags: &[u32],
+    firstk: &[u16],
+    nextk: &[u16],
+    flags: &[u16],
     i: usize,
 ) -> u32
     requires { ⌜ Rowed (now s) (now rows) n × Kinds (rowsIn (now rows) n) (now firstk) (now nextk) × (i < length (now flags)) × (i < n) × (rowIn (now rows) n i .kind ≡ kindFragment) ⌝ }
@@ -88,7 +88,7 @@ fn fragment_rule(
     if query_rule_3::fragment_repeated(s, rows, n, firstk, nextk, i) {
         return RULE_FRAGMENT_REPEATED;
     }
-    flags[i]
+    flags[i] as u32
 }
 
 // Rules 5 and 6 at a field.
@@ -97,8 +97,8 @@ fn field_rule(
     s: &[u8],
     rows: &[u32],
     n: usize,
-    first: &[u32],
-    next: &[u32],
+    first: &[u16],
+    next: &[u16],
     inside: &[u16],
     at: &[u16],
     es: &[u16],
@@ -120,8 +120,8 @@ fn argument_rule(
     s: &[u8],
     rows: &[u32],
     n: usize,
-    first: &[u32],
-    next: &[u32],
+    first: &[u16],
+    next: &[u16],
     inside: &[u16],
     at: &[u16],
     es: &[u16],
@@ -144,8 +144,8 @@ fn definition_rule(
     s: &[u8],
     rows: &[u32],
     n: usize,
-    first: &[u32],
-    next: &[u32],
+    first: &[u16],
+    next: &[u16],
     i: usize,
 ) -> u32
     requires { ⌜ Booked (now t) (now book) × Rowed (now s) (now rows) n × Family (rowsIn (now rows) n) (now first) (now next) × (i < n) × (rowIn (now rows) n i .kind ≡ kindVariableDefinition) ⌝ }
@@ -167,15 +167,15 @@ pub fn rule_at(
     s: &[u8],
     rows: &[u32],
     n: usize,
-    first: &[u32],
-    next: &[u32],
-    firstk: &[u32],
-    nextk: &[u32],
+    first: &[u16],
+    next: &[u16],
+    firstk: &[u16],
+    nextk: &[u16],
     inside: &[u16],
     at: &[u16],
     es: &[u16],
-    target: &[u32],
-    flags: &[u32],
+    target: &[u16],
+    flags: &[u16],
     i: usize,
 ) -> u32
     requires { ⌜ Ready (now t) (now book) (now s) (now rows) n (now first) (now next) (now firstk) (now nextk) (now inside) (now at) (now es) (now target) (now flags) × (i < n) ⌝ }
@@ -200,7 +200,7 @@ pub fn rule_at(
             query_rules_4_13::condition_wrong(t, book, s, rows, n, i),
             RULE_CONDITION,
         ),
-        KIND_VARIABLE => flags[i],
+        KIND_VARIABLE => flags[i] as u32,
         _ => 0,
     }
 }

@@ -20,8 +20,8 @@ pub fn first_called(
     s: &[u8],
     rows: &[u32],
     n: usize,
-    firstk: &[u32],
-    nextk: &[u32],
+    firstk: &[u16],
+    nextk: &[u16],
     k: u32,
     t: &[u8],
     at: usize,
@@ -45,8 +45,8 @@ pub fn fragment_named(
     s: &[u8],
     rows: &[u32],
     n: usize,
-    firstk: &[u32],
-    nextk: &[u32],
+    firstk: &[u16],
+    nextk: &[u16],
     i: usize,
 ) -> usize
     requires { ⌜ Rowed (now s) (now rows) n × Kinds (rowsIn (now rows) n) (now firstk) (now nextk) × (i < n) ⌝ }
@@ -62,8 +62,8 @@ pub fn fragment_repeated(
     s: &[u8],
     rows: &[u32],
     n: usize,
-    firstk: &[u32],
-    nextk: &[u32],
+    firstk: &[u16],
+    nextk: &[u16],
     i: usize,
 ) -> bool
     requires { ⌜ Rowed (now s) (now rows) n × Kinds (rowsIn (now rows) n) (now firstk) (now nextk) × (i < n) ⌝ }

@@ -35,7 +35,7 @@ fn is_selection(rows: &[u32], n: usize, i: usize) -> bool
 }
 
 // Is the argument of row a an `if`, a boolean or a variable?
-fn is_if(s: &[u8], rows: &[u32], n: usize, first: &[u32], next: &[u32], a: usize) -> bool
+fn is_if(s: &[u8], rows: &[u32], n: usize, first: &[u16], next: &[u16], a: usize) -> bool
     requires { ⌜ Rowed (now s) (now rows) n × Family (rowsIn (now rows) n) (now first) (now next) × (a < n) ⌝ }
     ensures { λ r. ⌜ r ≡ isIf (docOf (now (s .entry)) (now (rows .entry)) n) a ⌝ }
 {
@@ -49,7 +49,7 @@ fn is_if(s: &[u8], rows: &[u32], n: usize, first: &[u32], next: &[u32], a: usize
 }
 
 // Has row i one argument only, and such?
-fn is_only_if(s: &[u8], rows: &[u32], n: usize, first: &[u32], next: &[u32], i: usize) -> bool
+fn is_only_if(s: &[u8], rows: &[u32], n: usize, first: &[u16], next: &[u16], i: usize) -> bool
     requires { ⌜ Rowed (now s) (now rows) n × Family (rowsIn (now rows) n) (now first) (now next) × (i < n) ⌝ }
     ensures { λ r. ⌜ r ≡ onlyIfs (docOf (now (s .entry)) (now (rows .entry)) n) (rowsBelow (docOf (now (s .entry)) (now (rows .entry)) n) kindArgument i) ⌝ }
 {
@@ -64,7 +64,7 @@ fn is_only_if(s: &[u8], rows: &[u32], n: usize, first: &[u32], next: &[u32], i: 
 }
 
 // Is nothing wrong with the directive of row i?
-fn is_right(s: &[u8], rows: &[u32], n: usize, first: &[u32], next: &[u32], i: usize) -> bool
+fn is_right(s: &[u8], rows: &[u32], n: usize, first: &[u16], next: &[u16], i: usize) -> bool
     requires { ⌜ Rowed (now s) (now rows) n × Family (rowsIn (now rows) n) (now first) (now next) × (i < n) × (rowIn (now rows) n i .kind ≡ kindDirective) ⌝ }
     ensures { λ r. ⌜ r ≡ directiveRight (docOf (now (s .entry)) (now (rows .entry)) n) i ⌝ }
 {
@@ -88,8 +88,8 @@ pub fn directive_wrong(
     s: &[u8],
     rows: &[u32],
     n: usize,
-    first: &[u32],
-    next: &[u32],
+    first: &[u16],
+    next: &[u16],
     i: usize,
 ) -> bool
     requires { ⌜ Rowed (now s) (now rows) n × Family (rowsIn (now rows) n) (now first) (now next) × (i < n) ⌝ }

@@ -35,8 +35,12 @@ ghost use Rattle.query_places.specs.Placed.{Placed};
 ghost use Rattle.query_alike_pair.specs.Alike.{verdictOf, Least};
 ghost use Rattle.query_alike.specs.Flags.{Known};
 
-// no rule is broken
-pub const NO_RULE: u32 = 0;
+// no rule is broken; rules 10 and 11, as they are flagged
+pub const NO_RULE: u16 = 0;
+
+const UNDEFINED: u16 = RULE_UNDEFINED as u16;
+
+const VARIABLE_TYPE: u16 = RULE_VARIABLE_TYPE as u16;
 
 // Is row j a variable definition of row i's name?
 fn defines_it(s: &[u8], rows: &[u32], n: usize, j: usize, i: usize) -> bool
@@ -54,8 +58,8 @@ pub fn definition_of(
     s: &[u8],
     rows: &[u32],
     n: usize,
-    first: &[u32],
-    next: &[u32],
+    first: &[u16],
+    next: &[u16],
     o: usize,
     i: usize,
 ) -> usize
@@ -100,20 +104,20 @@ fn verdict(
     s: &[u8],
     rows: &[u32],
     n: usize,
-    first: &[u32],
-    next: &[u32],
+    first: &[u16],
+    next: &[u16],
     at: &[u16],
     es: &[u16],
     wrappers: &[u16],
     o: usize,
     i: usize,
-) -> u32
+) -> u16
     requires { ⌜ Rowed (now s) (now rows) n × Family (rowsIn (now rows) n) (now first) (now next) × Placed (now t) (now s) (now rows) n (now at) (now es) (now wrappers) × (o < n) ⌝ }
     ensures { λ r. ⌜ r ≡ verdictOf (tableOf (now (t .entry))) (docOf (now (s .entry)) (now (rows .entry)) n) o i ⌝ }
 {
     let v = definition_of(s, rows, n, first, next, o, i);
     if n <= v {
-        return RULE_UNDEFINED;
+        return UNDEFINED;
     }
     let r = first_below(rows, n, first, next, KIND_TYPE_REFERENCE, v);
     if n <= r {
@@ -121,7 +125,7 @@ fn verdict(
     }
     let p = place_of(rows, n, at, wrappers, i);
     if differs(t, es, s, rows, n, r, p) {
-        return RULE_VARIABLE_TYPE;
+        return VARIABLE_TYPE;
     }
     NO_RULE
 }
@@ -132,21 +136,21 @@ pub fn lesser(
     s: &[u8],
     rows: &[u32],
     n: usize,
-    first: &[u32],
-    next: &[u32],
+    first: &[u16],
+    next: &[u16],
     at: &[u16],
     es: &[u16],
     wrappers: &[u16],
-    owner: &[u32],
-    mark: &[u32],
+    owner: &[u16],
+    mark: &[u16],
     o: usize,
     i: usize,
-    f: u32,
-) -> u32
+    f: u16,
+) -> u16
     requires { ⌜ Known (now t) (now s) (now rows) n (now first) (now next) (now at) (now es) (now wrappers) (now owner) × Reached (docOf (now s) (now rows) n) o (now mark) × (rowIn (now rows) n o .kind ≡ kindOperation) × (i < n) × Least (tableOf (now t)) (docOf (now s) (now rows) n) o i f ⌝ }
     ensures { λ r. ⌜ Least (tableOf (now (t .entry))) (docOf (now (s .entry)) (now (rows .entry)) n) (o + 1) i r ⌝ }
 {
-    if f == RULE_UNDEFINED {
+    if f == UNDEFINED {
         return f;
     }
     if !query_reach::reaches(s, rows, n, owner, mark, o, i) {

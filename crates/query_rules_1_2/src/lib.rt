@@ -18,8 +18,8 @@ pub fn operation_repeated(
     s: &[u8],
     rows: &[u32],
     n: usize,
-    firstk: &[u32],
-    nextk: &[u32],
+    firstk: &[u16],
+    nextk: &[u16],
     i: usize,
 ) -> bool
     requires { ⌜ Rowed (now s) (now rows) n × Kinds (rowsIn (now rows) n) (now firstk) (now nextk) × (i < n) ⌝ }
@@ -37,7 +37,7 @@ pub fn operation_repeated(
 }
 
 // Rule 2: is this operation unnamed and not the only one?
-pub fn operation_unnamed(rows: &[u32], n: usize, firstk: &[u32], nextk: &[u32], i: usize) -> bool
+pub fn operation_unnamed(rows: &[u32], n: usize, firstk: &[u16], nextk: &[u16], i: usize) -> bool
     requires { ⌜ Sized (now rows) n × Kinds (rowsIn (now rows) n) (now firstk) (now nextk) × (i < n) ⌝ }
     ensures { λ r. ⌜ ((s : List ℕ) → r ≡ operationUnnamed (docOf s (now (rows .entry)) n) i) ⌝ }
 {

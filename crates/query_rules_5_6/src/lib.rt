@@ -40,8 +40,8 @@ pub fn has_selections(
     s: &[u8],
     rows: &[u32],
     n: usize,
-    first: &[u32],
-    next: &[u32],
+    first: &[u16],
+    next: &[u16],
     i: usize,
 ) -> bool
     requires { ⌜ Rowed (now s) (now rows) n × Family (rowsIn (now rows) n) (now first) (now next) × (i < n) ⌝ }
@@ -63,8 +63,8 @@ pub fn leaf_wrong(
     s: &[u8],
     rows: &[u32],
     n: usize,
-    first: &[u32],
-    next: &[u32],
+    first: &[u16],
+    next: &[u16],
     inside: &[u16],
     at: &[u16],
     es: &[u16],

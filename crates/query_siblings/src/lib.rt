@@ -38,7 +38,7 @@ fn is_kind_called(
 }
 
 // The first of row i and those beside it that has row i's kind and name.
-fn first_like(s: &[u8], rows: &[u32], n: usize, first: &[u32], next: &[u32], i: usize) -> usize
+fn first_like(s: &[u8], rows: &[u32], n: usize, first: &[u16], next: &[u16], i: usize) -> usize
     requires { ⌜ Rowed (now s) (now rows) n × Family (rowsIn (now rows) n) (now first) (now next) × (i < n) ⌝ }
     ensures { λ r. ⌜ r ≡ firstLike (docOf (now (s .entry)) (now (rows .entry)) n) i ⌝ }
 {
@@ -57,7 +57,7 @@ fn first_like(s: &[u8], rows: &[u32], n: usize, first: &[u32], next: &[u32], i: 
 }
 
 // Has an earlier row of its kind beside it the name of row i?
-pub fn is_repeated(s: &[u8], rows: &[u32], n: usize, first: &[u32], next: &[u32], i: usize) -> bool
+pub fn is_repeated(s: &[u8], rows: &[u32], n: usize, first: &[u16], next: &[u16], i: usize) -> bool
     requires { ⌜ Rowed (now s) (now rows) n × Family (rowsIn (now rows) n) (now first) (now next) × (i < n) ⌝ }
     ensures { λ r. ⌜ r ≡ earlier (isLike (docOf (now (s .entry)) (now (rows .entry)) n) i) i (rowsIn (now (rows .entry)) n) ⌝ }
 {
@@ -65,7 +65,7 @@ pub fn is_repeated(s: &[u8], rows: &[u32], n: usize, first: &[u32], next: &[u32]
 }
 
 // Rule 12: has an earlier argument or variable definition beside it the name of this one?
-pub fn name_twice(s: &[u8], rows: &[u32], n: usize, first: &[u32], next: &[u32], i: usize) -> bool
+pub fn name_twice(s: &[u8], rows: &[u32], n: usize, first: &[u16], next: &[u16], i: usize) -> bool
     requires { ⌜ Rowed (now s) (now rows) n × Family (rowsIn (now rows) n) (now first) (now next) × (i < n) ⌝ }
     ensures { λ r. ⌜ r ≡ nameTwice (docOf (now (s .entry)) (now (rows .entry)) n) i ⌝ }
 {
@@ -80,7 +80,7 @@ pub fn name_twice(s: &[u8], rows: &[u32], n: usize, first: &[u32], next: &[u32],
 }
 
 // The first of kind k from row j on, that row and those beside it; n if there is none.
-pub fn next_beside(rows: &[u32], n: usize, next: &[u32], k: u32, j: usize) -> usize
+pub fn next_beside(rows: &[u32], n: usize, next: &[u16], k: u32, j: usize) -> usize
     requires { ⌜ Sized (now rows) n × Beside (rowsIn (now rows) n) (now next) × (j ≤ n) ⌝ }
     ensures { λ r. ⌜ r ≡ nextBeside (rowsIn (now (rows .entry)) n) k j ⌝ }
 {
@@ -95,7 +95,7 @@ pub fn next_beside(rows: &[u32], n: usize, next: &[u32], k: u32, j: usize) -> us
 }
 
 // The first of kind k right below row p; n if there is none.
-pub fn first_below(rows: &[u32], n: usize, first: &[u32], next: &[u32], k: u32, p: usize) -> usize
+pub fn first_below(rows: &[u32], n: usize, first: &[u16], next: &[u16], k: u32, p: usize) -> usize
     requires { ⌜ Sized (now rows) n × Family (rowsIn (now rows) n) (now first) (now next) × (p < n) ⌝ }
     ensures { λ r. ⌜ r ≡ firstBelow (rowsIn (now (rows .entry)) n) k p ⌝ }
 {

@@ -15,26 +15,26 @@ ghost use Rattle.query_spreads.specs.Owners.{Owner, Owned, OwnedTo};
 ghost use Rattle.query_spreads.specs.Spreads.{Targeted, Linked, Spreader};
 
 // The definition that row i stands in, given those of the rows before it; 2,048 if there is none.
-fn owner_of(s: &[u8], rows: &[u32], n: usize, owner: &[u32], i: usize) -> u32
+fn owner_of(s: &[u8], rows: &[u32], n: usize, owner: &[u16], i: usize) -> u16
     requires { ⌜ Rowed (now s) (now rows) n × OwnedTo (docOf (now s) (now rows) n) i (now owner) × (i < n) ⌝ }
     ensures { λ r. ⌜ Owner (docOf (now (s .entry)) (now (rows .entry)) n) i r ⌝ }
 {
     let kind = kind_of(rows, n, i);
     if kind == KIND_OPERATION {
-        return i as u32;
+        return i as u16;
     }
     if kind == KIND_FRAGMENT {
-        return i as u32;
+        return i as u16;
     }
     let p = parent_of(rows, n, i) as usize;
     if p < i {
         return owner[p];
     }
-    NO_PARENT
+    NO_PARENT as u16
 }
 
 // Finds the definition of each row.
-pub fn owners(s: &[u8], rows: &[u32], n: usize, owner: &mut [u32])
+pub fn owners(s: &[u8], rows: &[u32], n: usize, owner: &mut [u16])
     requires { ⌜ Rowed (now s) (now rows) n × (length (now owner) ≡ roomOf n) ⌝ }
     ensures { λ _. ⌜ Owned (docOf (now (s .entry)) (now (rows .entry)) n) (now (owner .exit)) ⌝ }
 {
@@ -47,20 +47,20 @@ pub fn owners(s: &[u8], rows: &[u32], n: usize, owner: &mut [u32])
 }
 
 // Finds the fragment that each spread leads to.
-pub fn targets(s: &[u8], rows: &[u32], n: usize, firstk: &[u32], nextk: &[u32], target: &mut [u32])
+pub fn targets(s: &[u8], rows: &[u32], n: usize, firstk: &[u16], nextk: &[u16], target: &mut [u16])
     requires { ⌜ Rowed (now s) (now rows) n × Kinds (rowsIn (now rows) n) (now firstk) (now nextk) × (length (now target) ≡ roomOf n) ⌝ }
     ensures { λ _. ⌜ Targeted (docOf (now (s .entry)) (now (rows .entry)) n) (now (target .exit)) ⌝ }
 {
     let mut i = query_links::link_of(firstk, KIND_SPREAD as usize);
     while i < n {
         let f = query_rule_3::fragment_named(s, rows, n, firstk, nextk, i);
-        target[i] = f as u32;
+        target[i] = f as u16;
         i = query_links::link_of(nextk, i);
     }
 }
 
 // Rule 7: is row i a spread of no fragment?
-pub fn spread_of_none(s: &[u8], rows: &[u32], n: usize, target: &[u32], i: usize) -> bool
+pub fn spread_of_none(s: &[u8], rows: &[u32], n: usize, target: &[u16], i: usize) -> bool
     requires { ⌜ Sized (now rows) n × Targeted (docOf (now s) (now rows) n) (now target) ⌝ }
     ensures { λ r. ⌜ r ≡ spreadOfNone (docOf (now (s .entry)) (now (rows .entry)) n) i ⌝ }
 {
@@ -71,7 +71,7 @@ pub fn spread_of_none(s: &[u8], rows: &[u32], n: usize, target: &[u32], i: usize
 }
 
 // The definition that row j spreads a fragment in; 2,048 if it is no spread.
-fn spreader(s: &[u8], rows: &[u32], n: usize, owner: &[u32], j: usize) -> usize
+fn spreader(s: &[u8], rows: &[u32], n: usize, owner: &[u16], j: usize) -> usize
     requires { ⌜ Rowed (now s) (now rows) n × Owned (docOf (now s) (now rows) n) (now owner) × (j < n) ⌝ }
     ensures { λ r. ⌜ Spreader (docOf (now (s .entry)) (now (rows .entry)) n) j r ⌝ }
 {
@@ -82,7 +82,7 @@ fn spreader(s: &[u8], rows: &[u32], n: usize, owner: &[u32], j: usize) -> usize
 }
 
 // Links the spreads of each definition, in a list of firsts that has one for each row or more.
-pub fn spreads(s: &[u8], rows: &[u32], n: usize, owner: &[u32], first: &mut [u32], next: &mut [u32])
+pub fn spreads(s: &[u8], rows: &[u32], n: usize, owner: &[u16], first: &mut [u16], next: &mut [u16])
     requires { ⌜ Rowed (now s) (now rows) n × Owned (docOf (now s) (now rows) n) (now owner) × (n ≤ length (now first)) × (length (now next) ≡ roomOf n) ⌝ }
     ensures { λ _. ⌜ Linked (docOf (now (s .entry)) (now (rows .entry)) n) (now (first .exit)) (now (next .exit)) ⌝ }
 {

@@ -49,13 +49,13 @@ fn search_spreads(
     s: &[u8],
     rows: &[u32],
     n: usize,
-    owner: &[u32],
-    firstk: &mut [u32],
-    nextk: &mut [u32],
-    target: &mut [u32],
-    first: &mut [u32],
-    next: &mut [u32],
-    mark: &mut [u32],
+    owner: &[u16],
+    firstk: &mut [u16],
+    nextk: &mut [u16],
+    target: &mut [u16],
+    first: &mut [u16],
+    next: &mut [u16],
+    mark: &mut [u16],
     stack: &mut [u16],
     op: usize,
     i: usize,
@@ -75,13 +75,13 @@ fn reach_with(
     s: &[u8],
     rows: &[u32],
     n: usize,
-    owner: &mut [u32],
-    firstk: &mut [u32],
-    nextk: &mut [u32],
-    target: &mut [u32],
-    first: &mut [u32],
-    next: &mut [u32],
-    mark: &mut [u32],
+    owner: &mut [u16],
+    firstk: &mut [u16],
+    nextk: &mut [u16],
+    target: &mut [u16],
+    first: &mut [u16],
+    next: &mut [u16],
+    mark: &mut [u16],
     stack: &mut [u16],
     op: usize,
     i: usize,
@@ -115,13 +115,13 @@ fn reach_few(s: &[u8], rows: &[u32], n: usize, op: usize, i: usize) -> bool
     requires { ⌜ Rowed (now s) (now rows) n × Defines (docOf (now s) (now rows) n) op × (i < n) × (n ≤ fewRows) ⌝ }
     ensures { λ r. ⌜ Decides r (Reaches (docOf (now (s .entry)) (now (rows .entry)) n) op i) ⌝ }
 {
-    let mut owner = [0u32; FEW_ROWS];
-    let mut firstk = [0u32; KINDS];
-    let mut nextk = [0u32; FEW_ROWS];
-    let mut target = [0u32; FEW_ROWS];
-    let mut first = [0u32; FEW_ROWS];
-    let mut next = [0u32; FEW_ROWS];
-    let mut mark = [0u32; FEW_ROWS];
+    let mut owner = [0u16; FEW_ROWS];
+    let mut firstk = [0u16; KINDS];
+    let mut nextk = [0u16; FEW_ROWS];
+    let mut target = [0u16; FEW_ROWS];
+    let mut first = [0u16; FEW_ROWS];
+    let mut next = [0u16; FEW_ROWS];
+    let mut mark = [0u16; FEW_ROWS];
     let mut stack = [0u16; FEW_ROWS];
     reach_with(
         s,
@@ -145,13 +145,13 @@ fn reach_many(s: &[u8], rows: &[u32], n: usize, op: usize, i: usize) -> bool
     requires { ⌜ Rowed (now s) (now rows) n × Defines (docOf (now s) (now rows) n) op × (i < n) × (fewRows < n) ⌝ }
     ensures { λ r. ⌜ Decides r (Reaches (docOf (now (s .entry)) (now (rows .entry)) n) op i) ⌝ }
 {
-    let mut owner = [0u32; ROWS];
-    let mut firstk = [0u32; KINDS];
-    let mut nextk = [0u32; ROWS];
-    let mut target = [0u32; ROWS];
-    let mut first = [0u32; ROWS];
-    let mut next = [0u32; ROWS];
-    let mut mark = [0u32; ROWS];
+    let mut owner = [0u16; ROWS];
+    let mut firstk = [0u16; KINDS];
+    let mut nextk = [0u16; ROWS];
+    let mut target = [0u16; ROWS];
+    let mut first = [0u16; ROWS];
+    let mut next = [0u16; ROWS];
+    let mut mark = [0u16; ROWS];
     let mut stack = [0u16; ROWS];
     reach_with(
         s,
@@ -256,8 +256,8 @@ fn type_from(
     s: &[u8],
     rows: &[u32],
     n: usize,
-    first: &[u32],
-    next: &[u32],
+    first: &[u16],
+    next: &[u16],
     i: usize,
     above: u16,
 ) -> u16
@@ -278,8 +278,8 @@ fn type_inside(
     s: &[u8],
     rows: &[u32],
     n: usize,
-    first: &[u32],
-    next: &[u32],
+    first: &[u16],
+    next: &[u16],
     i: usize,
 ) -> u16
     requires { ⌜ Asked (now t) (now book) (now s) (now rows) n (now first) (now next) × Fielded (tableOf (now t)) ⌝ }
@@ -303,8 +303,8 @@ fn content_with(
     s: &[u8],
     rows: &[u32],
     n: usize,
-    first: &mut [u32],
-    next: &mut [u32],
+    first: &mut [u16],
+    next: &mut [u16],
     i: usize,
 ) -> Span
     requires { ⌜ Known (now t) × Booked (now t) (now book) × Rowed (now s) (now rows) n × (length (now first) ≡ firstsSize) × (length (now next) ≡ roomOf n) ⌝ }
@@ -321,8 +321,8 @@ fn content_few(t: &[u8], book: &[u32], s: &[u8], rows: &[u32], n: usize, i: usiz
     requires { ⌜ Known (now t) × Booked (now t) (now book) × Rowed (now s) (now rows) n × (n ≤ fewRows) ⌝ }
     ensures { λ r. ⌜ Holds (now (t .entry)) (fieldAt (tableOf (now (t .entry))) (docOf (now (s .entry)) (now (rows .entry)) n) i) (r .start) (r .end) ⌝ }
 {
-    let mut first = [0u32; FIRSTS];
-    let mut next = [0u32; FEW_ROWS];
+    let mut first = [0u16; FIRSTS];
+    let mut next = [0u16; FEW_ROWS];
     content_with(t, book, s, rows, n, &mut first, &mut next, i)
 }
 
@@ -331,8 +331,8 @@ fn content_many(t: &[u8], book: &[u32], s: &[u8], rows: &[u32], n: usize, i: usi
     requires { ⌜ Known (now t) × Booked (now t) (now book) × Rowed (now s) (now rows) n × (fewRows < n) ⌝ }
     ensures { λ r. ⌜ Holds (now (t .entry)) (fieldAt (tableOf (now (t .entry))) (docOf (now (s .entry)) (now (rows .entry)) n) i) (r .start) (r .end) ⌝ }
 {
-    let mut first = [0u32; FIRSTS];
-    let mut next = [0u32; ROWS];
+    let mut first = [0u16; FIRSTS];
+    let mut next = [0u16; ROWS];
     content_with(t, book, s, rows, n, &mut first, &mut next, i)
 }
 

@@ -21,6 +21,9 @@ parent-of-requires c κs = rowed-sized (c .before .before .before .before .befor
 shared-slice-read-put-head : tie.Need-shared-slice-read-put-head
 shared-slice-read-put-head c = omega (arith, c .before .before .before .before .before .before .before .before .before .before .before .before .before .before .before .before .pre .0 .keyed .size, c .before .before .before .before .before .before .before .before .before .before .before .before .before .before .before .before .pre .1, rows-count (c .before .before .before .before .before .before .before .before .before .before .before .before .before .before .before .before .args .rows .now) (c .before .before .before .before .before .before .before .before .before .before .before .before .before .before .before .before .args .n), room-enough (c .before .before .before .before .before .before .before .before .before .before .before .before .before .before .before .before .args .n) (c .before .before .before .before .before .before .before .before .before .before .before .before .before .before .before .before .pre .0 .rowed .few), ap roomOf (rows-count (c .before .before .before .before .before .before .before .before .before .before .before .before .before .before .before .before .args .rows .now) (c .before .before .before .before .before .before .before .before .before .before .before .before .before .before .before .before .args .n)))
 
+cast-put-head : tie.Need-cast-put-head
+cast-put-head c = omega (arith, c .shared-slice-known11 .given (c .before .before .before .before .before .before .before .before .before .before .before .before .before .before .before .before .args .i))
+
 put-head-requires : tie.Need-put-head-requires
 put-head-requires c κs = (c .before .before .before .before .before .before .before .before .before .before .before .before .before .before .before .before .pre .4 .size, omega (arith, c .before .before .before .parent-of .ensures, parent-few (c .before .before .before .before .before .before .before .before .before .before .before .before .before .before .before .before .args .s .now) (c .before .before .before .before .before .before .before .before .before .before .before .before .before .before .before .before .args .rows .now) (c .before .before .before .before .before .before .before .before .before .before .before .before .before .before .before .before .args .n) (c .before .before .before .before .before .before .before .before .before .before .before .before .before .before .before .before .args .i) (c .before .before .before .before .before .before .before .before .before .before .before .before .before .before .before .before .pre .0 .rowed) (c .before .before .before .before .before .before .before .before .before .before .before .before .before .before .before .before .pre .1)), key-few (c .before .before .before .before .before .before .before .before .before .before .before .before .before .before .before .before .args .s .now) (c .before .before .before .before .before .before .before .before .before .before .before .before .before .before .before .before .args .rows .now) (c .before .before .before .before .before .before .before .before .before .before .before .before .before .before .before .before .args .n) (c .before .before .before .before .before .before .before .before .before .before .before .before .before .before .before .before .args .i) (c .before .before .before .before .before .before .before .before .before .before .before .before .before .before .before .before .pre .0 .rowed) (c .before .before .before .before .before .before .before .before .before .before .before .before .before .before .before .before .pre .1) (c .before .before .before .before .before .before .before .before .before .before .before .before .before .before .before .before .args .t .now) (c .before .before .before .before .before .before .before .before .before .before .before .before .before .before .before .before .args .keys .now) (c .before .before .before .before .before .before .before .before .before .before .before .before .before .before .before .before .pre .0 .keyed) (sym (c .before .before .before .before .kind-of .ensures) ∙ c .before .before .if1 .taken), omega (arith, c .before .before .before .before .before .before .before .before .before .before .before .before .before .before .before .before .pre .3))
 
@@ -40,4 +43,4 @@ returns-3 : tie.Need-returns-3
 returns-3 c = is-inline (c .before .before .before .before .before .before .before .before .before .before .before .before .before .before .before .before .before .before .before .args .t .now) (c .before .before .before .before .before .before .before .before .before .before .before .before .before .before .before .before .before .before .before .args .s .now) (c .before .before .before .before .before .before .before .before .before .before .before .before .before .before .before .before .before .before .before .args .rows .now) (c .before .before .before .before .before .before .before .before .before .before .before .before .before .before .before .before .before .before .before .args .n) (c .before .before .before .before .before .before .before .before .before .before .before .before .before .before .before .before .before .before .before .args .o) (c .before .before .before .before .before .before .before .before .before .before .before .before .before .before .before .before .before .before .before .args .i) (c .before .before .before .before .before .before .before .before .before .before .before .before .before .before .before .before .before .before .before .pre .0 .rowed .few) (c .before .before .before .before .before .before .before .before .before .before .before .before .before .before .before .before .before .before .before .pre .1) (c .before .before .before .before .before .before .before .before .before .before .before .before .before .before .before .before .before .before .before .args .row .now) _ (c .before .before .before .before .before .before .before .before .before .before .before .before .before .before .before .before .before .before .before .args .m) (c .before .before .before .before .before .before .before .before .before .before .before .before .before .before .before .before .before .before .before .pre .2) (c .before .before .before .before .before .before .before .before .before .before .before .before .before .before .before .before .before .before .before .pre .5) (c .before .before .before .before .before .before .before .before .before .before .before .before .before .before .before .before .before .before .before .pre .4) (c .before .before .before .before .before .before .before .before .before .before .before .before .before .before .before .before .before .before .before .pre .3) _ (c .before .before .before .before .before .before .parent-of .ensures) (λ q. c .before .before .before .before .before .if1 .left (c .before .before .before .before .before .before .before .kind-of .ensures ∙ q)) (λ q. c .before .before .before .before .if2 .left (c .before .before .before .before .before .before .before .kind-of .ensures ∙ q)) (c .before .before .fill-inline .ensures)
 
 pub fill-kept-spec : {M : Type 1} → statement M
-fill-kept-spec = tie.close (tie.spec kind-of-requires parent-of-requires (λ c. search needs) shared-slice-read-put-head (λ c. search needs) put-head-requires (λ c. search needs) returns fill-spread-requires (λ c. search needs) returns-2 fill-inline-requires (λ c. search needs) returns-3)
+fill-kept-spec = tie.close (tie.spec kind-of-requires parent-of-requires (λ c. search needs) shared-slice-read-put-head cast-put-head (λ c. search needs) put-head-requires (λ c. search needs) returns fill-spread-requires (λ c. search needs) returns-2 fill-inline-requires (λ c. search needs) returns-3)

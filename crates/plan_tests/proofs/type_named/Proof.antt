@@ -22,4 +22,4 @@ returns-2 : tie.Need-returns-2
 returns-2 c = type-some (tableOf (c .before .before .before .before .before .before .before .before .args .t .now)) (nameOf (docOf (c .before .before .before .before .before .before .before .before .args .s .now) (c .before .before .before .before .before .before .before .before .args .rows .now) (c .before .before .before .before .before .before .before .before .args .n)) (c .before .before .before .before .before .before .before .before .args .j)) _ (c .before .composite .ensures ∙ ap (compositeOf (tableOf (c .before .before .before .before .before .before .before .before .args .t .now))) (named (c .before .before .before .before .before .before .before .before .args .s .now) (c .before .before .before .before .before .before .before .before .args .rows .now) (c .before .before .before .before .before .before .before .before .args .n) (c .before .before .before .before .before .before .before .before .args .j) _ _ (c .before .before .before .name-of .ensures) (c .before .before .size-of .ensures))) (c .if1 .left)
 
 pub type-named-spec : {M : Type 1} → statement M
-type-named-spec = tie.close (tie.spec (λ c κs. search needs) (λ c. search needs) (λ c κs. search needs) (λ c. search needs) composite-requires (λ c κs. search needs) (λ c. search needs) returns (λ c. search needs) returns-2)
+type-named-spec = tie.close (tie.spec (λ c κs. search needs) (λ c. search needs) (λ c κs. search needs) (λ c. search needs) composite-requires (λ c κs. search needs) (λ c. search needs) returns (λ c. search needs) (λ c. search needs) returns-2)

@@ -1,4 +1,5 @@
 use mathlib.Core.Path.{sym, _∙_}
+use native.Mathlib.Omega.{arith}
 use Rattle.query_rows.proofs.Rooms.{room-at}
 use Rattle.query_places.proofs.PlacedLaws.{placed-enclosed}
 use Rattle.query_row_verdict.proofs.RowLaws.{spread-only, directive-only, condition-only, variable-only, other-kind}
@@ -22,6 +23,9 @@ shared-slice-read-result : tie.Need-shared-slice-read-result
 shared-slice-read-result c =
     let p = c .before .before .before .before .before .before .before .before .before .before .before .before .before .before .before .before .pre in
     room-at _ _ _ (p .0 .flagged .size) (p .0 .asked .rowed .few) (p .1)
+
+cast-result : tie.Need-cast-result
+cast-result c = omega (arith, c .shared-slice-known14 .given (c .before .before .before .before .before .before .before .before .before .before .before .before .before .before .before .before .args .i))
 
 returns-2 : tie.Need-returns-2
 returns-2 c = c .fragment-rule .ensures _ (c .before .before .before .before .before .before .before .before .before .before .before .before .before .before .before .before .pre .0 .flagged)
@@ -63,6 +67,7 @@ rule-at-spec =
     (λ c κs. search needs)
     (λ c. search needs)
     shared-slice-read-result
+    cast-result
     (λ c. search needs)
     returns-2
     (λ c. search needs)

@@ -50,4 +50,5 @@ owner-of-spec =
     (λ c. search needs)
     shared-slice-read-result
     returns-3
+    (λ c. search needs)
     returns-4)
