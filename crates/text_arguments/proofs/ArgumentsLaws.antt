@@ -8,7 +8,7 @@ use native.Mathlib.Omega.{arith}
 use lib.ListN.{length}
 use Rattle.paper.specs.Grammar.{nt, tm, act}
 use Rattle.paper.specs.Numbers.{mostText, mostRows}
-use Rattle.paper.specs.Language.{language, the, parenL, parenR, colon, named, end, Name, Arguments?, Arguments, Argument+, Argument*, Argument, Value}
+use Rattle.paper.specs.Language.{language, the, parenL, parenR, colon, named, end, Name, Arguments?, Arguments, Argument+, Argument*, Argument, Value, n-other}
 use Rattle.paper.specs.Rows.{top}
 use Rattle.paper.specs.Sizes.{Counts, overCounts}
 use Rattle.paper.specs.declared.Refusal.{Refusal}
@@ -17,7 +17,7 @@ use Rattle.paper.proofs.Lexing.{from}
 use Rattle.paper.proofs.Machine.{choose}
 use Rattle.paper.proofs.Tables.{factored}
 use Rattle.paper.proofs.Going.{Stack, st, Out, halt, go, startIn}
-use Rattle.text_scan.specs.Head.{headOf}
+use Rattle.text_scan.specs.Head.{headOf, kindOf}
 use Rattle.text_cursor.specs.declared.Cursor.{Cursor}
 use Rattle.text_cursor.specs.declared.Read.{Read}
 use Rattle.text_cursor.specs.declared.Read.the-variants.{Done, Refused}
@@ -39,7 +39,7 @@ module _ (s : List ℕ) (c : Cursor) (h : c .stop ≤ length s) (l : Looks s c) 
   here τ = go (st cells n o (c .stop) left q) τ (from s (c .stop))
 
   -- no argument but at a name
-  entry-lacks : (σ : Stack) → (c .kind ≡ 1 → ⊥) → here (entryStack 6 false ++ σ) ≡ halt (NoGoing (c .start))
+  entry-lacks : (σ : Stack) → (c .kind ≡ kindOf n-other → ⊥) → here (entryStack 6 false ++ σ) ≡ halt (NoGoing (c .start))
   entry-lacks σ e =
       let t = from s (c .stop) in
       let τ : Stack = tm (the colon) ∷ nt Value ∷ act end ∷ σ in
@@ -47,53 +47,53 @@ module _ (s : List ℕ) (c : Cursor) (h : c .stop ≤ length s) (l : Looks s c) 
       ∙ name-told cells (n + 1) o (c .stop) left q (nt Name ∷ τ) t n 6 (startIn t) 0 (top o) 0 0 0
       ∙ name-lacks s c h l _ (n + 1) (n ∷ o) left q τ e
 
-  one-argument : (σ : Stack) → c .kind ≡ 1 → here (nt Argument ∷ σ) ≡ here (entryStack 6 false ++ σ)
+  one-argument : (σ : Stack) → c .kind ≡ kindOf n-other → here (nt Argument ∷ σ) ≡ here (entryStack 6 false ++ σ)
   unfolding factored language
-  one-argument σ e = first s c h l cells n o left q σ Argument (List·Memᴰ·head refl) 0 e tt
+  one-argument σ e = first s c h l cells n o left q σ Argument (List·Memᴰ·head refl) n-other e tt
 
   -- the first argument, or none
   first-argument : (σ : Stack) → here (nt Argument+ ∷ σ) ≡ here (entryStack 6 false ++ (nt Argument* ∷ σ))
   unfolding factored language choose refuses refusesEnd
-  first-argument σ = by-name (same (c .kind) 1)
+  first-argument σ = by-name (same (c .kind) (kindOf n-other))
     where
-      by-name : (c .kind ≡ 1) ⊎ (c .kind ≡ 1 → ⊥) → here (nt Argument+ ∷ σ) ≡ here (entryStack 6 false ++ (nt Argument* ∷ σ))
-      by-name (inl e) = first s c h l cells n o left q σ Argument+ (List·Memᴰ·head refl) 0 e tt ∙ one-argument (nt Argument* ∷ σ) e
-      by-name (inr e) = refuse s c h l cells n o left q σ Argument+ (λ (y : ℕ). not (is 1 y)) (not-is 1 (c .kind) e) tt tt ∙ sym (entry-lacks (nt Argument* ∷ σ) e)
+      by-name : (c .kind ≡ kindOf n-other) ⊎ (c .kind ≡ kindOf n-other → ⊥) → here (nt Argument+ ∷ σ) ≡ here (entryStack 6 false ++ (nt Argument* ∷ σ))
+      by-name (inl e) = first s c h l cells n o left q σ Argument+ (List·Memᴰ·head refl) n-other e tt ∙ one-argument (nt Argument* ∷ σ) e
+      by-name (inr e) = refuse s c h l cells n o left q σ Argument+ (λ (y : ℕ). not (is (kindOf n-other) y)) (not-is (kindOf n-other) (c .kind) e) tt tt ∙ sym (entry-lacks (nt Argument* ∷ σ) e)
 
   -- one more, where they do not end
-  next-argument : (σ : Stack) → (c .kind ≡ 9 → ⊥) → here (nt Argument* ∷ tm (the parenR) ∷ σ) ≡ here (entryStack 6 false ++ (nt Argument* ∷ tm (the parenR) ∷ σ))
+  next-argument : (σ : Stack) → (c .kind ≡ kindOf parenR → ⊥) → here (nt Argument* ∷ tm (the parenR) ∷ σ) ≡ here (entryStack 6 false ++ (nt Argument* ∷ tm (the parenR) ∷ σ))
   unfolding factored language choose
-  next-argument σ z = by-name (same (c .kind) 1)
+  next-argument σ z = by-name (same (c .kind) (kindOf n-other))
     where
-      by-name : (c .kind ≡ 1) ⊎ (c .kind ≡ 1 → ⊥) → here (nt Argument* ∷ tm (the parenR) ∷ σ) ≡ here (entryStack 6 false ++ (nt Argument* ∷ tm (the parenR) ∷ σ))
+      by-name : (c .kind ≡ kindOf n-other) ⊎ (c .kind ≡ kindOf n-other → ⊥) → here (nt Argument* ∷ tm (the parenR) ∷ σ) ≡ here (entryStack 6 false ++ (nt Argument* ∷ tm (the parenR) ∷ σ))
       by-name (inl e) =
-          first s c h l cells n o left q (tm (the parenR) ∷ σ) Argument* (List·Memᴰ·tail (List·Memᴰ·head refl)) 0 e tt ∙ one-argument (nt Argument* ∷ tm (the parenR) ∷ σ) e
+          first s c h l cells n o left q (tm (the parenR) ∷ σ) Argument* (List·Memᴰ·tail (List·Memᴰ·head refl)) n-other e tt ∙ one-argument (nt Argument* ∷ tm (the parenR) ∷ σ) e
       by-name (inr e) =
-          null s c h l cells n o left q (tm (the parenR) ∷ σ) Argument* (List·Memᴰ·head refl) tt refl (λ (y : ℕ). not (is 1 y)) (not-is 1 (c .kind) e) tt
-          ∙ lacks s c h l cells n o left q σ (the parenR) (λ (y : ℕ). not (is 9 y)) (not-is 9 (c .kind) z) tt
+          null s c h l cells n o left q (tm (the parenR) ∷ σ) Argument* (List·Memᴰ·head refl) tt refl (λ (y : ℕ). not (is (kindOf n-other) y)) (not-is (kindOf n-other) (c .kind) e) tt
+          ∙ lacks s c h l cells n o left q σ (the parenR) (λ (y : ℕ). not (is (kindOf parenR) y)) (not-is (kindOf parenR) (c .kind) z) tt
           ∙ sym (entry-lacks (nt Argument* ∷ tm (the parenR) ∷ σ) e)
 
   -- the parenthesis that opens them
-  opens : (σ : Stack) → c .kind ≡ 8 → here (nt Arguments? ∷ σ) ≡ here (tm (the parenL) ∷ nt Argument+ ∷ tm (the parenR) ∷ σ)
+  opens : (σ : Stack) → c .kind ≡ kindOf parenL → here (nt Arguments? ∷ σ) ≡ here (tm (the parenL) ∷ nt Argument+ ∷ tm (the parenR) ∷ σ)
   unfolding factored language
   opens σ e =
-      first s c h l cells n o left q σ Arguments? (List·Memᴰ·tail (List·Memᴰ·head refl)) 7 e tt ∙ first s c h l cells n o left q σ Arguments (List·Memᴰ·head refl) 7 e tt
+      first s c h l cells n o left q σ Arguments? (List·Memᴰ·tail (List·Memᴰ·head refl)) parenL e tt ∙ first s c h l cells n o left q σ Arguments (List·Memᴰ·head refl) parenL e tt
 
   -- and the one that closes them
-  closes-with : (σ : Stack) → c .kind ≡ 9 → n ≤ mostRows → overCounts q ≡ false →
+  closes-with : (σ : Stack) → c .kind ≡ kindOf parenR → n ≤ mostRows → overCounts q ≡ false →
       here (nt Argument* ∷ tm (the parenR) ∷ σ) ≡ go (st cells n o (c .end) (suc left) q) σ (from s (c .end))
   unfolding factored language choose
   closes-with σ e m f =
-      null s c h l cells n o left q (tm (the parenR) ∷ σ) Argument* (List·Memᴰ·head refl) tt refl (is 9) (rw e tt) tt ∙ closing s c h l cells n o left q σ (the parenR) 8 e tt tt m f
+      null s c h l cells n o left q (tm (the parenR) ∷ σ) Argument* (List·Memᴰ·head refl) tt refl (is (kindOf parenR)) (rw e tt) tt ∙ closing s c h l cells n o left q σ (the parenR) parenR e tt tt m f
 
   -- no arguments
-  pub no-arguments : (σ : Stack) → (c .kind ≡ 8 → ⊥) → here (nt Arguments? ∷ σ) ≡ here σ
+  pub no-arguments : (σ : Stack) → (c .kind ≡ kindOf parenL → ⊥) → here (nt Arguments? ∷ σ) ≡ here σ
   unfolding factored language choose
-  no-arguments σ e = null s c h l cells n o left q σ Arguments? (List·Memᴰ·head refl) tt refl (λ (y : ℕ). not (is 8 y)) (not-is 8 (c .kind) e) tt
+  no-arguments σ e = null s c h l cells n o left q σ Arguments? (List·Memᴰ·head refl) tt refl (λ (y : ℕ). not (is (kindOf parenL) y)) (not-is (kindOf parenL) (c .kind) e) tt
 
 -- THE READER, from its cursor c on
 module _ (s rows : List ℕ) (c : Cursor) (parent left : ℕ) (a : Ready s rows c parent) where
-  pub none-said : (c .kind ≡ 8 → ⊥) → Went 0 s rows rows c c parent left argumentsStack
+  pub none-said : (c .kind ≡ kindOf parenL → ⊥) → Went 0 s rows rows c c parent left argumentsStack
   none-said e =
       record {
         size = a .size;
@@ -104,17 +104,17 @@ module _ (s rows : List ℕ) (c : Cursor) (parent left : ℕ) (a : Ready s rows 
         goes = λ σ o q p f. no-arguments s c (a .within) (a .looks) rows (c .rows) o left q σ e;
       }
 
-  module _ (e : c .kind ≡ 8) where
+  module _ (e : c .kind ≡ kindOf parenL) where
     pub deep-said : left ≡ 0 → Halts s rows c parent left argumentsStack (TooDeep (c .start))
     deep-said z σ o q p f =
         opens s c (a .within) (a .looks) rows (c .rows) o left q σ e
-        ∙ too-deep s c (a .within) (a .looks) rows (c .rows) o left q (nt Argument+ ∷ tm (the parenR) ∷ σ) (the parenL) 7 e tt tt z
+        ∙ too-deep s c (a .within) (a .looks) rows (c .rows) o left q (nt Argument+ ∷ tm (the parenR) ∷ σ) (the parenL) parenL e tt tt z
 
     opened-at : (left ≡ 0 → ⊥) → (σ : Stack) (o : List ℕ) (q : Counts) → overCounts q ≡ false →
         at s rows c o left q (nt Arguments? ∷ σ) ≡ go (st rows (c .rows) o (c .end) (left - 1) q) (nt Argument+ ∷ tm (the parenR) ∷ σ) (from s (c .end))
     opened-at z σ o q f =
         opens s c (a .within) (a .looks) rows (c .rows) o left q σ e
-        ∙ opening s c (a .within) (a .looks) rows (c .rows) o left q (nt Argument+ ∷ tm (the parenR) ∷ σ) (the parenL) 7 e tt tt (left - 1) (omega arith) (a .few) f
+        ∙ opening s c (a .within) (a .looks) rows (c .rows) o left q (nt Argument+ ∷ tm (the parenR) ∷ σ) (the parenL) parenL e tt tt (left - 1) (omega arith) (a .few) f
 
     pub bad-said : (left ≡ 0 → ⊥) → (r : Read) → r ≡ movedTo (c .end) (c .rows) (headOf (from s (c .end))) → (x : Refusal) → r ≡ Refused x → Halts s rows c parent left argumentsStack x
     bad-said z r m x y σ o q p f =
@@ -158,7 +158,7 @@ module _ (s rows rows₁ : List ℕ) (c d : Cursor) (parent left₀ left : ℕ) 
           at s rows c o left₀ q (α ++ σ) ≡ at s rows₂ b o (left - 1) q (nt Argument* ∷ tm (the parenR) ∷ σ)
       read-at σ o q p f = i .goes σ o q p f ∙ turn-read .goes (nt Argument* ∷ tm (the parenR) ∷ σ) o q p f
 
-      pub turn-more : (b .kind ≡ 9 → ⊥) → Passed 0 s rows rows₂ c b parent left₀ (left - 1) shut shut α oneMore
+      pub turn-more : (b .kind ≡ kindOf parenR → ⊥) → Passed 0 s rows rows₂ c b parent left₀ (left - 1) shut shut α oneMore
       turn-more z =
           record {
             size = turn-read .size;
@@ -170,7 +170,7 @@ module _ (s rows rows₁ : List ℕ) (c d : Cursor) (parent left₀ left : ℕ) 
           }
 
 -- they end, behind b
-module _ (s rows rows₁ rows₂ : List ℕ) (c d b : Cursor) (parent left : ℕ) (i : Passed 0 s rows rows₁ c d parent left (left - 1) shut shut argumentsStack oneMore) (r : Read) (v : Said 1 s rows₁ rows₂ d parent (left - 1) (entryStack 6 false) r) (e : r ≡ Done b) (z : left ≡ 0 → ⊥) (k : b .kind ≡ 9) where
+module _ (s rows rows₁ rows₂ : List ℕ) (c d b : Cursor) (parent left : ℕ) (i : Passed 0 s rows rows₁ c d parent left (left - 1) shut shut argumentsStack oneMore) (r : Read) (v : Said 1 s rows₁ rows₂ d parent (left - 1) (entryStack 6 false) r) (e : r ≡ Done b) (z : left ≡ 0 → ⊥) (k : b .kind ≡ kindOf parenR) where
   read : Went 1 s rows₁ rows₂ d b parent (left - 1) (entryStack 6 false)
   read = said-went 1 s rows₁ rows₂ d b parent (left - 1) (entryStack 6 false) r v e
 

@@ -15,12 +15,12 @@ use Rattle.paper.proofs.Lexing.{from}
 use Rattle.paper.proofs.Machine.{choose}
 use Rattle.paper.proofs.Tables.{factored}
 use Rattle.paper.proofs.Going.{Stack, st, go}
-use Rattle.text_scan.specs.Head.{headOf}
+use Rattle.text_scan.specs.Head.{headOf, kindOf}
 use Rattle.text_cursor.specs.declared.Cursor.{Cursor}
 use Rattle.text_cursor.specs.declared.Read.{Read}
 use Rattle.text_cursor.specs.declared.Read.the-variants.{Done, Refused}
 use Rattle.text_cursor.specs.Reader.{movedTo, at, Ready, Halts, Said}
-use Rattle.paper.specs.Language.{language, the, anyName, n-on, row, kind, end, Name, NamedType, TypeCondition}
+use Rattle.paper.specs.Language.{language, the, anyName, n-on, row, kind, end, Name, NamedType, TypeCondition, n-other}
 use Rattle.text_cursor.proofs.Steps.{first, refuse, too-many-rows, is, not-is, refuses, refusesEnd}
 use Rattle.text_cursor.proofs.Cells.{put, put-length, row-ends}
 use Rattle.text_arguments.specs.Arguments.{AtOn, conditionStack}
@@ -56,13 +56,13 @@ module _ (s rows : List ℕ) (c : Cursor) (parent left : ℕ) (a : Ready s rows 
           ∙ next-at s c name (c .rows) condition-name rows o left q (act row ∷ act (kind 9 0) ∷ nt NamedType ∷ act end ∷ σ)
           ∙ opened-row s name (condition-name .looks) rows (name .rows) o parent left q (nt NamedType ∷ act end ∷ σ) 9 0 p
 
-      pub condition-nameless : (name .kind ≡ 1 → ⊥) → Halts s rows c parent left conditionStack (NoGoing (name .start))
+      pub condition-nameless : (name .kind ≡ kindOf n-other → ⊥) → Halts s rows c parent left conditionStack (NoGoing (name .start))
       unfolding factored language choose refuses refusesEnd
       condition-nameless k σ o q p f =
           to-name σ o q p f
-          ∙ refuse s name (condition-name .within) (condition-name .looks) begun (name .rows + 1) (name .rows ∷ o) left q (act end ∷ σ) NamedType (λ (x : ℕ). not (is 1 x)) (not-is 1 (name .kind) k) tt tt
+          ∙ refuse s name (condition-name .within) (condition-name .looks) begun (name .rows + 1) (name .rows ∷ o) left q (act end ∷ σ) NamedType (λ (x : ℕ). not (is (kindOf n-other) x)) (not-is (kindOf n-other) (name .kind) k) tt tt
 
-      module _ (k : name .kind ≡ 1) where
+      module _ (k : name .kind ≡ kindOf n-other) where
         abbrev told : List ℕ
         told = put rows (name .rows) 9 (name .start) 0 parent (name .start) (name .end - name .start) 0
 
@@ -71,15 +71,15 @@ module _ (s rows : List ℕ) (c : Cursor) (parent left : ℕ) (a : Ready s rows 
         unfolding factored language
         told-at σ o q p f =
             to-name σ o q p f
-            ∙ first s name (condition-name .within) (condition-name .looks) begun (name .rows + 1) (name .rows ∷ o) left q (act end ∷ σ) NamedType (List·Memᴰ·head refl) 0 k tt
+            ∙ first s name (condition-name .within) (condition-name .looks) begun (name .rows + 1) (name .rows ∷ o) left q (act end ∷ σ) NamedType (List·Memᴰ·head refl) n-other k tt
             ∙ named-row s name (condition-name .looks) rows (name .rows + 1) o left q (nt Name ∷ act end ∷ σ) (name .rows) 9 (name .start) 0 parent 0 0 0
 
         pub condition-full : c .rows ≡ mostRows → Halts s rows c parent left conditionStack (TooManyRows (name .start))
         unfolding factored language
         condition-full z σ o q p f =
             told-at σ o q p f
-            ∙ first s name (condition-name .within) (condition-name .looks) told (name .rows + 1) (name .rows ∷ o) left q (act end ∷ σ) Name (List·Memᴰ·head refl) 0 k tt
-            ∙ too-many-rows s name (condition-name .within) (condition-name .looks) told (name .rows + 1) (name .rows ∷ o) left q (act end ∷ σ) anyName 0 k tt tt (omega (arith, condition-name .rows))
+            ∙ first s name (condition-name .within) (condition-name .looks) told (name .rows + 1) (name .rows ∷ o) left q (act end ∷ σ) Name (List·Memᴰ·head refl) n-other k tt
+            ∙ too-many-rows s name (condition-name .within) (condition-name .looks) told (name .rows + 1) (name .rows ∷ o) left q (act end ∷ σ) anyName n-other k tt tt (omega (arith, condition-name .rows))
 
         -- with its row written
         module _ (z : c .rows ≡ mostRows → ⊥) (rows₁ : List ℕ) (w : rows₁ ≡ put rows (c .rows) 9 (name .start) (name .end) parent (name .start) (name .end - name .start) 0) where
@@ -100,7 +100,7 @@ module _ (s rows : List ℕ) (c : Cursor) (parent left : ℕ) (a : Ready s rows 
               (ap length w ∙ put-length rows (c .rows) 9 (name .start) (name .end) parent (name .start) (name .end - name .start) 0 ∙ a .size)
               (b′ .2)
               (omega (arith, z, a .few))
-              (omega (arith, has-bytes s c (a .within) (a .looks) 0 (e .0), condition-name .stop))
+              (omega (arith, has-bytes s c (a .within) (a .looks) n-other (e .0), condition-name .stop))
               past-name
               t
               m′

@@ -16,12 +16,12 @@ use Rattle.paper.proofs.Lexing.{from}
 use Rattle.paper.proofs.Machine.{choose}
 use Rattle.paper.proofs.Tables.{factored}
 use Rattle.paper.proofs.Going.{Stack, st, Out, go}
-use Rattle.text_scan.specs.Head.{headOf}
+use Rattle.text_scan.specs.Head.{headOf, kindOf}
 use Rattle.text_cursor.specs.declared.Cursor.{Cursor}
 use Rattle.text_cursor.specs.declared.Read.{Read}
 use Rattle.text_cursor.specs.declared.Read.the-variants.{Done, Refused}
 use Rattle.text_cursor.specs.Reader.{Looks, movedTo, at, Ready, Went, Halts, Said}
-use Rattle.paper.specs.Language.{language, the, atSign, kind, named, end, Name, Arguments?, Directives?, Directives, Directive+, Directive*, Directive}
+use Rattle.paper.specs.Language.{language, the, atSign, kind, named, end, Name, Arguments?, Directives?, Directives, Directive+, Directive*, Directive, n-other, parenL}
 use Rattle.text_cursor.proofs.Steps.{first, null, plain, too-many-rows, is, not-is}
 use Rattle.text_cursor.proofs.Cells.{put, put-length, ends-row}
 use Rattle.text_arguments.specs.Arguments.{argumentsStack, directiveStack, directivesStack}
@@ -31,7 +31,7 @@ use Rattle.text_arguments.proofs.ArgumentsLaws.{none-said}
 use Rattle.text_arguments.proofs.Onward.{Next, lies, has-bytes, next, next-at, name-taken, name-lacks, same, said-went, said-halts, opened-row, named-row}
 
 -- ONE DIRECTIVE, at its @, whose row is n
-module _ (s rows : List ℕ) (c : Cursor) (parent left : ℕ) (a : Ready s rows c parent) (e : c .kind ≡ 12) where
+module _ (s rows : List ℕ) (c : Cursor) (parent left : ℕ) (a : Ready s rows c parent) (e : c .kind ≡ kindOf atSign) where
   abbrev rest : Stack → Stack
   rest σ = nt Arguments? ∷ act end ∷ σ
 
@@ -40,13 +40,13 @@ module _ (s rows : List ℕ) (c : Cursor) (parent left : ℕ) (a : Ready s rows 
       ≡ go (st (put rows (c .rows) 7 (c .start) 0 parent 0 0 0) (c .rows + 1) (c .rows ∷ o) (c .stop) left q) (tm (the atSign) ∷ act named ∷ nt Name ∷ rest σ) (from s (c .stop))
   unfolding factored language
   begins σ o q p =
-      first s c (a .within) (a .looks) rows (c .rows) o left q σ Directive (List·Memᴰ·head refl) 11 e tt
+      first s c (a .within) (a .looks) rows (c .rows) o left q σ Directive (List·Memᴰ·head refl) atSign e tt
       ∙ opened-row s c (a .looks) rows (c .rows) o parent left q (tm (the atSign) ∷ act named ∷ nt Name ∷ rest σ) 7 0 p
 
   pub directive-full : c .rows ≡ mostRows → Halts s rows c parent left directiveStack (TooManyRows (c .start))
   directive-full z σ o q p f =
       begins σ o q p
-      ∙ too-many-rows s c (a .within) (a .looks) (put rows (c .rows) 7 (c .start) 0 parent 0 0 0) (c .rows + 1) (c .rows ∷ o) left q (act named ∷ nt Name ∷ rest σ) (the atSign) 11 e tt tt (omega arith)
+      ∙ too-many-rows s c (a .within) (a .looks) (put rows (c .rows) 7 (c .start) 0 parent 0 0 0) (c .rows + 1) (c .rows ∷ o) left q (act named ∷ nt Name ∷ rest σ) (the atSign) atSign e tt tt (omega arith)
 
   module _ (z : c .rows ≡ mostRows → ⊥) where
     pub directive-room : c .rows < mostRows
@@ -57,7 +57,7 @@ module _ (s rows : List ℕ) (c : Cursor) (parent left : ℕ) (a : Ready s rows 
         ≡ go (st (put rows (c .rows) 7 (c .start) 0 parent 0 0 0) (c .rows + 1) (c .rows ∷ o) (c .end) left q) (act named ∷ nt Name ∷ rest σ) (from s (c .end))
     at-sign σ o q p f =
         begins σ o q p
-        ∙ plain s c (a .within) (a .looks) (put rows (c .rows) 7 (c .start) 0 parent 0 0 0) (c .rows + 1) (c .rows ∷ o) left q (act named ∷ nt Name ∷ rest σ) (the atSign) 11 e tt tt (omega (arith, directive-room)) f
+        ∙ plain s c (a .within) (a .looks) (put rows (c .rows) 7 (c .start) 0 parent 0 0 0) (c .rows + 1) (c .rows ∷ o) left q (act named ∷ nt Name ∷ rest σ) (the atSign) atSign e tt tt (omega (arith, directive-room)) f
 
     -- what stands behind the @
     module _ (r : Read) (m : r ≡ movedTo (c .end) (c .rows + 1) (headOf (from s (c .end)))) where
@@ -77,11 +77,11 @@ module _ (s rows : List ℕ) (c : Cursor) (parent left : ℕ) (a : Ready s rows 
             ∙ next-at s c name (c .rows + 1) directive-name (put rows (c .rows) 7 (c .start) 0 parent 0 0 0) (c .rows ∷ o) left q (act named ∷ nt Name ∷ rest σ)
             ∙ named-row s name (directive-name .looks) rows (name .rows) o left q (nt Name ∷ rest σ) (c .rows) 7 (c .start) 0 parent 0 0 0
 
-        pub directive-nameless : (name .kind ≡ 1 → ⊥) → Halts s rows c parent left directiveStack (NoGoing (name .start))
+        pub directive-nameless : (name .kind ≡ kindOf n-other → ⊥) → Halts s rows c parent left directiveStack (NoGoing (name .start))
         directive-nameless k σ o q p f = to-name σ o q p f ∙ name-lacks s name (directive-name .within) (directive-name .looks) _ (name .rows) (c .rows ∷ o) left q (rest σ) k
 
         -- with its row written
-        module _ (k : name .kind ≡ 1) (rows₁ : List ℕ) (w : rows₁ ≡ put rows (c .rows) 7 (c .start) 0 parent (name .start) (name .end - name .start) 0) where
+        module _ (k : name .kind ≡ kindOf n-other) (rows₁ : List ℕ) (w : rows₁ ≡ put rows (c .rows) 7 (c .start) 0 parent (name .start) (name .end - name .start) 0) where
           pub directive-size : length rows₁ ≡ rowsSize
           directive-size = ap length w ∙ put-length rows (c .rows) 7 (c .start) 0 parent (name .start) (name .end - name .start) 0 ∙ a .size
 
@@ -135,7 +135,7 @@ module _ (s rows : List ℕ) (c : Cursor) (parent left : ℕ) (a : Ready s rows 
                         within = directive-read .within;
                         few = directive-read .few;
                         looks = directive-read .looks;
-                        on = omega (arith, has-bytes s c (a .within) (a .looks) 11 e, directive-name .stop, behind .stop, directive-read .on);
+                        on = omega (arith, has-bytes s c (a .within) (a .looks) atSign e, directive-name .stop, behind .stop, directive-read .on);
                         goes =
                             λ σ o q p f.
                             to-arguments σ o q p f
@@ -145,7 +145,7 @@ module _ (s rows : List ℕ) (c : Cursor) (parent left : ℕ) (a : Ready s rows 
                       }
 
               -- without arguments
-              pub directive-bare : (b .kind ≡ 8 → ⊥) → (rows₃ : List ℕ) → rows₃ ≡ set rows₁ (7 * c .rows + 2) (b .stop) → Went 1 s rows rows₃ c b parent left directiveStack
+              pub directive-bare : (b .kind ≡ kindOf parenL → ⊥) → (rows₃ : List ℕ) → rows₃ ≡ set rows₁ (7 * c .rows + 2) (b .stop) → Went 1 s rows rows₃ c b parent left directiveStack
               directive-bare i = directive-ends rows₁ (Done b) (none-said s rows₁ b (c .rows) left directive-ready i) b refl
 
 -- DIRECTIVES, OR NONE
@@ -153,25 +153,25 @@ module _ (s : List ℕ) (c : Cursor) (h : c .stop ≤ length s) (l : Looks s c) 
   abbrev here : Stack → Out
   here τ = go (st cells n o (c .stop) left q) τ (from s (c .stop))
 
-  one-more : (σ : Stack) → c .kind ≡ 12 → here (nt Directive* ∷ σ) ≡ here (nt Directive ∷ nt Directive* ∷ σ)
+  one-more : (σ : Stack) → c .kind ≡ kindOf atSign → here (nt Directive* ∷ σ) ≡ here (nt Directive ∷ nt Directive* ∷ σ)
   unfolding factored language
-  one-more σ e = first s c h l cells n o left q σ Directive* (List·Memᴰ·tail (List·Memᴰ·head refl)) 11 e tt
+  one-more σ e = first s c h l cells n o left q σ Directive* (List·Memᴰ·tail (List·Memᴰ·head refl)) atSign e tt
 
-  no-more : (σ : Stack) → (c .kind ≡ 12 → ⊥) → here (nt Directive* ∷ σ) ≡ here σ
+  no-more : (σ : Stack) → (c .kind ≡ kindOf atSign → ⊥) → here (nt Directive* ∷ σ) ≡ here σ
   unfolding factored language choose
-  no-more σ e = null s c h l cells n o left q σ Directive* (List·Memᴰ·head refl) tt refl (λ (y : ℕ). not (is 12 y)) (not-is 12 (c .kind) e) tt
+  no-more σ e = null s c h l cells n o left q σ Directive* (List·Memᴰ·head refl) tt refl (λ (y : ℕ). not (is (kindOf atSign) y)) (not-is (kindOf atSign) (c .kind) e) tt
 
   some-or-none : (σ : Stack) → here (nt Directives? ∷ σ) ≡ here (nt Directive* ∷ σ)
   unfolding factored language choose
-  some-or-none σ = by-sign (same (c .kind) 12)
+  some-or-none σ = by-sign (same (c .kind) (kindOf atSign))
     where
-      by-sign : (c .kind ≡ 12) ⊎ (c .kind ≡ 12 → ⊥) → here (nt Directives? ∷ σ) ≡ here (nt Directive* ∷ σ)
+      by-sign : (c .kind ≡ kindOf atSign) ⊎ (c .kind ≡ kindOf atSign → ⊥) → here (nt Directives? ∷ σ) ≡ here (nt Directive* ∷ σ)
       by-sign (inl e) =
-          first s c h l cells n o left q σ Directives? (List·Memᴰ·tail (List·Memᴰ·head refl)) 11 e tt
-          ∙ first s c h l cells n o left q σ Directives (List·Memᴰ·head refl) 11 e tt
-          ∙ first s c h l cells n o left q σ Directive+ (List·Memᴰ·head refl) 11 e tt
+          first s c h l cells n o left q σ Directives? (List·Memᴰ·tail (List·Memᴰ·head refl)) atSign e tt
+          ∙ first s c h l cells n o left q σ Directives (List·Memᴰ·head refl) atSign e tt
+          ∙ first s c h l cells n o left q σ Directive+ (List·Memᴰ·head refl) atSign e tt
           ∙ sym (one-more σ e)
-      by-sign (inr e) = null s c h l cells n o left q σ Directives? (List·Memᴰ·head refl) tt refl (λ (y : ℕ). not (is 12 y)) (not-is 12 (c .kind) e) tt ∙ sym (no-more σ e)
+      by-sign (inr e) = null s c h l cells n o left q σ Directives? (List·Memᴰ·head refl) tt refl (λ (y : ℕ). not (is (kindOf atSign) y)) (not-is (kindOf atSign) (c .kind) e) tt ∙ sym (no-more σ e)
 
 -- the loop: at each turn one more is to be read, or none
 abbrev pub someMore : Stack
@@ -185,7 +185,7 @@ module _ (s rows rows₁ : List ℕ) (c d : Cursor) (parent left : ℕ) (i : Pas
   pub turn-ready : length s ≤ mostText → parent ≤ mostRows → Ready s rows₁ d parent
   turn-ready h p = record { short = h; size = i .size; within = i .within; few = i .few; looks = i .looks; below = p }
 
-  pub turn-ends : (d .kind ≡ 12 → ⊥) → Went 0 s rows rows₁ c d parent left directivesStack
+  pub turn-ends : (d .kind ≡ kindOf atSign → ⊥) → Went 0 s rows rows₁ c d parent left directivesStack
   turn-ends e =
       record {
         size = i .size;
@@ -196,7 +196,7 @@ module _ (s rows rows₁ : List ℕ) (c d : Cursor) (parent left : ℕ) (i : Pas
         goes = λ σ o q p f. i .goes σ o q p f ∙ no-more s d (i .within) (i .looks) rows₁ (d .rows) o left q σ e;
       }
 
-  module _ (e : d .kind ≡ 12) (rows₂ : List ℕ) (r : Read) (v : Said 1 s rows₁ rows₂ d parent left directiveStack r) where
+  module _ (e : d .kind ≡ kindOf atSign) (rows₂ : List ℕ) (r : Read) (v : Said 1 s rows₁ rows₂ d parent left directiveStack r) where
     to-directive : (σ : Stack) (o : List ℕ) (q : Counts) → top o ≡ parent → overCounts q ≡ false → at s rows c o left q (nt Directives? ∷ σ) ≡ at s rows₁ d o left q (nt Directive ∷ nt Directive* ∷ σ)
     to-directive σ o q p f = i .goes σ o q p f ∙ one-more s d (i .within) (i .looks) rows₁ (d .rows) o left q σ e
 
@@ -219,5 +219,5 @@ module _ (s rows rows₁ : List ℕ) (c d : Cursor) (parent left : ℕ) (i : Pas
           }
 
 -- no directive, where no @ stands
-pub no-directives : (s rows : List ℕ) (c : Cursor) (parent left : ℕ) → Ready s rows c parent → (c .kind ≡ 12 → ⊥) → Went 0 s rows rows c c parent left directivesStack
+pub no-directives : (s rows : List ℕ) (c : Cursor) (parent left : ℕ) → Ready s rows c parent → (c .kind ≡ kindOf atSign → ⊥) → Went 0 s rows rows c c parent left directivesStack
 no-directives s rows c parent left a = turn-ends s rows rows c c parent left (turn-first s rows c parent left a)

@@ -10,7 +10,7 @@ use borrow.Author.Tests.{eqb-true, eqb-false}
 use lib.ListN.{length}
 use Rattle.paper.specs.Grammar.{nt, act}
 use Rattle.paper.specs.Numbers.{mostText, mostRows, rowsSize}
-use Rattle.paper.specs.Language.{anyName, Name, language, row, kind, named}
+use Rattle.paper.specs.Language.{Class, anyName, Name, language, row, kind, named, n-other}
 use Rattle.paper.specs.Rows.{top}
 use Rattle.paper.specs.Sizes.{Counts, kinded, overCounts}
 use Rattle.paper.specs.declared.Refusal.{Refusal}
@@ -19,7 +19,8 @@ use Rattle.paper.proofs.Lexing.{from}
 use Rattle.paper.proofs.Machine.{choose}
 use Rattle.paper.proofs.Tables.{factored}
 use Rattle.paper.proofs.Going.{Stack, st, halt, go, stopIn}
-use Rattle.text_scan.specs.Head.{headOf}
+use Rattle.text_scan.specs.Head.{headOf, kindOf}
+use Rattle.text_tokens.proofs.KindLaws.{kind-some}
 use Rattle.text_cursor.specs.declared.Cursor.{Cursor}
 use Rattle.text_cursor.specs.declared.Read.{Read}
 use Rattle.text_cursor.specs.declared.Read.the-variants.{Done, Refused}
@@ -42,12 +43,12 @@ pub lies : (s : List ℕ) (c : Cursor) → c .stop ≤ length s → Looks s c �
 lies s c h l = token-lies s (c .stop) (c .kind) (c .start) (c .end) h l
 
 -- a token has a byte
-pub has-bytes : (s : List ℕ) (c : Cursor) → c .stop ≤ length s → Looks s c → (x : ℕ) → c .kind ≡ suc x → c .start < c .end
+pub has-bytes : (s : List ℕ) (c : Cursor) → c .stop ≤ length s → Looks s c → (x : Class) → c .kind ≡ kindOf x → c .start < c .end
 has-bytes s c h l x e = go′ (front s c h l)
   where
     go′ : Front s c → c .start < c .end
     go′ (a-token k d f i j m) = j
-    go′ (the-end d f i j) = let w : ⊥ = omega arith in absurd w
+    go′ (the-end d f i j) = let w : ⊥ = omega (arith, kind-some x) in absurd w
 
 pub next : (s : List ℕ) (c d : Cursor) (m : ℕ) → c .stop ≤ length s → Looks s c → (r : Read) → r ≡ movedTo (c .end) m (headOf (from s (c .end))) → r ≡ Done d → Next s c d m
 next s c d m h l r q e =
@@ -61,13 +62,13 @@ next-at s c d m x cells o left q σ = rw (x .stop, x .rows) refl
 
 -- a name, or none
 module _ (s : List ℕ) (c : Cursor) (h : c .stop ≤ length s) (l : Looks s c) (cells : List ℕ) (n : ℕ) (o : List ℕ) (left : ℕ) (q : Counts) (σ : Stack) where
-  pub name-taken : c .kind ≡ 1 → n ≤ mostRows → overCounts q ≡ false → go (st cells n o (c .stop) left q) (nt Name ∷ σ) (from s (c .stop)) ≡ go (st cells n o (c .end) left q) σ (from s (c .end))
+  pub name-taken : c .kind ≡ kindOf n-other → n ≤ mostRows → overCounts q ≡ false → go (st cells n o (c .stop) left q) (nt Name ∷ σ) (from s (c .stop)) ≡ go (st cells n o (c .end) left q) σ (from s (c .end))
   unfolding factored language
-  name-taken e m f = first s c h l cells n o left q σ Name (List·Memᴰ·head refl) 0 e tt ∙ plain s c h l cells n o left q σ anyName 0 e tt tt m f
+  name-taken e m f = first s c h l cells n o left q σ Name (List·Memᴰ·head refl) n-other e tt ∙ plain s c h l cells n o left q σ anyName n-other e tt tt m f
 
-  pub name-lacks : (c .kind ≡ 1 → ⊥) → go (st cells n o (c .stop) left q) (nt Name ∷ σ) (from s (c .stop)) ≡ halt (NoGoing (c .start))
+  pub name-lacks : (c .kind ≡ kindOf n-other → ⊥) → go (st cells n o (c .stop) left q) (nt Name ∷ σ) (from s (c .stop)) ≡ halt (NoGoing (c .start))
   unfolding factored language choose refuses refusesEnd
-  name-lacks e = refuse s c h l cells n o left q σ Name (λ (y : ℕ). not (is 1 y)) (not-is 1 (c .kind) e) tt tt
+  name-lacks e = refuse s c h l cells n o left q σ Name (λ (y : ℕ). not (is (kindOf n-other) y)) (not-is (kindOf n-other) (c .kind) e) tt tt
 
 -- a number is another, or not
 pub same : (x y : ℕ) → (x ≡ y) ⊎ (x ≡ y → ⊥)

@@ -9,7 +9,7 @@ use lib.ListN.{length}
 use borrow.Author.Tests.{le-ltb, ne-eqb}
 use Rattle.paper.specs.Grammar.{nt, tm}
 use Rattle.paper.specs.Numbers.{mostRows}
-use Rattle.paper.specs.Language.{Class, numC, Terminal, hits, Part}
+use Rattle.paper.specs.Language.{Class, numC, Terminal, hits, Part, n-other}
 use Rattle.paper.specs.Tokens.{Text, token, nameClass}
 use Rattle.paper.specs.Sizes.{Counts, opensLevel, closesLevel, overCounts}
 use Rattle.paper.proofs.Lexing.{from}
@@ -35,7 +35,7 @@ by-word f g h k x w e d t =
     (subst (λ (y : ℕ). T (g (kindOf k) y)) (sym d) (subst (λ (y : ℕ). T (g y w)) (sym e) t))
 
 -- the token that a cursor at a name looks at
-at-name : (s : List ℕ) (c : Cursor) → c .stop ≤ length s → Looks s c → c .kind ≡ 1 →
+at-name : (s : List ℕ) (c : Cursor) → c .stop ≤ length s → Looks s c → c .kind ≡ kindOf n-other →
     (kindOf (nameClass (bytesAt s c)) ≡ 1) × (from s (c .stop) ≡ token (tokenOf (nameClass (bytesAt s c)) (c .start) (c .end)) (from s (c .end)))
 at-name s c h l e =
     let f : from s (c .stop) ≡ token (tokenOf (nameClass (bytesAt s c)) (c .start) (c .end)) (from s (c .end)) = head-name s (c .stop) (c .start) (c .end) h (l ∙ ap (λ (k : ℕ). Token k (c .start) (c .end)) e) in
@@ -52,7 +52,7 @@ class-taken : (cells : List ℕ) (n : ℕ) (o : List ℕ) (stop left : ℕ) (q :
 unfolding go step
 class-taken cells n o stop left q σ w k a e t h u v r z = rw (T→eq (hits w k) h, not-eq (opensLevel k) u, not-eq (closesLevel k) v, le-ltb mostRows n r, z) refl
 
-module _ (s : List ℕ) (c : Cursor) (h : c .stop ≤ length s) (l : Looks s c) (e : c .kind ≡ 1) (cells : List ℕ) (n : ℕ) (o : List ℕ) (left : ℕ) (q : Counts) where
+module _ (s : List ℕ) (c : Cursor) (h : c .stop ≤ length s) (l : Looks s c) (e : c .kind ≡ kindOf n-other) (cells : List ℕ) (n : ℕ) (o : List ℕ) (left : ℕ) (q : Counts) where
   abbrev here : Stack → Out
   here τ = go (st cells n o (c .stop) left q) τ (from s (c .stop))
 
@@ -81,14 +81,14 @@ module _ (s : List ℕ) (c : Cursor) (h : c .stop ≤ length s) (l : Looks s c) 
 
 -- the name `on`
 abbrev pub is-on : ℕ → ℕ → Bool
-is-on k w = is 1 k && is 5 w
+is-on k w = is (kindOf n-other) k && is 5 w
 
 pub on-is : (s : List ℕ) (c : Cursor) → AtOn s c → T (is-on 1 (wordOf (bytesAt s c)))
 on-is s c e = rw (e .1) tt
 
 -- and any other
 abbrev pub is-no-on : ℕ → ℕ → Bool
-is-no-on k w = is 1 k && not (is 5 w)
+is-no-on k w = is (kindOf n-other) k && not (is 5 w)
 
 pub no-on-is : (s : List ℕ) (c : Cursor) → (wordOf (bytesAt s c) ≡ 5 → ⊥) → T (is-no-on 1 (wordOf (bytesAt s c)))
 no-on-is s c e = rw (ne-eqb (wordOf (bytesAt s c)) 5 e) tt

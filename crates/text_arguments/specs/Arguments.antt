@@ -4,9 +4,9 @@ use mathlib.Core.List.{List, [], _∷_}
 use Prim.Native.Nat.{ℕ, _-_}
 use lib.ListN.{take, drop}
 use Rattle.paper.specs.Grammar.{nt}
-use Rattle.paper.specs.Language.{Arguments?, Directive, Directives?, TypeCondition}
+use Rattle.paper.specs.Language.{Arguments?, Directive, Directives?, TypeCondition, n-other}
 use Rattle.paper.proofs.Going.{Stack}
-use Rattle.text_scan.specs.Head.{wordOf}
+use Rattle.text_scan.specs.Head.{wordOf, kindOf}
 use Rattle.text_cursor.specs.declared.Cursor.{Cursor}
 
 -- the bytes of the token that a cursor looks at
@@ -15,7 +15,7 @@ bytesAt s c = take (c .end - c .start) (drop (c .start) s)
 
 -- the token looked at is the name `on`
 abbrev pub AtOn : List ℕ → Cursor → Type 0
-AtOn s c = (c .kind ≡ 1) × (wordOf (bytesAt s c) ≡ 5)
+AtOn s c = (c .kind ≡ kindOf n-other) × (wordOf (bytesAt s c) ≡ 5)
 
 abbrev pub argumentsStack : Stack
 argumentsStack = nt Arguments? ∷ []

@@ -15,12 +15,14 @@ use text_scan::TOKEN_PAREN_CLOSE;
 use text_scan::TOKEN_PAREN_OPEN;
 use text_values::entry;
 ghost use mathlib.Core.Path.{_≡_};
+ghost use Rattle.paper.specs.Language.{atSign, parenL};
+ghost use Rattle.text_scan.specs.Head.{kindOf};
 ghost use Rattle.text_cursor.specs.Reader.{Ready, Said};
 ghost use Rattle.text_arguments.specs.Arguments.{AtOn, argumentsStack, directiveStack, directivesStack, conditionStack};
 
 // Arguments, at their (
 pub fn arguments(s: &[u8], rows: &mut [u32], c: Cursor, parent: u32, left: u32) -> Read
-    requires { ⌜ Ready (now s) (now rows) c parent × (c .kind ≡ 8) ⌝ }
+    requires { ⌜ Ready (now s) (now rows) c parent × (c .kind ≡ kindOf parenL) ⌝ }
     ensures { λ r. ⌜ Said 0 (now (s .entry)) (now (rows .entry)) (now (rows .exit)) c parent left argumentsStack r ⌝ }
 {
     if left == 0 {
@@ -47,7 +49,7 @@ pub fn arguments(s: &[u8], rows: &mut [u32], c: Cursor, parent: u32, left: u32) 
 
 // Directive, at its @
 fn directive(s: &[u8], rows: &mut [u32], c: Cursor, parent: u32, left: u32) -> Read
-    requires { ⌜ Ready (now s) (now rows) c parent × (c .kind ≡ 12) ⌝ }
+    requires { ⌜ Ready (now s) (now rows) c parent × (c .kind ≡ kindOf atSign) ⌝ }
     ensures { λ r. ⌜ Said 1 (now (s .entry)) (now (rows .entry)) (now (rows .exit)) c parent left directiveStack r ⌝ }
 {
     let n = c.rows;
@@ -90,7 +92,7 @@ fn directive(s: &[u8], rows: &mut [u32], c: Cursor, parent: u32, left: u32) -> R
 
 // Directives, at their first @
 pub fn directives(s: &[u8], rows: &mut [u32], c: Cursor, parent: u32, left: u32) -> Read
-    requires { ⌜ Ready (now s) (now rows) c parent × (c .kind ≡ 12) ⌝ }
+    requires { ⌜ Ready (now s) (now rows) c parent × (c .kind ≡ kindOf atSign) ⌝ }
     ensures { λ r. ⌜ Said 0 (now (s .entry)) (now (rows .entry)) (now (rows .exit)) c parent left directivesStack r ⌝ }
 {
     let mut d = c;

@@ -1,5 +1,5 @@
--- What the machine does at the token that a cursor looks at. A reader's proof goes by these laws alone: each speaks of a kind of token, by its
--- number, and the tables of the grammar are asked by a test that computes over all classes.
+-- What the machine does at the token that a cursor looks at. A reader's proof goes by these laws alone: each speaks of a kind of token, by a
+-- class of it, and the tables of the grammar are asked by a test that computes over all classes.
 use mathlib.Core.Path.{_≡_, refl, sym, ap, _∙_, subst}
 use mathlib.Core.Bool.{Bool, true, false, not, _&&_, _||_}
 use mathlib.Core.List.{List, [], _∷_, _++_, List·Memᴰ}
@@ -30,6 +30,7 @@ use Rattle.paper.proofs.Going.{Stack, State, st, Out, halt, go, goes, heed, dee
 use Rattle.text_scan.specs.Head.{headOf, kindOf}
 use Rattle.text_scan.specs.declared.TokenRead.{TokenRead}
 use Rattle.text_scan.specs.declared.TokenRead.the-variants.{Token, Bad}
+use Rattle.text_tokens.proofs.KindLaws.{kind-some}
 use Rattle.text_cursor.specs.declared.Cursor.{Cursor}
 use Rattle.text_cursor.specs.Reader.{Looks}
 
@@ -141,13 +142,13 @@ module _ (s : List ℕ) (c : Cursor) (h : c .stop ≤ length s) (l : Looks s c) 
   here τ = go (st cells n o (c .stop) left q) τ (from s (c .stop))
 
   -- a kind of token that begins the production α of the part
-  pub first : (σ : Stack) (p : Part) {α : Stack} → List·Memᴰ α (factored p) → (x : ℕ) → c .kind ≡ suc x → T (all (λ k. implies (is (suc x) (kindOf k)) (fst graphql α k)) allC) → here (nt p ∷ σ) ≡ here (α ++ σ)
+  pub first : (σ : Stack) (p : Part) {α : Stack} → List·Memᴰ α (factored p) → (x : Class) → c .kind ≡ kindOf x → T (all (λ k. implies (is (kindOf x) (kindOf k)) (fst graphql α k)) allC) → here (nt p ∷ σ) ≡ here (α ++ σ)
   unfolding lookAt
   first σ p {α} m x e t =
-      let f = front-token s c h l (λ z. let w : ⊥ = omega arith in w) in
+      let f = front-token s c h l (λ z. let w : ⊥ = omega (arith, kind-some x) in w) in
       rw (f .2)
       (expand (st cells n o (c .stop) left q) p σ (token (tokenOf (f .0) (c .start) (c .end)) (from s (c .end)))
-      (choose-first fits p (f .0) m (by-kind (fst graphql α) (is (suc x)) t (f .0) (suc x) (f .1 ∙ e) (is-T (suc x)))))
+      (choose-first fits p (f .0) m (by-kind (fst graphql α) (is (kindOf x)) t (f .0) (kindOf x) (f .1 ∙ e) (is-T (kindOf x)))))
 
   -- tokens, or the end, that begin none of the part's productions, while α is one of no token
   pub null : (σ : Stack) (p : Part) {α : Stack} → List·Memᴰ α (factored p) → T (nul graphql α) → choose graphql p none ≡ some α → (g : ℕ → Bool) → T (g (c .kind)) →
@@ -179,36 +180,36 @@ module _ (s : List ℕ) (c : Cursor) (h : c .stop ≤ length s) (l : Looks s c) 
       go′ (the-end d f i j) = rw f refl
 
   -- a terminal that is there, where the sizes are kept: a plain token, one that opens a level, one that closes it
-  module _ (σ : Stack) (w : Terminal) (x : ℕ) (e : c .kind ≡ suc x) (t : T (all (λ k. implies (is (suc x) (kindOf k)) (hits w k)) allC)) where
-    take-with : (b d : Bool) → T (all (λ k. implies (is (suc x) (kindOf k)) (same-bool (opensLevel k) b && same-bool (closesLevel k) d)) allC) →
+  module _ (σ : Stack) (w : Terminal) (x : Class) (e : c .kind ≡ kindOf x) (t : T (all (λ k. implies (is (kindOf x) (kindOf k)) (hits w k)) allC)) where
+    take-with : (b d : Bool) → T (all (λ k. implies (is (kindOf x) (kindOf k)) (same-bool (opensLevel k) b && same-bool (closesLevel k) d)) allC) →
         here (tm w ∷ σ) ≡ deep b d left (c .start) (λ m. many (ltb mostRows n) (TooManyRows (c .start)) (many (overCounts q) (TooMany (c .start)) (go (st cells n o (c .end) m q) σ (from s (c .end)))))
     unfolding go step
     take-with b d u =
-        let f = front-token s c h l (λ z. let y : ⊥ = omega arith in y) in
-        let v : T (same-bool (opensLevel (f .0)) b && same-bool (closesLevel (f .0)) d) = by-kind (λ k. same-bool (opensLevel k) b && same-bool (closesLevel k) d) (is (suc x)) u (f .0) (suc x) (f .1 ∙ e) (is-T (suc x)) in
-        rw (f .2, T→eq (hits w (f .0)) (by-kind (hits w) (is (suc x)) t (f .0) (suc x) (f .1 ∙ e) (is-T (suc x))), bool-is (opensLevel (f .0)) b (and-l (same-bool (opensLevel (f .0)) b) (same-bool (closesLevel (f .0)) d) v), bool-is (closesLevel (f .0)) d (and-r (same-bool (opensLevel (f .0)) b) (same-bool (closesLevel (f .0)) d) v)) refl
+        let f = front-token s c h l (λ z. let y : ⊥ = omega (arith, kind-some x) in y) in
+        let v : T (same-bool (opensLevel (f .0)) b && same-bool (closesLevel (f .0)) d) = by-kind (λ k. same-bool (opensLevel k) b && same-bool (closesLevel k) d) (is (kindOf x)) u (f .0) (kindOf x) (f .1 ∙ e) (is-T (kindOf x)) in
+        rw (f .2, T→eq (hits w (f .0)) (by-kind (hits w) (is (kindOf x)) t (f .0) (kindOf x) (f .1 ∙ e) (is-T (kindOf x))), bool-is (opensLevel (f .0)) b (and-l (same-bool (opensLevel (f .0)) b) (same-bool (closesLevel (f .0)) d) v), bool-is (closesLevel (f .0)) d (and-r (same-bool (opensLevel (f .0)) b) (same-bool (closesLevel (f .0)) d) v)) refl
 
-    pub plain : T (all (λ k. implies (is (suc x) (kindOf k)) (same-bool (opensLevel k) false && same-bool (closesLevel k) false)) allC) → n ≤ mostRows → overCounts q ≡ false → here (tm w ∷ σ) ≡ go (st cells n o (c .end) left q) σ (from s (c .end))
+    pub plain : T (all (λ k. implies (is (kindOf x) (kindOf k)) (same-bool (opensLevel k) false && same-bool (closesLevel k) false)) allC) → n ≤ mostRows → overCounts q ≡ false → here (tm w ∷ σ) ≡ go (st cells n o (c .end) left q) σ (from s (c .end))
     plain u r k = take-with false false u ∙ rw (le-ltb mostRows n r, k) refl
 
-    pub opening : T (all (λ k. implies (is (suc x) (kindOf k)) (same-bool (opensLevel k) true && same-bool (closesLevel k) false)) allC) → (m : ℕ) → left ≡ suc m → n ≤ mostRows → overCounts q ≡ false → here (tm w ∷ σ) ≡ go (st cells n o (c .end) m q) σ (from s (c .end))
+    pub opening : T (all (λ k. implies (is (kindOf x) (kindOf k)) (same-bool (opensLevel k) true && same-bool (closesLevel k) false)) allC) → (m : ℕ) → left ≡ suc m → n ≤ mostRows → overCounts q ≡ false → here (tm w ∷ σ) ≡ go (st cells n o (c .end) m q) σ (from s (c .end))
     opening u m v r k = take-with true false u ∙ rw (v, le-ltb mostRows n r, k) refl
 
-    pub closing : T (all (λ k. implies (is (suc x) (kindOf k)) (same-bool (opensLevel k) false && same-bool (closesLevel k) true)) allC) → n ≤ mostRows → overCounts q ≡ false → here (tm w ∷ σ) ≡ go (st cells n o (c .end) (suc left) q) σ (from s (c .end))
+    pub closing : T (all (λ k. implies (is (kindOf x) (kindOf k)) (same-bool (opensLevel k) false && same-bool (closesLevel k) true)) allC) → n ≤ mostRows → overCounts q ≡ false → here (tm w ∷ σ) ≡ go (st cells n o (c .end) (suc left) q) σ (from s (c .end))
     closing u r k = take-with false true u ∙ rw (le-ltb mostRows n r, k) refl
 
     -- where a size is not kept
-    pub too-deep : T (all (λ k. implies (is (suc x) (kindOf k)) (same-bool (opensLevel k) true && same-bool (closesLevel k) false)) allC) → left ≡ 0 → here (tm w ∷ σ) ≡ halt (TooDeep (c .start))
+    pub too-deep : T (all (λ k. implies (is (kindOf x) (kindOf k)) (same-bool (opensLevel k) true && same-bool (closesLevel k) false)) allC) → left ≡ 0 → here (tm w ∷ σ) ≡ halt (TooDeep (c .start))
     too-deep u v = take-with true false u ∙ rw v refl
 
-    pub too-many-rows : T (all (λ k. implies (is (suc x) (kindOf k)) (same-bool (opensLevel k) false && same-bool (closesLevel k) false)) allC) → mostRows < n → here (tm w ∷ σ) ≡ halt (TooManyRows (c .start))
+    pub too-many-rows : T (all (λ k. implies (is (kindOf x) (kindOf k)) (same-bool (opensLevel k) false && same-bool (closesLevel k) false)) allC) → mostRows < n → here (tm w ∷ σ) ≡ halt (TooManyRows (c .start))
     too-many-rows u r = take-with false false u ∙ rw (lt-ltb mostRows n r) refl
 
-    pub too-many-rows-open : T (all (λ k. implies (is (suc x) (kindOf k)) (same-bool (opensLevel k) true && same-bool (closesLevel k) false)) allC) → (m : ℕ) → left ≡ suc m → mostRows < n → here (tm w ∷ σ) ≡ halt (TooManyRows (c .start))
+    pub too-many-rows-open : T (all (λ k. implies (is (kindOf x) (kindOf k)) (same-bool (opensLevel k) true && same-bool (closesLevel k) false)) allC) → (m : ℕ) → left ≡ suc m → mostRows < n → here (tm w ∷ σ) ≡ halt (TooManyRows (c .start))
     too-many-rows-open u m v r = take-with true false u ∙ rw (v, lt-ltb mostRows n r) refl
 
-    pub too-many : T (all (λ k. implies (is (suc x) (kindOf k)) (same-bool (opensLevel k) false && same-bool (closesLevel k) false)) allC) → n ≤ mostRows → overCounts q ≡ true → here (tm w ∷ σ) ≡ halt (TooMany (c .start))
+    pub too-many : T (all (λ k. implies (is (kindOf x) (kindOf k)) (same-bool (opensLevel k) false && same-bool (closesLevel k) false)) allC) → n ≤ mostRows → overCounts q ≡ true → here (tm w ∷ σ) ≡ halt (TooMany (c .start))
     too-many u r k = take-with false false u ∙ rw (le-ltb mostRows n r, k) refl
 
-    pub too-many-open : T (all (λ k. implies (is (suc x) (kindOf k)) (same-bool (opensLevel k) true && same-bool (closesLevel k) false)) allC) → (m : ℕ) → left ≡ suc m → n ≤ mostRows → overCounts q ≡ true → here (tm w ∷ σ) ≡ halt (TooMany (c .start))
+    pub too-many-open : T (all (λ k. implies (is (kindOf x) (kindOf k)) (same-bool (opensLevel k) true && same-bool (closesLevel k) false)) allC) → (m : ℕ) → left ≡ suc m → n ≤ mostRows → overCounts q ≡ true → here (tm w ∷ σ) ≡ halt (TooMany (c .start))
     too-many-open u m v r k = take-with true false u ∙ rw (v, le-ltb mostRows n r, k) refl

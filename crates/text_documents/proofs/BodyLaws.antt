@@ -7,7 +7,7 @@ use native.Mathlib.Omega.{arith}
 use lib.ListN.{length, set, length-set}
 use Rattle.paper.specs.Grammar.{nt, act}
 use Rattle.paper.specs.Numbers.{mostLevels}
-use Rattle.paper.specs.Language.{language, end, VariableDefinitions?, VariableDefinitions}
+use Rattle.paper.specs.Language.{language, end, VariableDefinitions?, VariableDefinitions, atSign, parenL}
 use Rattle.paper.specs.Rows.{pop}
 use Rattle.paper.specs.Sizes.{Counts}
 use Rattle.paper.specs.declared.Refusal.{Refusal}
@@ -15,6 +15,7 @@ use Rattle.paper.proofs.Lexing.{from}
 use Rattle.paper.proofs.Machine.{choose}
 use Rattle.paper.proofs.Tables.{factored}
 use Rattle.paper.proofs.Going.{Stack, st, go-act}
+use Rattle.text_scan.specs.Head.{kindOf}
 use Rattle.text_cursor.specs.Reader.{Ready, at, Went, Said}
 use Rattle.text_cursor.specs.declared.Cursor.{Cursor}
 use Rattle.text_cursor.specs.declared.Read.{Read}
@@ -61,7 +62,7 @@ module _ (s rows : List ℕ) (c : Cursor) (n : ℕ) where
       }
   body-says rows₁ a w rows′ (Refused x) u = λ σ o q t f m. w .goes (setStack ++ σ) o q t f ∙ u σ o q t f m
 
-  pub body-bare : Ready s rows c n → (c .kind ≡ 12 → ⊥) → (rows′ : List ℕ) (r : Read) → CountedSaid 1 s rows rows′ c n mostLevels setStack pop anyCounts sameCounts r → CountedSaid 1 s rows rows′ c n mostLevels bodyStack pop anyCounts sameCounts r
+  pub body-bare : Ready s rows c n → (c .kind ≡ kindOf atSign → ⊥) → (rows′ : List ℕ) (r : Read) → CountedSaid 1 s rows rows′ c n mostLevels setStack pop anyCounts sameCounts r → CountedSaid 1 s rows rows′ c n mostLevels bodyStack pop anyCounts sameCounts r
   body-bare g k = body-says rows c (no-directives s rows c n mostLevels g k)
 
 -- the same behind the name of an operation, with variable definitions or none
@@ -69,7 +70,7 @@ abbrev pub restStack : Stack
 restStack = nt VariableDefinitions? ∷ bodyStack
 
 module _ (s rows : List ℕ) (c : Cursor) (n : ℕ) (g : Ready s rows c n) where
-  pub rest-bare : (c .kind ≡ 8 → ⊥) → (rows′ : List ℕ) (r : Read) → CountedSaid 1 s rows rows′ c n mostLevels bodyStack pop anyCounts sameCounts r → CountedSaid 1 s rows rows′ c n mostLevels restStack pop (variablesAre 0) sameFragments r
+  pub rest-bare : (c .kind ≡ kindOf parenL → ⊥) → (rows′ : List ℕ) (r : Read) → CountedSaid 1 s rows rows′ c n mostLevels bodyStack pop anyCounts sameCounts r → CountedSaid 1 s rows rows′ c n mostLevels restStack pop (variablesAre 0) sameFragments r
   unfolding factored language choose
   rest-bare h rows′ (Done d) w =
       record {
@@ -83,16 +84,16 @@ module _ (s rows : List ℕ) (c : Cursor) (n : ℕ) (g : Ready s rows c n) where
               y .0,
               y .1,
               ap (λ (p : Counts). p .fragments) (y .2),
-              null s c (g .within) (g .looks) rows (c .rows) o mostLevels q (bodyStack ++ σ) VariableDefinitions? {α = []} (List·Memᴰ·head refl) tt refl (λ y. not (is 8 y)) (not-is 8 (c .kind) h) tt ∙ y .3,
+              null s c (g .within) (g .looks) rows (c .rows) o mostLevels q (bodyStack ++ σ) VariableDefinitions? {α = []} (List·Memᴰ·head refl) tt refl (λ y. not (is (kindOf parenL) y)) (not-is (kindOf parenL) (c .kind) h) tt ∙ y .3,
             );
       }
   rest-bare h rows′ (Refused x) w = λ σ o q t f m.
-      null s c (g .within) (g .looks) rows (c .rows) o mostLevels q (bodyStack ++ σ) VariableDefinitions? {α = []} (List·Memᴰ·head refl) tt refl (λ y. not (is 8 y)) (not-is 8 (c .kind) h) tt ∙ w σ o q t f tt
+      null s c (g .within) (g .looks) rows (c .rows) o mostLevels q (bodyStack ++ σ) VariableDefinitions? {α = []} (List·Memᴰ·head refl) tt refl (λ y. not (is (kindOf parenL) y)) (not-is (kindOf parenL) (c .kind) h) tt ∙ w σ o q t f tt
 
-  module _ (h : c .kind ≡ 8) where
+  module _ (h : c .kind ≡ kindOf parenL) where
     rest-first : (σ : Stack) (o : List ℕ) (q : Counts) → at s rows c o mostLevels q (restStack ++ σ) ≡ at s rows c o mostLevels q (nt VariableDefinitions ∷ (bodyStack ++ σ))
     unfolding factored language
-    rest-first σ o q = first s c (g .within) (g .looks) rows (c .rows) o mostLevels q (bodyStack ++ σ) VariableDefinitions? {α = nt VariableDefinitions ∷ []} (List·Memᴰ·tail (List·Memᴰ·head refl)) 7 h tt
+    rest-first σ o q = first s c (g .within) (g .looks) rows (c .rows) o mostLevels q (bodyStack ++ σ) VariableDefinitions? {α = nt VariableDefinitions ∷ []} (List·Memᴰ·tail (List·Memᴰ·head refl)) parenL h tt
 
     pub rest-stop : (rows₁ rows′ : List ℕ) (r : Read) → CountedSaid 1 s rows rows₁ c n mostLevels (nt VariableDefinitions ∷ []) stays (variablesAre 0) sameFragments r → (x : Refusal) → r ≡ Refused x →
         CountedSaid 1 s rows rows′ c n mostLevels restStack pop (variablesAre 0) sameFragments r

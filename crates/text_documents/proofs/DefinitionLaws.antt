@@ -7,13 +7,14 @@ use native.Mathlib.Omega.{arith}
 use lib.Dec.{eqb}
 use borrow.Author.Tests.{eqb-false, eq-eqb, ne-eqb}
 use Rattle.paper.specs.Numbers.{mostLevels, noParent}
-use Rattle.paper.specs.Language.{language, Definition}
+use Rattle.paper.specs.Language.{language, Definition, braceL}
 use Rattle.paper.specs.Sizes.{Counts}
 use Rattle.paper.specs.declared.Refusal.the-variants.{NoGoing}
 use Rattle.paper.proofs.Lexing.{from}
 use Rattle.paper.proofs.Machine.{choose}
 use Rattle.paper.proofs.Tables.{factored}
 use Rattle.paper.proofs.Going.{Stack, st, halt}
+use Rattle.text_scan.specs.Head.{kindOf}
 use Rattle.text_cursor.specs.Reader.{Ready, at, noGoingOf}
 use Rattle.text_cursor.specs.declared.Cursor.{Cursor}
 use Rattle.text_cursor.specs.declared.Read.{Read}
@@ -31,7 +32,7 @@ after-fragment s c before h = rw (eq-eqb (wordAt s c) 4 h) refl
 pub after-other : (s : List ℕ) (c : Cursor) (before : ℕ) → (wordAt s c ≡ 4 → ⊥) → fragmentsAfter s c before ≡ before
 after-other s c before h = rw (ne-eqb (wordAt s c) 4 h) refl
 
-pub after-brace : (s : List ℕ) (c : Cursor) (before : ℕ) → c .kind ≡ 15 → fragmentsAfter s c before ≡ before
+pub after-brace : (s : List ℕ) (c : Cursor) (before : ℕ) → c .kind ≡ kindOf braceL → fragmentsAfter s c before ≡ before
 after-brace s c before h = after-other s c before (λ e. let z = no-word s c (λ i. let x : ⊥ = omega arith in x) in let y : ⊥ = omega arith in y)
 
 pub after-most : (s : List ℕ) (c : Cursor) (before : ℕ) → fragmentsAfter s c before ≤ before + 1
@@ -62,7 +63,7 @@ module _ (s rows rows′ : List ℕ) (c : Cursor) (before : ℕ) where
   definition-fragment h (Refused x) w = w
 
   -- no definition begins so
-  pub definition-none : Ready s rows c noParent → (c .kind ≡ 15 → ⊥) → (wordAt s c ≡ 1 → ⊥) → (wordAt s c ≡ 4 → ⊥) → (wordAt s c ≡ 2 → ⊥) → (wordAt s c ≡ 3 → ⊥) → (r : Read) → r ≡ noGoingOf c →
+  pub definition-none : Ready s rows c noParent → (c .kind ≡ kindOf braceL → ⊥) → (wordAt s c ≡ 1 → ⊥) → (wordAt s c ≡ 4 → ⊥) → (wordAt s c ≡ 2 → ⊥) → (wordAt s c ≡ 3 → ⊥) → (r : Read) → r ≡ noGoingOf c →
       CountedSaid 1 s rows rows′ c noParent mostLevels oneDefinition stays (fragmentsAre before) (fragmentsBecome (fragmentsAfter s c before)) r
   unfolding factored language choose refuses refusesEnd
   definition-none g h i₁ i₄ i₂ i₃ r e = rw e (λ σ o q t f m. by σ o q (eqb (c .kind) 0) refl)
@@ -73,5 +74,5 @@ module _ (s rows rows′ : List ℕ) (c : Cursor) (before : ℕ) where
           let w = worded s c (g .within) (g .looks) (eqb-false (c .kind) 0 j) in
           rw (w .text)
           (class-refuse (w .class) (c .start) (c .end) (from s (c .end)) (st rows (c .rows) o (c .stop) mostLevels q) σ Definition
-          (by-word (refuses Definition) (λ x y. not (is 15 x) && (not (is 1 y) && (not (is 4 y) && (not (is 2 y) && not (is 3 y))))) tt (w .class) (c .kind) (wordAt s c) (w .kind) (w .word)
-          (rw (ne-eqb (c .kind) 15 h, ne-eqb (wordAt s c) 1 i₁, ne-eqb (wordAt s c) 4 i₄, ne-eqb (wordAt s c) 2 i₂, ne-eqb (wordAt s c) 3 i₃) tt)))
+          (by-word (refuses Definition) (λ x y. not (is (kindOf braceL) x) && (not (is 1 y) && (not (is 4 y) && (not (is 2 y) && not (is 3 y))))) tt (w .class) (c .kind) (wordAt s c) (w .kind) (w .word)
+          (rw (ne-eqb (c .kind) (kindOf braceL) h, ne-eqb (wordAt s c) 1 i₁, ne-eqb (wordAt s c) 4 i₄, ne-eqb (wordAt s c) 2 i₂, ne-eqb (wordAt s c) 3 i₃) tt)))

@@ -8,7 +8,7 @@ use lib.Dec.{T}
 use lib.ListN.{length}
 use Rattle.paper.specs.Grammar.{nt, act}
 use Rattle.paper.specs.Numbers.{mostText, mostLevels, mostRows, rowsSize, noParent, kindObject}
-use Rattle.paper.specs.Language.{Class, numC, Part, language, row, kind, end, Document, Definition+, Definition*, Definition, VariablesText, ConstValue, ConstObjectValue}
+use Rattle.paper.specs.Language.{Class, numC, Part, language, row, kind, end, Document, Definition+, Definition*, Definition, VariablesText, ConstValue, ConstObjectValue, braceL}
 use Rattle.paper.specs.Tokens.{Tok, Text, atEnd, bad, token}
 use Rattle.paper.specs.Sizes.{Counts, overCounts}
 use Rattle.paper.specs.declared.Refusal.{Refusal}
@@ -19,7 +19,7 @@ use Rattle.paper.proofs.Bools.{T→eq, eq→T-not as T-not, eq→T as T-of}
 use Rattle.paper_theory.proofs.Test.{all, implies, implies-out, all-at}
 use Rattle.paper.proofs.Tables.{graphql, factored, allC, atC}
 use Rattle.paper.proofs.Going.{Stack, State, st, start, whole, halt, go}
-use Rattle.text_scan.specs.Head.{headOf, wordNumber}
+use Rattle.text_scan.specs.Head.{headOf, wordNumber, kindOf}
 use Rattle.text_cursor.specs.Reader.{Looks, Ready, at, movedTo, noGoingOf, Went, Said}
 use Rattle.text_cursor.specs.declared.Cursor.{Cursor}
 use Rattle.text_cursor.specs.declared.Read.{Read}
@@ -160,19 +160,19 @@ module _ (s rows : List ℕ) (short : length s ≤ mostText) (size : length rows
           }
 
   -- A VARIABLES TEXT
-  pub text-none : (rows′ : List ℕ) → (c₀ .kind ≡ 15 → ⊥) → (u : Read) → u ≡ noGoingOf c₀ → Ended VariablesText s rows rows′ u
+  pub text-none : (rows′ : List ℕ) → (c₀ .kind ≡ kindOf braceL → ⊥) → (u : Read) → u ≡ noGoingOf c₀ → Ended VariablesText s rows rows′ u
   unfolding factored language choose refuses refusesEnd
   text-none rows′ h u i =
-      rw i (start-at VariablesText ∙ refuse s c₀ (begin-ready .within) (begin-ready .looks) rows (c₀ .rows) [] mostLevels noCounts [] VariablesText (λ y. not (is 15 y)) (not-is 15 (c₀ .kind) h) tt tt)
+      rw i (start-at VariablesText ∙ refuse s c₀ (begin-ready .within) (begin-ready .looks) rows (c₀ .rows) [] mostLevels noCounts [] VariablesText (λ y. not (is (kindOf braceL) y)) (not-is (kindOf braceL) (c₀ .kind) h) tt tt)
 
-  module _ (h : c₀ .kind ≡ 15) where
+  module _ (h : c₀ .kind ≡ kindOf braceL) where
     text-at : go (start rows) (nt VariablesText ∷ []) (from s 0) ≡ at s rows c₀ [] mostLevels noCounts (valueStack true)
     unfolding factored language
     text-at =
         start-at VariablesText
-        ∙ first s c₀ (begin-ready .within) (begin-ready .looks) rows (c₀ .rows) [] mostLevels noCounts [] VariablesText {α = act row ∷ act (kind kindObject 0) ∷ nt ConstObjectValue ∷ act end ∷ []} (List·Memᴰ·head refl) 14 h tt
+        ∙ first s c₀ (begin-ready .within) (begin-ready .looks) rows (c₀ .rows) [] mostLevels noCounts [] VariablesText {α = act row ∷ act (kind kindObject 0) ∷ nt ConstObjectValue ∷ act end ∷ []} (List·Memᴰ·head refl) braceL h tt
         ∙ sym (first s c₀ (begin-ready .within) (begin-ready .looks) rows (c₀ .rows) [] mostLevels noCounts [] ConstValue {α = act row ∷ act (kind kindObject 0) ∷ nt ConstObjectValue ∷ act end ∷ []}
-        (List·Memᴰ·tail (List·Memᴰ·tail (List·Memᴰ·tail (List·Memᴰ·tail (List·Memᴰ·tail (List·Memᴰ·tail (List·Memᴰ·tail (List·Memᴰ·tail (List·Memᴰ·head refl))))))))) 14 h tt)
+        (List·Memᴰ·tail (List·Memᴰ·tail (List·Memᴰ·tail (List·Memᴰ·tail (List·Memᴰ·tail (List·Memᴰ·tail (List·Memᴰ·tail (List·Memᴰ·tail (List·Memᴰ·head refl))))))))) braceL h tt)
 
     pub text-stop : (rows₁ rows′ : List ℕ) (u : Read) → Said 1 s rows rows₁ c₀ noParent mostLevels (valueStack true) u → (x : Refusal) → u ≡ Refused x → Ended VariablesText s rows rows′ u
     text-stop rows₁ rows′ u w x i = rw i (text-at ∙ said-halts 1 s rows rows₁ c₀ noParent mostLevels (valueStack true) u w x i [] [] noCounts refl refl)

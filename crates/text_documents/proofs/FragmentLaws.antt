@@ -10,7 +10,7 @@ use borrow.Author.Tests.{lt-ltb, le-ltb, eqb-true, eqb-false, eq-eqb, not-false}
 use Rattle.paper.proofs.Bools.{eq→T-not as false-T, eq→T as true-T}
 use Rattle.paper.specs.Grammar.{nt, tm, act}
 use Rattle.paper.specs.Numbers.{mostLevels, mostRows, mostFragments, noParent, kindFragment}
-use Rattle.paper.specs.Language.{Class, sameC, language, the, hits, nameButOn, n-fragment, row, kind, named, Definition, FragmentDefinition, FragmentName, TypeCondition}
+use Rattle.paper.specs.Language.{Class, sameC, language, the, hits, nameButOn, n-fragment, row, kind, named, Definition, FragmentDefinition, FragmentName, TypeCondition, n-other}
 use Rattle.paper.specs.Tokens.{Text, token}
 use Rattle.paper.specs.Rows.{top, pop}
 use Rattle.paper.specs.Sizes.{Counts, kinded, opensLevel, closesLevel, overCounts}
@@ -39,25 +39,25 @@ use Rattle.text_documents.proofs.OperationLaws.{oneDefinition}
 
 -- WHICH NAMES
 abbrev butOn : ℕ → ℕ → Bool
-butOn x y = is 1 x && not (is 5 y)
+butOn x y = is (kindOf n-other) x && not (is 5 y)
 
 names-test : (s : List ℕ) (c : Cursor) → namesFragment s c ≡ butOn (c .kind) (wordAt s c)
-names-test s c = by (eqb (c .kind) 1) refl
+names-test s c = by (eqb (c .kind) (kindOf n-other)) refl
   where
-    by : (b : Bool) → eqb (c .kind) 1 ≡ b → namesFragment s c ≡ butOn (c .kind) (wordAt s c)
+    by : (b : Bool) → eqb (c .kind) (kindOf n-other) ≡ b → namesFragment s c ≡ butOn (c .kind) (wordAt s c)
     by true e = rw e refl
     by false e = rw e refl
 
-names-kind : (s : List ℕ) (c : Cursor) → namesFragment s c ≡ true → c .kind ≡ 1
-names-kind s c h = by (eqb (c .kind) 1) refl
+names-kind : (s : List ℕ) (c : Cursor) → namesFragment s c ≡ true → c .kind ≡ kindOf n-other
+names-kind s c h = by (eqb (c .kind) (kindOf n-other)) refl
   where
-    by : (b : Bool) → eqb (c .kind) 1 ≡ b → c .kind ≡ 1
-    by true e = eqb-true (c .kind) 1 e
+    by : (b : Bool) → eqb (c .kind) (kindOf n-other) ≡ b → c .kind ≡ kindOf n-other
+    by true e = eqb-true (c .kind) (kindOf n-other) e
     by false e = let i : false ≡ true = rw e at h in let z : _≡_ {A = ℕ} 0 1 = cc in let w : ⊥ = omega arith in absurd w
 
 -- a name that names no fragment is `on`
-pub at-on : (s : List ℕ) (c : Cursor) → c .kind ≡ 1 → namesFragment s c ≡ false → AtOn s c
-at-on s c h e = (h, eqb-true (wordOf (bytesAt s c)) 5 (not-false (eqb (wordOf (bytesAt s c)) 5) (rw (eq-eqb (c .kind) 1 h) at e)))
+pub at-on : (s : List ℕ) (c : Cursor) → c .kind ≡ kindOf n-other → namesFragment s c ≡ false → AtOn s c
+at-on s c h e = (h, eqb-true (wordOf (bytesAt s c)) 5 (not-false (eqb (wordOf (bytesAt s c)) 5) (rw (eq-eqb (c .kind) (kindOf n-other) h) at e)))
 
 module _ (s : List ℕ) (c : Cursor) (h : c .stop ≤ length s) (l : Looks s c) (rows : List ℕ) (o : List ℕ) (left : ℕ) (q : Counts) where
   -- a fragment's name is taken
@@ -88,9 +88,9 @@ module _ (s : List ℕ) (c : Cursor) (h : c .stop ≤ length s) (l : Looks s c) 
           (by-word (refuses FragmentName) (λ x y. not (butOn x y)) tt (w .class) (c .kind) (wordAt s c) (w .kind) (w .word) (false-T (butOn (c .kind) (wordAt s c)) (sym (names-test s c) ∙ e))))
 
   -- a type condition begins with `on`
-  condition-none : (c .kind ≡ 1 → ⊥) → (σ : Stack) → at s rows c o left q (nt TypeCondition ∷ σ) ≡ halt (NoGoing (c .start))
+  condition-none : (c .kind ≡ kindOf n-other → ⊥) → (σ : Stack) → at s rows c o left q (nt TypeCondition ∷ σ) ≡ halt (NoGoing (c .start))
   unfolding factored language choose refuses refusesEnd
-  condition-none e σ = refuse s c h l rows (c .rows) o left q σ TypeCondition (λ y. not (is 1 y)) (not-is 1 (c .kind) e) tt tt
+  condition-none e σ = refuse s c h l rows (c .rows) o left q σ TypeCondition (λ y. not (is (kindOf n-other) y)) (not-is (kindOf n-other) (c .kind) e) tt tt
 
   condition-other : namesFragment s c ≡ true → (σ : Stack) → at s rows c o left q (nt TypeCondition ∷ σ) ≡ halt (NoGoing (c .start))
   unfolding factored language choose refuses
@@ -123,7 +123,7 @@ module _ (s rows : List ℕ) (c : Cursor) (n : ℕ) (g : Ready s rows c n) (h : 
     condition-at : (σ : Stack) (o : List ℕ) (q : Counts) → overCounts q ≡ false → at s rows c o mostLevels q (nameStack ++ σ) ≡ at s rows d o mostLevels q (nt TypeCondition ∷ (bodyStack ++ σ))
     condition-at σ o q f = name-taken s c (g .within) (g .looks) rows o mostLevels q h (g .few) f (nt TypeCondition ∷ (bodyStack ++ σ)) ∙ rw (next .stop, next .rows) refl
 
-    pub from-name-none : (rows′ : List ℕ) → (d .kind ≡ 1 → ⊥) → (u : Read) → u ≡ noGoingOf d → CountedSaid 1 s rows rows′ c n mostLevels nameStack pop anyCounts sameCounts u
+    pub from-name-none : (rows′ : List ℕ) → (d .kind ≡ kindOf n-other → ⊥) → (u : Read) → u ≡ noGoingOf d → CountedSaid 1 s rows rows′ c n mostLevels nameStack pop anyCounts sameCounts u
     from-name-none rows′ k u z = rw z (λ σ o q t f m. condition-at σ o q f ∙ condition-none s d (condition-ready .within) (condition-ready .looks) rows o mostLevels q k (bodyStack ++ σ))
 
     pub from-name-other : (rows′ : List ℕ) → namesFragment s d ≡ true → (u : Read) → u ≡ noGoingOf d → CountedSaid 1 s rows rows′ c n mostLevels nameStack pop anyCounts sameCounts u

@@ -9,7 +9,7 @@ use lib.ListN.{length, set, length-set}
 use borrow.Author.Tests.{lt-ltb, le-ltb}
 use Rattle.paper.specs.Grammar.{nt, tm, act}
 use Rattle.paper.specs.Numbers.{mostLevels, mostRows, noParent, kindOperation, extraQuery}
-use Rattle.paper.specs.Language.{Class, sameC, language, the, hits, anyName, n-query, n-mutation, n-subscription, braceL, braceR, row, kind, named, end, Name, Definition, OperationDefinition, OperationType, OperationName?, SelectionSet, Selection+}
+use Rattle.paper.specs.Language.{Class, sameC, language, the, hits, anyName, n-query, n-mutation, n-subscription, braceL, braceR, row, kind, named, end, Name, Definition, OperationDefinition, OperationType, OperationName?, SelectionSet, Selection+, n-other}
 use Rattle.paper.specs.Tokens.{Text, token}
 use Rattle.paper.specs.Rows.{top, pop}
 use Rattle.paper.specs.Sizes.{Counts, kinded, opensLevel, closesLevel, overCounts}
@@ -151,16 +151,16 @@ module _ (s rows : List ℕ) (c : Cursor) (extra : ℕ) (g : Ready s rows c noPa
           omega (arith, g .few, room),
         )
 
-        pub unnamed-says : (d .kind ≡ 1 → ⊥) → (rows₁ : List ℕ) → rows₁ ≡ first-cells → (rows′ : List ℕ) (u : Read) → CountedSaid 1 s rows₁ rows′ d (c .rows) mostLevels restStack pop (variablesAre 0) sameFragments u →
+        pub unnamed-says : (d .kind ≡ kindOf n-other → ⊥) → (rows₁ : List ℕ) → rows₁ ≡ first-cells → (rows′ : List ℕ) (u : Read) → CountedSaid 1 s rows₁ rows′ d (c .rows) mostLevels restStack pop (variablesAre 0) sameFragments u →
             CountedSaid 1 s rows rows′ c noParent mostLevels oneDefinition stays anyCounts sameFragments u
         unfolding factored language choose
         unnamed-says k rows₁ z rows′ u w =
             operation-says rows₁ d (omega (arith, next .stop, begins))
             (λ σ o q t f. operation-past σ o q t f
-            ∙ rw (sym (next .stop), sym (next .rows)) (null s d name-within (next .looks) first-cells (d .rows) (c .rows ∷ o) mostLevels (kinded kindOperation q) (restStack ++ σ) OperationName? {α = []} (List·Memᴰ·head refl) tt refl (λ y. not (is 1 y)) (not-is 1 (d .kind) k) tt ∙ rw z refl))
+            ∙ rw (sym (next .stop), sym (next .rows)) (null s d name-within (next .looks) first-cells (d .rows) (c .rows ∷ o) mostLevels (kinded kindOperation q) (restStack ++ σ) OperationName? {α = []} (List·Memᴰ·head refl) tt refl (λ y. not (is (kindOf n-other) y)) (not-is (kindOf n-other) (d .kind) k) tt ∙ rw z refl))
             rows′ u w
 
-        module _ (k : d .kind ≡ 1) where
+        module _ (k : d .kind ≡ kindOf n-other) where
           abbrev named-cells : List ℕ
           named-cells = put rows (c .rows) kindOperation (c .start) 0 noParent (d .start) (d .end - d .start) extra
 
@@ -170,11 +170,11 @@ module _ (s rows : List ℕ) (c : Cursor) (extra : ℕ) (g : Ready s rows c noPa
           named-past σ o q t f =
               operation-past σ o q t f
               ∙ rw (sym (next .stop), sym (next .rows))
-              (first s d name-within (next .looks) first-cells (d .rows) (c .rows ∷ o) mostLevels (kinded kindOperation q) (restStack ++ σ) OperationName? {α = act named ∷ nt Name ∷ []} (List·Memᴰ·tail (List·Memᴰ·head refl)) 0 k tt
+              (first s d name-within (next .looks) first-cells (d .rows) (c .rows ∷ o) mostLevels (kinded kindOperation q) (restStack ++ σ) OperationName? {α = act named ∷ nt Name ∷ []} (List·Memᴰ·tail (List·Memᴰ·head refl)) n-other k tt
               ∙ name-told rows (d .rows) o (d .stop) mostLevels (kinded kindOperation q) (nt Name ∷ (restStack ++ σ)) (from s (d .stop)) (c .rows) kindOperation (c .start) 0 noParent 0 0 extra
               ∙ rw (start-in s d (next .looks), stop-in s d (next .looks))
-              (first s d name-within (next .looks) named-cells (d .rows) (c .rows ∷ o) mostLevels (kinded kindOperation q) (restStack ++ σ) Name {α = tm anyName ∷ []} (List·Memᴰ·head refl) 0 k tt
-              ∙ plain s d name-within (next .looks) named-cells (d .rows) (c .rows ∷ o) mostLevels (kinded kindOperation q) (restStack ++ σ) anyName 0 k tt tt (omega (arith, next .rows, g .few, room)) (operation-fine q f)))
+              (first s d name-within (next .looks) named-cells (d .rows) (c .rows ∷ o) mostLevels (kinded kindOperation q) (restStack ++ σ) Name {α = tm anyName ∷ []} (List·Memᴰ·head refl) n-other k tt
+              ∙ plain s d name-within (next .looks) named-cells (d .rows) (c .rows ∷ o) mostLevels (kinded kindOperation q) (restStack ++ σ) anyName n-other k tt tt (omega (arith, next .rows, g .few, room)) (operation-fine q f)))
 
           module _ (v : Read) (i : v ≡ movedTo (d .end) (c .rows + 1) (headOf (from s (d .end)))) where
             pub operation-bad-2 : (rows′ : List ℕ) (x : Refusal) → v ≡ Refused x → CountedSaid 1 s rows rows′ c noParent mostLevels oneDefinition stays anyCounts sameFragments v
@@ -198,7 +198,7 @@ module _ (s rows : List ℕ) (c : Cursor) (extra : ℕ) (g : Ready s rows c noPa
                   (λ σ o q t f. named-past σ o q t f ∙ rw (next-2 .stop, next-2 .rows, z) refl) rows′ u w
 
 -- A SELECTION SET ALONE
-module _ (s rows : List ℕ) (c : Cursor) (g : Ready s rows c noParent) (h : c .kind ≡ 15) where
+module _ (s rows : List ℕ) (c : Cursor) (g : Ready s rows c noParent) (h : c .kind ≡ kindOf braceL) where
   abbrev short-cells : List ℕ
   short-cells = put rows (c .rows) kindOperation (c .start) 0 noParent 0 0 extraQuery
 
@@ -210,8 +210,8 @@ module _ (s rows : List ℕ) (c : Cursor) (g : Ready s rows c noParent) (h : c .
       at s rows c o mostLevels q (oneDefinition ++ σ) ≡ at s short-cells counted (c .rows ∷ o) mostLevels (kinded kindOperation q) (nt SelectionSet ∷ act end ∷ σ)
   unfolding factored language
   short-row σ o q t =
-      first s c (g .within) (g .looks) rows (c .rows) o mostLevels q σ Definition {α = nt OperationDefinition ∷ []} (List·Memᴰ·head refl) 14 h tt
-      ∙ first s c (g .within) (g .looks) rows (c .rows) o mostLevels q σ OperationDefinition {α = act row ∷ act (kind kindOperation extraQuery) ∷ nt SelectionSet ∷ act end ∷ []} (List·Memᴰ·tail (List·Memᴰ·head refl)) 14 h tt
+      first s c (g .within) (g .looks) rows (c .rows) o mostLevels q σ Definition {α = nt OperationDefinition ∷ []} (List·Memᴰ·head refl) braceL h tt
+      ∙ first s c (g .within) (g .looks) rows (c .rows) o mostLevels q σ OperationDefinition {α = act row ∷ act (kind kindOperation extraQuery) ∷ nt SelectionSet ∷ act end ∷ []} (List·Memᴰ·tail (List·Memᴰ·head refl)) braceL h tt
       ∙ row-opens rows (c .rows) o (c .stop) mostLevels q (nt SelectionSet ∷ act end ∷ σ) (from s (c .stop)) kindOperation extraQuery
       ∙ rw (start-in s c (g .looks), t) refl
 
@@ -219,8 +219,8 @@ module _ (s rows : List ℕ) (c : Cursor) (g : Ready s rows c noParent) (h : c .
   unfolding factored language
   short-full k σ o q t f m =
       short-row σ o q t
-      ∙ first s counted (g .within) (g .looks) short-cells (c .rows + 1) (c .rows ∷ o) mostLevels (kinded kindOperation q) (act end ∷ σ) SelectionSet {α = tm (the braceL) ∷ nt Selection+ ∷ tm (the braceR) ∷ []} (List·Memᴰ·head refl) 14 h tt
-      ∙ too-many-rows-open s counted (g .within) (g .looks) short-cells (c .rows + 1) (c .rows ∷ o) mostLevels (kinded kindOperation q) (nt Selection+ ∷ tm (the braceR) ∷ act end ∷ σ) (the braceL) 14 h tt tt 31 refl (omega arith)
+      ∙ first s counted (g .within) (g .looks) short-cells (c .rows + 1) (c .rows ∷ o) mostLevels (kinded kindOperation q) (act end ∷ σ) SelectionSet {α = tm (the braceL) ∷ nt Selection+ ∷ tm (the braceR) ∷ []} (List·Memᴰ·head refl) braceL h tt
+      ∙ too-many-rows-open s counted (g .within) (g .looks) short-cells (c .rows + 1) (c .rows ∷ o) mostLevels (kinded kindOperation q) (nt Selection+ ∷ tm (the braceR) ∷ act end ∷ σ) (the braceL) braceL h tt tt 31 refl (omega arith)
 
   module _ (rows₁ : List ℕ) (z : rows₁ ≡ short-cells) where
     short-at : (σ : Stack) (o : List ℕ) (q : Counts) → top o ≡ noParent → at s rows c o mostLevels q (oneDefinition ++ σ) ≡ at s rows₁ counted (c .rows ∷ o) mostLevels (kinded kindOperation q) (nt SelectionSet ∷ act end ∷ σ)

@@ -10,7 +10,7 @@ use lib.ListN.{length, getElem?}
 use borrow.Author.Tests.{eqb-true, eqb-false, ne-eqb, eq-eqb}
 use Rattle.paper.specs.Grammar.{nt, tm}
 use Rattle.paper.specs.Numbers.{mostRows}
-use Rattle.paper.specs.Language.{Class, numC, sameC, Terminal, hits, Part}
+use Rattle.paper.specs.Language.{Class, numC, sameC, Terminal, hits, Part, n-other}
 use Rattle.paper.specs.Tokens.{Tok, Text, token, nameClass}
 use Rattle.paper.specs.Sizes.{Counts, opensLevel, closesLevel, overCounts}
 use Rattle.paper.specs.declared.Refusal.the-variants.{NoGoing, TooManyRows, TooMany}
@@ -49,12 +49,12 @@ pub record Worded (s : List ℕ) (c : Cursor) : Type 0 where
 
 pub worded : (s : List ℕ) (c : Cursor) → c .stop ≤ length s → Looks s c → (c .kind ≡ 0 → ⊥) → Worded s c
 unfolding wordOf
-worded s c h l n = by (eqb (c .kind) 1) refl
+worded s c h l n = by (eqb (c .kind) (kindOf n-other)) refl
   where
-    by : (b : Bool) → eqb (c .kind) 1 ≡ b → Worded s c
+    by : (b : Bool) → eqb (c .kind) (kindOf n-other) ≡ b → Worded s c
     by true e =
         let f = front-token s c h l n in
-        let k : c .kind ≡ 1 = eqb-true (c .kind) 1 e in
+        let k : c .kind ≡ kindOf n-other = eqb-true (c .kind) (kindOf n-other) e in
         let a = head-name s (c .stop) (c .start) (c .end) h (rw k at l) in
         let b : token (tokenOf (f .0) (c .start) (c .end)) (from s (c .end)) ≡ token (record { class = nameClass (bytesAt s c); start = c .start; stop = c .end }) (from s (c .end)) = sym (f .2) ∙ a in
         let d : tokenOf (f .0) (c .start) (c .end) ≡ record { class = nameClass (bytesAt s c); start = c .start; stop = c .end } = cc in
@@ -64,7 +64,7 @@ worded s c h l n = by (eqb (c .kind) 1) refl
         record {
           class = f .0;
           kind = f .1;
-          word = rw e (eqb→eq (wordNumber (f .0)) 0 (by-word (λ k. eqb (wordNumber k) 0) (λ x y. not (is 1 x)) tt (f .0) (c .kind) (wordNumber (f .0)) (f .1) refl (not-is 1 (c .kind) (eqb-false (c .kind) 1 e))));
+          word = rw e (eqb→eq (wordNumber (f .0)) 0 (by-word (λ k. eqb (wordNumber k) 0) (λ x y. not (is (kindOf n-other) x)) tt (f .0) (c .kind) (wordNumber (f .0)) (f .1) refl (not-is (kindOf n-other) (c .kind) (eqb-false (c .kind) (kindOf n-other) e))));
           text = f .2;
         }
 
@@ -92,15 +92,15 @@ module _ (k : Class) (a e : ℕ) (t : Text) where
   class-take cells n o stop left q σ w h i j = rw (T→eq (hits w k) h, not-eq (opensLevel k) i, not-eq (closesLevel k) j) refl
 
 -- a word is one of a name
-pub word-name : (s : List ℕ) (c : Cursor) (w : ℕ) → wordAt s c ≡ suc w → (c .kind ≡ 1) × (wordOf (bytesAt s c) ≡ suc w)
-word-name s c w h = by (eqb (c .kind) 1) refl
+pub word-name : (s : List ℕ) (c : Cursor) (w : ℕ) → wordAt s c ≡ suc w → (c .kind ≡ kindOf n-other) × (wordOf (bytesAt s c) ≡ suc w)
+word-name s c w h = by (eqb (c .kind) (kindOf n-other)) refl
   where
-    by : (b : Bool) → eqb (c .kind) 1 ≡ b → (c .kind ≡ 1) × (wordOf (bytesAt s c) ≡ suc w)
-    by true e = (eqb-true (c .kind) 1 e, rw e at h)
+    by : (b : Bool) → eqb (c .kind) (kindOf n-other) ≡ b → (c .kind ≡ kindOf n-other) × (wordOf (bytesAt s c) ≡ suc w)
+    by true e = (eqb-true (c .kind) (kindOf n-other) e, rw e at h)
     by false e = let z : 0 ≡ suc w = rw e at h in let y : ⊥ = omega arith in absurd y
 
-pub name-word : (s : List ℕ) (c : Cursor) → c .kind ≡ 1 → wordAt s c ≡ wordOf (bytesAt s c)
-name-word s c h = rw (eq-eqb (c .kind) 1 h) refl
+pub name-word : (s : List ℕ) (c : Cursor) → c .kind ≡ kindOf n-other → wordAt s c ≡ wordOf (bytesAt s c)
+name-word s c h = rw (eq-eqb (c .kind) (kindOf n-other) h) refl
 
-pub no-word : (s : List ℕ) (c : Cursor) → (c .kind ≡ 1 → ⊥) → wordAt s c ≡ 0
-no-word s c h = rw (ne-eqb (c .kind) 1 h) refl
+pub no-word : (s : List ℕ) (c : Cursor) → (c .kind ≡ kindOf n-other → ⊥) → wordAt s c ≡ 0
+no-word s c h = rw (ne-eqb (c .kind) (kindOf n-other) h) refl

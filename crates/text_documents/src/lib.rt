@@ -38,10 +38,10 @@ ghost use Prim.Native.Nat.{_+_, _≤_, _<_};
 ghost use lib.ListN.{length};
 ghost use Rattle.paper.specs.Grammar.{nt};
 ghost use Rattle.paper.specs.Numbers.{mostText, mostLevels, mostRows, rowsSize, noParent};
-ghost use Rattle.paper.specs.Language.{Document, Definition, VariablesText, VariableDefinitions?, FragmentName, TypeCondition};
+ghost use Rattle.paper.specs.Language.{Document, Definition, VariablesText, VariableDefinitions?, FragmentName, TypeCondition, braceL};
 ghost use Rattle.paper.specs.Rows.{pop};
 ghost use Rattle.paper.proofs.Lexing.{from};
-ghost use Rattle.text_scan.specs.Head.{headOf};
+ghost use Rattle.text_scan.specs.Head.{headOf, kindOf};
 ghost use Rattle.text_cursor.specs.Reader.{Ready, Said, movedTo};
 ghost use Rattle.text_selections.specs.Selections.{namesFragment};
 ghost use Rattle.text_variables.specs.Counted.{CountedSaid, stays, anyCounts, fragmentsAre, variablesAre, sameCounts, sameFragments, fragmentsBecome};
@@ -128,7 +128,7 @@ fn operation(s: &[u8], rows: &mut [u32], c: Cursor, extra: u32) -> Read
 
 // OperationDefinition without its type, at its {
 fn short_operation(s: &[u8], rows: &mut [u32], c: Cursor) -> Read
-    requires { ⌜ Ready (now s) (now rows) c noParent × (c .kind ≡ 15) ⌝ }
+    requires { ⌜ Ready (now s) (now rows) c noParent × (c .kind ≡ kindOf braceL) ⌝ }
     ensures { λ r. ⌜ CountedSaid 1 (now (s .entry)) (now (rows .entry)) (now (rows .exit)) c noParent mostLevels (nt Definition ∷ []) stays anyCounts sameFragments r ⌝ }
 {
     let n = c.rows;
@@ -263,12 +263,13 @@ fn fragments_after(s: &[u8], c: Cursor, before: u32) -> u32
     before
 }
 
-// The cursor at the beginning of a text. It asks for the token itself: with two callers `next` stays apart, and `past` is small enough to be inlined
+// The cursor at the beginning of a text. It scans itself: with two callers `scan` stays apart, and `past` is small enough to be inlined
 fn begin(s: &[u8]) -> Read
     requires { ⌜ length (now s) ≤ mostText ⌝ }
     ensures { λ r. ⌜ r ≡ movedTo 0 0 (headOf (from (now (s .entry)) 0)) ⌝ }
 {
-    let t = text_tokens::next(s, 0);
+    let n = text_tokens::scan(s, 0);
+    let t = text_tokens::unpacked(n);
     let TokenRead::Token { kind, start, end } = t else {
         return located(t);
     };

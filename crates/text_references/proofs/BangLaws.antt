@@ -15,7 +15,7 @@ use Rattle.paper.proofs.Lexing.{from}
 use Rattle.paper.proofs.Machine.{choose}
 use Rattle.paper.proofs.Tables.{factored}
 use Rattle.paper.proofs.Going.{Stack, st, go}
-use Rattle.text_scan.specs.Head.{headOf}
+use Rattle.text_scan.specs.Head.{headOf, kindOf}
 use Rattle.text_cursor.specs.Reader.{movedTo}
 use Rattle.text_cursor.specs.declared.Cursor.{Cursor}
 use Rattle.text_cursor.specs.declared.Read.{Read}
@@ -28,7 +28,7 @@ use Rattle.text_references.proofs.CountsLaws.{wrapped-fine, wrapped-ove
 use Rattle.text_references.proofs.MovedLaws.{next-of, moved-halts, ahead}
 
 module _ (s : List ℕ) (w : Wrapped) {most : ℕ} (ready : Marked s w most) where
-  pub bang-none : (w .at .kind ≡ 6 → ⊥) → Wraps s w w bangStack 0
+  pub bang-none : (w .at .kind ≡ kindOf bang → ⊥) → Wraps s w w bangStack 0
   unfolding factored language choose
   bang-none h =
       record {
@@ -39,35 +39,35 @@ module _ (s : List ℕ) (w : Wrapped) {most : ℕ} (ready : Marked s w most) whe
         small = λ j l. rw (zero-add j) l;
         goes = λ cells n a p m z o left q σ l k.
             null s (w .at) (ready .seen .within) (ready .seen .looks) (put cells n kindTypeReference a 0 p m z (w .extra)) (w .at .rows) (n ∷ o) left (wrappedBy (w .marks) q)
-            σ Bang? {α = []} (List·Memᴰ·head refl) tt refl (λ y. not (is 6 y)) (not-is 6 (w .at .kind) h) tt
+            σ Bang? {α = []} (List·Memᴰ·head refl) tt refl (λ y. not (is (kindOf bang) y)) (not-is (kindOf bang) (w .at .kind) h) tt
             ∙ ap (λ (x : ℕ). inside s w cells n a p m z o x q σ) (sym (zero-add left));
       }
 
   -- the machine at a `!`: its mark is counted, and it is looked at
-  bang-first : w .at .kind ≡ 6 → (cells : List ℕ) (n a p m z : ℕ) (o : List ℕ) (left : ℕ) (q : Counts) (σ : Stack) →
+  bang-first : w .at .kind ≡ kindOf bang → (cells : List ℕ) (n a p m z : ℕ) (o : List ℕ) (left : ℕ) (q : Counts) (σ : Stack) →
       inside s w cells n a p m z o left q (nt Bang? ∷ σ)
       ≡ go (st (put cells n kindTypeReference a 0 p m z (w .extra)) (w .at .rows) (n ∷ o) (w .at .stop) left (wrappedBy (w .marks + 1) q)) (tm (the bang) ∷ act (wrap wrapNonNull) ∷ σ) (from s (w .at .stop))
   unfolding factored language
   bang-first h cells n a p m z o left q σ =
       first s (w .at) (ready .seen .within) (ready .seen .looks) (put cells n kindTypeReference a 0 p m z (w .extra)) (w .at .rows) (n ∷ o) left (wrappedBy (w .marks) q)
-      σ Bang? {α = act wrapper ∷ tm (the bang) ∷ act (wrap wrapNonNull) ∷ []} (List·Memᴰ·tail (List·Memᴰ·head refl)) 5 h tt
+      σ Bang? {α = act wrapper ∷ tm (the bang) ∷ act (wrap wrapNonNull) ∷ []} (List·Memᴰ·tail (List·Memᴰ·head refl)) bang h tt
       ∙ wrapper-counted (put cells n kindTypeReference a 0 p m z (w .extra)) (w .at .rows) (n ∷ o) (w .at .stop) left (wrappedBy (w .marks) q) (tm (the bang) ∷ act (wrap wrapNonNull) ∷ σ) (from s (w .at .stop))
 
-  pub bang-many : w .at .kind ≡ 6 → mostWrappers ≤ w .marks → WrapHalts s w bangStack (TooMany (w .at .start))
+  pub bang-many : w .at .kind ≡ kindOf bang → mostWrappers ≤ w .marks → WrapHalts s w bangStack (TooMany (w .at .start))
   bang-many h k cells n a p m z o left q σ l f =
       bang-first h cells n a p m z o left q σ
       ∙ too-many s (w .at) (ready .seen .within) (ready .seen .looks) (put cells n kindTypeReference a 0 p m z (w .extra)) (w .at .rows) (n ∷ o) left (wrappedBy (w .marks + 1) q)
-      (act (wrap wrapNonNull) ∷ σ) (the bang) 5 h tt tt (ready .seen .few) (wrapped-over q (w .marks + 1) f (omega arith))
+      (act (wrap wrapNonNull) ∷ σ) (the bang) bang h tt tt (ready .seen .few) (wrapped-over q (w .marks + 1) f (omega arith))
 
-  bang-past : w .at .kind ≡ 6 → w .marks < mostWrappers → (cells : List ℕ) (n a p m z : ℕ) (o : List ℕ) (left : ℕ) (q : Counts) (σ : Stack) → overCounts q ≡ false →
+  bang-past : w .at .kind ≡ kindOf bang → w .marks < mostWrappers → (cells : List ℕ) (n a p m z : ℕ) (o : List ℕ) (left : ℕ) (q : Counts) (σ : Stack) → overCounts q ≡ false →
       inside s w cells n a p m z o left q (nt Bang? ∷ σ)
       ≡ go (st (put cells n kindTypeReference a 0 p m z (w .extra)) (w .at .rows) (n ∷ o) (w .at .end) left (wrappedBy (w .marks + 1) q)) (act (wrap wrapNonNull) ∷ σ) (from s (w .at .end))
   bang-past h k cells n a p m z o left q σ f =
       bang-first h cells n a p m z o left q σ
       ∙ plain s (w .at) (ready .seen .within) (ready .seen .looks) (put cells n kindTypeReference a 0 p m z (w .extra)) (w .at .rows) (n ∷ o) left (wrappedBy (w .marks + 1) q)
-      (act (wrap wrapNonNull) ∷ σ) (the bang) 5 h tt tt (ready .seen .few) (wrapped-fine q (w .marks + 1) f (omega arith))
+      (act (wrap wrapNonNull) ∷ σ) (the bang) bang h tt tt (ready .seen .few) (wrapped-fine q (w .marks + 1) f (omega arith))
 
-  module _ (h : w .at .kind ≡ 6) (k : w .marks < mostWrappers) (r : Read) (e : r ≡ movedTo (w .at .end) (w .at .rows) (headOf (from s (w .at .end)))) where
+  module _ (h : w .at .kind ≡ kindOf bang) (k : w .marks < mostWrappers) (r : Read) (e : r ≡ movedTo (w .at .end) (w .at .rows) (headOf (from s (w .at .end)))) where
     pub bang-bad : (x : Refusal) → r ≡ Refused x → WrapHalts s w bangStack x
     bang-bad x y cells n a p m z o left q σ l f =
         bang-past h k cells n a p m z o left q σ f

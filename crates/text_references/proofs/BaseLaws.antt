@@ -8,13 +8,13 @@ use native.Mathlib.Omega.{arith}
 use lib.ListN.{length}
 use Rattle.paper.specs.Grammar.{nt, tm, act}
 use Rattle.paper.specs.Numbers.{mostWrappers, kindTypeReference}
-use Rattle.paper.specs.Language.{language, anyName, named, TypeRef, NamedType, Name, Bang?}
+use Rattle.paper.specs.Language.{language, anyName, named, TypeRef, NamedType, Name, Bang?, n-other}
 use Rattle.paper.specs.Sizes.{Counts, overCounts}
 use Rattle.paper.specs.declared.Refusal.{Refusal}
 use Rattle.paper.proofs.Lexing.{from}
 use Rattle.paper.proofs.Tables.{factored}
 use Rattle.paper.proofs.Going.{Stack, st, go}
-use Rattle.text_scan.specs.Head.{headOf}
+use Rattle.text_scan.specs.Head.{headOf, kindOf}
 use Rattle.text_cursor.specs.Reader.{Looks, at, movedTo}
 use Rattle.text_cursor.specs.declared.Cursor.{Cursor}
 use Rattle.text_cursor.specs.declared.Read.{Read}
@@ -30,24 +30,24 @@ use Rattle.text_references.proofs.CloseLaws.{four-mono}
 use Rattle.text_references.proofs.MovedLaws.{next-of, moved-halts, ahead, start-in, stop-in}
 
 -- the machine at a name: it is the row's, and it is looked at
-pub name-first : (s : List ℕ) (c : Cursor) → c .stop ≤ length s → Looks s c → c .kind ≡ 1 → (cells : List ℕ) (n a p : ℕ) (o : List ℕ) (left marks : ℕ) (q : Counts) (σ : Stack) →
+pub name-first : (s : List ℕ) (c : Cursor) → c .stop ≤ length s → Looks s c → c .kind ≡ kindOf n-other → (cells : List ℕ) (n a p : ℕ) (o : List ℕ) (left marks : ℕ) (q : Counts) (σ : Stack) →
     at s (put cells n kindTypeReference a 0 p 0 0 0) c (n ∷ o) left (wrappedBy marks q) (nt TypeRef ∷ σ)
     ≡ at s (put cells n kindTypeReference a 0 p (c .start) (c .end - c .start) 0) c (n ∷ o) left (wrappedBy marks q) (tm anyName ∷ nt Bang? ∷ σ)
 unfolding factored language
 name-first s c i l h cells n a p o left marks q σ =
-    first s c i l (put cells n kindTypeReference a 0 p 0 0 0) (c .rows) (n ∷ o) left (wrappedBy marks q) σ TypeRef {α = nt NamedType ∷ nt Bang? ∷ []} (List·Memᴰ·head refl) 0 h tt
-    ∙ first s c i l (put cells n kindTypeReference a 0 p 0 0 0) (c .rows) (n ∷ o) left (wrappedBy marks q) (nt Bang? ∷ σ) NamedType {α = act named ∷ nt Name ∷ []} (List·Memᴰ·head refl) 0 h tt
+    first s c i l (put cells n kindTypeReference a 0 p 0 0 0) (c .rows) (n ∷ o) left (wrappedBy marks q) σ TypeRef {α = nt NamedType ∷ nt Bang? ∷ []} (List·Memᴰ·head refl) n-other h tt
+    ∙ first s c i l (put cells n kindTypeReference a 0 p 0 0 0) (c .rows) (n ∷ o) left (wrappedBy marks q) (nt Bang? ∷ σ) NamedType {α = act named ∷ nt Name ∷ []} (List·Memᴰ·head refl) n-other h tt
     ∙ name-told cells (c .rows) o (c .stop) left (wrappedBy marks q) (nt Name ∷ nt Bang? ∷ σ) (from s (c .stop)) n kindTypeReference a 0 p 0 0 0
     ∙ rw (start-in s c l, stop-in s c l)
-    (first s c i l (put cells n kindTypeReference a 0 p (c .start) (c .end - c .start) 0) (c .rows) (n ∷ o) left (wrappedBy marks q) (nt Bang? ∷ σ) Name {α = tm anyName ∷ []} (List·Memᴰ·head refl) 0 h tt)
+    (first s c i l (put cells n kindTypeReference a 0 p (c .start) (c .end - c .start) 0) (c .rows) (n ∷ o) left (wrappedBy marks q) (nt Bang? ∷ σ) Name {α = tm anyName ∷ []} (List·Memᴰ·head refl) n-other h tt)
 
-module _ (s : List ℕ) (c : Cursor) (marks : ℕ) (g : Seen s c) (h : c .kind ≡ 1) (k : marks ≤ mostWrappers) where
+module _ (s : List ℕ) (c : Cursor) (marks : ℕ) (g : Seen s c) (h : c .kind ≡ kindOf n-other) (k : marks ≤ mostWrappers) where
   named-past : (cells : List ℕ) (n a p : ℕ) (o : List ℕ) (left : ℕ) (q : Counts) (σ : Stack) → overCounts q ≡ false →
       unnamed s c marks cells n a p o left q σ
       ≡ go (st (put cells n kindTypeReference a 0 p (c .start) (c .end - c .start) 0) (c .rows) (n ∷ o) (c .end) left (wrappedBy marks q)) (nt Bang? ∷ (closers marks ++ σ)) (from s (c .end))
   named-past cells n a p o left q σ f =
       name-first s c (g .within) (g .looks) h cells n a p o left marks q (closers marks ++ σ)
-      ∙ plain s c (g .within) (g .looks) (put cells n kindTypeReference a 0 p (c .start) (c .end - c .start) 0) (c .rows) (n ∷ o) left (wrappedBy marks q) (nt Bang? ∷ (closers marks ++ σ)) anyName 0 h tt tt (g .few) (wrapped-fine q marks f k)
+      ∙ plain s c (g .within) (g .looks) (put cells n kindTypeReference a 0 p (c .start) (c .end - c .start) 0) (c .rows) (n ∷ o) left (wrappedBy marks q) (nt Bang? ∷ (closers marks ++ σ)) anyName n-other h tt tt (g .few) (wrapped-fine q marks f k)
 
   module _ (r : Read) (e : r ≡ movedTo (c .end) (c .rows) (headOf (from s (c .end)))) where
     pub named-bad : (x : Refusal) → r ≡ Refused x → Named s c marks (Untyped x)

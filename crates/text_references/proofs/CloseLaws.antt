@@ -14,7 +14,7 @@ use Rattle.paper.specs.declared.Refusal.{Refusal}
 use Rattle.paper.specs.declared.Refusal.the-variants.{NoGoing}
 use Rattle.paper.proofs.Lexing.{from}
 use Rattle.paper.proofs.Going.{Stack, st, go}
-use Rattle.text_scan.specs.Head.{headOf}
+use Rattle.text_scan.specs.Head.{headOf, kindOf}
 use Rattle.text_cursor.specs.Reader.{movedTo}
 use Rattle.text_cursor.specs.declared.Cursor.{Cursor}
 use Rattle.text_cursor.specs.declared.Read.{Read}
@@ -30,18 +30,18 @@ use Rattle.text_references.proofs.MovedLaws.{next-of, moved-halts, ahea
 
 -- ONE BRACKET
 module _ (s : List ℕ) (w : Wrapped) (ready : Marked s w mostBefore) where
-  pub close-none : (w .at .kind ≡ 14 → ⊥) → WrapHalts s w (closers 1) (NoGoing (w .at .start))
+  pub close-none : (w .at .kind ≡ kindOf bracketR → ⊥) → WrapHalts s w (closers 1) (NoGoing (w .at .start))
   close-none h cells n a p m z o left q σ l f =
       lacks s (w .at) (ready .seen .within) (ready .seen .looks) (put cells n kindTypeReference a 0 p m z (w .extra)) (w .at .rows) (n ∷ o) left (wrappedBy (w .marks) q)
-      (act (wrap wrapList) ∷ nt Bang? ∷ σ) (the bracketR) (λ y. not (is 14 y)) (not-is 14 (w .at .kind) h) tt
+      (act (wrap wrapList) ∷ nt Bang? ∷ σ) (the bracketR) (λ y. not (is (kindOf bracketR) y)) (not-is (kindOf bracketR) (w .at .kind) h) tt
 
-  module _ (h : w .at .kind ≡ 14) where
+  module _ (h : w .at .kind ≡ kindOf bracketR) where
     close-past : (cells : List ℕ) (n a p m z : ℕ) (o : List ℕ) (left : ℕ) (q : Counts) (σ : Stack) → overCounts q ≡ false →
         inside s w cells n a p m z o left q (closers 1 ++ σ)
         ≡ go (st (put cells n kindTypeReference a 0 p m z (w .extra)) (w .at .rows) (n ∷ o) (w .at .end) (suc left) (wrappedBy (w .marks) q)) (act (wrap wrapList) ∷ nt Bang? ∷ σ) (from s (w .at .end))
     close-past cells n a p m z o left q σ f =
         closing s (w .at) (ready .seen .within) (ready .seen .looks) (put cells n kindTypeReference a 0 p m z (w .extra)) (w .at .rows) (n ∷ o) left (wrappedBy (w .marks) q)
-        (act (wrap wrapList) ∷ nt Bang? ∷ σ) (the bracketR) 13 h tt tt (ready .seen .few) (wrapped-fine q (w .marks) f (ready .marks))
+        (act (wrap wrapList) ∷ nt Bang? ∷ σ) (the bracketR) bracketR h tt tt (ready .seen .few) (wrapped-fine q (w .marks) f (ready .marks))
 
     module _ (r : Read) (e : r ≡ movedTo (w .at .end) (w .at .rows) (headOf (from s (w .at .end)))) where
       pub close-bad : (x : Refusal) → r ≡ Refused x → WrapHalts s w (closers 1) x

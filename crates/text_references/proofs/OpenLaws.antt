@@ -15,7 +15,7 @@ use Rattle.paper.specs.declared.Refusal.the-variants.{TooDeep, TooMany}
 use Rattle.paper.proofs.Lexing.{from}
 use Rattle.paper.proofs.Tables.{factored}
 use Rattle.paper.proofs.Going.{Stack, st, halt, go}
-use Rattle.text_scan.specs.Head.{headOf}
+use Rattle.text_scan.specs.Head.{headOf, kindOf}
 use Rattle.text_cursor.specs.Reader.{Looks, at, movedTo}
 use Rattle.text_cursor.specs.declared.Cursor.{Cursor}
 use Rattle.text_cursor.specs.declared.Read.{Read}
@@ -42,20 +42,20 @@ pub record Opening (s : List ℕ) (c : Cursor) (left n : ℕ) (d : Cursor) (mark
       at s cells c o left (wrappedBy 0 q) (nt TypeRef ∷ σ) ≡ at s cells d o (left - marks) (wrappedBy marks q) (nt TypeRef ∷ (closers marks ++ σ))
 
 -- the machine at an opening bracket: its mark is counted, and it is looked at
-pub open-first : (s : List ℕ) (c : Cursor) → c .stop ≤ length s → Looks s c → c .kind ≡ 13 → (cells o : List ℕ) (left k : ℕ) (q : Counts) (σ : Stack) →
+pub open-first : (s : List ℕ) (c : Cursor) → c .stop ≤ length s → Looks s c → c .kind ≡ kindOf bracketL → (cells o : List ℕ) (left k : ℕ) (q : Counts) (σ : Stack) →
     at s cells c o left (wrappedBy k q) (nt TypeRef ∷ σ)
     ≡ at s cells c o left (wrappedBy (k + 1) q) (tm (the bracketL) ∷ nt TypeRef ∷ tm (the bracketR) ∷ act (wrap wrapList) ∷ nt Bang? ∷ σ)
 unfolding factored language
 open-first s c i l h cells o left k q σ =
-    first s c i l cells (c .rows) o left (wrappedBy k q) σ TypeRef {α = nt ListType ∷ nt Bang? ∷ []} (List·Memᴰ·tail (List·Memᴰ·head refl)) 12 h tt
-    ∙ first s c i l cells (c .rows) o left (wrappedBy k q) (nt Bang? ∷ σ) ListType {α = act wrapper ∷ tm (the bracketL) ∷ nt TypeRef ∷ tm (the bracketR) ∷ act (wrap wrapList) ∷ []} (List·Memᴰ·head refl) 12 h tt
+    first s c i l cells (c .rows) o left (wrappedBy k q) σ TypeRef {α = nt ListType ∷ nt Bang? ∷ []} (List·Memᴰ·tail (List·Memᴰ·head refl)) bracketL h tt
+    ∙ first s c i l cells (c .rows) o left (wrappedBy k q) (nt Bang? ∷ σ) ListType {α = act wrapper ∷ tm (the bracketL) ∷ nt TypeRef ∷ tm (the bracketR) ∷ act (wrap wrapList) ∷ []} (List·Memᴰ·head refl) bracketL h tt
     ∙ wrapper-counted cells (c .rows) o (c .stop) left (wrappedBy k q) (tm (the bracketL) ∷ nt TypeRef ∷ tm (the bracketR) ∷ act (wrap wrapList) ∷ nt Bang? ∷ σ) (from s (c .stop))
 
 -- level 33
-pub open-deep : (s : List ℕ) (c : Cursor) → c .stop ≤ length s → Looks s c → c .kind ≡ 13 → (cells o : List ℕ) (left k : ℕ) (q : Counts) (σ : Stack) → left ≡ 0 → at s cells c o left (wrappedBy k q) (nt TypeRef ∷ σ) ≡ halt (TooDeep (c .start))
+pub open-deep : (s : List ℕ) (c : Cursor) → c .stop ≤ length s → Looks s c → c .kind ≡ kindOf bracketL → (cells o : List ℕ) (left k : ℕ) (q : Counts) (σ : Stack) → left ≡ 0 → at s cells c o left (wrappedBy k q) (nt TypeRef ∷ σ) ≡ halt (TooDeep (c .start))
 open-deep s c i l h cells o left k q σ e =
     open-first s c i l h cells o left k q σ
-    ∙ too-deep s c i l cells (c .rows) o left (wrappedBy (k + 1) q) (nt TypeRef ∷ tm (the bracketR) ∷ act (wrap wrapList) ∷ nt Bang? ∷ σ) (the bracketL) 12 h tt tt e
+    ∙ too-deep s c i l cells (c .rows) o left (wrappedBy (k + 1) q) (nt TypeRef ∷ tm (the bracketR) ∷ act (wrap wrapList) ∷ nt Bang? ∷ σ) (the bracketL) bracketL h tt tt e
 
 pub none-open : (s : List ℕ) (c : Cursor) (left : ℕ) → Seen s c → Opening s c left (c .rows) c 0
 none-open s c left g =
@@ -70,10 +70,10 @@ none-open s c left g =
     }
 
 module _ (s : List ℕ) (c : Cursor) (left n : ℕ) (d : Cursor) (marks : ℕ) (g : Opening s c left n d marks) where
-  pub opened-all : (d .kind ≡ 13 → ⊥) → Opened s c left (record { at = d; extra = 0; marks = marks })
+  pub opened-all : (d .kind ≡ kindOf bracketL → ⊥) → Opened s c left (record { at = d; extra = 0; marks = marks })
   opened-all h = record { seen = g .seen; rows = g .rows ∙ g .same; on = g .on; marks = g .few; levels = g .levels; bare = h; goes = g .goes }
 
-  module _ (h : d .kind ≡ 13) where
+  module _ (h : d .kind ≡ kindOf bracketL) where
     pub opened-deep : left ≤ marks → OpenHalts s c left (TooDeep (d .start))
     opened-deep l cells o q σ f = g .goes cells o q σ f ∙ open-deep s d (g .seen .within) (g .seen .looks) h cells o (left - marks) marks q (closers marks ++ σ) (omega arith)
 
@@ -81,7 +81,7 @@ module _ (s : List ℕ) (c : Cursor) (left n : ℕ) (d : Cursor) (marks : ℕ) (
     opened-many l k cells o q σ f =
         g .goes cells o q σ f
         ∙ open-first s d (g .seen .within) (g .seen .looks) h cells o (left - marks) marks q (closers marks ++ σ)
-        ∙ too-many-open s d (g .seen .within) (g .seen .looks) cells (d .rows) o (left - marks) (wrappedBy (marks + 1) q) (nt TypeRef ∷ tm (the bracketR) ∷ act (wrap wrapList) ∷ nt Bang? ∷ (closers marks ++ σ)) (the bracketL) 12 h tt tt
+        ∙ too-many-open s d (g .seen .within) (g .seen .looks) cells (d .rows) o (left - marks) (wrappedBy (marks + 1) q) (nt TypeRef ∷ tm (the bracketR) ∷ act (wrap wrapList) ∷ nt Bang? ∷ (closers marks ++ σ)) (the bracketL) bracketL h tt tt
         (left - marks - 1) (omega arith) (g .seen .few) (wrapped-over q (marks + 1) f (omega arith))
 
     module _ (l : marks < left) (k : marks < mostWrappers) (r : Read) (e : r ≡ movedTo (d .end) n (headOf (from s (d .end)))) where
@@ -91,7 +91,7 @@ module _ (s : List ℕ) (c : Cursor) (left n : ℕ) (d : Cursor) (marks : ℕ) (
       opened-past cells o q σ f =
           g .goes cells o q σ f
           ∙ open-first s d (g .seen .within) (g .seen .looks) h cells o (left - marks) marks q (closers marks ++ σ)
-          ∙ opening s d (g .seen .within) (g .seen .looks) cells (d .rows) o (left - marks) (wrappedBy (marks + 1) q) (nt TypeRef ∷ tm (the bracketR) ∷ act (wrap wrapList) ∷ nt Bang? ∷ (closers marks ++ σ)) (the bracketL) 12 h tt tt
+          ∙ opening s d (g .seen .within) (g .seen .looks) cells (d .rows) o (left - marks) (wrappedBy (marks + 1) q) (nt TypeRef ∷ tm (the bracketR) ∷ act (wrap wrapList) ∷ nt Bang? ∷ (closers marks ++ σ)) (the bracketL) bracketL h tt tt
           (left - (marks + 1)) (omega arith) (g .seen .few) (wrapped-fine q (marks + 1) f (omega arith))
 
       pub opened-bad : (x : Refusal) → r ≡ Refused x → OpenHalts s c left x

@@ -8,7 +8,7 @@ use native.Mathlib.Omega.{arith}
 use lib.ListN.{length}
 use Rattle.paper.specs.Grammar.{nt, tm, act}
 use Rattle.paper.specs.Numbers.{mostRows, kindTypeReference, wrapList}
-use Rattle.paper.specs.Language.{language, the, anyName, bracketL, bracketR, wrap, end, TypeRef, Bang?}
+use Rattle.paper.specs.Language.{language, the, anyName, bracketL, bracketR, wrap, end, TypeRef, Bang?, n-other}
 use Rattle.paper.specs.Rows.{top}
 use Rattle.paper.specs.Sizes.{Counts}
 use Rattle.paper.specs.declared.Refusal.{Refusal}
@@ -17,6 +17,7 @@ use Rattle.paper.proofs.Lexing.{from}
 use Rattle.paper.proofs.Machine.{choose}
 use Rattle.paper.proofs.Tables.{factored}
 use Rattle.paper.proofs.Going.{Stack, halt}
+use Rattle.text_scan.specs.Head.{kindOf}
 use Rattle.text_cursor.specs.Reader.{Ready, Looks, at, noGoingOf}
 use Rattle.text_cursor.specs.declared.Cursor.{Cursor}
 use Rattle.text_cursor.specs.declared.Read.{Read}
@@ -32,14 +33,14 @@ use Rattle.text_references.proofs.OpenLaws.{open-first, open-deep}
 use Rattle.text_references.proofs.BaseLaws.{name-first}
 
 -- no type reference begins so
-ref-refused : (s : List ℕ) (c : Cursor) → c .stop ≤ length s → Looks s c → (c .kind ≡ 1 → ⊥) → (c .kind ≡ 13 → ⊥) → (cells o : List ℕ) (left : ℕ) (q : Counts) (σ : Stack) →
+ref-refused : (s : List ℕ) (c : Cursor) → c .stop ≤ length s → Looks s c → (c .kind ≡ kindOf n-other → ⊥) → (c .kind ≡ kindOf bracketL → ⊥) → (cells o : List ℕ) (left : ℕ) (q : Counts) (σ : Stack) →
     at s cells c o left q (nt TypeRef ∷ σ) ≡ halt (NoGoing (c .start))
 unfolding factored language choose refuses refusesEnd
-ref-refused s c i l h k cells o left q σ = refuse s c i l cells (c .rows) o left q σ TypeRef (λ y. not (is 1 y) && not (is 13 y)) (not-two 1 13 (c .kind) h k) tt tt
+ref-refused s c i l h k cells o left q σ = refuse s c i l cells (c .rows) o left q σ TypeRef (λ y. not (is (kindOf n-other) y) && not (is (kindOf bracketL) y)) (not-two (kindOf n-other) (kindOf bracketL) (c .kind) h k) tt tt
 
 -- BEHIND THE OPENING BRACKETS
 module _ (s rows : List ℕ) (w : Wrapped) (parent n start : ℕ) (g : TypedReady s rows w n) where
-  pub rest-none : (rows′ : List ℕ) → (w .at .kind ≡ 1 → ⊥) → (r : Read) → r ≡ noGoingOf (w .at) → RestSaid s rows rows′ w parent n start r
+  pub rest-none : (rows′ : List ℕ) → (w .at .kind ≡ kindOf n-other → ⊥) → (r : Read) → r ≡ noGoingOf (w .at) → RestSaid s rows rows′ w parent n start r
   rest-none rows′ h r e =
       rw e (λ o left q σ f. ref-refused s (w .at) (g .seen .within) (g .seen .looks) h (g .bare) (put rows n kindTypeReference start 0 parent 0 0 0) (n ∷ o) left (wrappedBy (w .marks) q) (closers (w .marks) ++ (act end ∷ σ)))
 
@@ -74,24 +75,24 @@ module _ (s rows : List ℕ) (c : Cursor) (parent left : ℕ) (g : Ready s rows 
   type-begins σ o q e =
       row-opens rows (c .rows) o (c .stop) left (wrappedBy 0 q) (nt TypeRef ∷ act end ∷ σ) (from s (c .stop)) kindTypeReference 0 ∙ rw (start-in s c (g .looks), e) refl
 
-  pub type-none : (rows′ : List ℕ) → (c .kind ≡ 1 → ⊥) → (c .kind ≡ 13 → ⊥) → (r : Read) → r ≡ noGoingOf c → TypeSaid s rows rows′ c parent left r
+  pub type-none : (rows′ : List ℕ) → (c .kind ≡ kindOf n-other → ⊥) → (c .kind ≡ kindOf bracketL → ⊥) → (r : Read) → r ≡ noGoingOf c → TypeSaid s rows rows′ c parent left r
   type-none rows′ h k r e =
       rw e (λ σ o q t f. type-begins σ o q t ∙ ref-refused s begun (g .within) (g .looks) h k (put rows (c .rows) kindTypeReference (c .start) 0 parent 0 0 0) (c .rows ∷ o) left (wrappedBy 0 q) (act end ∷ σ))
 
-  pub type-deep : (rows′ : List ℕ) → c .kind ≡ 13 → left ≡ 0 → TypeSaid s rows rows′ c parent left (Refused (TooDeep (c .start)))
+  pub type-deep : (rows′ : List ℕ) → c .kind ≡ kindOf bracketL → left ≡ 0 → TypeSaid s rows rows′ c parent left (Refused (TooDeep (c .start)))
   type-deep rows′ h k σ o q t f =
       type-begins σ o q t ∙ open-deep s begun (g .within) (g .looks) h (put rows (c .rows) kindTypeReference (c .start) 0 parent 0 0 0) (c .rows ∷ o) left 0 q (act end ∷ σ) k
 
-  pub type-full : (rows′ : List ℕ) → (c .kind ≡ 1) ⊎ ((c .kind ≡ 13) × (0 < left)) → c .rows ≡ mostRows → TypeSaid s rows rows′ c parent left (Refused (TooManyRows (c .start)))
+  pub type-full : (rows′ : List ℕ) → (c .kind ≡ kindOf n-other) ⊎ ((c .kind ≡ kindOf bracketL) × (0 < left)) → c .rows ≡ mostRows → TypeSaid s rows rows′ c parent left (Refused (TooManyRows (c .start)))
   type-full rows′ (inl h) k σ o q t f =
       type-begins σ o q t
       ∙ name-first s begun (g .within) (g .looks) h rows (c .rows) (c .start) parent o left 0 q (act end ∷ σ)
-      ∙ too-many-rows s begun (g .within) (g .looks) (put rows (c .rows) kindTypeReference (c .start) 0 parent (c .start) (c .end - c .start) 0) (c .rows + 1) (c .rows ∷ o) left (wrappedBy 0 q) (nt Bang? ∷ act end ∷ σ) anyName 0 h tt tt (omega arith)
+      ∙ too-many-rows s begun (g .within) (g .looks) (put rows (c .rows) kindTypeReference (c .start) 0 parent (c .start) (c .end - c .start) 0) (c .rows + 1) (c .rows ∷ o) left (wrappedBy 0 q) (nt Bang? ∷ act end ∷ σ) anyName n-other h tt tt (omega arith)
   type-full rows′ (inr h) k σ o q t f =
       type-begins σ o q t
       ∙ open-first s begun (g .within) (g .looks) (h .0) (put rows (c .rows) kindTypeReference (c .start) 0 parent 0 0 0) (c .rows ∷ o) left 0 q (act end ∷ σ)
       ∙ too-many-rows-open s begun (g .within) (g .looks) (put rows (c .rows) kindTypeReference (c .start) 0 parent 0 0 0) (c .rows + 1) (c .rows ∷ o) left (wrappedBy (0 + 1) q)
-      (nt TypeRef ∷ tm (the bracketR) ∷ act (wrap wrapList) ∷ nt Bang? ∷ act end ∷ σ) (the bracketL) 12 (h .0) tt tt (left - 1) (omega (arith, h .1)) (omega arith)
+      (nt TypeRef ∷ tm (the bracketR) ∷ act (wrap wrapList) ∷ nt Bang? ∷ act end ∷ σ) (the bracketL) bracketL (h .0) tt tt (left - 1) (omega (arith, h .1)) (omega arith)
 
   module _ (room : c .rows ≡ mostRows → ⊥) where
     pub type-stop : (rows′ : List ℕ) (t : TypeRead) (x : Refusal) → Opens s begun left t → t ≡ Untyped x → TypeSaid s rows rows′ c parent left (Refused x)

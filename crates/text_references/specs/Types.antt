@@ -6,12 +6,13 @@ use Prim.Native.Nat.{ℕ, zero, suc, _+_, _-_, _*_, _≤_, _<_}
 use lib.ListN.{length}
 use Rattle.paper.specs.Grammar.{nt, tm, act}
 use Rattle.paper.specs.Numbers.{mostText, mostRows, mostWrappers, rowsSize, kindTypeReference, wrapList}
-use Rattle.paper.specs.Language.{the, bracketR, row, kind, wrap, end, TypeRef, Bang?}
+use Rattle.paper.specs.Language.{the, bracketR, row, kind, wrap, end, TypeRef, Bang?, bracketL}
 use Rattle.paper.specs.Rows.{top}
 use Rattle.paper.specs.Sizes.{Counts, overCounts}
 use Rattle.paper.specs.declared.Refusal.{Refusal}
 use Rattle.paper.proofs.Lexing.{from}
 use Rattle.paper.proofs.Going.{Stack, st, Out, halt, go}
+use Rattle.text_scan.specs.Head.{kindOf}
 use Rattle.text_cursor.specs.Reader.{Looks, at}
 use Rattle.text_cursor.specs.declared.Cursor.{Cursor}
 use Rattle.text_cursor.specs.declared.Read.{Read}
@@ -92,7 +93,7 @@ pub record Opened (s : List ℕ) (c : Cursor) (left : ℕ) (w : Wrapped) : Type 
   pub on : c .stop ≤ w .at .stop
   pub marks : w .marks ≤ mostWrappers
   pub levels : w .marks ≤ left
-  pub bare : w .at .kind ≡ 13 → ⊥
+  pub bare : w .at .kind ≡ kindOf bracketL → ⊥
   pub goes : (cells o : List ℕ) (q : Counts) (σ : Stack) → overCounts q ≡ false →
       at s cells c o left (wrappedBy 0 q) (nt TypeRef ∷ σ) ≡ at s cells (w .at) o (left - w .marks) (wrappedBy (w .marks) q) (nt TypeRef ∷ (closers (w .marks) ++ σ))
 
@@ -123,7 +124,7 @@ pub record TypedReady (s rows : List ℕ) (w : Wrapped) (n : ℕ) : Type 0 where
   pub seen : Seen s (w .at)
   pub size : length rows ≡ rowsSize
   pub marks : w .marks ≤ mostWrappers
-  pub bare : w .at .kind ≡ 13 → ⊥
+  pub bare : w .at .kind ≡ kindOf bracketL → ⊥
   pub room : n < mostRows
 
 -- it is read, up to d, and row n stands

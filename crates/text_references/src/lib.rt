@@ -16,6 +16,8 @@ use text_scan::TOKEN_NAME;
 ghost use mathlib.Core.Path.{_≡_};
 ghost use Prim.Native.Nat.{_≤_};
 ghost use Rattle.paper.specs.Numbers.{mostWrappers};
+ghost use Rattle.paper.specs.Language.{n-other};
+ghost use Rattle.text_scan.specs.Head.{kindOf};
 ghost use Rattle.text_cursor.specs.Reader.{Ready};
 ghost use Rattle.text_references.specs.Types.{bangStack, closers, four, mostBefore, mostInside, Seen, Marked, Opens, Says, Named, TypedReady, TypeSaid, RestSaid};
 
@@ -139,7 +141,7 @@ fn close_brackets(s: &[u8], w: Wrapped, opened: u32) -> TypeRead
 
 // A type reference's name and what closes it, for a reference whose `marks` brackets are open
 fn base_type(s: &[u8], c: Cursor, marks: u32) -> TypeRead
-    requires { ⌜ Seen (now s) c × (c .kind ≡ 1) × (marks ≤ mostWrappers) ⌝ }
+    requires { ⌜ Seen (now s) c × (c .kind ≡ kindOf n-other) × (marks ≤ mostWrappers) ⌝ }
     ensures { λ r. ⌜ Named (now (s .entry)) c marks r ⌝ }
 {
     let n = c.rows;

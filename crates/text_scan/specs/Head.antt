@@ -6,7 +6,7 @@ use Rattle.paper.specs.Tokens.{Text, atEnd, bad, token, nameClass}
 use Rattle.text_scan.specs.declared.TokenRead.{TokenRead}
 use Rattle.text_scan.specs.declared.TokenRead.the-variants.{Token, Bad}
 
--- the number by which the code knows a class: all names are one kind
+-- the number by which the code knows a class: all names are one kind, and a punctuator of one byte has that byte
 abbrev pub kindOf : Class → ℕ
 kindOf n-query = 1
 kindOf n-mutation = 1
@@ -21,18 +21,18 @@ kindOf int = 2
 kindOf float = 3
 kindOf string = 4
 kindOf spread = 5
-kindOf bang = 6
-kindOf dollar = 7
-kindOf parenL = 8
-kindOf parenR = 9
-kindOf colon = 10
-kindOf equals = 11
-kindOf atSign = 12
-kindOf bracketL = 13
-kindOf bracketR = 14
-kindOf braceL = 15
-kindOf bar = 16
-kindOf braceR = 17
+kindOf bang = 33
+kindOf dollar = 36
+kindOf parenL = 40
+kindOf parenR = 41
+kindOf colon = 58
+kindOf equals = 61
+kindOf atSign = 64
+kindOf bracketL = 91
+kindOf bracketR = 93
+kindOf braceL = 123
+kindOf bar = 124
+kindOf braceR = 125
 
 -- which name it is
 abbrev pub wordNumber : Class → ℕ

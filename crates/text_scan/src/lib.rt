@@ -15,7 +15,7 @@ pub enum TokenRead {
     Bad(usize),
 }
 
-// The kinds of tokens; at the end of the text stands one of no bytes.
+// The kinds of tokens; at the end of the text stands one of no bytes. A punctuator of one byte has that byte for its kind.
 pub const TOKEN_END: u32 = 0;
 
 pub const TOKEN_NAME: u32 = 1;
@@ -28,29 +28,29 @@ pub const TOKEN_STRING: u32 = 4;
 
 pub const TOKEN_SPREAD: u32 = 5;
 
-pub const TOKEN_BANG: u32 = 6;
+pub const TOKEN_BANG: u32 = b'!' as u32;
 
-pub const TOKEN_DOLLAR: u32 = 7;
+pub const TOKEN_DOLLAR: u32 = b'$' as u32;
 
-pub const TOKEN_PAREN_OPEN: u32 = 8;
+pub const TOKEN_PAREN_OPEN: u32 = b'(' as u32;
 
-pub const TOKEN_PAREN_CLOSE: u32 = 9;
+pub const TOKEN_PAREN_CLOSE: u32 = b')' as u32;
 
-pub const TOKEN_COLON: u32 = 10;
+pub const TOKEN_COLON: u32 = b':' as u32;
 
-pub const TOKEN_EQUALS: u32 = 11;
+pub const TOKEN_EQUALS: u32 = b'=' as u32;
 
-pub const TOKEN_AT: u32 = 12;
+pub const TOKEN_AT: u32 = b'@' as u32;
 
-pub const TOKEN_BRACKET_OPEN: u32 = 13;
+pub const TOKEN_BRACKET_OPEN: u32 = b'[' as u32;
 
-pub const TOKEN_BRACKET_CLOSE: u32 = 14;
+pub const TOKEN_BRACKET_CLOSE: u32 = b']' as u32;
 
-pub const TOKEN_BRACE_OPEN: u32 = 15;
+pub const TOKEN_BRACE_OPEN: u32 = b'{' as u32;
 
-pub const TOKEN_BAR: u32 = 16;
+pub const TOKEN_BAR: u32 = b'|' as u32;
 
-pub const TOKEN_BRACE_CLOSE: u32 = 17;
+pub const TOKEN_BRACE_CLOSE: u32 = b'}' as u32;
 
 // The names that the grammar tells apart.
 pub const WORD_OTHER: u32 = 0;

@@ -15,12 +15,12 @@ use Rattle.paper.proofs.Lexing.{from}
 use Rattle.paper.proofs.Machine.{choose}
 use Rattle.paper.proofs.Tables.{factored}
 use Rattle.paper.proofs.Going.{Stack, st, go}
-use Rattle.text_scan.specs.Head.{headOf}
+use Rattle.text_scan.specs.Head.{headOf, kindOf}
 use Rattle.text_cursor.specs.declared.Cursor.{Cursor}
 use Rattle.text_cursor.specs.declared.Read.{Read}
 use Rattle.text_cursor.specs.declared.Read.the-variants.{Done, Refused}
 use Rattle.text_cursor.specs.Reader.{movedTo, at, Ready, Went, Halts, Said}
-use Rattle.paper.specs.Language.{language, the, anyName, colon, kind, named, end, Name, Field, AliasRest, Arguments?, Directives?, SelectionSet?, Selection}
+use Rattle.paper.specs.Language.{language, the, anyName, colon, kind, named, end, Name, Field, AliasRest, Arguments?, Directives?, SelectionSet?, Selection, atSign, braceL, n-other, parenL}
 use Rattle.text_cursor.proofs.Steps.{first, null, plain, too-many-rows, is, not-is}
 use Rattle.text_cursor.proofs.Cells.{put-length, ends-row}
 use Rattle.text_arguments.specs.Arguments.{argumentsStack, directivesStack}
@@ -55,18 +55,18 @@ module _ (s rows rows₁ : List ℕ) (c : Cursor) (n left : ℕ) (r : Read) (v :
         }
     rest-said rows₂ (Refused x) w = λ σ o q p f. rest-read .goes (nt Directives? ∷ σ) o q p f ∙ w σ o q p f
 
-    pub rest-undirected : length s ≤ mostText → n ≤ mostRows → (d .kind ≡ 12 → ⊥) → Went 0 s rows rows₁ c d n left fieldRestStack
+    pub rest-undirected : length s ≤ mostText → n ≤ mostRows → (d .kind ≡ kindOf atSign → ⊥) → Went 0 s rows rows₁ c d n left fieldRestStack
     rest-undirected h p k = rest-said rows₁ (Done d) (no-directives s rows₁ d n left (rest-ready h p) k)
 
 -- without arguments
-pub rest-bare : (s rows : List ℕ) (c : Cursor) (n left : ℕ) → Ready s rows c n → (c .kind ≡ 8 → ⊥) → (rows₂ : List ℕ) (t : Read) → Said 0 s rows rows₂ c n left directivesStack t → Said 0 s rows rows₂ c n left fieldRestStack t
+pub rest-bare : (s rows : List ℕ) (c : Cursor) (n left : ℕ) → Ready s rows c n → (c .kind ≡ kindOf parenL → ⊥) → (rows₂ : List ℕ) (t : Read) → Said 0 s rows rows₂ c n left directivesStack t → Said 0 s rows rows₂ c n left fieldRestStack t
 rest-bare s rows c n left a k = rest-said s rows rows c n left (Done c) (none-said s rows c n left a k) c refl
 
-pub rest-none : (s rows : List ℕ) (c : Cursor) (n left : ℕ) → Ready s rows c n → (c .kind ≡ 8 → ⊥) → (c .kind ≡ 12 → ⊥) → Went 0 s rows rows c c n left fieldRestStack
+pub rest-none : (s rows : List ℕ) (c : Cursor) (n left : ℕ) → Ready s rows c n → (c .kind ≡ kindOf parenL → ⊥) → (c .kind ≡ kindOf atSign → ⊥) → Went 0 s rows rows c c n left fieldRestStack
 rest-none s rows c n left a k i = rest-bare s rows c n left a k rows (Done c) (no-directives s rows c n left a i)
 
 -- FROM THE COLON OF AN ALIAS ON: row n begins at `start`, and its name is told again
-module _ (s rows : List ℕ) (c : Cursor) (parent left n start : ℕ) (a : Ready s rows c n) (e : c .kind ≡ 10) (k : c .rows ≡ n + 1) where
+module _ (s rows : List ℕ) (c : Cursor) (parent left n start : ℕ) (a : Ready s rows c n) (e : c .kind ≡ kindOf colon) (k : c .rows ≡ n + 1) where
   abbrev named-again : Stack → Stack
   named-again σ = act named ∷ nt Name ∷ nt Arguments? ∷ nt Directives? ∷ σ
 
@@ -74,8 +74,8 @@ module _ (s rows : List ℕ) (c : Cursor) (parent left n start : ℕ) (a : Ready
       at s (fieldBegun rows n start parent m z) c (n ∷ o) left q (aliasStack ++ σ) ≡ go (st (fieldBegun rows n start parent m z) (n + 1) (n ∷ o) (c .end) left q) (named-again σ) (from s (c .end))
   unfolding factored language
   past-colon m z σ o q f =
-      first s c (a .within) (a .looks) (fieldBegun rows n start parent m z) (c .rows) (n ∷ o) left q (nt Arguments? ∷ nt Directives? ∷ σ) AliasRest (List·Memᴰ·tail (List·Memᴰ·head refl)) 9 e tt
-      ∙ plain s c (a .within) (a .looks) (fieldBegun rows n start parent m z) (c .rows) (n ∷ o) left q (named-again σ) (the colon) 9 e tt tt (a .few) f
+      first s c (a .within) (a .looks) (fieldBegun rows n start parent m z) (c .rows) (n ∷ o) left q (nt Arguments? ∷ nt Directives? ∷ σ) AliasRest (List·Memᴰ·tail (List·Memᴰ·head refl)) colon e tt
+      ∙ plain s c (a .within) (a .looks) (fieldBegun rows n start parent m z) (c .rows) (n ∷ o) left q (named-again σ) (the colon) colon e tt tt (a .few) f
       ∙ ap (λ (u : ℕ). go (st (fieldBegun rows n start parent m z) u (n ∷ o) (c .end) left q) (named-again σ) (from s (c .end))) k
 
   module _ (r : Read) (w : r ≡ movedTo (c .end) (n + 1) (headOf (from s (c .end)))) where
@@ -95,12 +95,12 @@ module _ (s rows : List ℕ) (c : Cursor) (parent left n start : ℕ) (a : Ready
           ∙ next-at s c name (n + 1) alias-name (fieldBegun rows n start parent m z) (n ∷ o) left q (named-again σ)
           ∙ named-row s name (alias-name .looks) rows (name .rows) o left q (nt Name ∷ nt Arguments? ∷ nt Directives? ∷ σ) n 3 start 0 parent m z 0
 
-      pub alias-nameless : (name .kind ≡ 1 → ⊥) → (rows′ : List ℕ) → AliasSaid s rows rows′ c parent left n start (Refused (NoGoing (name .start)))
+      pub alias-nameless : (name .kind ≡ kindOf n-other → ⊥) → (rows′ : List ℕ) → AliasSaid s rows rows′ c parent left n start (Refused (NoGoing (name .start)))
       alias-nameless i rows′ m z σ o q p f =
           to-name m z σ o q f ∙ name-lacks s name (alias-name .within) (alias-name .looks) _ (name .rows) (n ∷ o) left q (nt Arguments? ∷ nt Directives? ∷ σ) i
 
       -- with its row written
-      module _ (i : name .kind ≡ 1) (rows₁ : List ℕ) (j : rows₁ ≡ fieldBegun rows n start parent (name .start) (name .end - name .start)) where
+      module _ (i : name .kind ≡ kindOf n-other) (rows₁ : List ℕ) (j : rows₁ ≡ fieldBegun rows n start parent (name .start) (name .end - name .start)) where
         past-name : (m z : ℕ) (σ : Stack) (o : List ℕ) (q : Counts) → overCounts q ≡ false →
             at s (fieldBegun rows n start parent m z) c (n ∷ o) left q (aliasStack ++ σ) ≡ go (st rows₁ (n + 1) (n ∷ o) (name .end) left q) (fieldRestStack ++ σ) (from s (name .end))
         past-name m z σ o q f =
@@ -144,12 +144,12 @@ module _ (s rows : List ℕ) (c : Cursor) (parent left n start : ℕ) (a : Ready
                   within = v .within;
                   few = v .few;
                   looks = v .looks;
-                  on = omega (arith, has-bytes s c (a .within) (a .looks) 9 e, alias-name .stop, behind .stop, v .on);
+                  on = omega (arith, has-bytes s c (a .within) (a .looks) colon e, alias-name .stop, behind .stop, v .on);
                   goes = λ σ o q p f. to-rest m z σ o q f ∙ v .goes σ (n ∷ o) q refl f;
                 }
 
 -- THE HEAD OF A FIELD, at its first name
-module _ (s rows : List ℕ) (c : Cursor) (parent left : ℕ) (a : Ready s rows c parent) (e : c .kind ≡ 1) where
+module _ (s rows : List ℕ) (c : Cursor) (parent left : ℕ) (a : Ready s rows c parent) (e : c .kind ≡ kindOf n-other) where
   abbrev begun : List ℕ
   begun = fieldBegun rows (c .rows) (c .start) parent (c .start) (c .end - c .start)
 
@@ -157,7 +157,7 @@ module _ (s rows : List ℕ) (c : Cursor) (parent left : ℕ) (a : Ready s rows 
       at s rows c o left q (nt Field ∷ σ) ≡ go (st begun (c .rows + 1) (c .rows ∷ o) (c .stop) left q) (nt Name ∷ aliasStack ++ (fieldEndStack ++ σ)) (from s (c .stop))
   unfolding factored language
   begins σ o q p =
-      first s c (a .within) (a .looks) rows (c .rows) o left q σ Field (List·Memᴰ·head refl) 0 e tt
+      first s c (a .within) (a .looks) rows (c .rows) o left q σ Field (List·Memᴰ·head refl) n-other e tt
       ∙ opened-row s c (a .looks) rows (c .rows) o parent left q (act named ∷ nt Name ∷ aliasStack ++ (fieldEndStack ++ σ)) 3 0 p
       ∙ named-row s c (a .looks) rows (c .rows + 1) o left q (nt Name ∷ aliasStack ++ (fieldEndStack ++ σ)) (c .rows) 3 (c .start) 0 parent 0 0 0
 
@@ -165,8 +165,8 @@ module _ (s rows : List ℕ) (c : Cursor) (parent left : ℕ) (a : Ready s rows 
   unfolding factored language
   head-full z σ o q p f =
       begins σ o q p
-      ∙ first s c (a .within) (a .looks) begun (c .rows + 1) (c .rows ∷ o) left q (aliasStack ++ (fieldEndStack ++ σ)) Name (List·Memᴰ·head refl) 0 e tt
-      ∙ too-many-rows s c (a .within) (a .looks) begun (c .rows + 1) (c .rows ∷ o) left q (aliasStack ++ (fieldEndStack ++ σ)) anyName 0 e tt tt (omega arith)
+      ∙ first s c (a .within) (a .looks) begun (c .rows + 1) (c .rows ∷ o) left q (aliasStack ++ (fieldEndStack ++ σ)) Name (List·Memᴰ·head refl) n-other e tt
+      ∙ too-many-rows s c (a .within) (a .looks) begun (c .rows + 1) (c .rows ∷ o) left q (aliasStack ++ (fieldEndStack ++ σ)) anyName n-other e tt tt (omega arith)
 
   module _ (z : c .rows ≡ mostRows → ⊥) where
     pub head-room : c .rows < mostRows
@@ -218,15 +218,15 @@ module _ (s rows : List ℕ) (c : Cursor) (parent left : ℕ) (a : Ready s rows 
             )
 
         -- without
-        no-alias : (b .kind ≡ 10 → ⊥) → (σ : Stack) (o : List ℕ) (q : Counts) → top o ≡ parent → overCounts q ≡ false →
+        no-alias : (b .kind ≡ kindOf colon → ⊥) → (σ : Stack) (o : List ℕ) (q : Counts) → top o ≡ parent → overCounts q ≡ false →
             at s rows c o left q (nt Field ∷ σ) ≡ at s begun b (c .rows ∷ o) left q (fieldRestStack ++ (fieldEndStack ++ σ))
         unfolding factored language choose
         no-alias i σ o q p f =
             to-second σ o q p f
-            ∙ null s b (head-next .within) (head-next .looks) begun (b .rows) (c .rows ∷ o) left q (fieldRestStack ++ (fieldEndStack ++ σ)) AliasRest (List·Memᴰ·head refl) tt refl (λ (u : ℕ). not (is 10 u))
-            (not-is 10 (b .kind) i) tt
+            ∙ null s b (head-next .within) (head-next .looks) begun (b .rows) (c .rows ∷ o) left q (fieldRestStack ++ (fieldEndStack ++ σ)) AliasRest (List·Memᴰ·head refl) tt refl (λ (u : ℕ). not (is (kindOf colon) u))
+            (not-is (kindOf colon) (b .kind) i) tt
 
-        pub head-plain : (b .kind ≡ 10 → ⊥) → (rows₁ : List ℕ) → rows₁ ≡ begun → (rows₂ : List ℕ) (u : Read) → Said 0 s rows₁ rows₂ b (c .rows) left fieldRestStack u → HeadSaid s rows rows₂ c parent left u
+        pub head-plain : (b .kind ≡ kindOf colon → ⊥) → (rows₁ : List ℕ) → rows₁ ≡ begun → (rows₂ : List ℕ) (u : Read) → Said 0 s rows₁ rows₂ b (c .rows) left fieldRestStack u → HeadSaid s rows rows₂ c parent left u
         head-plain i rows₁ j rows₂ (Refused x) v =
             λ σ o q p f. no-alias i σ o q p f ∙ ap (λ (t : List ℕ). at s t b (c .rows ∷ o) left q (fieldRestStack ++ (fieldEndStack ++ σ))) (sym j) ∙ v (fieldEndStack ++ σ) (c .rows ∷ o) q refl f
         head-plain i rows₁ j rows₂ (Done d) v =
@@ -237,7 +237,7 @@ module _ (s rows : List ℕ) (c : Cursor) (parent left : ℕ) (a : Ready s rows 
                 within = v .within;
                 few = v .few;
                 looks = v .looks;
-                on = omega (arith, has-bytes s c (a .within) (a .looks) 0 e, head-next .stop, v .on);
+                on = omega (arith, has-bytes s c (a .within) (a .looks) n-other e, head-next .stop, v .on);
                 goes =
                     λ σ o q p f.
                     no-alias i σ o q p f
@@ -259,12 +259,12 @@ module _ (s rows rows₁ : List ℕ) (c : Cursor) (parent left : ℕ) (r : Read)
     field-ready h = let g = field-read .1 in record { short = h; size = g .size; within = g .within; few = g .few; looks = g .looks; below = omega (arith, field-read .0) }
 
     -- with a selection set
-    module _ (k : d .kind ≡ 15) where
+    module _ (k : d .kind ≡ kindOf braceL) where
       to-set : (σ : Stack) (o : List ℕ) (q : Counts) → top o ≡ parent → overCounts q ≡ false → at s rows c o left q (nt Field ∷ σ) ≡ at s rows₁ d (c .rows ∷ o) left q (bodyStack ++ σ)
       unfolding factored language
       to-set σ o q p f =
           field-read .1 .goes σ o q p f
-          ∙ first s d (field-read .1 .within) (field-read .1 .looks) rows₁ (d .rows) (c .rows ∷ o) left q (act end ∷ σ) SelectionSet? (List·Memᴰ·tail (List·Memᴰ·head refl)) 14 k tt
+          ∙ first s d (field-read .1 .within) (field-read .1 .looks) rows₁ (d .rows) (c .rows ∷ o) left q (act end ∷ σ) SelectionSet? (List·Memᴰ·tail (List·Memᴰ·head refl)) braceL k tt
 
       pub field-set : (rows₂ : List ℕ) (t : Read) → Passes 1 s rows₁ rows₂ d (c .rows) left (opened (c .rows)) shut bodyStack [] t → Said 1 s rows rows₂ c parent left fieldStack t
       field-set rows₂ (Refused x) u = λ σ o q p f. to-set σ o q p f ∙ u σ o q refl f
@@ -279,7 +279,7 @@ module _ (s rows rows₁ : List ℕ) (c : Cursor) (parent left : ℕ) (r : Read)
           }
 
     -- without
-    pub field-ends : (d .kind ≡ 15 → ⊥) → (rows₂ : List ℕ) → rows₂ ≡ set rows₁ (7 * c .rows + 2) (d .stop) → Went 1 s rows rows₂ c d parent left fieldStack
+    pub field-ends : (d .kind ≡ kindOf braceL → ⊥) → (rows₂ : List ℕ) → rows₂ ≡ set rows₁ (7 * c .rows + 2) (d .stop) → Went 1 s rows rows₂ c d parent left fieldStack
     unfolding factored language choose
     field-ends k rows₂ j =
         let g = field-read .1 in
@@ -292,15 +292,15 @@ module _ (s rows rows₁ : List ℕ) (c : Cursor) (parent left : ℕ) (r : Read)
           goes =
               λ σ o q p f.
               g .goes σ o q p f
-              ∙ null s d (g .within) (g .looks) rows₁ (d .rows) (c .rows ∷ o) left q (act end ∷ σ) SelectionSet? (List·Memᴰ·head refl) tt refl (λ (u : ℕ). not (is 15 u)) (not-is 15 (d .kind) k) tt
+              ∙ null s d (g .within) (g .looks) rows₁ (d .rows) (c .rows ∷ o) left q (act end ∷ σ) SelectionSet? (List·Memᴰ·head refl) tt refl (λ (u : ℕ). not (is (kindOf braceL) u)) (not-is (kindOf braceL) (d .kind) k) tt
               ∙ ends-row rows₁ (d .rows) o (d .stop) left q σ (from s (d .stop)) (c .rows)
               ∙ ap (λ (u : List ℕ). at s u d o left q σ) (sym j);
         }
 
 -- a selection that begins with a name is a field
-pub field-selected : (s rows rows₁ : List ℕ) (c : Cursor) (parent left : ℕ) → Ready s rows c parent → c .kind ≡ 1 → (r : Read) → Said 1 s rows rows₁ c parent left fieldStack r → Said 1 s rows rows₁ c parent left selectionStack r
+pub field-selected : (s rows rows₁ : List ℕ) (c : Cursor) (parent left : ℕ) → Ready s rows c parent → c .kind ≡ kindOf n-other → (r : Read) → Said 1 s rows rows₁ c parent left fieldStack r → Said 1 s rows rows₁ c parent left selectionStack r
 unfolding factored language
-field-selected s rows rows₁ c parent left a e (Refused x) v = λ σ o q p f. first s c (a .within) (a .looks) rows (c .rows) o left q σ Selection (List·Memᴰ·head refl) 0 e tt ∙ v σ o q p f
+field-selected s rows rows₁ c parent left a e (Refused x) v = λ σ o q p f. first s c (a .within) (a .looks) rows (c .rows) o left q σ Selection (List·Memᴰ·head refl) n-other e tt ∙ v σ o q p f
 field-selected s rows rows₁ c parent left a e (Done d) v =
     record {
       size = v .size;
@@ -308,5 +308,5 @@ field-selected s rows rows₁ c parent left a e (Done d) v =
       few = v .few;
       looks = v .looks;
       on = v .on;
-      goes = λ σ o q p f. first s c (a .within) (a .looks) rows (c .rows) o left q σ Selection (List·Memᴰ·head refl) 0 e tt ∙ v .goes σ o q p f;
+      goes = λ σ o q p f. first s c (a .within) (a .looks) rows (c .rows) o left q σ Selection (List·Memᴰ·head refl) n-other e tt ∙ v .goes σ o q p f;
     }

@@ -16,12 +16,12 @@ use Rattle.paper.proofs.Lexing.{from}
 use Rattle.paper.proofs.Machine.{choose}
 use Rattle.paper.proofs.Tables.{factored}
 use Rattle.paper.proofs.Going.{Stack, st, Out, halt, go}
-use Rattle.text_scan.specs.Head.{headOf}
+use Rattle.text_scan.specs.Head.{headOf, kindOf}
 use Rattle.text_cursor.specs.declared.Cursor.{Cursor}
 use Rattle.text_cursor.specs.declared.Read.{Read}
 use Rattle.text_cursor.specs.declared.Read.the-variants.{Done, Refused}
 use Rattle.text_cursor.specs.Reader.{Looks, movedTo, at, Ready, Went, Halts, Said}
-use Rattle.paper.specs.Language.{language, the, braceL, braceR, end, SelectionSet, Selection+, Selection*, Selection}
+use Rattle.paper.specs.Language.{language, the, braceL, braceR, end, SelectionSet, Selection+, Selection*, Selection, n-other, spread}
 use Rattle.text_cursor.proofs.Steps.{first, null, refuse, lacks, opening, closing, too-deep, is, not-is, not-two, refuses, refusesEnd}
 use Rattle.text_cursor.proofs.Cells.{ends-row}
 use Rattle.text_leaves.proofs.MovedLaws.{moved-halts, moved-said}
@@ -38,74 +38,74 @@ module _ (s : List ℕ) (c : Cursor) (h : c .stop ≤ length s) (l : Looks s c) 
   here τ = go (st cells n o (c .stop) left q) τ (from s (c .stop))
 
   -- a selection begins with a name or with dots
-  pub no-selection : (σ : Stack) → (c .kind ≡ 1 → ⊥) → (c .kind ≡ 5 → ⊥) → here (nt Selection ∷ σ) ≡ halt (NoGoing (c .start))
+  pub no-selection : (σ : Stack) → (c .kind ≡ kindOf n-other → ⊥) → (c .kind ≡ kindOf spread → ⊥) → here (nt Selection ∷ σ) ≡ halt (NoGoing (c .start))
   unfolding factored language choose refuses refusesEnd
-  no-selection σ e f = refuse s c h l cells n o left q σ Selection (λ (y : ℕ). not (is 1 y) && not (is 5 y)) (not-two 1 5 (c .kind) e f) tt tt
+  no-selection σ e f = refuse s c h l cells n o left q σ Selection (λ (y : ℕ). not (is (kindOf n-other) y) && not (is (kindOf spread) y)) (not-two (kindOf n-other) (kindOf spread) (c .kind) e f) tt tt
 
   -- the first selection, or none
   first-selection : (σ : Stack) → here (nt Selection+ ∷ σ) ≡ here (nt Selection ∷ nt Selection* ∷ σ)
   unfolding factored language choose refuses refusesEnd
-  first-selection σ = by-name (same (c .kind) 1)
+  first-selection σ = by-name (same (c .kind) (kindOf n-other))
     where
-      by-dots : (c .kind ≡ 1 → ⊥) → (c .kind ≡ 5) ⊎ (c .kind ≡ 5 → ⊥) → here (nt Selection+ ∷ σ) ≡ here (nt Selection ∷ nt Selection* ∷ σ)
-      by-dots e (inl f) = first s c h l cells n o left q σ Selection+ (List·Memᴰ·head refl) 4 f tt
+      by-dots : (c .kind ≡ kindOf n-other → ⊥) → (c .kind ≡ kindOf spread) ⊎ (c .kind ≡ kindOf spread → ⊥) → here (nt Selection+ ∷ σ) ≡ here (nt Selection ∷ nt Selection* ∷ σ)
+      by-dots e (inl f) = first s c h l cells n o left q σ Selection+ (List·Memᴰ·head refl) spread f tt
       by-dots e (inr f) =
-          refuse s c h l cells n o left q σ Selection+ (λ (y : ℕ). not (is 1 y) && not (is 5 y)) (not-two 1 5 (c .kind) e f) tt tt ∙ sym (no-selection (nt Selection* ∷ σ) e f)
+          refuse s c h l cells n o left q σ Selection+ (λ (y : ℕ). not (is (kindOf n-other) y) && not (is (kindOf spread) y)) (not-two (kindOf n-other) (kindOf spread) (c .kind) e f) tt tt ∙ sym (no-selection (nt Selection* ∷ σ) e f)
 
-      by-name : (c .kind ≡ 1) ⊎ (c .kind ≡ 1 → ⊥) → here (nt Selection+ ∷ σ) ≡ here (nt Selection ∷ nt Selection* ∷ σ)
-      by-name (inl e) = first s c h l cells n o left q σ Selection+ (List·Memᴰ·head refl) 0 e tt
-      by-name (inr e) = by-dots e (same (c .kind) 5)
+      by-name : (c .kind ≡ kindOf n-other) ⊎ (c .kind ≡ kindOf n-other → ⊥) → here (nt Selection+ ∷ σ) ≡ here (nt Selection ∷ nt Selection* ∷ σ)
+      by-name (inl e) = first s c h l cells n o left q σ Selection+ (List·Memᴰ·head refl) n-other e tt
+      by-name (inr e) = by-dots e (same (c .kind) (kindOf spread))
 
   -- one more, where the set does not end
-  next-selection : (σ : Stack) → (c .kind ≡ 17 → ⊥) → here (nt Selection* ∷ tm (the braceR) ∷ σ) ≡ here (nt Selection ∷ nt Selection* ∷ tm (the braceR) ∷ σ)
+  next-selection : (σ : Stack) → (c .kind ≡ kindOf braceR → ⊥) → here (nt Selection* ∷ tm (the braceR) ∷ σ) ≡ here (nt Selection ∷ nt Selection* ∷ tm (the braceR) ∷ σ)
   unfolding factored language choose
-  next-selection σ z = by-name (same (c .kind) 1)
+  next-selection σ z = by-name (same (c .kind) (kindOf n-other))
     where
-      by-dots : (c .kind ≡ 1 → ⊥) → (c .kind ≡ 5) ⊎ (c .kind ≡ 5 → ⊥) → here (nt Selection* ∷ tm (the braceR) ∷ σ) ≡ here (nt Selection ∷ nt Selection* ∷ tm (the braceR) ∷ σ)
-      by-dots e (inl f) = first s c h l cells n o left q (tm (the braceR) ∷ σ) Selection* (List·Memᴰ·tail (List·Memᴰ·head refl)) 4 f tt
+      by-dots : (c .kind ≡ kindOf n-other → ⊥) → (c .kind ≡ kindOf spread) ⊎ (c .kind ≡ kindOf spread → ⊥) → here (nt Selection* ∷ tm (the braceR) ∷ σ) ≡ here (nt Selection ∷ nt Selection* ∷ tm (the braceR) ∷ σ)
+      by-dots e (inl f) = first s c h l cells n o left q (tm (the braceR) ∷ σ) Selection* (List·Memᴰ·tail (List·Memᴰ·head refl)) spread f tt
       by-dots e (inr f) =
-          null s c h l cells n o left q (tm (the braceR) ∷ σ) Selection* (List·Memᴰ·head refl) tt refl (λ (y : ℕ). not (is 1 y) && not (is 5 y)) (not-two 1 5 (c .kind) e f) tt
-          ∙ lacks s c h l cells n o left q σ (the braceR) (λ (y : ℕ). not (is 17 y)) (not-is 17 (c .kind) z) tt
+          null s c h l cells n o left q (tm (the braceR) ∷ σ) Selection* (List·Memᴰ·head refl) tt refl (λ (y : ℕ). not (is (kindOf n-other) y) && not (is (kindOf spread) y)) (not-two (kindOf n-other) (kindOf spread) (c .kind) e f) tt
+          ∙ lacks s c h l cells n o left q σ (the braceR) (λ (y : ℕ). not (is (kindOf braceR) y)) (not-is (kindOf braceR) (c .kind) z) tt
           ∙ sym (no-selection (nt Selection* ∷ tm (the braceR) ∷ σ) e f)
 
-      by-name : (c .kind ≡ 1) ⊎ (c .kind ≡ 1 → ⊥) → here (nt Selection* ∷ tm (the braceR) ∷ σ) ≡ here (nt Selection ∷ nt Selection* ∷ tm (the braceR) ∷ σ)
-      by-name (inl e) = first s c h l cells n o left q (tm (the braceR) ∷ σ) Selection* (List·Memᴰ·tail (List·Memᴰ·head refl)) 0 e tt
-      by-name (inr e) = by-dots e (same (c .kind) 5)
+      by-name : (c .kind ≡ kindOf n-other) ⊎ (c .kind ≡ kindOf n-other → ⊥) → here (nt Selection* ∷ tm (the braceR) ∷ σ) ≡ here (nt Selection ∷ nt Selection* ∷ tm (the braceR) ∷ σ)
+      by-name (inl e) = first s c h l cells n o left q (tm (the braceR) ∷ σ) Selection* (List·Memᴰ·tail (List·Memᴰ·head refl)) n-other e tt
+      by-name (inr e) = by-dots e (same (c .kind) (kindOf spread))
 
   -- the brace that opens a set, and the one that closes it
-  opens : (σ : Stack) → c .kind ≡ 15 → here (nt SelectionSet ∷ σ) ≡ here (tm (the braceL) ∷ nt Selection+ ∷ tm (the braceR) ∷ σ)
+  opens : (σ : Stack) → c .kind ≡ kindOf braceL → here (nt SelectionSet ∷ σ) ≡ here (tm (the braceL) ∷ nt Selection+ ∷ tm (the braceR) ∷ σ)
   unfolding factored language
-  opens σ e = first s c h l cells n o left q σ SelectionSet (List·Memᴰ·head refl) 14 e tt
+  opens σ e = first s c h l cells n o left q σ SelectionSet (List·Memᴰ·head refl) braceL e tt
 
-  closes-with : (σ : Stack) → c .kind ≡ 17 → n ≤ mostRows → overCounts q ≡ false →
+  closes-with : (σ : Stack) → c .kind ≡ kindOf braceR → n ≤ mostRows → overCounts q ≡ false →
       here (nt Selection* ∷ tm (the braceR) ∷ σ) ≡ go (st cells n o (c .end) (suc left) q) σ (from s (c .end))
   unfolding factored language choose
   closes-with σ e m f =
-      null s c h l cells n o left q (tm (the braceR) ∷ σ) Selection* (List·Memᴰ·head refl) tt refl (is 17) (rw e tt) tt ∙ closing s c h l cells n o left q σ (the braceR) 16 e tt tt m f
+      null s c h l cells n o left q (tm (the braceR) ∷ σ) Selection* (List·Memᴰ·head refl) tt refl (is (kindOf braceR)) (rw e tt) tt ∙ closing s c h l cells n o left q σ (the braceR) braceR e tt tt m f
 
-  pub no-set : (σ : Stack) → (c .kind ≡ 15 → ⊥) → here (nt SelectionSet ∷ σ) ≡ halt (NoGoing (c .start))
+  pub no-set : (σ : Stack) → (c .kind ≡ kindOf braceL → ⊥) → here (nt SelectionSet ∷ σ) ≡ halt (NoGoing (c .start))
   unfolding factored language choose refuses refusesEnd
-  no-set σ e = refuse s c h l cells n o left q σ SelectionSet (λ (y : ℕ). not (is 15 y)) (not-is 15 (c .kind) e) tt tt
+  no-set σ e = refuse s c h l cells n o left q σ SelectionSet (λ (y : ℕ). not (is (kindOf braceL) y)) (not-is (kindOf braceL) (c .kind) e) tt tt
 
-pub selection-lacks : (s rows : List ℕ) (c : Cursor) (parent left : ℕ) → Ready s rows c parent → (c .kind ≡ 1 → ⊥) → (c .kind ≡ 5 → ⊥) → Halts s rows c parent left selectionStack (NoGoing (c .start))
+pub selection-lacks : (s rows : List ℕ) (c : Cursor) (parent left : ℕ) → Ready s rows c parent → (c .kind ≡ kindOf n-other → ⊥) → (c .kind ≡ kindOf spread → ⊥) → Halts s rows c parent left selectionStack (NoGoing (c .start))
 selection-lacks s rows c parent left a e g σ o q p f = no-selection s c (a .within) (a .looks) rows (c .rows) o left q σ e g
 
 -- A SET, from its cursor c on
 module _ (s rows : List ℕ) (c : Cursor) (parent left : ℕ) (a : Ready s rows c parent) where
-  pub set-lacks : (c .kind ≡ 15 → ⊥) → Halts s rows c parent left selectionSetStack (NoGoing (c .start))
+  pub set-lacks : (c .kind ≡ kindOf braceL → ⊥) → Halts s rows c parent left selectionSetStack (NoGoing (c .start))
   set-lacks e σ o q p f = no-set s c (a .within) (a .looks) rows (c .rows) o left q σ e
 
-  module _ (e : c .kind ≡ 15) where
+  module _ (e : c .kind ≡ kindOf braceL) where
     pub set-deep : left ≡ 0 → Halts s rows c parent left selectionSetStack (TooDeep (c .start))
     set-deep z σ o q p f =
         opens s c (a .within) (a .looks) rows (c .rows) o left q σ e
-        ∙ too-deep s c (a .within) (a .looks) rows (c .rows) o left q (nt Selection+ ∷ tm (the braceR) ∷ σ) (the braceL) 14 e tt tt z
+        ∙ too-deep s c (a .within) (a .looks) rows (c .rows) o left q (nt Selection+ ∷ tm (the braceR) ∷ σ) (the braceL) braceL e tt tt z
 
     opened-at : (left ≡ 0 → ⊥) → (σ : Stack) (o : List ℕ) (q : Counts) → overCounts q ≡ false →
         at s rows c o left q (nt SelectionSet ∷ σ) ≡ go (st rows (c .rows) o (c .end) (left - 1) q) (nt Selection+ ∷ tm (the braceR) ∷ σ) (from s (c .end))
     opened-at z σ o q f =
         opens s c (a .within) (a .looks) rows (c .rows) o left q σ e
-        ∙ opening s c (a .within) (a .looks) rows (c .rows) o left q (nt Selection+ ∷ tm (the braceR) ∷ σ) (the braceL) 14 e tt tt (left - 1) (omega arith) (a .few) f
+        ∙ opening s c (a .within) (a .looks) rows (c .rows) o left q (nt Selection+ ∷ tm (the braceR) ∷ σ) (the braceL) braceL e tt tt (left - 1) (omega arith) (a .few) f
 
     pub set-bad : (left ≡ 0 → ⊥) → (r : Read) → r ≡ movedTo (c .end) (c .rows) (headOf (from s (c .end))) → (x : Refusal) → r ≡ Refused x → Halts s rows c parent left selectionSetStack x
     set-bad z r m x y σ o q p f =
@@ -122,7 +122,7 @@ module _ (s rows : List ℕ) (c : Cursor) (parent left : ℕ) (a : Ready s rows 
           within = x .within;
           few = omega (arith, a .few, x .rows);
           looks = x .looks;
-          on = omega (arith, x .stop, has-bytes s c (a .within) (a .looks) 14 e);
+          on = omega (arith, x .stop, has-bytes s c (a .within) (a .looks) braceL e);
           goes =
               λ σ o q p f.
               opened-at z σ o q f
@@ -148,7 +148,7 @@ module _ (gain : ℕ) (s rows rows₁ : List ℕ) (c d : Cursor) (parent left₀
           at s rows c o left₀ q (α ++ σ) ≡ at s rows₂ b o (left - 1) q (nt Selection* ∷ tm (the braceR) ∷ σ)
       read-at σ o q p f = i .goes σ o q p f ∙ turn-read .goes (nt Selection* ∷ tm (the braceR) ∷ σ) o q p f
 
-      pub turn-more : (b .kind ≡ 17 → ⊥) → Passed gain s rows rows₂ c b parent left₀ (left - 1) shut shut α oneMore
+      pub turn-more : (b .kind ≡ kindOf braceR → ⊥) → Passed gain s rows rows₂ c b parent left₀ (left - 1) shut shut α oneMore
       turn-more z =
           record {
             size = turn-read .size;
@@ -160,7 +160,7 @@ module _ (gain : ℕ) (s rows rows₁ : List ℕ) (c d : Cursor) (parent left₀
           }
 
 -- it ends, behind b
-module _ (s rows rows₁ rows₂ : List ℕ) (c d b : Cursor) (parent left : ℕ) (i : Passed 1 s rows rows₁ c d parent left (left - 1) shut shut selectionSetStack oneMore) (r : Read) (v : Said 1 s rows₁ rows₂ d parent (left - 1) selectionStack r) (e : r ≡ Done b) (z : left ≡ 0 → ⊥) (k : b .kind ≡ 17) where
+module _ (s rows rows₁ rows₂ : List ℕ) (c d b : Cursor) (parent left : ℕ) (i : Passed 1 s rows rows₁ c d parent left (left - 1) shut shut selectionSetStack oneMore) (r : Read) (v : Said 1 s rows₁ rows₂ d parent (left - 1) selectionStack r) (e : r ≡ Done b) (z : left ≡ 0 → ⊥) (k : b .kind ≡ kindOf braceR) where
   read : Went 1 s rows₁ rows₂ d b parent (left - 1) selectionStack
   read = said-went 1 s rows₁ rows₂ d b parent (left - 1) selectionStack r v e
 

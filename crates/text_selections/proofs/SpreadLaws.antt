@@ -19,12 +19,12 @@ use Rattle.paper.proofs.Machine.{choose}
 use Rattle.paper.proofs.Bools.{and-l, and-r, and-i}
 use Rattle.paper.proofs.Tables.{factored}
 use Rattle.paper.proofs.Going.{Stack, st, go}
-use Rattle.text_scan.specs.Head.{headOf}
+use Rattle.text_scan.specs.Head.{headOf, kindOf}
 use Rattle.text_cursor.specs.declared.Cursor.{Cursor}
 use Rattle.text_cursor.specs.declared.Read.{Read}
 use Rattle.text_cursor.specs.declared.Read.the-variants.{Done, Refused}
 use Rattle.text_cursor.specs.Reader.{movedTo, at, Ready, Went, Halts, Said}
-use Rattle.paper.specs.Language.{language, the, spread, nameButOn, kind, named, end, Selection, SpreadRest, FragmentName, TypeCondition?, TypeCondition, Directives?}
+use Rattle.paper.specs.Language.{language, the, spread, nameButOn, kind, named, end, Selection, SpreadRest, FragmentName, TypeCondition?, TypeCondition, Directives?, atSign, braceL, n-other}
 use Rattle.text_scan.specs.Head.{wordOf}
 use Rattle.text_cursor.proofs.Steps.{first, null, refuse, plain, too-many-rows, is, not-is, not-two, refuses, refusesEnd}
 use Rattle.text_cursor.proofs.Cells.{put, put-length, row-begins, kind-told, ends-row}
@@ -38,25 +38,25 @@ use Rattle.text_selections.specs.Selections.{namesFragment, selectionSta
 use Rattle.text_selections.proofs.SetLaws.{no-set}
 
 -- which tokens name a fragment
-pub names : (s : List ℕ) (c : Cursor) → namesFragment s c ≡ true → (c .kind ≡ 1) × (wordOf (bytesAt s c) ≡ 5 → ⊥)
+pub names : (s : List ℕ) (c : Cursor) → namesFragment s c ≡ true → (c .kind ≡ kindOf n-other) × (wordOf (bytesAt s c) ≡ 5 → ⊥)
 names s c e =
-    let a : Bool = eqb (c .kind) 1 in
+    let a : Bool = eqb (c .kind) (kindOf n-other) in
     let b : Bool = not (eqb (wordOf (bytesAt s c)) 5) in
     let t : T (a && b) = subst T (sym e) tt in
-    (eqb→eq (c .kind) 1 (and-l a b t), λ w. subst (λ (x : Bool). T (not x)) (eq-eqb (wordOf (bytesAt s c)) 5 w) (and-r a b t))
+    (eqb→eq (c .kind) (kindOf n-other) (and-l a b t), λ w. subst (λ (x : Bool). T (not x)) (eq-eqb (wordOf (bytesAt s c)) 5 w) (and-r a b t))
 
-pub names-not : (s : List ℕ) (c : Cursor) → namesFragment s c ≡ false → c .kind ≡ 1 → AtOn s c
+pub names-not : (s : List ℕ) (c : Cursor) → namesFragment s c ≡ false → c .kind ≡ kindOf n-other → AtOn s c
 names-not s c e k = by-test (eqb (wordOf (bytesAt s c)) 5) refl
   where
     by-test : (b : Bool) → eqb (wordOf (bytesAt s c)) 5 ≡ b → AtOn s c
     by-test true g = (k, eqb-true (wordOf (bytesAt s c)) 5 g)
-    by-test false g = let z : true ≡ false = rw (eq-eqb (c .kind) 1 k, g) at e in absurd (subst T z tt)
+    by-test false g = let z : true ≡ false = rw (eq-eqb (c .kind) (kindOf n-other) k, g) at e in absurd (subst T z tt)
 
-pub names-when : (s : List ℕ) (c : Cursor) → c .kind ≡ 1 → (w : ℕ) → w ≡ wordOf (bytesAt s c) → not (eqb w 5) ≡ namesFragment s c
-names-when s c e w f = rw (eq-eqb (c .kind) 1 e, f) refl
+pub names-when : (s : List ℕ) (c : Cursor) → c .kind ≡ kindOf n-other → (w : ℕ) → w ≡ wordOf (bytesAt s c) → not (eqb w 5) ≡ namesFragment s c
+names-when s c e w f = rw (eq-eqb (c .kind) (kindOf n-other) e, f) refl
 
-pub names-no-name : (s : List ℕ) (c : Cursor) → (c .kind ≡ 1 → ⊥) → false ≡ namesFragment s c
-names-no-name s c e = rw (ne-eqb (c .kind) 1 e) refl
+pub names-no-name : (s : List ℕ) (c : Cursor) → (c .kind ≡ kindOf n-other → ⊥) → false ≡ namesFragment s c
+names-no-name s c e = rw (ne-eqb (c .kind) (kindOf n-other) e) refl
 
 -- A SPREAD'S NAME, at which the cursor stands; row n begins at `start`
 module _ (s rows : List ℕ) (c : Cursor) (parent left n start : ℕ) (a : Ready s rows c n) (e : namesFragment s c ≡ true) (k : c .rows ≡ n + 1) where
@@ -117,7 +117,7 @@ module _ (s rows : List ℕ) (c : Cursor) (parent left n start : ℕ) (a : Ready
                 within = named-read .within;
                 few = named-read .few;
                 looks = named-read .looks;
-                on = omega (arith, has-bytes s c (a .within) (a .looks) 0 (names s c e .0), behind .stop, named-read .on);
+                on = omega (arith, has-bytes s c (a .within) (a .looks) n-other (names s c e .0), behind .stop, named-read .on);
                 goes =
                     λ σ o q p f.
                     to-directives σ o q f
@@ -127,7 +127,7 @@ module _ (s rows : List ℕ) (c : Cursor) (parent left n start : ℕ) (a : Ready
               }
 
       -- without directives
-      pub named-bare : (b .kind ≡ 12 → ⊥) → (rows₃ : List ℕ) → rows₃ ≡ set rows₁ (7 * n + 2) (b .stop) → Passed 1 s (spreadBegun rows n start parent) rows₃ c b n left left (opened n) shut spreadStack []
+      pub named-bare : (b .kind ≡ kindOf atSign → ⊥) → (rows₃ : List ℕ) → rows₃ ≡ set rows₁ (7 * n + 2) (b .stop) → Passed 1 s (spreadBegun rows n start parent) rows₃ c b n left left (opened n) shut spreadStack []
       named-bare i = named-ends rows₁ (Done b) (no-directives s rows₁ b n left named-ready i) b refl
 
 -- AN INLINE FRAGMENT'S HEAD, behind its dots; row n begins at `start`
@@ -154,7 +154,7 @@ module _ (s rows : List ℕ) (c : Cursor) (parent left n start : ℕ) (a : Ready
       ∙ ap (λ (u : List ℕ). at s u c (n ∷ o) left q (kinded-at σ)) (sym j)
 
   -- with a type condition
-  module _ (k : c .kind ≡ 1) where
+  module _ (k : c .kind ≡ kindOf n-other) where
     pub inline-on : AtOn s c
     inline-on = names-not s c e k
 
@@ -189,34 +189,34 @@ module _ (s rows : List ℕ) (c : Cursor) (parent left n start : ℕ) (a : Ready
               goes = λ σ o q p f. to-condition σ o q ∙ inline-read .goes (nt Directives? ∷ bodyStack ++ σ) (n ∷ o) q refl f ∙ u .goes (bodyStack ++ σ) (n ∷ o) q refl f;
             }
 
-        pub inline-undirected : (d .kind ≡ 12 → ⊥) → Passed 0 s (spreadBegun rows n start parent) rows₂ c d n left left (opened n) (opened n) spreadStack bodyStack
+        pub inline-undirected : (d .kind ≡ kindOf atSign → ⊥) → Passed 0 s (spreadBegun rows n start parent) rows₂ c d n left left (opened n) (opened n) spreadStack bodyStack
         inline-undirected k′ = inline-said rows₂ (Done d) (no-directives s rows₂ d n left inline-ready-behind k′)
 
   -- without
-  module _ (k : c .kind ≡ 1 → ⊥) where
+  module _ (k : c .kind ≡ kindOf n-other → ⊥) where
     no-condition : (σ : Stack) (o : List ℕ) (q : Counts) → at s rows₁ c (n ∷ o) left q (kinded-at σ) ≡ at s rows₁ c (n ∷ o) left q (nt Directives? ∷ bodyStack ++ σ)
     unfolding factored language choose
     no-condition σ o q =
-        null s c (a .within) (a .looks) rows₁ (c .rows) (n ∷ o) left q (nt Directives? ∷ bodyStack ++ σ) TypeCondition? (List·Memᴰ·head refl) tt refl (λ (u : ℕ). not (is 1 u)) (not-is 1 (c .kind) k) tt
+        null s c (a .within) (a .looks) rows₁ (c .rows) (n ∷ o) left q (nt Directives? ∷ bodyStack ++ σ) TypeCondition? (List·Memᴰ·head refl) tt refl (λ (u : ℕ). not (is (kindOf n-other) u)) (not-is (kindOf n-other) (c .kind) k) tt
 
     to-directives′ : (σ : Stack) (o : List ℕ) (q : Counts) → at s (spreadBegun rows n start parent) c (n ∷ o) left q (spreadStack ++ σ) ≡ at s rows₁ c (n ∷ o) left q (nt Directives? ∷ bodyStack ++ σ)
     unfolding factored language choose refuses refusesEnd
-    to-directives′ σ o q = by-sign (same (c .kind) 12)
+    to-directives′ σ o q = by-sign (same (c .kind) (kindOf atSign))
       where
         -- neither may begin anything: both refuse
-        by-brace : (c .kind ≡ 12 → ⊥) → (c .kind ≡ 15) ⊎ (c .kind ≡ 15 → ⊥) → at s (spreadBegun rows n start parent) c (n ∷ o) left q (spreadStack ++ σ) ≡ at s rows₁ c (n ∷ o) left q (nt Directives? ∷ bodyStack ++ σ)
+        by-brace : (c .kind ≡ kindOf atSign → ⊥) → (c .kind ≡ kindOf braceL) ⊎ (c .kind ≡ kindOf braceL → ⊥) → at s (spreadBegun rows n start parent) c (n ∷ o) left q (spreadStack ++ σ) ≡ at s rows₁ c (n ∷ o) left q (nt Directives? ∷ bodyStack ++ σ)
         by-brace f (inl g) =
-            first s c (a .within) (a .looks) (spreadBegun rows n start parent) (c .rows) (n ∷ o) left q σ SpreadRest (List·Memᴰ·tail (List·Memᴰ·head refl)) 14 g tt ∙ told-as σ o q ∙ no-condition σ o q
+            first s c (a .within) (a .looks) (spreadBegun rows n start parent) (c .rows) (n ∷ o) left q σ SpreadRest (List·Memᴰ·tail (List·Memᴰ·head refl)) braceL g tt ∙ told-as σ o q ∙ no-condition σ o q
         by-brace f (inr g) =
-            refuse s c (a .within) (a .looks) (spreadBegun rows n start parent) (c .rows) (n ∷ o) left q σ SpreadRest (λ (u : ℕ). not (is 1 u) && (not (is 12 u) && not (is 15 u)))
-            (and-i (not (is 1 (c .kind))) (not (is 12 (c .kind)) && not (is 15 (c .kind))) (not-is 1 (c .kind) k) (not-two 12 15 (c .kind) f g)) tt tt
+            refuse s c (a .within) (a .looks) (spreadBegun rows n start parent) (c .rows) (n ∷ o) left q σ SpreadRest (λ (u : ℕ). not (is (kindOf n-other) u) && (not (is (kindOf atSign) u) && not (is (kindOf braceL) u)))
+            (and-i (not (is (kindOf n-other) (c .kind))) (not (is (kindOf atSign) (c .kind)) && not (is (kindOf braceL) (c .kind))) (not-is (kindOf n-other) (c .kind) k) (not-two (kindOf atSign) (kindOf braceL) (c .kind) f g)) tt tt
             ∙ sym (no-set s c (a .within) (a .looks) rows₁ (c .rows) (n ∷ o) left q (act end ∷ σ) g)
-            ∙ sym (null s c (a .within) (a .looks) rows₁ (c .rows) (n ∷ o) left q (bodyStack ++ σ) Directives? (List·Memᴰ·head refl) tt refl (λ (u : ℕ). not (is 12 u)) (not-is 12 (c .kind) f) tt)
+            ∙ sym (null s c (a .within) (a .looks) rows₁ (c .rows) (n ∷ o) left q (bodyStack ++ σ) Directives? (List·Memᴰ·head refl) tt refl (λ (u : ℕ). not (is (kindOf atSign) u)) (not-is (kindOf atSign) (c .kind) f) tt)
 
-        by-sign : (c .kind ≡ 12) ⊎ (c .kind ≡ 12 → ⊥) → at s (spreadBegun rows n start parent) c (n ∷ o) left q (spreadStack ++ σ) ≡ at s rows₁ c (n ∷ o) left q (nt Directives? ∷ bodyStack ++ σ)
+        by-sign : (c .kind ≡ kindOf atSign) ⊎ (c .kind ≡ kindOf atSign → ⊥) → at s (spreadBegun rows n start parent) c (n ∷ o) left q (spreadStack ++ σ) ≡ at s rows₁ c (n ∷ o) left q (nt Directives? ∷ bodyStack ++ σ)
         by-sign (inl f) =
-            first s c (a .within) (a .looks) (spreadBegun rows n start parent) (c .rows) (n ∷ o) left q σ SpreadRest (List·Memᴰ·tail (List·Memᴰ·head refl)) 11 f tt ∙ told-as σ o q ∙ no-condition σ o q
-        by-sign (inr f) = by-brace f (same (c .kind) 15)
+            first s c (a .within) (a .looks) (spreadBegun rows n start parent) (c .rows) (n ∷ o) left q σ SpreadRest (List·Memᴰ·tail (List·Memᴰ·head refl)) atSign f tt ∙ told-as σ o q ∙ no-condition σ o q
+        by-sign (inr f) = by-brace f (same (c .kind) (kindOf braceL))
 
     pub inline-plain : (rows₂ : List ℕ) (t : Read) → Said 0 s rows₁ rows₂ c n left directivesStack t → Passes 0 s (spreadBegun rows n start parent) rows₂ c n left (opened n) (opened n) spreadStack bodyStack t
     inline-plain rows₂ (Refused x) u = λ σ o q p f. to-directives′ σ o q ∙ u (bodyStack ++ σ) (n ∷ o) q refl f
@@ -230,11 +230,11 @@ module _ (s rows : List ℕ) (c : Cursor) (parent left n start : ℕ) (a : Ready
           goes = λ σ o q p f. to-directives′ σ o q ∙ u .goes (bodyStack ++ σ) (n ∷ o) q refl f;
         }
 
-    pub inline-bare : (c .kind ≡ 12 → ⊥) → Passed 0 s (spreadBegun rows n start parent) rows₁ c c n left left (opened n) (opened n) spreadStack bodyStack
+    pub inline-bare : (c .kind ≡ kindOf atSign → ⊥) → Passed 0 s (spreadBegun rows n start parent) rows₁ c c n left left (opened n) (opened n) spreadStack bodyStack
     inline-bare i = inline-plain rows₁ (Done c) (no-directives s rows₁ c n left inline-ready i)
 
 -- EITHER, at its dots
-module _ (s rows : List ℕ) (c : Cursor) (parent left : ℕ) (a : Ready s rows c parent) (e : c .kind ≡ 5) where
+module _ (s rows : List ℕ) (c : Cursor) (parent left : ℕ) (a : Ready s rows c parent) (e : c .kind ≡ kindOf spread) where
   abbrev begun : List ℕ
   begun = spreadBegun rows (c .rows) (c .start) parent
 
@@ -242,13 +242,13 @@ module _ (s rows : List ℕ) (c : Cursor) (parent left : ℕ) (a : Ready s rows 
       at s rows c o left q (nt Selection ∷ σ) ≡ go (st begun (c .rows + 1) (c .rows ∷ o) (c .stop) left q) (tm (the spread) ∷ nt SpreadRest ∷ σ) (from s (c .stop))
   unfolding factored language
   begins σ o q p =
-      first s c (a .within) (a .looks) rows (c .rows) o left q σ Selection (List·Memᴰ·tail (List·Memᴰ·head refl)) 4 e tt
+      first s c (a .within) (a .looks) rows (c .rows) o left q σ Selection (List·Memᴰ·tail (List·Memᴰ·head refl)) spread e tt
       ∙ row-begins rows (c .rows) o (c .stop) left q (tm (the spread) ∷ nt SpreadRest ∷ σ) (from s (c .stop))
       ∙ ap (λ (u : ℕ). go (st (put rows (c .rows) 0 u 0 (top o) 0 0 0) (c .rows + 1) (c .rows ∷ o) (c .stop) left q) (tm (the spread) ∷ nt SpreadRest ∷ σ) (from s (c .stop))) (start-in s c (a .looks))
       ∙ ap (λ (u : ℕ). go (st (put rows (c .rows) 0 (c .start) 0 u 0 0 0) (c .rows + 1) (c .rows ∷ o) (c .stop) left q) (tm (the spread) ∷ nt SpreadRest ∷ σ) (from s (c .stop))) p
 
   pub spread-full : c .rows ≡ mostRows → Halts s rows c parent left selectionStack (TooManyRows (c .start))
-  spread-full z σ o q p f = begins σ o q p ∙ too-many-rows s c (a .within) (a .looks) begun (c .rows + 1) (c .rows ∷ o) left q (nt SpreadRest ∷ σ) (the spread) 4 e tt tt (omega arith)
+  spread-full z σ o q p f = begins σ o q p ∙ too-many-rows s c (a .within) (a .looks) begun (c .rows + 1) (c .rows ∷ o) left q (nt SpreadRest ∷ σ) (the spread) spread e tt tt (omega arith)
 
   module _ (z : c .rows ≡ mostRows → ⊥) where
     pub spread-room : c .rows < mostRows
@@ -256,7 +256,7 @@ module _ (s rows : List ℕ) (c : Cursor) (parent left : ℕ) (a : Ready s rows 
 
     past-dots : (σ : Stack) (o : List ℕ) (q : Counts) → top o ≡ parent → overCounts q ≡ false →
         at s rows c o left q (nt Selection ∷ σ) ≡ go (st begun (c .rows + 1) (c .rows ∷ o) (c .end) left q) (nt SpreadRest ∷ σ) (from s (c .end))
-    past-dots σ o q p f = begins σ o q p ∙ plain s c (a .within) (a .looks) begun (c .rows + 1) (c .rows ∷ o) left q (nt SpreadRest ∷ σ) (the spread) 4 e tt tt (omega (arith, spread-room)) f
+    past-dots σ o q p f = begins σ o q p ∙ plain s c (a .within) (a .looks) begun (c .rows + 1) (c .rows ∷ o) left q (nt SpreadRest ∷ σ) (the spread) spread e tt tt (omega (arith, spread-room)) f
 
     module _ (r : Read) (w : r ≡ movedTo (c .end) (c .rows + 1) (headOf (from s (c .end)))) where
       pub spread-bad : (x : Refusal) → r ≡ Refused x → Halts s rows c parent left selectionStack x

@@ -5,9 +5,9 @@ use Prim.Native.Nat.{ℕ, _<_}
 use lib.Dec.{eqb}
 use Rattle.paper.specs.Grammar.{nt, act}
 use Rattle.paper.specs.Numbers.{mostRows, kindField}
-use Rattle.paper.specs.Language.{end, SelectionSet, SelectionSet?, Selection, Field, AliasRest, SpreadRest, Arguments?, Directives?}
+use Rattle.paper.specs.Language.{end, SelectionSet, SelectionSet?, Selection, Field, AliasRest, SpreadRest, Arguments?, Directives?, n-other}
 use Rattle.paper.proofs.Going.{Stack}
-use Rattle.text_scan.specs.Head.{wordOf}
+use Rattle.text_scan.specs.Head.{wordOf, kindOf}
 use Rattle.text_cursor.specs.declared.Cursor.{Cursor}
 use Rattle.text_cursor.specs.declared.Read.{Read}
 use Rattle.text_cursor.specs.declared.Read.the-variants.{Done, Refused}
@@ -18,7 +18,7 @@ use Rattle.text_arguments.specs.Passed.{Passed, Passes, opened, shut}
 
 -- the token looked at is a name, and is not `on`
 abbrev pub namesFragment : List ℕ → Cursor → Bool
-namesFragment s c = eqb (c .kind) 1 && not (eqb (wordOf (bytesAt s c)) 5)
+namesFragment s c = eqb (c .kind) (kindOf n-other) && not (eqb (wordOf (bytesAt s c)) 5)
 
 abbrev pub selectionSetStack : Stack
 selectionSetStack = nt SelectionSet ∷ []

@@ -26,13 +26,15 @@ ghost use mathlib.Core.List.{[]};
 ghost use Prim.Native.Nat.{_+_, _≤_, _<_};
 ghost use lib.ListN.{length};
 ghost use Rattle.paper.specs.Numbers.{mostRows};
+ghost use Rattle.paper.specs.Language.{colon, n-other, spread};
+ghost use Rattle.text_scan.specs.Head.{kindOf};
 ghost use Rattle.text_cursor.specs.Reader.{Ready, Said};
 ghost use Rattle.text_arguments.specs.Passed.{Passes, opened, shut};
 ghost use Rattle.text_selections.specs.Selections.{namesFragment, selectionSetStack, selectionStack, bodyStack, fieldStack, fieldRestStack, spreadStack, spreadBegun, AliasSaid, HeadSaid};
 
 // Field up to its selection set, at its first name: Alias? Name Arguments? Directives?
 fn field_head(s: &[u8], rows: &mut [u32], c: Cursor, parent: u32, left: u32) -> Read
-    requires { ⌜ Ready (now s) (now rows) c parent × (c .kind ≡ 1) ⌝ }
+    requires { ⌜ Ready (now s) (now rows) c parent × (c .kind ≡ kindOf n-other) ⌝ }
     ensures { λ r. ⌜ HeadSaid (now (s .entry)) (now (rows .entry)) (now (rows .exit)) c parent left r ⌝ }
 {
     let n = c.rows;
@@ -70,7 +72,7 @@ fn aliased(
     n: u32,
     start: u32,
 ) -> Read
-    requires { ⌜ Ready (now s) (now rows) c n × (c .kind ≡ 10) × (c .rows ≡ n + 1) ⌝ }
+    requires { ⌜ Ready (now s) (now rows) c n × (c .kind ≡ kindOf colon) × (c .rows ≡ n + 1) ⌝ }
     ensures { λ r. ⌜ AliasSaid (now (s .entry)) (now (rows .entry)) (now (rows .exit)) c parent left n start r ⌝ }
 {
     let r = c.past(s, n + 1);
@@ -236,7 +238,7 @@ fn selection(s: &[u8], rows: &mut [u32], c: Cursor, parent: u32, left: u32) -> R
 
 // Field, at its first name
 fn field(s: &[u8], rows: &mut [u32], c: Cursor, parent: u32, left: u32) -> Read
-    requires { ⌜ Ready (now s) (now rows) c parent × (c .kind ≡ 1) ⌝ }
+    requires { ⌜ Ready (now s) (now rows) c parent × (c .kind ≡ kindOf n-other) ⌝ }
     ensures { λ r. ⌜ Said 1 (now (s .entry)) (now (rows .entry)) (now (rows .exit)) c parent left fieldStack r ⌝ }
 {
     let n = c.rows;
@@ -253,7 +255,7 @@ fn field(s: &[u8], rows: &mut [u32], c: Cursor, parent: u32, left: u32) -> Read
 
 // FragmentSpread or InlineFragment, at its dots
 fn spread(s: &[u8], rows: &mut [u32], c: Cursor, parent: u32, left: u32) -> Read
-    requires { ⌜ Ready (now s) (now rows) c parent × (c .kind ≡ 5) ⌝ }
+    requires { ⌜ Ready (now s) (now rows) c parent × (c .kind ≡ kindOf spread) ⌝ }
     ensures { λ r. ⌜ Said 1 (now (s .entry)) (now (rows .entry)) (now (rows .exit)) c parent left selectionStack r ⌝ }
 {
     let n = c.rows;

@@ -10,21 +10,21 @@ use Rattle.text_scan.specs.Head.{kindOf, wordNumber}
 -- the class of a kind that is no name's; the last stands for all other numbers
 abbrev pub classOfKind : ℕ → Class
 classOfKind k =
-    cond (eqb k 2) int
-    (cond (eqb k 3) float
-    (cond (eqb k 4) string
-    (cond (eqb k 5) spread
-    (cond (eqb k 6) bang
-    (cond (eqb k 7) dollar
-    (cond (eqb k 8) parenL
-    (cond (eqb k 9) parenR
-    (cond (eqb k 10) colon
-    (cond (eqb k 11) equals
-    (cond (eqb k 12) atSign
-    (cond (eqb k 13) bracketL
-    (cond (eqb k 14) bracketR
-    (cond (eqb k 15) braceL
-    (cond (eqb k 16) bar braceR))))))))))))))
+    cond (eqb k (kindOf int)) int
+    (cond (eqb k (kindOf float)) float
+    (cond (eqb k (kindOf string)) string
+    (cond (eqb k (kindOf spread)) spread
+    (cond (eqb k (kindOf bang)) bang
+    (cond (eqb k (kindOf dollar)) dollar
+    (cond (eqb k (kindOf parenL)) parenL
+    (cond (eqb k (kindOf parenR)) parenR
+    (cond (eqb k (kindOf colon)) colon
+    (cond (eqb k (kindOf equals)) equals
+    (cond (eqb k (kindOf atSign)) atSign
+    (cond (eqb k (kindOf bracketL)) bracketL
+    (cond (eqb k (kindOf bracketR)) bracketR
+    (cond (eqb k (kindOf braceL)) braceL
+    (cond (eqb k (kindOf bar)) bar braceR))))))))))))))
 
 pub kind-class : (c : Class) → 1 < kindOf c → c ≡ classOfKind (kindOf c)
 kind-class bang h = refl

@@ -10,3 +10,4 @@ pub mod KindLaws
 pub mod ClassLaws
 pub mod HereLaws
 pub mod HeadLaws
+pub mod PackedLaws

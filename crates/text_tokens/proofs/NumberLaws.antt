@@ -19,7 +19,7 @@ use Rattle.paper.proofs.LexTables.{lexer, lexFactored}
 use Rattle.text_scan.specs.Head.{kindOf}
 use Rattle.text_scan.specs.Piece.{asToken, tokenHere}
 use Rattle.text_scan.specs.Run.{runOf, startsWith, fractionSize, signSize, exponentSize, wholeSize}
-use Rattle.text_tokens.specs.Skip.{punctuatorOf}
+use Rattle.text_tokens.specs.Skip.{isPunctuator}
 use Rattle.text_scan.specs.declared.TokenRead.the-variants.{Token, Bad}
 use Rattle.text_characters.proofs.ByteLaws.{front}
 use Rattle.text_tokens.proofs.RunLaws.{run-yes, starts-at}
@@ -254,7 +254,7 @@ module _ (s : List ℕ) (at d : ℕ) (h : at < length s) where
   behind-low (inr z) = omega (arith, z .1)
 
   -- no digit: no number, and nothing else that is a token
-  pub number-bad : getD s at 0 < 256 → hitsByte letter (getD s at 0) ≡ false → punctuatorOf (getD s at 0) ≡ 0 → (getD s at 0 ≡ 34 → ⊥) → (getD s at 0 ≡ 46 → ⊥) →
+  pub number-bad : getD s at 0 < 256 → hitsByte letter (getD s at 0) ≡ false → isPunctuator (getD s at 0) ≡ false → (getD s at 0 ≡ 34 → ⊥) → (getD s at 0 ≡ 46 → ⊥) →
       Behind s at d → startsWith digit (drop d s) ≡ false → Bad at ≡ tokenHere at (drop at s)
   number-bad b l p x y (inl z) q =
       sym (rw (front s at h, z .0) (nothing-token (45 ∷ drop (at + 1) s) (nothing-take minus end-piece (signed-none (drop (at + 1) s) (rw (z .1) at q))) at))

@@ -16,7 +16,7 @@ use Rattle.paper.proofs.LexTables.{lexer, lexFactored}
 use Rattle.text_scan.specs.Head.{kindOf}
 use Rattle.text_scan.specs.Piece.{tokenHere, ignoredHere}
 use Rattle.text_scan.specs.Run.{runOf}
-use Rattle.text_tokens.specs.Skip.{lookup, punctuatorOf}
+use Rattle.text_tokens.specs.Skip.{among, punctuators, isPunctuator, blanks, isBlank}
 use Rattle.text_scan.specs.declared.TokenRead.the-variants.{Token, Bad}
 use Rattle.text_characters.proofs.ByteLaws.{front, bytes-agree}
 use Rattle.text_tokens.proofs.NumberParts.{miss-one}
@@ -28,26 +28,27 @@ use Rattle.text_tokens.proofs.WhatLaws.{blank, kept-byte}
 pub name-here : (b at : ℕ) (bs : List ℕ) → hitsByte letter b ≡ true → tokenHere at (b ∷ bs) ≡ Token 1 at (at + suc (runOf letterOrDigit bs + 0))
 name-here b at bs h = read-token (b ∷ bs) (read-take (step-letter b h) (read-run repeats-name (act (is n-other) ∷ []) bs 0 (is n-other) (read-mark (is n-other) (drop (runOf letterOrDigit bs) bs)))) at
 
--- a punctuator of one byte
-Mark : ℕ → ℕ → Type 0
-Mark b k = (c : Class) × (kindOf c ≡ k) × (step lexer (nt Piece ∷ []) (some b) ≡ took (tok b ∷ []) (act (is c) ∷ []))
-
-abbrev Every : (ℕ → ℕ → Type 0) → List (ℕ × ℕ) → Type 0
+-- a fact of each number of a list, at one that is among them
+abbrev Every : (ℕ → Type 0) → List ℕ → Type 0
 Every P [] = Unit {0}
-Every P (e ∷ es) = P (e .0) (e .1) × Every P es
+Every P (m ∷ ms) = P m × Every P ms
 
-lookup-every : (P : ℕ → ℕ → Type 0) (es : List (ℕ × ℕ)) → Every P es → (b : ℕ) → (lookup es b ≡ 0 → ⊥) → P b (lookup es b)
-lookup-every P [] t b h = absurd (h refl)
-lookup-every P (e ∷ es) t b h = go (eqb b (e .0)) refl h (λ (k : lookup es b ≡ 0 → ⊥). lookup-every P es (t .1) b k)
+among-every : (P : ℕ → Type 0) (ms : List ℕ) → Every P ms → (b : ℕ) → among ms b ≡ true → P b
+among-every P [] t b h = let z : _≡_ {A = ℕ} 0 1 = cc in let y : ⊥ = omega arith in absurd y
+among-every P (m ∷ ms) t b h = go (eqb b m) refl h (λ (k : among ms b ≡ true). among-every P ms (t .1) b k)
   where
-    go : (v : Bool) → eqb b (e .0) ≡ v → (cond v (e .1) (lookup es b) ≡ 0 → ⊥) → ((lookup es b ≡ 0 → ⊥) → P b (lookup es b)) → P b (cond v (e .1) (lookup es b))
-    go true q k f = subst (λ (i : ℕ). P i (e .1)) (sym (eqb-true b (e .0) q)) (t .0)
+    go : (v : Bool) → eqb b m ≡ v → cond v true (among ms b) ≡ true → (among ms b ≡ true → P b) → P b
+    go true q k f = subst P (sym (eqb-true b m q)) (t .0)
     go false q k f = f k
 
-marks : (b : ℕ) → (punctuatorOf b ≡ 0 → ⊥) → Mark b (punctuatorOf b)
-unfolding step enter choose lexFactored lexical punctuatorOf Mark
+-- a punctuator of one byte
+Mark : ℕ → Type 0
+Mark b = (c : Class) × (kindOf c ≡ b) × (step lexer (nt Piece ∷ []) (some b) ≡ took (tok b ∷ []) (act (is c) ∷ []))
+
+marks : (b : ℕ) → isPunctuator b ≡ true → Mark b
+unfolding step enter choose lexFactored lexical isPunctuator Mark
 marks b h =
-    lookup-every Mark ((123, 15) ∷ (125, 17) ∷ (40, 8) ∷ (41, 9) ∷ (58, 10) ∷ (36, 7) ∷ (64, 12) ∷ (91, 13) ∷ (93, 14) ∷ (33, 6) ∷ (61, 11) ∷ (124, 16) ∷ []) (
+    among-every Mark punctuators (
       (braceL, refl, refl),
       (
         (braceR, refl, refl),
@@ -67,9 +68,21 @@ marks b h =
       ),
     ) b h
 
-pub mark-here : (b at : ℕ) (bs : List ℕ) → (punctuatorOf b ≡ 0 → ⊥) → tokenHere at (b ∷ bs) ≡ Token (punctuatorOf b) at (at + 1)
+pub mark-here : (b at : ℕ) (bs : List ℕ) → isPunctuator b ≡ true → tokenHere at (b ∷ bs) ≡ Token b at (at + 1)
 unfolding Mark
 mark-here b at bs h = let m = marks b h in read-token (b ∷ bs) (read-take (m .2) (read-mark (is (m .0)) bs)) at ∙ ap (λ (k : ℕ). Token k at (at + 1)) (m .1)
+
+-- a byte that is ignored by itself
+Blank : ℕ → Type 0
+Blank b = step lexer (nt Piece ∷ []) (some b) ≡ took (tok b ∷ []) (act ignored ∷ [])
+
+blank-step : (b : ℕ) → isBlank b ≡ true → Blank b
+unfolding step enter choose lexFactored lexical isBlank Blank
+blank-step b h = among-every Blank blanks (refl, (refl, (refl, (refl, (refl, tt))))) b h
+
+blank-here : (b : ℕ) (bs : List ℕ) → isBlank b ≡ true → ignoredHere (b ∷ bs) ≡ 1
+unfolding Blank
+blank-here b bs h = read-ignored _ (read-take (blank-step b h) (read-mark ignored bs))
 
 -- two bytes, v and u, and nothing else
 abbrev one : ℕ → Set
@@ -111,9 +124,9 @@ order : step lexer (nt Piece ∷ []) (some 239) ≡ took (tok 239 ∷ []) (Two 1
 unfolding step enter choose lexFactored lexical
 order = refl
 
--- the bytes that begin what is ignored, one by one
+-- the bytes that begin what is ignored
 abbrev listed : ℕ → Bool
-listed b = eqb b 32 || (eqb b 10 || (eqb b 44 || (eqb b 13 || (eqb b 9 || (eqb b 35 || eqb b 239)))))
+listed b = isBlank b || (eqb b 35 || eqb b 239)
 
 module _ (s : List ℕ) (i : ℕ) (h : i < length s) where
   abbrev At : ℕ → ℕ
@@ -162,38 +175,20 @@ module _ (s : List ℕ) (i : ℕ) (h : i < length s) where
       go true e = order-yes q l a (eqb-true (At 2) 191 e)
       go false e = order-no q l a (eqb-false (At 2) 191 e)
 
-  -- blanks, of one byte each
-  pub blank-tab : getD s i 0 ≡ 9 → 1 ≡ ignoredHere (drop i s)
-  unfolding step enter choose lexFactored lexical
-  blank-tab q = sym (rw (from-at 9 q) (read-ignored _ (read-take refl (read-mark ignored (drop (i + 1) s)))))
+  -- a blank, and any other byte that begins nothing that is ignored
+  pub blank-at : isBlank (getD s i 0) ≡ true → ignoredHere (drop i s) ≡ 1
+  blank-at q = rw (front s i h) (blank-here (getD s i 0) (drop (i + 1) s) q)
 
-  pub blank-line : getD s i 0 ≡ 10 → 1 ≡ ignoredHere (drop i s)
-  unfolding step enter choose lexFactored lexical
-  blank-line q = sym (rw (from-at 10 q) (read-ignored _ (read-take refl (read-mark ignored (drop (i + 1) s)))))
-
-  pub blank-return : getD s i 0 ≡ 13 → 1 ≡ ignoredHere (drop i s)
-  unfolding step enter choose lexFactored lexical
-  blank-return q = sym (rw (from-at 13 q) (read-ignored _ (read-take refl (read-mark ignored (drop (i + 1) s)))))
-
-  pub blank-space : getD s i 0 ≡ 32 → 1 ≡ ignoredHere (drop i s)
-  unfolding step enter choose lexFactored lexical
-  blank-space q = sym (rw (from-at 32 q) (read-ignored _ (read-take refl (read-mark ignored (drop (i + 1) s)))))
-
-  pub blank-comma : getD s i 0 ≡ 44 → 1 ≡ ignoredHere (drop i s)
-  unfolding step enter choose lexFactored lexical
-  blank-comma q = sym (rw (from-at 44 q) (read-ignored _ (read-take refl (read-mark ignored (drop (i + 1) s)))))
-
-  -- any other byte begins nothing that is ignored
-  pub no-blank : getD s i 0 < 256 → (getD s i 0 ≡ 32 → ⊥) → (getD s i 0 ≡ 10 → ⊥) → (getD s i 0 ≡ 44 → ⊥) → (getD s i 0 ≡ 13 → ⊥) → (getD s i 0 ≡ 9 → ⊥) → (getD s i 0 ≡ 35 → ⊥) → (getD s i 0 ≡ 239 → ⊥) →
-      0 ≡ ignoredHere (drop i s)
-  no-blank l a b c d e f g =
+  pub no-blank : getD s i 0 < 256 → isBlank (getD s i 0) ≡ false → (getD s i 0 ≡ 35 → ⊥) → (getD s i 0 ≡ 239 → ⊥) → 0 ≡ ignoredHere (drop i s)
+  unfolding isBlank
+  no-blank l a f g =
       let q = bytes-agree listed (hitsByte blank) 0 256 tt (getD s i 0) (omega arith) (omega arith) in
-      let n : listed (getD s i 0) ≡ false = rw (ne-eqb _ _ a, ne-eqb _ _ b, ne-eqb _ _ c, ne-eqb _ _ d, ne-eqb _ _ e, ne-eqb _ _ f, ne-eqb _ _ g) in
+      let n : listed (getD s i 0) ≡ false = rw (a, ne-eqb _ _ f, ne-eqb _ _ g) in
       sym (rw (front s i h) (kept-byte (getD s i 0) l (sym q ∙ n) (drop (i + 1) s)))
 
   -- a name and a punctuator at a place
   pub name-at : (e : ℕ) → hitsByte letter (getD s i 0) ≡ true → e ≡ i + 1 + runOf letterOrDigit (drop (i + 1) s) → Token 1 i e ≡ tokenHere i (drop i s)
   name-at e q z = sym (rw (front s i h) (name-here (getD s i 0) i (drop (i + 1) s) q ∙ ap (λ (k : ℕ). Token 1 i k) (omega arith)))
 
-  pub mark-at : (k : ℕ) → k ≡ punctuatorOf (getD s i 0) → (k ≡ 0 → ⊥) → Token k i (i + 1) ≡ tokenHere i (drop i s)
-  mark-at k q z = sym (rw (front s i h, q) (mark-here (getD s i 0) i (drop (i + 1) s) (λ e. z (q ∙ e))))
+  pub mark-at : isPunctuator (getD s i 0) ≡ true → Token (getD s i 0) i (i + 1) ≡ tokenHere i (drop i s)
+  mark-at q = sym (rw (front s i h) (mark-here (getD s i 0) i (drop (i + 1) s) q))

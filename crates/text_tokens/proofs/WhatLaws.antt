@@ -19,7 +19,7 @@ use Rattle.paper_theory.proofs.LongestLaws.{Best, best}
 use Rattle.paper.proofs.LexTables.{lexer, lexFactored, allL, numL, atL, sameL}
 use Rattle.paper_theory.proofs.LexChecked.{fitsL, followL}
 use Rattle.text_scan.specs.Piece.{pieceAt, tokenHere, tokenOf, asToken, ignoredHere, ignoredOf, asIgnored}
-use Rattle.text_tokens.specs.Skip.{punctuatorOf}
+use Rattle.text_tokens.specs.Skip.{isPunctuator}
 use Rattle.text_scan.specs.declared.TokenRead.the-variants.{Bad}
 use Rattle.text_characters.proofs.ByteLaws.{from-all}
 use Rattle.text_scan.proofs.ReadLaws.{Stack}
@@ -178,10 +178,10 @@ not-ignored b bs h = go (scan lexer (nt Piece ∷ []) (b ∷ bs)) refl
 
 -- of the 256 bytes: those that begin neither a token nor a number
 abbrev begins-token : ℕ → Bool
-begins-token b = hitsByte letter b || (hitsByte digit b || (not (eqb (punctuatorOf b) 0) || (eqb b 34 || (eqb b 46 || eqb b 45))))
+begins-token b = hitsByte letter b || (hitsByte digit b || (isPunctuator b || (eqb b 34 || (eqb b 46 || eqb b 45))))
 
 pub bad-byte : (b : ℕ) → b < 256 → T (not (begins-token b)) → (at : ℕ) (bs : List ℕ) → tokenHere at (b ∷ bs) ≡ Bad at
-unfolding step enter choose lexFactored lexical punctuatorOf
+unfolding step enter choose lexFactored lexical isPunctuator
 bad-byte b h t at bs =
     not-token b at bs (implies-out (not (begins-token b)) (goodStep noToken (step lexer (nt Piece ∷ []) (some b)))
     (from-all 0 256 (λ k. implies (not (begins-token k)) (goodStep noToken (step lexer (nt Piece ∷ []) (some k)))) tt b (omega arith) (omega arith)) t)

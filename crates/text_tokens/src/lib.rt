@@ -1,36 +1,33 @@
 // Reads one token of a text at a time, by longest match.
 use text_characters::in_name;
 use text_characters::starts_name;
-use text_scan::TOKEN_AT;
-use text_scan::TOKEN_BANG;
-use text_scan::TOKEN_BAR;
-use text_scan::TOKEN_BRACE_CLOSE;
-use text_scan::TOKEN_BRACE_OPEN;
-use text_scan::TOKEN_BRACKET_CLOSE;
-use text_scan::TOKEN_BRACKET_OPEN;
-use text_scan::TOKEN_COLON;
-use text_scan::TOKEN_DOLLAR;
 use text_scan::TOKEN_END;
-use text_scan::TOKEN_EQUALS;
 use text_scan::TOKEN_FLOAT;
 use text_scan::TOKEN_INT;
 use text_scan::TOKEN_NAME;
-use text_scan::TOKEN_PAREN_CLOSE;
-use text_scan::TOKEN_PAREN_OPEN;
 use text_scan::TOKEN_SPREAD;
 use text_scan::TokenRead;
 use text_strings::comment;
 use text_strings::string;
 ghost use mathlib.Core.Path.{_≡_};
 ghost use Prim.Native.Nat.{_+_, _-_, _≤_, _<_};
-ghost use mathlib.Core.Bool.{cond};
+ghost use mathlib.Core.Bool.{false, cond};
 ghost use lib.ListN.{length, take, drop, getD};
 ghost use Rattle.paper.specs.Lexical.{hitsByte, letterOrDigit, digit};
+ghost use Rattle.paper.specs.Numbers.{mostText};
 ghost use Rattle.paper.proofs.Lexing.{from};
 ghost use Rattle.text_scan.specs.Head.{headOf};
 ghost use Rattle.text_scan.specs.Piece.{tokenHere, ignoredHere};
 ghost use Rattle.text_scan.specs.Run.{runOf, startsWith, fractionSize, signSize, exponentSize, wholeSize};
-ghost use Rattle.text_tokens.specs.Skip.{Other, Numeric, punctuatorOf};
+ghost use Rattle.text_tokens.specs.Packed.{Fits, packedOf, unpackedOf};
+ghost use Rattle.text_tokens.specs.Skip.{Other, Numeric, isPunctuator, isBlank};
+
+// A token in one number: its kind, above two places of 16 bits; and what stands for the kind where there is none.
+const PLACES: u64 = 65536;
+
+const TWO_PLACES: u64 = PLACES * PLACES;
+
+const NO_KIND: u64 = 127;
 
 pub fn is_digit(b: u8) -> bool
     ensures { λ r. ⌜ r ≡ hitsByte digit b ⌝ }
@@ -55,37 +52,44 @@ pub fn is_mark(s: &[u8], i: usize) -> bool
     false
 }
 
-// The size of the ignored piece at i, or 0. Most bytes are above a comma, and of these only a mark is ignored.
-pub fn ignored(s: &[u8], i: usize) -> usize
-    requires { ⌜ i < length (now s) ⌝ }
+// Whether a byte is ignored by itself. All but the space lie below '-', so that a name is asked two questions.
+fn is_blank(b: u8) -> bool
+    ensures { λ r. ⌜ r ≡ isBlank b ⌝ }
+{
+    if b == b' ' {
+        return true;
+    }
+    if b'-' <= b {
+        return false;
+    }
+    if b == b'\n' {
+        return true;
+    }
+    if b == b',' {
+        return true;
+    }
+    if b == b'\r' {
+        return true;
+    }
+    if b == b'\t' {
+        return true;
+    }
+    false
+}
+
+// The size of the comment or the byte order mark at i, where no blank stands, or 0.
+fn ignored(s: &[u8], i: usize) -> usize
+    requires { ⌜ (i < length (now s)) × (isBlank (getD (now s) i 0) ≡ false) ⌝ }
     ensures { λ r. ⌜ r ≡ ignoredHere (drop i (now (s .entry))) ⌝ }
 {
     let b = s[i];
-    if b == b' ' {
-        return 1;
-    }
-    if b',' < b {
-        if b == 239 {
-            if is_mark(s, i) {
-                return 3;
-            }
-        }
-        return 0;
-    }
-    if b == 10 {
-        return 1;
-    }
-    if b == b',' {
-        return 1;
-    }
-    if b == 13 {
-        return 1;
-    }
-    if b == 9 {
-        return 1;
-    }
     if b == b'#' {
         return comment(s, i);
+    }
+    if b == 239 {
+        if is_mark(s, i) {
+            return 3;
+        }
     }
     0
 }
@@ -245,47 +249,35 @@ pub fn spread(s: &[u8], at: usize) -> TokenRead
     TokenRead::Bad(at)
 }
 
-// The kind of a punctuator of one byte, or TOKEN_END.
-pub fn punctuator(b: u8) -> u32
-    ensures { λ r. ⌜ r ≡ punctuatorOf b ⌝ }
+// Whether a byte is a punctuator.
+pub fn is_punctuator(b: u8) -> bool
+    ensures { λ r. ⌜ r ≡ isPunctuator b ⌝ }
 {
-    if b == b'{' {
-        return TOKEN_BRACE_OPEN;
+    if b'{' <= b {
+        return b <= b'}';
     }
-    if b == b'}' {
-        return TOKEN_BRACE_CLOSE;
-    }
-    if b == b'(' {
-        return TOKEN_PAREN_OPEN;
-    }
-    if b == b')' {
-        return TOKEN_PAREN_CLOSE;
+    if b <= b')' {
+        if b'(' <= b {
+            return true;
+        }
+        if b == b'$' {
+            return true;
+        }
+        return b == b'!';
     }
     if b == b':' {
-        return TOKEN_COLON;
-    }
-    if b == b'$' {
-        return TOKEN_DOLLAR;
+        return true;
     }
     if b == b'@' {
-        return TOKEN_AT;
+        return true;
     }
     if b == b'[' {
-        return TOKEN_BRACKET_OPEN;
+        return true;
     }
     if b == b']' {
-        return TOKEN_BRACKET_CLOSE;
+        return true;
     }
-    if b == b'!' {
-        return TOKEN_BANG;
-    }
-    if b == b'=' {
-        return TOKEN_EQUALS;
-    }
-    if b == b'|' {
-        return TOKEN_BAR;
-    }
-    TOKEN_END
+    b == b'='
 }
 
 // The string, spread or number at `at`, where no name and no punctuator of one byte stands.
@@ -304,14 +296,14 @@ fn other(s: &[u8], at: usize) -> TokenRead
 }
 
 // The token at or after `from`. One loop looks at each byte, in the order in which they are frequent.
-pub fn next(s: &[u8], from: usize) -> TokenRead
+fn first(s: &[u8], from: usize) -> TokenRead
     requires { ⌜ from ≤ length (now s) ⌝ }
     ensures { λ r. ⌜ r ≡ headOf (Rattle.paper.proofs.Lexing.from (now (s .entry)) from) ⌝ }
 {
     let mut i = from;
     while i < s.len() {
         let b = s[i];
-        if b == b' ' {
+        if is_blank(b) {
             i += 1;
             continue;
         }
@@ -323,10 +315,9 @@ pub fn next(s: &[u8], from: usize) -> TokenRead
                 end: e,
             };
         }
-        let k = punctuator(b);
-        if k != TOKEN_END {
+        if is_punctuator(b) {
             return TokenRead::Token {
-                kind: k,
+                kind: b as u32,
                 start: i,
                 end: i + 1,
             };
@@ -342,4 +333,49 @@ pub fn next(s: &[u8], from: usize) -> TokenRead
         start: i,
         end: i,
     }
+}
+
+// What stands at a place, in one number.
+fn packed(t: TokenRead) -> u64
+    requires { ⌜ Fits t ⌝ }
+    ensures { λ r. ⌜ r ≡ packedOf t ⌝ }
+{
+    match t {
+        TokenRead::Token { kind, start, end } => {
+            kind as u64 * TWO_PLACES + start as u64 * PLACES + end as u64
+        }
+        TokenRead::Bad(at) => NO_KIND * TWO_PLACES + at as u64 * PLACES,
+    }
+}
+
+// The same, taken out of the number.
+pub fn unpacked(n: u64) -> TokenRead
+    ensures { λ r. ⌜ r ≡ unpackedOf n ⌝ }
+{
+    let kind = n / TWO_PLACES;
+    let start = n / PLACES % PLACES;
+    if kind == NO_KIND {
+        return TokenRead::Bad(start as usize);
+    }
+    TokenRead::Token {
+        kind: kind as u32,
+        start: start as usize,
+        end: (n % PLACES) as usize,
+    }
+}
+
+// The token at or after `from`, in one number, so that none goes through memory. It has two callers, so that it stays apart and they are inlined.
+pub fn scan(s: &[u8], from: usize) -> u64
+    requires { ⌜ (length (now s) ≤ mostText) × (from ≤ length (now s)) ⌝ }
+    ensures { λ r. ⌜ r ≡ packedOf (headOf (Rattle.paper.proofs.Lexing.from (now (s .entry)) from)) ⌝ }
+{
+    packed(first(s, from))
+}
+
+// The token at or after `from`.
+pub fn next(s: &[u8], from: usize) -> TokenRead
+    requires { ⌜ (length (now s) ≤ mostText) × (from ≤ length (now s)) ⌝ }
+    ensures { λ r. ⌜ r ≡ headOf (Rattle.paper.proofs.Lexing.from (now (s .entry)) from) ⌝ }
+{
+    unpacked(scan(s, from))
 }

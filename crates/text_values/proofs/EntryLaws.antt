@@ -62,12 +62,12 @@ module _ (s rows : List ℕ) (c : Cursor) (parent : ℕ) (ready : Ready s rows c
         at s rows c o left q (entryStack K b ++ σ) ≡ go (st opened (c .rows + 1) (c .rows ∷ o) (c .stop) left q) (tm anyName ∷ tm (the colon) ∷ nt (valuePart b) ∷ act end ∷ σ) (from s (c .stop))
     named-goes left b σ o q h =
         begins left b σ o q h
-        ∙ first s c (ready .within) (ready .looks) opened (c .rows + 1) (c .rows ∷ o) left q (tm (the colon) ∷ nt (valuePart b) ∷ act end ∷ σ) Name name-in 0 e tt
+        ∙ first s c (ready .within) (ready .looks) opened (c .rows + 1) (c .rows ∷ o) left q (tm (the colon) ∷ nt (valuePart b) ∷ act end ∷ σ) Name name-in n-other e tt
 
     pub entry-full : c .rows ≡ mostRows → (left : ℕ) (b : Bool) → Halts s rows c parent left (entryStack K b) (TooManyRows (c .start))
     entry-full n left b σ o q h f =
         named-goes left b σ o q h
-        ∙ too-many-rows s c (ready .within) (ready .looks) opened (c .rows + 1) (c .rows ∷ o) left q (tm (the colon) ∷ nt (valuePart b) ∷ act end ∷ σ) anyName 0 e tt tt (omega arith)
+        ∙ too-many-rows s c (ready .within) (ready .looks) opened (c .rows + 1) (c .rows ∷ o) left q (tm (the colon) ∷ nt (valuePart b) ∷ act end ∷ σ) anyName n-other e tt tt (omega arith)
 
     module _ (room : c .rows ≢ mostRows) where
       few : c .rows < mostRows
@@ -78,7 +78,7 @@ module _ (s rows : List ℕ) (c : Cursor) (parent : ℕ) (ready : Ready s rows c
           at s rows c o left q (entryStack K b ++ σ) ≡ go (st opened (c .rows + 1) (c .rows ∷ o) (c .end) left q) (tm (the colon) ∷ nt (valuePart b) ∷ act end ∷ σ) (from s (c .end))
       name-goes left b σ o q h f =
           named-goes left b σ o q h
-          ∙ plain s c (ready .within) (ready .looks) opened (c .rows + 1) (c .rows ∷ o) left q (tm (the colon) ∷ nt (valuePart b) ∷ act end ∷ σ) anyName 0 e tt tt (omega (arith, few)) f
+          ∙ plain s c (ready .within) (ready .looks) opened (c .rows + 1) (c .rows ∷ o) left q (tm (the colon) ∷ nt (valuePart b) ∷ act end ∷ σ) anyName n-other e tt tt (omega (arith, few)) f
 
       pub entry-bad : (rows′ : List ℕ) (r : Read) (x : Refusal) → r ≡ past s c (c .rows + 1) → r ≡ Refused x → SaidNamed s rows rows′ c parent K r
       entry-bad rows′ r x q w = rw w (λ left b σ o y h f. name-goes left b σ o y h f ∙ moved-halts s (c .end) (c .rows + 1) r x q w (st opened (c .rows + 1) (c .rows ∷ o) (c .end) left y) (tm (the colon) ∷ nt (valuePart b) ∷ act end ∷ σ))
@@ -108,7 +108,7 @@ module _ (s rows : List ℕ) (c : Cursor) (parent : ℕ) (ready : Ready s rows c
               at s rows c o left y (entryStack K b ++ σ) ≡ go (st opened (c .rows + 1) (c .rows ∷ o) (d .end) left y) (nt (valuePart b) ∷ act end ∷ σ) (from s (d .end))
           colon-goes left b σ o y h f =
               at-colon left b σ o y h f
-              ∙ plain s d within (m .looks) opened (c .rows + 1) (c .rows ∷ o) left y (nt (valuePart b) ∷ act end ∷ σ) (the colon) 9 k tt tt (omega (arith, few)) f
+              ∙ plain s d within (m .looks) opened (c .rows + 1) (c .rows ∷ o) left y (nt (valuePart b) ∷ act end ∷ σ) (the colon) colon k tt tt (omega (arith, few)) f
 
           -- at the value
           pub entry-named : (rows′ : List ℕ) → rows′ ≡ opened → (t : Read) → t ≡ past s d (c .rows + 1) → SaidNamed s rows rows′ c parent K t
@@ -173,7 +173,7 @@ module _ (field : Part) (K : ℕ) (counted : EntryKind K) (b : Bool) (mem : List
   entry-is σ o q h f = cases (eqb (c .kind) (kindOf n-other)) refl
     where
       cases : (x : Bool) → eqb (c .kind) (kindOf n-other) ≡ x → at s rows c o left q (nt field ∷ σ) ≡ at s rows c o left q (entryStack K b ++ σ)
-      cases true e = first s c (ready .within) (ready .looks) rows (c .rows) o left q σ field mem 0 (eqb-true (c .kind) (kindOf n-other) e) begins-it
+      cases true e = first s c (ready .within) (ready .looks) rows (c .rows) o left q σ field mem n-other (eqb-true (c .kind) (kindOf n-other) e) begins-it
       cases false e =
           refuse s c (ready .within) (ready .looks) rows (c .rows) o left q σ field (λ x. not (is (kindOf n-other) x)) (not-is (kindOf n-other) (c .kind) (eqb-false (c .kind) (kindOf n-other) e)) refuses-it refuses-end
           ∙ sym (entry-no-name s rows c parent ready K counted (eqb-false (c .kind) (kindOf n-other) e) left b σ o q h f)

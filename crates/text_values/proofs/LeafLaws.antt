@@ -63,7 +63,7 @@ abbrev noValueTest : ℕ → Bool
 noValueTest x = not (is (kindOf n-other) x) && (not (is (kindOf int) x) && (not (is (kindOf float) x) && (not (is (kindOf string) x) && (not (is (kindOf dollar) x) && (not (is (kindOf bracketL) x) && not (is (kindOf braceL) x))))))
 
 no-test : {x : ℕ} → x ≢ kindOf n-other → x ≢ kindOf int → x ≢ kindOf float → x ≢ kindOf string → x ≢ kindOf dollar → x ≢ kindOf bracketL → x ≢ kindOf braceL → T (noValueTest x)
-no-test {x} n1 n2 n3 n4 n7 n13 n15 = rw (ne-eqb x 1 n1, ne-eqb x 2 n2, ne-eqb x 3 n3, ne-eqb x 4 n4, ne-eqb x 7 n7, ne-eqb x 13 n13, ne-eqb x 15 n15) tt
+no-test {x} n i f s d l o = rw (ne-eqb x _ n, ne-eqb x _ i, ne-eqb x _ f, ne-eqb x _ s, ne-eqb x _ d, ne-eqb x _ l, ne-eqb x _ o) tt
 
 is-T : (x : ℕ) → T (is x x)
 is-T x = rw (eq-eqb x x refl) tt

@@ -30,7 +30,7 @@ abbrev pub fieldsPart : Bool → Part
 fieldsPart true = ConstObjectField*
 fieldsPart false = ObjectField*
 
-pub list-nest : (b : Bool) → Nest (valuePart b) kindList 12 13 bracketL bracketR (listPart b) (valuePart b) (valuesPart b)
+pub list-nest : (b : Bool) → Nest (valuePart b) kindList bracketL bracketR (listPart b) (valuePart b) (valuesPart b)
 unfolding factored language choose refuses refusesEnd
 list-nest true =
     record {
@@ -67,7 +67,7 @@ list-nest false =
       item-first = tt;
     }
 
-pub object-nest : (b : Bool) → Nest (valuePart b) kindObject 14 16 braceL braceR (objectPart b) (fieldPart b) (fieldsPart b)
+pub object-nest : (b : Bool) → Nest (valuePart b) kindObject braceL braceR (objectPart b) (fieldPart b) (fieldsPart b)
 unfolding factored language choose refuses refusesEnd
 object-nest true =
     record {

@@ -46,14 +46,14 @@ module _ (s rows rows′ : List ℕ) (c : Cursor) (parent : ℕ) (ready : Ready 
   opens : (σ : Stack) (o : List ℕ) (left : ℕ) (q : Counts) → top o ≡ parent →
       at s rows c o left q (nt Value ∷ σ) ≡ go (st opened (c .rows + 1) (c .rows ∷ o) (c .stop) left q) (tm (the dollar) ∷ act named ∷ nt Name ∷ act end ∷ σ) (from s (c .stop))
   opens σ o left q p =
-      first s c (ready .within) (ready .looks) rows (c .rows) o left q σ Value variable-in 6 e tt
+      first s c (ready .within) (ready .looks) rows (c .rows) o left q σ Value variable-in dollar e tt
       ∙ row-opens rows (c .rows) o (c .stop) left q (tm (the dollar) ∷ act named ∷ nt Name ∷ act end ∷ σ) (from s (c .stop)) kindVariable 0
       ∙ rw (start-in s c (ready .looks), p) refl
 
   pub variable-full : c .rows ≡ mostRows → SaidVariable s rows rows c parent (Refused (TooManyRows (c .start)))
   variable-full n left = λ σ o q p f.
       opens σ o left q p
-      ∙ too-many-rows s c (ready .within) (ready .looks) opened (c .rows + 1) (c .rows ∷ o) left q (act named ∷ nt Name ∷ act end ∷ σ) (the dollar) 6 e tt tt (omega arith)
+      ∙ too-many-rows s c (ready .within) (ready .looks) opened (c .rows + 1) (c .rows ∷ o) left q (act named ∷ nt Name ∷ act end ∷ σ) (the dollar) dollar e tt tt (omega arith)
 
   module _ (room : c .rows ≢ mostRows) where
     few : c .rows < mostRows
@@ -64,7 +64,7 @@ module _ (s rows rows′ : List ℕ) (c : Cursor) (parent : ℕ) (ready : Ready 
         at s rows c o left q (nt Value ∷ σ) ≡ go (st opened (c .rows + 1) (c .rows ∷ o) (c .end) left q) (act named ∷ nt Name ∷ act end ∷ σ) (from s (c .end))
     dollar-goes σ o left q p f =
         opens σ o left q p
-        ∙ plain s c (ready .within) (ready .looks) opened (c .rows + 1) (c .rows ∷ o) left q (act named ∷ nt Name ∷ act end ∷ σ) (the dollar) 6 e tt tt (omega (arith, few)) f
+        ∙ plain s c (ready .within) (ready .looks) opened (c .rows + 1) (c .rows ∷ o) left q (act named ∷ nt Name ∷ act end ∷ σ) (the dollar) dollar e tt tt (omega (arith, few)) f
 
     pub variable-bad : (r : Read) (x : Refusal) → r ≡ past s c (c .rows + 1) → r ≡ Refused x → SaidVariable s rows rows c parent r
     variable-bad r x q p left = rw p (λ σ o y h f. dollar-goes σ o left y h f ∙ moved-halts s (c .end) (c .rows + 1) r x q p (st opened (c .rows + 1) (c .rows ∷ o) (c .end) left y) (act named ∷ nt Name ∷ act end ∷ σ))
@@ -111,8 +111,8 @@ module _ (s rows rows′ : List ℕ) (c : Cursor) (parent : ℕ) (ready : Ready 
           (rw u (put-length rows (c .rows) kindVariable (c .start) (d .end) parent (d .start) (d .end - d .start) 0 ∙ ready .size)) (name-lies .2) (omega (arith, few)) (omega (arith, lies .0, name-lies, m .stop))
           (λ σ o y h f.
           name-opens σ o left y h f
-          ∙ first s d name-within (m .looks) (put rows (c .rows) kindVariable (c .start) 0 parent (d .start) (d .end - d .start) 0) (c .rows + 1) (c .rows ∷ o) left y (act end ∷ σ) Name name-in 0 n tt
-          ∙ plain s d name-within (m .looks) (put rows (c .rows) kindVariable (c .start) 0 parent (d .start) (d .end - d .start) 0) (c .rows + 1) (c .rows ∷ o) left y (act end ∷ σ) anyName 0 n tt tt (omega (arith, few)) f
+          ∙ first s d name-within (m .looks) (put rows (c .rows) kindVariable (c .start) 0 parent (d .start) (d .end - d .start) 0) (c .rows + 1) (c .rows ∷ o) left y (act end ∷ σ) Name name-in n-other n tt
+          ∙ plain s d name-within (m .looks) (put rows (c .rows) kindVariable (c .start) 0 parent (d .start) (d .end - d .start) 0) (c .rows + 1) (c .rows ∷ o) left y (act end ∷ σ) anyName n-other n tt tt (omega (arith, few)) f
           ∙ row-ends rows (c .rows + 1) o (d .end) left y σ (from s (d .end)) (c .rows) kindVariable (c .start) 0 parent (d .start) (d .end - d .start) 0
           ∙ rw u refl)
           r′ v

@@ -12,7 +12,7 @@ use Rattle.paper.proofs.Lexing.{from}
 use Rattle.paper.proofs.Machine.{choose}
 use Rattle.paper.proofs.Tables.{factored}
 use Rattle.paper.proofs.Going.{Stack, st, go}
-use Rattle.text_scan.specs.Head.{headOf}
+use Rattle.text_scan.specs.Head.{headOf, kindOf}
 use Rattle.text_cursor.specs.Reader.{Ready, at, Went, Said, movedTo}
 use Rattle.text_cursor.specs.declared.Cursor.{Cursor}
 use Rattle.text_cursor.specs.declared.Read.{Read}
@@ -26,7 +26,7 @@ abbrev defaultStack : Stack
 defaultStack = nt DefaultValue? ∷ []
 
 module _ (s rows : List ℕ) (c : Cursor) (parent left : ℕ) (g : Ready s rows c parent) where
-  pub default-none : (c .kind ≡ 11 → ⊥) → Went 0 s rows rows c c parent left defaultStack
+  pub default-none : (c .kind ≡ kindOf equals → ⊥) → Went 0 s rows rows c c parent left defaultStack
   unfolding factored language choose
   default-none h =
       record {
@@ -35,16 +35,16 @@ module _ (s rows : List ℕ) (c : Cursor) (parent left : ℕ) (g : Ready s rows 
         few = g .few;
         looks = g .looks;
         on = omega arith;
-        goes = λ σ o q t f. null s c (g .within) (g .looks) rows (c .rows) o left q σ DefaultValue? {α = []} (List·Memᴰ·head refl) tt refl (λ y. not (is 11 y)) (not-is 11 (c .kind) h) tt;
+        goes = λ σ o q t f. null s c (g .within) (g .looks) rows (c .rows) o left q σ DefaultValue? {α = []} (List·Memᴰ·head refl) tt refl (λ y. not (is (kindOf equals) y)) (not-is (kindOf equals) (c .kind) h) tt;
       }
 
-  module _ (h : c .kind ≡ 11) where
+  module _ (h : c .kind ≡ kindOf equals) where
     default-past : (σ : Stack) (o : List ℕ) (q : Counts) → overCounts q ≡ false → at s rows c o left q (defaultStack ++ σ) ≡ go (st rows (c .rows) o (c .end) left q) (nt ConstValue ∷ σ) (from s (c .end))
     unfolding factored language
     default-past σ o q f =
-        first s c (g .within) (g .looks) rows (c .rows) o left q σ DefaultValue? {α = nt DefaultValue ∷ []} (List·Memᴰ·tail (List·Memᴰ·head refl)) 10 h tt
-        ∙ first s c (g .within) (g .looks) rows (c .rows) o left q σ DefaultValue {α = tm (the equals) ∷ nt ConstValue ∷ []} (List·Memᴰ·head refl) 10 h tt
-        ∙ plain s c (g .within) (g .looks) rows (c .rows) o left q (nt ConstValue ∷ σ) (the equals) 10 h tt tt (g .few) f
+        first s c (g .within) (g .looks) rows (c .rows) o left q σ DefaultValue? {α = nt DefaultValue ∷ []} (List·Memᴰ·tail (List·Memᴰ·head refl)) equals h tt
+        ∙ first s c (g .within) (g .looks) rows (c .rows) o left q σ DefaultValue {α = tm (the equals) ∷ nt ConstValue ∷ []} (List·Memᴰ·head refl) equals h tt
+        ∙ plain s c (g .within) (g .looks) rows (c .rows) o left q (nt ConstValue ∷ σ) (the equals) equals h tt tt (g .few) f
 
     module _ (r : Read) (e : r ≡ movedTo (c .end) (c .rows) (headOf (from s (c .end)))) where
       pub default-bad : (rows′ : List ℕ) (x : Refusal) → r ≡ Refused x → Said 0 s rows rows′ c parent left defaultStack r

@@ -7,7 +7,7 @@ use native.Mathlib.Omega.{arith}
 use lib.ListN.{length}
 use Rattle.paper.specs.Grammar.{nt, tm, act}
 use Rattle.paper.specs.Numbers.{mostRows, kindVariableDefinition}
-use Rattle.paper.specs.Language.{language, the, anyName, dollar, colon, named, Name}
+use Rattle.paper.specs.Language.{language, the, anyName, dollar, colon, named, Name, n-other}
 use Rattle.paper.specs.Rows.{top}
 use Rattle.paper.specs.Sizes.{Counts, kinded, overCounts}
 use Rattle.paper.specs.declared.Refusal.{Refusal}
@@ -15,7 +15,7 @@ use Rattle.paper.proofs.Lexing.{from}
 use Rattle.paper.proofs.Machine.{choose}
 use Rattle.paper.proofs.Tables.{factored}
 use Rattle.paper.proofs.Going.{Stack, st, go}
-use Rattle.text_scan.specs.Head.{headOf}
+use Rattle.text_scan.specs.Head.{headOf, kindOf}
 use Rattle.text_cursor.specs.Reader.{Ready, at, movedTo, noGoingOf}
 use Rattle.text_cursor.specs.declared.Cursor.{Cursor}
 use Rattle.text_cursor.specs.declared.Read.{Read}
@@ -27,14 +27,14 @@ use Rattle.text_variables.specs.Counted.{CountedSaid, opens}
 use Rattle.text_variables.specs.Variables.{oneVariableMore, variableBegun, headStack}
 use Rattle.text_variables.proofs.CountedLaws.{variable-fine}
 
-module _ (s rows : List ℕ) (c : Cursor) (parent : ℕ) (g : Ready s rows c parent) (h : c .kind ≡ 7) (room : c .rows < mostRows) where
+module _ (s rows : List ℕ) (c : Cursor) (parent : ℕ) (g : Ready s rows c parent) (h : c .kind ≡ kindOf dollar) (room : c .rows < mostRows) where
   -- at the dollar
   dollar-past : (left : ℕ) (σ : Stack) (o : List ℕ) (q : Counts) → top o ≡ parent → overCounts q ≡ false → oneVariableMore q →
       at s rows c o left q (headStack ++ σ) ≡ go (st (put rows (c .rows) kindVariableDefinition (c .start) 0 parent 0 0 0) (c .rows + 1) (c .rows ∷ o) (c .end) left (kinded kindVariableDefinition q)) (act named ∷ nt Name ∷ tm (the colon) ∷ σ) (from s (c .end))
   dollar-past left σ o q t f k =
       row-opens rows (c .rows) o (c .stop) left q (tm (the dollar) ∷ act named ∷ nt Name ∷ tm (the colon) ∷ σ) (from s (c .stop)) kindVariableDefinition 0
       ∙ rw (start-in s c (g .looks), t)
-      (plain s c (g .within) (g .looks) (put rows (c .rows) kindVariableDefinition (c .start) 0 parent 0 0 0) (c .rows + 1) (c .rows ∷ o) left (kinded kindVariableDefinition q) (act named ∷ nt Name ∷ tm (the colon) ∷ σ) (the dollar) 6 h tt tt (omega arith) (variable-fine q f k))
+      (plain s c (g .within) (g .looks) (put rows (c .rows) kindVariableDefinition (c .start) 0 parent 0 0 0) (c .rows + 1) (c .rows ∷ o) left (kinded kindVariableDefinition q) (act named ∷ nt Name ∷ tm (the colon) ∷ σ) (the dollar) dollar h tt tt (omega arith) (variable-fine q f k))
 
   module _ (r : Read) (e : r ≡ movedTo (c .end) (c .rows + 1) (headOf (from s (c .end)))) where
     pub head-bad : (rows′ : List ℕ) (x : Refusal) → r ≡ Refused x → (left : ℕ) → CountedSaid 1 s rows rows′ c parent left headStack (opens (c .rows)) oneVariableMore variableBegun r
@@ -69,20 +69,20 @@ module _ (s rows : List ℕ) (c : Cursor) (parent : ℕ) (g : Ready s rows c par
           (name-told rows (c .rows + 1) o (d .stop) left (kinded kindVariableDefinition q) (nt Name ∷ tm (the colon) ∷ σ) (from s (d .stop)) (c .rows) kindVariableDefinition (c .start) 0 parent 0 0 0
           ∙ rw (start-in s d (n .looks), stop-in s d (n .looks), n .rows) refl))
 
-      pub head-nameless : (rows′ : List ℕ) → (d .kind ≡ 1 → ⊥) → (t : Read) → t ≡ noGoingOf d → (left : ℕ) → CountedSaid 1 s rows rows′ c parent left headStack (opens (c .rows)) oneVariableMore variableBegun t
+      pub head-nameless : (rows′ : List ℕ) → (d .kind ≡ kindOf n-other → ⊥) → (t : Read) → t ≡ noGoingOf d → (left : ℕ) → CountedSaid 1 s rows rows′ c parent left headStack (opens (c .rows)) oneVariableMore variableBegun t
       unfolding factored language choose refuses refusesEnd
       head-nameless rows′ k t z left =
           rw z (λ σ o q t f m. name-at left σ o q t f m
-          ∙ refuse s d name-within (next .looks) cells (d .rows) (c .rows ∷ o) left (kinded kindVariableDefinition q) (tm (the colon) ∷ σ) Name (λ y. not (is 1 y)) (not-is 1 (d .kind) k) tt tt)
+          ∙ refuse s d name-within (next .looks) cells (d .rows) (c .rows ∷ o) left (kinded kindVariableDefinition q) (tm (the colon) ∷ σ) Name (λ y. not (is (kindOf n-other) y)) (not-is (kindOf n-other) (d .kind) k) tt tt)
 
-      module _ (k : d .kind ≡ 1) where
+      module _ (k : d .kind ≡ kindOf n-other) where
         name-past : (left : ℕ) (σ : Stack) (o : List ℕ) (q : Counts) → top o ≡ parent → overCounts q ≡ false → oneVariableMore q →
             at s rows c o left q (headStack ++ σ) ≡ go (st cells (c .rows + 1) (c .rows ∷ o) (d .end) left (kinded kindVariableDefinition q)) (tm (the colon) ∷ σ) (from s (d .end))
         unfolding factored language
         name-past left σ o q t f m =
             name-at left σ o q t f m
-            ∙ first s d name-within (next .looks) cells (d .rows) (c .rows ∷ o) left (kinded kindVariableDefinition q) (tm (the colon) ∷ σ) Name {α = tm anyName ∷ []} (List·Memᴰ·head refl) 0 k tt
-            ∙ plain s d name-within (next .looks) cells (d .rows) (c .rows ∷ o) left (kinded kindVariableDefinition q) (tm (the colon) ∷ σ) anyName 0 k tt tt (omega (arith, next .rows)) (variable-fine q f m)
+            ∙ first s d name-within (next .looks) cells (d .rows) (c .rows ∷ o) left (kinded kindVariableDefinition q) (tm (the colon) ∷ σ) Name {α = tm anyName ∷ []} (List·Memᴰ·head refl) n-other k tt
+            ∙ plain s d name-within (next .looks) cells (d .rows) (c .rows ∷ o) left (kinded kindVariableDefinition q) (tm (the colon) ∷ σ) anyName n-other k tt tt (omega (arith, next .rows)) (variable-fine q f m)
             ∙ rw (next .rows) refl
 
         module _ (u : Read) (i : u ≡ movedTo (d .end) (c .rows + 1) (headOf (from s (d .end)))) where
@@ -104,17 +104,17 @@ module _ (s rows : List ℕ) (c : Cursor) (parent : ℕ) (g : Ready s rows c par
                 at s rows c o left q (headStack ++ σ) ≡ at s cells b (c .rows ∷ o) left (kinded kindVariableDefinition q) (tm (the colon) ∷ σ)
             colon-at left σ o q t f m = let n = next-2 in name-past left σ o q t f m ∙ rw (n .stop, n .rows) refl
 
-            pub head-colonless : (rows′ : List ℕ) → (b .kind ≡ 10 → ⊥) → (t : Read) → t ≡ noGoingOf b → (left : ℕ) → CountedSaid 1 s rows rows′ c parent left headStack (opens (c .rows)) oneVariableMore variableBegun t
+            pub head-colonless : (rows′ : List ℕ) → (b .kind ≡ kindOf colon → ⊥) → (t : Read) → t ≡ noGoingOf b → (left : ℕ) → CountedSaid 1 s rows rows′ c parent left headStack (opens (c .rows)) oneVariableMore variableBegun t
             head-colonless rows′ j t a left =
                 rw a (λ σ o q t f m. colon-at left σ o q t f m
-                ∙ lacks s b colon-within (next-2 .looks) cells (b .rows) (c .rows ∷ o) left (kinded kindVariableDefinition q) σ (the colon) (λ y. not (is 10 y)) (not-is 10 (b .kind) j) tt)
+                ∙ lacks s b colon-within (next-2 .looks) cells (b .rows) (c .rows ∷ o) left (kinded kindVariableDefinition q) σ (the colon) (λ y. not (is (kindOf colon) y)) (not-is (kindOf colon) (b .kind) j) tt)
 
-            module _ (j : b .kind ≡ 10) where
+            module _ (j : b .kind ≡ kindOf colon) where
               colon-past : (left : ℕ) (σ : Stack) (o : List ℕ) (q : Counts) → top o ≡ parent → overCounts q ≡ false → oneVariableMore q →
                   at s rows c o left q (headStack ++ σ) ≡ go (st cells (c .rows + 1) (c .rows ∷ o) (b .end) left (kinded kindVariableDefinition q)) σ (from s (b .end))
               colon-past left σ o q t f m =
                   colon-at left σ o q t f m
-                  ∙ plain s b colon-within (next-2 .looks) cells (b .rows) (c .rows ∷ o) left (kinded kindVariableDefinition q) σ (the colon) 9 j tt tt (omega (arith, next-2 .rows)) (variable-fine q f m)
+                  ∙ plain s b colon-within (next-2 .looks) cells (b .rows) (c .rows ∷ o) left (kinded kindVariableDefinition q) σ (the colon) colon j tt tt (omega (arith, next-2 .rows)) (variable-fine q f m)
                   ∙ rw (next-2 .rows) refl
 
               pub head-says : (rows′ : List ℕ) → rows′ ≡ cells → (a : Read) → a ≡ movedTo (b .end) (c .rows + 1) (headOf (from s (b .end))) → (left : ℕ) →

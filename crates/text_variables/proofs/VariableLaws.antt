@@ -16,6 +16,7 @@ use Rattle.paper.proofs.Lexing.{from}
 use Rattle.paper.proofs.Machine.{choose}
 use Rattle.paper.proofs.Tables.{factored}
 use Rattle.paper.proofs.Going.{Stack, st, go}
+use Rattle.text_scan.specs.Head.{kindOf}
 use Rattle.text_cursor.specs.Reader.{Ready, at, noGoingOf, Said}
 use Rattle.text_cursor.specs.declared.Cursor.{Cursor}
 use Rattle.text_cursor.specs.declared.Read.{Read}
@@ -37,14 +38,14 @@ abbrev defaultEnd : Stack → Stack
 defaultEnd σ = nt DefaultValue? ∷ act end ∷ σ
 
 module _ (s rows : List ℕ) (c : Cursor) (parent left before : ℕ) (g : Ready s rows c parent) where
-  pub variable-none : (rows′ : List ℕ) → (c .kind ≡ 7 → ⊥) → (r : Read) → r ≡ noGoingOf c → CountedSaid 1 s rows rows′ c parent left definitionStack stays (variablesAre before) (variablesBecome (before + 1)) r
+  pub variable-none : (rows′ : List ℕ) → (c .kind ≡ kindOf dollar → ⊥) → (r : Read) → r ≡ noGoingOf c → CountedSaid 1 s rows rows′ c parent left definitionStack stays (variablesAre before) (variablesBecome (before + 1)) r
   unfolding factored language choose refuses refusesEnd
-  variable-none rows′ h r e = rw e (λ σ o q t f k. refuse s c (g .within) (g .looks) rows (c .rows) o left q σ VariableDefinition (λ y. not (is 7 y)) (not-is 7 (c .kind) h) tt tt)
+  variable-none rows′ h r e = rw e (λ σ o q t f k. refuse s c (g .within) (g .looks) rows (c .rows) o left q σ VariableDefinition (λ y. not (is (kindOf dollar) y)) (not-is (kindOf dollar) (c .kind) h) tt tt)
 
-  module _ (h : c .kind ≡ 7) where
+  module _ (h : c .kind ≡ kindOf dollar) where
     variable-first : (σ : Stack) (o : List ℕ) (q : Counts) → at s rows c o left q (definitionStack ++ σ) ≡ at s rows c o left q (headStack ++ (typeStack ++ defaultEnd σ))
     unfolding factored language
-    variable-first σ o q = first s c (g .within) (g .looks) rows (c .rows) o left q σ VariableDefinition {α = headStack ++ (typeStack ++ defaultEnd [])} (List·Memᴰ·head refl) 6 h tt
+    variable-first σ o q = first s c (g .within) (g .looks) rows (c .rows) o left q σ VariableDefinition {α = headStack ++ (typeStack ++ defaultEnd [])} (List·Memᴰ·head refl) dollar h tt
 
     variable-row : (σ : Stack) (o : List ℕ) (q : Counts) → top o ≡ parent →
         at s rows c o left q (definitionStack ++ σ)
@@ -59,14 +60,14 @@ module _ (s rows : List ℕ) (c : Cursor) (parent left before : ℕ) (g : Ready 
     variable-full k σ o q t f m =
         variable-row σ o q t
         ∙ too-many-rows s c (g .within) (g .looks) (put rows (c .rows) kindVariableDefinition (c .start) 0 parent 0 0 0) (c .rows + 1) (c .rows ∷ o) left (kinded kindVariableDefinition q)
-        (act named ∷ nt Name ∷ tm (the colon) ∷ (typeStack ++ defaultEnd σ)) (the dollar) 6 h tt tt (omega arith)
+        (act named ∷ nt Name ∷ tm (the colon) ∷ (typeStack ++ defaultEnd σ)) (the dollar) dollar h tt tt (omega arith)
 
     module _ (room : c .rows ≡ mostRows → ⊥) where
       pub variable-many : before ≡ mostVariables → CountedHalts s rows c parent left definitionStack (variablesAre before) (TooMany (c .start))
       variable-many k σ o q t f m =
           variable-row σ o q t
           ∙ too-many s c (g .within) (g .looks) (put rows (c .rows) kindVariableDefinition (c .start) 0 parent 0 0 0) (c .rows + 1) (c .rows ∷ o) left (kinded kindVariableDefinition q)
-          (act named ∷ nt Name ∷ tm (the colon) ∷ (typeStack ++ defaultEnd σ)) (the dollar) 6 h tt tt (omega (arith, g .few, room)) (variable-over q f (omega arith))
+          (act named ∷ nt Name ∷ tm (the colon) ∷ (typeStack ++ defaultEnd σ)) (the dollar) dollar h tt tt (omega (arith, g .few, room)) (variable-over q f (omega arith))
 
       module _ (k : before ≡ mostVariables → ⊥) where
         one-more : (q : Counts) → overCounts q ≡ false → variablesAre before q → oneVariableMore q

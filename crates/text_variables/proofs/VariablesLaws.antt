@@ -9,7 +9,7 @@ use lib.ListN.{length}
 use borrow.Author.Tests.{eqb-true, eqb-false}
 use Rattle.paper.specs.Grammar.{nt, tm}
 use Rattle.paper.specs.Numbers.{mostRows, rowsSize}
-use Rattle.paper.specs.Language.{language, the, parenL, parenR, VariableDefinitions, VariableDefinition+, VariableDefinition*, VariableDefinition}
+use Rattle.paper.specs.Language.{language, the, parenL, parenR, VariableDefinitions, VariableDefinition+, VariableDefinition*, VariableDefinition, dollar}
 use Rattle.paper.specs.Rows.{top}
 use Rattle.paper.specs.Sizes.{Counts, overCounts}
 use Rattle.paper.specs.declared.Refusal.{Refusal}
@@ -18,7 +18,7 @@ use Rattle.paper.proofs.Lexing.{from}
 use Rattle.paper.proofs.Machine.{choose}
 use Rattle.paper.proofs.Tables.{factored}
 use Rattle.paper.proofs.Going.{Stack, st, go}
-use Rattle.text_scan.specs.Head.{headOf}
+use Rattle.text_scan.specs.Head.{headOf, kindOf}
 use Rattle.text_cursor.specs.Reader.{Looks, Ready, at, movedTo}
 use Rattle.text_cursor.specs.declared.Cursor.{Cursor}
 use Rattle.text_cursor.specs.declared.Read.{Read}
@@ -40,26 +40,26 @@ listStack = nt VariableDefinitions ∷ []
 plus-more : (s : List ℕ) (d : Cursor) → d .stop ≤ length s → Looks s d → (cells o : List ℕ) (left : ℕ) (q : Counts) (σ : Stack) →
     at s cells d o left q (nt VariableDefinition+ ∷ tm (the parenR) ∷ σ) ≡ at s cells d o left q (moreStack σ)
 unfolding factored language choose refuses refusesEnd
-plus-more s d i l cells o left q σ = by (eqb (d .kind) 7) refl
+plus-more s d i l cells o left q σ = by (eqb (d .kind) (kindOf dollar)) refl
   where
-    by : (b : Bool) → eqb (d .kind) 7 ≡ b → at s cells d o left q (nt VariableDefinition+ ∷ tm (the parenR) ∷ σ) ≡ at s cells d o left q (moreStack σ)
-    by true e = first s d i l cells (d .rows) o left q (tm (the parenR) ∷ σ) VariableDefinition+ {α = nt VariableDefinition ∷ nt VariableDefinition* ∷ []} (List·Memᴰ·head refl) 6 (eqb-true (d .kind) 7 e) tt
+    by : (b : Bool) → eqb (d .kind) (kindOf dollar) ≡ b → at s cells d o left q (nt VariableDefinition+ ∷ tm (the parenR) ∷ σ) ≡ at s cells d o left q (moreStack σ)
+    by true e = first s d i l cells (d .rows) o left q (tm (the parenR) ∷ σ) VariableDefinition+ {α = nt VariableDefinition ∷ nt VariableDefinition* ∷ []} (List·Memᴰ·head refl) dollar (eqb-true (d .kind) (kindOf dollar) e) tt
     by false e =
-        refuse s d i l cells (d .rows) o left q (tm (the parenR) ∷ σ) VariableDefinition+ (λ y. not (is 7 y)) (not-is 7 (d .kind) (eqb-false (d .kind) 7 e)) tt tt
-        ∙ sym (refuse s d i l cells (d .rows) o left q (nt VariableDefinition* ∷ tm (the parenR) ∷ σ) VariableDefinition (λ y. not (is 7 y)) (not-is 7 (d .kind) (eqb-false (d .kind) 7 e)) tt tt)
+        refuse s d i l cells (d .rows) o left q (tm (the parenR) ∷ σ) VariableDefinition+ (λ y. not (is (kindOf dollar) y)) (not-is (kindOf dollar) (d .kind) (eqb-false (d .kind) (kindOf dollar) e)) tt tt
+        ∙ sym (refuse s d i l cells (d .rows) o left q (nt VariableDefinition* ∷ tm (the parenR) ∷ σ) VariableDefinition (λ y. not (is (kindOf dollar) y)) (not-is (kindOf dollar) (d .kind) (eqb-false (d .kind) (kindOf dollar) e)) tt tt)
 
 -- so are those behind a definition, where no parenthesis closes them
-star-more : (s : List ℕ) (d : Cursor) → d .stop ≤ length s → Looks s d → (d .kind ≡ 9 → ⊥) → (cells o : List ℕ) (left : ℕ) (q : Counts) (σ : Stack) →
+star-more : (s : List ℕ) (d : Cursor) → d .stop ≤ length s → Looks s d → (d .kind ≡ kindOf parenR → ⊥) → (cells o : List ℕ) (left : ℕ) (q : Counts) (σ : Stack) →
     at s cells d o left q (nt VariableDefinition* ∷ tm (the parenR) ∷ σ) ≡ at s cells d o left q (moreStack σ)
 unfolding factored language choose refuses refusesEnd
-star-more s d i l h cells o left q σ = by (eqb (d .kind) 7) refl
+star-more s d i l h cells o left q σ = by (eqb (d .kind) (kindOf dollar)) refl
   where
-    by : (b : Bool) → eqb (d .kind) 7 ≡ b → at s cells d o left q (nt VariableDefinition* ∷ tm (the parenR) ∷ σ) ≡ at s cells d o left q (moreStack σ)
-    by true e = first s d i l cells (d .rows) o left q (tm (the parenR) ∷ σ) VariableDefinition* {α = nt VariableDefinition ∷ nt VariableDefinition* ∷ []} (List·Memᴰ·tail (List·Memᴰ·head refl)) 6 (eqb-true (d .kind) 7 e) tt
+    by : (b : Bool) → eqb (d .kind) (kindOf dollar) ≡ b → at s cells d o left q (nt VariableDefinition* ∷ tm (the parenR) ∷ σ) ≡ at s cells d o left q (moreStack σ)
+    by true e = first s d i l cells (d .rows) o left q (tm (the parenR) ∷ σ) VariableDefinition* {α = nt VariableDefinition ∷ nt VariableDefinition* ∷ []} (List·Memᴰ·tail (List·Memᴰ·head refl)) dollar (eqb-true (d .kind) (kindOf dollar) e) tt
     by false e =
-        null s d i l cells (d .rows) o left q (tm (the parenR) ∷ σ) VariableDefinition* {α = []} (List·Memᴰ·head refl) tt refl (λ y. not (is 7 y)) (not-is 7 (d .kind) (eqb-false (d .kind) 7 e)) tt
-        ∙ lacks s d i l cells (d .rows) o left q σ (the parenR) (λ y. not (is 9 y)) (not-is 9 (d .kind) h) tt
-        ∙ sym (refuse s d i l cells (d .rows) o left q (nt VariableDefinition* ∷ tm (the parenR) ∷ σ) VariableDefinition (λ y. not (is 7 y)) (not-is 7 (d .kind) (eqb-false (d .kind) 7 e)) tt tt)
+        null s d i l cells (d .rows) o left q (tm (the parenR) ∷ σ) VariableDefinition* {α = []} (List·Memᴰ·head refl) tt refl (λ y. not (is (kindOf dollar) y)) (not-is (kindOf dollar) (d .kind) (eqb-false (d .kind) (kindOf dollar) e)) tt
+        ∙ lacks s d i l cells (d .rows) o left q σ (the parenR) (λ y. not (is (kindOf parenR) y)) (not-is (kindOf parenR) (d .kind) h) tt
+        ∙ sym (refuse s d i l cells (d .rows) o left q (nt VariableDefinition* ∷ tm (the parenR) ∷ σ) VariableDefinition (λ y. not (is (kindOf dollar) y)) (not-is (kindOf dollar) (d .kind) (eqb-false (d .kind) (kindOf dollar) e)) tt tt)
 
 -- i definitions are read, from d₀ to d
 pub record Turns (s rows₀ rows : List ℕ) (d₀ d : Cursor) (parent left i : ℕ) : Type 0 where
@@ -76,19 +76,19 @@ turns-none s rows d parent left g =
     record { size = g .size; within = g .within; few = g .few; looks = g .looks; on = omega arith; goes = λ σ o q t f m. (q, f, (refl, m), refl) }
 
 -- AT THE PARENTHESIS
-module _ (s rows : List ℕ) (c : Cursor) (parent left : ℕ) (g : Ready s rows c parent) (h : c .kind ≡ 8) where
+module _ (s rows : List ℕ) (c : Cursor) (parent left : ℕ) (g : Ready s rows c parent) (h : c .kind ≡ kindOf parenL) where
   pub list-deep : left ≡ 0 → CountedHalts s rows c parent left listStack (variablesAre 0) (TooDeep (c .start))
   unfolding factored language
   list-deep k σ o q t f m =
-      first s c (g .within) (g .looks) rows (c .rows) o left q σ VariableDefinitions {α = tm (the parenL) ∷ nt VariableDefinition+ ∷ tm (the parenR) ∷ []} (List·Memᴰ·head refl) 7 h tt
-      ∙ too-deep s c (g .within) (g .looks) rows (c .rows) o left q (nt VariableDefinition+ ∷ tm (the parenR) ∷ σ) (the parenL) 7 h tt tt k
+      first s c (g .within) (g .looks) rows (c .rows) o left q σ VariableDefinitions {α = tm (the parenL) ∷ nt VariableDefinition+ ∷ tm (the parenR) ∷ []} (List·Memᴰ·head refl) parenL h tt
+      ∙ too-deep s c (g .within) (g .looks) rows (c .rows) o left q (nt VariableDefinition+ ∷ tm (the parenR) ∷ σ) (the parenL) parenL h tt tt k
 
   module _ (k : left ≡ 0 → ⊥) where
     list-past : (σ : Stack) (o : List ℕ) (q : Counts) → overCounts q ≡ false → at s rows c o left q (listStack ++ σ) ≡ go (st rows (c .rows) o (c .end) (left - 1) q) (nt VariableDefinition+ ∷ tm (the parenR) ∷ σ) (from s (c .end))
     unfolding factored language
     list-past σ o q f =
-        first s c (g .within) (g .looks) rows (c .rows) o left q σ VariableDefinitions {α = tm (the parenL) ∷ nt VariableDefinition+ ∷ tm (the parenR) ∷ []} (List·Memᴰ·head refl) 7 h tt
-        ∙ opening s c (g .within) (g .looks) rows (c .rows) o left q (nt VariableDefinition+ ∷ tm (the parenR) ∷ σ) (the parenL) 7 h tt tt (left - 1) (omega (arith, k)) (g .few) f
+        first s c (g .within) (g .looks) rows (c .rows) o left q σ VariableDefinitions {α = tm (the parenL) ∷ nt VariableDefinition+ ∷ tm (the parenR) ∷ []} (List·Memᴰ·head refl) parenL h tt
+        ∙ opening s c (g .within) (g .looks) rows (c .rows) o left q (nt VariableDefinition+ ∷ tm (the parenR) ∷ σ) (the parenL) parenL h tt tt (left - 1) (omega (arith, k)) (g .few) f
 
     module _ (r : Read) (e : r ≡ movedTo (c .end) (c .rows) (headOf (from s (c .end)))) where
       pub list-bad : (rows′ : List ℕ) (x : Refusal) → r ≡ Refused x → CountedSaid 1 s rows rows′ c parent left listStack stays (variablesAre 0) sameFragments r
@@ -118,7 +118,7 @@ module _ (s rows : List ℕ) (c : Cursor) (parent left : ℕ) (g : Ready s rows 
               ∙ counted-halts 1 s rows₁ rows₂ d parent (left - 1) (nt VariableDefinition ∷ []) u stays (variablesAre i) (variablesBecome (i + 1)) z x j (nt VariableDefinition* ∷ tm (the parenR) ∷ σ) o (a .0) t (a .1) (a .2 .1))
 
           module _ (rows₂ : List ℕ) (b : Cursor) (z : Counted 1 s rows₁ rows₂ d b parent (left - 1) (nt VariableDefinition ∷ []) stays (variablesAre i) (variablesBecome (i + 1))) where
-            pub turn-again : (b .kind ≡ 9 → ⊥) → Turns s rows rows₂ d₀ b parent (left - 1) (i + 1)
+            pub turn-again : (b .kind ≡ kindOf parenR → ⊥) → Turns s rows rows₂ d₀ b parent (left - 1) (i + 1)
             turn-again j =
                 record {
                   size = z .size;
@@ -132,7 +132,7 @@ module _ (s rows : List ℕ) (c : Cursor) (parent left : ℕ) (g : Ready s rows 
                       (y .0, y .1, (y .2 .0 ∙ a .2 .0, y .2 .1), a .3 ∙ y .3 ∙ star-more s b (z .within) (z .looks) j rows₂ o (left - 1) (y .0) σ);
                 }
 
-            module _ (j : b .kind ≡ 9) where
+            module _ (j : b .kind ≡ kindOf parenR) where
               pub close-end : b .end ≤ length s
               close-end = ahead s b (z .within) (z .looks) (λ z. let x : ⊥ = omega (arith, j) in x) .2
 
@@ -146,8 +146,8 @@ module _ (s rows : List ℕ) (c : Cursor) (parent left : ℕ) (g : Ready s rows 
                     y .1,
                     y .2 .0 ∙ a .2 .0,
                     list-begins σ o q f ∙ a .3 ∙ y .3
-                        ∙ null s b (z .within) (z .looks) rows₂ (b .rows) o (left - 1) (y .0) (tm (the parenR) ∷ σ) VariableDefinition* {α = []} (List·Memᴰ·head refl) tt refl (is 9) (rw j tt) tt
-                        ∙ closing s b (z .within) (z .looks) rows₂ (b .rows) o (left - 1) (y .0) σ (the parenR) 8 j tt tt (z .few) (y .1)
+                        ∙ null s b (z .within) (z .looks) rows₂ (b .rows) o (left - 1) (y .0) (tm (the parenR) ∷ σ) VariableDefinition* {α = []} (List·Memᴰ·head refl) tt refl (is (kindOf parenR)) (rw j tt) tt
+                        ∙ closing s b (z .within) (z .looks) rows₂ (b .rows) o (left - 1) (y .0) σ (the parenR) parenR j tt tt (z .few) (y .1)
                         ∙ (let p : suc (left - 1) ≡ left = omega (arith, k) in ap (λ (l : ℕ). go (st rows₂ (b .rows) o (b .end) l (y .0)) σ (from s (b .end))) p),
                   )
 

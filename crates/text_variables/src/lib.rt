@@ -19,7 +19,8 @@ ghost use mathlib.Core.List.{[], _∷_};
 ghost use Prim.Native.Nat.{ℕ, _+_, _<_};
 ghost use Rattle.paper.specs.Grammar.{nt};
 ghost use Rattle.paper.specs.Numbers.{mostRows};
-ghost use Rattle.paper.specs.Language.{VariableDefinitions, VariableDefinition, DefaultValue?};
+ghost use Rattle.paper.specs.Language.{VariableDefinitions, VariableDefinition, DefaultValue?, dollar, parenL};
+ghost use Rattle.text_scan.specs.Head.{kindOf};
 ghost use Rattle.text_cursor.specs.Reader.{Ready, Said};
 ghost use Rattle.text_variables.specs.Counted.{CountedSaid, stays, opens, variablesAre, sameFragments};
 ghost use Rattle.text_variables.specs.Variables.{oneVariableMore, variableBegun, variablesBecome, headStack};
@@ -42,7 +43,7 @@ fn default_if(s: &[u8], rows: &mut [u32], c: Cursor, parent: u32, left: u32) -> 
 
 // Variable and colon of a variable definition, at its $
 fn variable_head(s: &[u8], rows: &mut [u32], c: Cursor, parent: u32) -> Read
-    requires { ⌜ Ready (now s) (now rows) c parent × (c .kind ≡ 7) × (c .rows < mostRows) ⌝ }
+    requires { ⌜ Ready (now s) (now rows) c parent × (c .kind ≡ kindOf dollar) × (c .rows < mostRows) ⌝ }
     ensures { λ r. ⌜ ((left : ℕ) → CountedSaid 1 (now (s .entry)) (now (rows .entry)) (now (rows .exit)) c parent left headStack (opens (c .rows)) oneVariableMore variableBegun r) ⌝ }
 {
     let n = c.rows;
@@ -114,7 +115,7 @@ fn variable_definition(
 
 // VariableDefinitions, at their (
 pub fn variable_definitions(s: &[u8], rows: &mut [u32], c: Cursor, parent: u32, left: u32) -> Read
-    requires { ⌜ Ready (now s) (now rows) c parent × (c .kind ≡ 8) ⌝ }
+    requires { ⌜ Ready (now s) (now rows) c parent × (c .kind ≡ kindOf parenL) ⌝ }
     ensures { λ r. ⌜ CountedSaid 1 (now (s .entry)) (now (rows .entry)) (now (rows .exit)) c parent left (nt VariableDefinitions ∷ []) stays (variablesAre 0) sameFragments r ⌝ }
 {
     if left == 0 {

@@ -4,6 +4,8 @@ use Prim.Native.Nat.{_-_}
 use native.Mathlib.Omega.{arith}
 use borrow.Author.Needs.{needs}
 use lib.ListN.{length}
+use Rattle.paper.specs.Language.{atSign}
+use Rattle.text_scan.specs.Head.{kindOf}
 use Rattle.text_arguments.specs.Arguments.{directivesStack}
 use Rattle.text_arguments.specs.Passed.{Passed, shut}
 use Rattle.text_arguments.proofs.DirectivesLaws.{someMore, turn-first, turn-ready, turn-ends, turn-stops, turn-read, turn-more}
@@ -11,7 +13,7 @@ use Rattle.text_arguments.proofs.directives.Statement.{statement}
 use Rattle.text_arguments.proofs.directives.Tie as tie
 
 abbrev Inv-loop : tie.InvT-loop
-Inv-loop s rows₀ parent left d₀ rows d = Passed 0 s rows₀ rows d₀ d parent left left shut shut directivesStack someMore × (d .kind ≡ 12)
+Inv-loop s rows₀ parent left d₀ rows d = Passed 0 s rows₀ rows d₀ d parent left left shut shut directivesStack someMore × (d .kind ≡ kindOf atSign)
 
 abbrev μ-loop : tie.MeasureT-loop
 μ-loop s rows₀ parent left d₀ rows d = length s - d .stop
