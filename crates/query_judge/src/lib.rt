@@ -6,7 +6,11 @@ use query_links::FEW_ROWS;
 use query_links::FIRSTS;
 use query_links::KINDS;
 use query_links::ROWS;
+use table_entries::MIDDLE_CELLS;
+use table_entries::MIDDLE_TABLE;
 use table_entries::MOST_CELLS;
+use table_entries::SMALL_CELLS;
+use table_entries::SMALL_TABLE;
 ghost use mathlib.Core.Path.{_≡_};
 ghost use Prim.Native.Nat.{_≤_, _<_};
 ghost use lib.ListN.{length};
@@ -15,7 +19,7 @@ ghost use Rattle.paper_table.specs.Types.{tableOf};
 ghost use Rattle.paper_table.specs.Judging.{judge};
 ghost use Rattle.paper_table.specs.declared.TableAnswer.the-variants.{Accepted};
 ghost use Rattle.table_types.specs.Booked.{Booked};
-ghost use Rattle.table_entries.specs.Entries.{Entered};
+ghost use Rattle.table_entries.specs.Entries.{smallTable, middleTable, cellsFor, Entered};
 ghost use Rattle.paper_query.specs.QueryRules.{Judged};
 ghost use Rattle.query_rows.specs.Rowed.{rowsIn, docOf, Rowed, fewRows, roomOf};
 ghost use Rattle.query_links.specs.Links.{Kinds};
@@ -201,12 +205,59 @@ fn judge_entered(
     judge_many(t, book, es, s, rows, n)
 }
 
+// Makes the table's entries in what is lent for them, and judges the rows by them.
+fn judge_filled(
+    t: &[u8],
+    book: &[u32],
+    es: &mut [u16],
+    s: &[u8],
+    rows: &[u32],
+    n: usize,
+) -> QueryAnswer
+    requires { ⌜ (length (now t) ≤ mostTable) × (judge (now t) ≡ Accepted) × Booked (now t) (now book) × (cellsFor (length (now t)) ≤ length (now es)) × Rowed (now s) (now rows) n ⌝ }
+    ensures { λ r. ⌜ Judged (tableOf (now (t .entry))) (docOf (now (s .entry)) (now (rows .entry)) n) r ⌝ }
+{
+    table_entries::fill_entries(t, book, es);
+    judge_entered(t, book, es, s, rows, n)
+}
+
+// The same with entries for a small table: less is cleared.
+fn judge_small(t: &[u8], book: &[u32], s: &[u8], rows: &[u32], n: usize) -> QueryAnswer
+    requires { ⌜ (length (now t) ≤ smallTable) × (judge (now t) ≡ Accepted) × Booked (now t) (now book) × Rowed (now s) (now rows) n ⌝ }
+    ensures { λ r. ⌜ Judged (tableOf (now (t .entry))) (docOf (now (s .entry)) (now (rows .entry)) n) r ⌝ }
+{
+    let mut es = [0u16; SMALL_CELLS];
+    judge_filled(t, book, &mut es, s, rows, n)
+}
+
+// The same for one of middle size.
+fn judge_middle(t: &[u8], book: &[u32], s: &[u8], rows: &[u32], n: usize) -> QueryAnswer
+    requires { ⌜ (length (now t) ≤ middleTable) × (judge (now t) ≡ Accepted) × Booked (now t) (now book) × Rowed (now s) (now rows) n ⌝ }
+    ensures { λ r. ⌜ Judged (tableOf (now (t .entry))) (docOf (now (s .entry)) (now (rows .entry)) n) r ⌝ }
+{
+    let mut es = [0u16; MIDDLE_CELLS];
+    judge_filled(t, book, &mut es, s, rows, n)
+}
+
+// The same for any.
+fn judge_large(t: &[u8], book: &[u32], s: &[u8], rows: &[u32], n: usize) -> QueryAnswer
+    requires { ⌜ (length (now t) ≤ mostTable) × (judge (now t) ≡ Accepted) × Booked (now t) (now book) × Rowed (now s) (now rows) n ⌝ }
+    ensures { λ r. ⌜ Judged (tableOf (now (t .entry))) (docOf (now (s .entry)) (now (rows .entry)) n) r ⌝ }
+{
+    let mut es = [0u16; MOST_CELLS];
+    judge_filled(t, book, &mut es, s, rows, n)
+}
+
 // What is said of a document that was read, against an accepted table.
 pub fn first_break(t: &[u8], book: &[u32], s: &[u8], rows: &[u32], n: usize) -> QueryAnswer
     requires { ⌜ (length (now t) ≤ mostTable) × (judge (now t) ≡ Accepted) × Booked (now t) (now book) × Rowed (now s) (now rows) n ⌝ }
     ensures { λ r. ⌜ Judged (tableOf (now (t .entry))) (docOf (now (s .entry)) (now (rows .entry)) n) r ⌝ }
 {
-    let mut es = [0u16; MOST_CELLS];
-    table_entries::fill_entries(t, book, &mut es);
-    judge_entered(t, book, &es, s, rows, n)
+    if t.len() <= SMALL_TABLE {
+        return judge_small(t, book, s, rows, n);
+    }
+    if t.len() <= MIDDLE_TABLE {
+        return judge_middle(t, book, s, rows, n);
+    }
+    judge_large(t, book, s, rows, n)
 }

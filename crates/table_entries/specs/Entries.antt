@@ -42,6 +42,13 @@ entryAt e = cellsBefore + cellsEach * e
 abbrev pub cellsFor : ℕ → ℕ
 cellsFor size = entryAt (mostEntries size)
 
+-- up to how many bytes a table is small, or of middle size
+abbrev pub smallTable : ℕ
+smallTable = 748
+
+abbrev pub middleTable : ℕ
+middleTable = 4096
+
 -- entries up to number e lie in the list, and are no more than there may be
 pub record Roomy (es : List ℕ) (e : ℕ) : Type 0 where
   pub cells : entryAt e ≤ length es
