@@ -30,7 +30,7 @@ fn walk_with(
     requires { ⌜ WalkLent (now pairs) (now report) × (length (now t) ≤ mostTable) × (length (now pairs) ≡ pairsSize) × (length (now book) ≡ bookSize) ⌝ }
     ensures { λ r. ⌜ Walked (now (t .entry)) (now (plan .entry)) object (now (blocks .entry)) (now (variables .entry)) (now (pairs .entry)) (now (report .entry)) (now (pairs .exit)) (now (report .exit)) r ⌝ }
 {
-    let a = table_answer::judge_booked(t, book);
+    let a = table_answer::judge_with(t, book);
     let TableAnswer::Accepted = a else {
         call_buffers::clear(pairs, 0);
         return call_report::tell_table(report, a);

@@ -48,7 +48,7 @@ fn check_with(
     requires { ⌜ Lent (now rows) (now report) × Short (now table) (now document) × (length (now rows) ≡ rowsSize) × (length (now book) ≡ bookSize) ⌝ }
     ensures { λ r. ⌜ CheckedDocument (now (table .entry)) (now (document .entry)) (now (rows .entry)) (now (report .entry)) (now (rows .exit)) (now (report .exit)) r ⌝ }
 {
-    let a = table_answer::judge_booked(table, book);
+    let a = table_answer::judge_with(table, book);
     let TableAnswer::Accepted = a else {
         call_buffers::clear(rows, 0);
         return call_report::tell_table(report, a);

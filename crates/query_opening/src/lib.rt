@@ -160,7 +160,7 @@ pub fn open(table: &[u8], book: &mut [u32], document: &[u8], name: &[u8], rows: 
     requires { ⌜ Short (now table) (now document) × (length (now book) ≡ bookSize) × (length (now rows) ≡ rowsSize) ⌝ }
     ensures { λ r. ⌜ Opens (now (table .entry)) (now (document .entry)) (now (name .entry)) (now (rows .exit)) (now (book .exit)) r ⌝ }
 {
-    let a = table_answer::judge_booked(table, book);
+    let a = table_answer::judge_with(table, book);
     let TableAnswer::Accepted = a else {
         return Start::BadTable(a);
     };

@@ -9,15 +9,11 @@ use Rattle.paper_table.specs.House.{framingOffset}
 use Rattle.paper_table.specs.TableSizes.{countsOffset}
 use Rattle.paper_table.specs.Types.{tableOf}
 use Rattle.paper_table.specs.Judging.{judge, tableAnswer, breaks}
-use Rattle.paper_table.specs.declared.TableAnswer.{TableAnswer}
-use Rattle.paper_table.specs.declared.TableAnswer.the-variants.{Accepted, Framing, TooMany}
-use Rattle.paper_table.proofs.JudgingLaws.{judge-accepted}
+use Rattle.paper_table.specs.declared.TableAnswer.the-variants.{Framing, TooMany}
 use Rattle.paper_table.proofs.TableFits.{judged-first}
 use Rattle.table_book.specs.Book.{bookSize}
 use Rattle.table_types.specs.Booked.{Bookable, Booked}
 use Rattle.table_types.proofs.Fitting.{records-few, references-slim, members-fit}
-use Rattle.table_entries.specs.Entries.{cellsFor, Enterable}
-use Rattle.table_entries.proofs.Most.{framed-few}
 use Rattle.table_possible.specs.Possible.{bitsSize, Blank}
 use Rattle.table_judge.specs.Schema.{Checkable}
 use Rattle.table_framing.specs.declared.Framed.{Framed}
@@ -76,10 +72,6 @@ module _ (t book : List ℕ) where
 
   pub checkable : framingOffset t ≡ none → countsOffset t ≡ none → Booked t book → Checkable t book
   checkable f c b = record { booked = b; slim = references-slim t f c; few = members-fit t f c }
-
--- an accepted table has room in its entries
-pub enterable : (t book es : List ℕ) (r : TableAnswer) → length t ≤ mostTable → cellsFor (length t) ≤ length es → Judges t book r → r ≡ Accepted → Enterable t book es
-enterable t book es r h c j e = record { booked = j .booked e; few = framed-few t es (judge-accepted t .0 (sym (j .is) ∙ e) .0) h c }
 
 -- no bit of zeros is set
 zeros : (n k : ℕ) → getD {A = ℕ} (replicate n 0) k 0 ≡ 0

@@ -23,8 +23,6 @@ ghost use Rattle.table_framing.specs.Framing.{told};
 ghost use Rattle.table_rooms.specs.Rooms.{toldOver};
 ghost use Rattle.table_book.specs.Book.{bookSize};
 ghost use Rattle.table_possible.specs.Possible.{Blank};
-ghost use Rattle.table_entries.specs.Entries.{cellsFor, Entered};
-ghost use Rattle.paper_table.specs.declared.TableAnswer.the-variants.{Accepted};
 ghost use Rattle.table_answer.specs.Judges.{Judges};
 
 // The schema rules of a table whose framing and sizes are right. Two are scratch: which object can be which type, the book of one definition's
@@ -78,7 +76,7 @@ fn judge_framed(t: &[u8], book: &mut [u32], usual: bool) -> TableAnswer
 
 // What is said of a table. The book is lent for its definitions, and is the table's where it is accepted. Most tables are known to be right by
 // one walk; where that cannot tell, two others find the first offset that is not.
-pub fn judge_booked(t: &[u8], book: &mut [u32]) -> TableAnswer
+pub fn judge_with(t: &[u8], book: &mut [u32]) -> TableAnswer
     requires { ⌜ (length (now t) ≤ mostTable) × (length (now book) ≡ bookSize) ⌝ }
     ensures { λ r. ⌜ Judges (now (t .entry)) (now (book .exit)) r ⌝ }
 {
@@ -90,26 +88,13 @@ pub fn judge_booked(t: &[u8], book: &mut [u32]) -> TableAnswer
     }
 }
 
-// The same, and where the table is accepted the entries are its too: for callers that look up members and arguments.
-pub fn judge_with(t: &[u8], book: &mut [u32], es: &mut [u16]) -> TableAnswer
-    requires { ⌜ (length (now t) ≤ mostTable) × (length (now book) ≡ bookSize) × (cellsFor (length (now t)) ≤ length (now es)) ⌝ }
-    ensures { λ r. ⌜ Judges (now (t .entry)) (now (book .exit)) r × (r ≡ Accepted → Entered (now (t .entry)) (now (book .exit)) (now (es .exit))) ⌝ }
-{
-    let a = judge_booked(t, book);
-    let TableAnswer::Accepted = a else {
-        return a;
-    };
-    table_entries::fill_entries(t, book, es);
-    a
-}
-
 // What is said of a table, with a book of its own.
 pub fn judge_table(t: &[u8]) -> TableAnswer
     requires { ⌜ length (now t) ≤ mostTable ⌝ }
     ensures { λ r. ⌜ r ≡ judge (now (t .entry)) ⌝ }
 {
     let mut book = [0u32; BOOK_SIZE];
-    judge_booked(t, &mut book)
+    judge_with(t, &mut book)
 }
 
 // What `gw_check_table` answers: the sizes are tested, then the table is judged.

@@ -10,12 +10,12 @@ use Rattle.query_opening.proofs.open.Statement.{statement}
 use Rattle.query_opening.proofs.open.Tie as tie
 
 returns : tie.Need-returns
-returns c = is-bad-table _ _ _ [] [] _ (c .before .before .before .judge-booked .ensures .is) (not-accepted _ (c .match .keys2))
+returns c = is-bad-table _ _ _ [] [] _ (c .before .before .before .judge-with .ensures .is) (not-accepted _ (c .match .keys2))
 
 open-text-requires : tie.Need-open-text-requires
 open-text-requires c κs =
     let p = c .before .before .before .before .before .before .before .before .before .before .before .before .before .pre in
-    let w = c .before .before .before .before .before .before .judge-booked .ensures in
+    let w = c .before .before .before .before .before .before .judge-with .ensures in
     let e = c .before .before .enum-told .given .1 in
     (p .0, sym (w .is) ∙ e, w .booked e, p .2)
 
