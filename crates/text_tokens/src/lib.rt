@@ -52,7 +52,7 @@ pub fn is_mark(s: &[u8], i: usize) -> bool
     false
 }
 
-// Whether a byte is ignored by itself. All but the space lie below '-', so that a name is asked two questions.
+// Whether a byte is ignored by itself. The space comes first and the others lie below '-', so that a name is asked two questions.
 fn is_blank(b: u8) -> bool
     ensures { λ r. ⌜ r ≡ isBlank b ⌝ }
 {
