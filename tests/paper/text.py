@@ -53,6 +53,7 @@ extraFalse = 0
 extraTrue = 1
 wrapList = 1
 wrapNonNull = 2
+wrapBase = 4
 
 # ---- Language.antt: classes, terminals, productions
 
