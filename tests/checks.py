@@ -2,14 +2,11 @@
 """The table of docs/CHECKS.md: what each crate costs. Lines and edits are counted, seconds are read from what `rt check` or `rt ci` printed.
    tests/checks.py write [LOG..]   writes the table anew; a crate that no log has keeps its seconds
    tests/checks.py check           fails where a crate has no row or a row no crate, or the edits told are not those that there are"""
-import collections, glob, os, re, sys
-
-from edits import wrong_programs
+import glob, os, re, sys
 
 ROOT = os.path.dirname(os.path.dirname(os.path.abspath(__file__)))
 PAGE = os.path.join(ROOT, "docs/CHECKS.md")
-HEAD = "| Crate | check, s | code | definitions | laws | function proofs | wrong programs |\n|---|---|---|---|---|---|---|\n"
-WRONG = collections.Counter(w.crate for w in wrong_programs())
+HEAD = "| Crate | check, s | code | definitions | laws | function proofs | edits |\n|---|---|---|---|---|---|---|\n"
 ROW = re.compile(r"^\| `(\w+)` \| (\d+) \|.* (\d+) \|$", re.M)
 
 
@@ -29,10 +26,10 @@ def lines_of(pattern, comment):
 
 
 def numbers_of(name):
-    """lines of code, definitions, laws and function proofs, and the wrong programs"""
+    """lines of code, definitions, laws and function proofs, and the edits"""
     at = os.path.join(ROOT, "crates", name)
     return [lines_of(f"{at}/src/*.rt", "//"), lines_of(f"{at}/specs/*.antt", "--"), lines_of(f"{at}/proofs/*.antt", "--"),
-            lines_of(f"{at}/proofs/*/*.antt", "--"), WRONG[name]]
+            lines_of(f"{at}/proofs/*/*.antt", "--"), len(glob.glob(f"{at}/must-fail/*.edit"))]
 
 
 def write(logs):
@@ -57,8 +54,8 @@ def check():
     there = {name: numbers_of(name)[-1] for name in crates()}
     faults = [f"{name}: no row in docs/CHECKS.md" for name in there if name not in told]
     faults += [f"{name}: in docs/CHECKS.md, but no crate" for name in told if name not in there]
-    faults += [f"{name}: {told[name]} wrong programs told, {n} there" for name, n in there.items() if told.get(name, n) != n]
-    print("\n".join(faults + [f"checks: {len(there)} crates, {sum(there.values())} wrong programs, {len(faults)} faults"]))
+    faults += [f"{name}: {told[name]} edits told, {n} there" for name, n in there.items() if told.get(name, n) != n]
+    print("\n".join(faults + [f"checks: {len(there)} crates, {sum(there.values())} edits, {len(faults)} faults"]))
     return 1 if faults else 0
 
 

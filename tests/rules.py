@@ -10,8 +10,6 @@ import pathlib
 import re
 import sys
 
-from edits import wrong_programs
-
 ROOT = pathlib.Path(__file__).resolve().parent.parent
 DEFINES = r"(?m)^\s*(?:(?:unfoldable|abbrev|pub|data|record) )*{}\b"
 # the words by which a contract says two definitions that speak of all operations: what is least said of a variable up to one; whether two types differ
@@ -77,16 +75,17 @@ def numbers_named(line):
 
 
 def edit_faults(crate, edit, number, reach, found):
-    wrong = next((w for w in wrong_programs() if (w.crate, w.name) == (crate, edit)), None)
-    if not wrong:
+    path = ROOT / f"crates/{crate}/must-fail/{edit}.edit"
+    if not path.exists():
         yield f"no edit {crate}/{edit}"
         return
-    named = numbers_named(wrong.words)
+    lines = path.read_text().split("\n")
+    named = numbers_named(lines[0])
     if named:
         if number not in named:
             yield f"{crate}/{edit} is of rule {sorted(named)}"
         return
-    old = [old.strip() for _, old, _ in wrong.pairs]
+    old = [line[5:].strip() for line in lines if line.startswith("old: ")]
     changed = {name for name, (_, text, _) in found.items() if name.startswith(crate + "::") and any(o in text for o in old)}
     if not changed & reach:
         yield f"{crate}/{edit} changes {sorted(changed)}, which the row's functions do not call, and names no rule"

@@ -18,6 +18,8 @@ from paper import plans, rules, table, text, values  # noqa: E402
 
 CRATES = HERE.parent.parent / "crates"
 PARTS = {"paper": text, "paper_table": table, "paper_query": rules, "paper_values": values, "paper_plan": plans}
+# parts of the grammars that no production of the draft names; they are there for the proofs
+FOR_PROOFS = {"SpreadRest", "AliasRest", "Bang?", "Number", "NumberRest", "ExponentPart?", "FloatRest", "UnsignedPart"}
 
 
 def specs(crate):
@@ -75,6 +77,11 @@ def lexical_symbol(word):
 def same_grammar(name, written, symbol, wrong):
     given = productions(name, without_comments(specs("paper")))
     given = {part: [tuple(symbol(w) for w in a) for a in found] for part, found in given.items()}
+    for part in FOR_PROOFS & set(given):
+        used = [p for p, found in given.items() if p not in FOR_PROOFS for a in found for k, s in a if k == "nt" and s == part]
+        if used:
+            wrong.append(f"{name}: {part} is for the proofs and stands in {used}")
+    given = {part: found for part, found in given.items() if part not in FOR_PROOFS}
     if not given:
         wrong.append(f"{name}: no productions found")
     for part in sorted({*given, *written}):

@@ -1,14 +1,15 @@
 #!/usr/bin/env python3
-# Makes stdin and stdout of crates/vectors_run of the cases in parse.jsonl, tables.jsonl, check.jsonl, plan.jsonl, walk.jsonl and coerce_vars.jsonl with
-# coerce_args.jsonl beside it; with --check only says whether they are as it would make them. The form of a case is told in crates/vectors/src/lib.rt,
-# that of a plan, of a walk's second part and of a coercion in their modules of crates/vectors_run/src.
+# Makes stdin and stdout of crates/vectors_parse, vectors_tables, vectors_check, vectors_plan, vectors_walk and vectors_coerce of the cases in
+# parse.jsonl, tables.jsonl, check.jsonl, plan.jsonl, walk.jsonl and coerce_vars.jsonl with coerce_args.jsonl beside it; with --check only says
+# whether they are as it would make them. The form of a case is told in crates/vectors/src/lib.rt, that of a plan, of a walk's second part and of a
+# coercion in their programs' src/main.rt.
 import json
 import pathlib
 import struct
 import sys
 
 HERE = pathlib.Path(__file__).resolve().parent
-CRATE = HERE.parent.parent / "crates/vectors_run"
+CRATES = HERE.parent.parent / "crates"
 
 
 def numbers(ns):
@@ -115,46 +116,49 @@ def wrong_report(case, place):
     return [(table, document, other, rows, "OTHER") for other in (changed, report[:7] + [1])]
 
 
-# A case of a call: what stands before it, its bytes, and the line that the program is to write.
-
-def packed(call, name, n, report, same, *parts):
-    return numbers([call, n]) + b"".join(parts), "%s %d %d %d %s\n" % (name, n, report[0], report[1], same)
-
-
-def packed_calls(call, name, cases):
+def packed(cases):
+    stdin, stdout = [], []
     for n, (table, document, report, rows, same) in enumerate(cases, 1):
         parts = [bytes.fromhex(table), bytes.fromhex(document), numbers(rows)]
-        yield packed(call, name, n, report, same, numbers([len(part) for part in parts] + report), *parts)
+        stdin.append(numbers([len(part) for part in parts] + report) + b"".join(parts))
+        stdout.append("%d %d %d %s\n" % (n, report[0], report[1], same))
+    return {"stdin": b"".join(stdin), "stdout": "".join(stdout).encode()}
 
 
-def packed_plans(call, name, cases):
+def packed_plans(cases):
+    stdin, stdout = [], []
     for n, (*texts, report, plan, same) in enumerate(cases, 1):
-        table, document, operation = (bytes.fromhex(text) for text in texts)
+        table, document, name = (bytes.fromhex(text) for text in texts)
         entries = b"".join(numbers([place, number]) for place, number in enumerate(plan) if number)
-        head = numbers([len(table), len(document), len(entries)] + report + [len(operation)])
-        yield packed(call, name, n, report, same, head, table, document, operation, entries)
+        head = numbers([len(table), len(document), len(entries)] + report + [len(name)])
+        stdin.append(head + table + document + name + entries)
+        stdout.append("%d %d %d %s\n" % (n, report[0], report[1], same))
+    return {"stdin": b"".join(stdin), "stdout": "".join(stdout).encode()}
 
 
-def packed_coercions(call, names, cases):
-    for n, (which, row, *texts, report, value, same) in enumerate(cases, 1):
-        table, document, operation, variables = (bytes.fromhex(text) for text in texts)
+def packed_coercions(cases):
+    stdin, stdout = [], []
+    for n, (call, row, *texts, report, value, same) in enumerate(cases, 1):
+        table, document, name, variables = (bytes.fromhex(text) for text in texts)
         value = bytes.fromhex(value)
-        head = numbers([len(table), len(document), len(value)] + report) + numbers([len(operation), len(variables), which]) + struct.pack("<I", row)
-        yield packed(call, names[which], n, report, same, head, table, document, operation, variables, value)
+        head = numbers([len(table), len(document), len(value)] + report) + numbers([len(name), len(variables), call]) + struct.pack("<I", row)
+        stdin.append(head + table + document + name + variables + value)
+        stdout.append("%d %d %d %s\n" % (n, report[0], report[1], same))
+    return {"stdin": b"".join(stdin), "stdout": "".join(stdout).encode()}
 
 
 def main(check):
     wrong = 0
-    made = [*packed_calls(1, "gw_parse", parse_cases()), *packed_calls(2, "gw_check_table", table_cases()), *packed_calls(3, "gw_check", check_cases()),
-            *packed_plans(4, "gw_plan", plan_cases()), *packed_calls(5, "gw_walk", walk_cases()),
-            *packed_coercions(6, ("gw_coerce_variables", "gw_coerce_arguments"), coerce_cases())]
-    for name, data in {"stdin": b"".join(case for case, _ in made), "stdout": "".join(line for _, line in made).encode()}.items():
-        path = CRATE / name
-        if not check:
-            path.write_bytes(data)
-        elif not path.exists() or path.read_bytes() != data:
-            print("crates/vectors_run/%s is not what tests/vectors/pack.py makes" % name, file=sys.stderr)
-            wrong = 1
+    made = {"vectors_parse": packed(parse_cases()), "vectors_tables": packed(table_cases()), "vectors_check": packed(check_cases()),
+            "vectors_plan": packed_plans(plan_cases()), "vectors_walk": packed(walk_cases()), "vectors_coerce": packed_coercions(coerce_cases())}
+    for crate, files in made.items():
+        for name, data in files.items():
+            path = CRATES / crate / name
+            if not check:
+                path.write_bytes(data)
+            elif not path.exists() or path.read_bytes() != data:
+                print("crates/%s/%s is not what tests/vectors/pack.py makes" % (crate, name), file=sys.stderr)
+                wrong = 1
     return wrong
 
 

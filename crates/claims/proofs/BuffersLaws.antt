@@ -9,7 +9,6 @@ use lib.Seq.{take_at, drop_at}
 use Rattle.paper.specs.Numbers.{report_size, row_size, rows_size, most_rows, input_document}
 use Rattle.paper.specs.Grammar.{nt}
 use Rattle.paper.specs.Language.{Part, Document}
-use Rattle.paper.proofs.Nodes.{node}
 use Rattle.paper.specs.Tokens.{Text, Tokens}
 use Rattle.paper.specs.Rows.{Row, flat}
 use Rattle.paper.specs.Refusals.{number_of, shown_of}
@@ -36,9 +35,9 @@ few_rows : (n : Part) (s : List ℕ) (rs : List Row) → TextAnswer n (from s 0)
 few_rows n s rs d = of-cells (replicate rows_size 0) (length-replicate {A = ℕ} rows_size 0)
   where
     of-cells : (cells : List ℕ) → length cells ≡ rows_size → length rs ≤ most_rows
-    of-cells cells e = of-answer (go (start cells) (nt (node n) ∷ []) (from s 0)) refl
+    of-cells cells e = of-answer (go (start cells) (nt n ∷ []) (from s 0)) refl
       where
-        of-answer : (o : Out) → go (start cells) (nt (node n) ∷ []) (from s 0) ≡ o → length rs ≤ most_rows
+        of-answer : (o : Out) → go (start cells) (nt n ∷ []) (from s 0) ≡ o → length rs ≤ most_rows
         of-answer (whole m) q =
             let g = going_whole n (from s 0) cells m e q in
             subst (λ (z : List Row). length z ≤ most_rows) (rows_inj (said_one g.1 d)) g.3

@@ -11,7 +11,6 @@ use lib.Dec.{T}
 use lib.ListN.{length, drop, length-map, take-append-drop}
 use Rattle.paper.specs.Grammar.{nt, Ev}
 use Rattle.paper.specs.Language.{Class, Mark, Part}
-use Rattle.paper.proofs.Nodes.{node}
 use Rattle.paper.specs.Tokens.{Text}
 use Rattle.paper.specs.Rows.{Row, rows_of}
 use Rattle.paper.specs.Sizes.{Sums, nothing_counted, sums, through, over_levels, over_rows, over_counts}
@@ -58,11 +57,11 @@ by_one (c ∷ ts) (suc k) σ m s s' kp h h' =
     by_one ts k r.1 (sums r.0 m) s s' (kept_step fits σ c kp r.2) r.3
     (subst (λ (z : Stack). SummedBy z (sums r.0 m) ts k s') e.1 (subst (λ (z : Evs). SummedBy r'.1 (sums z m) ts k s') e.0 r'.3))
 
-of_summed : (n : Part) (ts : List Class) (k : ℕ) (s : Sums) → Summed n ts k s → SummedBy (nt (node n) ∷ []) nothing_counted ts k s
+of_summed : (n : Part) (ts : List Class) (k : ℕ) (s : Sums) → Summed n ts k s → SummedBy (nt n ∷ []) nothing_counted ts k s
 of_summed n ts k s h = record { inside = h.inside; later = h.later; events = h.events; derives = language→factored h.reads.0; reads = h.reads.1; are = h.are }
 
 pub summed_one : (n : Part) (ts : List Class) (k : ℕ) (s s' : Sums) → Summed n ts k s → Summed n ts k s' → s ≡ s'
-summed_one n ts k s s' h h' = by_one ts k (nt (node n) ∷ []) nothing_counted s s' (λ t z. absurd z, tt) (of_summed n ts k s h) (of_summed n ts k s' h')
+summed_one n ts k s s' h h' = by_one ts k (nt n ∷ []) nothing_counted s s' (λ t z. absurd z, tt) (of_summed n ts k s h) (of_summed n ts k s' h')
 
 -- the sums of a reading
 classes_length : (t : Text) → length (classes_of t) ≡ length (tokens_of t)

@@ -10,7 +10,6 @@ use lib.ListN.{length, drop, length-drop, length-map}
 use lib.Seq.{drop-nil, drop-drop}
 use Rattle.paper.specs.Grammar.{nt}
 use Rattle.paper.specs.Language.{Class, Mark, Part}
-use Rattle.paper.proofs.Nodes.{node}
 use Rattle.paper.specs.Lexical.{comment}
 use Rattle.paper.specs.Tokens.{Text, NoPiece, Longest, line_end, Tokens, starts_none, skips, comments, bad_comment, tokens}
 use Rattle.paper.specs.Numbers.{most_levels}
@@ -54,11 +53,11 @@ pub stop_one : (n : Part) (ts : List Class) (j k : ℕ) → j ≤ length ts → 
 stop_one n ts j k h h' s s' = let e = stops_only n ts j h s in let e' = stops_only n ts k h' s' in let q : machine.stopped j ≡ machine.stopped k = sym e ∙ e' in cc
 
 pub stop_some : (n : Part) (ts : List Class) → Is n ts ⊎ ((k : ℕ) × (k ≤ length ts) × StopsAt n ts k)
-stop_some n ts = go (machine.run graphql (nt (node n) ∷ []) ts) refl
+stop_some n ts = go (machine.run graphql (nt n ∷ []) ts) refl
   where
-    go : (a : machine.Answer Class Mark) → machine.run graphql (nt (node n) ∷ []) ts ≡ a → Is n ts ⊎ ((k : ℕ) × (k ≤ length ts) × StopsAt n ts k)
+    go : (a : machine.Answer Class Mark) → machine.run graphql (nt n ∷ []) ts ≡ a → Is n ts ⊎ ((k : ℕ) × (k ≤ length ts) × StopsAt n ts k)
     go (machine.accepted es) e = inl (es, accepts n ts e)
-    go (machine.stopped k) e = inr (k, bound ts (nt (node n) ∷ []) k e, stops n ts k e)
+    go (machine.stopped k) e = inr (k, bound ts (nt n ∷ []) k e, stops n ts k e)
 
 going_fault : (n : Part) (t : Text) (at : ℕ) → Fault n t (NoGoing at) →
     (k : ℕ) × (at ≡ place_of k t) × StopsAt n (classes_of t) k × ((k < length (tokens_of t)) ⊎ ((k ≡ length (tokens_of t)) × EndsWell t))

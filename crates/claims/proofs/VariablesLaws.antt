@@ -7,8 +7,7 @@ use lib.Dec.{T, eqb}
 use lib.ListN.{length, take}
 use Rattle.paper.specs.Grammar.{Sym, nt, tm, act, Ev, tok, mark, Derives, done, take as take-token, note, by}
 use Rattle.paper.specs.Numbers.{report_size, input_document, row_size, rows_size, most_rows, kind_operation, kind_fragment, kind_variable_definition}
-use Rattle.paper.specs.Language.{Class, Terminal, Mark, row, kind, named, wrapper, wrap, end, language, hits, VariablesText}
-use Rattle.paper.proofs.Nodes.{Node, node, wide}
+use Rattle.paper.specs.Language.{Class, Terminal, Mark, row, kind, named, wrapper, wrap, end, Part, language, hits, VariablesText}
 use Rattle.paper.specs.Tokens.{Text, Tokens}
 use Rattle.paper.specs.Rows.{Row, flat}
 use Rattle.paper.specs.Sizes.{Counts, Sums, nothing_counted, counted, sums, through, over_counts}
@@ -17,8 +16,7 @@ use Rattle.paper.specs.declared.Refusal.{Refusal}
 use Rattle.paper.specs.declared.Refusal.TheVariants.{Buffer, OverLength, NoToken, NoGoing, TooDeep, TooManyRows, TooMany}
 use Rattle.paper.specs.Refusals.{number_of, shown_in_text}
 use Rattle.paper.specs.Calls.{filled, tells}
-use Rattle.paper.proofs.Nodes.{ConstValue, ConstListValue, ConstValue+, ConstValue*, ConstObjectValue, ConstObjectField+, ConstObjectField*, ConstObjectField, EnumValue, Name}
-use Rattle.paper_theory.proofs.SameLanguage.{language→wide}
+use Rattle.paper.specs.Language.{ConstValue, ConstListValue, ConstValue+, ConstValue*, ConstObjectValue, ConstObjectField+, ConstObjectField*, ConstObjectField, EnumValue, Name}
 use Rattle.paper.proofs.Bools.{and_l, and_r, and_i, not_eq as not_true}
 use Rattle.paper_theory.proofs.Test.{all, all_at, all_mem, implies, implies_out}
 use Rattle.paper.proofs.Tables.{all_n, num_n, at_n}
@@ -51,16 +49,16 @@ variables_refused s rows rows' r e h = (from s 0, tokens_are s, going_halt Varia
 
 -- NO OTHER COUNT
 abbrev Syms : Type 0
-Syms = List (Sym Node Terminal Mark)
+Syms = List (Sym Part Terminal Mark)
 
 abbrev Evs : Type 0
 Evs = List (Ev Class Mark)
 
 -- the parts of a variables text
-abbrev constant : Node → Bool
+abbrev constant : Part → Bool
 constant n =
     oneNumber
-    (num_n (node VariablesText) ∷ num_n ConstValue ∷ num_n ConstListValue ∷ num_n ConstValue+ ∷ num_n ConstValue* ∷ num_n ConstObjectValue ∷ num_n ConstObjectField+ ∷ num_n ConstObjectField* ∷ num_n ConstObjectField ∷ num_n EnumValue ∷ num_n Name ∷ [])
+    (num_n VariablesText ∷ num_n ConstValue ∷ num_n ConstListValue ∷ num_n ConstValue+ ∷ num_n ConstValue* ∷ num_n ConstObjectValue ∷ num_n ConstObjectField+ ∷ num_n ConstObjectField* ∷ num_n ConstObjectField ∷ num_n EnumValue ∷ num_n Name ∷ [])
     (num_n n)
   where
     oneNumber : List ℕ → ℕ → Bool
@@ -82,14 +80,14 @@ plain (nt n ∷ ss) = constant n && plain ss
 plain (tm p ∷ ss) = plain ss
 plain (act a ∷ ss) = counts_none a && plain ss
 
-plain_tested : T (all (λ n. implies (constant n) (all (λ α. plain α) (wide n))) all_n)
+plain_tested : T (all (λ n. implies (constant n) (all (λ α. plain α) (language n))) all_n)
 unfolding language
 plain_tested = tt
 
-plain_part : (n : Node) {α : Syms} → T (constant n) → Memᴰ α (wide n) → T (plain α)
+plain_part : (n : Part) {α : Syms} → T (constant n) → Memᴰ α (language n) → T (plain α)
 plain_part n h m =
     all_mem (λ β. plain β)
-    (implies_out (constant n) (all (λ β. plain β) (wide n)) (all_at (λ k. implies (constant k) (all (λ β. plain β) (wide k))) all_n (num_n n) plain_tested (at_n n)) h)
+    (implies_out (constant n) (all (λ β. plain β) (language n)) (all_at (λ k. implies (constant k) (all (λ β. plain β) (language k))) all_n (num_n n) plain_tested (at_n n)) h)
     m
 
 plain_append : (α ss : Syms) → T (plain α) → T (plain ss) → T (plain (α ++ ss))
@@ -104,7 +102,7 @@ RowsOnly [] = Unit {0}
 RowsOnly (tok c ∷ es) = RowsOnly es
 RowsOnly (mark a ∷ es) = T (counts_none a) × RowsOnly es
 
-derives_rows : {ss : Syms} {es : Evs} → Derives wide hits ss es → T (plain ss) → RowsOnly es
+derives_rows : {ss : Syms} {es : Evs} → Derives language hits ss es → T (plain ss) → RowsOnly es
 unfolding RowsOnly
 derives_rows done h = tt
 derives_rows (take-token k d) h = derives_rows d h
@@ -140,7 +138,7 @@ sums_counts (mark a ∷ es) m h = sums_counts es (counted (mark a) m) h.1 ∙ ma
 summed_counts : (ts : List Class) (k : ℕ) (m : Sums) → Summed VariablesText ts k m → over_counts m.counts ≡ false
 summed_counts ts k m s =
     ap (λ (z : Sums). over_counts z.counts) (sym s.are)
-    ∙ ap (λ (q : Counts). over_counts q) (sums_counts (through (suc k) s.events) nothing_counted (through_rows (suc k) s.events (derives_rows (language→wide s.reads.0) tt)))
+    ∙ ap (λ (q : Counts). over_counts q) (sums_counts (through (suc k) s.events) nothing_counted (through_rows (suc k) s.events (derives_rows s.reads.0 tt)))
 
 fault_counts : (t : Text) (at : ℕ) → Fault VariablesText t (TooMany at) → ⊥
 fault_counts t at (too_many k {s = m} s o) = subst T (summed_counts (classes_of t) k m s) o

@@ -10,7 +10,6 @@ use Rattle.paper.proofs.Bools.{T→eq}
 use Rattle.paper.specs.Grammar.{nt}
 use Rattle.paper.specs.Numbers.{rows_size}
 use Rattle.paper.specs.Language.{Class, Mark, Part}
-use Rattle.paper.proofs.Nodes.{node}
 use Rattle.paper.specs.Rows.{Row, rows_of}
 use Rattle.paper.specs.Reading.{tokens_of, classes_of, rows_are, TextAnswer, accepts}
 use Rattle.paper.proofs.Machine.{run, Answer, stopped}
@@ -26,26 +25,26 @@ use Rattle.paper_plan.proofs.ExamplesBlocks.{up_to, up_to_is}
 
 -- the machine that reads the bytes s as a text of the part p
 abbrev pub goes : Part → List ℕ → Out
-goes p s = go (start (replicate rows_size 0)) (nt (node p) ∷ []) (from s 0)
+goes p s = go (start (replicate rows_size 0)) (nt p ∷ []) (from s 0)
 
 abbrev pub is_whole : Out → Bool
 is_whole (whole s) = true
 is_whole (halt r) = false
 
 module _ (p : Part) (s : List ℕ) (rs : List Row) (read : is_whole (goes p s) ≡ true) where
-  with-events : {qs : List Row} → TextAnswer p (from s 0) (rows_are qs) → {es : List _} → run graphql (nt (node p) ∷ []) (classes_of (from s 0)) ≡ derived es →
+  with-events : {qs : List Row} → TextAnswer p (from s 0) (rows_are qs) → {es : List _} → run graphql (nt p ∷ []) (classes_of (from s 0)) ≡ derived es →
       rows_of es (tokens_of (from s 0)) ≡ rs → TextAnswer p (from s 0) (rows_are rs)
   with-events (accepts w r c) {es} e q = subst (λ (qs : List Row). TextAnswer p (from s 0) (rows_are qs)) q (accepts {es = es} w (reading.accepts p (classes_of (from s 0)) e) c)
 
-  of-out : {es : List _} → run graphql (nt (node p) ∷ []) (classes_of (from s 0)) ≡ derived es → rows_of es (tokens_of (from s 0)) ≡ rs → (o : Out) → goes p s ≡ o → TextAnswer p (from s 0) (rows_are rs)
+  of-out : {es : List _} → run graphql (nt p ∷ []) (classes_of (from s 0)) ≡ derived es → rows_of es (tokens_of (from s 0)) ≡ rs → (o : Out) → goes p s ≡ o → TextAnswer p (from s 0) (rows_are rs)
   of-out e q (whole m) w = with-events (going_whole p (from s 0) (replicate rows_size 0) m (length-replicate {A = ℕ} rows_size 0) w).1 e q
   of-out e q (halt r) w = absurd (true≢false (sym read ∙ ap is_whole w))
 
   -- its rows are those that `rows_by` computes, if there are some
   pub said_by : (n : Row) (ns : List Row) → rs ≡ n ∷ ns → rows_by p s ≡ rs → TextAnswer p (from s 0) (rows_are rs)
-  said_by n ns some are = of-run (run graphql (nt (node p) ∷ []) (classes_of (from s 0))) refl
+  said_by n ns some are = of-run (run graphql (nt p ∷ []) (classes_of (from s 0))) refl
     where
-      of-run : (a : Answer Class Mark) → run graphql (nt (node p) ∷ []) (classes_of (from s 0)) ≡ a → TextAnswer p (from s 0) (rows_are rs)
+      of-run : (a : Answer Class Mark) → run graphql (nt p ∷ []) (classes_of (from s 0)) ≡ a → TextAnswer p (from s 0) (rows_are rs)
       of-run (derived es) e = of-out e (rw e at are) (goes p s) refl
       of-run (stopped k) e = let q : [] ≡ rs = rw e at are in let z : ◌≡◌ {A = ℕ} 0 1 = cc in absurd (omega arith)
 

@@ -10,8 +10,7 @@ use lib.ListN.{set, get_or}
 use lib.Seq.{sets}
 use Rattle.paper.specs.Grammar.{Sym, nt, tm, act, Ev, tok, mark}
 use Rattle.paper.specs.Numbers.{most_levels, most_rows}
-use Rattle.paper.specs.Language.{Class, Terminal, Mark, row, kind, named, wrapper, wrap, end}
-use Rattle.paper.proofs.Nodes.{Node}
+use Rattle.paper.specs.Language.{Class, Terminal, Mark, row, kind, named, wrapper, wrap, end, Part}
 use Rattle.paper.specs.Tokens.{Tok, Text, at_end, bad, token}
 use Rattle.paper.specs.Rows.{top, pop}
 use Rattle.paper.specs.Sizes.{Counts, opens_level, closes_level, kinded, wrapper_more, over_counts}
@@ -21,7 +20,7 @@ use Rattle.paper.proofs.Machine.{Step, took, emptied, refused, spent, step, over
 use Rattle.paper.proofs.Tables.{graphql}
 
 abbrev pub Stack : Type 0
-Stack = List (Sym Node Terminal Mark)
+Stack = List (Sym Part Terminal Mark)
 
 -- the lent numbers, the rows begun, the open ones, the last token's end, the levels left, the other counts
 pub record State : Type 0 where
@@ -89,13 +88,13 @@ heed k s f =
     deep (opens_level k.class) (closes_level k.class) s.left k.start
     (λ l. many (ltb most_rows s.rows) (TooManyRows k.start) (many (over_counts s.counts) (TooMany k.start) (f (st s.cells s.rows s.open' k.stop l s.counts))))
 
-abbrev pub ended : State → ℕ → Step Node Terminal Class Mark → Out
+abbrev pub ended : State → ℕ → Step Part Terminal Class Mark → Out
 ended s n (took es σ) = halt (NoGoing n)
 ended s n (emptied es) = whole (marked es (at_end n) s)
 ended s n refused = halt (NoGoing n)
 ended s n spent = halt (NoGoing n)
 
-abbrev pub goes : State → Tok → Text → (State → Stack → Out) → Step Node Terminal Class Mark → Out
+abbrev pub goes : State → Tok → Text → (State → Stack → Out) → Step Part Terminal Class Mark → Out
 goes s k t f (took es σ) = heed k (marked es (token k t) s) (λ s'. f s' σ)
 goes s k t f (emptied es) = halt (NoGoing k.start)
 goes s k t f refused = halt (NoGoing k.start)
@@ -113,14 +112,14 @@ unfolding go step
 go_act s a σ (bad n) = refl
 go_act s a σ (at_end n) = cases (step graphql σ none)
   where
-    cases : (r : Step Node Terminal Class Mark) → ended s n ((mark a ∷ []) ▸ r) ≡ ended (noted a (at_end n) s) n r
+    cases : (r : Step Part Terminal Class Mark) → ended s n ((mark a ∷ []) ▸ r) ≡ ended (noted a (at_end n) s) n r
     cases (took es ss) = refl
     cases (emptied es) = refl
     cases refused = refl
     cases spent = refl
 go_act s a σ (token k t) = cases (step graphql σ (some k.class))
   where
-    cases : (r : Step Node Terminal Class Mark) → goes s k t (λ s' σ'. go s' σ' t) ((mark a ∷ []) ▸ r) ≡ goes (noted a (token k t) s) k t (λ s' σ'. go s' σ' t) r
+    cases : (r : Step Part Terminal Class Mark) → goes s k t (λ s' σ'. go s' σ' t) ((mark a ∷ []) ▸ r) ≡ goes (noted a (token k t) s) k t (λ s' σ'. go s' σ' t) r
     cases (took es ss) = refl
     cases (emptied es) = refl
     cases refused = refl

@@ -1,4 +1,4 @@
--- The lexical language over `LexNodes`, left-factored for the machine (four of the draft's parts differ), and the machine's tables. Tested in `LexChecked` of crate `paper_theory`, trusted for nothing.
+-- The lexical language left-factored for the machine (four parts differ), and the machine's tables. Tested in `LexChecked` of crate `paper_theory`, trusted for nothing.
 use mathlib.Core.Bool.{Bool, true, false}
 use mathlib.Core.Path.{◌≡◌, refl}
 use mathlib.Core.Option.{some}
@@ -10,9 +10,9 @@ use Rattle.paper.specs.Grammar.{Sym, nt, tm, act}
 use Rattle.paper.proofs.Machine.{Tables}
 use Rattle.paper.specs.Language.{bang, dollar, paren_l, paren_r, spread, colon, equals, at_sign, bracket_l, bracket_r, brace_l, bar, brace_r, n_other, int, float, string}
 use Rattle.paper.specs.Lexical.{Span, span, Set, hits_byte, What, is, ignored, comment, dot, quote, zero, non_zero, b_bang, b_dollar, b_paren_l, b_paren_r, b_colon, b_equals, b_at_sign, b_bracket_l, b_bracket_r, b_brace_l, b_bar, b_brace_r}
-use Rattle.paper.proofs.LexNodes.{LexNode, Piece, Name, NameRest*, IntValue, FloatValue, IntegerPart, NegativeSign?, Digit*, Digit+, FractionalPart, ExponentPart, Sign?, StringValue, StringCharacter+, StringCharacter*, StringCharacter, Escape, Wide, Ignored, Comment, CommentCharacter*, CommentCharacter, Number, NumberRest, ExponentPart?, FloatRest, UnsignedPart, lex_wide}
+use Rattle.paper.specs.Lexical.{Lex, lexical, Piece, Name, NameRest*, IntValue, FloatValue, IntegerPart, NegativeSign?, Digit*, Digit+, FractionalPart, ExponentPart, Sign?, StringValue, StringCharacter+, StringCharacter*, StringCharacter, Escape, Wide, Ignored, Comment, CommentCharacter*, CommentCharacter, Number, NumberRest, ExponentPart?, FloatRest, UnsignedPart}
 
-abbrev pub num_l : LexNode → ℕ
+abbrev pub num_l : Lex → ℕ
 num_l Piece = 0
 num_l Name = 1
 num_l NameRest* = 2
@@ -41,10 +41,10 @@ num_l ExponentPart? = 24
 num_l FloatRest = 25
 num_l UnsignedPart = 26
 
-abbrev pub all_l : List LexNode
+abbrev pub all_l : List Lex
 all_l = Piece ∷ Name ∷ NameRest* ∷ IntValue ∷ FloatValue ∷ IntegerPart ∷ NegativeSign? ∷ Digit* ∷ Digit+ ∷ FractionalPart ∷ ExponentPart ∷ Sign? ∷ StringValue ∷ StringCharacter+ ∷ StringCharacter* ∷ StringCharacter ∷ Escape ∷ Wide ∷ Ignored ∷ Comment ∷ CommentCharacter* ∷ CommentCharacter ∷ Number ∷ NumberRest ∷ ExponentPart? ∷ FloatRest ∷ UnsignedPart ∷ []
 
-pub at_l : (n : LexNode) → get_elem? all_l (num_l n) ≡ some n
+pub at_l : (n : Lex) → get_elem? all_l (num_l n) ≡ some n
 at_l Piece = refl
 at_l Name = refl
 at_l NameRest* = refl
@@ -74,10 +74,10 @@ at_l FloatRest = refl
 at_l UnsignedPart = refl
 
 abbrev pub Rules : Type 0
-Rules = List (List (Sym LexNode Set What))
+Rules = List (List (Sym Lex Set What))
 
--- the nodes whose productions are left-factored for the machine
-abbrev pub changed_l : List (LexNode × Rules)
+-- the parts whose productions are left-factored for the machine
+abbrev pub changed_l : List (Lex × Rules)
 changed_l =
     (Piece, (nt Number ∷ []) ∷ (tm b_bang ∷ act (is bang) ∷ []) ∷ (tm b_dollar ∷ act (is dollar) ∷ []) ∷ (tm b_paren_l ∷ act (is paren_l) ∷ []) ∷ (tm b_paren_r ∷ act (is paren_r) ∷ []) ∷ (tm b_colon ∷ act (is colon) ∷ []) ∷ (tm b_equals ∷ act (is equals) ∷ []) ∷ (tm b_at_sign ∷ act (is at_sign) ∷ []) ∷ (tm b_bracket_l ∷ act (is bracket_l) ∷ []) ∷ (tm b_bracket_r ∷ act (is bracket_r) ∷ []) ∷ (tm b_brace_l ∷ act (is brace_l) ∷ []) ∷ (tm b_bar ∷ act (is bar) ∷ []) ∷ (tm b_brace_r ∷ act (is brace_r) ∷ []) ∷ (tm dot ∷ tm dot ∷ tm dot ∷ act (is spread) ∷ []) ∷ (nt Name ∷ act (is n_other) ∷ []) ∷ (nt StringValue ∷ act (is string) ∷ []) ∷ (nt Ignored ∷ act ignored ∷ []) ∷ (nt Comment ∷ act comment ∷ []) ∷ []) ∷
     (FloatValue, (nt IntegerPart ∷ nt FloatRest ∷ []) ∷ []) ∷
@@ -89,18 +89,18 @@ abbrev pub or_that : Bool → Rules → Rules → Rules
 or_that true r s = r
 or_that false r s = s
 
-abbrev pub same_l : LexNode → LexNode → Bool
+abbrev pub same_l : Lex → Lex → Bool
 same_l m n = eqb (num_l m) (num_l n)
 
-abbrev pub look : List (LexNode × Rules) → LexNode → Rules → Rules
+abbrev pub look : List (Lex × Rules) → Lex → Rules → Rules
 look [] n s = s
 look (e ∷ es) n s = or_that (same_l e.0 n) e.1 (look es n s)
 
-unfoldable pub lex_factored : LexNode → Rules
-lex_factored n = look changed_l n (lex_wide n)
+unfoldable pub lex_factored : Lex → Rules
+lex_factored n = look changed_l n (lexical n)
 
 -- tables (tested, and trusted for nothing)
-abbrev pub firsts_l : LexNode → Set
+abbrev pub firsts_l : Lex → Set
 firsts_l Piece = span 0x09 0x0a ∷ span 0x0d 0x0d ∷ span 0x20 0x24 ∷ span 0x28 0x29 ∷ span 0x2c 0x2e ∷ span 0x30 0x3a ∷ span 0x3d 0x3d ∷ span 0x40 0x5b ∷ span 0x5d 0x5d ∷ span 0x5f 0x5f ∷ span 0x61 0x7d ∷ span 0xef 0xef ∷ []
 firsts_l Name = span 0x41 0x5a ∷ span 0x5f 0x5f ∷ span 0x61 0x7a ∷ []
 firsts_l NameRest* = span 0x30 0x39 ∷ span 0x41 0x5a ∷ span 0x5f 0x5f ∷ span 0x61 0x7a ∷ []
@@ -129,7 +129,7 @@ firsts_l ExponentPart? = span 0x45 0x45 ∷ span 0x65 0x65 ∷ []
 firsts_l FloatRest = span 0x2e 0x2e ∷ span 0x45 0x45 ∷ span 0x65 0x65 ∷ []
 firsts_l UnsignedPart = span 0x30 0x39 ∷ []
 
-abbrev pub followers_l : LexNode → Set
+abbrev pub followers_l : Lex → Set
 followers_l Piece = []
 followers_l Name = []
 followers_l NameRest* = []
@@ -158,7 +158,7 @@ followers_l ExponentPart? = []
 followers_l FloatRest = []
 followers_l UnsignedPart = span 0x2e 0x2e ∷ span 0x45 0x45 ∷ span 0x65 0x65 ∷ []
 
-abbrev pub none_l : LexNode → Bool
+abbrev pub none_l : Lex → Bool
 none_l Piece = false
 none_l Name = false
 none_l NameRest* = true
@@ -187,7 +187,7 @@ none_l ExponentPart? = true
 none_l FloatRest = false
 none_l UnsignedPart = false
 
-abbrev pub sample_l : LexNode → List ℕ
+abbrev pub sample_l : Lex → List ℕ
 sample_l Piece = 33 ∷ []
 sample_l Name = 65 ∷ []
 sample_l NameRest* = []
@@ -216,5 +216,5 @@ sample_l ExponentPart? = []
 sample_l FloatRest = 46 ∷ 48 ∷ []
 sample_l UnsignedPart = 48 ∷ []
 
-abbrev pub lexer : Tables LexNode Set ℕ What
+abbrev pub lexer : Tables Lex Set ℕ What
 lexer = record { prods = lex_factored; hits = hits_byte; first = λ n b. hits_byte (firsts_l n) b; null = none_l; depth = 8 }

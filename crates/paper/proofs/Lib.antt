@@ -3,8 +3,6 @@
 pub mod Bools
 pub mod Machine
 pub mod Longest
-pub mod Nodes
-pub mod LexNodes
 pub mod LexTables
 pub mod Lexing
 pub mod Tables

@@ -1,4 +1,4 @@
--- The same language over `Nodes`, left-factored for the machine (seven of the draft's parts differ), and the machine's tables.
+-- The same language, left-factored for the machine (seven parts differ from the draft's), and the machine's tables.
 -- They are tested in `Checked` of crate `paper_theory` and trusted for nothing.
 use mathlib.Core.Bool.{Bool, true, false, ◌||◌}
 use mathlib.Core.List.{List, [], ◌∷◌}
@@ -10,10 +10,9 @@ use lib.ListN.{get_elem?}
 use Rattle.paper.specs.Grammar.{Sym, nt, tm, act}
 use Rattle.paper.proofs.Machine.{Tables}
 use Rattle.paper.specs.Numbers.{kind_operation, kind_fragment, kind_field, kind_spread, kind_inline, kind_argument, kind_directive, kind_variable_definition, kind_type_reference, kind_object_field, kind_variable, kind_integer, kind_float, kind_string, kind_boolean, kind_null, kind_enum, kind_list, kind_object, extra_query, extra_mutation, extra_subscription, extra_true, extra_false, wrap_list, wrap_non_null}
-use Rattle.paper.specs.Language.{Class, num_c, same_c, one_of, Terminal, hits, the, any_name, name_but_on, name_but_literal, Mark, row, kind, named, wrapper, wrap, end}
-use Rattle.paper.proofs.Nodes.{Node, t, wide}
+use Rattle.paper.specs.Language.{Class, num_c, same_c, one_of, Terminal, hits, the, any_name, name_but_on, name_but_literal, Mark, row, kind, named, wrapper, wrap, end, Part, t, language}
 use Rattle.paper.specs.Language.{bang, dollar, paren_l, paren_r, spread, colon, equals, at_sign, bracket_l, bracket_r, brace_l, bar, brace_r, n_query, n_mutation, n_subscription, n_fragment, n_on, n_true, n_false, n_null, n_other, int, float, string}
-use Rattle.paper.proofs.Nodes.{Document, Definition+, Definition*, Definition, OperationDefinition, OperationType, OperationName?, SelectionSet, Selection+, Selection*, Selection, Field, Alias?, Alias, SelectionSet?, Arguments?, Arguments, Argument+, Argument*, Argument, FragmentSpread, FragmentDefinition, FragmentName, TypeCondition?, TypeCondition, InlineFragment, Value, ListValue, Value+, Value*, ObjectValue, ObjectField+, ObjectField*, ObjectField, ConstValue, ConstListValue, ConstValue+, ConstValue*, ConstObjectValue, ConstObjectField+, ConstObjectField*, ConstObjectField, EnumValue, VariableDefinitions?, VariableDefinitions, VariableDefinition+, VariableDefinition*, VariableDefinition, DefaultValue?, DefaultValue, TypeRef, NamedType, ListType, NonNullType, Directives?, Directives, Directive+, Directive*, Directive, Name, VariablesText, SpreadRest, AliasRest, Bang?}
+use Rattle.paper.specs.Language.{Document, Definition+, Definition*, Definition, OperationDefinition, OperationType, OperationName?, SelectionSet, Selection+, Selection*, Selection, Field, Alias?, Alias, SelectionSet?, Arguments?, Arguments, Argument+, Argument*, Argument, FragmentSpread, FragmentDefinition, FragmentName, TypeCondition?, TypeCondition, InlineFragment, Value, ListValue, Value+, Value*, ObjectValue, ObjectField+, ObjectField*, ObjectField, ConstValue, ConstListValue, ConstValue+, ConstValue*, ConstObjectValue, ConstObjectField+, ConstObjectField*, ConstObjectField, EnumValue, VariableDefinitions?, VariableDefinitions, VariableDefinition+, VariableDefinition*, VariableDefinition, DefaultValue?, DefaultValue, TypeRef, NamedType, ListType, NonNullType, Directives?, Directives, Directive+, Directive*, Directive, Name, VariablesText, SpreadRest, AliasRest, Bang?}
 
 abbrev pub all_c : List Class
 all_c = bang ∷ dollar ∷ paren_l ∷ paren_r ∷ spread ∷ colon ∷ equals ∷ at_sign ∷ bracket_l ∷ bracket_r ∷ brace_l ∷ bar ∷ brace_r ∷ n_query ∷ n_mutation ∷ n_subscription ∷ n_fragment ∷ n_on ∷ n_true ∷ n_false ∷ n_null ∷ n_other ∷ int ∷ float ∷ string ∷ []
@@ -45,7 +44,7 @@ at_c int = refl
 at_c float = refl
 at_c string = refl
 
-abbrev pub num_n : Node → ℕ
+abbrev pub num_n : Part → ℕ
 num_n Document = 0
 num_n Definition+ = 1
 num_n Definition* = 2
@@ -111,10 +110,10 @@ num_n SpreadRest = 61
 num_n AliasRest = 62
 num_n Bang? = 63
 
-abbrev pub all_n : List Node
+abbrev pub all_n : List Part
 all_n = Document ∷ Definition+ ∷ Definition* ∷ Definition ∷ OperationDefinition ∷ OperationType ∷ OperationName? ∷ SelectionSet ∷ Selection+ ∷ Selection* ∷ Selection ∷ Field ∷ Alias? ∷ Alias ∷ SelectionSet? ∷ Arguments? ∷ Arguments ∷ Argument+ ∷ Argument* ∷ Argument ∷ FragmentSpread ∷ FragmentDefinition ∷ FragmentName ∷ TypeCondition? ∷ TypeCondition ∷ InlineFragment ∷ Value ∷ ListValue ∷ Value+ ∷ Value* ∷ ObjectValue ∷ ObjectField+ ∷ ObjectField* ∷ ObjectField ∷ ConstValue ∷ ConstListValue ∷ ConstValue+ ∷ ConstValue* ∷ ConstObjectValue ∷ ConstObjectField+ ∷ ConstObjectField* ∷ ConstObjectField ∷ EnumValue ∷ VariableDefinitions? ∷ VariableDefinitions ∷ VariableDefinition+ ∷ VariableDefinition* ∷ VariableDefinition ∷ DefaultValue? ∷ DefaultValue ∷ TypeRef ∷ NamedType ∷ ListType ∷ NonNullType ∷ Directives? ∷ Directives ∷ Directive+ ∷ Directive* ∷ Directive ∷ Name ∷ VariablesText ∷ SpreadRest ∷ AliasRest ∷ Bang? ∷ []
 
-pub at_n : (n : Node) → get_elem? all_n (num_n n) ≡ some n
+pub at_n : (n : Part) → get_elem? all_n (num_n n) ≡ some n
 at_n Document = refl
 at_n Definition+ = refl
 at_n Definition* = refl
@@ -180,11 +179,11 @@ at_n SpreadRest = refl
 at_n AliasRest = refl
 at_n Bang? = refl
 
--- the nodes whose productions are left-factored
+-- the parts whose productions are left-factored
 abbrev pub Rules : Type 0
-Rules = List (List (Sym Node Terminal Mark))
+Rules = List (List (Sym Part Terminal Mark))
 
-abbrev pub changed : List (Node × Rules)
+abbrev pub changed : List (Part × Rules)
 changed =
     (Selection, (nt Field ∷ []) ∷ (act row ∷ t spread ∷ nt SpreadRest ∷ []) ∷ []) ∷
     (Field, (act row ∷ act (kind kind_field 0) ∷ act named ∷ nt Name ∷ nt AliasRest ∷ nt Arguments? ∷ nt Directives? ∷ nt SelectionSet? ∷ act end ∷ []) ∷ []) ∷
@@ -195,22 +194,22 @@ changed =
     (TypeRef, (nt NamedType ∷ nt Bang? ∷ []) ∷ (nt ListType ∷ nt Bang? ∷ []) ∷ []) ∷
     []
 
-abbrev pub same_n : Node → Node → Bool
+abbrev pub same_n : Part → Part → Bool
 same_n m n = eqb (num_n m) (num_n n)
 
 abbrev pub or_that : Bool → Rules → Rules → Rules
 or_that true r s = r
 or_that false r s = s
 
-abbrev pub look : List (Node × Rules) → Node → Rules → Rules
+abbrev pub look : List (Part × Rules) → Part → Rules → Rules
 look [] n s = s
 look (e ∷ es) n s = or_that (same_n e.0 n) e.1 (look es n s)
 
-unfoldable pub factored : Node → Rules
-factored n = look changed n (wide n)
+unfoldable pub factored : Part → Rules
+factored n = look changed n (language n)
 
--- what may follow a node
-abbrev pub followers : Node → List Class
+-- what may follow a part
+abbrev pub followers : Part → List Class
 followers Document = []
 followers Definition+ = []
 followers Definition* = []
@@ -276,7 +275,7 @@ followers SpreadRest = spread ∷ brace_r ∷ n_query ∷ n_mutation ∷ n_subsc
 followers AliasRest = paren_l ∷ spread ∷ at_sign ∷ brace_l ∷ brace_r ∷ n_query ∷ n_mutation ∷ n_subscription ∷ n_fragment ∷ n_on ∷ n_true ∷ n_false ∷ n_null ∷ n_other ∷ []
 followers Bang? = dollar ∷ paren_r ∷ equals ∷ bracket_r ∷ []
 
-abbrev pub firsts : Node → List Class
+abbrev pub firsts : Part → List Class
 firsts Document = brace_l ∷ n_query ∷ n_mutation ∷ n_subscription ∷ n_fragment ∷ []
 firsts Definition+ = brace_l ∷ n_query ∷ n_mutation ∷ n_subscription ∷ n_fragment ∷ []
 firsts Definition* = brace_l ∷ n_query ∷ n_mutation ∷ n_subscription ∷ n_fragment ∷ []
@@ -342,7 +341,7 @@ firsts SpreadRest = at_sign ∷ brace_l ∷ n_query ∷ n_mutation ∷ n_subscri
 firsts AliasRest = colon ∷ []
 firsts Bang? = bang ∷ []
 
-abbrev pub can_be_none : Node → Bool
+abbrev pub can_be_none : Part → Bool
 can_be_none Document = false
 can_be_none Definition+ = false
 can_be_none Definition* = true
@@ -408,8 +407,8 @@ can_be_none SpreadRest = false
 can_be_none AliasRest = true
 can_be_none Bang? = true
 
--- a short text of each node
-abbrev pub sample : Node → List Class
+-- a short text of each part
+abbrev pub sample : Part → List Class
 sample Document = brace_l ∷ n_other ∷ brace_r ∷ []
 sample Definition+ = brace_l ∷ n_other ∷ brace_r ∷ []
 sample Definition* = []
@@ -475,5 +474,5 @@ sample SpreadRest = n_other ∷ []
 sample AliasRest = []
 sample Bang? = []
 
-abbrev pub graphql : Tables Node Terminal Class Mark
+abbrev pub graphql : Tables Part Terminal Class Mark
 graphql = record { prods = factored; hits = hits; first = λ n c. one_of (firsts n) c; null = can_be_none; depth = 12 }

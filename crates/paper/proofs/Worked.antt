@@ -13,7 +13,6 @@ use Rattle.paper.specs.Rows.{Row, rows_of}
 use Rattle.paper.specs.Refusals.{number_of, shown_of}
 use Rattle.paper.specs.Reading.{tokens_of, classes_of}
 use Rattle.paper.proofs.Machine.{Answer, accepted as derived, stopped, run}
-use Rattle.paper.proofs.Nodes.{node}
 use Rattle.paper.proofs.Tables.{graphql}
 use Rattle.paper.proofs.Lexing.{from}
 use Rattle.paper.proofs.Going.{State, st, Out, whole, halt, go}
@@ -48,7 +47,7 @@ told (halt r) = number_of r ∷ shown_of r
 
 -- what is told of the bytes s, as a text of a part, with n rows lent
 abbrev pub reads : Part → ℕ → List ℕ → List ℕ
-reads p n s = told (go (begin 0 n) (nt (node p) ∷ []) (from s 0))
+reads p n s = told (go (begin 0 n) (nt p ∷ []) (from s 0))
 
 -- of a document with none lent: its count of rows, or its refusal
 abbrev pub tells : List ℕ → List ℕ
@@ -60,7 +59,7 @@ rows_in t (derived es) = rows_of es (tokens_of t)
 rows_in t (stopped k) = []
 
 abbrev pub rows_by : Part → List ℕ → List Row
-rows_by p s = rows_in (from s 0) (run graphql (nt (node p) ∷ []) (classes_of (from s 0)))
+rows_by p s = rows_in (from s 0) (run graphql (nt p ∷ []) (classes_of (from s 0)))
 
 -- kind, start, end, parent, name, its length, extra
 abbrev pub r : ℕ → ℕ → ℕ → ℕ → ℕ → ℕ → ℕ → Row

@@ -1,7 +1,7 @@
 -- The language of documents: the productions of the draft, sections 2.2 to 2.12, part by part.
 -- States: source document 002. `X?` is X or nothing, `X+` one X or more, `X*` none or more; `t c` is the terminal that is a token of class c.
 -- The marks stand for 01, "Rows": they take no token, and say where a row begins and ends, and what is its kind, extra and name.
--- The productions are the draft's as they stand, and 01's variables text; none is left-factored. The machine that the proofs run has its own (proofs/Nodes), seven left-factored: Selection,
+-- The productions are the draft's as they stand; none is left-factored here. The machine that the proofs run reads them left-factored, in seven parts: Selection,
 -- Field, ListValue, ObjectValue, ConstListValue, ConstObjectValue, TypeRef (`changed` in proofs/Tables). Both are proved to be one language (`SameLanguage` in crate `paper_theory`).
 -- Assumes nothing.
 use Rattle.std.specs.Prelude.{Bool, true, false, ◌&&◌, ◌||◌, not, List, [], ◌∷◌, ℕ, eqb}
@@ -81,7 +81,7 @@ pub data Part : Type 0 where
   ObjectField ConstValue ConstListValue ConstValue+ ConstValue* ConstObjectValue ConstObjectField+ ConstObjectField* : Part
   ConstObjectField EnumValue VariableDefinitions? VariableDefinitions VariableDefinition+ VariableDefinition* VariableDefinition : Part
   DefaultValue? DefaultValue TypeRef NamedType ListType NonNullType Directives? Directives Directive+ Directive* Directive Name : Part
-  VariablesText : Part
+  VariablesText SpreadRest AliasRest Bang? : Part
 
 abbrev pub t : Class → Sym Part Terminal Mark
 t c = tm (the c)
@@ -199,3 +199,10 @@ language Directive = (act row ∷ act (kind kind_directive 0) ∷ t at_sign ∷ 
 language Name = (tm any_name ∷ []) ∷ []
 -- 01: the variables text is one constant object value
 language VariablesText = (act row ∷ act (kind kind_object 0) ∷ nt ConstObjectValue ∷ act end ∷ []) ∷ []
+-- not in the draft, and in none of the productions above: what is left of a production once its first part is read, for the proofs
+language SpreadRest =
+    (act (kind kind_spread 0) ∷ act named ∷ nt FragmentName ∷ nt Directives? ∷ act end ∷ []) ∷
+    (act (kind kind_inline 0) ∷ nt TypeCondition? ∷ nt Directives? ∷ nt SelectionSet ∷ act end ∷ []) ∷
+    []
+language AliasRest = [] ∷ (t colon ∷ act named ∷ nt Name ∷ []) ∷ []
+language Bang? = [] ∷ (act wrapper ∷ t bang ∷ act (wrap wrap_non_null) ∷ []) ∷ []

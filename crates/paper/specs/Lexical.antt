@@ -1,6 +1,6 @@
 -- The lexical language: the productions of the draft, sections 2.1 and 2.9, over the bytes of UTF-8.
 -- States: source document 002. A piece is a token, an ignored token or a comment; `X?`, `X+`, `X*` as in `Language`.
--- None is left-factored; the machine's own (proofs/LexNodes) are, in four parts: Piece, FloatValue, IntegerPart, StringValue (`changed_l` in proofs/LexTables; `LexSame` in crate `paper_theory`).
+-- None is left-factored here; the machine's are, in four parts: Piece, FloatValue, IntegerPart, StringValue (`changed_l` in proofs/LexTables; `LexSame` in crate `paper_theory`).
 -- Assumes nothing.
 use Rattle.std.specs.Prelude.{Bool, true, false, ◌&&◌, ◌||◌, List, [], ◌∷◌, ℕ, leb, ltb, eqb}
 use Rattle.paper.specs.Grammar.{Sym, nt, tm, act}
@@ -165,7 +165,7 @@ abbrev pub b_brace_r : Set
 b_brace_r = span 0x7d 0x7d ∷ []
 
 pub data Lex : Type 0 where
-  Piece Name NameRest* IntValue FloatValue IntegerPart NegativeSign? Digit* Digit+ FractionalPart ExponentPart Sign? StringValue StringCharacter+ StringCharacter* StringCharacter Escape Wide Ignored Comment CommentCharacter* CommentCharacter : Lex
+  Piece Name NameRest* IntValue FloatValue IntegerPart NegativeSign? Digit* Digit+ FractionalPart ExponentPart Sign? StringValue StringCharacter+ StringCharacter* StringCharacter Escape Wide Ignored Comment CommentCharacter* CommentCharacter Number NumberRest ExponentPart? FloatRest UnsignedPart : Lex
 
 unfoldable pub lexical : Lex → List (List (Sym Lex Set What))
 lexical Piece =
@@ -219,3 +219,9 @@ lexical Ignored = (tm space ∷ []) ∷ (tm comma ∷ []) ∷ (tm lf ∷ []) ∷
 lexical Comment = (tm hash ∷ nt CommentCharacter* ∷ []) ∷ []
 lexical CommentCharacter* = [] ∷ (nt CommentCharacter ∷ nt CommentCharacter* ∷ []) ∷ []
 lexical CommentCharacter = (tm commented ∷ []) ∷ (nt Wide ∷ []) ∷ []
+-- not in the draft, and in none of the productions above: what is left of a production once its first part is read, for the proofs
+lexical Number = (nt IntegerPart ∷ nt NumberRest ∷ []) ∷ []
+lexical NumberRest = (act (is int) ∷ []) ∷ (nt FractionalPart ∷ nt ExponentPart? ∷ act (is float) ∷ []) ∷ (nt ExponentPart ∷ act (is float) ∷ []) ∷ []
+lexical ExponentPart? = [] ∷ (nt ExponentPart ∷ []) ∷ []
+lexical FloatRest = (nt FractionalPart ∷ nt ExponentPart? ∷ []) ∷ (nt ExponentPart ∷ []) ∷ []
+lexical UnsignedPart = (tm zero ∷ []) ∷ (tm non_zero ∷ nt Digit* ∷ []) ∷ []

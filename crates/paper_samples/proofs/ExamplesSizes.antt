@@ -6,7 +6,6 @@ use Prim.Native.Nat.{ℕ, zero, suc, ◌+◌}
 use lib.Dec.{T}
 use Rattle.paper.specs.Grammar.{nt, Ev}
 use Rattle.paper.specs.Language.{Class, Mark, language, Document, brace_l, brace_r, n_other}
-use Rattle.paper.proofs.Nodes.{node}
 use Rattle.paper.specs.Lexical.{lexical}
 use Rattle.paper.specs.Tokens.{Text, at_end, token}
 use Rattle.paper.specs.Reading.{tokens_of, classes_of}
@@ -67,7 +66,7 @@ fields at zero t = t at
 fields at (suc n) t = token (record { class = n_other; start = at; stop = at + 1 }) (fields (at + 2) n t)
 
 abbrev many_rows : ℕ → List ℕ
-many_rows n = told (go (begin 0 0) (nt (node Document) ∷ []) (token (record { class = brace_l; start = 0; stop = 1 }) (fields 1 n (λ at. token (record { class = brace_r; start = at; stop = at + 1 }) (at_end (at + 1))))))
+many_rows n = told (go (begin 0 0) (nt Document ∷ []) (token (record { class = brace_l; start = 0; stop = 1 }) (fields 1 n (λ at. token (record { class = brace_r; start = at; stop = at + 1 }) (at_end (at + 1))))))
 
 rows_told : many_rows 2048 ≡ 6 ∷ 4095 ∷ []
 unfolding step enter choose language factored go
@@ -83,7 +82,7 @@ counts_at es n = let s = sums (through n es) nothing_counted in s.levels ∷ s.r
 
 -- of the tokens `$`, `[`, `!`, `)`, `b`, the second `{` and the last of this document
 sums-are :
-    map (λ n. counts_at (events_in (run graphql (nt (node Document) ∷ []) (classes_of (from (bytes "query($a:[I!]){b}fragment F on T{c}") 0)))) n) (3 ∷ 6 ∷ 8 ∷ 10 ∷ 12 ∷ 18 ∷ 20 ∷ []) ≡
+    map (λ n. counts_at (events_in (run graphql (nt Document ∷ []) (classes_of (from (bytes "query($a:[I!]){b}fragment F on T{c}") 0)))) n) (3 ∷ 6 ∷ 8 ∷ 10 ∷ 12 ∷ 18 ∷ 20 ∷ []) ≡
     (1 ∷ 2 ∷ 0 ∷ 1 ∷ 0 ∷ []) ∷ (2 ∷ 3 ∷ 0 ∷ 1 ∷ 1 ∷ []) ∷ (2 ∷ 3 ∷ 0 ∷ 1 ∷ 2 ∷ []) ∷ (0 ∷ 3 ∷ 0 ∷ 1 ∷ 2 ∷ []) ∷ (1 ∷ 4 ∷ 0 ∷ 1 ∷ 2 ∷ []) ∷ (1 ∷ 6 ∷ 1 ∷ 1 ∷ 2 ∷ []) ∷ (0 ∷ 7 ∷ 1 ∷ 1 ∷ 2 ∷ []) ∷ []
 unfolding from text scan step enter choose lexical lex_factored language factored run tokens_of sums through
 sums-are = refl

@@ -9,13 +9,12 @@ use lib.Dec.{T, eqb→eq, eqb_refl}
 use lib.ListN.{get_elem?}
 use Rattle.paper.specs.Grammar.{Sym, nt, tm, act, Ev, tok, mark, Derives, toks}
 use Rattle.paper.proofs.Machine.{Tables, Answer, accepted, stopped, run, choose, enter, step}
-use Rattle.paper.specs.Language.{Class, Terminal, hits, the, any_name, name_but_on, name_but_literal, num_c, one_of, n_other, Mark, language}
-use Rattle.paper.proofs.Nodes.{Node}
+use Rattle.paper.specs.Language.{Class, Terminal, hits, the, any_name, name_but_on, name_but_literal, num_c, one_of, n_other, Mark, Part, language}
 use Rattle.paper.proofs.Tables.{graphql, factored, followers, all_n, all_c, num_n, at_n, at_c, sample}
 use Rattle.paper_theory.proofs.Theory.{Fit, Kept, run_sound, run_complete, unique, run_stopped, Stops, Fits}
 use Rattle.paper_theory.proofs.Test.{Tested, fit, words_of, all}
 
-abbrev pub follow : Node → Class → Bool
+abbrev pub follow : Part → Class → Bool
 follow n t = one_of (followers n) t
 
 pub tested : Tested graphql follow all_n all_c sample
@@ -25,7 +24,7 @@ tested = record { first_closed = tt; null_closed = tt; one_first = tt; one_null 
 pub fits : Fit graphql follow
 fits = fit graphql follow all_n all_c num_n at_n num_c (λ c. inl (at_c c)) tested
 
-pub words : (n : Node) → (es : List (Ev Class Mark)) × Derives factored hits (nt n ∷ []) es
+pub words : (n : Part) → (es : List (Ev Class Mark)) × Derives factored hits (nt n ∷ []) es
 words n = words_of graphql follow all_n all_c num_n at_n num_c (λ c. inl (at_c c)) fits tested n
 
 pub a_token : (p : Terminal) → (d : Class) × T (hits p d)

@@ -10,7 +10,6 @@ use lib.Dec.{T}
 use lib.ListN.{length, length-map}
 use Rattle.paper.specs.Grammar.{nt, Ev}
 use Rattle.paper.specs.Language.{Class, Terminal, Mark, Part}
-use Rattle.paper.proofs.Nodes.{Node, node}
 use Rattle.paper.specs.Tokens.{Tok, Text, at_end, bad, token}
 use Rattle.paper.specs.Sizes.{Sums, nothing_counted, sums, over_levels, over_rows, over_counts}
 use Rattle.paper.specs.Reading.{tokens_of, classes_of, place_of, EndsWell, ends_well_here, ends_well_later, BadAt, bad_here, bad_later, Summed, Fault, no_token, no_going, no_end, too_deep, too_many_rows, too_many, offset_of}
@@ -29,7 +28,7 @@ abbrev Evs : Type 0
 Evs = List (Ev Class Mark)
 
 abbrev Steps : Type 0
-Steps = Step Node Terminal Class Mark
+Steps = Step Part Terminal Class Mark
 
 abbrev pub NotTook : Steps → Type 0
 NotTook r = (fs : Evs) (σ : Stack) → r ≡ took fs σ → ⊥
@@ -191,16 +190,16 @@ going_flaw (token x t) m σ k e w =
     go spent q z f = here (λ gs σ' p. took≢spent (sym p ∙ q)) (cc)
 
 -- BOTH WAYS
-part_kept : (n : Part) → Kept graphql follow (nt (node n) ∷ [])
+part_kept : (n : Part) → Kept graphql follow (nt n ∷ [])
 part_kept n = (λ t h. absurd h, tt)
 
-to_summed : (n : Part) (ts : List Class) (k : ℕ) (s : Sums) → SummedBy (nt (node n) ∷ []) nothing_counted ts k s → Summed n ts k s
-to_summed n ts k s h = record { inside = h.inside; later = h.later; events = h.events; reads = (factored→language n h.derives, h.reads); are = h.are }
+to_summed : (n : Part) (ts : List Class) (k : ℕ) (s : Sums) → SummedBy (nt n ∷ []) nothing_counted ts k s → Summed n ts k s
+to_summed n ts k s h = record { inside = h.inside; later = h.later; events = h.events; reads = (factored→language h.derives, h.reads); are = h.are }
 
-of_summed : (n : Part) (ts : List Class) (k : ℕ) (s : Sums) → Summed n ts k s → SummedBy (nt (node n) ∷ []) nothing_counted ts k s
+of_summed : (n : Part) (ts : List Class) (k : ℕ) (s : Sums) → Summed n ts k s → SummedBy (nt n ∷ []) nothing_counted ts k s
 of_summed n ts k s h = record { inside = h.inside; later = h.later; events = h.events; derives = language→factored h.reads.0; reads = h.reads.1; are = h.are }
 
-told_fault : (n : Part) (t : Text) {r : Refusal} → Told nothing_counted (nt (node n) ∷ []) t r → Fault n t r
+told_fault : (n : Part) (t : Text) {r : Refusal} → Told nothing_counted (nt n ∷ []) t r → Fault n t r
 told_fault n t (told_token b) = no_token b
 told_fault n t (told_going k h e) = no_going k h (stops n (classes_of t) k e)
 told_fault n t (told_end w e) = no_end w (stops n (classes_of t) (length (tokens_of t)) e)
@@ -208,16 +207,16 @@ told_fault n t (told_deep k {s} h o) = too_deep k (to_summed n (classes_of t) k 
 told_fault n t (told_rows k {s} h o) = too_many_rows k (to_summed n (classes_of t) k s h) o
 told_fault n t (told_many k {s} h o) = too_many k (to_summed n (classes_of t) k s h) o
 
-pub flaw_fault : (n : Part) (t : Text) (r : Refusal) → Flaw nothing_counted (nt (node n) ∷ []) t r → Fault n t r
+pub flaw_fault : (n : Part) (t : Text) (r : Refusal) → Flaw nothing_counted (nt n ∷ []) t r → Fault n t r
 flaw_fault n t r f = told_fault n t (flaw_told f)
 
 classes_length : (t : Text) → length (classes_of t) ≡ length (tokens_of t)
 classes_length t = length-map (tokens_of t) (λ k. k.class)
 
-pub fault_flaw : (n : Part) (t : Text) {r : Refusal} → Fault n t r → Flaw nothing_counted (nt (node n) ∷ []) t r
+pub fault_flaw : (n : Part) (t : Text) {r : Refusal} → Fault n t r → Flaw nothing_counted (nt n ∷ []) t r
 fault_flaw n t (no_token b) = stray b
-fault_flaw n t (no_going k h s) = going_flaw t nothing_counted (nt (node n) ∷ []) k (stops_only n (classes_of t) k (let e = classes_length t in omega arith) s) (inl h)
-fault_flaw n t (no_end w s) = going_flaw t nothing_counted (nt (node n) ∷ []) (length (tokens_of t)) (stops_only n (classes_of t) (length (tokens_of t)) (let e = classes_length t in omega arith) s) (inr w)
-fault_flaw n t (too_deep k {s} h o) = reached_deep (summed_reached t nothing_counted s (nt (node n) ∷ []) k (part_kept n) (of_summed n (classes_of t) k s h)) o
-fault_flaw n t (too_many_rows k {s} h o) = reached_rows (summed_reached t nothing_counted s (nt (node n) ∷ []) k (part_kept n) (of_summed n (classes_of t) k s h)) o
-fault_flaw n t (too_many k {s} h o) = reached_many (summed_reached t nothing_counted s (nt (node n) ∷ []) k (part_kept n) (of_summed n (classes_of t) k s h)) o
+fault_flaw n t (no_going k h s) = going_flaw t nothing_counted (nt n ∷ []) k (stops_only n (classes_of t) k (let e = classes_length t in omega arith) s) (inl h)
+fault_flaw n t (no_end w s) = going_flaw t nothing_counted (nt n ∷ []) (length (tokens_of t)) (stops_only n (classes_of t) (length (tokens_of t)) (let e = classes_length t in omega arith) s) (inr w)
+fault_flaw n t (too_deep k {s} h o) = reached_deep (summed_reached t nothing_counted s (nt n ∷ []) k (part_kept n) (of_summed n (classes_of t) k s h)) o
+fault_flaw n t (too_many_rows k {s} h o) = reached_rows (summed_reached t nothing_counted s (nt n ∷ []) k (part_kept n) (of_summed n (classes_of t) k s h)) o
+fault_flaw n t (too_many k {s} h o) = reached_many (summed_reached t nothing_counted s (nt n ∷ []) k (part_kept n) (of_summed n (classes_of t) k s h)) o

@@ -9,8 +9,7 @@ use native.Mathlib.Omega.{arith}
 use lib.ListN.{length, drop, length-drop}
 use lib.Seq.{drop-drop}
 use Rattle.paper.specs.Grammar.{Sym, nt, Ev}
-use Rattle.paper.specs.Lexical.{What, is, ignored, comment}
-use Rattle.paper.proofs.LexNodes.{Piece}
+use Rattle.paper.specs.Lexical.{What, is, ignored, comment, Piece}
 use Rattle.paper.specs.Tokens.{Tok, Text, at_end, bad, token, what_of, line_end}
 use Rattle.paper.specs.Reading.{tokens_of, place_of}
 use Rattle.paper.proofs.Machine.{Tables, Step, took, emptied, refused, spent, step}

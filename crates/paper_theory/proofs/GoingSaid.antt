@@ -11,7 +11,6 @@ use lib.ListN.{length, take}
 use Rattle.paper.specs.Grammar.{nt, Ev, tok, toks, Derives}
 use Rattle.paper.specs.Numbers.{most_rows, row_size, rows_size}
 use Rattle.paper.specs.Language.{Class, Terminal, hits, Mark, Part}
-use Rattle.paper.proofs.Nodes.{Node, node}
 use Rattle.paper.specs.Tokens.{Tok, Text, at_end, bad, token}
 use Rattle.paper.specs.Rows.{Row, Book, empty_book, book, taken, rows_of, flat}
 use Rattle.paper.specs.Sizes.{Sums, nothing_counted, closes_level, leveled, counted, sums, over_levels, over_rows, over_counts}
@@ -34,7 +33,7 @@ abbrev Evs : Type 0
 Evs = List (Ev Class Mark)
 
 abbrev Steps : Type 0
-Steps = Step Node Terminal Class Mark
+Steps = Step Part Terminal Class Mark
 
 -- each token begins after the one before, and the end, or the bad bytes, after all
 abbrev pub Rising : Text → Type 0
@@ -265,20 +264,20 @@ judged (token k t) m σ s tr snd =
 start_tracks : (cells : List ℕ) → Tracks (start cells) nothing_counted
 start_tracks cells = record { rows_are = refl; counts_are = refl; levels_are = refl }
 
-part_sound : (n : Part) → Steady 0 (nt (node n) ∷ [])
+part_sound : (n : Part) → Steady 0 (nt n ∷ [])
 part_sound n = record { levels = λ es d. derives_level d; sober = λ es d. derives_sober d }
 
 -- the rows of a text that is read through
-pub going_whole : (n : Part) (t : Text) (cells : List ℕ) (s : State) → length cells ≡ rows_size → go (start cells) (nt (node n) ∷ []) t ≡ whole s →
+pub going_whole : (n : Part) (t : Text) (cells : List ℕ) (s : State) → length cells ≡ rows_size → go (start cells) (nt n ∷ []) t ≡ whole s →
     (rs : List Row) × TextAnswer n t (rows_are rs) × (s.rows ≡ length rs) × (length rs ≤ most_rows) × (take (row_size * length rs) s.cells ≡ flat rs) × (length s.cells ≡ rows_size)
 unfolding rows_of
 going_whole n t cells s e q =
-    let j : Judged nothing_counted (nt (node n) ∷ []) t (start cells) (whole s) = subst (λ (o : Out). Judged nothing_counted (nt (node n) ∷ []) t (start cells) o) q (judged t nothing_counted (nt (node n) ∷ []) (start cells) (start_tracks cells) (part_sound n)) in
+    let j : Judged nothing_counted (nt n ∷ []) t (start cells) (whole s) = subst (λ (o : Out). Judged nothing_counted (nt n ∷ []) t (start cells) o) q (judged t nothing_counted (nt n ∷ []) (start cells) (start_tracks cells) (part_sound n)) in
     let r = j empty_book (holds_blank (start cells) e refl refl refl) in
     let h = r.holds in
     let count = h.stand.count in (
       rows_of r.events (tokens_of t),
-      accepts r.wholly (factored→language n r.derives, r.reads) (λ z f. r.clean z (fault_flaw n t f)),
+      accepts r.wholly (factored→language r.derives, r.reads) (λ z f. r.clean z (fault_flaw n t f)),
       count,
       (let w = h.within in omega arith),
       ap (λ (z : ℕ). take (row_size * z) s.cells) (sym count) ∙ h.stand.are,
@@ -286,8 +285,8 @@ going_whole n t cells s e q =
     )
 
 -- the refusal of a text that is not
-pub going_halt : (n : Part) (t : Text) → Rising t → (cells : List ℕ) (r : Refusal) → go (start cells) (nt (node n) ∷ []) t ≡ halt r → TextAnswer n t (refuses r)
+pub going_halt : (n : Part) (t : Text) → Rising t → (cells : List ℕ) (r : Refusal) → go (start cells) (nt n ∷ []) t ≡ halt r → TextAnswer n t (refuses r)
 going_halt n t rise cells r q =
-    let j : Judged nothing_counted (nt (node n) ∷ []) t (start cells) (halt r) = subst (λ (o : Out). Judged nothing_counted (nt (node n) ∷ []) t (start cells) o) q (judged t nothing_counted (nt (node n) ∷ []) (start cells) (start_tracks cells) (part_sound n)) in
+    let j : Judged nothing_counted (nt n ∷ []) t (start cells) (halt r) = subst (λ (o : Out). Judged nothing_counted (nt n ∷ []) t (start cells) o) q (judged t nothing_counted (nt n ∷ []) (start cells) (start_tracks cells) (part_sound n)) in
     let l = j rise in
     refused (flaw_fault n t r l.0) (λ r' f. l.1 r' (fault_flaw n t f))

@@ -7,8 +7,7 @@ use Prim.Native.Nat.{ℕ, zero, suc, ◌<◌}
 use native.Mathlib.Omega.{arith}
 use lib.ListN.{length, take as takeN}
 use Rattle.paper.specs.Grammar.{Sym, nt, tm, act, Ev, tok, mark, toks, Derives}
-use Rattle.paper.specs.Language.{Class, Terminal, hits, Mark}
-use Rattle.paper.proofs.Nodes.{Node}
+use Rattle.paper.specs.Language.{Class, Terminal, hits, Mark, Part}
 use Rattle.paper.specs.Sizes.{Sums, counted, sums, through}
 use Rattle.paper.proofs.Machine.{Tables, Step, took, emptied, refused, spent, take_if, ◌▸◌, and_then, choose, over, onward, enter, step}
 use Rattle.paper_theory.proofs.Theory.{Kept, Sound, step_sound, took_derives, took_toks, complete_step, word}
@@ -103,7 +102,7 @@ pub record SummedBy (σ : Stack) (m : Sums) (ts : List Class) (k : ℕ) (s : Sum
   pub are : sums (through (suc k) events) m ≡ s
 
 took_sound : (c : Class) (σ σ' : Stack) (fs : Evs) → step graphql σ (some c) ≡ took fs σ' → Sound fits (some c) σ (took fs σ')
-took_sound c σ σ' fs q = subst (λ (z : Step Node Terminal Class Mark). Sound fits (some c) σ z) q (step_sound fits σ (some c))
+took_sound c σ σ' fs q = subst (λ (z : Step Part Terminal Class Mark). Sound fits (some c) σ z) q (step_sound fits σ (some c))
 
 -- what a step took, and then what the stack left derives
 pub took_before : (c : Class) (σ σ' : Stack) (fs gs : Evs) → step graphql σ (some c) ≡ took fs σ' → Derives factored hits σ' gs → Derives factored hits σ (fs ++ gs)

@@ -15,11 +15,10 @@ use Rattle.paper.specs.Grammar.{Sym, nt, Ev, Derives}
 use Rattle.paper.proofs.Machine.{run, choose, enter, step}
 use Rattle.paper_theory.proofs.Theory.{Fit}
 use Rattle.paper_theory.proofs.Test.{Tested, Far, fit, words_of}
-use Rattle.paper.specs.Lexical.{Set, What, lexical, hits_byte, in_set}
-use Rattle.paper.proofs.LexNodes.{LexNode}
+use Rattle.paper.specs.Lexical.{Lex, Set, What, lexical, hits_byte, in_set}
 use Rattle.paper.proofs.LexTables.{lex_factored, lexer, all_l, num_l, at_l, followers_l, firsts_l, sample_l}
 
-abbrev pub follow_l : LexNode → ℕ → Bool
+abbrev pub follow_l : Lex → ℕ → Bool
 follow_l n b = hits_byte (followers_l n) b
 
 abbrev pub numbers : ℕ → ℕ → List ℕ
@@ -52,5 +51,5 @@ near b = go (dec_lt b 256)
 pub fits_l : Fit lexer follow_l
 fits_l = fit lexer follow_l all_l bytes num_l at_l (λ b. b) near tested_l
 
-pub words_l : (n : LexNode) → (es : List (Ev ℕ What)) × Derives lex_factored hits_byte (nt n ∷ []) es
+pub words_l : (n : Lex) → (es : List (Ev ℕ What)) × Derives lex_factored hits_byte (nt n ∷ []) es
 words_l n = words_of lexer follow_l all_l bytes num_l at_l (λ b. b) near fits_l tested_l n

@@ -6,8 +6,7 @@ use Prim.Native.Nat.{ℕ, zero, suc, ◌+◌, ◌≤◌, ◌<◌, zero-le, suc-l
 use native.Mathlib.Omega.{arith}
 use lib.ListN.{length, take, drop, take-append-drop, length-drop}
 use Rattle.paper.specs.Grammar.{nt, Ev}
-use Rattle.paper.specs.Lexical.{Lex, What}
-use Rattle.paper.proofs.LexNodes.{Piece}
+use Rattle.paper.specs.Lexical.{What, Piece}
 use Rattle.paper.specs.Tokens.{Text, what_of, Starts}
 use Rattle.paper.proofs.Longest.{Match, scan}
 use Rattle.paper.proofs.LexTables.{lexer}
@@ -33,7 +32,7 @@ longest bs = go (scan lexer (nt Piece ∷ []) bs) (piece bs)
     go : (o : Option (Match ℕ What)) → Best fits_l (nt Piece ∷ []) bs o → Found bs o
     go none h = λ p es s. h p s.0.0 s.0.1 (es, lexical→factored s.1, s.2)
     go (some m) h = (
-      ((drop m.size bs, take-append-drop m.size bs), factored→lexical Lex.Piece h.0, h.1),
+      ((drop m.size bs, take-append-drop m.size bs), factored→lexical h.0, h.1),
       λ p es s. h.2 p s.0.0 s.0.1 (es, lexical→factored s.1, s.2),
     )
 

@@ -3,7 +3,6 @@ pub mod Theory
 pub mod Test
 pub mod LongestLaws
 pub mod Same
-pub mod Image
 pub mod LexChecked
 pub mod LexSame
 pub mod LexingLaws

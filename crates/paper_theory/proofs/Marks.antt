@@ -9,8 +9,7 @@ use native.Mathlib.Omega.{arith}
 use lib.Dec.{T, eqb, eqb→eq, leb, leb→le, le→leb}
 use lib.ListN.{get_elem?}
 use Rattle.paper.specs.Grammar.{Sym, nt, tm, act, Ev, tok, mark, toks, Derives, done, take, note, by}
-use Rattle.paper.specs.Language.{Class, Terminal, hits, the, any_name, name_but_on, name_but_literal, num_c, same_c, one_of, is_name_class, Mark, language}
-use Rattle.paper.proofs.Nodes.{Node}
+use Rattle.paper.specs.Language.{Class, Terminal, hits, the, any_name, name_but_on, name_but_literal, num_c, same_c, one_of, is_name_class, Mark, Part, language}
 use Rattle.paper.specs.Language.{bang, dollar, paren_l, paren_r, spread, colon, equals, at_sign, bracket_l, bracket_r, brace_l, bar, brace_r, n_query, n_mutation, n_subscription, n_fragment, n_on, n_true, n_false, n_null, n_other, int, float, string}
 use Rattle.paper.specs.Sizes.{opens_level, closes_level, leveled}
 use Rattle.paper.proofs.Machine.{nul}
@@ -22,7 +21,7 @@ use Rattle.paper_theory.proofs.Checked.{fits}
 use Rattle.paper_theory.proofs.GoingRows.{loud, Quiet}
 
 abbrev Syms : Type 0
-Syms = List (Sym Node Terminal Mark)
+Syms = List (Sym Part Terminal Mark)
 
 abbrev Evs : Type 0
 Evs = List (Ev Class Mark)
@@ -41,7 +40,7 @@ calm_tested : T all_calm
 unfolding factored language
 calm_tested = tt
 
-calm_part : (n : Node) {α : Syms} → Memᴰ α (factored n) → T (calm α)
+calm_part : (n : Part) {α : Syms} → Memᴰ α (factored n) → T (calm α)
 calm_part n m = all_mem (λ β. calm β) (all_at (λ n. all (λ α. calm α) (factored n)) all_n (num_n n) calm_tested (at_n n)) m
 
 and_in : (a b : Bool) → T a → T b → T (a && b)
@@ -87,7 +86,7 @@ derives_calm (note {a} {ss} {es} d) k = (λ l e. go (loud a) (nul graphql ss) (a
     go false b i p q = p
 derives_calm (by {n} {α} {ss} m d) k = derives_calm d (calm_append α ss (calm_part n m) k)
 
-pub derives_sober : {n : Node} {es : Evs} → Derives factored hits (nt n ∷ []) es → Sober es
+pub derives_sober : {n : Part} {es : Evs} → Derives factored hits (nt n ∷ []) es → Sober es
 derives_sober d = derives_calm d tt
 
 pub sober_later : (fs gs : Evs) → Sober (fs ++ gs) → Sober gs
@@ -138,7 +137,7 @@ nested_tested : T all_nested
 unfolding factored language
 nested_tested = tt
 
-nested_part : (n : Node) {α : Syms} → Memᴰ α (factored n) → T (nested 0 α)
+nested_part : (n : Part) {α : Syms} → Memᴰ α (factored n) → T (nested 0 α)
 nested_part n m = all_mem (λ β. nested 0 β) (all_at (λ n. all (λ α. nested 0 α) (factored n)) all_n (num_n n) nested_tested (at_n n)) m
 
 nested_append : (k l : ℕ) (α ss : Syms) → T (nested k α) → T (nested l ss) → T (nested (k + l) (α ++ ss))
@@ -209,7 +208,7 @@ derives_nested (take {p} {c} {ss} {es} h d) l k =
 derives_nested (note d) l k = derives_nested d l k
 derives_nested (by {n} {α} {ss} m d) l k = derives_nested d l (rw zero-add at (nested_append 0 l α ss (nested_part n m) k))
 
-pub derives_level : {n : Node} {es : Evs} → Derives factored hits (nt n ∷ []) es → Level 0 es
+pub derives_level : {n : Part} {es : Evs} → Derives factored hits (nt n ∷ []) es → Level 0 es
 derives_level d = derives_nested d 0 tt
 
 -- marks, a token, and what is left

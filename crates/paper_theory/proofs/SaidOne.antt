@@ -10,7 +10,6 @@ use lib.ListN.{length, replicate, length-replicate}
 use Rattle.paper.specs.Grammar.{nt}
 use Rattle.paper.specs.Numbers.{refuse_no_token, refuse_no_going, refuse_too_deep, refuse_too_many_rows, rows_size}
 use Rattle.paper.specs.Language.{Part}
-use Rattle.paper.proofs.Nodes.{node}
 use Rattle.paper.specs.Tokens.{Text}
 use Rattle.paper.specs.Rows.{rows_of}
 use Rattle.paper.specs.Reading.{tokens_of, classes_of, Fault, no_token, no_going, no_end, too_deep, too_many_rows, too_many, offset_of, NoLater, Answer, rows_are, refuses, TextAnswer, accepts, refused}
@@ -58,8 +57,8 @@ pub said_some : (n : Part) (t : Text) → Rising t → (a : Answer) × TextAnswe
 said_some n t rise = of-cells (replicate rows_size 0) (length-replicate {A = ℕ} rows_size 0)
   where
     of-cells : (cells : List ℕ) → length cells ≡ rows_size → (a : Answer) × TextAnswer n t a
-    of-cells cells e = of-answer (go (start cells) (nt (node n) ∷ []) t) refl
+    of-cells cells e = of-answer (go (start cells) (nt n ∷ []) t) refl
       where
-        of-answer : (o : Out) → go (start cells) (nt (node n) ∷ []) t ≡ o → (a : Answer) × TextAnswer n t a
+        of-answer : (o : Out) → go (start cells) (nt n ∷ []) t ≡ o → (a : Answer) × TextAnswer n t a
         of-answer (whole s) q = let g = going_whole n t cells s e q in (rows_are g.0, g.1)
         of-answer (halt r) q = (refuses r, going_halt n t rise cells r q)

@@ -10,8 +10,7 @@ use lib.Dec.{T}
 use lib.ListN.{length, take, drop, length-drop, length-append}
 use lib.Seq.{length-take-le, take_at}
 use Rattle.paper.specs.Grammar.{nt}
-use Rattle.paper.specs.Lexical.{What, is, ignored, comment}
-use Rattle.paper.proofs.LexNodes.{Piece}
+use Rattle.paper.specs.Lexical.{What, is, ignored, comment, Piece}
 use Rattle.paper.specs.Tokens.{Text, bad, token, classed, what_of, Longest, line_end, Tokens, ends, starts_none, skips, comments, bad_comment, tokens}
 use Rattle.paper_theory.proofs.Theory.{derives_null, unique}
 use Rattle.paper.proofs.Longest.{scan, Match}

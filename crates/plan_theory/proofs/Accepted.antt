@@ -8,7 +8,6 @@ use lib.ListN.{length, replicate, length-replicate}
 use Rattle.paper.specs.Grammar.{nt}
 use Rattle.paper.specs.Numbers.{most_rows, rows_size, no_parent}
 use Rattle.paper.specs.Language.{Part, Document}
-use Rattle.paper.proofs.Nodes.{node}
 use Rattle.paper.specs.Tokens.{Text, Tokens}
 use Rattle.paper.specs.Rows.{Row}
 use Rattle.paper.specs.Reading.{Answer, rows_are, refuses, TextAnswer, accepts}
@@ -28,7 +27,7 @@ use Rattle.plan_theory.proofs.Plannable.{Plannable, judged_plannable}
 
 -- a text that has rows has at most 2,048
 pub said_few : (p : Part) (s : List ℕ) (t : Text) (rs : List Row) → Tokens 0 s t → TextAnswer p t (rows_are rs) → length rs ≤ most_rows
-said_few p s t rs k a = on (go (start cells) (nt (node p) ∷ []) (from s 0)) refl
+said_few p s t rs k a = on (go (start cells) (nt p ∷ []) (from s 0)) refl
   where
     cells : List ℕ
     cells = replicate rows_size 0
@@ -36,7 +35,7 @@ said_few p s t rs k a = on (go (start cells) (nt (node p) ∷ []) (from s 0)) re
     said : TextAnswer p (from s 0) (rows_are rs)
     said = subst (λ (x : Text). TextAnswer p x (rows_are rs)) (tokens_from k) a
 
-    on : (o : Out) → go (start cells) (nt (node p) ∷ []) (from s 0) ≡ o → length rs ≤ most_rows
+    on : (o : Out) → go (start cells) (nt p ∷ []) (from s 0) ≡ o → length rs ≤ most_rows
     on (whole m) q =
         let g = going_whole p (from s 0) cells m (length-replicate {A = ℕ} rows_size 0) q in
         let e : rows_are rs ≡ rows_are g.0 = said_one said g.1 in

@@ -8,9 +8,7 @@ use lib.ListN.{length, length-append}
 use lib.Seq.{get_or-append_seam}
 use Rattle.paper.specs.Grammar.{Ev, Derives, done, take, note as marks, by}
 use Rattle.paper.specs.Numbers.{kind_fragment, kind_argument, kind_type_reference}
-use Rattle.paper.specs.Language.{Class, Document, hits, Mark, row, kind, named, wrapper, wrap, end}
-use Rattle.paper.proofs.Nodes.{wide}
-use Rattle.paper_theory.proofs.SameLanguage.{language→wide}
+use Rattle.paper.specs.Language.{Class, Document, hits, Mark, row, kind, named, wrapper, wrap, end, language}
 use Rattle.paper.specs.Tokens.{Tok, Text}
 use Rattle.paper.specs.Rows.{Row, Book, empty_book, change, top, start_of, stop_of, begun, of_kind as withKind, with_name, wrapped, stopping, at_mark, taken, rest, book, rows_of}
 use Rattle.paper.specs.Reading.{rows_are, TextAnswer, accepts, tokens_of}
@@ -113,7 +111,7 @@ taken_bears : (σ : Stack) (ts : List Tok) (b : Book) → BookBears σ b → Boo
 taken_bears σ [] b h = h
 taken_bears σ (k ∷ ts) b h = h
 
-follow : {ss : Syms} {es : List (Ev Class Mark)} → Derives wide hits ss es → (σ : Stack) (ts : List Tok) (b : Book) → T (settled (run ss σ)) → BookBears σ b → Below (book es ts b).rows
+follow : {ss : Syms} {es : List (Ev Class Mark)} → Derives language hits ss es → (σ : Stack) (ts : List Tok) (b : Book) → T (settled (run ss σ)) → BookBears σ b → Below (book es ts b).rows
 unfolding book
 follow done σ ts b t h = bears_below b.rows σ b.open' t h
 follow (take x d) σ ts b t h = follow d σ (rest ts) (taken ts b) t (taken_bears σ ts b h)
@@ -133,4 +131,4 @@ blank_bears = record { upper = tt; beyond = λ i l. refl; fragments = λ i e. ab
 -- the rows that a document is said to have
 pub said_below : {t : Text} {rs : List Row} → TextAnswer Document t (rows_are rs) → Below rs
 unfolding rows_of
-said_below {t} (accepts w r c) = follow (language→wide r.0) (base ∷ []) (tokens_of t) empty_book tt blank_bears
+said_below {t} (accepts w r c) = follow r.0 (base ∷ []) (tokens_of t) empty_book tt blank_bears

@@ -10,13 +10,12 @@ use lib.Dec.{eqb, leb}
 use lib.ListN.{get_elem?}
 use Rattle.paper.specs.Grammar.{Sym, nt, tm, act}
 use Rattle.paper.specs.Numbers.{kind_operation, kind_fragment, kind_inline, kind_argument, kind_variable_definition, kind_type_reference, kind_variable, kind_object}
-use Rattle.paper.specs.Language.{Terminal, Mark, row, kind, named, wrapper, wrap, end}
-use Rattle.paper.proofs.Nodes.{Node}
-use Rattle.paper.proofs.Nodes.{Document, Definition+, Definition*, Definition, OperationDefinition, OperationType, OperationName?, Alias?, Alias, FragmentDefinition, FragmentName, TypeCondition?, TypeCondition, Value, EnumValue, TypeRef, NamedType, ListType, NonNullType, Name, SpreadRest, AliasRest, Bang?}
+use Rattle.paper.specs.Language.{Terminal, Mark, row, kind, named, wrapper, wrap, end, Part}
+use Rattle.paper.specs.Language.{Document, Definition+, Definition*, Definition, OperationDefinition, OperationType, OperationName?, Alias?, Alias, FragmentDefinition, FragmentName, TypeCondition?, TypeCondition, Value, EnumValue, TypeRef, NamedType, ListType, NonNullType, Name, SpreadRest, AliasRest, Bang?}
 use Rattle.paper.proofs.Tables.{num_n}
 
 abbrev pub Syms : Type 0
-Syms = List (Sym Node Terminal Mark)
+Syms = List (Sym Part Terminal Mark)
 
 -- What an open row is.
 pub data Cell : Type 0 where
@@ -182,17 +181,17 @@ of_end [] = []
 of_end (c ∷ σ) = cond (ends c) σ []
 
 -- Parts: those without rows stand anywhere; where they stand in others, and what they leave.
-abbrev pub is_among : List Node → Node → Bool
+abbrev pub is_among : List Part → Part → Bool
 is_among [] n = false
 is_among (m ∷ ms) n = eqb (num_n m) (num_n n) || is_among ms n
 
-abbrev is_quiet : Node → Bool
+abbrev is_quiet : Part → Bool
 is_quiet n = is_among (OperationName? ∷ Alias? ∷ Alias ∷ FragmentName ∷ EnumValue ∷ TypeRef ∷ NamedType ∷ ListType ∷ NonNullType ∷ Name ∷ AliasRest ∷ Bang? ∷ []) n
 
-abbrev is_outer : Node → Bool
+abbrev is_outer : Part → Bool
 is_outer n = is_among (Document ∷ Definition+ ∷ Definition* ∷ Definition ∷ OperationDefinition ∷ OperationType ∷ FragmentDefinition ∷ []) n
 
-abbrev pub fits : Node → Cell → Bool
+abbrev pub fits : Part → Cell → Bool
 fits n c =
     cond (is_quiet n) true
     (cond (is_outer n) (is_base c)
@@ -202,14 +201,14 @@ fits n c =
     (cond (is_among (TypeCondition? ∷ []) n) false
     (is_plain c || (is_among (Value ∷ []) n && is_lone c))))))
 
-abbrev pub after : Node → Cell → Stack
+abbrev pub after : Part → Cell → Stack
 after n c = cond (is_among (OperationType ∷ []) n) (plain ∷ (c ∷ [])) (cond (is_among (TypeCondition ∷ Value ∷ []) n) (under c ∷ []) (c ∷ []))
 
-abbrev of_part : Node → Stack → Stack
+abbrev of_part : Part → Stack → Stack
 of_part n [] = []
 of_part n (c ∷ σ) = cond (fits n c) (after n c ++ σ) []
 
-abbrev pub step : Sym Node Terminal Mark → Stack → Stack
+abbrev pub step : Sym Part Terminal Mark → Stack → Stack
 step (nt n) σ = of_part n σ
 step (tm p) σ = σ
 step (act row) σ = of_row σ

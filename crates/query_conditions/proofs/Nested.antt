@@ -6,8 +6,7 @@ use mathlib.Core.Option.{some}
 use lib.Dec.{T, eqb, eqb→eq}
 use lib.ListN.{get_elem?}
 use Rattle.paper.specs.Grammar.{Sym, nt, tm, act}
-use Rattle.paper.specs.Language.{Terminal, Mark, row, kind, named, wrapper, wrap, end, language}
-use Rattle.paper.proofs.Nodes.{Node, OperationType, TypeCondition, Value, wide}
+use Rattle.paper.specs.Language.{Terminal, Mark, row, kind, named, wrapper, wrap, end, Part, language, OperationType, TypeCondition, Value}
 use Rattle.paper.proofs.Bools.{and_l, and_r}
 use Rattle.paper.proofs.Tables.{all_n, num_n, at_n}
 use Rattle.paper_theory.proofs.Test.{all, all_at, all_mem, implies, implies_out}
@@ -18,7 +17,7 @@ alive [] = false
 alive (c ∷ σ) = true
 
 -- What is wrong stays so.
-step_dead : (x : Sym Node Terminal Mark) → step x [] ≡ []
+step_dead : (x : Sym Part Terminal Mark) → step x [] ≡ []
 step_dead (nt n) = refl
 step_dead (tm p) = refl
 step_dead (act row) = refl
@@ -48,7 +47,7 @@ end_frame : (b : Bool) (σ τ : Stack) → T (alive (cond b σ [])) → cond b (
 end_frame true σ τ t = refl
 end_frame false σ τ t = absurd t
 
-step_frame : (x : Sym Node Terminal Mark) (σ τ : Stack) → T (alive (step x σ)) → step x (σ ++ τ) ≡ step x σ ++ τ
+step_frame : (x : Sym Part Terminal Mark) (σ τ : Stack) → T (alive (step x σ)) → step x (σ ++ τ) ≡ step x σ ++ τ
 step_frame (nt n) [] τ t = absurd t
 step_frame (nt n) (c ∷ σ) τ t = cond_frame (fits n c) (after n c) σ τ t
 step_frame (tm p) σ τ t = refl
@@ -88,20 +87,20 @@ same_cells_is (c ∷ σ) [] t = absurd t
 same_cells_is (c ∷ σ) (d ∷ τ) t =
     ap (λ (x : Cell). x ∷ σ) (same_cell c d (and_l (eqb (num_k c) (num_k d)) (same_cells σ τ) t)) ∙ ap (λ (ρ : Stack). d ∷ ρ) (same_cells_is σ τ (and_r (eqb (num_k c) (num_k d)) (same_cells σ τ) t))
 
-abbrev cell_tested : Node → Cell → Bool
-cell_tested n c = implies (fits n c) (all (λ α. same_cells (run α (c ∷ [])) (after n c)) (wide n))
+abbrev cell_tested : Part → Cell → Bool
+cell_tested n c = implies (fits n c) (all (λ α. same_cells (run α (c ∷ [])) (after n c)) (language n))
 
-abbrev part_tested : Node → Bool
+abbrev part_tested : Part → Bool
 part_tested n = all (λ c. cell_tested n c) all_k
 
 tested : T (all part_tested all_n)
 unfolding language
 tested = tt
 
-part_run : (n : Node) (c : Cell) (α : Syms) → T (fits n c) → Memᴰ α (wide n) → run α (c ∷ []) ≡ after n c
+part_run : (n : Part) (c : Cell) (α : Syms) → T (fits n c) → Memᴰ α (language n) → run α (c ∷ []) ≡ after n c
 part_run n c α f m =
     same_cells_is (run α (c ∷ [])) (after n c)
-    (all_mem (λ β. same_cells (run β (c ∷ [])) (after n c)) (implies_out (fits n c) (all (λ β. same_cells (run β (c ∷ [])) (after n c)) (wide n)) (all_at (λ x. cell_tested n x) all_k (num_k c) (all_at part_tested all_n (num_n n) tested (at_n n)) (at_k c)) f) m)
+    (all_mem (λ β. same_cells (run β (c ∷ [])) (after n c)) (implies_out (fits n c) (all (λ β. same_cells (run β (c ∷ [])) (after n c)) (language n)) (all_at (λ x. cell_tested n x) all_k (num_k c) (all_at part_tested all_n (num_n n) tested (at_n n)) (at_k c)) f) m)
 
 after_alive : (a b : Bool) (c : Cell) → T (alive (cond a (plain ∷ (c ∷ [])) (cond b (under c ∷ []) (c ∷ []))))
 after_alive true b c = tt
@@ -109,7 +108,7 @@ after_alive false true c = tt
 after_alive false false c = tt
 
 -- a part's production in its place
-pub run_by : (n : Node) (α ss : Syms) (σ : Stack) → Memᴰ α (wide n) → T (settled (run (nt n ∷ ss) σ)) → T (settled (run (α ++ ss) σ))
+pub run_by : (n : Part) (α ss : Syms) (σ : Stack) → Memᴰ α (language n) → T (settled (run (nt n ∷ ss) σ)) → T (settled (run (α ++ ss) σ))
 run_by n α ss [] m t = absurd (not_dead ss t)
 run_by n α ss (c ∷ τ) m t = go (fits n c) refl t
   where

@@ -9,45 +9,43 @@ use lib.Dec.{T, eqb, eqb→eq, eqb_refl}
 use Rattle.paper.specs.Grammar.{Sym, nt, tm, act, Ev, tok, mark, Derives, done, take, note as marks, by}
 use Rattle.paper.specs.Numbers.{kind_operation, kind_fragment, kind_variable_definition}
 use Rattle.paper.specs.Language.{Class, Terminal, hits, Mark, row, kind, named, wrapper, wrap, end, Part, language}
-use Rattle.paper.proofs.Nodes.{Node, wide}
-use Rattle.paper.proofs.Nodes.{Document, Definition+, Definition*, Definition, OperationDefinition, OperationType, VariableDefinitions?, VariableDefinitions, VariableDefinition+, VariableDefinition*, VariableDefinition, SpreadRest}
-use Rattle.paper_theory.proofs.SameLanguage.{language→wide}
+use Rattle.paper.specs.Language.{Document, Definition+, Definition*, Definition, OperationDefinition, OperationType, VariableDefinitions?, VariableDefinitions, VariableDefinition+, VariableDefinition*, VariableDefinition, SpreadRest}
 use Rattle.paper.proofs.Bools.{and_l, and_r, and_i}
 use Rattle.paper.proofs.Tables.{all_n, num_n, at_n}
 use Rattle.paper_theory.proofs.Test.{all, all_at, all_mem, implies, implies_out}
 
 abbrev Syms : Type 0
-Syms = List (Sym Node Terminal Mark)
+Syms = List (Sym Part Terminal Mark)
 
 abbrev pub Evs : Type 0
 Evs = List (Ev Class Mark)
 
-abbrev is_among : List Node → Node → Bool
+abbrev is_among : List Part → Part → Bool
 is_among [] n = false
 is_among (m ∷ ms) n = eqb (num_n m) (num_n n) || is_among ms n
 
 -- the parts that stand where no row is open, and where only an operation's is; the other parts but one stand anywhere
-abbrev is_outer : Node → Bool
+abbrev is_outer : Part → Bool
 is_outer n = is_among (Document ∷ Definition+ ∷ Definition* ∷ Definition ∷ OperationDefinition ∷ OperationType ∷ []) n
 
-abbrev is_inner : Node → Bool
+abbrev is_inner : Part → Bool
 is_inner n = is_among (VariableDefinitions? ∷ VariableDefinitions ∷ VariableDefinition+ ∷ VariableDefinition* ∷ VariableDefinition ∷ []) n
 
-abbrev is_free : Node → Bool
+abbrev is_free : Part → Bool
 is_free n = not (is_outer n || is_inner n)
 
-abbrev is_usual : Node → Bool
+abbrev is_usual : Part → Bool
 is_usual n = not (is_among (SpreadRest ∷ []) n)
 
-abbrev home : Node → ℕ
+abbrev home : Part → ℕ
 home n = cond (is_inner n) 1 0
 
 -- how many rows a part leaves open
-abbrev gain : Node → ℕ
+abbrev gain : Part → ℕ
 gain n = cond (is_among (OperationType ∷ []) n) 1 0
 
 -- a part where a rows are open; b: these are all that are
-abbrev placed : Bool → Node → ℕ → Bool
+abbrev placed : Bool → Part → ℕ → Bool
 placed b n a = is_usual n && (is_free n || (b && eqb a (home n)))
 
 -- a kind where a rows are open; f: the innermost was just begun; t: a token follows
@@ -74,8 +72,8 @@ fits b e (act end ∷ ss) f zero = false
 fits b e (act end ∷ ss) f (suc a) = fits b e ss false a
 
 -- the test of all productions
-abbrev part_tested : Node → Bool
-part_tested n = implies (is_usual n) (cond (is_free n) (all (λ α. fits false (gain n) α false 0) (wide n)) (all (λ α. fits true (home n + gain n) α false (home n)) (wide n)))
+abbrev part_tested : Part → Bool
+part_tested n = implies (is_usual n) (cond (is_free n) (all (λ α. fits false (gain n) α false 0) (language n)) (all (λ α. fits true (home n + gain n) α false (home n)) (language n)))
 
 tested : T (all part_tested all_n)
 unfolding language
@@ -114,7 +112,7 @@ suits_more b f a c t u k g h s =
         let i = and_r b (t && eqb a 2) r in
         and_i u (eqb c 2) (h (and_l t (eqb a 2) i)) (subst (λ (x : ℕ). T (eqb x 2)) (g (and_l b (t && eqb a 2) r)) (and_r t (eqb a 2) i))
 
-placed_more : (b : Bool) (n : Node) (a c : ℕ) → (T b → a ≡ c) → T (placed b n a) → T (placed true n c)
+placed_more : (b : Bool) (n : Part) (a c : ℕ) → (T b → a ≡ c) → T (placed b n a) → T (placed true n c)
 placed_more b n a c g h = and_i (is_usual n) (is_free n || eqb c (home n)) (and_l (is_usual n) (is_free n || (b && eqb a (home n))) h) (go (is_free n) (and_r (is_usual n) (is_free n || (b && eqb a (home n))) h))
   where
     go : (u : Bool) → T (u || (b && eqb a (home n))) → T (u || eqb c (home n))
@@ -175,7 +173,7 @@ module _ (b : Bool) (e z c : ℕ) (g : T b → c ≡ 0) where
       fits_same z (act end ∷ (α ++ ss)) f (let q : suc (c + a) ≡ c + suc a = omega arith in q) (fits-append α ss false a h k)
 
 -- a part's production in its place
-fits_by : (n : Node) (α ss : Syms) (z : ℕ) (f : Bool) (d : ℕ) → Memᴰ α (wide n) → T (fits true z (nt n ∷ ss) f d) → T (fits true z (α ++ ss) f d)
+fits_by : (n : Part) (α ss : Syms) (z : ℕ) (f : Bool) (d : ℕ) → Memᴰ α (language n) → T (fits true z (nt n ∷ ss) f d) → T (fits true z (α ++ ss) f d)
 fits_by n α ss z f d m h = fits_fresh z (α ++ ss) f d (go (is_free n) (implies_out (is_usual n) _ (all_at part_tested all_n (num_n n) tested (at_n n)) (and_l (is_usual n) (is_free n || eqb d (home n)) at)) (and_r (is_usual n) (is_free n || eqb d (home n)) at))
   where
     at : T (placed true n d)
@@ -184,7 +182,7 @@ fits_by n α ss z f d m h = fits_fresh z (α ++ ss) f d (go (is_free n) (implies
     later : T (fits true z ss false (d + gain n))
     later = and_r (placed true n d) (fits true z ss false (d + gain n)) h
 
-    go : (u : Bool) → T (cond u (all (λ α. fits false (gain n) α false 0) (wide n)) (all (λ α. fits true (home n + gain n) α false (home n)) (wide n))) → T (u || eqb d (home n)) → T (fits true z (α ++ ss) false d)
+    go : (u : Bool) → T (cond u (all (λ α. fits false (gain n) α false 0) (language n)) (all (λ α. fits true (home n + gain n) α false (home n)) (language n))) → T (u || eqb d (home n)) → T (fits true z (α ++ ss) false d)
     go true t p = fits_same z (α ++ ss) false (let q : d + 0 ≡ d = omega arith in q) (fits-append false (gain n) z d (λ x. absurd x) α ss false 0 (all_mem (λ β. fits false (gain n) β false 0) t m) later)
     go false t p =
         let q = eqb→eq d (home n) p in
@@ -237,13 +235,13 @@ suits_out f d t k h = record {
     same : (j : ℕ) → k ≡ j → T (eqb k j)
     same j e = subst (λ (x : ℕ). T (eqb k x)) e (eqb_refl k)
 
-takes_token : {ss : Syms} {es : Evs} → Derives wide hits ss es → T (takes ss) → T (token es)
+takes_token : {ss : Syms} {es : Evs} → Derives language hits ss es → T (takes ss) → T (token es)
 takes_token done h = absurd h
 takes_token (take u v) h = tt
 takes_token (marks v) h = absurd h
 takes_token (by m v) h = absurd h
 
-derives_deep : {ss : Syms} {es : Evs} → Derives wide hits ss es → (f : Bool) (d : ℕ) → T (fits true 0 ss f d) → Deep es f d
+derives_deep : {ss : Syms} {es : Evs} → Derives language hits ss es → (f : Bool) (d : ℕ) → T (fits true 0 ss f d) → Deep es f d
 unfolding Deep
 derives_deep done f d h = tt
 derives_deep (take u v) f d h = derives_deep v false d h
@@ -260,5 +258,5 @@ derives_deep (marks {a = end} v) f zero h = absurd h
 derives_deep (marks {a = end} v) f (suc d) h = derives_deep v false d h
 
 -- a document
-pub document_deep : {es : Evs} → Derives language hits (nt Part.Document ∷ []) es → Deep es false 0
-document_deep v = derives_deep (language→wide v) false 0 tt
+pub document_deep : {es : Evs} → Derives language hits (nt Document ∷ []) es → Deep es false 0
+document_deep v = derives_deep v false 0 tt

@@ -1,22 +1,24 @@
 -- A place and the type that it is.
 use mathlib.Core.Path.{◌≡◌, refl, sym, ap, ◌∙◌}
-use mathlib.Core.Bool.{Bool, true, false, cond}
+use mathlib.Core.Bool.{Bool, true, false, not, ◌&&◌, cond}
 use mathlib.Core.Option.{none, some}
 use mathlib.Core.List.{List}
 use Prim.Native.Nat.{ℕ, ◌+◌, ◌-◌, ◌*◌, ◌/◌, ◌%◌, ◌≤◌}
 use native.Mathlib.Omega.{arith}
-use lib.Dec.{eqb}
+use lib.Dec.{eqb, leb}
 use borrow.Author.Tests.{eq-eqb, ne_eqb, leb-true}
 use Rattle.paper.specs.Numbers.{most_wrappers, wrap_list, wrap_non_null}
+use Rattle.paper_table.specs.TableNumbers.{tag_object, tag_union}
 use Rattle.paper_table.specs.Lists.{bytes}
 use Rattle.paper_table.specs.References.{Ref, named, list_of, non_null}
+use Rattle.paper_table.specs.Types.{tag_nothing}
 use Rattle.paper_table.proofs.ReferenceSizes.{wrappers as wrapperCount}
 use Rattle.paper_query.specs.Enclosing.{then}
 use Rattle.paper_query.specs.PlaceTypes.{shape, wrappers_of, shape_of, nullable, item_of}
 use Rattle.table_fields.specs.Wrappers.{pack_of}
 use Rattle.table_members.specs.Members.{Typed}
 use Rattle.table_members.proofs.TypeLaws.{typed_packs}
-use Rattle.query_place_types.specs.Shapes.{place_unknown, place_boolean, place_first, base_at, coded, EntryStands, Within, Keeps, Items, slim}
+use Rattle.query_place_types.specs.Shapes.{place_unknown, place_boolean, place_first, base_at, coded, EntryStands, Within, Keeps, Items, slim, input_tag}
 use Rattle.query_place_types.specs.declared.Place.{Place}
 
 -- the wrappers of a reference are those of a table's number
@@ -103,3 +105,10 @@ module _ (p : Place) (w : ℕ) (e : w ≡ nullable p.wrappers) where
 
     pub items_some : Items p (record { at = p.at; wrappers = w / 4 })
     items_some t book es v = record { is = item-is t es; within = v }
+
+-- the tag of an input type
+pub input_nothing : (tag : ℕ) → tag ≡ tag_nothing → false ≡ input_tag tag
+input_nothing tag e = rw (eq-eqb tag tag_nothing e)
+
+pub input_type : (tag : ℕ) {r : Bool} → (tag ≡ tag_nothing → ⊥) → r ≡ leb tag_object tag && leb tag tag_union → not r ≡ input_tag tag
+input_type tag h e = rw (ne_eqb tag tag_nothing h) (ap not e)

@@ -1,11 +1,12 @@
 -- A place's type as two numbers.
 -- Assumes nothing.
-use Rattle.std.specs.Prelude.{◌≡◌, Bool, true, cond, List, ℕ, suc, ◌-◌, ◌≤◌, ◌<◌, length, eqb, leb}
+use Rattle.std.specs.Prelude.{◌≡◌, Bool, true, not, ◌&&◌, cond, List, ℕ, suc, ◌-◌, ◌≤◌, ◌<◌, length, eqb, leb}
 use Rattle.std.proofs.Math.Option.{Option, none, some}
 use Rattle.paper.specs.Numbers.{most_wrappers}
+use Rattle.paper_table.specs.TableNumbers.{tag_object, tag_union}
 use Rattle.paper_table.specs.Lists.{bytes, all_of, find}
 use Rattle.paper_table.specs.References.{Ref}
-use Rattle.paper_table.specs.Types.{Argument, Member, argument_named}
+use Rattle.paper_table.specs.Types.{Argument, Member, tag_nothing, argument_named}
 use Rattle.paper_table.proofs.ReferenceSizes.{wrappers as wrapperCount}
 use Rattle.paper_query.specs.Enclosing.{then}
 use Rattle.paper_query.specs.PlaceTypes.{Shape, shape, shape_of, item_of}
@@ -86,3 +87,7 @@ EntryPlace es e r = (t book name : List ℕ) (type : Ref) → Entry t book es e 
 abbrev pub ArgumentPlace : List ℕ → List ℕ → List ℕ → ℕ → List ℕ → Place → Type 0
 ArgumentPlace t book es e n r =
     (m : Member) → MemberEntry t book es e m → all_of slim_argument m.arguments ≡ true → Keeps t book es (argument_shape (find (argument_named n) m.arguments)) r
+
+-- the tags of scalars, enums and input objects, among those of types
+abbrev pub input_tag : ℕ → Bool
+input_tag tag = not (eqb tag tag_nothing) && not (leb tag_object tag && leb tag tag_union)

@@ -9,9 +9,9 @@ ghost use Rattle.table_types.specs.Booked.{Booked, definition_on};
 ghost use Rattle.table_types.specs.Sizes.{slim_member};
 ghost use Rattle.table_entries.specs.Entries.{has_types, Entered, MemberStands};
 ghost use Rattle.query_rows.specs.Rowed.{doc_of, Rowed};
-ghost use Rattle.query_place_types.specs.Shapes.{place_unknown, SomeEntry, Keeps, Items, EntryPlace, ArgumentPlace, member_shape};
+ghost use Rattle.query_place_types.specs.Shapes.{place_unknown, SomeEntry, Keeps, Items, EntryPlace, ArgumentPlace, member_shape, input_tag};
 
-use paper::{WRAP_BASE, WRAP_LIST, WRAP_NON_NULL};
+use paper::{WRAP_LIST, WRAP_NON_NULL};
 use query_rows::{name_of, size_of};
 use table_entries::NO_ENTRY;
 
@@ -27,6 +27,11 @@ pub const PLACE_UNKNOWN: u16 = 0;
 pub const PLACE_BOOLEAN: u16 = 1;
 
 pub const PLACE_FIRST: u16 = 2;
+
+const WRAPPERS: u32 = 4;
+
+// the tag of what a name of no type means
+const TAG_NOTHING: u32 = 0;
 
 fn wide(x: u16) -> u32
     ensures { result ≡ x }
@@ -48,8 +53,8 @@ pub fn unknown() -> Place
 pub fn nullable_of(wrappers: u32) -> u32
     ensures { (result ≡ nullable wrappers) × (result ≤ wrappers) }
 {
-    if wrappers % WRAP_BASE == WRAP_NON_NULL {
-        return wrappers / WRAP_BASE;
+    if wrappers % WRAPPERS == WRAP_NON_NULL {
+        return wrappers / WRAPPERS;
     }
     wrappers
 }
@@ -66,12 +71,12 @@ pub fn item_of(p: Place) -> Place
     ensures { Items p result }
 {
     let w = nullable_at(p);
-    if w % WRAP_BASE != WRAP_LIST {
+    if w % WRAPPERS != WRAP_LIST {
         return unknown();
     }
     Place {
         at: p.at,
-        wrappers: (w / WRAP_BASE) as u16,
+        wrappers: (w / WRAPPERS) as u16,
     }
 }
 
@@ -131,4 +136,14 @@ pub fn input_typed(
         return unknown();
     }
     entry_place(es, e)
+}
+
+// Is it the tag of a scalar, an enum or an input object?
+pub fn is_input(tag: u32) -> bool
+    ensures { result ≡ input_tag tag }
+{
+    if tag == TAG_NOTHING {
+        return false;
+    }
+    !table_types::is_composite(tag)
 }

@@ -14,7 +14,7 @@ use Rattle.paper_query.specs.PlaceTypes.{shape_in}
 use Rattle.paper_query.specs.Rule11VariableType.{declared, no_input_type}
 use Rattle.query_links.proofs.Nexts.{find_yes, find_no}
 use Rattle.query_siblings.specs.Alike.{is_below, first_below}
-use Rattle.table_types.specs.Booked.{input_tag}
+use Rattle.query_place_types.specs.Shapes.{input_tag}
 
 module _ (d : Doc) (v r : ℕ) (e : r ≡ first_below d.rows kind_type_reference v) where
   pub declared_some : r < count d → declared d v ≡ some (shape_in d (row_of d r))

@@ -104,7 +104,7 @@ pub fn no_input_type(
     if n <= r {
         return true;
     }
-    !table_types::is_input(table_types::tag_meant(
+    !query_place_types::is_input(table_types::tag_meant(
         t,
         book,
         s,

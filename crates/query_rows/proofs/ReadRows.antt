@@ -8,7 +8,6 @@ use lib.Seq.{take_at, take-append-le, length-take-le}
 use Rattle.paper.specs.Grammar.{nt}
 use Rattle.paper.specs.Numbers.{most_text, most_rows, row_size, rows_size}
 use Rattle.paper.specs.Language.{Part}
-use Rattle.paper.proofs.Nodes.{node}
 use Rattle.paper.specs.Tokens.{Text, Tokens}
 use Rattle.paper.specs.Rows.{Row, flat}
 use Rattle.paper.specs.Reading.{rows_are, TextAnswer, accepts}
@@ -65,7 +64,7 @@ pub record Taken (p : Part) (s rows : List ℕ) (n : ℕ) : Type 0 where
   pub rowed : Rowed s rows n
 
 module _ (p : Part) (s rows rows' : List ℕ) (n : ℕ) (l : length s ≤ most_text) (e : length rows ≡ rows_size) where
-  whole-taken : (m : State) → go (start rows) (nt (node p) ∷ []) (from s 0) ≡ whole m → m.rows ≡ n → length rows' ≡ rows_size → take (row_size * m.rows) rows' ≡ take (row_size * m.rows) m.cells → Taken p s rows' n
+  whole-taken : (m : State) → go (start rows) (nt p ∷ []) (from s 0) ≡ whole m → m.rows ≡ n → length rows' ≡ rows_size → take (row_size * m.rows) rows' ≡ take (row_size * m.rows) m.cells → Taken p s rows' n
   whole-taken m q c z u =
       let g = going_whole p (from s 0) rows m e q in
       let rs = g.0 in
@@ -81,12 +80,12 @@ module _ (p : Part) (s rows rows' : List ℕ) (n : ℕ) (l : length s ≤ most_t
       }
 
   -- what `text_documents::document` leaves, where it is done
-  pub ended_taken : ((m : State) × (go (start rows) (nt (node p) ∷ []) (from s 0) ≡ whole m) × (m.cells ≡ rows') × (m.rows ≡ n)) → Taken p s rows' n
+  pub ended_taken : ((m : State) × (go (start rows) (nt p ∷ []) (from s 0) ≡ whole m) × (m.cells ≡ rows') × (m.rows ≡ n)) → Taken p s rows' n
   ended_taken f =
       whole-taken f.0 f.1 f.3 (ap length (sym f.2) ∙ (going_whole p (from s 0) rows f.0 e f.1).5) (ap (take (row_size * f.0.rows)) (sym f.2))
 
   -- the same with zeros behind the rows
-  pub cleared_taken : ((m : State) × (go (start rows) (nt (node p) ∷ []) (from s 0) ≡ whole m) × (rows' ≡ take (row_size * m.rows) m.cells ++ replicate (length m.cells - row_size * m.rows) 0) × (m.rows ≡ n)) → Taken p s rows' n
+  pub cleared_taken : ((m : State) × (go (start rows) (nt p ∷ []) (from s 0) ≡ whole m) × (rows' ≡ take (row_size * m.rows) m.cells ++ replicate (length m.cells - row_size * m.rows) 0) × (m.rows ≡ n)) → Taken p s rows' n
   cleared_taken f =
       let m = f.0 in
       let g = going_whole p (from s 0) rows m e f.1 in

@@ -14,7 +14,7 @@ use Rattle.paper_table.specs.Types.{Argument, Member, member_named, argument_nam
 use Rattle.table_entries.proofs.Runs.{roomy_less}
 use Rattle.table_book.specs.Book.{part, count_in}
 use Rattle.table_types.specs.Booked.{definition_on}
-use Rattle.table_entries.specs.Entries.{room_entries, next_of, first_of, has_types, Run, ArgumentEntry, Members, MemberEntry, Entered, Standing, FindAnswer, Hit, MemberStands, ArgumentAnswer}
+use Rattle.table_entries.specs.Entries.{room_entries, next_of, first_of, has_types, Run, ArgumentEntry, Members, MemberEntry, Entered, Standing, FindAnswer, Hit, MemberStands, ArgumentAnswer, entry_name, entry_size, cell, Here, NewAnswer}
 
 module _ (t book es : List ℕ) (n : Entered t book es) (i : ℕ) (l : i < count_in book) (h : has_types (definition_on t i).tag ≡ true) (from end : ℕ) (p : from ≡ first_of es i) (q : end ≡ first_of es (i + 1)) where
   pub members_stand : Members t book es from end (definition_on t i).members
@@ -102,3 +102,14 @@ module _ (t book es : List ℕ) where
 
       pub argument_none : end ≤ r → ArgumentAnswer t book es e n room_entries
       argument_none l m y = record { found = λ k. absurd (omega arith); none_is = λ k. no_argument n m.arguments ((hit-is m y).none_is l) }
+
+-- none before entry e has its name
+module _ (t book es : List ℕ) (from e : ℕ) where
+  pub here_stands : Here t book es from e → Standing t book es from e
+  here_stands h = record { members = h.before; are = h.are; most = roomy_less h.most (omega arith) }
+
+  pub new_is : (at n r : ℕ) → at ≡ cell es e entry_name → n ≡ cell es e entry_size → FindAnswer t book es from e (part t at n) r → NewAnswer t book es from e (eqb r e)
+  new_is at n r p q f before name type m x z =
+      let w : part t at n ≡ name = rw (p, q) x.named.is in
+      let g : r ≡ e = eqb-true r e z in
+      rw w at ((f before m).none_is (omega arith))

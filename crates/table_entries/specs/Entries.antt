@@ -211,6 +211,9 @@ TypeAnswer es e at n wrappers = (t book name : List ℕ) (type : Ref) → Entry 
 abbrev pub MeantAnswer : List ℕ → ℕ → ℕ → Type 0
 MeantAnswer es e r = (t book name : List ℕ) (type : Ref) → Entry t book es e name type → NumberMeant t book (base_of type) r
 
+abbrev pub KindAnswer : List ℕ → List ℕ → ℕ → ℕ → Type 0
+KindAnswer book es e r = (t name : List ℕ) (type : Ref) → Entry t book es e name type → r ≡ (meant (table_of t) (base_of type)).tag
+
 -- entry e's name, which its key is of
 abbrev pub name_at : List ℕ → List ℕ → ℕ → List ℕ
 name_at t es e = part t (cell es e entry_name) (cell es e entry_size)
@@ -301,3 +304,15 @@ ArgumentsWritten t book old es e f xs = Written (ArgumentEntry t book) length ol
 
 abbrev pub MembersWritten : List ℕ → List ℕ → List ℕ → List ℕ → ℕ → ℕ → List Member → Type 0
 MembersWritten t book old es e f ms = Written (MemberEntry t book) entries_of old es e f ms
+
+-- entry e stands behind those of a list, which stand from `from` on; whether none of them has its name
+pub record Here (t book es : List ℕ) (from e : ℕ) : Type 0 where
+  pub before : List Member
+  pub are : Members t book es from e before
+  pub name : List ℕ
+  pub type : Ref
+  pub is : Entry t book es e name type
+  pub most : Roomy es (suc e)
+
+abbrev pub NewAnswer : List ℕ → List ℕ → List ℕ → ℕ → ℕ → Bool → Type 0
+NewAnswer t book es from e r = (before : List Member) (name : List ℕ) (type : Ref) → Members t book es from e before → Entry t book es e name type → r ≡ true → find (member_named name) before ≡ none

@@ -9,7 +9,7 @@ ghost use Rattle.table_fields.specs.Wrappers.{pack_limit};
 ghost use Rattle.table_book.specs.Book.{part, count_in, room, book_size};
 ghost use Rattle.table_members.specs.Members.{members_in, arguments_in, member_from};
 ghost use Rattle.table_types.specs.Booked.{Booked, definition_on};
-ghost use Rattle.table_entries.specs.Entries.{room_entries, cells_each, cells_before, byte_values, Roomy, entry_key, entry_name, entry_size, next_of, no_type, Means, cell, first_of, key_of, has_types, entries_of, entries_in, DefinitionWritten, Enterable, Entered, QuickRead, HeaderRead, HeaderEntered, Put, Entering, ArgumentsWritten, MemberWritten, MembersWritten, NameStands, name_at, Standing, FindAnswer, Hit, MemberStands, ArgumentAnswer, TypeAnswer, MeantAnswer};
+ghost use Rattle.table_entries.specs.Entries.{room_entries, cells_each, cells_before, byte_values, Roomy, entry_key, entry_name, entry_size, next_of, no_type, Means, cell, first_of, key_of, has_types, entries_of, entries_in, DefinitionWritten, Enterable, Entered, QuickRead, HeaderRead, HeaderEntered, Put, Entering, ArgumentsWritten, MemberWritten, MembersWritten, NameStands, name_at, Standing, FindAnswer, Hit, MemberStands, ArgumentAnswer, TypeAnswer, MeantAnswer, KindAnswer, Here, NewAnswer};
 
 use paper_table::{
     RECORD_DIRECTIVE, RECORD_INPUT_OBJECT, RECORD_INTERFACE, RECORD_OBJECT, RECORD_SCALAR,
@@ -123,7 +123,28 @@ fn cell_of(es: &[u16], e: usize, j: usize) -> usize
     wide(es[CELLS_BEFORE + CELLS_EACH * e + j])
 }
 
-// The entry beside entry e.
+// Entry e's key, the place and size of its name, and the entry beside it.
+pub fn key_at(es: &[u16], e: usize) -> usize
+    requires { Roomy es.now (suc e) }
+    ensures { result ≡ cell es.now e entry_key }
+{
+    cell_of(es, e, ENTRY_KEY)
+}
+
+pub fn name_at(es: &[u16], e: usize) -> usize
+    requires { Roomy es.now (suc e) }
+    ensures { result ≡ cell es.now e entry_name }
+{
+    cell_of(es, e, ENTRY_NAME)
+}
+
+pub fn size_at(es: &[u16], e: usize) -> usize
+    requires { Roomy es.now (suc e) }
+    ensures { result ≡ cell es.now e entry_size }
+{
+    cell_of(es, e, ENTRY_SIZE)
+}
+
 pub fn next_of(es: &[u16], e: usize) -> usize
     requires { Roomy es.now (suc e) }
     ensures { result ≡ next_of es.now e }
@@ -561,4 +582,25 @@ pub fn meant_by(es: &[u16], e: usize) -> usize
     ensures { MeantAnswer es.now e result }
 {
     cell_of(es, e, ENTRY_MEANT)
+}
+
+// The tag of the type that the base of entry e's type means: 0 of no type.
+pub fn kind_by(book: &[u32], es: &[u16], e: usize) -> u32
+    requires { (length book.now ≡ book_size) × (count_in book.now ≤ room) × Roomy es.now (suc e) }
+    ensures { KindAnswer book.now es.now e result }
+{
+    let k = cell_of(es, e, ENTRY_MEANT);
+    if k == BUILT_IN {
+        return RECORD_SCALAR;
+    }
+    table_types::kind_in(book, k)
+}
+
+// Has no entry from `from` up to e the name of entry e?
+pub fn is_new(t: &[u8], book: &[u32], es: &[u16], from: usize, e: usize) -> bool
+    requires { Here t.now book.now es.now from e }
+    ensures { NewAnswer t.now book.now es.now from e result }
+{
+    let x = find(t, book, es, from, e, t, name_at(es, e), size_at(es, e));
+    x == e
 }

@@ -1,9 +1,9 @@
--- The rules in turn, in groups; the definitions in turn.
+-- The rules in turn, from one number on; the definitions in turn.
 use mathlib.Core.Path.{◌≡◌, refl, sym, ap, subst, ◌∙◌}
-use mathlib.Core.Bool.{Bool, true, false, cond, false≢true}
+use mathlib.Core.Bool.{Bool, true, false, cond}
 use mathlib.Core.Option.{Option, none, some}
-use mathlib.Core.List.{List, [], ◌∷◌, ◌++◌, map, head?, append_assoc}
-use Prim.Native.Nat.{ℕ, suc, ◌+◌, ◌≤◌, ◌<◌}
+use mathlib.Core.List.{List, [], ◌∷◌, ◌++◌, map, head?}
+use Prim.Native.Nat.{ℕ, zero, suc, ◌+◌, ◌-◌, ◌≤◌, ◌<◌}
 use native.Mathlib.Omega.{arith}
 use lib.ListN.{length}
 use borrow.Author.Tests.{eq-eqb, ne_eqb}
@@ -13,91 +13,126 @@ use types.Run.{OneOf}
 use Rattle.paper_table.specs.contracts.TableAnswer.{the_type}
 use Rattle.paper_table.specs.TableNumbers.{no_place, rule_root}
 use Rattle.paper_table.specs.Lists.{bytes, any_of, gather}
-use Rattle.paper_table.specs.Types.{Definition, Table, table_of, is_roots, meant}
+use Rattle.paper_table.specs.Types.{Definition, Table, is_roots, meant}
 use Rattle.paper_table.specs.Places.{Place}
 use Rattle.paper_table.specs.Rule16Root.{query_not_object}
-use Rattle.paper_table.specs.Judging.{Numbered, Break, break, breaks_of_rule, rules, breaks_of, breaks, table_answer}
+use Rattle.paper_table.specs.Judging.{Break, break, rules, breaks_of, breaks, table_answer}
 use Rattle.paper_table.specs.declared.TableAnswer.{TableAnswer}
 use Rattle.paper_table.specs.declared.TableAnswer.TheVariants.{Accepted, Breaks}
-use Rattle.paper_table.proofs.ListsLaws.{head_left, head_right}
 use Rattle.paper_table.proofs.Walk.{breaks_from, definition_at, breaks_start, breaks_on, breaks_here, breaks_end}
-use Rattle.table_types.specs.Booked.{definition_on}
 use Rattle.table_rules_11_15_quick.specs.Keeping.{AllKept}
 use Rattle.table_rules_4_8_quick.specs.Sound.{Sound}
 use Rattle.table_places.specs.Placed.{placed}
 use Rattle.table_places.specs.declared.PlaceRead.{PlaceRead}
 use Rattle.table_places.specs.declared.PlaceRead.TheVariants.{At, Kept}
-use Rattle.table_judge.specs.Schema.{member_rules, promise_rules, all_rules, said_by, shown_at, query_answer}
+use Rattle.table_judge.specs.Schema.{early_rule, promise_rule, late_rule, rule_of, NextRule, shown_at, query_answer}
 
 -- what is said where a first break is all there may be
 abbrev pub said : Option Break → TableAnswer
 said o = table_answer none none o
 
-said_none : (o : Option Break) → Accepted ≡ said o → o ≡ none
-unfolding table_answer
-said_none none e = refl
-said_none (some b) e = let z : Accepted ≡ Breaks b.definition b.rule b.place.member b.place.part b.place.argument = e in cc
+-- the breaks of n rules, from number k on
+unfoldable pub breaks_by : Table → ℕ → Definition → ℕ → ℕ → List Break
+breaks_by t i d k zero = []
+breaks_by t i d k (suc n) = map (break i k) (rule_of k t i d) ++ breaks_by t i d (suc k) n
 
-gather_append : {A B : Type 0} (f : A → List B) (xs ys : List A) → gather f (xs ++ ys) ≡ gather f xs ++ gather f ys
-unfolding gather
-gather_append f [] ys = refl
-gather_append f (x ∷ xs) ys = ap (λ (bs : List _). f x ++ bs) (gather_append f xs ys) ∙ sym (append_assoc (f x) (gather f xs) (gather f ys))
+pub all_rules : (t : Table) (i : ℕ) (d : Definition) → breaks_of t i d ≡ breaks_by t i d 1 16
+unfolding breaks_of rules gather breaks_by rule_of early_rule late_rule promise_rule
+all_rules t i d = refl
+
+no_rule : (t : Table) (i : ℕ) (d : Definition) (k : ℕ) → breaks_by t i d k 0 ≡ []
+unfolding breaks_by
+no_rule t i d k = refl
+
+one_rule : (t : Table) (i : ℕ) (d : Definition) (k n : ℕ) → breaks_by t i d k (suc n) ≡ map (break i k) (rule_of k t i d) ++ breaks_by t i d (suc k) n
+unfolding breaks_by
+one_rule t i d k n = refl
+
+told : (i k : ℕ) (qs : List Place) (bs : List Break) (r : PlaceRead) (m p a : ℕ) → r ≡ placed (head? qs) → r ≡ At m p a → shown_at i k r ≡ said (head? (map (break i k) qs ++ bs))
+unfolding table_answer
+told i k [] bs r m p a e f = let z : At m p a ≡ Kept = sym f ∙ e in cc
+told i k (q ∷ qs) bs r m p a e f = ap (shown_at i k) e
+
+kept : (i k : ℕ) (qs : List Place) (bs : List Break) (r : PlaceRead) → r ≡ placed (head? qs) → r ≡ Kept → said (head? (map (break i k) qs ++ bs)) ≡ said (head? bs)
+kept i k [] bs r e f = refl
+kept i k (q ∷ qs) bs r e f = let z : Kept ≡ At q.member q.part q.argument = sym f ∙ e in cc
+
+-- what the walk over the rules knows at rule k
+pub record InTurn (t : Table) (i : ℕ) (d : Definition) (k : ℕ) : Type 0 where
+  pub begun : 1 ≤ k
+  pub within : k ≤ 17
+  pub same : said (head? (breaks_of t i d)) ≡ said (head? (breaks_by t i d k (17 - k)))
 
 module _ (t : Table) (i : ℕ) (d : Definition) where
-  -- what a group of rules says is said; one that is kept leaves it to those behind it
-  module _ (ns ms : List Numbered) (r : TableAnswer) (e : r ≡ said_by t i d ns) where
-    joined : head? (gather (breaks_of_rule t i d) (ns ++ ms)) ≡ head? (gather (breaks_of_rule t i d) ns ++ gather (breaks_of_rule t i d) ms)
-    joined = ap (λ (bs : List Break). head? bs) (gather_append (breaks_of_rule t i d) ns ms)
+  pub turn_start : InTurn t i d 1
+  turn_start = record { begun = omega arith; within = omega arith; same = ap (λ (bs : List Break). said (head? bs)) (all_rules t i d) }
 
-    pub group_here : (r ≡ Accepted → ⊥) → r ≡ said_by t i d (ns ++ ms)
+  module _ (k : ℕ) (w : InTurn t i d k) where
+    pub turn_end : 16 < k → Accepted ≡ said (head? (breaks_of t i d))
     unfolding table_answer
-    group_here f = go (head? (gather (breaks_of_rule t i d) ns)) refl
-      where
-        go : (o : Option Break) → head? (gather (breaks_of_rule t i d) ns) ≡ o → r ≡ said_by t i d (ns ++ ms)
-        go none q = absurd (f (e ∙ ap said q))
-        go (some b) q = e ∙ ap said (q ∙ sym (joined ∙ head_left (gather (breaks_of_rule t i d) ns) _ b q))
+    turn_end h =
+        sym (w.same ∙ ap (λ (n : ℕ). said (head? (breaks_by t i d k n))) (let e : 17 - k ≡ 0 = omega arith in e) ∙ ap (λ (bs : List Break). said (head? bs)) (no_rule t i d k))
 
-    pub group_on : r ≡ Accepted → said_by t i d ms ≡ said_by t i d (ns ++ ms)
-    group_on f = sym (ap said (joined ∙ head_right (gather (breaks_of_rule t i d) ns) _ (said_none _ (sym f ∙ e))))
+    module _ (h : k ≤ 16) (r : PlaceRead) (e : r ≡ placed (head? (rule_of k t i d))) where
+      opened : said (head? (breaks_of t i d)) ≡ said (head? (map (break i k) (rule_of k t i d) ++ breaks_by t i d (suc k) (16 - k)))
+      opened =
+          w.same ∙ ap (λ (n : ℕ). said (head? (breaks_by t i d k n))) (let q : 17 - k ≡ suc (16 - k) = omega arith in q)
+          ∙ ap (λ (bs : List Break). said (head? bs)) (one_rule t i d k (16 - k))
 
-  -- the same of one rule, by its first place
-  module _ (n : Numbered) (r : PlaceRead) (e : r ≡ placed (head? (n.rule t i d))) where
-    pub rule_last : shown_at i n.number r ≡ said_by t i d (n ∷ [])
-    unfolding gather table_answer
-    rule_last = ap (shown_at i n.number) e ∙ go (n.rule t i d)
-      where
-        go : (qs : List Place) → shown_at i n.number (placed (head? qs)) ≡ said (head? (map (break i n.number) qs ++ []))
-        go [] = refl
-        go (q ∷ qs) = refl
+      pub turn_here : (m p a : ℕ) → r ≡ At m p a → shown_at i k r ≡ said (head? (breaks_of t i d))
+      turn_here m p a f = told i k (rule_of k t i d) _ r m p a e f ∙ sym opened
 
-    pub rule_here : (ns : List Numbered) (m p a : ℕ) → r ≡ At m p a → shown_at i n.number r ≡ said_by t i d (n ∷ ns)
-    rule_here ns m p a f = group_here (n ∷ []) ns _ rule_last (λ z. false≢true (let y : Breaks i n.number m p a ≡ Accepted = sym (ap (shown_at i n.number) f) ∙ z in cc))
+      pub turn_on : r ≡ Kept → InTurn t i d (k + 1)
+      turn_on f = record {
+        begun = omega arith;
+        within = omega arith;
+        same =
+            opened ∙ kept i k (rule_of k t i d) _ r e f
+            ∙ ap (λ (n : ℕ). said (head? (breaks_by t i d n (16 - k)))) (let q : suc k ≡ k + 1 = omega arith in q)
+            ∙ ap (λ (n : ℕ). said (head? (breaks_by t i d (k + 1) n))) (let q : 16 - k ≡ 17 - (k + 1) = omega arith in q);
+      }
 
-    pub rule_on : (ns : List Numbered) → r ≡ Kept → said_by t i d ns ≡ said_by t i d (n ∷ ns)
-    rule_on ns f = group_on (n ∷ []) ns _ rule_last (ap (shown_at i n.number) f)
+  -- a rule that is kept may be passed over; so the five of a walk of their own
+  skip : (k : ℕ) → InTurn t i d k → k ≤ 16 → rule_of k t i d ≡ [] → InTurn t i d (k + 1)
+  skip k w h e = turn_on k w h Kept (sym (ap (λ (ps : List Place). placed (head? ps)) e)) refl
 
-  -- groups that are known to be kept
-  pub members_kept : Sound t i d → Accepted ≡ said_by t i d member_rules
-  unfolding gather table_answer
-  members_kept s = sym (rw (s.name_repeated_is, s.reserved_member_is, s.enum_value_is, s.no_type_is, s.wrong_base_is) refl)
+  turn-clean : Sound t i d → InTurn t i d 4 → InTurn t i d 9
+  unfolding rule_of early_rule
+  turn-clean s w =
+      let a = skip 4 w (omega arith) s.name_repeated_is in
+      let b = skip 5 a (omega arith) s.reserved_member_is in
+      let c = skip 6 b (omega arith) s.enum_value_is in
+      let e = skip 7 c (omega arith) s.no_type_is in
+      skip 8 e (omega arith) s.wrong_base_is
 
-  pub promises_kept : AllKept t i d → Accepted ≡ said_by t i d promise_rules
-  unfolding gather table_answer
-  promises_kept s = sym (rw (s.field_missing, s.field_type_is, s.argument_missing, s.argument_type_is, s.argument_extra_is) refl)
+  turn-kept : AllKept t i d → InTurn t i d 11 → InTurn t i d 16
+  unfolding rule_of late_rule promise_rule
+  turn-kept s w =
+      let a = skip 11 w (omega arith) s.field_missing in
+      let b = skip 12 a (omega arith) s.field_type_is in
+      let c = skip 13 b (omega arith) s.argument_missing in
+      let e = skip 14 c (omega arith) s.argument_type_is in
+      skip 15 e (omega arith) s.argument_extra_is
 
-  -- the groups are all rules, in their order
-  pub in_turn : said_by t i d all_rules ≡ said (head? (breaks_of t i d))
-  unfolding breaks_of rules
-  in_turn = refl
+  pub turn_next : (clean promising : Bool) (k r : ℕ) → InTurn t i d (k + 1) → (clean ≡ true → Sound t i d) → (promising ≡ false → AllKept t i d) → NextRule clean promising k r → InTurn t i d r
+  turn_next clean promising k r w s a (inl e) = subst (InTurn t i d) (sym e) w
+  turn_next clean promising k r w s a (inr (inl e)) = subst (InTurn t i d) (sym e.2) (turn-clean (s e.1) (subst (λ (n : ℕ). InTurn t i d (n + 1)) e.0 w))
+  turn_next clean promising k r w s a (inr (inr e)) = subst (InTurn t i d) (sym e.2) (turn-kept (a e.1) (subst (λ (n : ℕ). InTurn t i d (n + 1)) e.0 w))
 
--- definition i keeps those of the rules that stand before ns, so ns decide
-abbrev pub Left : List ℕ → ℕ → List Numbered → List Numbered → Type 0
-Left t i all ns = said_by (table_of t) i (definition_on t i) ns ≡ said_by (table_of t) i (definition_on t i) all
+pub turn_less : (clean promising : Bool) (k r : ℕ) → k ≤ 16 → NextRule clean promising k r → 17 - r < 17 - k
+turn_less clean promising k r h (inl e) = omega (arith, e)
+turn_less clean promising k r h (inr (inl e)) = omega (arith, e.0, e.2)
+turn_less clean promising k r h (inr (inr e)) = omega (arith, e.0, e.2)
 
 -- what the walk over the definitions knows at number i
 pub record InOrder (t : Table) (i : ℕ) : Type 0 where
   pub within : i ≤ length t
   pub same : said (head? (breaks t)) ≡ said (head? (breaks_from t i))
+
+said_none : (o : Option Break) → Accepted ≡ said o → o ≡ none
+unfolding table_answer
+said_none none e = refl
+said_none (some b) e = let z : Accepted ≡ Breaks b.definition b.rule b.place.member b.place.part b.place.argument = e in cc
 
 module _ (t : Table) where
   pub order_start : InOrder t 0

@@ -7,14 +7,7 @@ use native.Mathlib.Omega.{arith}
 use lib.ListN.{length}
 use borrow.Author.Tests.{leb-true, not-false}
 use Rattle.paper_table.specs.TableNumbers.{most_members}
-use Rattle.paper_table.specs.Types.{Member, Definition, Table, table_of, blank_definition, tag_nothing}
-use Rattle.paper_table.specs.Promises.{promised, promised_by}
-use Rattle.paper_table.specs.Rule11FieldMissing.{interface_field_missing, missing_breaks}
-use Rattle.paper_table.specs.Rule12FieldType.{field_type, type_breaks}
-use Rattle.paper_table.specs.Rule13ArgumentMissing.{interface_argument_missing, argument_breaks}
-use Rattle.paper_table.specs.Rule14ArgumentType.{argument_type, argument_type_breaks}
-use Rattle.paper_table.specs.Rule15ArgumentExtra.{argument_extra, extra_breaks}
-use Rattle.paper_table.proofs.ListsLaws.{each_from_nil}
+use Rattle.paper_table.specs.Types.{Member, table_of, blank_definition, tag_nothing}
 use Rattle.table_book.specs.Book.{room, book_size, count_in}
 use Rattle.table_members.specs.Members.{implemented_in}
 use Rattle.table_types.specs.Booked.{definition_on, start_in, end_in}
@@ -24,17 +17,7 @@ use Rattle.table_rules_11_15_quick.specs.Keeping.{AllKept}
 use Rattle.table_types.proofs.Entries.{bounds_entered, members_entered, implemented_entered}
 use Rattle.table_types.specs.Sizes.{few_members}
 use Rattle.table_judge.specs.Schema.{Checkable, Promising}
-
--- what implements nothing keeps them all
-nothing_promised : (t : Table) (i : ℕ) (d : Definition) → d.implements ≡ [] → AllKept t i d
-unfolding interface_field_missing field_type interface_argument_missing argument_type argument_extra promised
-nothing_promised t i d e = record {
-  field_missing = rw e (each_from_nil 0 (promised_by (missing_breaks d) t));
-  field_type_is = rw e (each_from_nil 0 (promised_by (type_breaks t d) t));
-  argument_missing = rw e (each_from_nil 0 (promised_by (argument_breaks d) t));
-  argument_type_is = rw e (each_from_nil 0 (promised_by (argument_type_breaks d) t));
-  argument_extra_is = rw e (each_from_nil 0 (promised_by (extra_breaks d) t));
-}
+use Rattle.table_judge.proofs.NumberLaws.{nothing_promised}
 
 module _ (t book : List ℕ) (k : Checkable t book) (i : ℕ) (h : i < count_in book) where
   few-members : length (definition_on t i).members ≤ most_members

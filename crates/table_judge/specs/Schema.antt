@@ -1,11 +1,10 @@
--- The rules in groups, and what is said of their places.
+-- The rules by their numbers, and what is said of their places.
 -- Assumes nothing.
-use Rattle.std.specs.Prelude.{◌≡◌, Bool, true, false, cond, ℕ, length}
-use Rattle.std.proofs.Math.Option.{none}
-use mathlib.Core.List.{List, [], ◌∷◌, ◌++◌, head?}
-use Rattle.paper_table.specs.TableNumbers.{no_place, rule_reserved_name, rule_name_known, rule_no_members, rule_name_repeated, rule_reserved_member, rule_enum_value, rule_no_type, rule_base, rule_not_object_or_interface, rule_implemented_twice, rule_field_missing, rule_field_type, rule_argument_missing, rule_argument_type, rule_argument_extra, rule_root}
-use Rattle.paper_table.specs.Lists.{all_of, gather}
-use Rattle.paper_table.specs.Types.{Definition, Table, table_of}
+use Rattle.std.specs.Prelude.{◌≡◌, Bool, true, false, cond, ◌⊎◌, List, ℕ, ◌+◌, length, leb, eqb}
+use Rattle.paper_table.specs.TableNumbers.{no_place, rule_reserved_name, rule_name_known, rule_no_members, rule_name_repeated, rule_reserved_member, rule_enum_value, rule_no_type, rule_base, rule_not_object_or_interface, rule_implemented_twice, rule_field_missing, rule_field_type, rule_argument_missing, rule_argument_type, rule_root}
+use Rattle.paper_table.specs.Lists.{all_of}
+use Rattle.paper_table.specs.Types.{Table, table_of}
+use Rattle.paper_table.specs.Places.{Rule}
 use Rattle.paper_table.specs.Rule1ReservedName.{reserved_name}
 use Rattle.paper_table.specs.Rule2NameKnown.{name_known}
 use Rattle.paper_table.specs.Rule3NoMembers.{no_members}
@@ -22,7 +21,6 @@ use Rattle.paper_table.specs.Rule13ArgumentMissing.{interface_argument_missing}
 use Rattle.paper_table.specs.Rule14ArgumentType.{argument_type}
 use Rattle.paper_table.specs.Rule15ArgumentExtra.{argument_extra}
 use Rattle.paper_table.specs.Rule16Root.{root_not_object, query_not_object}
-use Rattle.paper_table.specs.Judging.{Numbered, numbered, breaks_of_rule, table_answer}
 use Rattle.paper_table.specs.declared.TableAnswer.{TableAnswer}
 use Rattle.paper_table.specs.declared.TableAnswer.TheVariants.{Accepted, Breaks}
 use Rattle.table_book.specs.Book.{book_size}
@@ -33,40 +31,41 @@ use Rattle.table_rules_11_15_quick.specs.Keeping.{AllKept}
 use Rattle.table_places.specs.declared.PlaceRead.{PlaceRead}
 use Rattle.table_places.specs.declared.PlaceRead.TheVariants.{At, Kept}
 
--- 1 to 3, on a definition itself; 4 to 8, on its members; 9 and 10, on the names that it lists or implements; 11 to 15, on what interfaces promise; 16; all
-abbrev pub own_rules : List Numbered
-own_rules = numbered rule_reserved_name reserved_name ∷ numbered rule_name_known name_known ∷ numbered rule_no_members no_members ∷ []
+-- 1 to 8; 9 to 16
+unfoldable pub early_rule : ℕ → Rule
+early_rule k =
+    cond (eqb k rule_reserved_name) reserved_name
+    (cond (eqb k rule_name_known) name_known
+    (cond (eqb k rule_no_members) no_members
+    (cond (eqb k rule_name_repeated) name_repeated
+    (cond (eqb k rule_reserved_member) reserved_member
+    (cond (eqb k rule_enum_value) enum_value
+    (cond (eqb k rule_no_type) no_type
+    wrong_base))))))
 
-abbrev pub member_rules : List Numbered
-member_rules =
-    numbered rule_name_repeated name_repeated ∷
-    numbered rule_reserved_member reserved_member ∷
-    numbered rule_enum_value enum_value ∷
-    numbered rule_no_type no_type ∷
-    numbered rule_base wrong_base ∷
-    []
+-- 11 to 15
+unfoldable pub promise_rule : ℕ → Rule
+promise_rule k =
+    cond (eqb k rule_field_missing) interface_field_missing
+    (cond (eqb k rule_field_type) field_type
+    (cond (eqb k rule_argument_missing) interface_argument_missing
+    (cond (eqb k rule_argument_type) argument_type
+    argument_extra)))
 
-abbrev pub implemented_rules : List Numbered
-implemented_rules = numbered rule_not_object_or_interface not_object_or_interface ∷ numbered rule_implemented_twice implemented_twice ∷ []
+unfoldable pub late_rule : ℕ → Rule
+late_rule k =
+    cond (eqb k rule_not_object_or_interface) not_object_or_interface
+    (cond (eqb k rule_implemented_twice) implemented_twice
+    (cond (eqb k rule_root) root_not_object
+    (promise_rule k)))
 
-abbrev pub promise_rules : List Numbered
-promise_rules =
-    numbered rule_field_missing interface_field_missing ∷
-    numbered rule_field_type field_type ∷
-    numbered rule_argument_missing interface_argument_missing ∷
-    numbered rule_argument_type argument_type ∷
-    numbered rule_argument_extra argument_extra ∷
-    []
+unfoldable pub rule_of : ℕ → Rule
+rule_of k = cond (leb k rule_base) (early_rule k) (late_rule k)
 
-abbrev pub root_rule : List Numbered
-root_rule = numbered rule_root root_not_object ∷ []
-
-abbrev pub all_rules : List Numbered
-all_rules = own_rules ++ member_rules ++ implemented_rules ++ promise_rules ++ root_rule
-
--- what is said of definition i by some of the rules
-abbrev pub said_by : Table → ℕ → Definition → List Numbered → TableAnswer
-said_by t i d ns = table_answer none none (head? (gather (breaks_of_rule t i d) ns))
+-- the rule after number k: the next, or the first behind 4 to 8 or 11 to 15 where these are kept
+abbrev pub NextRule : Bool → Bool → ℕ → ℕ → Type 0
+NextRule clean promising k r =
+    (r ≡ k + 1) ⊎ (((k ≡ rule_no_members) × (clean ≡ true) × (r ≡ rule_not_object_or_interface)) ⊎ ((k ≡ rule_implemented_twice) × (promising ≡ false) × (r ≡ rule_root)))
 
 -- a rule's first place in definition i, as the answer shows it
 abbrev pub shown_at : ℕ → ℕ → PlaceRead → TableAnswer

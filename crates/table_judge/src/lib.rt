@@ -1,26 +1,123 @@
 // The first break of a table's schema: definition by definition, of each the sixteen rules in turn, then `Query`.
 // Nothing is asked of the table but its sizes.
-ghost use Rattle.std.specs.Prelude.{◌≡◌, true, ◌<◌, length};
+ghost use Rattle.std.specs.Prelude.{◌≡◌, true, ◌+◌, ◌≤◌, ◌<◌, length};
 ghost use Rattle.std.proofs.Math.Option.{none};
 ghost use mathlib.Core.List.{head?};
+ghost use Rattle.paper_table.specs.TableNumbers.{rule_root};
 ghost use Rattle.paper_table.specs.Lists.{any_of};
 ghost use Rattle.paper_table.specs.Types.{table_of, is_roots};
 ghost use Rattle.paper_table.specs.Judging.{breaks_of, breaks, table_answer};
+ghost use Rattle.table_places.specs.Placed.{placed};
 ghost use Rattle.table_book.specs.Book.{room, book_size, count_in};
-ghost use Rattle.table_types.specs.Booked.{Booked, definition_on};
+ghost use Rattle.table_types.specs.Booked.{Booked, definition_on, start_in, end_in};
+ghost use Rattle.table_listing.specs.Listed.{Listed};
 ghost use Rattle.table_possible.specs.Possible.{Possible};
 ghost use Rattle.table_types.specs.Sizes.{Slim};
 ghost use Rattle.table_rules_4_8_quick.specs.Sound.{Sound};
-ghost use Rattle.table_judge.specs.Schema.{said_by, own_rules, member_rules, implemented_rules, promise_rules, shown_at, query_answer, Checkable, Promising, Answered};
+ghost use Rattle.table_judge.specs.Schema.{early_rule, promise_rule, late_rule, rule_of, NextRule, shown_at, query_answer, Checkable, Promising, Answered};
 
 use paper_table::{
-    NO_PLACE, RECORD_OBJECT, RULE_ARGUMENT_EXTRA, RULE_ARGUMENT_MISSING, RULE_ARGUMENT_TYPE,
-    RULE_BASE, RULE_ENUM_VALUE, RULE_FIELD_MISSING, RULE_FIELD_TYPE, RULE_IMPLEMENTED_TWICE,
-    RULE_NAME_KNOWN, RULE_NAME_REPEATED, RULE_NO_MEMBERS, RULE_NO_TYPE,
-    RULE_NOT_OBJECT_OR_INTERFACE, RULE_RESERVED_MEMBER, RULE_RESERVED_NAME, RULE_ROOT, TableAnswer,
+    NO_PLACE, RECORD_OBJECT, RULE_ARGUMENT_MISSING, RULE_ARGUMENT_TYPE, RULE_BASE, RULE_ENUM_VALUE,
+    RULE_FIELD_MISSING, RULE_FIELD_TYPE, RULE_IMPLEMENTED_TWICE, RULE_NAME_KNOWN,
+    RULE_NAME_REPEATED, RULE_NO_MEMBERS, RULE_NO_TYPE, RULE_NOT_OBJECT_OR_INTERFACE,
+    RULE_RESERVED_MEMBER, RULE_RESERVED_NAME, RULE_ROOT, TableAnswer,
 };
 use table_members::FieldFound;
 use table_places::PlaceRead;
+
+// What a rule from 1 to 8 shows first of definition i.
+fn early_place(t: &[u8], book: &[u32], rule: u32, i: usize) -> PlaceRead
+    requires { Booked t.now book.now × (i < count_in book.now) }
+    ensures { result ≡ placed (head? (early_rule rule (table_of t.now) i (definition_on t.now i))) }
+{
+    if rule == RULE_RESERVED_NAME {
+        return table_rules_1_10_16::reserved_name(t, book, i);
+    }
+    if rule == RULE_NAME_KNOWN {
+        return table_rules_1_10_16::name_known(t, book, i);
+    }
+    if rule == RULE_NO_MEMBERS {
+        return table_rules_1_10_16::no_members(t, book, i);
+    }
+    if rule == RULE_NAME_REPEATED {
+        return table_rules_1_10_16::name_repeated(t, book, i);
+    }
+    if rule == RULE_RESERVED_MEMBER {
+        return table_rules_1_10_16::reserved_member(t, book, i);
+    }
+    if rule == RULE_ENUM_VALUE {
+        return table_rules_1_10_16::enum_value(t, book, i);
+    }
+    if rule == RULE_NO_TYPE {
+        return table_rules_1_10_16::no_type(t, book, i);
+    }
+    table_rules_1_10_16::wrong_base(t, book, i)
+}
+
+// The same of a rule from 11 to 15, by the list of the definition's members.
+fn promise_place(t: &[u8], book: &[u32], listed: &[u32], rule: u32, i: usize) -> PlaceRead
+    requires { Booked t.now book.now × Slim (table_of t.now) × (i < count_in book.now) × Listed t.now listed.now (start_in book.now i) (end_in book.now i) }
+    ensures { result ≡ placed (head? (promise_rule rule (table_of t.now) i (definition_on t.now i))) }
+{
+    if rule == RULE_FIELD_MISSING {
+        return table_rules_11_15::field_missing(t, book, listed, i);
+    }
+    if rule == RULE_FIELD_TYPE {
+        return table_rules_11_15::field_type(t, book, listed, i);
+    }
+    if rule == RULE_ARGUMENT_MISSING {
+        return table_rules_11_15::argument_missing(t, book, listed, i);
+    }
+    if rule == RULE_ARGUMENT_TYPE {
+        return table_rules_11_15::argument_type(t, book, listed, i);
+    }
+    table_rules_11_15::argument_extra(t, book, listed, i)
+}
+
+// The same of a rule from 9 to 16.
+fn late_place(
+    t: &[u8],
+    book: &[u32],
+    listed: &[u32],
+    promising: bool,
+    rule: u32,
+    i: usize,
+) -> PlaceRead
+    requires { Booked t.now book.now × Slim (table_of t.now) × (i < count_in book.now) × Promising t.now book.now listed.now i promising }
+    ensures { result ≡ placed (head? (late_rule rule (table_of t.now) i (definition_on t.now i))) }
+{
+    if rule == RULE_NOT_OBJECT_OR_INTERFACE {
+        return table_rules_1_10_16::not_object_or_interface(t, book, i);
+    }
+    if rule == RULE_IMPLEMENTED_TWICE {
+        return table_rules_1_10_16::implemented_twice(t, book, i);
+    }
+    if rule == RULE_ROOT {
+        return table_rules_1_10_16::root_not_object(t, book, i);
+    }
+    if promising {
+        return promise_place(t, book, listed, rule, i);
+    }
+    PlaceRead::Kept
+}
+
+// The same of any rule.
+fn rule_place(
+    t: &[u8],
+    book: &[u32],
+    listed: &[u32],
+    promising: bool,
+    rule: u32,
+    i: usize,
+) -> PlaceRead
+    requires { Booked t.now book.now × Slim (table_of t.now) × (i < count_in book.now) × Promising t.now book.now listed.now i promising }
+    ensures { result ≡ placed (head? (rule_of rule (table_of t.now) i (definition_on t.now i))) }
+{
+    if rule <= RULE_BASE {
+        return early_place(t, book, rule, i);
+    }
+    late_place(t, book, listed, promising, rule, i)
+}
 
 // What is said of a rule's first place in definition i.
 fn shown(i: usize, rule: u32, p: PlaceRead) -> TableAnswer
@@ -44,90 +141,24 @@ fn shown(i: usize, rule: u32, p: PlaceRead) -> TableAnswer
     }
 }
 
-// The first break of definition i by the rules on itself, 1 to 3.
-fn own_rules(t: &[u8], book: &[u32], i: usize) -> TableAnswer
-    requires { Booked t.now book.now × (i < count_in book.now) }
-    ensures { result ≡ said_by (table_of t.now) i (definition_on t.now i) own_rules }
+// The rule to ask after this one, which is kept: 4 to 8 are passed over where the definition is known to keep them, and 11 to 15.
+fn next_rule(clean: bool, promising: bool, rule: u32) -> u32
+    requires { rule ≤ rule_root }
+    ensures { NextRule clean promising rule result }
 {
-    let p = table_rules_1_10_16::reserved_name(t, book, i);
-    let PlaceRead::Kept = p else {
-        return shown(i, RULE_RESERVED_NAME, p);
-    };
-    let p = table_rules_1_10_16::name_known(t, book, i);
-    let PlaceRead::Kept = p else {
-        return shown(i, RULE_NAME_KNOWN, p);
-    };
-    let p = table_rules_1_10_16::no_members(t, book, i);
-    shown(i, RULE_NO_MEMBERS, p)
-}
-
-// The same by the rules on its members, 4 to 8; `clean`: it is known to keep these.
-fn member_rules(t: &[u8], book: &[u32], clean: bool, i: usize) -> TableAnswer
-    requires { Booked t.now book.now × (i < count_in book.now) × (clean ≡ true → Sound (table_of t.now) i (definition_on t.now i)) }
-    ensures { result ≡ said_by (table_of t.now) i (definition_on t.now i) member_rules }
-{
-    if clean {
-        return TableAnswer::Accepted;
+    if rule == RULE_NO_MEMBERS {
+        if clean {
+            return RULE_NOT_OBJECT_OR_INTERFACE;
+        }
+        return rule + 1;
     }
-    let p = table_rules_1_10_16::name_repeated(t, book, i);
-    let PlaceRead::Kept = p else {
-        return shown(i, RULE_NAME_REPEATED, p);
-    };
-    let p = table_rules_1_10_16::reserved_member(t, book, i);
-    let PlaceRead::Kept = p else {
-        return shown(i, RULE_RESERVED_MEMBER, p);
-    };
-    let p = table_rules_1_10_16::enum_value(t, book, i);
-    let PlaceRead::Kept = p else {
-        return shown(i, RULE_ENUM_VALUE, p);
-    };
-    let p = table_rules_1_10_16::no_type(t, book, i);
-    let PlaceRead::Kept = p else {
-        return shown(i, RULE_NO_TYPE, p);
-    };
-    let p = table_rules_1_10_16::wrong_base(t, book, i);
-    shown(i, RULE_BASE, p)
-}
-
-// The same by the rules on the names that it lists or implements, 9 and 10.
-fn implemented_rules(t: &[u8], book: &[u32], i: usize) -> TableAnswer
-    requires { Booked t.now book.now × (i < count_in book.now) }
-    ensures { result ≡ said_by (table_of t.now) i (definition_on t.now i) implemented_rules }
-{
-    let p = table_rules_1_10_16::not_object_or_interface(t, book, i);
-    let PlaceRead::Kept = p else {
-        return shown(i, RULE_NOT_OBJECT_OR_INTERFACE, p);
-    };
-    let p = table_rules_1_10_16::implemented_twice(t, book, i);
-    shown(i, RULE_IMPLEMENTED_TWICE, p)
-}
-
-// The same by the rules on what interfaces promise, 11 to 15, by the list of its members; without `promising` it keeps these.
-fn promise_rules(t: &[u8], book: &[u32], listed: &[u32], promising: bool, i: usize) -> TableAnswer
-    requires { Booked t.now book.now × Slim (table_of t.now) × (i < count_in book.now) × Promising t.now book.now listed.now i promising }
-    ensures { result ≡ said_by (table_of t.now) i (definition_on t.now i) promise_rules }
-{
-    if !promising {
-        return TableAnswer::Accepted;
+    if rule == RULE_IMPLEMENTED_TWICE {
+        if promising {
+            return rule + 1;
+        }
+        return RULE_ROOT;
     }
-    let p = table_rules_11_15::field_missing(t, book, listed, i);
-    let PlaceRead::Kept = p else {
-        return shown(i, RULE_FIELD_MISSING, p);
-    };
-    let p = table_rules_11_15::field_type(t, book, listed, i);
-    let PlaceRead::Kept = p else {
-        return shown(i, RULE_FIELD_TYPE, p);
-    };
-    let p = table_rules_11_15::argument_missing(t, book, listed, i);
-    let PlaceRead::Kept = p else {
-        return shown(i, RULE_ARGUMENT_MISSING, p);
-    };
-    let p = table_rules_11_15::argument_type(t, book, listed, i);
-    let PlaceRead::Kept = p else {
-        return shown(i, RULE_ARGUMENT_TYPE, p);
-    };
-    let p = table_rules_11_15::argument_extra(t, book, listed, i);
-    shown(i, RULE_ARGUMENT_EXTRA, p)
+    rule + 1
 }
 
 // The first break of definition i, the rules in turn.
@@ -142,24 +173,15 @@ fn rules_in_turn(
     requires { Booked t.now book.now × Slim (table_of t.now) × (i < count_in book.now) × Promising t.now book.now listed.now i promising × (clean ≡ true → Sound (table_of t.now) i (definition_on t.now i)) }
     ensures { result ≡ table_answer none none (head? (breaks_of (table_of t.now) i (definition_on t.now i))) }
 {
-    let own = own_rules(t, book, i);
-    let TableAnswer::Accepted = own else {
-        return own;
-    };
-    let members = member_rules(t, book, clean, i);
-    let TableAnswer::Accepted = members else {
-        return members;
-    };
-    let implemented = implemented_rules(t, book, i);
-    let TableAnswer::Accepted = implemented else {
-        return implemented;
-    };
-    let promises = promise_rules(t, book, listed, promising, i);
-    let TableAnswer::Accepted = promises else {
-        return promises;
-    };
-    let p = table_rules_1_10_16::root_not_object(t, book, i);
-    shown(i, RULE_ROOT, p)
+    let mut rule = RULE_RESERVED_NAME;
+    while rule <= RULE_ROOT {
+        let p = rule_place(t, book, listed, promising, rule, i);
+        let PlaceRead::Kept = p else {
+            return shown(i, rule, p);
+        };
+        rule = next_rule(clean, promising, rule);
+    }
+    TableAnswer::Accepted
 }
 
 // Lists the members of definition i, if it implements anything, and says whether one of the rules 11 to 15 may be broken.

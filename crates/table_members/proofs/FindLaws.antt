@@ -1,15 +1,12 @@
--- The first of a list that passes, found by a walk that counts.
+-- The first member, or argument, of a name; an implemented name.
 use mathlib.Core.Path.{◌≡◌, refl, sym, ap, ◌∙◌}
 use mathlib.Core.Bool.{Bool, true, false}
 use mathlib.Core.Option.{none, some}
 use mathlib.Core.List.{List, [], ◌∷◌}
-use Prim.Native.Nat.{ℕ, suc, ◌+◌, ◌≤◌, ◌<◌}
+use Prim.Native.Nat.{ℕ, ◌≤◌, ◌<◌}
 use native.Mathlib.Omega.{arith}
-use lib.ListN.{length}
-use borrow.Author.Tests.{lt-ltb}
-use Rattle.paper_table.specs.Lists.{any_of, first_at, find}
-use Rattle.paper_table.proofs.ListsLaws.{first_at_here, first_at_later, any_first}
-use Rattle.table_members.specs.Members.{First, Finds, FirstOf, FindsAt}
+use Rattle.paper_table.specs.Lists.{any_of, find}
+use Rattle.table_members.specs.Members.{First, Finds}
 
 pub find_nil : {A : Type 0} (p : A → Bool) → find p [] ≡ none
 unfolding find
@@ -22,6 +19,18 @@ find_here p x xs e = rw e
 pub find_on : {A : Type 0} (p : A → Bool) (x : A) (xs : List A) → p x ≡ false → find p (x ∷ xs) ≡ find p xs
 unfolding find
 find_on p x xs e = rw e
+
+any_nil : {A : Type 0} (p : A → Bool) → any_of p [] ≡ false
+unfolding any_of
+any_nil p = refl
+
+any_here : {A : Type 0} (p : A → Bool) (x : A) (xs : List A) → p x ≡ true → any_of p (x ∷ xs) ≡ true
+unfolding any_of
+any_here p x xs e = rw e
+
+any_on : {A : Type 0} (p : A → Bool) (x : A) (xs : List A) → p x ≡ false → any_of p (x ∷ xs) ≡ any_of p xs
+unfolding any_of
+any_on p x xs e = rw e
 
 -- what a search at i knows: what is found from there on is what is found from `at` on
 pub record Sought {B : Type 0} (at end i : ℕ) (all left : B) : Type 0 where
@@ -51,45 +60,20 @@ module _ {A : Type 0} (p : A → Bool) (at end i : ℕ) (all left : List A) wher
         same = h.same ∙ ap (find p) f.all_are ∙ find_on p one others e;
       }
 
--- what a walk at i knows that has passed m: besides, the first of all stands m numbers after the first from here on
-pub record Passing {A : Type 0} (p : A → Bool) (at end i m : ℕ) (all left : List A) : Type 0 where
-  pub sought : Sought at end i (find p all) (find p left)
-  pub few : m ≤ i
-  pub number_is : first_at p all ≡ m + first_at p left
-  pub size_is : length all ≡ m + length left
+  module _ (h : Sought at end i (any_of p all) (any_of p left)) where
+    pub any_none : left ≡ [] → false ≡ any_of p all
+    any_none e = sym (h.same ∙ ap (any_of p) e ∙ any_nil p)
 
-pub passing_start : {A : Type 0} (p : A → Bool) (at end : ℕ) (all : List A) → at ≤ end → Passing p at end at 0 all all
-passing_start p at end all h = record { sought = sought_start at end (find p all) h; few = omega arith; number_is = omega arith; size_is = omega arith }
+    module _ (start stop : ℕ) (one : A) (others : List A) (f : First i end start stop left one others) where
+      pub any_found : p one ≡ true → true ≡ any_of p all
+      any_found e = sym (h.same ∙ ap (any_of p) f.all_are ∙ any_here p one others e)
 
-module _ {A : Type 0} (p : A → Bool) (at end i m : ℕ) (all left : List A) (w : Passing p at end i m all left) where
-  pub passing_none : left ≡ [] → find p all ≡ none
-  passing_none e = find_none p at end i all left w.sought e
-
-  module _ (start stop : ℕ) (one : A) (others : List A) (f : First i end start stop left one others) where
-    size : length left ≡ suc (length others)
-    size = ap (λ (xs : List A). length xs) f.all_are
-
-    pub passing_first : p one ≡ true → FirstOf p all m
-    passing_first q =
-        let e : first_at p left ≡ 0 = ap (first_at p) f.all_are ∙ first_at_here p one others q in
-        record { number_is = omega (arith, w.number_is, e); below = omega (arith, w.size_is, size) }
-
-    pub passing_here : p one ≡ true → FindsAt p at end m start stop all one
-    passing_here q = record { finds = find_found p at end i all left w.sought start stop one others f q; first = passing_first q }
-
-    pub passing_on : p one ≡ false → Passing p at end stop (m + 1) all others
-    passing_on q =
-        let e : first_at p left ≡ suc (first_at p others) = ap (first_at p) f.all_are ∙ first_at_later p one others q in
-        record {
-          sought = find_more p at end i all left w.sought start stop one others f q;
-          few = omega (arith, w.few, f.lies.begins, f.lies.order);
-          number_is = omega (arith, w.number_is, e);
-          size_is = omega (arith, w.size_is, size);
-        }
-
--- one passes if and only if there is a first
-pub first_any : {A : Type 0} (p : A → Bool) (xs : List A) (k : ℕ) → FirstOf p xs k → true ≡ any_of p xs
-first_any p xs k f = sym (any_first p xs ∙ lt-ltb (first_at p xs) (length xs) (let e = f.number_is in omega (arith, f.below, e)))
+      pub any_more : p one ≡ false → Sought at end stop (any_of p all) (any_of p others)
+      any_more e = record {
+        begun = omega (arith, h.begun, f.lies.begins, f.lies.order);
+        within = f.lies.within;
+        same = h.same ∙ ap (any_of p) f.all_are ∙ any_on p one others e;
+      }
 
 pub first_moves : {A : Type 0} (i end start stop : ℕ) (all : List A) (one : A) (others : List A) → First i end start stop all one others → i < stop
 first_moves i end start stop all one others f = omega (arith, f.lies.begins, f.lies.order)

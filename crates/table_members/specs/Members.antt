@@ -1,11 +1,10 @@
 -- What stands in a content of a table, by its places: the members of a record, the arguments of a member, the names a record implements.
 -- Assumes nothing.
-use Rattle.std.specs.Prelude.{◌≡◌, Bool, ◌||◌, cond, List, [], ◌∷◌, ℕ, ◌+◌, ◌-◌, ◌%◌, ◌≤◌, ◌<◌, length, leb, eqb}
+use Rattle.std.specs.Prelude.{◌≡◌, Bool, ◌||◌, cond, List, [], ◌∷◌, ℕ, ◌+◌, ◌-◌, ◌%◌, ◌≤◌, length, leb, eqb}
 use Rattle.std.proofs.Math.Option.{Option, none, some}
 use Rattle.std.proofs.Math.Seq.{slice}
 use Rattle.paper_table.specs.TableNumbers.{tag_field, tag_argument, tag_union_member}
-use Rattle.paper.specs.Tokens.{same}
-use Rattle.paper_table.specs.Lists.{first_at, find, gather}
+use Rattle.paper_table.specs.Lists.{find, gather}
 use Rattle.paper_table.specs.References.{Ref, base_of}
 use Rattle.paper_table.specs.House.{HouseField, house_field, cut, house_fields}
 use Rattle.paper_table.specs.Types.{Argument, Member, Definition, name_in, type_in, name_only, argument_of, member_of, implemented_of, member_named, argument_named}
@@ -13,10 +12,6 @@ use Rattle.table_fields.specs.Wrappers.{pack_of, pack_limit}
 use Rattle.table_book.specs.Book.{part}
 use Rattle.table_members.specs.declared.FieldFound.{FieldFound}
 use Rattle.table_members.specs.declared.FieldFound.TheVariants.{Found, Nothing}
-use Rattle.table_members.specs.declared.NamedFound.{NamedFound}
-use Rattle.table_members.specs.declared.NamedFound.TheVariants.{Found as FoundAt, Nothing as NoneNamed}
-use Rattle.table_members.specs.declared.NumberFound.{NumberFound}
-use Rattle.table_members.specs.declared.NumberFound.TheVariants.{Number, Nothing as NoNumber}
 
 -- the fields of the content from `start` up to `end`
 abbrev pub fields_in : List ℕ → ℕ → ℕ → List HouseField
@@ -111,24 +106,6 @@ abbrev pub FindMember : List ℕ → ℕ → ℕ → List ℕ → FieldFound →
 FindMember t at end n (Found tag start stop) = Finds at end start stop (find (member_named n) (members_in t at end)) (member_from t tag start stop)
 FindMember t at end n Nothing = find (member_named n) (members_in t at end) ≡ none
 
--- the first of a list that passes has this number
-pub record FirstOf {A : Type 0} (p : A → Bool) (all : List A) (number : ℕ) : Type 0 where
-  pub number_is : number ≡ first_at p all
-  pub below : number < length all
-
--- it was found there
-pub record FindsAt {A : Type 0} (p : A → Bool) (at end number start stop : ℕ) (all : List A) (one : A) : Type 0 where
-  pub finds : Finds at end start stop (find p all) one
-  pub first : FirstOf p all number
-
-abbrev pub NumberedMember : List ℕ → ℕ → ℕ → List ℕ → NamedFound → Type 0
-NumberedMember t at end n (FoundAt number tag start stop) = FindsAt (member_named n) at end number start stop (members_in t at end) (member_from t tag start stop)
-NumberedMember t at end n NoneNamed = find (member_named n) (members_in t at end) ≡ none
-
-abbrev pub NumberedArgument : List ℕ → ℕ → ℕ → List ℕ → NamedFound → Type 0
-NumberedArgument t at end n (FoundAt number tag start stop) = FindsAt (argument_named n) at end number start stop (arguments_in t at end) (argument_from t start stop)
-NumberedArgument t at end n NoneNamed = find (argument_named n) (arguments_in t at end) ≡ none
-
-abbrev pub NumberedImplemented : List ℕ → ℕ → ℕ → List ℕ → NumberFound → Type 0
-NumberedImplemented t at end n (Number number) = FirstOf (same n) (implemented_in t at end) number
-NumberedImplemented t at end n NoNumber = find (same n) (implemented_in t at end) ≡ none
+abbrev pub FindArgument : List ℕ → ℕ → ℕ → List ℕ → FieldFound → Type 0
+FindArgument t at end n (Found tag start stop) = Finds at end start stop (find (argument_named n) (arguments_in t at end)) (argument_from t start stop)
+FindArgument t at end n Nothing = find (argument_named n) (arguments_in t at end) ≡ none

@@ -7,7 +7,7 @@ ghost use Rattle.paper_table.specs.Lists.{any_of};
 ghost use Rattle.paper_table.specs.Types.{name_in, type_in, member_named};
 ghost use Rattle.table_fields.specs.Fields.{Bounds};
 ghost use Rattle.table_book.specs.Book.{part};
-ghost use Rattle.table_members.specs.Members.{fields_in, members_in, implemented_in, member_from, is_member, NextTag, NextMember, NextArgument, NextImplemented, Named, Typed, ArgumentsFrom, NumberedMember, NumberedArgument, NumberedImplemented};
+ghost use Rattle.table_members.specs.Members.{fields_in, members_in, implemented_in, member_from, is_member, NextTag, NextMember, NextArgument, NextImplemented, Named, Typed, ArgumentsFrom, FindMember, FindArgument};
 
 use paper_table::{
     TAG_ARGUMENT, TAG_FIELD, TAG_IMPLEMENTS, TAG_NAME, TAG_REFERENCE, TAG_UNION_MEMBER,
@@ -18,25 +18,6 @@ use table_fields::{FieldRead, RefRead};
 #[derive(Drop)]
 pub enum FieldFound {
     Found { tag: u8, start: usize, end: usize },
-    Nothing,
-}
-
-// The number of a member or an argument that has a name, its tag and the bounds of its content; or there is none.
-#[derive(Drop)]
-pub enum NamedFound {
-    Found {
-        number: usize,
-        tag: u8,
-        start: usize,
-        end: usize,
-    },
-    Nothing,
-}
-
-// An implemented name's number; or there is none.
-#[derive(Drop)]
-pub enum NumberFound {
-    Number(usize),
     Nothing,
 }
 
@@ -256,13 +237,12 @@ fn is_named(t: &[u8], start: usize, end: usize, s: &[u8], at: usize, n: usize) -
     table_book::is_text(t, m.at, m.size, s, at, n)
 }
 
-// A record's first member, from `from` on, whose name is the n bytes of s from `at` on, and its number among them.
-pub fn find_member(t: &[u8], from: usize, end: usize, s: &[u8], at: usize, n: usize) -> NamedFound
+// A record's first member, from `from` on, whose name is the n bytes of s from `at` on.
+pub fn find_member(t: &[u8], from: usize, end: usize, s: &[u8], at: usize, n: usize) -> FieldFound
     requires { Bounds t.now from end × (at + n ≤ length s.now) }
-    ensures { NumberedMember t.now from end (part s.now at n) result }
+    ensures { FindMember t.now from end (part s.now at n) result }
 {
     let mut i = from;
-    let mut m = 0;
     loop {
         let FieldFound::Found {
             tag,
@@ -270,28 +250,25 @@ pub fn find_member(t: &[u8], from: usize, end: usize, s: &[u8], at: usize, n: us
             end: stop,
         } = next_member(t, i, end)
         else {
-            return NamedFound::Nothing;
+            return FieldFound::Nothing;
         };
         if is_member_named(t, tag, start, stop, s, at, n) {
-            return NamedFound::Found {
-                number: m,
+            return FieldFound::Found {
                 tag: tag,
                 start: start,
                 end: stop,
             };
         }
         i = stop;
-        m += 1;
     }
 }
 
-// A member's first argument, from `from` on, whose name is the n bytes of s from `at` on, and its number among them.
-pub fn find_argument(t: &[u8], from: usize, end: usize, s: &[u8], at: usize, n: usize) -> NamedFound
+// A member's first argument, from `from` on, whose name is the n bytes of s from `at` on.
+pub fn find_argument(t: &[u8], from: usize, end: usize, s: &[u8], at: usize, n: usize) -> FieldFound
     requires { Bounds t.now from end × (at + n ≤ length s.now) }
-    ensures { NumberedArgument t.now from end (part s.now at n) result }
+    ensures { FindArgument t.now from end (part s.now at n) result }
 {
     let mut i = from;
-    let mut a = 0;
     loop {
         let FieldFound::Found {
             tag,
@@ -299,49 +276,16 @@ pub fn find_argument(t: &[u8], from: usize, end: usize, s: &[u8], at: usize, n: 
             end: stop,
         } = next_argument(t, i, end)
         else {
-            return NamedFound::Nothing;
+            return FieldFound::Nothing;
         };
         if is_named(t, start, stop, s, at, n) {
-            return NamedFound::Found {
-                number: a,
+            return FieldFound::Found {
                 tag: tag,
                 start: start,
                 end: stop,
             };
         }
         i = stop;
-        a += 1;
-    }
-}
-
-// The number of the first name that a record implements, from `from` on, that is the n bytes of s from `at` on.
-pub fn find_implemented(
-    t: &[u8],
-    from: usize,
-    end: usize,
-    s: &[u8],
-    at: usize,
-    n: usize,
-) -> NumberFound
-    requires { Bounds t.now from end × (at + n ≤ length s.now) }
-    ensures { NumberedImplemented t.now from end (part s.now at n) result }
-{
-    let mut i = from;
-    let mut k = 0;
-    loop {
-        let FieldFound::Found {
-            tag: _,
-            start,
-            end: stop,
-        } = next_implemented(t, i, end)
-        else {
-            return NumberFound::Nothing;
-        };
-        if table_book::is_text(s, at, n, t, start, stop - start) {
-            return NumberFound::Number(k);
-        }
-        i = stop;
-        k += 1;
     }
 }
 
@@ -350,8 +294,19 @@ pub fn implements(t: &[u8], from: usize, end: usize, s: &[u8], at: usize, n: usi
     requires { Bounds t.now from end × (at + n ≤ length s.now) }
     ensures { result ≡ any_of (same (part s.now at n)) (implemented_in t.now from end) }
 {
-    let NumberFound::Number(_) = find_implemented(t, from, end, s, at, n) else {
-        return false;
-    };
-    true
+    let mut i = from;
+    loop {
+        let FieldFound::Found {
+            tag: _,
+            start,
+            end: stop,
+        } = next_implemented(t, i, end)
+        else {
+            return false;
+        };
+        if table_book::is_text(s, at, n, t, start, stop - start) {
+            return true;
+        }
+        i = stop;
+    }
 }

@@ -1,43 +1,49 @@
--- One of the first so many passes: by the number of the first that does.
+-- One of the first so many passes: found by a walk that counts down.
 use mathlib.Core.Path.{◌≡◌, refl, sym, ap, ◌∙◌}
-use mathlib.Core.Bool.{Bool, true, false, ◌||◌, cond, true≢false}
-use mathlib.Core.Option.{none}
+use mathlib.Core.Bool.{Bool, true, false, ◌||◌}
 use mathlib.Core.List.{List, [], ◌∷◌}
-use Prim.Native.Nat.{ℕ, zero, suc, ◌<◌}
+use Prim.Native.Nat.{ℕ, zero, suc, ◌-◌, ◌≤◌, ◌<◌}
 use native.Mathlib.Omega.{arith}
-use lib.ListN.{length, take}
-use lib.Dec.{ltb, leb-suc-suc}
-use borrow.Author.Tests.{lt-ltb, le-ltb}
-use Rattle.paper_table.specs.Lists.{any_of, first_at, find}
-use Rattle.paper_table.proofs.ListsLaws.{find_none}
-use Rattle.table_members.specs.Members.{FirstOf}
+use lib.ListN.{take}
+use Rattle.paper_table.specs.Lists.{any_of}
+use Rattle.table_members.specs.Members.{First}
 
 module _ {A : Type 0} (p : A → Bool) where
-  any-before : (xs : List A) (k : ℕ) → first_at p xs < length xs → any_of p (take k xs) ≡ ltb (first_at p xs) k
-  unfolding any_of first_at
-  any-before xs zero h = sym (le-ltb (first_at p xs) 0 (omega arith))
-  any-before [] (suc k) h = absurd (omega arith)
-  any-before (x ∷ xs) (suc k) h = go (p x) h (λ q. any-before xs k q)
-    where
-      go : (b : Bool) → cond b 0 (suc (first_at p xs)) < suc (length xs) → (first_at p xs < length xs → any_of p (take k xs) ≡ ltb (first_at p xs) k)
-          → b || any_of p (take k xs) ≡ ltb (cond b 0 (suc (first_at p xs))) (suc k)
-      go true h ih = sym (lt-ltb 0 (suc k) (omega arith))
-      go false h ih = ih (omega arith) ∙ sym (leb-suc-suc (suc (first_at p xs)) k)
-
-  any-fewer : (xs : List A) (k : ℕ) → any_of p xs ≡ false → any_of p (take k xs) ≡ false
+  any-zero : (xs : List A) → any_of p (take 0 xs) ≡ false
   unfolding any_of
-  any-fewer xs zero e = refl
-  any-fewer [] (suc k) e = refl
-  any-fewer (x ∷ xs) (suc k) e = go (p x) e (λ q. any-fewer xs k q)
-    where
-      go : (b : Bool) → b || any_of p xs ≡ false → (any_of p xs ≡ false → any_of p (take k xs) ≡ false) → b || any_of p (take k xs) ≡ false
-      go true e ih = absurd (true≢false e)
-      go false e ih = ih e
+  any-zero xs = refl
 
-  pub first_before : (xs : List A) (number count : ℕ) → FirstOf p xs number → ltb number count ≡ any_of p (take count xs)
-  first_before xs number count f =
-      let e = f.number_is in
-      ap (λ (k : ℕ). ltb k count) e ∙ sym (any-before xs count (omega (arith, f.below, e)))
+  any-empty : (k : ℕ) → any_of p (take k []) ≡ false
+  unfolding any_of
+  any-empty zero = refl
+  any-empty (suc k) = refl
 
-  pub none_before : (xs : List A) (count : ℕ) → find p xs ≡ none → false ≡ any_of p (take count xs)
-  none_before xs count e = sym (any-fewer xs count (find_none p xs e))
+  any_first : (k : ℕ) (x : A) (xs : List A) → 0 < k → any_of p (take k (x ∷ xs)) ≡ (p x || any_of p (take (k - 1) xs))
+  unfolding any_of
+  any_first zero x xs h = absurd (omega arith)
+  any_first (suc k) x xs h = ap (λ (n : ℕ). p x || any_of p (take n xs)) (let e : k ≡ suc k - 1 = omega arith in e)
+
+-- what a walk at i knows that has so many left to look at
+pub record Counting {A : Type 0} (p : A → Bool) (at end i count k : ℕ) (all left : List A) : Type 0 where
+  pub within : i ≤ end
+  pub same : any_of p (take count all) ≡ any_of p (take k left)
+
+pub counting_start : {A : Type 0} (p : A → Bool) (at end count : ℕ) (all : List A) → at ≤ end → Counting p at end at count count all all
+counting_start p at end count all h = record { within = h; same = refl }
+
+module _ {A : Type 0} (p : A → Bool) (at end i count k : ℕ) (all left : List A) (w : Counting p at end i count k all left) where
+  pub counting_none : left ≡ [] → false ≡ any_of p (take count all)
+  counting_none e = sym (w.same ∙ ap (λ (xs : List A). any_of p (take k xs)) e ∙ any-empty p k)
+
+  pub counting_end : k ≤ 0 → false ≡ any_of p (take count all)
+  counting_end h = sym (w.same ∙ ap (λ (n : ℕ). any_of p (take n left)) (let e : k ≡ 0 = omega arith in e) ∙ any-zero p left)
+
+  module _ (start stop : ℕ) (one : A) (others : List A) (f : First i end start stop left one others) (h : 0 < k) where
+    opened : any_of p (take count all) ≡ (p one || any_of p (take (k - 1) others))
+    opened = w.same ∙ ap (λ (xs : List A). any_of p (take k xs)) f.all_are ∙ any_first p k one others h
+
+    pub counting_found : p one ≡ true → true ≡ any_of p (take count all)
+    counting_found e = sym (opened ∙ rw e)
+
+    pub counting_more : p one ≡ false → Counting p at end stop count (k - 1) all others
+    counting_more e = record { within = f.lies.within; same = opened ∙ rw e }

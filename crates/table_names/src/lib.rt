@@ -9,7 +9,7 @@ ghost use Rattle.table_fields.specs.Fields.{Bounds};
 ghost use Rattle.table_book.specs.Book.{part};
 ghost use Rattle.table_members.specs.Members.{members_in, arguments_in, implemented_in};
 
-use table_members::{NamedFound, NumberFound};
+use table_members::FieldFound;
 
 const UNDERSCORE: u8 = 0x5f;
 
@@ -43,16 +43,25 @@ pub fn is_member_before(t: &[u8], from: usize, end: usize, count: u32, at: usize
     requires { Bounds t.now from end × (at + n ≤ length t.now) }
     ensures { result ≡ any_of (member_named (part t.now at n)) (take count (members_in t.now from end)) }
 {
-    let NamedFound::Found {
-        number,
-        tag: _,
-        start: _,
-        end: _,
-    } = table_members::find_member(t, from, end, t, at, n)
-    else {
-        return false;
-    };
-    number < count as usize
+    let mut i = from;
+    let mut left = count;
+    while 0 < left {
+        let FieldFound::Found {
+            tag,
+            start,
+            end: stop,
+        } = table_members::next_member(t, i, end)
+        else {
+            return false;
+        };
+        let m = table_members::member_name(t, tag, start, stop);
+        if table_book::is_text(t, m.at, m.size, t, at, n) {
+            return true;
+        }
+        i = stop;
+        left -= 1;
+    }
+    false
 }
 
 // The same of a field's arguments.
@@ -67,16 +76,25 @@ pub fn is_argument_before(
     requires { Bounds t.now from end × (at + n ≤ length t.now) }
     ensures { result ≡ any_of (argument_named (part t.now at n)) (take count (arguments_in t.now from end)) }
 {
-    let NamedFound::Found {
-        number,
-        tag: _,
-        start: _,
-        end: _,
-    } = table_members::find_argument(t, from, end, t, at, n)
-    else {
-        return false;
-    };
-    number < count as usize
+    let mut i = from;
+    let mut left = count;
+    while 0 < left {
+        let FieldFound::Found {
+            tag: _,
+            start,
+            end: stop,
+        } = table_members::next_argument(t, i, end)
+        else {
+            return false;
+        };
+        let m = table_members::name_in(t, start, stop);
+        if table_book::is_text(t, m.at, m.size, t, at, n) {
+            return true;
+        }
+        i = stop;
+        left -= 1;
+    }
+    false
 }
 
 // Rule 10: is one of the first `count` implemented names the n bytes from `at` on?
@@ -91,10 +109,24 @@ pub fn is_implemented_before(
     requires { Bounds t.now from end × (at + n ≤ length t.now) }
     ensures { result ≡ any_of (same (part t.now at n)) (take count (implemented_in t.now from end)) }
 {
-    let NumberFound::Number(number) = table_members::find_implemented(t, from, end, t, at, n) else {
-        return false;
-    };
-    number < count as usize
+    let mut i = from;
+    let mut left = count;
+    while 0 < left {
+        let FieldFound::Found {
+            tag: _,
+            start,
+            end: stop,
+        } = table_members::next_implemented(t, i, end)
+        else {
+            return false;
+        };
+        if table_book::is_text(t, at, n, t, start, stop - start) {
+            return true;
+        }
+        i = stop;
+        left -= 1;
+    }
+    false
 }
 
 // Rule 6: is it `true`, `false` or `null`?

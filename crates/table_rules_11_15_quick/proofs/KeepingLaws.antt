@@ -29,12 +29,13 @@ use Rattle.paper_table.proofs.TextLaws.{same_sound, same_refl, same_ref_refl}
 use Rattle.table_fields.specs.Fields.{Finds}
 use Rattle.table_book.specs.Book.{part}
 use Rattle.table_subtypes.specs.SubAnswers.{SubAnswer}
-use Rattle.table_members.specs.Members.{fields_in, field_from, member_from, First, FirstOf}
+use Rattle.table_members.specs.Members.{fields_in, field_from, member_from, First}
 use Rattle.table_members.proofs.MemberLaws.{field_is}
 use Rattle.table_members.proofs.TagLaws.{part_slice}
 use Rattle.table_members.proofs.TypeLaws.{typed_packs}
 use Rattle.table_types.proofs.Objects.{any_found}
 use Rattle.table_types.proofs.SubTyping.{sub_alike, sub_other}
+use Rattle.table_rules_11_15_quick.specs.Numbered.{FirstOf}
 use Rattle.table_possible.proofs.BitLaws.{lone, bit_or_is, one_shifted}
 use Rattle.table_possible.proofs.NameLaws.{passes, Inside, inside_start, inside_one, inside_on}
 use Rattle.table_rules_11_15_quick.specs.Keeping.{Every, ArgumentKept, ExtraKept, OwnKept, FieldKept, NameKept, AllKept, SubKept, no_argument, bit_of, Marks, MatchedBy}
@@ -154,9 +155,9 @@ module _ (t : List ℕ) (at n o at' n' i : ℕ) {alike : Bool} (e : alike ≡ sa
       sub_test_complete (can_be (table_of t)) (sub_false (sub_test_sound (λ a b. false) r s (sym (f r s (sym (typed_packs x k)) (sym (typed_packs y l)) (rw (← x.base, ← y.base) (sym e ∙ h))) ∙ z)))
 
 -- rules 13 and 14: the first of the name, if its type is the same
-pub matched : (ys : List Argument) (x : Argument) (n : List ℕ) (number : ℕ) (one : Argument) → n ≡ x.name → FirstOf (argument_named n) ys number → find (argument_named n) ys ≡ some one → x.type ≡ one.type → number < 32 → MatchedBy ys x number
-matched ys x n number one e f g q h = record {
-  kept = record { other = one; other_is = ap (λ (m : List ℕ). find (argument_named m) ys) (sym e) ∙ g; type_is = rw q (same_ref_refl one.type) };
+pub matched : (ys : List Argument) (x : Argument) (n : List ℕ) (number : ℕ) (one : Argument) → n ≡ x.name → FirstOf (argument_named n) ys number one → x.type ≡ one.type → number < 32 → MatchedBy ys x number
+matched ys x n number one e f q h = record {
+  kept = record { other = one; other_is = ap (λ (m : List ℕ). find (argument_named m) ys) (sym e) ∙ f.is; type_is = rw q (same_ref_refl one.type) };
   name_is =
       ap (λ (k : ℕ). (get_or ys k no_argument).name) f.number_is
       ∙ same_sound (get_or ys (first_at (argument_named n) ys) no_argument).name n (passes (argument_named n) ys no_argument (let k = f.number_is in omega (arith, f.below, k))) ∙ e;

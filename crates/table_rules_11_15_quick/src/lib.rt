@@ -12,11 +12,11 @@ ghost use Rattle.table_types.specs.Booked.{Booked, start_in, end_in, definition_
 ghost use Rattle.table_types.specs.Sizes.{slim_member, Slim};
 ghost use Rattle.table_listing.specs.Listed.{Listed};
 ghost use Rattle.table_possible.specs.Possible.{Possible};
+ghost use Rattle.table_rules_11_15_quick.specs.Numbered.{ArgumentSought};
 ghost use Rattle.table_rules_11_15_quick.specs.Keeping.{Every, ArgumentKept, ExtraKept, OwnKept, FieldKept, NameKept, AllKept, SubKept, bit_of, ExtrasKept, MatchedAs};
 
-use paper::{WRAP_BASE, WRAP_NON_NULL};
 use paper_table::{RECORD_INTERFACE, TAG_FIELD, TAG_REFERENCE};
-use table_members::{FieldFound, NamedFound, TypeRead};
+use table_members::{FieldFound, TypeRead};
 
 // Are the texts of two type references the same?
 fn is_alike(t: &[u8], start: usize, end: usize, from: usize, stop: usize) -> bool
@@ -81,6 +81,46 @@ fn is_type_kept(
     is_below(t, book, bits, r, q)
 }
 
+// An argument's number and the bounds of its content; or there is none.
+#[derive(Drop)]
+pub enum ArgumentFound {
+    Argument {
+        number: usize,
+        start: usize,
+        end: usize,
+    },
+    Nothing,
+}
+
+// The first argument so named, from `from` on in a member's content, with its number, by which it is marked (`table_members::find_argument` counts none).
+fn argument_in(t: &[u8], from: usize, end: usize, s: &[u8], at: usize, n: usize) -> ArgumentFound
+    requires { Bounds t.now from end × (at + n ≤ length s.now) }
+    ensures { ArgumentSought t.now (arguments_in t.now from end) (part s.now at n) result }
+{
+    let mut i = from;
+    let mut a = 0;
+    loop {
+        let FieldFound::Found {
+            tag: _,
+            start,
+            end: stop,
+        } = table_members::next_argument(t, i, end)
+        else {
+            return ArgumentFound::Nothing;
+        };
+        let name = table_members::name_in(t, start, stop);
+        if table_book::is_text(t, name.at, name.size, s, at, n) {
+            return ArgumentFound::Argument {
+                number: a,
+                start: start,
+                end: stop,
+            };
+        }
+        i = stop;
+        a += 1;
+    }
+}
+
 // The number of the own field's argument that has another's name and type.
 #[derive(Drop)]
 pub enum Matched {
@@ -96,12 +136,11 @@ fn matching(t: &[u8], start: usize, end: usize, from: usize, stop: usize) -> Mat
     ensures { MatchedAs (arguments_in t.now from stop) (argument_from t.now start end) result }
 {
     let n = table_members::name_in(t, start, end);
-    let NamedFound::Found {
+    let ArgumentFound::Argument {
         number,
-        tag: _,
         start: own,
         end: own_end,
-    } = table_members::find_argument(t, from, stop, t, n.at, n.size)
+    } = argument_in(t, from, stop, t, n.at, n.size)
     else {
         return Matched::Nothing;
     };
@@ -116,6 +155,10 @@ fn matching(t: &[u8], start: usize, end: usize, from: usize, stop: usize) -> Mat
 
 const MOST_MARKED: u32 = 31;
 
+const WRAPPERS: u32 = 4;
+
+const NON_NULL: u32 = 2;
+
 // Is the argument with this content, its number k, not marked, and Non-Null?
 fn is_loose(t: &[u8], start: usize, end: usize, marks: u32, k: u32) -> bool
     requires { Bounds t.now start end }
@@ -128,7 +171,7 @@ fn is_loose(t: &[u8], start: usize, end: usize, marks: u32, k: u32) -> bool
         return false;
     }
     let x = table_members::type_in(t, start, end);
-    x.wrappers % WRAP_BASE == WRAP_NON_NULL
+    x.wrappers % WRAPPERS == NON_NULL
 }
 
 // Rule 15 of the arguments from `from` up to `stop`, where those are marked that the interface's field has.

@@ -13,7 +13,7 @@ ghost use Rattle.table_rules_13_15.specs.Asked.{failing, arguments_asked};
 
 use paper::{WRAP_BASE, WRAP_NON_NULL};
 use paper_table::{RULE_ARGUMENT_EXTRA, RULE_ARGUMENT_MISSING, RULE_ARGUMENT_TYPE};
-use table_members::{FieldFound, NamedFound};
+use table_members::FieldFound;
 use table_places::PlaceRead;
 
 // Does the argument with this content break the rule, where the other field has none of its name?
@@ -53,8 +53,7 @@ fn is_wrong(t: &[u8], rule: u32, start: usize, end: usize, from: usize, stop: us
     ensures { result ≡ failing rule (argument_from t.now start end) (find (argument_named (argument_from t.now start end).name) (arguments_in t.now from stop)) }
 {
     let n = table_members::name_in(t, start, end);
-    let NamedFound::Found {
-        number: _,
+    let FieldFound::Found {
         tag: _,
         start: own,
         end: own_end,

@@ -11,10 +11,9 @@ use lib.Seq.{get_or-set_same, get_or-set_other, get_or-take, get_or-drop, drop-d
 use lib.Dec.{eqb}
 use borrow.Author.Tests.{eq-eqb, ne_eqb, lt-ltb, le-ltb, eqb-true, eqb-false, not-true}
 use Rattle.paper.specs.Tokens.{same}
-use Rattle.paper.proofs.Bools.{and_left, and_right}
 use Rattle.paper_table.specs.Lists.{any_of, each_from, each, only_if}
 use Rattle.paper_table.specs.TableNumbers.{tag_field, tag_argument}
-use Rattle.paper_table.specs.Types.{tag_nothing, Argument, Member, Definition, Table, table_of, type_in, is_roots, is_enum, is_object, is_interface, is_reserved}
+use Rattle.paper_table.specs.Types.{Argument, Member, Definition, Table, table_of, type_in, is_roots, is_enum, is_object, is_interface, is_reserved}
 use Rattle.paper_table.specs.Places.{Place, member_at, argument_at, argument_places, member_places}
 use Rattle.paper_table.specs.Rule4NameRepeated.{member_repeats, argument_repeats, name_repeated}
 use Rattle.paper_table.specs.Rule5ReservedMember.{member_reserved, argument_reserved, reserved_member}
@@ -25,7 +24,7 @@ use Rattle.paper_table.proofs.TextLaws.{same_sound}
 use Rattle.table_book.specs.Book.{part}
 use Rattle.table_book.proofs.Texts.{length_part}
 use Rattle.table_members.specs.Members.{fields_in, member_from, First}
-use Rattle.table_types.specs.Booked.{is_composite_tag, input_tag}
+use Rattle.table_types.specs.Booked.{is_composite_tag}
 use Rattle.table_bases.proofs.TestLaws.{unknown_field, unknown_input, unknown_other, wrong_field, wrong_input, wrong_other}
 use Rattle.table_rules_4_8_quick.specs.Sound.{EveryFrom, member_name, argument_name, Before, ArgumentSound, BaseSound, MemberSound, Sound, InputTag, cells, long, second_last, last, tail_at, cell_of, Seen, Noted, Onward, Told}
 
@@ -70,11 +69,8 @@ all_sound t i d k = record {
 }
 
 -- by the tag of the base type
-pub input_tag_is : (k : ℕ) {r : Bool} → r ≡ input_tag k → r ≡ true → InputTag k
-input_tag_is k e q =
-    let known = not (eqb k tag_nothing) in
-    let input = not (is_composite_tag k) in
-    record { known = not-true (eqb k tag_nothing) (and_left known input (sym e ∙ q)); input = not-true (is_composite_tag k) (and_right known input (sym e ∙ q)) }
+pub input_tag : (k : ℕ) (r : Bool) → (k ≡ 0 → ⊥) → r ≡ is_composite_tag k → not r ≡ true → InputTag k
+input_tag k r z e q = record { known = ne_eqb k 0 z; input = sym e ∙ not-true r q }
 
 module _ (t : List ℕ) (tag start end b : ℕ) (e : b ≡ (base_meant (table_of t) (type_in (fields_in t start end))).tag) where
   pub base_field : tag ≡ tag_field → (b ≡ 0 → ⊥) → not (eqb b 6) ≡ true → BaseSound (table_of t) (member_from t tag start end)

@@ -7,11 +7,13 @@ ghost use Rattle.table_fields.specs.Fields.{Bounds};
 ghost use Rattle.table_book.specs.Book.{part, count_in};
 ghost use Rattle.table_members.specs.Members.{members_in, arguments_in, member_from, argument_from};
 ghost use Rattle.table_types.specs.Booked.{Booked, definition_on};
-ghost use Rattle.table_rules_4_8_quick.specs.Sound.{EveryFrom, member_name, argument_name, Before, ArgumentSound, BaseSound, MemberSound, Sound, cells, tail_limit, tail_at, cell_of, member_mark, Noted, Told};
+ghost use Rattle.table_rules_4_8_quick.specs.Sound.{EveryFrom, member_name, argument_name, Before, ArgumentSound, BaseSound, MemberSound, Sound, InputTag, cells, tail_limit, tail_at, cell_of, member_mark, Noted, Told};
 
 use paper_table::{RECORD_INPUT_OBJECT, TAG_ARGUMENT, TAG_FIELD};
 use table_members::FieldFound;
-use table_types::{NO_TYPE, is_input};
+
+// the tags of meant types
+const NO_TYPE: u32 = 0;
 
 // Names are noted in so many cells; what each of the last six bytes of a name counts in its cell's number.
 const CELLS: usize = 256;
@@ -120,6 +122,16 @@ fn is_member_new(
         return !table_names::is_member_before(t, from, end, m, at, n);
     }
     true
+}
+
+// Rules 7 and 8 of an argument or input field: a type, and no object, interface or union.
+fn is_input(tag: u32) -> bool
+    ensures { result ≡ true → InputTag tag }
+{
+    if tag == NO_TYPE {
+        return false;
+    }
+    !table_types::is_composite(tag)
 }
 
 // Rules 4, 5, 7 and 8 of the argument from `start` up to `stop`, its number a, of the field from `from` up to `end`.

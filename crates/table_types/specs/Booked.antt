@@ -1,6 +1,6 @@
 -- The book of a table: what its numbers say of the table's definitions; what is asked of it.
 -- Assumes nothing.
-use Rattle.std.specs.Prelude.{◌≡◌, Bool, not, ◌&&◌, cond, List, map, ℕ, ◌+◌, ◌≤◌, ◌<◌, length, get_or, eqb, leb, ltb}
+use Rattle.std.specs.Prelude.{◌≡◌, Bool, ◌&&◌, cond, List, map, ℕ, ◌+◌, ◌≤◌, ◌<◌, length, get_or, leb, ltb}
 use Rattle.paper.specs.Numbers.{most_wrappers}
 use Rattle.paper_table.specs.TableNumbers.{most_table, tag_scalar, tag_object, tag_union}
 use Rattle.paper_table.specs.References.{Ref}
@@ -91,10 +91,6 @@ kind_in book i = cond (ltb i (count_in book)) (get_or book i 0) tag_nothing
 -- the tag of an object, interface or union
 abbrev pub is_composite_tag : ℕ → Bool
 is_composite_tag k = leb tag_object k && leb k tag_union
-
--- the tags of scalars, enums and input objects, among those of types
-abbrev pub input_tag : ℕ → Bool
-input_tag k = not (eqb k tag_nothing) && not (is_composite_tag k)
 
 -- i is the number of the definition that the name n means; if there is no such entry it means a built-in scalar or nothing
 pub record NumberMeant (t book n : List ℕ) (i : ℕ) : Type 0 where

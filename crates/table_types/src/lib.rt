@@ -7,7 +7,7 @@ ghost use Rattle.paper_table.specs.Types.{table_of, type_named, directive_named,
 ghost use Rattle.table_fields.specs.Fields.{Bounds};
 ghost use Rattle.table_book.specs.Book.{part, room, book_size, count_in};
 ghost use Rattle.table_members.specs.Members.{members_in};
-ghost use Rattle.table_types.specs.Booked.{Booked, Bookable, Recorded, Put, Entering, NumberMeant, kind_in, is_composite_tag, input_tag, spoken, SubTyped};
+ghost use Rattle.table_types.specs.Booked.{Booked, Bookable, Recorded, Put, Entering, NumberMeant, kind_in, is_composite_tag, spoken, SubTyped};
 
 use paper_table::{
     RECORD_DIRECTIVE, RECORD_INPUT_OBJECT, RECORD_INTERFACE, RECORD_OBJECT, RECORD_ROOTS,
@@ -15,7 +15,7 @@ use paper_table::{
 };
 use table_book::{CELL_COUNT, CELL_END, CELL_NAME, CELL_SIZE, CELL_START};
 use table_fields::FieldRead;
-use table_members::{NamedFound, TypeRead};
+use table_members::{FieldFound, TypeRead};
 
 // What a name means: a built-in scalar, the type that is the table's definition of a number, or nothing.
 #[derive(Drop)]
@@ -193,23 +193,12 @@ pub fn is_composite(tag: u32) -> bool
     tag <= RECORD_UNION
 }
 
-// Is it the tag of a scalar, an enum or an input object?
-pub fn is_input(tag: u32) -> bool
-    ensures { result ≡ input_tag tag }
-{
-    if tag == NO_TYPE {
-        return false;
-    }
-    !is_composite(tag)
-}
-
 // Has a record a member whose name is the n bytes of s from `at` on?
 pub fn has_member(t: &[u8], start: usize, end: usize, s: &[u8], at: usize, n: usize) -> bool
     requires { Bounds t.now start end × (at + n ≤ length s.now) }
     ensures { result ≡ any_of (member_named (part s.now at n)) (members_in t.now start end) }
 {
-    let NamedFound::Found {
-        number: _,
+    let FieldFound::Found {
         tag: _,
         start: _,
         end: _,

@@ -8,7 +8,6 @@ use lib.Seq.{length-take-le}
 use Rattle.paper.specs.Numbers.{row_size, rows_size}
 use Rattle.paper.specs.Grammar.{nt}
 use Rattle.paper.specs.Language.{Document}
-use Rattle.paper.proofs.Nodes.{node}
 use Rattle.paper.specs.Calls.{filled}
 use Rattle.paper.specs.declared.Refusal.{Refusal}
 use Rattle.paper.proofs.Lexing.{from}
@@ -22,7 +21,7 @@ use Rattle.call_buffers.specs.Buffers.{cleared}
 use Rattle.text_answer.specs.Parsing.{Filled}
 
 -- a text read through has rows within the buffer
-module _ (s rows : List ℕ) (m : State) (e : length rows ≡ rows_size) (q : go (start rows) (nt (node Document) ∷ []) (from s 0) ≡ whole m) where
+module _ (s rows : List ℕ) (m : State) (e : length rows ≡ rows_size) (q : go (start rows) (nt Document ∷ []) (from s 0) ≡ whole m) where
   pub whole_room : row_size * m.rows ≤ rows_size
   whole_room = let g = going_whole Document (from s 0) rows m e q in omega (arith, g.2, g.3)
 

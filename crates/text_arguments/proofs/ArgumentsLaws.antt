@@ -9,8 +9,7 @@ use native.Mathlib.Omega.{arith}
 use lib.ListN.{length}
 use Rattle.paper.specs.Grammar.{nt, tm, act}
 use Rattle.paper.specs.Numbers.{most_text, most_rows}
-use Rattle.paper.specs.Language.{language, the, paren_l, paren_r, colon, named, end, n_other}
-use Rattle.paper.proofs.Nodes.{Name, Arguments?, Arguments, Argument+, Argument*, Argument, Value}
+use Rattle.paper.specs.Language.{language, the, paren_l, paren_r, colon, named, end, Name, Arguments?, Arguments, Argument+, Argument*, Argument, Value, n_other}
 use Rattle.paper.specs.Rows.{top}
 use Rattle.paper.specs.Sizes.{Counts, over_counts}
 use Rattle.paper.specs.declared.Refusal.{Refusal}

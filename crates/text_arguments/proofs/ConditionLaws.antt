@@ -21,8 +21,7 @@ use Rattle.text_cursor.specs.declared.Cursor.{Cursor}
 use Rattle.text_cursor.specs.declared.Read.{Read}
 use Rattle.text_cursor.specs.declared.Read.TheVariants.{Done, Refused}
 use Rattle.text_cursor.specs.Reader.{moved_to, at, Ready, Halts, Said}
-use Rattle.paper.specs.Language.{language, the, any_name, n_on, row, kind, end, n_other}
-use Rattle.paper.proofs.Nodes.{Name, NamedType, TypeCondition}
+use Rattle.paper.specs.Language.{language, the, any_name, n_on, row, kind, end, Name, NamedType, TypeCondition, n_other}
 use Rattle.text_cursor.proofs.Steps.{first, refuse, too_many_rows, is, not_is, refuses, refuses_end}
 use Rattle.text_cursor.proofs.Cells.{put, put_length, row_ends}
 use Rattle.text_arguments.specs.Arguments.{AtOn, condition_stack}

@@ -22,8 +22,7 @@ use Rattle.text_cursor.specs.declared.Cursor.{Cursor}
 use Rattle.text_cursor.specs.declared.Read.{Read}
 use Rattle.text_cursor.specs.declared.Read.TheVariants.{Done, Refused}
 use Rattle.text_cursor.specs.Reader.{Looks, moved_to, at, Ready, Went, Halts, Said}
-use Rattle.paper.specs.Language.{language, the, at_sign, kind, named, end, n_other, paren_l}
-use Rattle.paper.proofs.Nodes.{Name, Arguments?, Directives?, Directives, Directive+, Directive*, Directive}
+use Rattle.paper.specs.Language.{language, the, at_sign, kind, named, end, Name, Arguments?, Directives?, Directives, Directive+, Directive*, Directive, n_other, paren_l}
 use Rattle.text_cursor.proofs.Steps.{first, null, plain, too_many_rows, is, not_is}
 use Rattle.text_cursor.proofs.Cells.{put, put_length, ends_row}
 use Rattle.text_arguments.specs.Arguments.{arguments_stack, directive_stack, directives_stack}

@@ -11,8 +11,7 @@ use borrow.Author.Tests.{eqb-true, eqb-false}
 use lib.ListN.{length}
 use Rattle.paper.specs.Grammar.{nt, act}
 use Rattle.paper.specs.Numbers.{most_text, most_rows, rows_size}
-use Rattle.paper.specs.Language.{Class, any_name, language, row, kind, named, n_other}
-use Rattle.paper.proofs.Nodes.{Name}
+use Rattle.paper.specs.Language.{Class, any_name, Name, language, row, kind, named, n_other}
 use Rattle.paper.specs.Rows.{top}
 use Rattle.paper.specs.Sizes.{Counts, kinded, over_counts}
 use Rattle.paper.specs.declared.Refusal.{Refusal}

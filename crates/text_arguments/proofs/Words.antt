@@ -9,8 +9,7 @@ use lib.ListN.{length}
 use borrow.Author.Tests.{le-ltb, ne_eqb}
 use Rattle.paper.specs.Grammar.{nt, tm}
 use Rattle.paper.specs.Numbers.{most_rows}
-use Rattle.paper.specs.Language.{Class, num_c, Terminal, hits, n_other}
-use Rattle.paper.proofs.Nodes.{Node}
+use Rattle.paper.specs.Language.{Class, num_c, Terminal, hits, Part, n_other}
 use Rattle.paper.specs.Tokens.{Text, token, name_class}
 use Rattle.paper.specs.Sizes.{Counts, opens_level, closes_level, over_counts}
 use Rattle.paper.proofs.Lexing.{from}
@@ -43,7 +42,7 @@ at_name s c h l e =
     let q : Token (kind_of (name_class (bytes_at s c))) c.start c.end ≡ Token c.kind c.start c.end = ap head_of (sym f) ∙ l in
     ((cc), f)
 
-class_first : (S : State) (σ : Stack) (p : Node) {α : Stack} (k : Class) (a e : ℕ) (t : Text) → Memᴰ α (factored p) → T (fst graphql α k) →
+class_first : (S : State) (σ : Stack) (p : Part) {α : Stack} (k : Class) (a e : ℕ) (t : Text) → Memᴰ α (factored p) → T (fst graphql α k) →
     go S (nt p ∷ σ) (token (token_of k a e) t) ≡ go S (α ++ σ) (token (token_of k a e) t)
 unfolding go
 class_first S σ p k a e t m h = ap (goes S (token_of k a e) t (λ s' τ. go s' τ t)) (step_by fits p (some k) σ (choose_first fits p k m h))
@@ -58,7 +57,7 @@ module _ (s : List ℕ) (c : Cursor) (h : c.stop ≤ length s) (l : Looks s c) (
   here τ = go (st cells n o c.stop left q) τ (from s c.stop)
 
   -- a word that begins the production α of the part
-  pub word_first : (σ : Stack) (p : Node) {α : Stack} → Memᴰ α (factored p) → (g : ℕ → ℕ → Bool) → T (g 1 (word_of (bytes_at s c))) → T (all (λ k. implies (g (kind_of k) (word_number k)) (fst graphql α k)) all_c) →
+  pub word_first : (σ : Stack) (p : Part) {α : Stack} → Memᴰ α (factored p) → (g : ℕ → ℕ → Bool) → T (g 1 (word_of (bytes_at s c))) → T (all (λ k. implies (g (kind_of k) (word_number k)) (fst graphql α k)) all_c) →
       here (nt p ∷ σ) ≡ here (α ++ σ)
   unfolding word_of
   word_first σ p {α} m g t a =

@@ -1,8 +1,7 @@
 -- The symbols that the readers of arguments, directives and type conditions read, and what they ask of their tokens.
 use Rattle.std.specs.Prelude.{◌≡◌, List, [], ◌∷◌, ℕ, ◌-◌, take, drop}
 use Rattle.paper.specs.Grammar.{nt}
-use Rattle.paper.specs.Language.{n_other}
-use Rattle.paper.proofs.Nodes.{Arguments?, Directive, Directives?, TypeCondition}
+use Rattle.paper.specs.Language.{Arguments?, Directive, Directives?, TypeCondition, n_other}
 use Rattle.paper.proofs.Going.{Stack}
 use Rattle.text_scan.specs.Head.{word_of, kind_of}
 use Rattle.text_cursor.specs.declared.Cursor.{Cursor}

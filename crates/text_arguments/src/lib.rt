@@ -2,33 +2,33 @@
 ghost use Rattle.std.specs.Prelude.{◌≡◌};
 ghost use Rattle.paper.specs.Language.{at_sign, paren_l};
 ghost use Rattle.text_scan.specs.Head.{kind_of};
-ghost use Rattle.text_cursor.specs.Reader.{Ready, Said, said};
+ghost use Rattle.text_cursor.specs.Reader.{Ready, Said};
 ghost use Rattle.text_arguments.specs.Arguments.{AtOn, arguments_stack, directive_stack, directives_stack, condition_stack};
 
-use paper::{KIND_ARGUMENT, KIND_DIRECTIVE, KIND_TYPE_REFERENCE, MOST_ROWS};
-use text_cursor::{Cursor, REFUSED, no_going, put_end, put_row, too_deep, too_many_rows};
+use paper::{KIND_ARGUMENT, KIND_DIRECTIVE, KIND_TYPE_REFERENCE, MOST_ROWS, Refusal};
+use text_cursor::{Cursor, Read, no_going, put_end, put_row};
 use text_scan::{TOKEN_AT, TOKEN_NAME, TOKEN_PAREN_CLOSE, TOKEN_PAREN_OPEN};
 use text_values::entry;
 
 // Arguments, at their (
-pub fn arguments(s: &[u8], rows: &mut [u32], c: Cursor, parent: u32, left: u32) -> Cursor
+pub fn arguments(s: &[u8], rows: &mut [u32], c: Cursor, parent: u32, left: u32) -> Read
     requires { Ready s.now rows.old c parent × (c.kind ≡ kind_of paren_l) }
-    ensures { Said 0 s.now rows.old rows.new c parent left arguments_stack (said result) }
+    ensures { Said 0 s.now rows.old rows.new c parent left arguments_stack result }
 {
     if left == 0 {
-        return too_deep(c.start);
+        return Read::Refused(Refusal::TooDeep(c.start));
     }
     let n = c.rows;
-    let first = c.past(s, n);
-    if REFUSED <= first.kind {
-        return first;
-    }
+    let r = c.past(s, n);
+    let Read::Done(first) = r else {
+        return r;
+    };
     let mut d = first;
     loop {
-        let next = entry(s, rows, d, parent, left - 1, KIND_ARGUMENT, false);
-        if REFUSED <= next.kind {
-            return next;
-        }
+        let t = entry(s, rows, d, parent, left - 1, KIND_ARGUMENT, false);
+        let Read::Done(next) = t else {
+            return t;
+        };
         if next.kind == TOKEN_PAREN_CLOSE {
             let m = next.rows;
             return next.past(s, m);
@@ -38,18 +38,18 @@ pub fn arguments(s: &[u8], rows: &mut [u32], c: Cursor, parent: u32, left: u32) 
 }
 
 // Directive, at its @
-fn directive(s: &[u8], rows: &mut [u32], c: Cursor, parent: u32, left: u32) -> Cursor
+fn directive(s: &[u8], rows: &mut [u32], c: Cursor, parent: u32, left: u32) -> Read
     requires { Ready s.now rows.old c parent × (c.kind ≡ kind_of at_sign) }
-    ensures { Said 1 s.now rows.old rows.new c parent left directive_stack (said result) }
+    ensures { Said 1 s.now rows.old rows.new c parent left directive_stack result }
 {
     let n = c.rows;
     if n == MOST_ROWS {
-        return too_many_rows(c.start);
+        return Read::Refused(Refusal::TooManyRows(c.start));
     }
-    let name = c.past(s, n + 1);
-    if REFUSED <= name.kind {
-        return name;
-    }
+    let r = c.past(s, n + 1);
+    let Read::Done(name) = r else {
+        return r;
+    };
     if name.kind != TOKEN_NAME {
         return no_going(name);
     }
@@ -64,55 +64,55 @@ fn directive(s: &[u8], rows: &mut [u32], c: Cursor, parent: u32, left: u32) -> C
         name.end - name.start,
         0,
     );
-    let first = name.past(s, n + 1);
-    if REFUSED <= first.kind {
-        return first;
-    }
+    let t = name.past(s, n + 1);
+    let Read::Done(first) = t else {
+        return t;
+    };
     if first.kind != TOKEN_PAREN_OPEN {
         put_end(rows, n, first.stop);
-        return first;
+        return t;
     }
-    let d = arguments(s, rows, first, n, left);
-    if REFUSED <= d.kind {
-        return d;
-    }
+    let u = arguments(s, rows, first, n, left);
+    let Read::Done(d) = u else {
+        return u;
+    };
     put_end(rows, n, d.stop);
-    d
+    u
 }
 
 // Directives, at their first @
-pub fn directives(s: &[u8], rows: &mut [u32], c: Cursor, parent: u32, left: u32) -> Cursor
+pub fn directives(s: &[u8], rows: &mut [u32], c: Cursor, parent: u32, left: u32) -> Read
     requires { Ready s.now rows.old c parent × (c.kind ≡ kind_of at_sign) }
-    ensures { Said 0 s.now rows.old rows.new c parent left directives_stack (said result) }
+    ensures { Said 0 s.now rows.old rows.new c parent left directives_stack result }
 {
     let mut d = c;
     loop {
-        let next = directive(s, rows, d, parent, left);
-        if REFUSED <= next.kind {
-            return next;
-        }
+        let r = directive(s, rows, d, parent, left);
+        let Read::Done(next) = r else {
+            return r;
+        };
         if next.kind != TOKEN_AT {
-            return next;
+            return r;
         }
         d = next;
     }
 }
 
 // TypeCondition, at its `on`
-pub fn condition(s: &[u8], rows: &mut [u32], c: Cursor, parent: u32, left: u32) -> Cursor
+pub fn condition(s: &[u8], rows: &mut [u32], c: Cursor, parent: u32, left: u32) -> Read
     requires { Ready s.now rows.old c parent × AtOn s.now c }
-    ensures { Said 1 s.now rows.old rows.new c parent left condition_stack (said result) }
+    ensures { Said 1 s.now rows.old rows.new c parent left condition_stack result }
 {
     let n = c.rows;
-    let name = c.past(s, n);
-    if REFUSED <= name.kind {
-        return name;
-    }
+    let r = c.past(s, n);
+    let Read::Done(name) = r else {
+        return r;
+    };
     if name.kind != TOKEN_NAME {
         return no_going(name);
     }
     if n == MOST_ROWS {
-        return too_many_rows(name.start);
+        return Read::Refused(Refusal::TooManyRows(name.start));
     }
     put_row(
         rows,

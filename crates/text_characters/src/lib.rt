@@ -31,45 +31,28 @@ pub fn in_name(b: u8) -> bool
     b == b'_'
 }
 
-// Bytes of UTF-8: those that go on with a character; the least that starts one of two, three or four bytes (C0 and C1 would start overlong forms); what may stand behind E0 and behind ED.
-const FIRST_TAIL: u8 = 0x80;
-
-const PAST_TAILS: u8 = 0xC0;
-
-const LEAD_OF_TWO: u8 = 0xC2;
-
-const LEAD_OF_THREE: u8 = 0xE0;
-
-const LEAD_OF_FOUR: u8 = 0xF0;
-
-const FIRST_NOT_OVERLONG: u8 = 0xA0;
-
-const LEAD_OF_SURROGATES: u8 = 0xED;
-
-const LAST_NO_SURROGATE: u8 = 0x9F;
-
 // Whether a byte goes on with a character of UTF-8.
 pub fn is_tail(b: u8) -> bool
     ensures { result ≡ hits_byte tail b }
 {
-    if b < FIRST_TAIL {
+    if b < 128 {
         return false;
     }
-    b < PAST_TAILS
+    b < 192
 }
 
 // Whether a byte may stand second in a character of three bytes that starts with `lead`: E0 bars overlong forms, ED surrogates.
 pub fn is_second(lead: u8, b: u8) -> bool
     ensures { result ≡ hits_byte (second_of lead) b }
 {
-    if lead == LEAD_OF_THREE {
-        if b < FIRST_NOT_OVERLONG {
+    if lead == 224 {
+        if b < 160 {
             return false;
         }
         return is_tail(b);
     }
-    if lead == LEAD_OF_SURROGATES {
-        if LAST_NO_SURROGATE < b {
+    if lead == 237 {
+        if 159 < b {
             return false;
         }
         return is_tail(b);
@@ -83,13 +66,13 @@ pub fn wide(s: &[u8], i: usize) -> usize
     ensures { result ≡ wide_size (drop i s.now) }
 {
     let b = s[i];
-    if b < LEAD_OF_TWO {
+    if b < 194 {
         return 0;
     }
     if s.len() <= i + 1 {
         return 0;
     }
-    if b < LEAD_OF_THREE {
+    if b < 224 {
         if is_tail(s[i + 1]) {
             return 2;
         }
@@ -98,7 +81,7 @@ pub fn wide(s: &[u8], i: usize) -> usize
     if s.len() <= i + 2 {
         return 0;
     }
-    if b < LEAD_OF_FOUR {
+    if b < 240 {
         if is_second(b, s[i + 1]) {
             if is_tail(s[i + 2]) {
                 return 3;
@@ -115,12 +98,12 @@ pub fn character(s: &[u8], i: usize) -> usize
 {
     let b = s[i];
     if b < b' ' {
-        if b == b'\t' {
+        if b == 9 {
             return 1;
         }
         return 0;
     }
-    if b < FIRST_TAIL {
+    if b < 128 {
         return 1;
     }
     wide(s, i)

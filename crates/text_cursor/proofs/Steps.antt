@@ -12,8 +12,7 @@ use lib.ListN.{length}
 use borrow.Author.Tests.{eq-eqb, ne_eqb, le-ltb, lt-ltb}
 use Rattle.paper.specs.Grammar.{Sym, nt, tm, act, Ev, tok, mark}
 use Rattle.paper.specs.Numbers.{most_rows}
-use Rattle.paper.specs.Language.{Class, Terminal, hits, Mark}
-use Rattle.paper.proofs.Nodes.{Node}
+use Rattle.paper.specs.Language.{Class, Terminal, hits, Mark, Part}
 use Rattle.paper.specs.Tokens.{Tok, Text, at_end, bad, token}
 use Rattle.paper.specs.Sizes.{Counts, opens_level, closes_level, over_counts}
 use Rattle.paper.specs.declared.Refusal.{Refusal}
@@ -105,7 +104,7 @@ go_step S σ σ' (at_end n) e = ap (Rattle.paper.proofs.Going.ended S n) e
 go_step S σ σ' (bad n) e = refl
 go_step S σ σ' (token k t) e = ap (goes S k t (λ s' τ. go s' τ t)) e
 
-expand : (S : State) (n : Node) {α : Stack} (σ : Stack) (t : Text) → choose graphql n (look_at t) ≡ some α → go S (nt n ∷ σ) t ≡ go S (α ++ σ) t
+expand : (S : State) (n : Part) {α : Stack} (σ : Stack) (t : Text) → choose graphql n (look_at t) ≡ some α → go S (nt n ∷ σ) t ≡ go S (α ++ σ) t
 expand S n {α} σ t e = go_step S (nt n ∷ σ) (α ++ σ) t (step_by fits n (look_at t) σ e)
 
 abbrev pub is_none : {X : Type 0} → Option X → Bool
@@ -117,10 +116,10 @@ none_is none h = refl
 none_is (some x) h = absurd h
 
 -- no production of the part goes on with a class, or with the end
-unfoldable pub refuses : Node → Class → Bool
+unfoldable pub refuses : Part → Class → Bool
 refuses n k = is_none (choose graphql n (some k))
 
-unfoldable pub refuses_end : Node → Bool
+unfoldable pub refuses_end : Part → Bool
 refuses_end n = is_none (choose graphql n none)
 
 abbrev pub same_bool : Bool → Bool → Bool
@@ -143,7 +142,7 @@ module _ (s : List ℕ) (c : Cursor) (h : c.stop ≤ length s) (l : Looks s c) (
   here τ = go (st cells n o c.stop left q) τ (from s c.stop)
 
   -- a kind of token that begins the production α of the part
-  pub first : (σ : Stack) (p : Node) {α : Stack} → Memᴰ α (factored p) → (x : Class) → c.kind ≡ kind_of x → T (all (λ k. implies (is (kind_of x) (kind_of k)) (fst graphql α k)) all_c) → here (nt p ∷ σ) ≡ here (α ++ σ)
+  pub first : (σ : Stack) (p : Part) {α : Stack} → Memᴰ α (factored p) → (x : Class) → c.kind ≡ kind_of x → T (all (λ k. implies (is (kind_of x) (kind_of k)) (fst graphql α k)) all_c) → here (nt p ∷ σ) ≡ here (α ++ σ)
   unfolding look_at
   first σ p {α} m x e t =
       let f = front_token s c h l (λ z. let w : ⊥ = omega (arith, kind_some x) in w) in
@@ -152,7 +151,7 @@ module _ (s : List ℕ) (c : Cursor) (h : c.stop ≤ length s) (l : Looks s c) (
       (choose_first fits p f.0 m (by_kind (fst graphql α) (is (kind_of x)) t f.0 (kind_of x) (f.1 ∙ e) (is_t (kind_of x)))))
 
   -- tokens, or the end, that begin none of the part's productions, while α is one of no token
-  pub null : (σ : Stack) (p : Node) {α : Stack} → Memᴰ α (factored p) → T (nul graphql α) → choose graphql p none ≡ some α → (g : ℕ → Bool) → T (g c.kind) →
+  pub null : (σ : Stack) (p : Part) {α : Stack} → Memᴰ α (factored p) → T (nul graphql α) → choose graphql p none ≡ some α → (g : ℕ → Bool) → T (g c.kind) →
       T (all (λ k. implies (g (kind_of k)) (not (graphql.first p k))) all_c) → here (nt p ∷ σ) ≡ here (α ++ σ)
   unfolding look_at
   null σ p {α} m z e g t a = go' (front s c h l)
@@ -163,7 +162,7 @@ module _ (s : List ℕ) (c : Cursor) (h : c.stop ≤ length s) (l : Looks s c) (
       go' (the_end d f i j) = rw f (expand (st cells n o c.stop left q) p σ (at_end c.start) e)
 
   -- tokens, or the end, with which the part cannot go on
-  pub refuse : (σ : Stack) (p : Node) (g : ℕ → Bool) → T (g c.kind) → T (all (λ k. implies (g (kind_of k)) (refuses p k)) all_c) → T (refuses_end p) → here (nt p ∷ σ) ≡ halt (NoGoing c.start)
+  pub refuse : (σ : Stack) (p : Part) (g : ℕ → Bool) → T (g c.kind) → T (all (λ k. implies (g (kind_of k)) (refuses p k)) all_c) → T (refuses_end p) → here (nt p ∷ σ) ≡ halt (NoGoing c.start)
   unfolding refuses refuses_end go
   refuse σ p g t a e = go' (front s c h l)
     where

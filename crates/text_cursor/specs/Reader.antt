@@ -1,10 +1,10 @@
 -- What a reader asks and answers: an equation of the machine `go`, for every stack behind what it reads.
-use Rattle.std.specs.Prelude.{◌≡◌, false, cond, List, ◌++◌, ℕ, ◌+◌, ◌≤◌, ◌<◌, eqb, ltb, length}
-use Rattle.paper.specs.Numbers.{most_text, most_rows, rows_size, refuse_no_token, refuse_no_going, refuse_too_deep, refuse_too_many_rows}
+use Rattle.std.specs.Prelude.{◌≡◌, false, List, ◌++◌, ℕ, ◌+◌, ◌≤◌, ◌<◌, length}
+use Rattle.paper.specs.Numbers.{most_text, most_rows, rows_size}
 use Rattle.paper.specs.Rows.{top}
 use Rattle.paper.specs.Sizes.{Counts, over_counts}
 use Rattle.paper.specs.declared.Refusal.{Refusal}
-use Rattle.paper.specs.declared.Refusal.TheVariants.{NoToken, NoGoing, TooDeep, TooManyRows, TooMany}
+use Rattle.paper.specs.declared.Refusal.TheVariants.{NoToken, NoGoing}
 use Rattle.paper.proofs.Lexing.{from}
 use Rattle.paper.proofs.Going.{Stack, st, Out, halt, go}
 use Rattle.text_scan.specs.Head.{head_of}
@@ -13,25 +13,6 @@ use Rattle.text_scan.specs.declared.TokenRead.TheVariants.{Token, Bad}
 use Rattle.text_cursor.specs.declared.Cursor.{Cursor}
 use Rattle.text_cursor.specs.declared.Read.{Read}
 use Rattle.text_cursor.specs.declared.Read.TheVariants.{Done, Refused}
-
--- kinds from here on are refusals
-abbrev pub refused_from : ℕ
-refused_from = 128
-
-abbrev pub ended_at : ℕ → ℕ → Cursor
-ended_at k a = record { kind = k; start = a; end = 0; stop = 0; rows = 0 }
-
--- which refusal such a kind is, at a
-unfoldable pub refusal_of : ℕ → ℕ → Refusal
-refusal_of k a =
-    cond (eqb k (refused_from + refuse_no_token)) (NoToken a)
-    (cond (eqb k (refused_from + refuse_no_going)) (NoGoing a)
-    (cond (eqb k (refused_from + refuse_too_deep)) (TooDeep a)
-    (cond (eqb k (refused_from + refuse_too_many_rows)) (TooManyRows a) (TooMany a))))
-
--- what a cursor says: where reading goes on, or why it ended
-unfoldable pub said : Cursor → Read
-said c = cond (ltb c.kind refused_from) (Done c) (Refused (refusal_of c.kind c.start))
 
 -- the cursor looks at the first token from its `stop` on
 abbrev pub Looks : List ℕ → Cursor → Type 0

@@ -8,8 +8,7 @@ use native.Mathlib.Omega.{arith}
 use lib.ListN.{length, set, length-set}
 use Rattle.paper.specs.Grammar.{nt, act}
 use Rattle.paper.specs.Numbers.{most_levels}
-use Rattle.paper.specs.Language.{language, end, at_sign, paren_l}
-use Rattle.paper.proofs.Nodes.{VariableDefinitions?, VariableDefinitions}
+use Rattle.paper.specs.Language.{language, end, VariableDefinitions?, VariableDefinitions, at_sign, paren_l}
 use Rattle.paper.specs.Rows.{pop}
 use Rattle.paper.specs.Sizes.{Counts}
 use Rattle.paper.specs.declared.Refusal.{Refusal}

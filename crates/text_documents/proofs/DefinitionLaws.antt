@@ -7,8 +7,7 @@ use native.Mathlib.Omega.{arith}
 use lib.Dec.{eqb}
 use borrow.Author.Tests.{eqb-false, eq-eqb, ne_eqb}
 use Rattle.paper.specs.Numbers.{most_levels, no_parent}
-use Rattle.paper.specs.Language.{language, brace_l}
-use Rattle.paper.proofs.Nodes.{Definition}
+use Rattle.paper.specs.Language.{language, Definition, brace_l}
 use Rattle.paper.specs.Sizes.{Counts}
 use Rattle.paper.specs.declared.Refusal.TheVariants.{NoGoing}
 use Rattle.paper.proofs.Lexing.{from}

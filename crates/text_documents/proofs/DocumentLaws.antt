@@ -9,8 +9,7 @@ use lib.Dec.{T}
 use lib.ListN.{length}
 use Rattle.paper.specs.Grammar.{nt, act}
 use Rattle.paper.specs.Numbers.{most_text, most_levels, most_rows, rows_size, no_parent, kind_object}
-use Rattle.paper.specs.Language.{Class, num_c, Part, language, row, kind, end, brace_l}
-use Rattle.paper.proofs.Nodes.{Node, node, Document, Definition+, Definition*, Definition, VariablesText, ConstValue, ConstObjectValue}
+use Rattle.paper.specs.Language.{Class, num_c, Part, language, row, kind, end, Document, Definition+, Definition*, Definition, VariablesText, ConstValue, ConstObjectValue, brace_l}
 use Rattle.paper.specs.Tokens.{Tok, Text, at_end, bad, token}
 use Rattle.paper.specs.Sizes.{Counts, over_counts}
 use Rattle.paper.specs.declared.Refusal.{Refusal}
@@ -104,7 +103,7 @@ pub record Defined (s rows₀ rows : List ℕ) (c₀ c : Cursor) (fragments : �
   pub goes : at s rows₀ c₀ [] most_levels no_counts more_stack ≡ at s rows c [] most_levels counts more_stack
 
 pub begin_halts : (s rows rows' : List ℕ) (p : Part) (r : Read) → r ≡ moved_to 0 0 (head_of (from s 0)) → (x : Refusal) → r ≡ Refused x → Ended p s rows rows' r
-begin_halts s rows rows' p r e x y = rw y (moved_halts s 0 0 r x e y (start rows) (nt (node p) ∷ []))
+begin_halts s rows rows' p r e x y = rw y (moved_halts s 0 0 r x e y (start rows) (nt p ∷ []))
 
 module _ (s rows : List ℕ) (short : length s ≤ most_text) (size : length rows ≡ rows_size) (r : Read) (e : r ≡ moved_to 0 0 (head_of (from s 0))) (c₀ : Cursor) (y : r ≡ Done c₀) where
   next : Next s 0 0 c₀
@@ -113,7 +112,7 @@ module _ (s rows : List ℕ) (short : length s ≤ most_text) (size : length row
   pub begin_ready : Ready s rows c₀ no_parent
   begin_ready = next_ready s rows 0 0 c₀ short size (omega arith) (omega arith) next no_parent (omega arith)
 
-  start-at : (p : Node) → go (start rows) (nt p ∷ []) (from s 0) ≡ at s rows c₀ [] most_levels no_counts (nt p ∷ [])
+  start-at : (p : Part) → go (start rows) (nt p ∷ []) (from s 0) ≡ at s rows c₀ [] most_levels no_counts (nt p ∷ [])
   start-at p = rw (next.stop, next.rows) refl
 
   pub defined_none : Defined s rows rows c₀ c₀ 0
@@ -130,13 +129,13 @@ module _ (s rows : List ℕ) (short : length s ≤ most_text) (size : length row
     abbrev Told : List ℕ → Read → Type 0
     Told rows₂ u = CountedSaid 1 s rows₁ rows₂ c no_parent most_levels one_definition stays (fragments_are fragments) (fragments_become (fragments_after s c fragments)) u
 
-    pub defined_stop : (rows₂ rows' : List ℕ) (u : Read) → Told rows₂ u → (x : Refusal) → u ≡ Refused x → Ended Part.Document s rows rows' u
+    pub defined_stop : (rows₂ rows' : List ℕ) (u : Read) → Told rows₂ u → (x : Refusal) → u ≡ Refused x → Ended Document s rows rows' u
     defined_stop rows₂ rows' u z x i =
         rw i (document-at ∙ w.goes
         ∙ counted_halts 1 s rows₁ rows₂ c no_parent most_levels one_definition u stays (fragments_are fragments) (fragments_become (fragments_after s c fragments)) z x i (nt Definition* ∷ []) [] w.counts refl w.fine w.told)
 
     module _ (rows₂ : List ℕ) (d : Cursor) (z : Counted 1 s rows₁ rows₂ c d no_parent most_levels one_definition stays (fragments_are fragments) (fragments_become (fragments_after s c fragments))) where
-      pub defined_all : d.kind ≡ 0 → Ended Part.Document s rows rows₂ (Done d)
+      pub defined_all : d.kind ≡ 0 → Ended Document s rows rows₂ (Done d)
       defined_all k =
           let v = z.goes (nt Definition* ∷ []) [] w.counts refl w.fine w.told in
           (st rows₂ d.rows [] d.stop most_levels v.0, document-at ∙ w.goes ∙ v.3 ∙ ends v.0 (front s d z.within z.looks), refl, refl)
@@ -162,7 +161,7 @@ module _ (s rows : List ℕ) (short : length s ≤ most_text) (size : length row
           }
 
   -- A VARIABLES TEXT
-  pub text_none : (rows' : List ℕ) → (c₀.kind ≡ kind_of brace_l → ⊥) → (u : Read) → u ≡ no_going_of c₀ → Ended Part.VariablesText s rows rows' u
+  pub text_none : (rows' : List ℕ) → (c₀.kind ≡ kind_of brace_l → ⊥) → (u : Read) → u ≡ no_going_of c₀ → Ended VariablesText s rows rows' u
   unfolding factored language choose refuses refuses_end
   text_none rows' h u i =
       rw i (start-at VariablesText ∙ refuse s c₀ begin_ready.within begin_ready.looks rows c₀.rows [] most_levels no_counts [] VariablesText (λ y. not (is (kind_of brace_l) y)) (not_is (kind_of brace_l) c₀.kind h) tt tt)
@@ -176,19 +175,19 @@ module _ (s rows : List ℕ) (short : length s ≤ most_text) (size : length row
         ∙ sym (first s c₀ begin_ready.within begin_ready.looks rows c₀.rows [] most_levels no_counts [] ConstValue {α = act row ∷ act (kind kind_object 0) ∷ nt ConstObjectValue ∷ act end ∷ []}
         (Memᴰ.tail (Memᴰ.tail (Memᴰ.tail (Memᴰ.tail (Memᴰ.tail (Memᴰ.tail (Memᴰ.tail (Memᴰ.tail (Memᴰ.head refl))))))))) brace_l h tt)
 
-    pub text_stop : (rows₁ rows' : List ℕ) (u : Read) → Said 1 s rows rows₁ c₀ no_parent most_levels (value_stack true) u → (x : Refusal) → u ≡ Refused x → Ended Part.VariablesText s rows rows' u
+    pub text_stop : (rows₁ rows' : List ℕ) (u : Read) → Said 1 s rows rows₁ c₀ no_parent most_levels (value_stack true) u → (x : Refusal) → u ≡ Refused x → Ended VariablesText s rows rows' u
     text_stop rows₁ rows' u w x i = rw i (text_at ∙ said_halts 1 s rows rows₁ c₀ no_parent most_levels (value_stack true) u w x i [] [] no_counts refl refl)
 
     module _ (rows₁ : List ℕ) (d : Cursor) (w : Went 1 s rows rows₁ c₀ d no_parent most_levels (value_stack true)) where
       text-ends : go (start rows) (nt VariablesText ∷ []) (from s 0) ≡ at s rows₁ d [] most_levels no_counts []
       text-ends = text_at ∙ w.goes [] [] no_counts refl refl
 
-      pub text_more : (rows' : List ℕ) → (d.kind ≡ 0 → ⊥) → (u : Read) → u ≡ no_going_of d → Ended Part.VariablesText s rows rows' u
+      pub text_more : (rows' : List ℕ) → (d.kind ≡ 0 → ⊥) → (u : Read) → u ≡ no_going_of d → Ended VariablesText s rows rows' u
       text_more rows' k u i =
           let f = front_token s d w.within w.looks k in
           rw i (text-ends ∙ rw f.2 (empty_halts (st rows₁ d.rows [] d.stop most_levels no_counts) (token_of f.0 d.start d.end) (from s d.end)))
 
-      pub text_all : d.kind ≡ 0 → Ended Part.VariablesText s rows rows₁ (Done d)
+      pub text_all : d.kind ≡ 0 → Ended VariablesText s rows rows₁ (Done d)
       unfolding go step
       text_all k = (st rows₁ d.rows [] d.stop most_levels no_counts, text-ends ∙ ends (front s d w.within w.looks), refl, refl)
         where

@@ -11,8 +11,7 @@ use borrow.Author.Tests.{lt-ltb, le-ltb, eqb-true, eqb-false, eq-eqb, not-false}
 use Rattle.paper.proofs.Bools.{eq→t_not as false-T, eq→t as true-T}
 use Rattle.paper.specs.Grammar.{nt, tm, act}
 use Rattle.paper.specs.Numbers.{most_levels, most_rows, most_fragments, no_parent, kind_fragment}
-use Rattle.paper.specs.Language.{Class, same_c, language, the, hits, name_but_on, n_fragment, row, kind, named, n_other}
-use Rattle.paper.proofs.Nodes.{Definition, FragmentDefinition, FragmentName, TypeCondition}
+use Rattle.paper.specs.Language.{Class, same_c, language, the, hits, name_but_on, n_fragment, row, kind, named, Definition, FragmentDefinition, FragmentName, TypeCondition, n_other}
 use Rattle.paper.specs.Tokens.{Text, token}
 use Rattle.paper.specs.Rows.{top, pop}
 use Rattle.paper.specs.Sizes.{Counts, kinded, opens_level, closes_level, over_counts}

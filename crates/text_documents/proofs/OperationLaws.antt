@@ -10,8 +10,7 @@ use lib.ListN.{length, set, length-set}
 use borrow.Author.Tests.{lt-ltb, le-ltb}
 use Rattle.paper.specs.Grammar.{nt, tm, act}
 use Rattle.paper.specs.Numbers.{most_levels, most_rows, no_parent, kind_operation, extra_query}
-use Rattle.paper.specs.Language.{Class, same_c, language, the, hits, any_name, n_query, n_mutation, n_subscription, brace_l, brace_r, row, kind, named, end, n_other}
-use Rattle.paper.proofs.Nodes.{Name, Definition, OperationDefinition, OperationType, OperationName?, SelectionSet, Selection+}
+use Rattle.paper.specs.Language.{Class, same_c, language, the, hits, any_name, n_query, n_mutation, n_subscription, brace_l, brace_r, row, kind, named, end, Name, Definition, OperationDefinition, OperationType, OperationName?, SelectionSet, Selection+, n_other}
 use Rattle.paper.specs.Tokens.{Text, token}
 use Rattle.paper.specs.Rows.{top, pop}
 use Rattle.paper.specs.Sizes.{Counts, kinded, opens_level, closes_level, over_counts}

@@ -10,8 +10,7 @@ use lib.ListN.{length, get_elem?}
 use borrow.Author.Tests.{eqb-true, eqb-false, ne_eqb, eq-eqb}
 use Rattle.paper.specs.Grammar.{nt, tm}
 use Rattle.paper.specs.Numbers.{most_rows}
-use Rattle.paper.specs.Language.{Class, num_c, same_c, Terminal, hits, n_other}
-use Rattle.paper.proofs.Nodes.{Node}
+use Rattle.paper.specs.Language.{Class, num_c, same_c, Terminal, hits, Part, n_other}
 use Rattle.paper.specs.Tokens.{Tok, Text, token, name_class}
 use Rattle.paper.specs.Sizes.{Counts, opens_level, closes_level, over_counts}
 use Rattle.paper.specs.declared.Refusal.TheVariants.{NoGoing, TooManyRows, TooMany}
@@ -75,15 +74,15 @@ none_is (some x) h = absurd h
 
 -- AT A CLASS
 module _ (k : Class) (a e : ℕ) (t : Text) where
-  pub class_first : (S : State) (σ : Stack) (p : Node) {α : Stack} → Memᴰ α (factored p) → T (fst graphql α k) → go S (nt p ∷ σ) (token (token_of k a e) t) ≡ go S (α ++ σ) (token (token_of k a e) t)
+  pub class_first : (S : State) (σ : Stack) (p : Part) {α : Stack} → Memᴰ α (factored p) → T (fst graphql α k) → go S (nt p ∷ σ) (token (token_of k a e) t) ≡ go S (α ++ σ) (token (token_of k a e) t)
   unfolding go
   class_first S σ p m h = ap (goes S (token_of k a e) t (λ s' τ. go s' τ t)) (step_by fits p (some k) σ (choose_first fits p k m h))
 
-  pub class_null : (S : State) (σ : Stack) (p : Node) {α : Stack} → Memᴰ α (factored p) → T (nul graphql α) → (T (graphql.first p k) → ⊥) → go S (nt p ∷ σ) (token (token_of k a e) t) ≡ go S (α ++ σ) (token (token_of k a e) t)
+  pub class_null : (S : State) (σ : Stack) (p : Part) {α : Stack} → Memᴰ α (factored p) → T (nul graphql α) → (T (graphql.first p k) → ⊥) → go S (nt p ∷ σ) (token (token_of k a e) t) ≡ go S (α ++ σ) (token (token_of k a e) t)
   unfolding go
   class_null S σ p m z h = ap (goes S (token_of k a e) t (λ s' τ. go s' τ t)) (step_by fits p (some k) σ (choose_null fits p k m z h))
 
-  pub class_refuse : (S : State) (σ : Stack) (p : Node) → T (refuses p k) → go S (nt p ∷ σ) (token (token_of k a e) t) ≡ halt (NoGoing a)
+  pub class_refuse : (S : State) (σ : Stack) (p : Part) → T (refuses p k) → go S (nt p ∷ σ) (token (token_of k a e) t) ≡ halt (NoGoing a)
   unfolding go refuses
   class_refuse S σ p h = rw (step_none fits p (some k) σ (none_is (choose graphql p (some k)) h)) refl
 

@@ -1,8 +1,7 @@
 -- The words that definitions begin with, and the symbols that end them.
 use Rattle.std.specs.Prelude.{◌≡◌, cond, List, [], ◌∷◌, ℕ, ◌+◌, ◌≤◌, eqb}
 use Rattle.paper.specs.Grammar.{nt, act}
-use Rattle.paper.specs.Language.{end, n_other}
-use Rattle.paper.proofs.Nodes.{Directives?, SelectionSet}
+use Rattle.paper.specs.Language.{end, Directives?, SelectionSet, n_other}
 use Rattle.paper.proofs.Going.{Stack}
 use Rattle.text_scan.specs.Head.{word_of, kind_of}
 use Rattle.text_cursor.specs.declared.Cursor.{Cursor}

@@ -2,12 +2,11 @@
 ghost use Rattle.std.specs.Prelude.{◌≡◌, true, [], ◌∷◌, ◌+◌, ◌≤◌, ◌<◌, length};
 ghost use Rattle.paper.specs.Grammar.{nt};
 ghost use Rattle.paper.specs.Numbers.{most_text, most_levels, most_rows, rows_size, no_parent};
-ghost use Rattle.paper.specs.Language.{Document, VariablesText, brace_l};
-ghost use Rattle.paper.proofs.Nodes.{Definition, VariableDefinitions?, FragmentName, TypeCondition};
+ghost use Rattle.paper.specs.Language.{Document, Definition, VariablesText, VariableDefinitions?, FragmentName, TypeCondition, brace_l};
 ghost use Rattle.paper.specs.Rows.{pop};
 ghost use Rattle.paper.proofs.Lexing.{from};
 ghost use Rattle.text_scan.specs.Head.{head_of, kind_of};
-ghost use Rattle.text_cursor.specs.Reader.{Ready, moved_to, said};
+ghost use Rattle.text_cursor.specs.Reader.{Ready, Said, moved_to};
 ghost use Rattle.text_selections.specs.Selections.{names_fragment};
 ghost use Rattle.text_variables.specs.Counted.{CountedSaid, stays, any_counts, fragments_are, variables_are, same_counts, same_fragments, fragments_become};
 ghost use Rattle.text_documents.specs.Words.{set_stack, body_stack, word_at, fragments_after, AtType, AtFragment};
@@ -15,12 +14,10 @@ ghost use Rattle.text_documents.specs.Documents.{Ended};
 
 use paper::{
     EXTRA_MUTATION, EXTRA_QUERY, EXTRA_SUBSCRIPTION, KIND_FRAGMENT, KIND_OPERATION, MOST_FRAGMENTS,
-    MOST_LEVELS, MOST_ROWS, NO_PARENT,
+    MOST_LEVELS, MOST_ROWS, NO_PARENT, Refusal,
 };
 use text_arguments::{condition, directives};
-use text_cursor::{
-    Cursor, REFUSED, Read, located, no_going, put_end, put_row, too_many, too_many_rows,
-};
+use text_cursor::{Cursor, Read, located, no_going, put_end, put_row};
 use text_scan::{
     TOKEN_AT, TOKEN_BRACE_OPEN, TOKEN_END, TOKEN_NAME, TOKEN_PAREN_OPEN, TokenRead, WORD_FRAGMENT,
     WORD_MUTATION, WORD_OTHER, WORD_QUERY, WORD_SUBSCRIPTION,
@@ -29,61 +26,61 @@ use text_selections::{names_fragment, selection_set};
 use text_variables::variable_definitions;
 
 // The selection set that ends row n
-fn definition_set(s: &[u8], rows: &mut [u32], c: Cursor, n: u32) -> Cursor
+fn definition_set(s: &[u8], rows: &mut [u32], c: Cursor, n: u32) -> Read
     requires { Ready s.now rows.old c n × (n < most_rows) }
-    ensures { CountedSaid 1 s.now rows.old rows.new c n most_levels set_stack pop any_counts same_counts (said result) }
+    ensures { CountedSaid 1 s.now rows.old rows.new c n most_levels set_stack pop any_counts same_counts result }
 {
-    let e = selection_set(s, rows, c, n, MOST_LEVELS);
-    if REFUSED <= e.kind {
-        return e;
-    }
+    let t = selection_set(s, rows, c, n, MOST_LEVELS);
+    let Read::Done(e) = t else {
+        return t;
+    };
     put_end(rows, n, e.stop);
-    e
+    t
 }
 
 // The body of row n, which it ends: Directives? SelectionSet
-fn definition_body(s: &[u8], rows: &mut [u32], c: Cursor, n: u32) -> Cursor
+fn definition_body(s: &[u8], rows: &mut [u32], c: Cursor, n: u32) -> Read
     requires { Ready s.now rows.old c n × (n < most_rows) }
-    ensures { CountedSaid 1 s.now rows.old rows.new c n most_levels body_stack pop any_counts same_counts (said result) }
+    ensures { CountedSaid 1 s.now rows.old rows.new c n most_levels body_stack pop any_counts same_counts result }
 {
     if c.kind != TOKEN_AT {
         return definition_set(s, rows, c, n);
     }
-    let d = directives(s, rows, c, n, MOST_LEVELS);
-    if REFUSED <= d.kind {
-        return d;
-    }
+    let r = directives(s, rows, c, n, MOST_LEVELS);
+    let Read::Done(d) = r else {
+        return r;
+    };
     definition_set(s, rows, d, n)
 }
 
 // OperationDefinition behind its name: VariableDefinitions? Directives? SelectionSet
-fn operation_rest(s: &[u8], rows: &mut [u32], c: Cursor, n: u32) -> Cursor
+fn operation_rest(s: &[u8], rows: &mut [u32], c: Cursor, n: u32) -> Read
     requires { Ready s.now rows.old c n × (n < most_rows) }
-    ensures { CountedSaid 1 s.now rows.old rows.new c n most_levels (nt VariableDefinitions? ∷ body_stack) pop (variables_are 0) same_fragments (said result) }
+    ensures { CountedSaid 1 s.now rows.old rows.new c n most_levels (nt VariableDefinitions? ∷ body_stack) pop (variables_are 0) same_fragments result }
 {
     if c.kind != TOKEN_PAREN_OPEN {
         return definition_body(s, rows, c, n);
     }
-    let d = variable_definitions(s, rows, c, n, MOST_LEVELS);
-    if REFUSED <= d.kind {
-        return d;
-    }
+    let r = variable_definitions(s, rows, c, n, MOST_LEVELS);
+    let Read::Done(d) = r else {
+        return r;
+    };
     definition_body(s, rows, d, n)
 }
 
 // OperationDefinition, at its OperationType, whose extra is given
-fn operation(s: &[u8], rows: &mut [u32], c: Cursor, extra: u32) -> Cursor
+fn operation(s: &[u8], rows: &mut [u32], c: Cursor, extra: u32) -> Read
     requires { Ready s.now rows.old c no_parent × AtType s.now c extra }
-    ensures { CountedSaid 1 s.now rows.old rows.new c no_parent most_levels (nt Definition ∷ []) stays any_counts same_fragments (said result) }
+    ensures { CountedSaid 1 s.now rows.old rows.new c no_parent most_levels (nt Definition ∷ []) stays any_counts same_fragments result }
 {
     let n = c.rows;
     if n == MOST_ROWS {
-        return too_many_rows(c.start);
+        return Read::Refused(Refusal::TooManyRows(c.start));
     }
-    let d = c.past(s, n + 1);
-    if REFUSED <= d.kind {
-        return d;
-    }
+    let r = c.past(s, n + 1);
+    let Read::Done(d) = r else {
+        return r;
+    };
     if d.kind != TOKEN_NAME {
         put_row(rows, n, KIND_OPERATION, c.start, 0, NO_PARENT, 0, 0, extra);
         return operation_rest(s, rows, d, n);
@@ -99,21 +96,21 @@ fn operation(s: &[u8], rows: &mut [u32], c: Cursor, extra: u32) -> Cursor
         d.end - d.start,
         extra,
     );
-    let e = d.past(s, n + 1);
-    if REFUSED <= e.kind {
-        return e;
-    }
+    let t = d.past(s, n + 1);
+    let Read::Done(e) = t else {
+        return t;
+    };
     operation_rest(s, rows, e, n)
 }
 
 // OperationDefinition without its type, at its {
-fn short_operation(s: &[u8], rows: &mut [u32], c: Cursor) -> Cursor
+fn short_operation(s: &[u8], rows: &mut [u32], c: Cursor) -> Read
     requires { Ready s.now rows.old c no_parent × (c.kind ≡ kind_of brace_l) }
-    ensures { CountedSaid 1 s.now rows.old rows.new c no_parent most_levels (nt Definition ∷ []) stays any_counts same_fragments (said result) }
+    ensures { CountedSaid 1 s.now rows.old rows.new c no_parent most_levels (nt Definition ∷ []) stays any_counts same_fragments result }
 {
     let n = c.rows;
     if n == MOST_ROWS {
-        return too_many_rows(c.start);
+        return Read::Refused(Refusal::TooManyRows(c.start));
     }
     put_row(
         rows,
@@ -133,30 +130,30 @@ fn short_operation(s: &[u8], rows: &mut [u32], c: Cursor) -> Cursor
         stop: c.stop,
         rows: n + 1,
     };
-    let e = selection_set(s, rows, d, n, MOST_LEVELS);
-    if REFUSED <= e.kind {
-        return e;
-    }
+    let t = selection_set(s, rows, d, n, MOST_LEVELS);
+    let Read::Done(e) = t else {
+        return t;
+    };
     put_end(rows, n, e.stop);
-    e
+    t
 }
 
 // FragmentDefinition, at its `fragment`, the one after `before` others
-fn fragment(s: &[u8], rows: &mut [u32], c: Cursor, before: u32) -> Cursor
+fn fragment(s: &[u8], rows: &mut [u32], c: Cursor, before: u32) -> Read
     requires { Ready s.now rows.old c no_parent × AtFragment s.now c }
-    ensures { CountedSaid 1 s.now rows.old rows.new c no_parent most_levels (nt Definition ∷ []) stays (fragments_are before) (fragments_become (before + 1)) (said result) }
+    ensures { CountedSaid 1 s.now rows.old rows.new c no_parent most_levels (nt Definition ∷ []) stays (fragments_are before) (fragments_become (before + 1)) result }
 {
     let n = c.rows;
     if n == MOST_ROWS {
-        return too_many_rows(c.start);
+        return Read::Refused(Refusal::TooManyRows(c.start));
     }
     if before == MOST_FRAGMENTS {
-        return too_many(c.start);
+        return Read::Refused(Refusal::TooMany(c.start));
     }
-    let name = c.past(s, n + 1);
-    if REFUSED <= name.kind {
-        return name;
-    }
+    let r = c.past(s, n + 1);
+    let Read::Done(name) = r else {
+        return r;
+    };
     if names_fragment(s, name) {
         put_row(
             rows,
@@ -175,25 +172,25 @@ fn fragment(s: &[u8], rows: &mut [u32], c: Cursor, before: u32) -> Cursor
 }
 
 // FragmentDefinition from its name on: TypeCondition Directives? SelectionSet
-fn fragment_rest(s: &[u8], rows: &mut [u32], c: Cursor, n: u32) -> Cursor
+fn fragment_rest(s: &[u8], rows: &mut [u32], c: Cursor, n: u32) -> Read
     requires { Ready s.now rows.old c n × (n < most_rows) × (names_fragment s.now c ≡ true) }
-    ensures { CountedSaid 1 s.now rows.old rows.new c n most_levels (nt FragmentName ∷ nt TypeCondition ∷ body_stack) pop any_counts same_counts (said result) }
+    ensures { CountedSaid 1 s.now rows.old rows.new c n most_levels (nt FragmentName ∷ nt TypeCondition ∷ body_stack) pop any_counts same_counts result }
 {
     let m = c.rows;
-    let d = c.past(s, m);
-    if REFUSED <= d.kind {
-        return d;
-    }
+    let r = c.past(s, m);
+    let Read::Done(d) = r else {
+        return r;
+    };
     if d.kind != TOKEN_NAME {
         return no_going(d);
     }
     if names_fragment(s, d) {
         return no_going(d);
     }
-    let e = condition(s, rows, d, n, MOST_LEVELS);
-    if REFUSED <= e.kind {
-        return e;
-    }
+    let t = condition(s, rows, d, n, MOST_LEVELS);
+    let Read::Done(e) = t else {
+        return t;
+    };
     definition_body(s, rows, e, n)
 }
 
@@ -209,9 +206,9 @@ fn word_at(s: &[u8], c: Cursor) -> u32
 }
 
 // Definition, after `before` fragments
-fn definition(s: &[u8], rows: &mut [u32], c: Cursor, before: u32) -> Cursor
+fn definition(s: &[u8], rows: &mut [u32], c: Cursor, before: u32) -> Read
     requires { Ready s.now rows.old c no_parent }
-    ensures { CountedSaid 1 s.now rows.old rows.new c no_parent most_levels (nt Definition ∷ []) stays (fragments_are before) (fragments_become (fragments_after s.now c before)) (said result) }
+    ensures { CountedSaid 1 s.now rows.old rows.new c no_parent most_levels (nt Definition ∷ []) stays (fragments_are before) (fragments_become (fragments_after s.now c before)) result }
 {
     if c.kind == TOKEN_BRACE_OPEN {
         return short_operation(s, rows, c);
@@ -244,22 +241,22 @@ fn fragments_after(s: &[u8], c: Cursor, before: u32) -> u32
 }
 
 // The cursor at the beginning of a text. It scans itself: with two callers `scan` stays apart, and `past` is small enough to be inlined
-fn begin(s: &[u8]) -> Cursor
+fn begin(s: &[u8]) -> Read
     requires { length s.now ≤ most_text }
-    ensures { said result ≡ moved_to 0 0 (head_of (from s.now 0)) }
+    ensures { result ≡ moved_to 0 0 (head_of (from s.now 0)) }
 {
     let n = text_tokens::scan(s, 0);
     let t = text_tokens::unpacked(n);
     let TokenRead::Token { kind, start, end } = t else {
         return located(t);
     };
-    Cursor {
+    Read::Done(Cursor {
         kind: kind,
         start: start as u32,
         end: end as u32,
         stop: 0,
         rows: 0,
-    }
+    })
 }
 
 // Document: the rows are written, and the answer's cursor counts them
@@ -267,19 +264,19 @@ pub fn document(s: &[u8], rows: &mut [u32]) -> Read
     requires { (length s.now ≤ most_text) × (length rows.old ≡ rows_size) }
     ensures { Ended Document s.now rows.old rows.new result }
 {
-    let first = begin(s);
-    if REFUSED <= first.kind {
-        return first.read();
-    }
+    let r = begin(s);
+    let Read::Done(first) = r else {
+        return r;
+    };
     let mut c = first;
     let mut fragments: u32 = 0;
     loop {
-        let next = definition(s, rows, c, fragments);
-        if REFUSED <= next.kind {
-            return next.read();
-        }
+        let t = definition(s, rows, c, fragments);
+        let Read::Done(next) = t else {
+            return t;
+        };
         if next.kind == TOKEN_END {
-            return next.read();
+            return t;
         }
         fragments = fragments_after(s, c, fragments);
         c = next;
@@ -291,19 +288,19 @@ pub fn variables_text(s: &[u8], rows: &mut [u32]) -> Read
     requires { (length s.now ≤ most_text) × (length rows.old ≡ rows_size) }
     ensures { Ended VariablesText s.now rows.old rows.new result }
 {
-    let first = begin(s);
-    if REFUSED <= first.kind {
-        return first.read();
-    }
+    let r = begin(s);
+    let Read::Done(first) = r else {
+        return r;
+    };
     if first.kind != TOKEN_BRACE_OPEN {
-        return no_going(first).read();
+        return no_going(first);
     }
-    let d = text_values::value(s, rows, first, NO_PARENT, MOST_LEVELS, true);
-    if REFUSED <= d.kind {
-        return d.read();
-    }
+    let t = text_values::value(s, rows, first, NO_PARENT, MOST_LEVELS, true);
+    let Read::Done(d) = t else {
+        return t;
+    };
     if d.kind != TOKEN_END {
-        return no_going(d).read();
+        return no_going(d);
     }
-    d.read()
+    t
 }

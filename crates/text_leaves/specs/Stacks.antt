@@ -2,11 +2,10 @@
 use Rattle.std.specs.Prelude.{◌≡◌, Bool, true, false, ◌⊎◌, [], ◌∷◌, ℕ}
 use Rattle.paper.specs.Grammar.{nt, tm, act}
 use Rattle.paper.specs.Numbers.{kind_argument, kind_object_field}
-use Rattle.paper.specs.Language.{the, row, kind, named, end, colon}
-use Rattle.paper.proofs.Nodes.{Node, Value, ConstValue, Name}
+use Rattle.paper.specs.Language.{the, row, kind, named, end, Part, Value, ConstValue, Name, colon}
 use Rattle.paper.proofs.Going.{Stack}
 
-abbrev pub value_part : Bool → Node
+abbrev pub value_part : Bool → Part
 value_part true = ConstValue
 value_part false = Value
 

@@ -1,11 +1,11 @@
 // Writes the row of one token, begins the row of an opening mark and ends it with the closing one.
 ghost use Rattle.std.specs.Prelude.{◌<◌};
 ghost use Rattle.paper.specs.Numbers.{most_rows};
-ghost use Rattle.text_cursor.specs.Reader.{Ready, said};
+ghost use Rattle.text_cursor.specs.Reader.{Ready};
 ghost use Rattle.text_leaves.specs.Marks.{Leaf, Open, Close};
 
-use paper::MOST_ROWS;
-use text_cursor::{Cursor, put_end, put_row, too_deep, too_many_rows};
+use paper::{MOST_ROWS, Refusal};
+use text_cursor::{Cursor, Read, put_end, put_row};
 
 // A value that is one token: its row.
 pub fn leaf(
@@ -17,12 +17,12 @@ pub fn leaf(
     name: u32,
     size: u32,
     extra: u32,
-) -> Cursor
+) -> Read
     requires { Ready s.now rows.old c parent }
-    ensures { Leaf s.now rows.old rows.new c parent kind name size extra (said result) }
+    ensures { Leaf s.now rows.old rows.new c parent kind name size extra result }
 {
     if c.rows == MOST_ROWS {
-        return too_many_rows(c.start);
+        return Read::Refused(Refusal::TooManyRows(c.start));
     }
     let n = c.rows;
     put_row(rows, n, kind, c.start, c.end, parent, name, size, extra);
@@ -30,25 +30,25 @@ pub fn leaf(
 }
 
 // The opening mark of a list or an object: its row, and its level.
-pub fn enter(s: &[u8], rows: &mut [u32], c: Cursor, parent: u32, left: u32, kind: u32) -> Cursor
+pub fn enter(s: &[u8], rows: &mut [u32], c: Cursor, parent: u32, left: u32, kind: u32) -> Read
     requires { Ready s.now rows.old c parent }
-    ensures { Open s.now rows.old rows.new c parent left kind (said result) }
+    ensures { Open s.now rows.old rows.new c parent left kind result }
 {
     if left == 0 {
-        return too_deep(c.start);
+        return Read::Refused(Refusal::TooDeep(c.start));
     }
     let n = c.rows;
     if n == MOST_ROWS {
-        return too_many_rows(c.start);
+        return Read::Refused(Refusal::TooManyRows(c.start));
     }
     put_row(rows, n, kind, c.start, 0, parent, 0, 0, 0);
     c.past(s, n + 1)
 }
 
 // The closing mark of row n, at which the cursor stands.
-pub fn close(s: &[u8], rows: &mut [u32], c: Cursor, n: u32) -> Cursor
+pub fn close(s: &[u8], rows: &mut [u32], c: Cursor, n: u32) -> Read
     requires { Ready s.now rows.old c n × (n < most_rows) }
-    ensures { Close s.now rows.old rows.new c n (said result) }
+    ensures { Close s.now rows.old rows.new c n result }
 {
     put_end(rows, n, c.end);
     let m = c.rows;

@@ -8,8 +8,7 @@ use native.Mathlib.Nat.{zero-add}
 use native.Mathlib.Omega.{arith}
 use Rattle.paper.specs.Grammar.{nt, tm, act}
 use Rattle.paper.specs.Numbers.{most_wrappers, kind_type_reference, wrap_non_null}
-use Rattle.paper.specs.Language.{language, the, bang, wrapper, wrap}
-use Rattle.paper.proofs.Nodes.{Bang?}
+use Rattle.paper.specs.Language.{language, the, bang, wrapper, wrap, Bang?}
 use Rattle.paper.specs.Sizes.{Counts, over_counts}
 use Rattle.paper.specs.declared.Refusal.{Refusal}
 use Rattle.paper.specs.declared.Refusal.TheVariants.{TooMany}

@@ -9,8 +9,7 @@ use native.Mathlib.Omega.{arith}
 use lib.ListN.{length}
 use Rattle.paper.specs.Grammar.{nt, tm, act}
 use Rattle.paper.specs.Numbers.{most_wrappers, kind_type_reference}
-use Rattle.paper.specs.Language.{language, any_name, named, n_other}
-use Rattle.paper.proofs.Nodes.{TypeRef, NamedType, Name, Bang?}
+use Rattle.paper.specs.Language.{language, any_name, named, TypeRef, NamedType, Name, Bang?, n_other}
 use Rattle.paper.specs.Sizes.{Counts, over_counts}
 use Rattle.paper.specs.declared.Refusal.{Refusal}
 use Rattle.paper.proofs.Lexing.{from}
@@ -24,7 +23,9 @@ use Rattle.text_cursor.specs.declared.Read.TheVariants.{Done, Refused}
 use Rattle.text_cursor.proofs.Steps.{first, plain}
 use Rattle.text_cursor.proofs.Cells.{put, name_told}
 use Rattle.text_references.specs.declared.Wrapped.{Wrapped}
-use Rattle.text_references.specs.Types.{TypeRead, Typed, Untyped, wrapped_by, bang_stack, closers, four, most_inside, Seen, Marked, inside, Wraps, Says, unnamed, Named}
+use Rattle.text_references.specs.declared.TypeRead.{TypeRead}
+use Rattle.text_references.specs.declared.TypeRead.TheVariants.{Typed, Untyped}
+use Rattle.text_references.specs.Types.{wrapped_by, bang_stack, closers, four, most_inside, Seen, Marked, inside, Wraps, Says, unnamed, Named}
 use Rattle.text_references.proofs.CountsLaws.{wrapped_fine}
 use Rattle.text_references.proofs.CloseLaws.{four_mono}
 use Rattle.text_references.proofs.MovedLaws.{next_of, moved_halts, ahead, start_in_is, stop_in_is}

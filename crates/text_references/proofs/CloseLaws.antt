@@ -8,8 +8,7 @@ use native.Mathlib.Omega.{arith}
 use lib.ListN.{length}
 use Rattle.paper.specs.Grammar.{nt, tm, act}
 use Rattle.paper.specs.Numbers.{most_wrappers, kind_type_reference, wrap_list}
-use Rattle.paper.specs.Language.{the, bracket_r, wrap}
-use Rattle.paper.proofs.Nodes.{Bang?}
+use Rattle.paper.specs.Language.{the, bracket_r, wrap, Bang?}
 use Rattle.paper.specs.Sizes.{Counts, over_counts}
 use Rattle.paper.specs.declared.Refusal.{Refusal}
 use Rattle.paper.specs.declared.Refusal.TheVariants.{NoGoing}
@@ -23,7 +22,9 @@ use Rattle.text_cursor.specs.declared.Read.TheVariants.{Done, Refused}
 use Rattle.text_cursor.proofs.Steps.{is, not_is, lacks, closing}
 use Rattle.text_cursor.proofs.Cells.{put, wrap_told}
 use Rattle.text_references.specs.declared.Wrapped.{Wrapped}
-use Rattle.text_references.specs.Types.{TypeRead, Typed, Untyped, wrapped_by, bang_stack, closers, four, most_before, most_inside, Marked, inside, Wraps, WrapHalts, Says}
+use Rattle.text_references.specs.declared.TypeRead.{TypeRead}
+use Rattle.text_references.specs.declared.TypeRead.TheVariants.{Typed, Untyped}
+use Rattle.text_references.specs.Types.{wrapped_by, bang_stack, closers, four, most_before, most_inside, Marked, inside, Wraps, WrapHalts, Says}
 use Rattle.text_references.proofs.CountsLaws.{wrapped_fine}
 use Rattle.text_references.proofs.MovedLaws.{next_of, moved_halts, ahead}
 

@@ -1,6 +1,5 @@
 pub mod CountsLaws
 pub mod MovedLaws
-pub mod SaidLaws
 pub mod BangLaws
 pub mod CloseLaws
 pub mod OpenLaws

@@ -9,8 +9,7 @@ use native.Mathlib.Omega.{arith}
 use lib.ListN.{length}
 use Rattle.paper.specs.Grammar.{nt, tm, act}
 use Rattle.paper.specs.Numbers.{most_wrappers, wrap_list}
-use Rattle.paper.specs.Language.{language, the, bracket_l, bracket_r, wrapper, wrap}
-use Rattle.paper.proofs.Nodes.{TypeRef, ListType, Bang?}
+use Rattle.paper.specs.Language.{language, the, bracket_l, bracket_r, wrapper, wrap, TypeRef, ListType, Bang?}
 use Rattle.paper.specs.Sizes.{Counts, over_counts}
 use Rattle.paper.specs.declared.Refusal.{Refusal}
 use Rattle.paper.specs.declared.Refusal.TheVariants.{TooDeep, TooMany}

@@ -8,8 +8,7 @@ use native.Mathlib.Omega.{arith}
 use lib.ListN.{length}
 use Rattle.paper.specs.Grammar.{nt, tm, act}
 use Rattle.paper.specs.Numbers.{most_rows, kind_type_reference, wrap_list}
-use Rattle.paper.specs.Language.{language, the, any_name, bracket_l, bracket_r, wrap, end, n_other}
-use Rattle.paper.proofs.Nodes.{TypeRef, Bang?}
+use Rattle.paper.specs.Language.{language, the, any_name, bracket_l, bracket_r, wrap, end, TypeRef, Bang?, n_other}
 use Rattle.paper.specs.Rows.{top}
 use Rattle.paper.specs.Sizes.{Counts}
 use Rattle.paper.specs.declared.Refusal.{Refusal}
@@ -26,7 +25,9 @@ use Rattle.text_cursor.specs.declared.Read.TheVariants.{Done, Refused}
 use Rattle.text_cursor.proofs.Steps.{is, not_two, refuse, refuses, refuses_end, too_many_rows, too_many_rows_open}
 use Rattle.text_cursor.proofs.Cells.{put, put_length, row_opens, row_ends}
 use Rattle.text_references.specs.declared.Wrapped.{Wrapped}
-use Rattle.text_references.specs.Types.{TypeRead, Typed, Untyped, wrapped_by, type_stack, closers, Opened, Opens, Based, Named, TypedReady, Rested, RestSaid, TypeSaid}
+use Rattle.text_references.specs.declared.TypeRead.{TypeRead}
+use Rattle.text_references.specs.declared.TypeRead.TheVariants.{Typed, Untyped}
+use Rattle.text_references.specs.Types.{wrapped_by, type_stack, closers, Opened, Opens, Based, Named, TypedReady, Rested, RestSaid, TypeSaid}
 use Rattle.text_references.proofs.MovedLaws.{start_in_is}
 use Rattle.text_references.proofs.OpenLaws.{open_first, open_deep}
 use Rattle.text_references.proofs.BaseLaws.{name_first}

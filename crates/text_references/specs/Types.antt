@@ -1,34 +1,22 @@
 -- What the readers of a type reference ask and answer: equations of the machine, which writes the row while its marks are read.
-use Rattle.std.specs.Prelude.{◌≡◌, false, cond, List, [], ◌∷◌, ◌++◌, ℕ, zero, suc, ◌+◌, ◌-◌, ◌*◌, ◌≤◌, ◌<◌, ltb, length}
+use Rattle.std.specs.Prelude.{◌≡◌, false, List, [], ◌∷◌, ◌++◌, ℕ, zero, suc, ◌+◌, ◌-◌, ◌*◌, ◌≤◌, ◌<◌, length}
 use Rattle.paper.specs.Grammar.{nt, tm, act}
 use Rattle.paper.specs.Numbers.{most_text, most_rows, most_wrappers, rows_size, kind_type_reference, wrap_list}
-use Rattle.paper.specs.Language.{the, bracket_r, row, kind, wrap, end, bracket_l}
-use Rattle.paper.proofs.Nodes.{TypeRef, Bang?}
+use Rattle.paper.specs.Language.{the, bracket_r, row, kind, wrap, end, TypeRef, Bang?, bracket_l}
 use Rattle.paper.specs.Rows.{top}
 use Rattle.paper.specs.Sizes.{Counts, over_counts}
 use Rattle.paper.specs.declared.Refusal.{Refusal}
 use Rattle.paper.proofs.Lexing.{from}
 use Rattle.paper.proofs.Going.{Stack, st, Out, halt, go}
 use Rattle.text_scan.specs.Head.{kind_of}
-use Rattle.text_cursor.specs.Reader.{refused_from, refusal_of, Looks, at}
+use Rattle.text_cursor.specs.Reader.{Looks, at}
 use Rattle.text_cursor.specs.declared.Cursor.{Cursor}
 use Rattle.text_cursor.specs.declared.Read.{Read}
 use Rattle.text_cursor.specs.declared.Read.TheVariants.{Done, Refused}
 use Rattle.text_cursor.proofs.Cells.{put}
 use Rattle.text_references.specs.declared.Wrapped.{Wrapped}
-
--- what came of reading a type reference's marks: where it has been read to, or why it is refused
-pub data TypeRead : Type 0 where
-  Typed : Wrapped → TypeRead
-  Untyped : Refusal → TypeRead
-
--- which of the two is said: the cursor holds the refusal
-unfoldable pub said_type : Wrapped → TypeRead
-said_type w = cond (ltb w.at.kind refused_from) (Typed w) (Untyped (refusal_of w.at.kind w.at.start))
-
--- reading has ended at c
-abbrev pub stopped_at : Cursor → Wrapped
-stopped_at c = record { at = c; extra = 0; marks = 0 }
+use Rattle.text_references.specs.declared.TypeRead.{TypeRead}
+use Rattle.text_references.specs.declared.TypeRead.TheVariants.{Typed, Untyped}
 
 -- the counts with k wrappers
 abbrev pub wrapped_by : ℕ → Counts → Counts

@@ -9,25 +9,23 @@ use native.Mathlib.Omega.{arith}
 use lib.Dec.{T, eqb, eqb→eq}
 use lib.ListN.{length}
 use Rattle.paper.specs.Grammar.{Sym, nt, tm, act, Ev, tok, mark, toks, Derives, done, take, note as marks, by}
-use Rattle.paper.specs.Language.{Class, Terminal, hits, Mark, row, kind, named, wrapper, wrap, end, Part, language, Document, VariablesText}
-use Rattle.paper.proofs.Nodes.{Node, node, OperationType, SpreadRest, wide}
-use Rattle.paper_theory.proofs.SameLanguage.{language→wide}
+use Rattle.paper.specs.Language.{Class, Terminal, hits, Mark, row, kind, named, wrapper, wrap, end, Part, language, Document, VariablesText, OperationType, SpreadRest}
 use Rattle.paper.proofs.Bools.{and_l, and_r, and_i}
 use Rattle.paper.proofs.Tables.{all_n, num_n, at_n, can_be_none}
 use Rattle.paper_theory.proofs.Test.{all, all_at, all_mem, implies, implies_out}
 
 abbrev Syms : Type 0
-Syms = List (Sym Node Terminal Mark)
+Syms = List (Sym Part Terminal Mark)
 
 abbrev pub Evs : Type 0
 Evs = List (Ev Class Mark)
 
--- the nodes but one, which ends a row that it did not begin and is no part of the draft
-abbrev is_usual : Node → Bool
+-- the parts but one, which ends a row that it did not begin and stands in no production of the draft
+abbrev is_usual : Part → Bool
 is_usual n = not (eqb (num_n n) (num_n SpreadRest))
 
 -- how many rows a part leaves open
-abbrev gain : Node → ℕ
+abbrev gain : Part → ℕ
 gain n = cond (eqb (num_n n) (num_n OperationType)) 1 0
 
 -- symbols where a rows are open, f: with no token since the last began. Behind them e are, and g where there is no token still
@@ -44,8 +42,8 @@ fits g e (act end ∷ ss) f zero = false
 fits g e (act end ∷ ss) f (suc a) = not f && fits g e ss false a
 
 -- the test of all productions
-abbrev part_tested : Bool → Node → Bool
-part_tested f n = implies (is_usual n) (all (λ α. fits (f && can_be_none n) (gain n) α f 0) (wide n))
+abbrev part_tested : Bool → Part → Bool
+part_tested f n = implies (is_usual n) (all (λ α. fits (f && can_be_none n) (gain n) α f 0) (language n))
 
 tested : (f : Bool) → T (all (part_tested f) all_n)
 unfolding language
@@ -100,7 +98,7 @@ module _ (g : Bool) (e : ℕ) (z : Bool) (y c : ℕ) where
       (and_i (not f) (fits z y (α ++ ss) false (c + a)) (and_l (not f) (fits g e α false a) h) (fits-append α ss false a (and_r (not f) (fits g e α false a) h) k))
 
 -- a part's production in its place
-fits_by : (n : Node) (α ss : Syms) (f : Bool) (d : ℕ) → Memᴰ α (wide n) → T (fits false 0 (nt n ∷ ss) f d) → T (fits false 0 (α ++ ss) f d)
+fits_by : (n : Part) (α ss : Syms) (f : Bool) (d : ℕ) → Memᴰ α (language n) → T (fits false 0 (nt n ∷ ss) f d) → T (fits false 0 (α ++ ss) f d)
 fits_by n α ss f d m h =
     fits_same false 0 (α ++ ss) f (let q : d + 0 ≡ d = omega arith in q)
     (fits-append (f && can_be_none n) (gain n) false 0 d α ss f 0
@@ -122,7 +120,7 @@ Nested (mark (wrap w) ∷ es) f d = Nested es f d
 Nested (mark end ∷ es) f zero = ⊥
 Nested (mark end ∷ es) f (suc d) = T (not f) × Nested es false d
 
-derives_nested : {ss : Syms} {es : Evs} → Derives wide hits ss es → (f : Bool) (d : ℕ) → T (fits false 0 ss f d) → Nested es f d
+derives_nested : {ss : Syms} {es : Evs} → Derives language hits ss es → (f : Bool) (d : ℕ) → T (fits false 0 ss f d) → Nested es f d
 unfolding Nested
 derives_nested done f d h = (go f (and_r (eqb d 0) (implies f false) h), eqb→eq d 0 (and_l (eqb d 0) (implies f false) h))
   where
@@ -141,10 +139,10 @@ derives_nested (marks {a = end} {ss} v) f (suc d) h = (and_l (not f) (fits false
 
 -- the parts that calls read
 pub part_nested : (n : Part) → (n ≡ Document) ⊎ (n ≡ VariablesText) → {es : Evs} → Derives language hits (nt n ∷ []) es → Nested es false 0
-part_nested n c v = derives_nested (language→wide v) false 0 (go c)
+part_nested n c v = derives_nested v false 0 (go c)
   where
     fitsPart : Part → Type 0
-    fitsPart m = T (fits false 0 (nt (node m) ∷ []) false 0)
+    fitsPart m = T (fits false 0 (nt m ∷ []) false 0)
 
     go : (n ≡ Document) ⊎ (n ≡ VariablesText) → fitsPart n
     go (inl e) = subst fitsPart (let q : Document ≡ n = cc in q) tt

@@ -7,9 +7,8 @@ use mathlib.Core.Option.{none, some}
 use Prim.Native.Nat.{ℕ, zero, suc}
 use lib.Dec.{T}
 use Rattle.paper.specs.Grammar.{nt, tm, tok}
-use Rattle.paper.specs.Lexical.{Set, lexical, hits_byte, plain, commented, backslash, escaped, u, hex, lead2, e0, lead3, ed, tail, tail_high, tail_low}
-use Rattle.paper.proofs.LexNodes.{LexNode}
-use Rattle.paper.proofs.LexNodes.{Wide, Escape, StringCharacter, CommentCharacter}
+use Rattle.paper.specs.Lexical.{Lex, Set, lexical, hits_byte, plain, commented, backslash, escaped, u, hex, lead2, e0, lead3, ed, tail, tail_high, tail_low}
+use Rattle.paper.specs.Lexical.{Wide, Escape, StringCharacter, CommentCharacter}
 use Rattle.paper.proofs.Machine.{took, step, choose, enter}
 use Rattle.paper_theory.proofs.Theory.{step_by, step_none, choose_first}
 use Rattle.paper.proofs.Bools.{or_l}
@@ -32,18 +31,18 @@ not_true true f = absurd (f tt)
 not_true false f = refl
 
 -- a part one of whose productions begins with a set that hits b
-begun : (n : LexNode) (p : Set) (ss ρ : Stack) (b : ℕ) → Memᴰ (tm p ∷ ss) (lex_factored n) → hits_byte p b ≡ true → step lexer (nt n ∷ ρ) (some b) ≡ took (tok b ∷ []) (ss ++ ρ)
+begun : (n : Lex) (p : Set) (ss ρ : Stack) (b : ℕ) → Memᴰ (tm p ∷ ss) (lex_factored n) → hits_byte p b ≡ true → step lexer (nt n ∷ ρ) (some b) ≡ took (tok b ∷ []) (ss ++ ρ)
 begun n p ss ρ b m q = step_by fits_l n (some b) ρ (choose_first fits_l n b m (is_true (hits_byte p b) q)) ∙ taken b p (ss ++ ρ) (is_true (hits_byte p b) q)
 
 -- a part one of whose productions is another part, which can begin with b
-entered : (n m : LexNode) (ρ : Stack) (b : ℕ) → Memᴰ (nt m ∷ []) (lex_factored n) → lexer.first m b ≡ true → step lexer (nt n ∷ ρ) (some b) ≡ step lexer (nt m ∷ ρ) (some b)
+entered : (n m : Lex) (ρ : Stack) (b : ℕ) → Memᴰ (nt m ∷ []) (lex_factored n) → lexer.first m b ≡ true → step lexer (nt n ∷ ρ) (some b) ≡ step lexer (nt m ∷ ρ) (some b)
 entered n m ρ b k q = step_by fits_l n (some b) ρ (choose_first fits_l n b k (or_l (lexer.first m b) (lexer.null m && false) (is_true (lexer.first m b) q)))
 
 -- a part that cannot begin with b has no production that does
-miss : (n : LexNode) (p : Set) (ss : Stack) (b : ℕ) → Memᴰ (tm p ∷ ss) (lex_factored n) → lexer.first n b ≡ false → hits_byte p b ≡ false
+miss : (n : Lex) (p : Set) (ss : Stack) (b : ℕ) → Memᴰ (tm p ∷ ss) (lex_factored n) → lexer.first n b ≡ false → hits_byte p b ≡ false
 miss n p ss b m q = not_true (hits_byte p b) (λ t. is_false (lexer.first n b) q (fits_l.first_closed n b m t))
 
-miss_part : (n k : LexNode) (b : ℕ) → Memᴰ (nt k ∷ []) (lex_factored n) → lexer.first n b ≡ false → lexer.first k b ≡ false
+miss_part : (n k : Lex) (b : ℕ) → Memᴰ (nt k ∷ []) (lex_factored n) → lexer.first n b ≡ false → lexer.first k b ≡ false
 miss_part n k b m q = not_true (lexer.first k b) (λ t. is_false (lexer.first n b) q (fits_l.first_closed n b m (or_l (lexer.first k b) (lexer.null k && false) t)))
 
 pub scan_wide : (ρ : Stack) (bs : List ℕ) → seen (scan lexer (nt Wide ∷ ρ) bs) ≡ after (wide_size bs) ρ bs

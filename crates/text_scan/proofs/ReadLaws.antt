@@ -8,8 +8,7 @@ use native.Mathlib.Nat.{zero-add}
 use native.Mathlib.Omega.{arith}
 use lib.ListN.{drop}
 use Rattle.paper.specs.Grammar.{Sym, nt, act, Ev, tok, mark}
-use Rattle.paper.specs.Lexical.{Set, What, hits_byte}
-use Rattle.paper.proofs.LexNodes.{LexNode, Piece}
+use Rattle.paper.specs.Lexical.{Lex, Set, What, Piece, hits_byte}
 use Rattle.paper.specs.Tokens.{what_of}
 use Rattle.paper.proofs.Machine.{took, emptied, refused, step}
 use Rattle.paper.proofs.Longest.{scan}
@@ -19,7 +18,7 @@ use Rattle.text_scan.specs.Run.{run_of}
 use Rattle.text_scan.specs.declared.TokenRead.TheVariants.{Bad}
 
 abbrev pub Stack : Type 0
-Stack = List (Sym LexNode Set What)
+Stack = List (Sym Lex Set What)
 
 -- the longest beginning of bs that fits the stack has n bytes, and is a w
 pub record Read (σ : Stack) (bs : List ℕ) (n : ℕ) (w : What) : Type 0 where
@@ -109,12 +108,12 @@ module _ (bs : List ℕ) where
   nothing_ignored z = rw z.scans
 
 -- a part that goes on as long as the bytes are of a set
-pub record Repeats (n : LexNode) (p : Set) : Type 0 where
+pub record Repeats (n : Lex) (p : Set) : Type 0 where
   pub more : (b : ℕ) (σ : Stack) → hits_byte p b ≡ true → step lexer (nt n ∷ σ) (some b) ≡ took (tok b ∷ []) (nt n ∷ σ)
   pub over : (b : ℕ) (σ : Stack) → hits_byte p b ≡ false → step lexer (nt n ∷ σ) (some b) ≡ step lexer σ (some b)
   pub end : (σ : Stack) → step lexer (nt n ∷ σ) none ≡ step lexer σ none
 
-pub read_run : {n : LexNode} {p : Set} → Repeats n p → (σ : Stack) (bs : List ℕ) (m : ℕ) (w : What) → Read σ (drop (run_of p bs) bs) m w → Read (nt n ∷ σ) bs (run_of p bs + m) w
+pub read_run : {n : Lex} {p : Set} → Repeats n p → (σ : Stack) (bs : List ℕ) (m : ℕ) (w : What) → Read σ (drop (run_of p bs) bs) m w → Read (nt n ∷ σ) bs (run_of p bs + m) w
 unfolding run_of
 read_run R σ [] m w r = read_size (sym (zero-add m)) (read_alike (alike_end (R.end σ)) r)
 read_run {n} {p} R σ (b ∷ bs) m w r = go (hits_byte p b) refl r (read_run R σ bs m w)

@@ -11,8 +11,7 @@ use lib.Dec.{T, leb, ltb, leb→le}
 use lib.ListN.{drop}
 use Rattle.paper.specs.Grammar.{nt, tm, act}
 use Rattle.paper.specs.Language.{string}
-use Rattle.paper.specs.Lexical.{What, span, is, comment, lexical, hits_byte, quote}
-use Rattle.paper.proofs.LexNodes.{LexNode, StringCharacter, StringCharacter*, CommentCharacter, CommentCharacter*}
+use Rattle.paper.specs.Lexical.{Lex, What, span, is, comment, lexical, hits_byte, quote, StringCharacter, StringCharacter*, CommentCharacter, CommentCharacter*}
 use Rattle.paper.proofs.Machine.{step, choose, enter}
 use Rattle.paper_theory.proofs.Theory.{step_by, choose_first, choose_null}
 use Rattle.paper.proofs.Bools.{or_l, or_cases, and_l, and_r}
@@ -26,7 +25,7 @@ use Rattle.text_scan.proofs.ScanLaws.{Seen, seen, more, grow, or_that, or_none, 
 use Rattle.text_scan.proofs.CharacterScan.{is_true, is_false, not_true, scan_comment_character, scan_string_character, character_none, part_none}
 
 -- a repetition r of the part n
-module _ (r n : LexNode) (stop : Memᴰ [] (lex_factored r)) (go_on : Memᴰ (nt n ∷ nt r ∷ []) (lex_factored r)) (firsts : (b : ℕ) → lexer.first r b ≡ lexer.first n b) (σ : Stack) where
+module _ (r n : Lex) (stop : Memᴰ [] (lex_factored r)) (go_on : Memᴰ (nt n ∷ nt r ∷ []) (lex_factored r)) (firsts : (b : ℕ) → lexer.first r b ≡ lexer.first n b) (σ : Stack) where
   star-off : (b : ℕ) (bs : List ℕ) → choose lexer r none ≡ some [] → lexer.first n b ≡ false → scan lexer (nt r ∷ σ) (b ∷ bs) ≡ scan lexer σ (b ∷ bs)
   star-off b bs e q =
       scan_same (nt r ∷ σ) σ b bs (step_by fits_l r (some b) σ (choose_null fits_l r b stop tt (is_false (lexer.first r b) (firsts b ∙ q)))) (step_by fits_l r none σ e)

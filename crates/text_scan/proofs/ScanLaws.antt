@@ -8,8 +8,7 @@ use Prim.Native.Nat.{ℕ, zero, suc}
 use lib.Dec.{T}
 use lib.ListN.{length, drop}
 use Rattle.paper.specs.Grammar.{tm, Ev, tok}
-use Rattle.paper.specs.Lexical.{Set, What, hits_byte}
-use Rattle.paper.proofs.LexNodes.{LexNode}
+use Rattle.paper.specs.Lexical.{Lex, Set, What, hits_byte}
 use Rattle.paper.specs.Tokens.{what_of}
 use Rattle.paper.proofs.Machine.{Step, took, emptied, refused, spent, step}
 use Rattle.paper.proofs.Bools.{T→eq}
@@ -72,7 +71,7 @@ scan_or σ τ b bs q e = rw (q, e) (go (step lexer τ (some b)))
     later es none p = refl
     later es (some m) p = refl
 
-    go : (s : Step LexNode Set ℕ What) → seen (further lexer (λ ρ. scan lexer ρ bs) s (here lexer (step lexer σ none))) ≡
+    go : (s : Step Lex Set ℕ What) → seen (further lexer (λ ρ. scan lexer ρ bs) s (here lexer (step lexer σ none))) ≡
         or_that (seen (further lexer (λ ρ. scan lexer ρ bs) s none)) (seen (here lexer (step lexer σ none)))
     go (took es ρ) = later es (scan lexer ρ bs) (here lexer (step lexer σ none))
     go (emptied es) = refl

@@ -22,8 +22,7 @@ use Rattle.text_cursor.specs.declared.Cursor.{Cursor}
 use Rattle.text_cursor.specs.declared.Read.{Read}
 use Rattle.text_cursor.specs.declared.Read.TheVariants.{Done, Refused}
 use Rattle.text_cursor.specs.Reader.{Looks, moved_to, at, Ready, Went, Halts, Said}
-use Rattle.paper.specs.Language.{language, the, brace_l, brace_r, end, n_other, spread}
-use Rattle.paper.proofs.Nodes.{SelectionSet, Selection+, Selection*, Selection}
+use Rattle.paper.specs.Language.{language, the, brace_l, brace_r, end, SelectionSet, Selection+, Selection*, Selection, n_other, spread}
 use Rattle.text_cursor.proofs.Steps.{first, null, refuse, lacks, opening, closing, too_deep, is, not_is, not_two, refuses, refuses_end}
 use Rattle.text_cursor.proofs.Cells.{ends_row}
 use Rattle.text_leaves.proofs.MovedLaws.{moved_halts, moved_said}

@@ -25,8 +25,7 @@ use Rattle.text_cursor.specs.declared.Cursor.{Cursor}
 use Rattle.text_cursor.specs.declared.Read.{Read}
 use Rattle.text_cursor.specs.declared.Read.TheVariants.{Done, Refused}
 use Rattle.text_cursor.specs.Reader.{moved_to, at, Ready, Went, Halts, Said}
-use Rattle.paper.specs.Language.{language, the, spread, name_but_on, kind, named, end, at_sign, brace_l, n_other}
-use Rattle.paper.proofs.Nodes.{Selection, SpreadRest, FragmentName, TypeCondition?, TypeCondition, Directives?}
+use Rattle.paper.specs.Language.{language, the, spread, name_but_on, kind, named, end, Selection, SpreadRest, FragmentName, TypeCondition?, TypeCondition, Directives?, at_sign, brace_l, n_other}
 use Rattle.text_scan.specs.Head.{word_of}
 use Rattle.text_cursor.proofs.Steps.{first, null, refuse, plain, too_many_rows, is, not_is, not_two, refuses, refuses_end}
 use Rattle.text_cursor.proofs.Cells.{put, put_length, row_begins, kind_told, ends_row}

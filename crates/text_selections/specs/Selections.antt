@@ -2,8 +2,7 @@
 use Rattle.std.specs.Prelude.{Bool, ◌&&◌, not, List, [], ◌∷◌, ℕ, ◌<◌, eqb}
 use Rattle.paper.specs.Grammar.{nt, act}
 use Rattle.paper.specs.Numbers.{most_rows, kind_field}
-use Rattle.paper.specs.Language.{end, n_other}
-use Rattle.paper.proofs.Nodes.{SelectionSet, SelectionSet?, Selection, Field, AliasRest, SpreadRest, Arguments?, Directives?}
+use Rattle.paper.specs.Language.{end, SelectionSet, SelectionSet?, Selection, Field, AliasRest, SpreadRest, Arguments?, Directives?, n_other}
 use Rattle.paper.proofs.Going.{Stack}
 use Rattle.text_scan.specs.Head.{word_of, kind_of}
 use Rattle.text_cursor.specs.declared.Cursor.{Cursor}

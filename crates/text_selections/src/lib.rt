@@ -3,31 +3,31 @@ ghost use Rattle.std.specs.Prelude.{◌≡◌, true, false, [], ◌+◌, ◌≤�
 ghost use Rattle.paper.specs.Numbers.{most_rows};
 ghost use Rattle.paper.specs.Language.{colon, n_other, spread};
 ghost use Rattle.text_scan.specs.Head.{kind_of};
-ghost use Rattle.text_cursor.specs.Reader.{Ready, Said, said};
+ghost use Rattle.text_cursor.specs.Reader.{Ready, Said};
 ghost use Rattle.text_arguments.specs.Passed.{Passes, opened, shut};
 ghost use Rattle.text_selections.specs.Selections.{names_fragment, selection_set_stack, selection_stack, body_stack, field_stack, field_rest_stack, spread_stack, spread_begun, AliasSaid, HeadSaid};
 
-use paper::{KIND_FIELD, KIND_INLINE, KIND_SPREAD, MOST_ROWS};
+use paper::{KIND_FIELD, KIND_INLINE, KIND_SPREAD, MOST_ROWS, Refusal};
 use text_arguments::{arguments, condition, directives};
-use text_cursor::{Cursor, REFUSED, no_going, put_end, put_row, too_deep, too_many_rows};
+use text_cursor::{Cursor, Read, no_going, put_end, put_row};
 use text_scan::{
     TOKEN_AT, TOKEN_BRACE_CLOSE, TOKEN_BRACE_OPEN, TOKEN_COLON, TOKEN_NAME, TOKEN_PAREN_OPEN,
     TOKEN_SPREAD, WORD_ON,
 };
 
 // Field up to its selection set, at its first name: Alias? Name Arguments? Directives?
-fn field_head(s: &[u8], rows: &mut [u32], c: Cursor, parent: u32, left: u32) -> Cursor
+fn field_head(s: &[u8], rows: &mut [u32], c: Cursor, parent: u32, left: u32) -> Read
     requires { Ready s.now rows.old c parent × (c.kind ≡ kind_of n_other) }
-    ensures { HeadSaid s.now rows.old rows.new c parent left (said result) }
+    ensures { HeadSaid s.now rows.old rows.new c parent left result }
 {
     let n = c.rows;
     if n == MOST_ROWS {
-        return too_many_rows(c.start);
+        return Read::Refused(Refusal::TooManyRows(c.start));
     }
-    let after = c.past(s, n + 1);
-    if REFUSED <= after.kind {
-        return after;
-    }
+    let r = c.past(s, n + 1);
+    let Read::Done(after) = r else {
+        return r;
+    };
     if after.kind == TOKEN_COLON {
         return aliased(s, rows, after, parent, left, n, c.start);
     }
@@ -54,14 +54,14 @@ fn aliased(
     left: u32,
     n: u32,
     start: u32,
-) -> Cursor
+) -> Read
     requires { Ready s.now rows.old c n × (c.kind ≡ kind_of colon) × (c.rows ≡ n + 1) }
-    ensures { AliasSaid s.now rows.old rows.new c parent left n start (said result) }
+    ensures { AliasSaid s.now rows.old rows.new c parent left n start result }
 {
-    let name = c.past(s, n + 1);
-    if REFUSED <= name.kind {
-        return name;
-    }
+    let r = c.past(s, n + 1);
+    let Read::Done(name) = r else {
+        return r;
+    };
     if name.kind != TOKEN_NAME {
         return no_going(name);
     }
@@ -76,32 +76,32 @@ fn aliased(
         name.end - name.start,
         0,
     );
-    let after = name.past(s, n + 1);
-    if REFUSED <= after.kind {
-        return after;
-    }
+    let t = name.past(s, n + 1);
+    let Read::Done(after) = t else {
+        return t;
+    };
     field_rest(s, rows, after, n, left)
 }
 
 // Arguments? Directives?
-fn field_rest(s: &[u8], rows: &mut [u32], c: Cursor, n: u32, left: u32) -> Cursor
+fn field_rest(s: &[u8], rows: &mut [u32], c: Cursor, n: u32, left: u32) -> Read
     requires { Ready s.now rows.old c n }
-    ensures { Said 0 s.now rows.old rows.new c n left field_rest_stack (said result) }
+    ensures { Said 0 s.now rows.old rows.new c n left field_rest_stack result }
 {
     if c.kind == TOKEN_PAREN_OPEN {
-        let d = arguments(s, rows, c, n, left);
-        if REFUSED <= d.kind {
-            return d;
-        }
+        let r = arguments(s, rows, c, n, left);
+        let Read::Done(d) = r else {
+            return r;
+        };
         if d.kind == TOKEN_AT {
             return directives(s, rows, d, n, left);
         }
-        return d;
+        return r;
     }
     if c.kind == TOKEN_AT {
         return directives(s, rows, c, n, left);
     }
-    c
+    Read::Done(c)
 }
 
 // FragmentSpread, from its name on, at which the cursor stands; row n begins at `start`
@@ -113,9 +113,9 @@ fn named_spread(
     left: u32,
     n: u32,
     start: u32,
-) -> Cursor
+) -> Read
     requires { Ready s.now rows.old c n × (names_fragment s.now c ≡ true) × (c.rows ≡ n + 1) }
-    ensures { Passes 1 s.now (spread_begun rows.old n start parent) rows.new c n left (opened n) shut spread_stack [] (said result) }
+    ensures { Passes 1 s.now (spread_begun rows.old n start parent) rows.new c n left (opened n) shut spread_stack [] result }
 {
     put_row(
         rows,
@@ -129,20 +129,20 @@ fn named_spread(
         0,
     );
     let m = c.rows;
-    let after = c.past(s, m);
-    if REFUSED <= after.kind {
-        return after;
-    }
+    let r = c.past(s, m);
+    let Read::Done(after) = r else {
+        return r;
+    };
     if after.kind != TOKEN_AT {
         put_end(rows, n, after.stop);
-        return after;
+        return r;
     }
-    let d = directives(s, rows, after, n, left);
-    if REFUSED <= d.kind {
-        return d;
-    }
+    let t = directives(s, rows, after, n, left);
+    let Read::Done(d) = t else {
+        return t;
+    };
     put_end(rows, n, d.stop);
-    d
+    t
 }
 
 // InlineFragment, from behind its dots up to its selection set: TypeCondition? Directives?; row n begins at `start`
@@ -154,50 +154,50 @@ fn inline_head(
     left: u32,
     n: u32,
     start: u32,
-) -> Cursor
+) -> Read
     requires { Ready s.now rows.old c n × (names_fragment s.now c ≡ false) × (c.rows ≡ n + 1) }
-    ensures { Passes 0 s.now (spread_begun rows.old n start parent) rows.new c n left (opened n) (opened n) spread_stack body_stack (said result) }
+    ensures { Passes 0 s.now (spread_begun rows.old n start parent) rows.new c n left (opened n) (opened n) spread_stack body_stack result }
 {
     put_row(rows, n, KIND_INLINE, start, 0, parent, 0, 0, 0);
     if c.kind == TOKEN_NAME {
-        let d = condition(s, rows, c, n, left);
-        if REFUSED <= d.kind {
-            return d;
-        }
+        let r = condition(s, rows, c, n, left);
+        let Read::Done(d) = r else {
+            return r;
+        };
         if d.kind == TOKEN_AT {
             return directives(s, rows, d, n, left);
         }
-        return d;
+        return r;
     }
     if c.kind == TOKEN_AT {
         return directives(s, rows, c, n, left);
     }
-    c
+    Read::Done(c)
 }
 
 // SelectionSet; no other token than { goes on
 #[cycle(body_field_selection_selection_set_spread)]
-pub fn selection_set(s: &[u8], rows: &mut [u32], c: Cursor, parent: u32, left: u32) -> Cursor
+pub fn selection_set(s: &[u8], rows: &mut [u32], c: Cursor, parent: u32, left: u32) -> Read
     requires { Ready s.now rows.old c parent }
-    ensures { Said 1 s.now rows.old rows.new c parent left selection_set_stack (said result) }
+    ensures { Said 1 s.now rows.old rows.new c parent left selection_set_stack result }
 {
     if c.kind != TOKEN_BRACE_OPEN {
         return no_going(c);
     }
     if left == 0 {
-        return too_deep(c.start);
+        return Read::Refused(Refusal::TooDeep(c.start));
     }
     let n = c.rows;
-    let first = c.past(s, n);
-    if REFUSED <= first.kind {
-        return first;
-    }
+    let r = c.past(s, n);
+    let Read::Done(first) = r else {
+        return r;
+    };
     let mut d = first;
     loop {
-        let next = selection(s, rows, d, parent, left - 1);
-        if REFUSED <= next.kind {
-            return next;
-        }
+        let t = selection(s, rows, d, parent, left - 1);
+        let Read::Done(next) = t else {
+            return t;
+        };
         if next.kind == TOKEN_BRACE_CLOSE {
             let m = next.rows;
             return next.past(s, m);
@@ -208,9 +208,9 @@ pub fn selection_set(s: &[u8], rows: &mut [u32], c: Cursor, parent: u32, left: u
 
 // Selection
 #[cycle(body_field_selection_selection_set_spread)]
-fn selection(s: &[u8], rows: &mut [u32], c: Cursor, parent: u32, left: u32) -> Cursor
+fn selection(s: &[u8], rows: &mut [u32], c: Cursor, parent: u32, left: u32) -> Read
     requires { Ready s.now rows.old c parent }
-    ensures { Said 1 s.now rows.old rows.new c parent left selection_stack (said result) }
+    ensures { Said 1 s.now rows.old rows.new c parent left selection_stack result }
 {
     if c.kind == TOKEN_NAME {
         return field(s, rows, c, parent, left);
@@ -223,43 +223,43 @@ fn selection(s: &[u8], rows: &mut [u32], c: Cursor, parent: u32, left: u32) -> C
 
 // Field, at its first name
 #[cycle(body_field_selection_selection_set_spread)]
-fn field(s: &[u8], rows: &mut [u32], c: Cursor, parent: u32, left: u32) -> Cursor
+fn field(s: &[u8], rows: &mut [u32], c: Cursor, parent: u32, left: u32) -> Read
     requires { Ready s.now rows.old c parent × (c.kind ≡ kind_of n_other) }
-    ensures { Said 1 s.now rows.old rows.new c parent left field_stack (said result) }
+    ensures { Said 1 s.now rows.old rows.new c parent left field_stack result }
 {
     let n = c.rows;
-    let head = field_head(s, rows, c, parent, left);
-    if REFUSED <= head.kind {
-        return head;
-    }
+    let r = field_head(s, rows, c, parent, left);
+    let Read::Done(head) = r else {
+        return r;
+    };
     if head.kind == TOKEN_BRACE_OPEN {
         return body(s, rows, head, n, left);
     }
     put_end(rows, n, head.stop);
-    head
+    r
 }
 
 // FragmentSpread or InlineFragment, at its dots
 #[cycle(body_field_selection_selection_set_spread)]
-fn spread(s: &[u8], rows: &mut [u32], c: Cursor, parent: u32, left: u32) -> Cursor
+fn spread(s: &[u8], rows: &mut [u32], c: Cursor, parent: u32, left: u32) -> Read
     requires { Ready s.now rows.old c parent × (c.kind ≡ kind_of spread) }
-    ensures { Said 1 s.now rows.old rows.new c parent left selection_stack (said result) }
+    ensures { Said 1 s.now rows.old rows.new c parent left selection_stack result }
 {
     let n = c.rows;
     if n == MOST_ROWS {
-        return too_many_rows(c.start);
+        return Read::Refused(Refusal::TooManyRows(c.start));
     }
-    let d = c.past(s, n + 1);
-    if REFUSED <= d.kind {
-        return d;
-    }
+    let r = c.past(s, n + 1);
+    let Read::Done(d) = r else {
+        return r;
+    };
     if names_fragment(s, d) {
         return named_spread(s, rows, d, parent, left, n, c.start);
     }
-    let e = inline_head(s, rows, d, parent, left, n, c.start);
-    if REFUSED <= e.kind {
-        return e;
-    }
+    let t = inline_head(s, rows, d, parent, left, n, c.start);
+    let Read::Done(e) = t else {
+        return t;
+    };
     body(s, rows, e, n, left)
 }
 
@@ -276,14 +276,14 @@ pub fn names_fragment(s: &[u8], c: Cursor) -> bool
 
 // The selection set that ends row n
 #[cycle(body_field_selection_selection_set_spread)]
-fn body(s: &[u8], rows: &mut [u32], c: Cursor, n: u32, left: u32) -> Cursor
+fn body(s: &[u8], rows: &mut [u32], c: Cursor, n: u32, left: u32) -> Read
     requires { Ready s.now rows.old c n × (n < most_rows) }
-    ensures { Passes 1 s.now rows.old rows.new c n left (opened n) shut body_stack [] (said result) }
+    ensures { Passes 1 s.now rows.old rows.new c n left (opened n) shut body_stack [] result }
 {
-    let d = selection_set(s, rows, c, n, left);
-    if REFUSED <= d.kind {
-        return d;
-    }
+    let r = selection_set(s, rows, c, n, left);
+    let Read::Done(d) = r else {
+        return r;
+    };
     put_end(rows, n, d.stop);
-    d
+    r
 }

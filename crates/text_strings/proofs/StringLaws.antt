@@ -12,8 +12,7 @@ use lib.Seq.{drop-drop}
 use borrow.Author.Tests.{ne_eqb}
 use Rattle.paper.specs.Grammar.{nt}
 use Rattle.paper.specs.Language.{string}
-use Rattle.paper.specs.Lexical.{What, is, comment, lexical}
-use Rattle.paper.proofs.LexNodes.{Piece}
+use Rattle.paper.specs.Lexical.{What, is, comment, lexical, Piece}
 use Rattle.paper.specs.Tokens.{line_end}
 use Rattle.paper.proofs.Machine.{step, choose, enter}
 use Rattle.paper.proofs.Longest.{Match, scan}

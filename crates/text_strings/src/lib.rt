@@ -32,10 +32,10 @@ pub fn comment(s: &[u8], i: usize) -> usize
         return e - i;
     }
     let after = s[e];
-    if after == b'\n' {
+    if after == 10 {
         return e - i;
     }
-    if after == b'\r' {
+    if after == 13 {
         return e - i;
     }
     0

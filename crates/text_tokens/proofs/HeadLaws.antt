@@ -11,8 +11,7 @@ use lib.Dec.{T}
 use lib.ListN.{length, take, drop}
 use Rattle.paper.specs.Grammar.{nt}
 use Rattle.paper.specs.Language.{Class}
-use Rattle.paper.specs.Lexical.{What, is, ignored, comment}
-use Rattle.paper.proofs.LexNodes.{Piece}
+use Rattle.paper.specs.Lexical.{What, is, ignored, comment, Piece}
 use Rattle.paper.specs.Tokens.{Text, at_end, bad, token, name_class, what_of, line_end}
 use Rattle.paper.proofs.Longest.{Match, scan}
 use Rattle.paper.proofs.LexTables.{lexer}

@@ -8,8 +8,7 @@ use native.Mathlib.Omega.{arith}
 use lib.Dec.{T}
 use Rattle.paper.specs.Grammar.{Sym, nt, tm, act, Ev, Derives, done, take, note, by}
 use Rattle.paper.specs.Language.{Class, same_c, is_name_class, bang, dollar, paren_l, paren_r, spread, colon, equals, at_sign, bracket_l, bracket_r, brace_l, bar, brace_r, n_query, n_mutation, n_subscription, n_fragment, n_on, n_true, n_false, n_null, n_other, int, float, string}
-use Rattle.paper.specs.Lexical.{Set, What, is, ignored, comment, lexical, hits_byte}
-use Rattle.paper.proofs.LexNodes.{LexNode, Piece}
+use Rattle.paper.specs.Lexical.{Lex, Set, What, is, ignored, comment, Piece, lexical, hits_byte}
 use Rattle.paper.specs.Tokens.{or_else, same, name_class, classed, what_of}
 use Rattle.paper.proofs.Bools.{and_l, and_r, and_i}
 use Rattle.paper_theory.proofs.Test.{all, all_at, all_mem}
@@ -126,23 +125,23 @@ plain_name int w t h = let z : ⊥ = omega arith in absurd z
 plain_name float w t h = let z : ⊥ = omega arith in absurd z
 plain_name string w t h = let z : ⊥ = omega arith in absurd z
 
-abbrev plain_s : List (Sym LexNode Set What) → Bool
+abbrev plain_s : List (Sym Lex Set What) → Bool
 plain_s [] = true
 plain_s (nt n ∷ ss) = plain_s ss
 plain_s (tm p ∷ ss) = plain_s ss
 plain_s (act w ∷ ss) = plain w && plain_s ss
 
-plain_append : (xs ys : List (Sym LexNode Set What)) → T (plain_s xs) → T (plain_s ys) → T (plain_s (xs ++ ys))
+plain_append : (xs ys : List (Sym Lex Set What)) → T (plain_s xs) → T (plain_s ys) → T (plain_s (xs ++ ys))
 plain_append [] ys h k = k
 plain_append (nt n ∷ xs) ys h k = plain_append xs ys h k
 plain_append (tm p ∷ xs) ys h k = plain_append xs ys h k
 plain_append (act w ∷ xs) ys h k = and_i (plain w) (plain_s (xs ++ ys)) (and_l (plain w) (plain_s xs) h) (plain_append xs ys (and_r (plain w) (plain_s xs) h) k)
 
-plain_prods : (n : LexNode) → T (all plain_s (lex_factored n))
+plain_prods : (n : Lex) → T (all plain_s (lex_factored n))
 unfolding lex_factored lexical
 plain_prods n = all_at (λ m. all plain_s (lex_factored m)) all_l (num_l n) tt (at_l n)
 
-plain_derives : {σ : List (Sym LexNode Set What)} {es : List (Ev ℕ What)} → Derives lex_factored hits_byte σ es → T (plain_s σ) → T (plain (what_of es))
+plain_derives : {σ : List (Sym Lex Set What)} {es : List (Ev ℕ What)} → Derives lex_factored hits_byte σ es → T (plain_s σ) → T (plain (what_of es))
 plain_derives done h = tt
 plain_derives (take t d) h = plain_derives d h
 plain_derives (note {a} {ss} d) h = and_l (plain a) (plain_s ss) h

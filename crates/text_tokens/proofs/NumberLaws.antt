@@ -13,8 +13,7 @@ use lib.ListN.{length, get_or, drop}
 use lib.Seq.{drop-drop}
 use Rattle.paper.specs.Grammar.{nt, act, tok}
 use Rattle.paper.specs.Language.{Class, int, float}
-use Rattle.paper.specs.Lexical.{What, is, span, letter, digit, dot, e, sign, zero, lexical, hits_byte}
-use Rattle.paper.proofs.LexNodes.{Piece, Digit*, Digit+, Sign?, UnsignedPart}
+use Rattle.paper.specs.Lexical.{What, is, Piece, Digit*, Digit+, Sign?, UnsignedPart, span, letter, digit, dot, e, sign, zero, lexical, hits_byte}
 use Rattle.paper.proofs.Machine.{took, refused, step, enter, choose}
 use Rattle.paper.proofs.LexTables.{lexer, lex_factored}
 use Rattle.text_scan.specs.Head.{kind_of}

@@ -10,8 +10,7 @@ use lib.Dec.{eqb}
 use lib.ListN.{length, get_or, drop, length-drop}
 use Rattle.paper.specs.Grammar.{nt, tm, act, tok}
 use Rattle.paper.specs.Language.{Class, bang, dollar, paren_l, paren_r, spread, colon, equals, at_sign, bracket_l, bracket_r, brace_l, bar, brace_r, n_other}
-use Rattle.paper.specs.Lexical.{Set, What, span, is, ignored, letter, letter_or_digit, lexical, hits_byte}
-use Rattle.paper.proofs.LexNodes.{Piece}
+use Rattle.paper.specs.Lexical.{Set, What, span, is, ignored, Piece, letter, letter_or_digit, lexical, hits_byte}
 use Rattle.paper.proofs.Machine.{took, step, enter, choose}
 use Rattle.paper.proofs.LexTables.{lexer, lex_factored}
 use Rattle.text_scan.specs.Head.{kind_of}

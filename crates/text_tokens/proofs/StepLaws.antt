@@ -7,8 +7,7 @@ use Prim.Native.Nat.{ℕ}
 use lib.Dec.{T}
 use Rattle.paper.specs.Grammar.{nt, tm, act, tok, mark}
 use Rattle.paper.specs.Language.{n_other, int, float}
-use Rattle.paper.specs.Lexical.{Set, is, digit, letter, letter_or_digit, dot, e, sign, lexical, hits_byte}
-use Rattle.paper.proofs.LexNodes.{LexNode, Piece, Name, NameRest*, Digit*, Digit+, Sign?, ExponentPart, ExponentPart?, NumberRest, UnsignedPart}
+use Rattle.paper.specs.Lexical.{Lex, Set, is, Piece, Name, NameRest*, Digit*, Digit+, Sign?, ExponentPart, ExponentPart?, NumberRest, UnsignedPart, digit, letter, letter_or_digit, dot, e, sign, lexical, hits_byte}
 use Rattle.paper.proofs.Machine.{took, emptied, refused, pick, fst, nul, step, enter, choose}
 use Rattle.paper.proofs.Bools.{or_l, eq→t}
 use Rattle.paper_theory.proofs.Theory.{pick_none, step_by, step_none, choose_first, choose_null}
@@ -54,7 +53,7 @@ repeats_digit = record {
 }
 
 -- a part that begins with none of its bytes
-pub step_not_first : (n : LexNode) (b : ℕ) (σ : Stack) → pick (λ α. nul lexer α) (lex_factored n) ≡ none → (T (lexer.first n b) → ⊥) → step lexer (nt n ∷ σ) (some b) ≡ refused
+pub step_not_first : (n : Lex) (b : ℕ) (σ : Stack) → pick (λ α. nul lexer α) (lex_factored n) ≡ none → (T (lexer.first n b) → ⊥) → step lexer (nt n ∷ σ) (some b) ≡ refused
 unfolding choose
 step_not_first n b σ q h = step_none fits_l n (some b) σ (rw (pick_none (λ α. fst lexer α b) (lex_factored n) (λ α m t. h (fits_l.first_closed n b m t))) q)
 

@@ -8,8 +8,7 @@ use native.Mathlib.Omega.{arith}
 use lib.ListN.{length, drop, length-drop, drop_of_length-le}
 use lib.Seq.{drop-drop}
 use Rattle.paper.specs.Grammar.{nt}
-use Rattle.paper.specs.Lexical.{What, is, ignored, comment}
-use Rattle.paper.proofs.LexNodes.{Piece}
+use Rattle.paper.specs.Lexical.{What, is, ignored, comment, Piece}
 use Rattle.paper.specs.Tokens.{Text, at_end, what_of, line_end}
 use Rattle.paper.proofs.Longest.{Match, scan}
 use Rattle.paper.proofs.LexTables.{lexer}

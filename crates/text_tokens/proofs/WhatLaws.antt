@@ -8,8 +8,7 @@ use native.Mathlib.Omega.{arith}
 use lib.Dec.{T, eqb, eqb→eq}
 use Rattle.paper.specs.Grammar.{nt, tm, act, Ev, tok, mark, Derives, done, take, note, by}
 use Rattle.paper.specs.Language.{int, float}
-use Rattle.paper.specs.Lexical.{Set, What, is, ignored, comment, lexical, hits_byte, letter, digit, span}
-use Rattle.paper.proofs.LexNodes.{LexNode, Piece, Number, NumberRest}
+use Rattle.paper.specs.Lexical.{Lex, Set, What, is, ignored, comment, Piece, Number, NumberRest, lexical, hits_byte, letter, digit, span}
 use Rattle.paper.specs.Tokens.{what_of}
 use Rattle.paper.proofs.Machine.{Step, took, emptied, refused, spent, step, enter, choose}
 use Rattle.paper.proofs.Bools.{and_l, and_r, and_i}
@@ -27,7 +26,7 @@ use Rattle.text_scan.proofs.ReadLaws.{Stack}
 use Rattle.text_tokens.proofs.StepLaws.{end_piece}
 
 -- the parts that write no mark
-abbrev silent : LexNode → Bool
+abbrev silent : Lex → Bool
 silent n = not (same_l Piece n || (same_l Number n || same_l NumberRest n))
 
 abbrev silent_s : Stack → Bool
@@ -36,7 +35,7 @@ silent_s (nt n ∷ ss) = silent n && silent_s ss
 silent_s (tm p ∷ ss) = silent_s ss
 silent_s (act w ∷ ss) = false
 
-silent_prods : (n : LexNode) → T (implies (silent n) (all silent_s (lex_factored n)))
+silent_prods : (n : Lex) → T (implies (silent n) (all silent_s (lex_factored n)))
 unfolding lex_factored lexical
 silent_prods n = all_at (λ m. implies (silent m) (all silent_s (lex_factored m))) all_l (num_l n) tt (at_l n)
 
@@ -46,7 +45,7 @@ is_token ignored = false
 is_token comment = false
 
 module _ (good : What → Bool) where
-  abbrev numbers : LexNode → Bool
+  abbrev numbers : Lex → Bool
   numbers n = same_l NumberRest n && (good (is int) && good (is float))
 
   abbrev orS : Bool → Bool → Bool → Bool
@@ -80,9 +79,9 @@ module _ (good : What → Bool) where
   good-append (tm p ∷ xs) ys h = good-append xs ys h
   good-append (act w ∷ xs) ys h = h
 
-  numbers-prods : (n : LexNode) → T (numbers n) → T (all good_s (lex_factored n))
+  numbers-prods : (n : Lex) → T (numbers n) → T (all good_s (lex_factored n))
   unfolding lex_factored lexical
-  numbers-prods n h = subst (λ (m : LexNode). T (all good_s (lex_factored m))) rest (and_i (good (is int)) (good (is float) && (good (is float) && true)) i (and_i (good (is float)) (good (is float) && true) f (and_i (good (is float)) true f tt)))
+  numbers-prods n h = subst (λ (m : Lex). T (all good_s (lex_factored m))) rest (and_i (good (is int)) (good (is float) && (good (is float) && true)) i (and_i (good (is float)) (good (is float) && true) f (and_i (good (is float)) true f tt)))
     where
       both : T (good (is int) && good (is float))
       both = and_r (same_l NumberRest n) (good (is int) && good (is float)) h
@@ -118,7 +117,7 @@ module _ (good : What → Bool) where
   bare (tok c ∷ es) = bare es
   bare (mark w ∷ es) = false
 
-  abbrev goodStep : Step LexNode Set ℕ What → Bool
+  abbrev goodStep : Step Lex Set ℕ What → Bool
   goodStep (took es σ) = bare es && good_s σ
   goodStep (emptied es) = false
   goodStep refused = true
@@ -140,7 +139,7 @@ module _ (good : What → Bool) where
           let w : es ++ k.events ≡ m.events = cc in
           subst (λ (fs : List (Ev ℕ What)). T (good (what_of fs))) w (rw (bare-what es k.events t) (f k e))
 
-      go : (s : Step LexNode Set ℕ What) → step lexer (nt Piece ∷ []) (some b) ≡ s → T (goodStep s) → further lexer (λ σ'. scan lexer σ' bs) s none ≡ some m → T (good (what_of m.events))
+      go : (s : Step Lex Set ℕ What) → step lexer (nt Piece ∷ []) (some b) ≡ s → T (goodStep s) → further lexer (λ σ'. scan lexer σ' bs) s none ≡ some m → T (good (what_of m.events))
       go (took es σ) e t z = deep es σ (and_l (bare es) (good_s σ) t) (scan_good bs σ (kept_step fits_l (nt Piece ∷ []) b (λ u k. absurd k, tt) e) (and_r (bare es) (good_s σ) t)) (scan lexer σ bs) refl z
       go (emptied es) e t z = absurd t
       go refused e t z = absurd (none≢some z)

@@ -20,15 +20,6 @@ const TWO_PLACES: u64 = PLACES * PLACES;
 
 const NO_KIND: u64 = 127;
 
-// The byte order mark, U+FEFF in UTF-8.
-const MARK_FIRST: u8 = 0xEF;
-
-const MARK_SECOND: u8 = 0xBB;
-
-const MARK_THIRD: u8 = 0xBF;
-
-const MARK_SIZE: usize = 3;
-
 pub fn is_digit(b: u8) -> bool
     ensures { result ≡ hits_byte digit b }
 {
@@ -43,11 +34,11 @@ pub fn is_mark(s: &[u8], i: usize) -> bool
     requires { (i < length s.now) × (get_or s.now i 0 ≡ 239) }
     ensures { cond result 3 0 ≡ ignored_here (drop i s.now) }
 {
-    if s.len() - i < MARK_SIZE {
+    if s.len() - i < 3 {
         return false;
     }
-    if s[i + 1] == MARK_SECOND {
-        return s[i + 2] == MARK_THIRD;
+    if s[i + 1] == 187 {
+        return s[i + 2] == 191;
     }
     false
 }
@@ -86,9 +77,9 @@ fn ignored(s: &[u8], i: usize) -> usize
     if b == b'#' {
         return comment(s, i);
     }
-    if b == MARK_FIRST {
+    if b == 239 {
         if is_mark(s, i) {
-            return MARK_SIZE;
+            return 3;
         }
     }
     0

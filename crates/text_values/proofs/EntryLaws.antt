@@ -10,8 +10,7 @@ use lib.ListN.{length, set, length-set}
 use borrow.Author.Tests.{eqb-true, eqb-false}
 use Rattle.paper.specs.Grammar.{nt, tm, act}
 use Rattle.paper.specs.Numbers.{most_text, most_rows, rows_size, kind_argument, kind_object_field}
-use Rattle.paper.specs.Language.{the, any_name, named, end, language, colon, n_other}
-use Rattle.paper.proofs.Nodes.{Node, Name, Argument}
+use Rattle.paper.specs.Language.{the, any_name, named, end, Part, Name, Argument, language, colon, n_other}
 use Rattle.paper.specs.Rows.{top}
 use Rattle.paper.specs.Sizes.{Counts, kinded, over_counts}
 use Rattle.paper.specs.declared.Refusal.{Refusal}
@@ -165,7 +164,7 @@ module _ (s rows : List ℕ) (c : Cursor) (parent left K : ℕ) (b : Bool) (rows
             }
 
 -- a part whose one production is an entry: it may as well be read as that, at any token
-module _ (field : Node) (K : ℕ) (counted : EntryKind K) (b : Bool) (mem : Memᴰ (entry_stack K b) (factored field))
+module _ (field : Part) (K : ℕ) (counted : EntryKind K) (b : Bool) (mem : Memᴰ (entry_stack K b) (factored field))
     (begins-it : T (all (λ k. implies (is (kind_of n_other) (kind_of k)) (fst graphql (entry_stack K b) k)) all_c))
     (refuses-it : T (all (λ k. implies (not (is (kind_of n_other) (kind_of k))) (refuses field k)) all_c))
     (refuses-end : T (refuses_end field))

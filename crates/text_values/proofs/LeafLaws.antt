@@ -10,8 +10,7 @@ use lib.ListN.{length, take, drop}
 use borrow.Author.Tests.{eq-eqb, ne_eqb}
 use Rattle.paper.specs.Grammar.{nt, tm, act}
 use Rattle.paper.specs.Numbers.{most_rows, kind_integer, kind_float, kind_string, kind_boolean, kind_null, kind_enum, extra_true, extra_false}
-use Rattle.paper.specs.Language.{Class, num_c, Terminal, the, name_but_literal, hits, row, kind, named, end, language, dollar, int, float, string, n_true, n_false, n_null, n_other, bracket_l, brace_l}
-use Rattle.paper.proofs.Nodes.{Node, Value, ConstValue, EnumValue}
+use Rattle.paper.specs.Language.{Class, num_c, Terminal, the, name_but_literal, hits, row, kind, named, end, Part, Value, ConstValue, EnumValue, language, dollar, int, float, string, n_true, n_false, n_null, n_other, bracket_l, brace_l}
 use Rattle.paper.specs.Tokens.{token, name_class}
 use Rattle.paper.specs.Rows.{top}
 use Rattle.paper.specs.Sizes.{Counts, kinded, over_counts, opens_level, closes_level}
@@ -69,7 +68,7 @@ no_test {x} n i f s d l o = rw (ne_eqb x _ n, ne_eqb x _ i, ne_eqb x _ f, ne_eqb
 is_t : (x : ℕ) → T (is x x)
 is_t x = rw (eq-eqb x x refl) tt
 
-module _ (s rows : List ℕ) (c : Cursor) (parent : ℕ) (ready : Ready s rows c parent) (k : Class) (l : LooksAt s c k) (p : Node) where
+module _ (s rows : List ℕ) (c : Cursor) (parent : ℕ) (ready : Ready s rows c parent) (k : Class) (l : LooksAt s c k) (p : Part) where
   lies : (c.stop < c.end) × (c.end ≤ length s)
   lies = let z = from_token s c.stop (token_of k c.start c.end) (from s c.end) ready.within l in (omega (arith, z.0, z.1), z.2)
 

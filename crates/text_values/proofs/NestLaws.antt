@@ -11,8 +11,7 @@ use lib.ListN.{length, set, length-set}
 use borrow.Author.Tests.{eq-eqb}
 use Rattle.paper.specs.Grammar.{nt, tm, act}
 use Rattle.paper.specs.Numbers.{most_rows, rows_size}
-use Rattle.paper.specs.Language.{Class, the, hits, row, kind, end}
-use Rattle.paper.proofs.Nodes.{Node}
+use Rattle.paper.specs.Language.{Class, Part, the, hits, row, kind, end}
 use Rattle.paper.specs.Rows.{top}
 use Rattle.paper.specs.Sizes.{Counts, kinded, opens_level, closes_level, over_counts}
 use Rattle.paper.specs.declared.Refusal.{Refusal}
@@ -36,7 +35,7 @@ use Rattle.text_leaves.proofs.MovedLaws.{start_in_is, ready_lies, ready_moves, M
 use Rattle.text_values.proofs.StackSteps.{inRun, run_more}
 
 -- the production of p that is a row of kind K, and in it a run `star` of items between the marks A and B
-pub record Nest (p : Node) (K : ℕ) (A B : Class) (inner item star : Node) : Type 0 where
+pub record Nest (p : Part) (K : ℕ) (A B : Class) (inner item star : Part) : Type 0 where
   pub outer_in : Memᴰ (act row ∷ act (kind K 0) ∷ nt inner ∷ act end ∷ []) (factored p)
   pub inner_in : Memᴰ (tm (the A) ∷ nt star ∷ tm (the B) ∷ []) (factored inner)
   pub more_in : Memᴰ (nt item ∷ nt star ∷ []) (factored star)
@@ -53,7 +52,7 @@ pub record Nest (p : Node) (K : ℕ) (A B : Class) (inner item star : Node) : Ty
   pub item_first : T (all (λ k. implies (not (is (kind_of B) (kind_of k))) (inRun item star (the B) more_in none_in k)) all_c)
 
 -- where the loop is: items of row n were read up to the cursor d, and the machine expects more of them, or B
-pub record InNest (s rows₀ rows : List ℕ) (d₀ d : Cursor) (n left : ℕ) (star : Node) (B : Class) : Type 0 where
+pub record InNest (s rows₀ rows : List ℕ) (d₀ d : Cursor) (n left : ℕ) (star : Part) (B : Class) : Type 0 where
   pub size : length rows ≡ rows_size
   pub within : d.stop ≤ length s
   pub few : d.rows ≤ most_rows
@@ -61,10 +60,10 @@ pub record InNest (s rows₀ rows : List ℕ) (d₀ d : Cursor) (n left : ℕ) (
   pub since : d₀.stop ≤ d.stop
   pub so_far : (σ : Stack) (o : List ℕ) (q : Counts) → top o ≡ n → over_counts q ≡ false → at s rows₀ d₀ o left q (nt star ∷ tm (the B) ∷ σ) ≡ at s rows d o left q (nt star ∷ tm (the B) ∷ σ)
 
-pub in_ready : (s rows₀ rows : List ℕ) (d₀ d : Cursor) (n left : ℕ) (star : Node) (B : Class) → InNest s rows₀ rows d₀ d n left star B → length s ≤ Rattle.paper.specs.Numbers.most_text → n ≤ most_rows → Ready s rows d n
+pub in_ready : (s rows₀ rows : List ℕ) (d₀ d : Cursor) (n left : ℕ) (star : Part) (B : Class) → InNest s rows₀ rows d₀ d n left star B → length s ≤ Rattle.paper.specs.Numbers.most_text → n ≤ most_rows → Ready s rows d n
 in_ready s rows₀ rows d₀ d n left star B i h b = record { short = h; size = i.size; within = i.within; few = i.few; looks = i.looks; below = b }
 
-module _ {p : Node} {K : ℕ} {A B : Class} {inner item star : Node} (N : Nest p K A B inner item star) (s rows : List ℕ) (c : Cursor) (parent : ℕ) (ready : Ready s rows c parent) (e : c.kind ≡ kind_of A) (left : ℕ) where
+module _ {p : Part} {K : ℕ} {A B : Class} {inner item star : Part} (N : Nest p K A B inner item star) (s rows : List ℕ) (c : Cursor) (parent : ℕ) (ready : Ready s rows c parent) (e : c.kind ≡ kind_of A) (left : ℕ) where
   -- the row while it is open
   abbrev opened : List ℕ
   opened = put rows c.rows K c.start 0 parent 0 0 0

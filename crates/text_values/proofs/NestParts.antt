@@ -3,31 +3,30 @@ use mathlib.Core.Path.{refl}
 use mathlib.Core.Bool.{Bool, true, false}
 use mathlib.Core.List.Memᴰ
 use Rattle.paper.specs.Numbers.{kind_list, kind_object}
-use Rattle.paper.specs.Language.{language, bracket_l, bracket_r, brace_l, brace_r}
-use Rattle.paper.proofs.Nodes.{Node, ListValue, Value*, ObjectValue, ObjectField, ObjectField*, ConstListValue, ConstValue*, ConstObjectValue, ConstObjectField, ConstObjectField*}
+use Rattle.paper.specs.Language.{Part, language, bracket_l, bracket_r, brace_l, brace_r, ListValue, Value*, ObjectValue, ObjectField, ObjectField*, ConstListValue, ConstValue*, ConstObjectValue, ConstObjectField, ConstObjectField*}
 use Rattle.paper.proofs.Machine.{choose}
 use Rattle.paper.proofs.Tables.{factored}
 use Rattle.text_cursor.proofs.Steps.{refuses, refuses_end}
 use Rattle.text_leaves.specs.Stacks.{value_part}
 use Rattle.text_values.proofs.NestLaws.{Nest}
 
-abbrev pub list_part : Bool → Node
+abbrev pub list_part : Bool → Part
 list_part true = ConstListValue
 list_part false = ListValue
 
-abbrev pub values_part : Bool → Node
+abbrev pub values_part : Bool → Part
 values_part true = ConstValue*
 values_part false = Value*
 
-abbrev pub object_part : Bool → Node
+abbrev pub object_part : Bool → Part
 object_part true = ConstObjectValue
 object_part false = ObjectValue
 
-abbrev pub field_part : Bool → Node
+abbrev pub field_part : Bool → Part
 field_part true = ConstObjectField
 field_part false = ObjectField
 
-abbrev pub fields_part : Bool → Node
+abbrev pub fields_part : Bool → Part
 fields_part true = ConstObjectField*
 fields_part false = ObjectField*
 

@@ -9,8 +9,7 @@ use lib.ListN.{length}
 use borrow.Author.Tests.{le-ltb, lt-ltb}
 use Rattle.paper.specs.Grammar.{nt, tm}
 use Rattle.paper.specs.Numbers.{most_rows}
-use Rattle.paper.specs.Language.{Class, Terminal, hits}
-use Rattle.paper.proofs.Nodes.{Node}
+use Rattle.paper.specs.Language.{Class, Terminal, hits, Part}
 use Rattle.paper.specs.Tokens.{Text, token}
 use Rattle.paper.specs.Sizes.{Counts, opens_level, closes_level, over_counts}
 use Rattle.paper.specs.declared.Refusal.TheVariants.{TooManyRows}
@@ -38,7 +37,7 @@ plain_hit w k = hits w k && (not (opens_level k) && not (closes_level k))
 -- AT A TOKEN OF CLASS k
 module _ (cells : List ℕ) (n : ℕ) (o : List ℕ) (stop left : ℕ) (q : Counts) (σ : Stack) (k : Class) (a e : ℕ) (t : Text) where
   -- it begins the production α of the part
-  pub class_first : (p : Node) {α : Stack} → Memᴰ α (factored p) → T (fst graphql α k) →
+  pub class_first : (p : Part) {α : Stack} → Memᴰ α (factored p) → T (fst graphql α k) →
       go (st cells n o stop left q) (nt p ∷ σ) (token (token_of k a e) t) ≡ go (st cells n o stop left q) (α ++ σ) (token (token_of k a e) t)
   unfolding go
   class_first p m h = ap (goes (st cells n o stop left q) (token_of k a e) t (λ s' τ. go s' τ t)) (step_by fits p (some k) σ (choose_first fits p k m h))
@@ -65,7 +64,7 @@ module _ (cells : List ℕ) (n : ℕ) (o : List ℕ) (stop left : ℕ) (q : Coun
 
 -- A RUN OF PARTS. Where `star` is `part star` or nothing, and the terminal w stands behind it, and is not there, another part may as well be expected at once:
 -- a token that begins none is refused there too
-module _ (part star : Node) (w : Terminal) (more : Memᴰ (nt part ∷ nt star ∷ []) (factored star)) (nothing : Memᴰ [] (factored star)) where
+module _ (part star : Part) (w : Terminal) (more : Memᴰ (nt part ∷ nt star ∷ []) (factored star)) (nothing : Memᴰ [] (factored star)) where
   -- w is not there, and the token begins a part, or no part and no run of them
   abbrev pub inRun : Class → Bool
   inRun k = not (hits w k) && (fst graphql (nt part ∷ nt star ∷ []) k || (not (graphql.first star k) && refuses part k))

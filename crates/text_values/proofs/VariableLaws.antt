@@ -9,8 +9,7 @@ use lib.ListN.{length}
 use borrow.Author.Tests.{eq-eqb}
 use Rattle.paper.specs.Grammar.{nt, tm, act}
 use Rattle.paper.specs.Numbers.{most_rows, kind_variable}
-use Rattle.paper.specs.Language.{the, any_name, row, kind, named, end, language, dollar, n_other}
-use Rattle.paper.proofs.Nodes.{Value, ConstValue, Name}
+use Rattle.paper.specs.Language.{the, any_name, row, kind, named, end, Value, ConstValue, Name, language, dollar, n_other}
 use Rattle.paper.specs.Rows.{top}
 use Rattle.paper.specs.Sizes.{Counts, over_counts}
 use Rattle.paper.specs.declared.Refusal.{Refusal}

@@ -2,15 +2,15 @@
 ghost use Rattle.std.specs.Prelude.{◌≡◌, ◌≢◌};
 ghost use Rattle.paper.specs.Language.{dollar, bracket_l, brace_l, n_other};
 ghost use Rattle.text_scan.specs.Head.{kind_of};
-ghost use Rattle.text_cursor.specs.Reader.{Ready, Said, said};
+ghost use Rattle.text_cursor.specs.Reader.{Ready, Said};
 ghost use Rattle.text_leaves.specs.Stacks.{value_stack, entry_stack, EntryKind};
 ghost use Rattle.text_leaves.specs.Marks.{SaidScalar, SaidVariable, SaidNamed};
 
 use paper::{
     EXTRA_FALSE, EXTRA_TRUE, KIND_BOOLEAN, KIND_ENUM, KIND_FLOAT, KIND_INTEGER, KIND_LIST,
-    KIND_NULL, KIND_OBJECT, KIND_OBJECT_FIELD, KIND_STRING, KIND_VARIABLE, MOST_ROWS,
+    KIND_NULL, KIND_OBJECT, KIND_OBJECT_FIELD, KIND_STRING, KIND_VARIABLE, MOST_ROWS, Refusal,
 };
-use text_cursor::{Cursor, REFUSED, no_going, put_end, put_row, too_many_rows};
+use text_cursor::{Cursor, Read, no_going, put_end, put_row};
 use text_leaves::{close, enter, leaf};
 use text_scan::{
     TOKEN_BRACE_CLOSE, TOKEN_BRACE_OPEN, TOKEN_BRACKET_CLOSE, TOKEN_BRACKET_OPEN, TOKEN_COLON,
@@ -19,9 +19,9 @@ use text_scan::{
 };
 
 // A name as a value: true, false, null or an enum value.
-fn word_value(s: &[u8], rows: &mut [u32], c: Cursor, parent: u32) -> Cursor
+fn word_value(s: &[u8], rows: &mut [u32], c: Cursor, parent: u32) -> Read
     requires { Ready s.now rows.old c parent × (c.kind ≡ kind_of n_other) }
-    ensures { SaidScalar s.now rows.old rows.new c parent (said result) }
+    ensures { SaidScalar s.now rows.old rows.new c parent result }
 {
     let start = c.start;
     let end = c.end;
@@ -39,9 +39,9 @@ fn word_value(s: &[u8], rows: &mut [u32], c: Cursor, parent: u32) -> Cursor
 }
 
 // A value of one token, or none at all.
-fn scalar(s: &[u8], rows: &mut [u32], c: Cursor, parent: u32) -> Cursor
+fn scalar(s: &[u8], rows: &mut [u32], c: Cursor, parent: u32) -> Read
     requires { Ready s.now rows.old c parent × (c.kind ≢ kind_of dollar) × (c.kind ≢ kind_of bracket_l) × (c.kind ≢ kind_of brace_l) }
-    ensures { SaidScalar s.now rows.old rows.new c parent (said result) }
+    ensures { SaidScalar s.now rows.old rows.new c parent result }
 {
     let kind = c.kind;
     if kind == TOKEN_NAME {
@@ -60,18 +60,18 @@ fn scalar(s: &[u8], rows: &mut [u32], c: Cursor, parent: u32) -> Cursor
 }
 
 // Variable: $ Name
-fn variable(s: &[u8], rows: &mut [u32], c: Cursor, parent: u32) -> Cursor
+fn variable(s: &[u8], rows: &mut [u32], c: Cursor, parent: u32) -> Read
     requires { Ready s.now rows.old c parent × (c.kind ≡ kind_of dollar) }
-    ensures { SaidVariable s.now rows.old rows.new c parent (said result) }
+    ensures { SaidVariable s.now rows.old rows.new c parent result }
 {
     let n = c.rows;
     if n == MOST_ROWS {
-        return too_many_rows(c.start);
+        return Read::Refused(Refusal::TooManyRows(c.start));
     }
-    let name = c.past(s, n + 1);
-    if REFUSED <= name.kind {
-        return name;
-    }
+    let r = c.past(s, n + 1);
+    let Read::Done(name) = r else {
+        return r;
+    };
     if name.kind != TOKEN_NAME {
         return no_going(name);
     }
@@ -91,16 +91,9 @@ fn variable(s: &[u8], rows: &mut [u32], c: Cursor, parent: u32) -> Cursor
 
 // Value, or where `constant` Value[Const]
 #[cycle(entry_list_object_value)]
-pub fn value(
-    s: &[u8],
-    rows: &mut [u32],
-    c: Cursor,
-    parent: u32,
-    left: u32,
-    constant: bool,
-) -> Cursor
+pub fn value(s: &[u8], rows: &mut [u32], c: Cursor, parent: u32, left: u32, constant: bool) -> Read
     requires { Ready s.now rows.old c parent }
-    ensures { Said 1 s.now rows.old rows.new c parent left (value_stack constant) (said result) }
+    ensures { Said 1 s.now rows.old rows.new c parent left (value_stack constant) result }
 {
     let kind = c.kind;
     if kind == TOKEN_BRACKET_OPEN {
@@ -120,72 +113,72 @@ pub fn value(
 
 // ListValue, at its [
 #[cycle(entry_list_object_value)]
-fn list(s: &[u8], rows: &mut [u32], c: Cursor, parent: u32, left: u32, constant: bool) -> Cursor
+fn list(s: &[u8], rows: &mut [u32], c: Cursor, parent: u32, left: u32, constant: bool) -> Read
     requires { Ready s.now rows.old c parent × (c.kind ≡ kind_of bracket_l) }
-    ensures { Said 1 s.now rows.old rows.new c parent left (value_stack constant) (said result) }
+    ensures { Said 1 s.now rows.old rows.new c parent left (value_stack constant) result }
 {
     let n = c.rows;
-    let first = enter(s, rows, c, parent, left, KIND_LIST);
-    if REFUSED <= first.kind {
-        return first;
-    }
+    let r = enter(s, rows, c, parent, left, KIND_LIST);
+    let Read::Done(first) = r else {
+        return r;
+    };
     let mut d = first;
     loop {
         let kind = d.kind;
         if kind == TOKEN_BRACKET_CLOSE {
             return close(s, rows, d, n);
         }
-        let next = value(s, rows, d, n, left - 1, constant);
-        if REFUSED <= next.kind {
-            return next;
-        }
+        let t = value(s, rows, d, n, left - 1, constant);
+        let Read::Done(next) = t else {
+            return t;
+        };
         d = next;
     }
 }
 
 // ObjectValue, at its {
 #[cycle(entry_list_object_value)]
-fn object(s: &[u8], rows: &mut [u32], c: Cursor, parent: u32, left: u32, constant: bool) -> Cursor
+fn object(s: &[u8], rows: &mut [u32], c: Cursor, parent: u32, left: u32, constant: bool) -> Read
     requires { Ready s.now rows.old c parent × (c.kind ≡ kind_of brace_l) }
-    ensures { Said 1 s.now rows.old rows.new c parent left (value_stack constant) (said result) }
+    ensures { Said 1 s.now rows.old rows.new c parent left (value_stack constant) result }
 {
     let n = c.rows;
-    let first = enter(s, rows, c, parent, left, KIND_OBJECT);
-    if REFUSED <= first.kind {
-        return first;
-    }
+    let r = enter(s, rows, c, parent, left, KIND_OBJECT);
+    let Read::Done(first) = r else {
+        return r;
+    };
     let mut d = first;
     loop {
         let kind = d.kind;
         if kind == TOKEN_BRACE_CLOSE {
             return close(s, rows, d, n);
         }
-        let next = entry(s, rows, d, n, left - 1, KIND_OBJECT_FIELD, constant);
-        if REFUSED <= next.kind {
-            return next;
-        }
+        let t = entry(s, rows, d, n, left - 1, KIND_OBJECT_FIELD, constant);
+        let Read::Done(next) = t else {
+            return t;
+        };
         d = next;
     }
 }
 
 // Name : of an entry, whose row begins and is of this kind; the cursor comes to the value.
-fn entry_name(s: &[u8], rows: &mut [u32], c: Cursor, parent: u32, kind: u32) -> Cursor
+fn entry_name(s: &[u8], rows: &mut [u32], c: Cursor, parent: u32, kind: u32) -> Read
     requires { Ready s.now rows.old c parent × EntryKind kind }
-    ensures { SaidNamed s.now rows.old rows.new c parent kind (said result) }
+    ensures { SaidNamed s.now rows.old rows.new c parent kind result }
 {
     if c.kind != TOKEN_NAME {
         return no_going(c);
     }
     let n = c.rows;
     if n == MOST_ROWS {
-        return too_many_rows(c.start);
+        return Read::Refused(Refusal::TooManyRows(c.start));
     }
     let size = c.end - c.start;
     put_row(rows, n, kind, c.start, 0, parent, c.start, size, 0);
-    let colon = c.past(s, n + 1);
-    if REFUSED <= colon.kind {
-        return colon;
-    }
+    let r = c.past(s, n + 1);
+    let Read::Done(colon) = r else {
+        return r;
+    };
     if colon.kind != TOKEN_COLON {
         return no_going(colon);
     }
@@ -202,19 +195,19 @@ pub fn entry(
     left: u32,
     kind: u32,
     constant: bool,
-) -> Cursor
+) -> Read
     requires { Ready s.now rows.old c parent × EntryKind kind }
-    ensures { Said 1 s.now rows.old rows.new c parent left (entry_stack kind constant) (said result) }
+    ensures { Said 1 s.now rows.old rows.new c parent left (entry_stack kind constant) result }
 {
     let n = c.rows;
-    let first = entry_name(s, rows, c, parent, kind);
-    if REFUSED <= first.kind {
-        return first;
-    }
-    let d = value(s, rows, first, n, left, constant);
-    if REFUSED <= d.kind {
-        return d;
-    }
+    let r = entry_name(s, rows, c, parent, kind);
+    let Read::Done(first) = r else {
+        return r;
+    };
+    let v = value(s, rows, first, n, left, constant);
+    let Read::Done(d) = v else {
+        return v;
+    };
     put_end(rows, n, d.stop);
-    d
+    v
 }

@@ -6,8 +6,7 @@ use mathlib.Core.List.{List, [], ◌∷◌, ◌++◌}
 use Prim.Native.Nat.{ℕ}
 use native.Mathlib.Omega.{arith}
 use Rattle.paper.specs.Grammar.{nt, tm}
-use Rattle.paper.specs.Language.{language, the, equals}
-use Rattle.paper.proofs.Nodes.{DefaultValue?, DefaultValue, ConstValue}
+use Rattle.paper.specs.Language.{language, the, equals, DefaultValue?, DefaultValue, ConstValue}
 use Rattle.paper.specs.Sizes.{Counts, over_counts}
 use Rattle.paper.specs.declared.Refusal.{Refusal}
 use Rattle.paper.proofs.Lexing.{from}

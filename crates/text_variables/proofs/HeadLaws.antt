@@ -8,8 +8,7 @@ use native.Mathlib.Omega.{arith}
 use lib.ListN.{length}
 use Rattle.paper.specs.Grammar.{nt, tm, act}
 use Rattle.paper.specs.Numbers.{most_rows, kind_variable_definition}
-use Rattle.paper.specs.Language.{language, the, any_name, dollar, colon, named, n_other}
-use Rattle.paper.proofs.Nodes.{Name}
+use Rattle.paper.specs.Language.{language, the, any_name, dollar, colon, named, Name, n_other}
 use Rattle.paper.specs.Rows.{top}
 use Rattle.paper.specs.Sizes.{Counts, kinded, over_counts}
 use Rattle.paper.specs.declared.Refusal.{Refusal}

@@ -10,8 +10,7 @@ use lib.ListN.{length}
 use borrow.Author.Tests.{eqb-true, eqb-false}
 use Rattle.paper.specs.Grammar.{nt, tm}
 use Rattle.paper.specs.Numbers.{most_rows, rows_size}
-use Rattle.paper.specs.Language.{language, the, paren_l, paren_r, dollar}
-use Rattle.paper.proofs.Nodes.{VariableDefinitions, VariableDefinition+, VariableDefinition*, VariableDefinition}
+use Rattle.paper.specs.Language.{language, the, paren_l, paren_r, VariableDefinitions, VariableDefinition+, VariableDefinition*, VariableDefinition, dollar}
 use Rattle.paper.specs.Rows.{top}
 use Rattle.paper.specs.Sizes.{Counts, over_counts}
 use Rattle.paper.specs.declared.Refusal.{Refusal}

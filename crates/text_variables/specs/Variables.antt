@@ -2,8 +2,7 @@
 use Rattle.std.specs.Prelude.{◌≡◌, [], ◌∷◌, ℕ, ◌<◌}
 use Rattle.paper.specs.Grammar.{nt, tm, act}
 use Rattle.paper.specs.Numbers.{most_variables, kind_variable_definition}
-use Rattle.paper.specs.Language.{the, dollar, colon, row, kind, named}
-use Rattle.paper.proofs.Nodes.{Name}
+use Rattle.paper.specs.Language.{the, dollar, colon, row, kind, named, Name}
 use Rattle.paper.specs.Sizes.{Counts, kinded}
 use Rattle.paper.proofs.Going.{Stack}
 

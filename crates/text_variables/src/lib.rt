@@ -2,44 +2,43 @@
 ghost use Rattle.std.specs.Prelude.{◌≡◌, [], ◌∷◌, ℕ, ◌+◌, ◌<◌};
 ghost use Rattle.paper.specs.Grammar.{nt};
 ghost use Rattle.paper.specs.Numbers.{most_rows};
-ghost use Rattle.paper.specs.Language.{dollar, paren_l};
-ghost use Rattle.paper.proofs.Nodes.{VariableDefinitions, VariableDefinition, DefaultValue?};
+ghost use Rattle.paper.specs.Language.{VariableDefinitions, VariableDefinition, DefaultValue?, dollar, paren_l};
 ghost use Rattle.text_scan.specs.Head.{kind_of};
-ghost use Rattle.text_cursor.specs.Reader.{Ready, Said, said};
+ghost use Rattle.text_cursor.specs.Reader.{Ready, Said};
 ghost use Rattle.text_variables.specs.Counted.{CountedSaid, stays, opens, variables_are, same_fragments};
 ghost use Rattle.text_variables.specs.Variables.{one_variable_more, variable_begun, variables_become, head_stack};
 
-use paper::{KIND_VARIABLE_DEFINITION, MOST_ROWS, MOST_VARIABLES};
-use text_cursor::{Cursor, REFUSED, no_going, put_end, put_row, too_deep, too_many, too_many_rows};
+use paper::{KIND_VARIABLE_DEFINITION, MOST_ROWS, MOST_VARIABLES, Refusal};
+use text_cursor::{Cursor, Read, no_going, put_end, put_row};
 use text_references::type_reference;
 use text_scan::{TOKEN_COLON, TOKEN_DOLLAR, TOKEN_EQUALS, TOKEN_NAME, TOKEN_PAREN_CLOSE};
 
 // DefaultValue, or none
-fn default_if(s: &[u8], rows: &mut [u32], c: Cursor, parent: u32, left: u32) -> Cursor
+fn default_if(s: &[u8], rows: &mut [u32], c: Cursor, parent: u32, left: u32) -> Read
     requires { Ready s.now rows.old c parent }
-    ensures { Said 0 s.now rows.old rows.new c parent left (nt DefaultValue? ∷ []) (said result) }
+    ensures { Said 0 s.now rows.old rows.new c parent left (nt DefaultValue? ∷ []) result }
 {
     if c.kind != TOKEN_EQUALS {
-        return c;
+        return Read::Done(c);
     }
     let n = c.rows;
-    let first = c.past(s, n);
-    if REFUSED <= first.kind {
-        return first;
-    }
+    let r = c.past(s, n);
+    let Read::Done(first) = r else {
+        return r;
+    };
     text_values::value(s, rows, first, parent, left, true)
 }
 
 // Variable and colon of a variable definition, at its $
-fn variable_head(s: &[u8], rows: &mut [u32], c: Cursor, parent: u32) -> Cursor
+fn variable_head(s: &[u8], rows: &mut [u32], c: Cursor, parent: u32) -> Read
     requires { Ready s.now rows.old c parent × (c.kind ≡ kind_of dollar) × (c.rows < most_rows) }
-    ensures { (left : ℕ) → CountedSaid 1 s.now rows.old rows.new c parent left head_stack (opens c.rows) one_variable_more variable_begun (said result) }
+    ensures { (left : ℕ) → CountedSaid 1 s.now rows.old rows.new c parent left head_stack (opens c.rows) one_variable_more variable_begun result }
 {
     let n = c.rows;
-    let name = c.past(s, n + 1);
-    if REFUSED <= name.kind {
-        return name;
-    }
+    let r = c.past(s, n + 1);
+    let Read::Done(name) = r else {
+        return r;
+    };
     if name.kind != TOKEN_NAME {
         return no_going(name);
     }
@@ -54,10 +53,10 @@ fn variable_head(s: &[u8], rows: &mut [u32], c: Cursor, parent: u32) -> Cursor
         name.end - name.start,
         0,
     );
-    let colon = name.past(s, n + 1);
-    if REFUSED <= colon.kind {
-        return colon;
-    }
+    let t = name.past(s, n + 1);
+    let Read::Done(colon) = t else {
+        return t;
+    };
     if colon.kind != TOKEN_COLON {
         return no_going(colon);
     }
@@ -72,56 +71,56 @@ fn variable_definition(
     parent: u32,
     left: u32,
     before: u32,
-) -> Cursor
+) -> Read
     requires { Ready s.now rows.old c parent }
-    ensures { CountedSaid 1 s.now rows.old rows.new c parent left (nt VariableDefinition ∷ []) stays (variables_are before) (variables_become (before + 1)) (said result) }
+    ensures { CountedSaid 1 s.now rows.old rows.new c parent left (nt VariableDefinition ∷ []) stays (variables_are before) (variables_become (before + 1)) result }
 {
     if c.kind != TOKEN_DOLLAR {
         return no_going(c);
     }
     let n = c.rows;
     if n == MOST_ROWS {
-        return too_many_rows(c.start);
+        return Read::Refused(Refusal::TooManyRows(c.start));
     }
     if before == MOST_VARIABLES {
-        return too_many(c.start);
+        return Read::Refused(Refusal::TooMany(c.start));
     }
-    let first = variable_head(s, rows, c, parent);
-    if REFUSED <= first.kind {
-        return first;
-    }
-    let after = type_reference(s, rows, first, n, left);
-    if REFUSED <= after.kind {
-        return after;
-    }
-    let d = default_if(s, rows, after, n, left);
-    if REFUSED <= d.kind {
-        return d;
-    }
+    let r = variable_head(s, rows, c, parent);
+    let Read::Done(first) = r else {
+        return r;
+    };
+    let t = type_reference(s, rows, first, n, left);
+    let Read::Done(after) = t else {
+        return t;
+    };
+    let v = default_if(s, rows, after, n, left);
+    let Read::Done(d) = v else {
+        return v;
+    };
     put_end(rows, n, d.stop);
-    d
+    v
 }
 
 // VariableDefinitions, at their (
-pub fn variable_definitions(s: &[u8], rows: &mut [u32], c: Cursor, parent: u32, left: u32) -> Cursor
+pub fn variable_definitions(s: &[u8], rows: &mut [u32], c: Cursor, parent: u32, left: u32) -> Read
     requires { Ready s.now rows.old c parent × (c.kind ≡ kind_of paren_l) }
-    ensures { CountedSaid 1 s.now rows.old rows.new c parent left (nt VariableDefinitions ∷ []) stays (variables_are 0) same_fragments (said result) }
+    ensures { CountedSaid 1 s.now rows.old rows.new c parent left (nt VariableDefinitions ∷ []) stays (variables_are 0) same_fragments result }
 {
     if left == 0 {
-        return too_deep(c.start);
+        return Read::Refused(Refusal::TooDeep(c.start));
     }
     let n = c.rows;
-    let first = c.past(s, n);
-    if REFUSED <= first.kind {
-        return first;
-    }
+    let r = c.past(s, n);
+    let Read::Done(first) = r else {
+        return r;
+    };
     let mut d = first;
     let mut i: u32 = 0;
     loop {
-        let next = variable_definition(s, rows, d, parent, left - 1, i);
-        if REFUSED <= next.kind {
-            return next;
-        }
+        let t = variable_definition(s, rows, d, parent, left - 1, i);
+        let Read::Done(next) = t else {
+            return t;
+        };
         if next.kind == TOKEN_PAREN_CLOSE {
             let m = next.rows;
             return next.past(s, m);

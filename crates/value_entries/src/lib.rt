@@ -17,7 +17,7 @@ ghost use Rattle.value_entries.specs.Entered.{Treed, is_entry, names_before, ent
 use paper::KIND_ARGUMENT;
 use paper_table::TAG_ARGUMENT;
 use query_subtrees::past_of;
-use table_members::{FieldFound, NamedFound};
+use table_members::FieldFound;
 
 // The first row right below row h; n if there is none.
 pub fn first_child(s: &[u8], rows: &[u32], n: usize, past: &[u32], h: usize) -> usize
@@ -119,8 +119,7 @@ fn has_argument(t: &[u8], start: usize, end: usize, s: &[u8], at: usize, l: usiz
     requires { Bounds t.now start end × (at + l ≤ length s.now) }
     ensures { result ≡ any_of (argument_named (part s.now at l)) (arguments_in t.now start end) }
 {
-    let NamedFound::Found {
-        number: _,
+    let FieldFound::Found {
         tag: _,
         start: _,
         end: _,

@@ -23,10 +23,10 @@ clash op e = let z : ◌≡◌ {A = ℕ} 0 1 = cc in absurd (omega arith)
 
 -- the first of the numbers of rows that pass
 module _ (p : Row → Bool) where
-  passing_first : (rs : List Row) (j op : ℕ) (more : List ℕ) → each_from j (λ i r. only_if (p r) i) rs ≡ op ∷ more → (k : ℕ) × (op ≡ j + k) × (p (get_or rs k no_row) ≡ true)
+  passing-first : (rs : List Row) (j op : ℕ) (more : List ℕ) → each_from j (λ i r. only_if (p r) i) rs ≡ op ∷ more → (k : ℕ) × (op ≡ j + k) × (p (get_or rs k no_row) ≡ true)
   unfolding each_from
-  passing_first [] j op more e = let k : 0 ≡ suc (length more) = ap length e in absurd (omega arith)
-  passing_first (r ∷ rs) j op more e = go (p r) refl e (λ f. passing_first rs (suc j) op more f)
+  passing-first [] j op more e = let k : 0 ≡ suc (length more) = ap length e in absurd (omega arith)
+  passing-first (r ∷ rs) j op more e = go (p r) refl e (λ f. passing-first rs (suc j) op more f)
     where
       go : (b : Bool) → p r ≡ b → only_if b j ++ each_from (suc j) (λ i r. only_if (p r) i) rs ≡ op ∷ more
           → (each_from (suc j) (λ i r. only_if (p r) i) rs ≡ op ∷ more → (k : ℕ) × (op ≡ suc j + k) × (p (get_or rs k no_row) ≡ true))
@@ -40,7 +40,7 @@ module _ (p : Row → Bool) where
       go : (xs : List ℕ) → each_from 0 (λ i r. only_if (p r) i) rs ≡ xs → only_one xs ≡ some op → p (get_or rs op no_row) ≡ true
       go [] q f = clash op f
       go (i ∷ []) q f =
-          let x = passing_first rs 0 i [] q in
+          let x = passing-first rs 0 i [] q in
           let z : i ≡ op = cc in
           let k : x.0 ≡ op = omega (arith, x.1, z) in
           subst (λ (m : ℕ). p (get_or rs m no_row) ≡ true) k x.2

@@ -22,7 +22,7 @@ use paper_table::TAG_UNION;
 use query_links::{FEW_ROWS, FIRSTS, KINDS, ROWS};
 use query_rows::{kind_of, name_of, parent_of, size_of};
 use query_types::NO_TYPE;
-use table_members::NamedFound;
+use table_members::FieldFound;
 
 // Where the arguments of a field stand in the table: the content that they are in.
 #[derive(Drop)]
@@ -171,20 +171,14 @@ fn find_content(t: &[u8], book: &[u32], k: usize, s: &[u8], at: usize, n: usize)
     if table_book::kind_of(book, k) == TAG_UNION as u32 {
         return Span { start: 0, end: 0 };
     }
-    let NamedFound::Found {
-        number: _,
-        tag: _,
-        start,
-        end,
-    } = table_members::find_member(
+    let FieldFound::Found { tag: _, start, end } = table_members::find_member(
         t,
         table_book::start_of(book, k),
         table_book::end_of(book, k),
         s,
         at,
         n,
-    )
-    else {
+    ) else {
         return Span { start: 0, end: 0 };
     };
     Span {

@@ -8,9 +8,7 @@ use lib.Dec.{T, eqb, eqb_refl, T_not}
 use Rattle.paper.specs.Grammar.{nt, tm, act, Ev, Derives, done, take, note as marks, by}
 use Rattle.paper.specs.Numbers.{kind_variable}
 use Rattle.paper.specs.Language.{Class, hits, Mark, row, kind, named, wrapper, wrap, end, Part, language}
-use Rattle.paper.proofs.Nodes.{Node, wide}
-use Rattle.paper.proofs.Nodes.{ConstValue, ConstListValue, ConstValue+, ConstValue*, ConstObjectValue, ConstObjectField+, ConstObjectField*, ConstObjectField, EnumValue, Name, VariablesText}
-use Rattle.paper_theory.proofs.SameLanguage.{language→wide}
+use Rattle.paper.specs.Language.{ConstValue, ConstListValue, ConstValue+, ConstValue*, ConstObjectValue, ConstObjectField+, ConstObjectField*, ConstObjectField, EnumValue, Name, VariablesText}
 use Rattle.paper.specs.Tokens.{Tok, Text}
 use Rattle.paper.specs.Rows.{Row, Book, empty_book, change, top, start_of, stop_of, begun, of_kind, with_name, wrapped, stopping, at_mark, taken, book, rows_of}
 use Rattle.paper.specs.Reading.{rows_are, TextAnswer, accepts, tokens_of}
@@ -22,7 +20,7 @@ use Rattle.query_rows.proofs.ReadRows.{Taken}
 use Rattle.value_texts.proofs.Changes.{at}
 use Rattle.value_texts.proofs.Phases.{Syms, is_among}
 
-abbrev is_const : Node → Bool
+abbrev is_const : Part → Bool
 is_const n = is_among (ConstValue ∷ ConstListValue ∷ ConstValue+ ∷ ConstValue* ∷ ConstObjectValue ∷ ConstObjectField+ ∷ ConstObjectField* ∷ ConstObjectField ∷ EnumValue ∷ Name ∷ VariablesText ∷ []) n
 
 -- constant parts, and no kind of a variable
@@ -37,15 +35,15 @@ constant (act wrapper ∷ ss) = constant ss
 constant (act (wrap w) ∷ ss) = constant ss
 constant (act end ∷ ss) = constant ss
 
-abbrev part_tested : Node → Bool
-part_tested n = implies (is_const n) (all (λ α. constant α) (wide n))
+abbrev part_tested : Part → Bool
+part_tested n = implies (is_const n) (all (λ α. constant α) (language n))
 
 tested : T (all part_tested all_n)
 unfolding language
 tested = tt
 
-constant_part : (n : Node) {α : Syms} → T (is_const n) → Memᴰ α (wide n) → T (constant α)
-constant_part n h m = all_mem (λ α. constant α) (implies_out (is_const n) (all (λ α. constant α) (wide n)) (all_at part_tested all_n (num_n n) tested (at_n n)) h) m
+constant_part : (n : Part) {α : Syms} → T (is_const n) → Memᴰ α (language n) → T (constant α)
+constant_part n h m = all_mem (λ α. constant α) (implies_out (is_const n) (all (λ α. constant α) (language n)) (all_at part_tested all_n (num_n n) tested (at_n n)) h) m
 
 constant_append : (α ss : Syms) → T (constant α) → T (constant ss) → T (constant (α ++ ss))
 constant_append [] ss h k = k
@@ -75,7 +73,7 @@ row_none a p [] h (suc i) = λ e. omega arith
 row_none a p (r ∷ rs) h zero = h 0
 row_none a p (r ∷ rs) h (suc i) = row_none a p rs (λ j. h (suc j)) i
 
-no_variable : {ss : Syms} {es : List (Ev Class Mark)} → Derives wide hits ss es → T (constant ss) → (ts : List Tok) (b : Book) → NoVariable b.rows → NoVariable (book es ts b).rows
+no_variable : {ss : Syms} {es : List (Ev Class Mark)} → Derives language hits ss es → T (constant ss) → (ts : List Tok) (b : Book) → NoVariable b.rows → NoVariable (book es ts b).rows
 unfolding book
 no_variable done t ts b h = h
 no_variable (take v d) t [] b h = no_variable d t [] b h
@@ -90,9 +88,9 @@ no_variable (marks {a = wrapper} d) t ts b h = no_variable d t ts b h
 no_variable (marks {a = wrap w} d) t ts b h = no_variable d t ts (at_mark (wrap w) ts b) (change_none (wrapped w) (λ r u. u) (top b.open') b.rows h)
 no_variable (marks {a = end} d) t ts b h = no_variable d t ts (at_mark end ts b) (change_none (stopping b.stop) (λ r u. u) (top b.open') b.rows h)
 
-said_constant : (t : Text) (rs : List Row) → TextAnswer Part.VariablesText t (rows_are rs) → NoVariable rs
+said_constant : (t : Text) (rs : List Row) → TextAnswer VariablesText t (rows_are rs) → NoVariable rs
 unfolding rows_of
-said_constant t rs (accepts {es = es} w r c) = no_variable (language→wide r.0) tt (tokens_of t) empty_book (λ i e. omega arith)
+said_constant t rs (accepts {es = es} w r c) = no_variable r.0 tt (tokens_of t) empty_book (λ i e. omega arith)
 
-pub taken_constant : (s rows : List ℕ) (n : ℕ) → Taken Part.VariablesText s rows n → (i : ℕ) → (row_in rows n i).kind ≡ kind_variable → ⊥
+pub taken_constant : (s rows : List ℕ) (n : ℕ) → Taken VariablesText s rows n → (i : ℕ) → (row_in rows n i).kind ≡ kind_variable → ⊥
 taken_constant s rows n t i = subst (λ (rs : List Row). (at rs i).kind ≡ kind_variable → ⊥) (sym t.are) (said_constant _ t.list t.said i)

@@ -11,8 +11,6 @@ use lib.ListN.{length, get_or-append}
 use Rattle.paper.specs.Grammar.{nt, tm, act, Ev, toks, Derives, done, take, note as marks, by}
 use Rattle.paper.specs.Numbers.{most_rows, no_parent, kind_variable_definition, kind_type_reference}
 use Rattle.paper.specs.Language.{Class, hits, Mark, row, kind, named, wrapper, wrap, end, Part, language}
-use Rattle.paper.proofs.Nodes.{Node, wide}
-use Rattle.paper_theory.proofs.SameLanguage.{language→wide}
 use Rattle.paper.specs.Tokens.{Tok, Text, Tokens}
 use Rattle.paper.specs.Rows.{Row, Book, empty_book, rows_of, change, top, pop, start_of, stop_of, begun, of_kind, with_name, wrapped, stopping, at_mark, taken, book}
 use Rattle.paper.specs.Reading.{rows_are, TextAnswer, accepts, tokens_of}
@@ -62,14 +60,14 @@ formed (act wrapper ∷ ss) = formed ss
 formed (act (wrap w) ∷ ss) = formed ss
 formed (act end ∷ ss) = formed ss
 
-formed_tested : Node → Bool
-formed_tested n = all (λ α. formed α) (wide n)
+formed_tested : Part → Bool
+formed_tested n = all (λ α. formed α) (language n)
 
 formed_tested_is : T (all formed_tested all_n)
 unfolding language formed_tested
 formed_tested_is = tt
 
-formed_part : (n : Node) {α : Syms} → Memᴰ α (wide n) → T (formed α)
+formed_part : (n : Part) {α : Syms} → Memᴰ α (language n) → T (formed α)
 unfolding formed_tested
 formed_part n m = all_mem (λ α. formed α) (all_at formed_tested all_n (num_n n) formed_tested_is (at_n n)) m
 
@@ -109,7 +107,7 @@ no_kind a p (r ∷ rs) (suc i) u q = no_kind a p rs i (omega arith) q
 
 module _ (l : ℕ) (Good : Tok → Type 0) where
   -- one definition, from its kind to the end of the text
-  follow : {ss : Syms} {es : List (Ev Class Mark)} → Derives wide hits ss es → (φ : Stage) (ts : List Tok) (b : Book) (v : ℕ) → v < no_parent → T (is_gone (run ss φ)) → toks es ≡ map (λ k. k.class) ts → Going l Good ss ts b
+  follow : {ss : Syms} {es : List (Ev Class Mark)} → Derives language hits ss es → (φ : Stage) (ts : List Tok) (b : Book) (v : ℕ) → v < no_parent → T (is_gone (run ss φ)) → toks es ≡ map (λ k. k.class) ts → Going l Good ss ts b
       → (end' : List Row) → (book es ts b).rows ≡ end' → Sits φ v end' b.rows b.open' → Defined v end'
   unfolding book toks
   follow done φ ts b v u t q g end' e h =
@@ -160,7 +158,7 @@ module _ (l : ℕ) (Good : Tok → Type 0) where
       go (yes w) = h v (sym (ap (λ (r : Row). r.kind) (get_or-append rows (begun a p ∷ []) no_row v w)) ∙ e)
       go (no w) = absurd (no_kind a p rows v (omega arith) e)
 
-  defines : {ss : Syms} {es : List (Ev Class Mark)} → Derives wide hits ss es → (ts : List Tok) (b : Book) → T (formed ss) → toks es ≡ map (λ k. k.class) ts → Going l Good ss ts b
+  defines : {ss : Syms} {es : List (Ev Class Mark)} → Derives language hits ss es → (ts : List Tok) (b : Book) → T (formed ss) → toks es ≡ map (λ k. k.class) ts → Going l Good ss ts b
       → (end' : List Row) → (book es ts b).rows ≡ end' → length end' ≤ most_rows → AllDefined end' b.rows → AllDefined end' end'
   unfolding book toks
   defines done ts b t q g end' e m h = subst (AllDefined end') e h
@@ -206,7 +204,7 @@ module _ (l : ℕ) (Good : Tok → Type 0) where
 said_defined : (p : Part) → T (is_alone p) → (s : List ℕ) (t : Text) (rs : List Row) → Tokens 0 s t → TextAnswer p t (rows_are rs) → length rs ≤ most_rows → (v : ℕ) → (at rs v).kind ≡ kind_variable_definition → Defined v rs
 unfolding rows_of
 said_defined p a s t rs k (accepts {es = es} w r c) m v e =
-    defines (length s) (Lies s) (language→wide r.0) (tokens_of t) empty_book tt r.1 (begins_going p a s t k) (book es (tokens_of t) empty_book).rows refl m (λ i z. absurd (omega arith)) v e
+    defines (length s) (Lies s) r.0 (tokens_of t) empty_book tt r.1 (begins_going p a s t k) (book es (tokens_of t) empty_book).rows refl m (λ i z. absurd (omega arith)) v e
 
 -- of the rows that the reader leaves: behind a definition stands its type reference, and of what follows only the next row may stand right below it, a value
 pub taken_defined : (p : Part) → T (is_alone p) → (s rows : List ℕ) (n : ℕ) → Taken p s rows n → (v : ℕ) → (row_in rows n v).kind ≡ kind_variable_definition → Defined v (rows_in rows n)

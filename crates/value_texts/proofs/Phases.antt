@@ -9,15 +9,14 @@ use native.Mathlib.Omega.{arith}
 use lib.Dec.{T, eqb, leb, eqb→eq}
 use Rattle.paper.specs.Grammar.{Sym, nt, tm, act}
 use Rattle.paper.specs.Numbers.{kind_integer, kind_float, kind_string}
-use Rattle.paper.specs.Language.{Class, same_c, int, float, string, Terminal, the, any_name, name_but_on, name_but_literal, Mark, row, kind, named, wrapper, wrap, end, language}
-use Rattle.paper.proofs.Nodes.{Node, wide}
-use Rattle.paper.proofs.Nodes.{OperationType, SelectionSet, Alias?, Alias, ListValue, ObjectValue, ConstListValue, ConstObjectValue, EnumValue, TypeRef, NamedType, ListType, NonNullType, Name, SpreadRest}
+use Rattle.paper.specs.Language.{Class, same_c, int, float, string, Terminal, the, any_name, name_but_on, name_but_literal, Mark, row, kind, named, wrapper, wrap, end, Part, language}
+use Rattle.paper.specs.Language.{OperationType, SelectionSet, Alias?, Alias, ListValue, ObjectValue, ConstListValue, ConstObjectValue, EnumValue, TypeRef, NamedType, ListType, NonNullType, Name, SpreadRest}
 use Rattle.paper.proofs.Bools.{and_l, and_r, and_i}
 use Rattle.paper.proofs.Tables.{all_n, num_n, at_n}
 use Rattle.paper_theory.proofs.Test.{all, all_at, all_mem, implies, implies_out}
 
 abbrev pub Syms : Type 0
-Syms = List (Sym Node Terminal Mark)
+Syms = List (Sym Part Terminal Mark)
 
 -- a number or a string, and the class of its one token
 abbrev pub is_literal : ℕ → Bool
@@ -32,15 +31,15 @@ pub data Phase : Type 0 where
   settled fresh bare waiting wrong : Phase
   literal spelt : ℕ → Phase
 
-abbrev pub is_among : List Node → Node → Bool
+abbrev pub is_among : List Part → Part → Bool
 is_among [] n = false
 is_among (m ∷ ms) n = eqb (num_n m) (num_n n) || is_among ms n
 
 -- the parts that begin with a token
-abbrev starts : Node → Bool
+abbrev starts : Part → Bool
 starts n = is_among (SelectionSet ∷ Alias ∷ ListValue ∷ ObjectValue ∷ ConstListValue ∷ ConstObjectValue ∷ EnumValue ∷ TypeRef ∷ NamedType ∷ ListType ∷ NonNullType ∷ Name ∷ []) n
 
-abbrev of_part : Node → Phase → Phase
+abbrev of_part : Part → Phase → Phase
 of_part n settled = cond (is_among (SpreadRest ∷ []) n) wrong settled
 of_part n fresh = wrong
 of_part n bare = wrong
@@ -108,7 +107,7 @@ of_mark end wrong = wrong
 of_mark end (literal k) = wrong
 of_mark end (spelt k) = settled
 
-abbrev pub step : Sym Node Terminal Mark → Phase → Phase
+abbrev pub step : Sym Part Terminal Mark → Phase → Phase
 step (nt n) φ = of_part n φ
 step (tm p) φ = of_token p φ
 step (act m) φ = of_mark m φ
@@ -151,7 +150,7 @@ data Leq : Phase → Phase → Type 0 where
   sooner : Leq settled waiting
   never : {φ : Phase} → Leq φ wrong
 
-step_wrong : (x : Sym Node Terminal Mark) → step x wrong ≡ wrong
+step_wrong : (x : Sym Part Terminal Mark) → step x wrong ≡ wrong
 step_wrong (nt n) = refl
 step_wrong (tm p) = refl
 step_wrong (act row) = refl
@@ -167,7 +166,7 @@ sooner_part false true c = same
 sooner_part false false true = sooner
 sooner_part false false false = never
 
-sooner_step : (x : Sym Node Terminal Mark) → Leq (step x settled) (step x waiting)
+sooner_step : (x : Sym Part Terminal Mark) → Leq (step x settled) (step x waiting)
 sooner_step (nt n) = sooner_part (is_among (SpreadRest ∷ []) n) (starts n) (is_among (Alias? ∷ []) n)
 sooner_step (tm p) = same
 sooner_step (act row) = never
@@ -177,7 +176,7 @@ sooner_step (act wrapper) = sooner
 sooner_step (act (wrap w)) = never
 sooner_step (act end) = never
 
-step_mono : (x : Sym Node Terminal Mark) {φ ψ : Phase} → Leq φ ψ → Leq (step x φ) (step x ψ)
+step_mono : (x : Sym Part Terminal Mark) {φ ψ : Phase} → Leq φ ψ → Leq (step x φ) (step x ψ)
 step_mono x same = same
 step_mono x sooner = sooner_step x
 step_mono x (never {φ}) = subst (λ (ψ : Phase). Leq (step x φ) ψ) (sym (step_wrong x)) never
@@ -230,14 +229,14 @@ leq_is φ (literal k) t = absurd t
 leq_is φ (spelt k) t = absurd t
 
 -- the test of all productions
-abbrev part_tested : Node → Bool
-part_tested n = all (λ α. leq (run α settled) (of_part n settled) && leq (run α waiting) (of_part n waiting)) (wide n)
+abbrev part_tested : Part → Bool
+part_tested n = all (λ α. leq (run α settled) (of_part n settled) && leq (run α waiting) (of_part n waiting)) (language n)
 
 tested : T (all part_tested all_n)
 unfolding language
 tested = tt
 
-part_tested_is : (n : Node) {α : Syms} → Memᴰ α (wide n) → T (leq (run α settled) (of_part n settled) && leq (run α waiting) (of_part n waiting))
+part_tested_is : (n : Part) {α : Syms} → Memᴰ α (language n) → T (leq (run α settled) (of_part n settled) && leq (run α waiting) (of_part n waiting))
 part_tested_is n m = all_mem (λ α. leq (run α settled) (of_part n settled) && leq (run α waiting) (of_part n waiting)) (all_at part_tested all_n (num_n n) tested (at_n n)) m
 
 run_wrong : (ss : Syms) → run ss wrong ≡ wrong
@@ -251,7 +250,7 @@ goes_on : (α ss : Syms) (φ ψ : Phase) → Leq (run α φ) ψ → T (is_settle
 goes_on α ss φ ψ l t = rw (run_append α ss φ) (leq_settled (run_mono ss l) t)
 
 -- a part's production in its place
-pub run_by : (n : Node) (α ss : Syms) (φ : Phase) → Memᴰ α (wide n) → T (is_settled (run (nt n ∷ ss) φ)) → T (is_settled (run (α ++ ss) φ))
+pub run_by : (n : Part) (α ss : Syms) (φ : Phase) → Memᴰ α (language n) → T (is_settled (run (nt n ∷ ss) φ)) → T (is_settled (run (α ++ ss) φ))
 run_by n α ss settled m t =
     goes_on α ss settled (of_part n settled)
     (leq_is (run α settled) (of_part n settled) (and_l (leq (run α settled) (of_part n settled)) (leq (run α waiting) (of_part n waiting)) (part_tested_is n m))) t
@@ -265,7 +264,7 @@ run_by n α ss (literal k) m t = absurd (not_wrong ss t)
 run_by n α ss (spelt k) m t = absurd (not_wrong ss t)
 
 -- how many rows a part leaves open
-abbrev gain : Node → ℕ
+abbrev gain : Part → ℕ
 gain n = cond (is_among (OperationType ∷ []) n) 1 0
 
 -- from some open rows to e, and no end where none is open
@@ -300,16 +299,16 @@ ends_append e z d (act end ∷ α) ss zero h k = absurd h
 ends_append e z d (act end ∷ α) ss (suc a) h k =
     ends_same z (act end ∷ (α ++ ss)) (let q : suc (d + a) ≡ d + suc a = omega arith in q) (ends_append e z d α ss a h k)
 
-ends_tested : Node → Bool
-ends_tested n = implies (not (is_among (SpreadRest ∷ []) n)) (all (λ α. ends (gain n) α 0) (wide n))
+ends_tested : Part → Bool
+ends_tested n = implies (not (is_among (SpreadRest ∷ []) n)) (all (λ α. ends (gain n) α 0) (language n))
 
 ends_tested_is : T (all ends_tested all_n)
 unfolding language ends_tested
 ends_tested_is = tt
 
-pub ends_by : (n : Node) (α ss : Syms) (z d : ℕ) → Memᴰ α (wide n) → T (ends z (nt n ∷ ss) d) → T (ends z (α ++ ss) d)
+pub ends_by : (n : Part) (α ss : Syms) (z d : ℕ) → Memᴰ α (language n) → T (ends z (nt n ∷ ss) d) → T (ends z (α ++ ss) d)
 unfolding ends_tested
 ends_by n α ss z d m h =
     let u = not (is_among (SpreadRest ∷ []) n) in
-    let t = implies_out u (all (λ β. ends (gain n) β 0) (wide n)) (all_at ends_tested all_n (num_n n) ends_tested_is (at_n n)) (and_l u (ends z ss (d + gain n)) h) in
+    let t = implies_out u (all (λ β. ends (gain n) β 0) (language n)) (all_at ends_tested all_n (num_n n) ends_tested_is (at_n n)) (and_l u (ends z ss (d + gain n)) h) in
     rw add-zero at (ends_append (gain n) z d α ss 0 (all_mem (λ β. ends (gain n) β 0) t m) (and_r u (ends z ss (d + gain n)) h))

@@ -13,8 +13,7 @@ use lib.ListN.{length, get_elem?, length-append, get_or-append}
 use lib.Seq.{get_or-append_seam}
 use Rattle.paper.specs.Numbers.{no_parent}
 use Rattle.paper.specs.Grammar.{nt, tm, act, Ev, toks, Derives, done, take, note as marks, by}
-use Rattle.paper.specs.Language.{Class, num_c, same_c, Terminal, hits, the, any_name, name_but_on, name_but_literal, Mark, row, kind, named, wrapper, wrap, end}
-use Rattle.paper.proofs.Nodes.{Node, wide}
+use Rattle.paper.specs.Language.{Class, num_c, same_c, Terminal, hits, the, any_name, name_but_on, name_but_literal, Mark, row, kind, named, wrapper, wrap, end, Part, language}
 use Rattle.paper.specs.Tokens.{Tok}
 use Rattle.paper.specs.Rows.{Row, Book, empty_book, change, top, pop, start_of, stop_of, begun, of_kind, with_name, wrapped, stopping, at_mark, taken, book}
 use Rattle.paper.proofs.Tables.{all_c, at_c}
@@ -441,7 +440,7 @@ module _ (l : ℕ) (Good : Tok → Type 0) where
   abbrev pub Left : Book → Book → Type 0
   Left b c = Stands settled 0 [] c × Grows b c
 
-  pub flows : {ss : Syms} {es : List (Ev Class Mark)} → Derives wide hits ss es → (φ : Phase) (d : ℕ) (ts : List Tok) (b : Book) → T (is_settled (run ss φ)) → T (ends 0 ss d) →
+  pub flows : {ss : Syms} {es : List (Ev Class Mark)} → Derives language hits ss es → (φ : Phase) (d : ℕ) (ts : List Tok) (b : Book) → T (is_settled (run ss φ)) → T (ends 0 ss d) →
       toks es ≡ map (λ k. k.class) ts → Stands φ d ts b → Left b (book es ts b)
   unfolding book toks
   flows done φ d [] b t e q h =
@@ -483,7 +482,7 @@ module _ (l : ℕ) (Good : Tok → Type 0) where
       go os e (inr w) = w
 
   -- the first row, where it begins a text
-  pub first_row : (k x : ℕ) {ss : Syms} {es : List (Ev Class Mark)} → Derives wide hits (act row ∷ act (kind k x) ∷ ss) es → (ts : List Tok) →
+  pub first_row : (k x : ℕ) {ss : Syms} {es : List (Ev Class Mark)} → Derives language hits (act row ∷ act (kind k x) ∷ ss) es → (ts : List Tok) →
       T (is_settled (run ss (of_mark (kind k x) fresh))) → T (ends 0 ss 1) → toks es ≡ map (λ t. t.class) ts → Rise 0 ts → (k ≡ 0 → ⊥) →
       (0 < length (book es ts empty_book).rows) × ((at (book es ts empty_book).rows 0).kind ≡ k) × ((at (book es ts empty_book).rows 0).parent ≡ no_parent)
   unfolding book toks
@@ -503,7 +502,7 @@ module _ (l : ℕ) (Good : Tok → Type 0) where
     pub closes : T (ends 0 ss depth)
     pub stands : Stands phase depth ts b
 
-  pub going_by : (n : Node) (α ss : Syms) (ts : List Tok) (b : Book) → Memᴰ α (wide n) → Going (nt n ∷ ss) ts b → Going (α ++ ss) ts b
+  pub going_by : (n : Part) (α ss : Syms) (ts : List Tok) (b : Book) → Memᴰ α (language n) → Going (nt n ∷ ss) ts b → Going (α ++ ss) ts b
   going_by n α ss ts b m g = record { phase = g.phase; depth = g.depth; settles = run_by n α ss g.phase m g.settles; closes = ends_by n α ss 0 g.depth m g.closes; stands = g.stands }
 
   pub going_token : (p : Terminal) (ss : Syms) (k : Tok) (ts : List Tok) (b : Book) → T (hits p k.class) → Going (tm p ∷ ss) (k ∷ ts) b → Going ss ts (taken (k ∷ ts) b)
@@ -557,7 +556,7 @@ module _ (l : ℕ) (Good : Tok → Type 0) where
   }
   going_mark end ss ts b g = going_end ss ts b g.phase g.depth g.settles g.closes g.stands
 
-  pub going_left : {ss : Syms} {es : List (Ev Class Mark)} → Derives wide hits ss es → (ts : List Tok) (b : Book) → toks es ≡ map (λ k. k.class) ts → Going ss ts b → Left b (book es ts b)
+  pub going_left : {ss : Syms} {es : List (Ev Class Mark)} → Derives language hits ss es → (ts : List Tok) (b : Book) → toks es ≡ map (λ k. k.class) ts → Going ss ts b → Left b (book es ts b)
   going_left v ts b q g = flows v g.phase g.depth ts b g.settles g.closes q g.stands
 
   -- where a row gets its kind, it is the last row, and the open rows around it stand before it

@@ -6,9 +6,8 @@ use Prim.Native.Nat.{ℕ, zero, suc}
 use lib.Dec.{T, eqb, leb}
 use Rattle.paper.specs.Grammar.{Sym, nt, tm, act}
 use Rattle.paper.specs.Numbers.{kind_type_reference, kind_variable, kind_object}
-use Rattle.paper.specs.Language.{Terminal, Mark, row, kind, named, wrapper, wrap, end, language}
-use Rattle.paper.proofs.Nodes.{Node, wide}
-use Rattle.paper.proofs.Nodes.{Document, Definition+, Definition*, Definition, OperationDefinition, OperationType, OperationName?, SelectionSet, Selection+, Selection*, Selection, Field, Alias?, Alias, SelectionSet?, Arguments?, Arguments, Argument+, Argument*, Argument, FragmentSpread, FragmentDefinition, FragmentName, TypeCondition?, TypeCondition, InlineFragment, Value, ListValue, Value+, Value*, ObjectValue, ObjectField+, ObjectField*, ObjectField, ConstValue, ConstListValue, ConstValue+, ConstValue*, ConstObjectValue, ConstObjectField+, ConstObjectField*, ConstObjectField, EnumValue, VariableDefinitions?, VariableDefinitions, VariableDefinition+, VariableDefinition*, VariableDefinition, DefaultValue?, DefaultValue, TypeRef, NamedType, ListType, NonNullType, Directives?, Directives, Directive+, Directive*, Directive, Name, VariablesText, SpreadRest, AliasRest, Bang?}
+use Rattle.paper.specs.Language.{Terminal, Mark, row, kind, named, wrapper, wrap, end, Part, language}
+use Rattle.paper.specs.Language.{Document, Definition+, Definition*, Definition, OperationDefinition, OperationType, OperationName?, SelectionSet, Selection+, Selection*, Selection, Field, Alias?, Alias, SelectionSet?, Arguments?, Arguments, Argument+, Argument*, Argument, FragmentSpread, FragmentDefinition, FragmentName, TypeCondition?, TypeCondition, InlineFragment, Value, ListValue, Value+, Value*, ObjectValue, ObjectField+, ObjectField*, ObjectField, ConstValue, ConstListValue, ConstValue+, ConstValue*, ConstObjectValue, ConstObjectField+, ConstObjectField*, ConstObjectField, EnumValue, VariableDefinitions?, VariableDefinitions, VariableDefinition+, VariableDefinition*, VariableDefinition, DefaultValue?, DefaultValue, TypeRef, NamedType, ListType, NonNullType, Directives?, Directives, Directive+, Directive*, Directive, Name, VariablesText, SpreadRest, AliasRest, Bang?}
 use Rattle.paper.proofs.Bools.{and_l, and_r}
 use Rattle.paper.proofs.Tables.{all_n, num_n, at_n}
 use Rattle.paper_theory.proofs.Test.{all, all_at, all_mem}
@@ -20,13 +19,13 @@ pub data Stage : Type 0 where
   opened typing typed ready given filled gone wrong : Stage
   deep : ℕ → Stage
 
-abbrev in_ref : Node → Bool
+abbrev in_ref : Part → Bool
 in_ref n = is_among (TypeRef ∷ NamedType ∷ ListType ∷ NonNullType ∷ Bang? ∷ Name ∷ []) n
 
-abbrev is_const : Node → Bool
+abbrev is_const : Part → Bool
 is_const n = is_among (ConstValue ∷ ConstListValue ∷ ConstValue+ ∷ ConstValue* ∷ ConstObjectValue ∷ ConstObjectField+ ∷ ConstObjectField* ∷ ConstObjectField ∷ EnumValue ∷ Name ∷ []) n
 
-abbrev of_part : Node → Stage → Stage
+abbrev of_part : Part → Stage → Stage
 of_part n opened = cond (is_among (Name ∷ []) n) opened wrong
 of_part n typing = wrong
 of_part n typed = cond (in_ref n) typed wrong
@@ -105,7 +104,7 @@ of_mark end filled = gone
 of_mark end gone = gone
 of_mark end wrong = wrong
 
-abbrev step : Sym Node Terminal Mark → Stage → Stage
+abbrev step : Sym Part Terminal Mark → Stage → Stage
 step (nt n) φ = of_part n φ
 step (tm p) φ = of_token φ
 step (act m) φ = of_mark m φ
@@ -197,7 +196,7 @@ pub data Leq : Stage → Stage → Type 0 where
   sooner : Leq ready filled
   never : {φ : Stage} → Leq φ wrong
 
-step_wrong : (x : Sym Node Terminal Mark) → step x wrong ≡ wrong
+step_wrong : (x : Sym Part Terminal Mark) → step x wrong ≡ wrong
 step_wrong (nt n) = refl
 step_wrong (tm p) = refl
 step_wrong (act row) = refl
@@ -207,7 +206,7 @@ step_wrong (act wrapper) = refl
 step_wrong (act (wrap w)) = refl
 step_wrong (act end) = refl
 
-step_gone : (x : Sym Node Terminal Mark) → step x gone ≡ gone
+step_gone : (x : Sym Part Terminal Mark) → step x gone ≡ gone
 step_gone (nt n) = refl
 step_gone (tm p) = refl
 step_gone (act row) = refl
@@ -217,7 +216,7 @@ step_gone (act wrapper) = refl
 step_gone (act (wrap w)) = refl
 step_gone (act end) = refl
 
-sooner_step : (x : Sym Node Terminal Mark) → Leq (step x ready) (step x filled)
+sooner_step : (x : Sym Part Terminal Mark) → Leq (step x ready) (step x filled)
 sooner_step (nt n) = never
 sooner_step (tm p) = sooner
 sooner_step (act row) = never
@@ -227,7 +226,7 @@ sooner_step (act wrapper) = same
 sooner_step (act (wrap w)) = same
 sooner_step (act end) = same
 
-step_mono : (x : Sym Node Terminal Mark) {φ ψ : Stage} → Leq φ ψ → Leq (step x φ) (step x ψ)
+step_mono : (x : Sym Part Terminal Mark) {φ ψ : Stage} → Leq φ ψ → Leq (step x φ) (step x ψ)
 step_mono x same = same
 step_mono x sooner = sooner_step x
 step_mono x (never {φ}) = subst (λ (ψ : Stage). Leq (step x φ) ψ) (sym (step_wrong x)) never
@@ -291,17 +290,17 @@ leq_is φ gone t = absurd t
 leq_is φ wrong t = never
 
 -- the test of all productions
-abbrev passes : Node → Syms → Bool
+abbrev passes : Part → Syms → Bool
 passes n α = leq (run α opened) (of_part n opened) && (leq (run α typed) (of_part n typed) && leq (run α ready) (of_part n ready))
 
-abbrev part_tested : Node → Bool
-part_tested n = all (λ α. passes n α) (wide n)
+abbrev part_tested : Part → Bool
+part_tested n = all (λ α. passes n α) (language n)
 
 tested : T (all part_tested all_n)
 unfolding language
 tested = tt
 
-part_passes : (n : Node) {α : Syms} → Memᴰ α (wide n) → T (passes n α)
+part_passes : (n : Part) {α : Syms} → Memᴰ α (language n) → T (passes n α)
 part_passes n m = all_mem (λ α. passes n α) (all_at part_tested all_n (num_n n) tested (at_n n)) m
 
 -- in a value, however deep
@@ -313,7 +312,7 @@ mem_deep : (k : ℕ) {α : Syms} {αs : List Syms} → AllDeep k αs → Memᴰ 
 mem_deep k h (Memᴰ.head e) = rw e h.0
 mem_deep k h (Memᴰ.tail m) = mem_deep k h.1 m
 
-deep_part : (n : Node) → T (is_const n) → (k : ℕ) {α : Syms} → Memᴰ α (wide n) → run α (deep k) ≡ deep k
+deep_part : (n : Part) → T (is_const n) → (k : ℕ) {α : Syms} → Memᴰ α (language n) → run α (deep k) ≡ deep k
 unfolding language
 deep_part Document t k m = absurd t
 deep_part Definition+ t k m = absurd t
@@ -384,7 +383,7 @@ goes_on : (α ss : Syms) (φ ψ : Stage) → T (leq (run α φ) ψ) → T (is_go
 goes_on α ss φ ψ l t = rw (run_append α ss φ) (leq_gone (run_mono ss (leq_is (run α φ) ψ l)) t)
 
 -- a part's production in its place
-pub run_by : (n : Node) (α ss : Syms) (φ : Stage) → Memᴰ α (wide n) → T (is_gone (run (nt n ∷ ss) φ)) → T (is_gone (run (α ++ ss) φ))
+pub run_by : (n : Part) (α ss : Syms) (φ : Stage) → Memᴰ α (language n) → T (is_gone (run (nt n ∷ ss) φ)) → T (is_gone (run (α ++ ss) φ))
 run_by n α ss opened m t = goes_on α ss opened (of_part n opened) (and_l (leq (run α opened) (of_part n opened)) (leq (run α typed) (of_part n typed) && leq (run α ready) (of_part n ready)) (part_passes n m)) t
 run_by n α ss typing m t = absurd (not_gone ss t)
 run_by n α ss typed m t =

@@ -9,8 +9,6 @@ use lib.ListN.{length}
 use Rattle.paper.specs.Grammar.{nt}
 use Rattle.paper.specs.Numbers.{no_parent, kind_string, kind_object}
 use Rattle.paper.specs.Language.{is_name_class, int, float, string, kind, hits, Part, language, VariablesText}
-use Rattle.paper.proofs.Nodes.{node, wide}
-use Rattle.paper_theory.proofs.SameLanguage.{language→wide}
 use Rattle.paper.specs.Lexical.{is}
 use Rattle.paper.specs.Tokens.{Text, Longest, Tokens}
 use Rattle.paper.specs.Rows.{Row, empty_book, book, rows_of}
@@ -31,18 +29,18 @@ use Rattle.value_texts.proofs.TokenSpans.{bytes_of, Lies, text_rises, lies_piece
 
 -- a part that stands alone: what begins in it ends in it. Document and VariablesText are such
 abbrev pub is_alone : Part → Bool
-is_alone p = is_settled (run (nt (node p) ∷ []) settled) && ends 0 (nt (node p) ∷ []) 0
+is_alone p = is_settled (run (nt p ∷ []) settled) && ends 0 (nt p ∷ []) 0
 
 blank_stands : (s : List ℕ) (t : Text) → Tokens 0 s t → Stands (length s) (Lies s) settled 0 (tokens_of t) empty_book
 blank_stands s t k = record { rise = text_rises s k; down = tt; whole = λ i h. absurd (omega arith); opens = tt; level = refl; last = λ t. absurd t }
 
 -- where the derivation of a text begins
-pub begins_going : (p : Part) → T (is_alone p) → (s : List ℕ) (t : Text) → Tokens 0 s t → Going (length s) (Lies s) (nt (node p) ∷ []) (tokens_of t) empty_book
+pub begins_going : (p : Part) → T (is_alone p) → (s : List ℕ) (t : Text) → Tokens 0 s t → Going (length s) (Lies s) (nt p ∷ []) (tokens_of t) empty_book
 begins_going p a s t k = record {
   phase = settled;
   depth = 0;
-  settles = and_l (is_settled (run (nt (node p) ∷ []) settled)) (ends 0 (nt (node p) ∷ []) 0) a;
-  closes = and_r (is_settled (run (nt (node p) ∷ []) settled)) (ends 0 (nt (node p) ∷ []) 0) a;
+  settles = and_l (is_settled (run (nt p ∷ []) settled)) (ends 0 (nt p ∷ []) 0) a;
+  closes = and_r (is_settled (run (nt p ∷ []) settled)) (ends 0 (nt p ∷ []) 0) a;
   stands = blank_stands s t k;
 }
 
@@ -50,7 +48,7 @@ begins_going p a s t k = record {
 said_whole : (p : Part) → T (is_alone p) → (s : List ℕ) (t : Text) (rs : List Row) → Tokens 0 s t → TextAnswer p t (rows_are rs) → (i : ℕ) → i < length rs → Whole (length s) (Lies s) (at rs i)
 unfolding rows_of
 said_whole p a s t rs k (accepts {es = es} w r c) i h =
-    left_whole (length s) (Lies s) (book es (tokens_of t) empty_book) (going_left (length s) (Lies s) (language→wide r.0) (tokens_of t) empty_book r.1 (begins_going p a s t k)).0 i h
+    left_whole (length s) (Lies s) (book es (tokens_of t) empty_book) (going_left (length s) (Lies s) r.0 (tokens_of t) empty_book r.1 (begins_going p a s t k)).0 i h
 
 -- a row in the lent numbers is the list's
 pub row_is : (p : Part) (s rows : List ℕ) (n : ℕ) (t : Taken p s rows n) (i : ℕ) → row_in rows n i ≡ at t.list i
@@ -110,7 +108,7 @@ pub record Object (rs : List Row) : Type 0 where
 said_object : (s : List ℕ) (t : Text) (rs : List Row) → Tokens 0 s t → TextAnswer VariablesText t (rows_are rs) → Object rs
 unfolding rows_of language
 said_object s t rs k (accepts {es = es} w r c) =
-    let q = first_row (length s) (Lies s) kind_object 0 (by_one wide hits {n = node VariablesText} refl (language→wide r.0)) (tokens_of t) tt tt r.1 (text_rises s k) (λ e. absurd (omega arith)) in
+    let q = first_row (length s) (Lies s) kind_object 0 (by_one language hits {n = VariablesText} refl r.0) (tokens_of t) tt tt r.1 (text_rises s k) (λ e. absurd (omega arith)) in
     record { some = q.0; kind_is = q.1; parent_is = q.2 }
 
 pub taken_object : (s rows : List ℕ) (n : ℕ) → Taken VariablesText s rows n → (0 < n) × ((row_in rows n 0).kind ≡ kind_object) × ((row_in rows n 0).parent ≡ no_parent)

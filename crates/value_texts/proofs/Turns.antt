@@ -6,9 +6,8 @@ use Prim.Native.Nat.{ℕ, zero, suc}
 use lib.Dec.{T, eqb, leb}
 use Rattle.paper.specs.Grammar.{Sym, nt, tm, act}
 use Rattle.paper.specs.Numbers.{kind_type_reference, wrap_list, wrap_non_null}
-use Rattle.paper.specs.Language.{Terminal, Mark, row, kind, named, wrapper, wrap, end, language}
-use Rattle.paper.proofs.Nodes.{Node, wide}
-use Rattle.paper.proofs.Nodes.{Document, Definition+, Definition*, Definition, OperationDefinition, OperationType, OperationName?, SelectionSet, Selection+, Selection*, Selection, Field, Alias?, Alias, SelectionSet?, Arguments?, Arguments, Argument+, Argument*, Argument, FragmentSpread, FragmentDefinition, FragmentName, TypeCondition?, TypeCondition, InlineFragment, Value, ListValue, Value+, Value*, ObjectValue, ObjectField+, ObjectField*, ObjectField, ConstValue, ConstListValue, ConstValue+, ConstValue*, ConstObjectValue, ConstObjectField+, ConstObjectField*, ConstObjectField, EnumValue, VariableDefinitions?, VariableDefinitions, VariableDefinition+, VariableDefinition*, VariableDefinition, DefaultValue?, DefaultValue, TypeRef, NamedType, ListType, NonNullType, Directives?, Directives, Directive+, Directive*, Directive, Name, VariablesText, SpreadRest, AliasRest, Bang?}
+use Rattle.paper.specs.Language.{Terminal, Mark, row, kind, named, wrapper, wrap, end, Part, language}
+use Rattle.paper.specs.Language.{Document, Definition+, Definition*, Definition, OperationDefinition, OperationType, OperationName?, SelectionSet, Selection+, Selection*, Selection, Field, Alias?, Alias, SelectionSet?, Arguments?, Arguments, Argument+, Argument*, Argument, FragmentSpread, FragmentDefinition, FragmentName, TypeCondition?, TypeCondition, InlineFragment, Value, ListValue, Value+, Value*, ObjectValue, ObjectField+, ObjectField*, ObjectField, ConstValue, ConstListValue, ConstValue+, ConstValue*, ConstObjectValue, ConstObjectField+, ConstObjectField*, ConstObjectField, EnumValue, VariableDefinitions?, VariableDefinitions, VariableDefinition+, VariableDefinition*, VariableDefinition, DefaultValue?, DefaultValue, TypeRef, NamedType, ListType, NonNullType, Directives?, Directives, Directive+, Directive*, Directive, Name, VariablesText, SpreadRest, AliasRest, Bang?}
 use Rattle.paper.proofs.Bools.{or_l, or_r}
 use Rattle.paper.proofs.Tables.{all_n, num_n, at_n}
 use Rattle.paper_theory.proofs.Test.{all, all_at, all_mem, implies, implies_out}
@@ -20,10 +19,10 @@ pub data Turn : Type 0 where
   inside due : ℕ → Turn
 
 -- the parts of a type reference
-abbrev in_ref : Node → Bool
+abbrev in_ref : Part → Bool
 in_ref n = is_among (TypeRef ∷ NamedType ∷ ListType ∷ NonNullType ∷ Bang? ∷ []) n
 
-abbrev is_name : Node → Bool
+abbrev is_name : Part → Bool
 is_name n = is_among (Name ∷ []) n
 
 -- another part
@@ -31,7 +30,7 @@ abbrev of_other : ℕ → Turn
 of_other zero = outside
 of_other (suc k) = wrong
 
-abbrev of_part : Node → Turn → Turn
+abbrev of_part : Part → Turn → Turn
 of_part n outside = cond (in_ref n) wrong outside
 of_part n wrong = wrong
 of_part n (inside k) = cond (in_ref n || is_name n) (inside k) (of_other k)
@@ -77,7 +76,7 @@ of_mark end (inside zero) = outside
 of_mark end (inside (suc k)) = wrong
 of_mark end (due k) = wrong
 
-abbrev step : Sym Node Terminal Mark → Turn → Turn
+abbrev step : Sym Part Terminal Mark → Turn → Turn
 step (nt n) φ = of_part n φ
 step (tm p) φ = of_token p φ
 step (act m) φ = of_mark m φ
@@ -100,7 +99,7 @@ data Leq : Turn → Turn → Type 0 where
   sooner : Leq (inside 0) outside
   never : {φ : Turn} → Leq φ wrong
 
-step_wrong : (x : Sym Node Terminal Mark) → step x wrong ≡ wrong
+step_wrong : (x : Sym Part Terminal Mark) → step x wrong ≡ wrong
 step_wrong (nt n) = refl
 step_wrong (tm p) = refl
 step_wrong (act row) = refl
@@ -115,7 +114,7 @@ sooner_part true b = never
 sooner_part false true = sooner
 sooner_part false false = same
 
-sooner_step : (x : Sym Node Terminal Mark) → Leq (step x (inside 0)) (step x outside)
+sooner_step : (x : Sym Part Terminal Mark) → Leq (step x (inside 0)) (step x outside)
 sooner_step (nt n) = sooner_part (in_ref n) (is_name n)
 sooner_step (tm p) = sooner
 sooner_step (act row) = same
@@ -125,7 +124,7 @@ sooner_step (act wrapper) = never
 sooner_step (act (wrap w)) = same
 sooner_step (act end) = same
 
-step_mono : (x : Sym Node Terminal Mark) {φ ψ : Turn} → Leq φ ψ → Leq (step x φ) (step x ψ)
+step_mono : (x : Sym Part Terminal Mark) {φ ψ : Turn} → Leq φ ψ → Leq (step x φ) (step x ψ)
 step_mono x same = same
 step_mono x sooner = sooner_step x
 step_mono x (never {φ}) = subst (λ (ψ : Turn). Leq (step x φ) ψ) (sym (step_wrong x)) never
@@ -161,8 +160,8 @@ goes_on : (α ss : Syms) (φ ψ : Turn) → Leq (run α φ) ψ → T (is_done (r
 goes_on α ss φ ψ l t = rw (run_append α ss φ) (leq_done (run_mono ss l) t)
 
 -- the test of all productions but those of a type reference
-abbrev part_tested : Node → Bool
-part_tested n = implies (not (in_ref n)) (all (λ α. is_done (run α outside)) (wide n))
+abbrev part_tested : Part → Bool
+part_tested n = implies (not (in_ref n)) (all (λ α. is_done (run α outside)) (language n))
 
 tested : T (all part_tested all_n)
 unfolding language
@@ -177,7 +176,7 @@ mem_inside : (k : ℕ) {α : Syms} {αs : List Syms} → AllInside k αs → Mem
 mem_inside k h (Memᴰ.head e) = rw e h.0
 mem_inside k h (Memᴰ.tail m) = mem_inside k h.1 m
 
-inside_part : (n : Node) → T (in_ref n || is_name n) → (k : ℕ) {α : Syms} → Memᴰ α (wide n) → run α (inside k) ≡ inside k
+inside_part : (n : Part) → T (in_ref n || is_name n) → (k : ℕ) {α : Syms} → Memᴰ α (language n) → run α (inside k) ≡ inside k
 unfolding language
 inside_part Document t k m = absurd t
 inside_part Definition+ t k m = absurd t
@@ -244,11 +243,11 @@ inside_part SpreadRest t k m = absurd t
 inside_part AliasRest t k m = absurd t
 inside_part Bang? t k m = mem_inside k (refl, (refl, tt)) m
 
-outside_part : (n : Node) {α : Syms} → T (not (in_ref n)) → Memᴰ α (wide n) → T (is_done (run α outside))
-outside_part n h m = all_mem (λ α. is_done (run α outside)) (implies_out (not (in_ref n)) (all (λ α. is_done (run α outside)) (wide n)) (all_at part_tested all_n (num_n n) tested (at_n n)) h) m
+outside_part : (n : Part) {α : Syms} → T (not (in_ref n)) → Memᴰ α (language n) → T (is_done (run α outside))
+outside_part n h m = all_mem (λ α. is_done (run α outside)) (implies_out (not (in_ref n)) (all (λ α. is_done (run α outside)) (language n)) (all_at part_tested all_n (num_n n) tested (at_n n)) h) m
 
 -- a part's production in its place
-pub run_by : (n : Node) (α ss : Syms) (φ : Turn) → Memᴰ α (wide n) → T (is_done (run (nt n ∷ ss) φ)) → T (is_done (run (α ++ ss) φ))
+pub run_by : (n : Part) (α ss : Syms) (φ : Turn) → Memᴰ α (language n) → T (is_done (run (nt n ∷ ss) φ)) → T (is_done (run (α ++ ss) φ))
 run_by n α ss outside m t = go (in_ref n) refl t
   where
     go : (c : Bool) → in_ref n ≡ c → T (is_done (run ss (cond c wrong outside))) → T (is_done (run (α ++ ss) outside))

@@ -10,9 +10,7 @@ use lib.Dec.{T, eqb, leb, ltb, eqb→eq, leb→le, lt→ltb}
 use lib.ListN.{length, drop, take-append-drop, get_or-eq_default}
 use Rattle.paper.specs.Grammar.{nt, Ev, tok, mark, toks, Derives, done, take, note as marks, by}
 use Rattle.paper.specs.Numbers.{most_fragments, most_variables, most_wrappers, kind_variable_definition, kind_type_reference, wrap_list, wrap_non_null}
-use Rattle.paper.specs.Language.{Class, Terminal, hits, Mark, row, kind, named, wrapper, wrap, end, Part}
-use Rattle.paper.proofs.Nodes.{node, wide}
-use Rattle.paper_theory.proofs.SameLanguage.{language→wide}
+use Rattle.paper.specs.Language.{Class, Terminal, hits, Mark, row, kind, named, wrapper, wrap, end, Part, language}
 use Rattle.paper.specs.Tokens.{Tok, Text}
 use Rattle.paper.specs.Rows.{Row, Book, empty_book, rows_of, change, top, pop, start_of, stop_of, begun, of_kind, with_name, wrapped, stopping, at_mark, taken, rest, book}
 use Rattle.paper.specs.Sizes.{Counts, Sums, nothing_counted, counted, sums, through, over_counts}
@@ -196,7 +194,7 @@ module _ (ss : Syms) (rows : List Row) (os : List ℕ) (c : ℕ) where
   step_token p (due k) l h = record { each = h.each; now = (l, h.now) }
 
 -- the whole text
-wraps : {ss : Syms} {es : List (Ev Class Mark)} → Derives wide hits ss es → (φ : Turn) (ts : List Tok) (b : Book) (m : Sums) → T (is_done (run ss φ)) → Within es m → Wraps φ b.rows b.open' m.counts.wrappers →
+wraps : {ss : Syms} {es : List (Ev Class Mark)} → Derives language hits ss es → (φ : Turn) (ts : List Tok) (b : Book) (m : Sums) → T (is_done (run ss φ)) → Within es m → Wraps φ b.rows b.open' m.counts.wrappers →
     (i : ℕ) → Packs most_wrappers (at (book es ts b).rows i).extra
 unfolding book toks sums through
 wraps done φ ts b m t u h = h.each
@@ -224,13 +222,13 @@ wraps (marks {a = end} {ss} {es} v) φ ts b m t u h =
     wraps v (of_mark end φ) ts (at_mark end ts b) m t (λ k l. u k l) (step_end ss b.rows b.open' m.counts.wrappers b.stop φ t h)
 
 abbrev pub is_outside : Part → Bool
-is_outside p = is_done (run (nt (node p) ∷ []) outside)
+is_outside p = is_done (run (nt p ∷ []) outside)
 
 -- so for each row of a text, of a part that is none of a type reference
 said_packs : (p : Part) → T (is_outside p) → (t : Text) (rs : List Row) → TextAnswer p t (rows_are rs) → (i : ℕ) → Packs most_wrappers (at rs i).extra
 unfolding rows_of
 said_packs p o t rs (accepts {es = es} w r c) =
-    wraps (language→wide r.0) outside (tokens_of t) empty_book nothing_counted o within (record { each = λ i. packs_none most_wrappers; now = omega arith })
+    wraps r.0 outside (tokens_of t) empty_book nothing_counted o within (record { each = λ i. packs_none most_wrappers; now = omega arith })
   where
     within : Within es nothing_counted
     within k l v =

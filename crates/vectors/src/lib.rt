@@ -1,4 +1,4 @@
-// What the cases of all calls share: reading a case from standard input, comparing report and rows, telling a line.
+// What the programs that run the vectors share: reading a case from standard input, comparing report and rows, telling a line.
 // `tests/vectors/pack.py` writes the cases. A case is its head, its table, its document and the rows that the call must write, as far as it has
 // them. All numbers are of two bytes, the low one first: in the head the lengths of the three in bytes, and the eight numbers of the report.
 ghost use Rattle.io.specs.Counts.{IsPrefixLen};
@@ -6,8 +6,8 @@ ghost use Rattle.io.specs.Counts.{IsPrefixLen};
 use libc::{STDIN_FILENO, STDOUT_FILENO};
 use paper::{REPORT_SIZE, ROWS_SIZE};
 
-// more cases than the file has
-pub const MOST_CASES: u64 = 10000;
+// more cases than any file has
+pub const MOST_CASES: u64 = 1000;
 
 pub const HEAD_SIZE: usize = 22;
 
@@ -41,23 +41,6 @@ pub fn number(bytes: &[u8], at: usize) -> u32 {
         return 0;
     }
     word(bytes[at], bytes[at + 1])
-}
-
-// The same of four bytes
-pub const LONG_SIZE: usize = 4;
-
-fn long_word(a: u8, b: u8, c: u8, d: u8) -> u32 {
-    (a as u32) + 256 * (b as u32) + 65536 * (c as u32) + 16777216 * (d as u32)
-}
-
-pub fn long_number(bytes: &[u8], at: usize) -> u32 {
-    if bytes.len() <= at {
-        return 0;
-    }
-    if bytes.len() - at < LONG_SIZE {
-        return 0;
-    }
-    long_word(bytes[at], bytes[at + 1], bytes[at + 2], bytes[at + 3])
 }
 
 // Sets a number of a list, where there is one
@@ -115,9 +98,8 @@ pub fn rows_same(rows: &[u32], want: &[u8], kept: bool) -> bool {
     true
 }
 
-// Writes a case's line: its call and number, the answer, the number that the report shows beside it, and whether all was as the case says
-pub fn tell(call: &[u8], n: u64, answer: u32, shown: u32, same: bool) {
-    io::write_all(STDOUT_FILENO, call);
+// Writes a case's line: its number, the answer, the number that the report shows beside it, and whether all was as the case says
+pub fn tell(n: u64, answer: u32, shown: u32, same: bool) {
     io::print_decimal(STDOUT_FILENO, n);
     io::write_all(STDOUT_FILENO, b" ");
     io::print_decimal(STDOUT_FILENO, answer as u64);

@@ -1,56 +1,69 @@
--- The groups in turn, and the last rule.
+-- A walk over the rules.
 use borrow.Author.Rules.{rules}
 use mathlib.Core.Path.{◌∙◌}
-use mathlib.Core.List.{◌++◌}
-use Rattle.table_judge.specs.Schema.{member_rules, implemented_rules, promise_rules, root_rule, all_rules}
-use Rattle.table_judge.proofs.BreakLaws.{Left, rule_last, group_here, group_on, in_turn, not_accepted}
+use Prim.Native.Nat.{◌-◌}
+use native.Mathlib.Omega.{arith}
+use Rattle.paper_table.specs.Types.{table_of}
+use Rattle.table_types.specs.Booked.{definition_on}
+use Rattle.table_judge.proofs.BreakLaws.{InTurn, turn_start, turn_end, turn_here, turn_on, turn_next, turn_less}
 use Rattle.table_judge.proofs.rules_in_turn.Statement.{statement}
 use Rattle.table_judge.proofs.rules_in_turn.Tie as tie
 
--- the first groups are kept, so those behind them decide
-left-1 : (c : tie.After-enum-told) → Left c.before.before.before.before.before.before.args.t.now c.before.before.before.before.before.before.args.i all_rules (member_rules ++ implemented_rules ++ promise_rules ++ root_rule)
-left-1 c = group_on _ _ _ _ _ _ c.before.before.own-rules.ensures c.enum_told.given.1
+abbrev invariant-loop : tie.invariant-loop
+invariant-loop t book listed clean promising i rule₀ rule = InTurn (table_of t) i (definition_on t i) rule
 
-left-2 : (c : tie.After-enum-told2) → Left c.before.before.before.before.before.before.before.before.before.args.t.now c.before.before.before.before.before.before.before.before.before.args.i all_rules (implemented_rules ++ promise_rules ++ root_rule)
-left-2 c = group_on _ _ _ _ _ _ c.before.before.member-rules.ensures c.enum-told2.given.1 ∙ left-1 c.before.before.before
+abbrev decreases-loop : tie.decreases-loop
+decreases-loop t book listed clean promising i rule₀ rule = 17 - rule
 
-left-3 : (c : tie.After-enum-told3) → Left c.before.before.before.before.before.before.before.before.before.before.before.before.args.t.now c.before.before.before.before.before.before.before.before.before.before.before.before.args.i all_rules (promise_rules ++ root_rule)
-left-3 c = group_on _ _ _ _ _ _ c.before.before.implemented-rules.ensures c.enum-told3.given.1 ∙ left-2 c.before.before.before
+loop-holds : tie.Need-loop-init invariant-loop decreases-loop
+loop-holds c =
+    let a = c.before.before.before.args in
+    turn_start (table_of a.t.now) a.i (definition_on a.t.now a.i)
 
-left-4 : (c : tie.After-enum-told4) → Left c.before.before.before.before.before.before.before.before.before.before.before.before.before.before.before.args.t.now c.before.before.before.before.before.before.before.before.before.before.before.before.before.before.before.args.i all_rules root_rule
-left-4 c = group_on _ _ _ _ _ _ c.before.before.promise-rules.ensures c.enum-told4.given.1 ∙ left-3 c.before.before.before
+rule-place-requires : tie.Need-rule-place-requires invariant-loop decreases-loop
+rule-place-requires c κs =
+    let p = c.before.before.before.before.before.requires in
+    (p.0, p.1, p.2, p.3)
 
-returns : tie.Need-returns
-returns c = group_here _ _ _ _ _ _ c.before.own-rules.ensures (not_accepted _ c.match.keys2) ∙ in_turn _ _ _
+shown-requires : tie.Need-shown-requires invariant-loop decreases-loop
+shown-requires c κs = omega (arith, c.before.before.before.before.before.before.before.before.requires.2, c.before.before.before.before.before.before.before.before.requires.0.indexed.held.most)
 
-returns-2 : tie.Need-returns-2
-returns-2 c = group_here _ _ _ _ _ _ c.before.member-rules.ensures (not_accepted _ c.match2.keys2) ∙ left-1 c.before.before ∙ in_turn _ _ _
+returns : tie.Need-returns invariant-loop decreases-loop
+returns c =
+    let a = c.before.before.before.before.before.before.before.before.before.args in
+    c.shown.ensures ∙ turn_here (table_of a.t.now) a.i (definition_on a.t.now a.i) c.before.before.before.before.before.loop.rule c.before.before.before.before.before.loop.invariant c.before.before.before.before.loop-test.true c.before.before.before.rule-place.result c.before.before.before.rule-place.ensures _ _ _ c.before.enum-told2.given.1
 
-returns-3 : tie.Need-returns-3
-returns-3 c = group_here _ _ _ _ _ _ c.before.implemented-rules.ensures (not_accepted _ c.match3.keys2) ∙ left-2 c.before.before ∙ in_turn _ _ _
+next-rule-requires : tie.Need-next-rule-requires invariant-loop decreases-loop
+next-rule-requires c κs = c.before.before.before.loop-test.true
 
-returns-4 : tie.Need-returns-4
-returns-4 c = group_here _ _ _ _ _ _ c.before.promise-rules.ensures (not_accepted _ c.match4.keys2) ∙ left-3 c.before.before ∙ in_turn _ _ _
+loop-less : tie.Need-loop-smaller invariant-loop decreases-loop
+loop-less c =
+    let a = c.before.before.before.before.before.before.before.before.before.args in
+    turn_less a.clean a.promising _ _ c.before.before.before.before.loop-test.true c.next-rule.ensures
 
-returns-5 : tie.Need-returns-5
-returns-5 c = c.shown.ensures ∙ rule_last _ _ _ _ _ c.before.root-not-object.ensures ∙ left-4 c.before.before ∙ in_turn _ _ _
+loop-again : tie.Need-loop-preserved invariant-loop decreases-loop
+loop-again c =
+    let a = c.before.before.before.before.before.before.before.before.before.args in
+    turn_next (table_of a.t.now) a.i (definition_on a.t.now a.i) a.clean a.promising c.before.before.before.before.before.loop.rule _ (turn_on (table_of a.t.now) a.i (definition_on a.t.now a.i) c.before.before.before.before.before.loop.rule c.before.before.before.before.before.loop.invariant c.before.before.before.before.loop-test.true c.before.before.before.rule-place.result c.before.before.before.rule-place.ensures c.before.enum_told.given.1) c.before.before.before.before.before.before.before.before.before.requires.4 c.before.before.before.before.before.before.before.before.before.requires.3.keeps c.next-rule.ensures
+
+returns-2 : tie.Need-returns-2 invariant-loop decreases-loop
+returns-2 c =
+    let a = c.before.before.before.before.before.args in
+    turn_end (table_of a.t.now) a.i (definition_on a.t.now a.i) c.before.loop.rule c.before.loop.invariant c.loop-test.false
 
 pub rules-in-turn-spec : {M : Type 1} → statement M
 rules-in-turn-spec =
     tie.close
     (tie.spec
-    (λ c κs. search rules)
+    invariant-loop
+    decreases-loop
+    loop-holds
+    rule-place-requires
     (λ c. search rules)
+    (λ c. search rules)
+    shown-requires
     returns
-    (λ c κs. search rules)
-    (λ c. search rules)
-    returns-2
-    (λ c κs. search rules)
-    (λ c. search rules)
-    returns-3
-    (λ c κs. search rules)
-    (λ c. search rules)
-    returns-4
-    (λ c κs. search rules)
-    (λ c κs. search rules)
-    returns-5)
+    next-rule-requires
+    loop-less
+    loop-again
+    returns-2)

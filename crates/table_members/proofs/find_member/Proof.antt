@@ -1,22 +1,23 @@
--- Member by member: what is found from here on is what is found from the start, and its number grows with each.
+-- Member by member: what is found from here on is what is found from the start.
 use Rattle.table_fields.proofs.BoundsLaws.{later, narrow}
 use borrow.Author.Rules.{rules}
 use mathlib.Core.Path.{sym, subst, ◌∙◌}
 use Prim.Native.Nat.{◌-◌}
 use native.Mathlib.Omega.{arith}
+use Rattle.paper_table.specs.Lists.{find}
 use Rattle.paper_table.specs.Types.{member_named}
 use Rattle.table_book.specs.Book.{part}
 use Rattle.table_members.specs.Members.{members_in, NextMember}
 use Rattle.table_members.specs.declared.FieldFound.TheVariants.{Found}
-use Rattle.table_members.proofs.FindLaws.{Passing, passing_start, passing_none, passing_here, passing_on}
+use Rattle.table_members.proofs.FindLaws.{Sought, sought_start, find_none, find_found, find_more}
 use Rattle.table_members.proofs.find_member.Statement.{statement}
 use Rattle.table_members.proofs.find_member.Tie as tie
 
 abbrev invariant-loop : tie.invariant-loop
-invariant-loop t from end s at n i₀ m₀ i m = Passing (member_named (part s at n)) from end i m (members_in t from end) (members_in t i end)
+invariant-loop t from end s at n i₀ i = Sought from end i (find (member_named (part s at n)) (members_in t from end)) (find (member_named (part s at n)) (members_in t i end))
 
 abbrev decreases-loop : tie.decreases-loop
-decreases-loop t from end s at n i₀ m₀ i m = end - i
+decreases-loop t from end s at n i₀ i = end - i
 
 found : (c : tie.After-tag invariant-loop decreases-loop)
     → NextMember c.before.before.before.before.before.before.args.t.now c.before.before.before.loop.i c.before.before.before.before.before.before.args.end (Found c.tag.given.0.0 c.tag.given.0.1.0 c.tag.given.0.1.1.0)
@@ -24,15 +25,15 @@ found c =
     subst (NextMember c.before.before.before.before.before.before.args.t.now c.before.before.before.loop.i c.before.before.before.before.before.before.args.end) c.tag.given.1 c.before.before.next_member.ensures
 
 loop-holds : tie.Need-loop-init invariant-loop decreases-loop
-loop-holds c = passing_start _ _ _ _ c.before.before.requires.0.order
+loop-holds c = sought_start _ _ _ c.before.before.requires.0.order
 
 next-member-requires : tie.Need-next-member-requires invariant-loop decreases-loop
-next-member-requires c κs = later c.before.before.before.requires.0 c.loop.invariant.sought.within
+next-member-requires c κs = later c.before.before.before.requires.0 c.loop.invariant.within
 
 returns : tie.Need-returns invariant-loop decreases-loop
 returns c =
     let a = c.before.before.before.before.before.before.args in
-    passing_none (member_named (part a.s.now a.at a.n)) a.from a.end c.before.before.before.loop.i c.before.before.before.loop.m (members_in a.t.now a.from a.end) (members_in a.t.now c.before.before.before.loop.i a.end) c.before.before.before.loop.invariant (subst (NextMember a.t.now c.before.before.before.loop.i a.end) c.enum_told.given.1 c.before.before.next_member.ensures)
+    find_none (member_named (part a.s.now a.at a.n)) a.from a.end c.before.before.before.loop.i (members_in a.t.now a.from a.end) (members_in a.t.now c.before.before.before.loop.i a.end) c.before.before.before.loop.invariant (subst (NextMember a.t.now c.before.before.before.loop.i a.end) c.enum_told.given.1 c.before.before.next_member.ensures)
 
 is-member-named-requires : tie.Need-is-member-named-requires invariant-loop decreases-loop
 is-member-named-requires c κs =
@@ -42,10 +43,7 @@ is-member-named-requires c κs =
 returns-2 : tie.Need-returns-2 invariant-loop decreases-loop
 returns-2 c =
     let a = c.before.before.before.before.before.before.before.before.before.args in
-    passing_here (member_named (part a.s.now a.at a.n)) a.from a.end c.before.before.before.before.before.before.loop.i c.before.before.before.before.before.before.loop.m (members_in a.t.now a.from a.end) (members_in a.t.now c.before.before.before.before.before.before.loop.i a.end) c.before.before.before.before.before.before.loop.invariant _ _ _ _ (found (c.before.before.before)) (sym c.before.is-member-named.ensures ∙ c.if1.true)
-
-add-m : tie.Need-overflow-add-m invariant-loop decreases-loop
-add-m c = omega (arith, c.before.before.before.before.before.before.loop.invariant.few, c.before.before.before.before.before.before.loop.invariant.sought.within, c.before.before.before.before.before.before.before.before.before.requires.0.within, c.before.before.before.before.before.before.before.before.before.requires.0.most)
+    find_found (member_named (part a.s.now a.at a.n)) a.from a.end c.before.before.before.before.before.before.loop.i (members_in a.t.now a.from a.end) (members_in a.t.now c.before.before.before.before.before.before.loop.i a.end) c.before.before.before.before.before.before.loop.invariant _ _ _ _ (found (c.before.before.before)) (sym c.before.is-member-named.ensures ∙ c.if1.true)
 
 loop-less : tie.Need-loop-smaller invariant-loop decreases-loop
 loop-less c =
@@ -55,7 +53,7 @@ loop-less c =
 loop-again : tie.Need-loop-preserved invariant-loop decreases-loop
 loop-again c =
     let a = c.before.before.before.before.before.before.before.before.before.args in
-    passing_on (member_named (part a.s.now a.at a.n)) a.from a.end c.before.before.before.before.before.before.loop.i c.before.before.before.before.before.before.loop.m (members_in a.t.now a.from a.end) (members_in a.t.now c.before.before.before.before.before.before.loop.i a.end) c.before.before.before.before.before.before.loop.invariant _ _ _ _ (found (c.before.before.before)) (sym c.before.is-member-named.ensures ∙ c.if1.false)
+    find_more (member_named (part a.s.now a.at a.n)) a.from a.end c.before.before.before.before.before.before.loop.i (members_in a.t.now a.from a.end) (members_in a.t.now c.before.before.before.before.before.before.loop.i a.end) c.before.before.before.before.before.before.loop.invariant _ _ _ _ (found (c.before.before.before)) (sym c.before.is-member-named.ensures ∙ c.if1.false)
 
 pub find-member-spec : {M : Type 1} → statement M
 find-member-spec =
@@ -70,6 +68,5 @@ find-member-spec =
     returns
     is-member-named-requires
     returns-2
-    add-m
     loop-less
     loop-again)

@@ -1,8 +1,8 @@
 use Rattle.table_types.proofs.SlimLaws.{all_found}
 use Rattle.table_types.specs.Sizes.{slim_argument}
 use Rattle.table_rules_13_15.specs.Asked.{failing}
-use Rattle.table_members.specs.declared.NamedFound.TheVariants.{Found, Nothing}
-use Rattle.table_members.specs.Members.{arguments_in, argument_from, Finds, NumberedArgument}
+use Rattle.table_members.specs.declared.FieldFound.TheVariants.{Found, Nothing}
+use Rattle.table_members.specs.Members.{arguments_in, argument_from, Finds, FindArgument}
 use Rattle.paper_table.specs.Types.{argument_named}
 use Rattle.paper_table.specs.Lists.{find}
 use native.Mathlib.Omega.{arith}
@@ -14,19 +14,19 @@ use Rattle.table_rules_13_15.proofs.is_wrong.Tie as tie
 
 -- the name sought is the argument's
 found : (c : tie.After-own)
-    → let a = c.before.before.before.before.before.args in Finds a.from a.stop c.own.given.0.1.1.0 c.own.given.0.1.1.1.0 (find (argument_named (argument_from a.t.now a.start a.end).name) (arguments_in a.t.now a.from a.stop)) (argument_from a.t.now c.own.given.0.1.1.0 c.own.given.0.1.1.1.0)
+    → let a = c.before.before.before.before.before.args in Finds a.from a.stop c.own.given.0.1.0 c.own.given.0.1.1.0 (find (argument_named (argument_from a.t.now a.start a.end).name) (arguments_in a.t.now a.from a.stop)) (argument_from a.t.now c.own.given.0.1.0 c.own.given.0.1.1.0)
 found c =
     let a = c.before.before.before.before.before.args in
-    let f : NumberedArgument a.t.now a.from a.stop (argument_from a.t.now a.start a.end).name (Found c.own.given.0.0 c.own.given.0.1.0 c.own.given.0.1.1.0 c.own.given.0.1.1.1.0) =
-    subst (NumberedArgument a.t.now a.from a.stop (argument_from a.t.now a.start a.end).name) c.own.given.1 (rw (← c.before.before.before.name_in.ensures.is) c.before.before.find-argument.ensures) in
-    f.finds
+    let f : FindArgument a.t.now a.from a.stop (argument_from a.t.now a.start a.end).name (Found c.own.given.0.0 c.own.given.0.1.0 c.own.given.0.1.1.0) =
+    subst (FindArgument a.t.now a.from a.stop (argument_from a.t.now a.start a.end).name) c.own.given.1 (rw (← c.before.before.before.name_in.ensures.is) c.before.before.find-argument.ensures) in
+    f
 
 returns : tie.Need-returns
 returns c =
     let a = c.before.before.before.before.before.before.args in
     let x = argument_from a.t.now a.start a.end in
-    let f : NumberedArgument a.t.now a.from a.stop x.name Nothing =
-    subst (NumberedArgument a.t.now a.from a.stop x.name) c.before.enum_told.given.1 (rw (← c.before.before.before.before.name_in.ensures.is) c.before.before.before.find-argument.ensures) in
+    let f : FindArgument a.t.now a.from a.stop x.name Nothing =
+    subst (FindArgument a.t.now a.from a.stop x.name) c.before.enum_told.given.1 (rw (← c.before.before.before.before.name_in.ensures.is) c.before.before.before.find-argument.ensures) in
     c.is-alone-wrong.ensures ∙ ap (failing a.rule x) (sym f)
 
 is-beside-wrong-requires : tie.Need-is-beside-wrong-requires

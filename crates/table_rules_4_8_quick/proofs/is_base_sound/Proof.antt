@@ -1,7 +1,7 @@
 -- By the member's tag.
 use borrow.Author.Rules.{rules}
 use mathlib.Core.Bool.{false≢true}
-use Rattle.table_rules_4_8_quick.proofs.SoundLaws.{base_field, base_input, base_other, input_tag_is}
+use Rattle.table_rules_4_8_quick.proofs.SoundLaws.{base_field, base_input, base_other}
 use Rattle.table_rules_4_8_quick.proofs.is_base_sound.Statement.{statement}
 use Rattle.table_rules_4_8_quick.proofs.is_base_sound.Tie as tie
 
@@ -16,7 +16,7 @@ returns-2 c =
 returns-3 : tie.Need-returns-3
 returns-3 c =
     let a = c.before.before.before.before.before.before.args in
-    λ z. base_input a.t.now a.tag a.start a.end _ c.before.base-tag2.ensures c.before.before.before.if1.false c.before.before.if3.true (input_tag_is _ c.is-input.ensures z)
+    λ z. base_input a.t.now a.tag a.start a.end _ c.before.base-tag2.ensures c.before.before.before.if1.false c.before.before.if3.true (c.is-input.ensures z)
 
 returns-4 : tie.Need-returns-4
 returns-4 c =

@@ -6,7 +6,6 @@ use borrow.Author.Rules.{rules}
 use lib.ListN.{length}
 use Rattle.paper.specs.Language.{at_sign}
 use Rattle.text_scan.specs.Head.{kind_of}
-use Rattle.text_cursor.proofs.ReaderLaws.{said_done, said_refused}
 use Rattle.text_arguments.specs.Arguments.{directives_stack}
 use Rattle.text_arguments.specs.Passed.{Passed, shut}
 use Rattle.text_arguments.proofs.DirectivesLaws.{some_more, turn_first, turn_ready, turn_ends, turn_stops, turn_read, turn_more}
@@ -20,56 +19,28 @@ abbrev decreases-loop : tie.decreases-loop
 decreases-loop s rows₀ parent left d₀ rows d = length s - d.stop
 
 loop-holds : tie.Need-loop-init invariant-loop decreases-loop
-loop-holds c =
-    let start = c.before.before in
-    (turn_first _ _ _ _ _ start.requires.0, start.requires.1)
+loop-holds c = (turn_first _ _ _ _ _ c.before.before.requires.0, c.before.before.requires.1)
 
 directive-requires : tie.Need-directive-requires invariant-loop decreases-loop
-directive-requires c κs =
-    let at-loop = c.before in
-    let start = at-loop.before.before.before in
-    (turn_ready _ _ _ _ _ _ _ at-loop.loop.invariant.0 start.requires.0.short start.requires.0.below, at-loop.loop.invariant.1)
+directive-requires c κs = (turn_ready _ _ _ _ _ _ _ c.before.loop.invariant.0 c.before.before.before.before.requires.0.short c.before.before.before.before.requires.0.below, c.before.loop.invariant.1)
 
 same_length : tie.Need-same-length invariant-loop decreases-loop
-same_length c =
-    let at-directive = c.before.before.before.before in
-    let at-loop = at-directive.before.before in
-    let start = at-loop.before.before.before in
-    at-directive.directive.auto.1.0 ∙ at-loop.loop.invariant.0.size ∙ sym start.requires.0.size
+same_length c = c.before.before.before.before.directive.auto.1.0 ∙ c.before.before.before.before.before.before.loop.invariant.0.size ∙ sym c.before.before.before.before.before.before.before.before.before.requires.0.size
 
 returns : tie.Need-returns invariant-loop decreases-loop
-returns c =
-    let at-directive = c.before.before.before.before in
-    let at-loop = at-directive.before.before in
-    rw (said_refused at-directive.directive.result c.if1.true) (turn_stops _ _ _ _ _ _ _ at-loop.loop.invariant.0 at-loop.loop.invariant.1 _ _ at-directive.directive.ensures _ (said_refused _ c.if1.true))
+returns c = rw c.enum_told.given.1 (turn_stops _ _ _ _ _ _ _ c.before.before.before.before.before.before.loop.invariant.0 c.before.before.before.before.before.before.loop.invariant.1 _ _ c.before.before.before.before.directive.ensures _ c.enum_told.given.1)
 
 same-length-2 : tie.Need-same-length-2 invariant-loop decreases-loop
-same-length-2 c =
-    let at-directive = c.before.before.before.before.before.before in
-    let at-loop = at-directive.before.before in
-    let start = at-loop.before.before.before in
-    at-directive.directive.auto.1.0 ∙ at-loop.loop.invariant.0.size ∙ sym start.requires.0.size
+same-length-2 c = c.before.before.before.before.before.before.before.directive.auto.1.0 ∙ c.before.before.before.before.before.before.before.before.before.loop.invariant.0.size ∙ sym c.before.before.before.before.before.before.before.before.before.before.before.before.requires.0.size
 
 returns-2 : tie.Need-returns-2 invariant-loop decreases-loop
-returns-2 c =
-    let at-else1 = c.before.before in
-    let at-directive = at-else1.before.before.before.before in
-    let at-loop = at-directive.before.before in
-    rw (said_done at-directive.directive.result at-else1.if1.false) (turn_ends _ _ _ _ _ _ _ (turn_more _ _ _ _ _ _ _ at-loop.loop.invariant.0 at-loop.loop.invariant.1 _ _ at-directive.directive.ensures _ (said_done _ at-else1.if1.false)) c.if2.true)
+returns-2 c = turn_ends _ _ _ _ _ _ _ (turn_more _ _ _ _ _ _ _ c.before.before.before.before.before.before.before.before.before.loop.invariant.0 c.before.before.before.before.before.before.before.before.before.loop.invariant.1 _ _ c.before.before.before.before.before.before.before.directive.ensures _ c.before.before.before.r.given.1) c.if1.true
 
 loop-less : tie.Need-loop-smaller invariant-loop decreases-loop
-loop-less c =
-    let at-else1 = c.before.before in
-    let at-directive = at-else1.before.before.before.before in
-    let at-loop = at-directive.before.before in
-    let v = turn_read _ _ _ _ _ _ _ at-loop.loop.invariant.0 at-loop.loop.invariant.1 _ _ at-directive.directive.ensures _ (said_done _ at-else1.if1.false) in omega (arith, v.on, v.within)
+loop-less c = let v = turn_read _ _ _ _ _ _ _ c.before.before.before.before.before.before.before.before.before.loop.invariant.0 c.before.before.before.before.before.before.before.before.before.loop.invariant.1 _ _ c.before.before.before.before.before.before.before.directive.ensures _ c.before.before.before.r.given.1 in omega (arith, v.on, v.within)
 
 loop-again : tie.Need-loop-preserved invariant-loop decreases-loop
-loop-again c =
-    let at-else1 = c.before.before in
-    let at-directive = at-else1.before.before.before.before in
-    let at-loop = at-directive.before.before in
-    (turn_more _ _ _ _ _ _ _ at-loop.loop.invariant.0 at-loop.loop.invariant.1 _ _ at-directive.directive.ensures _ (said_done _ at-else1.if1.false), c.if2.false)
+loop-again c = (turn_more _ _ _ _ _ _ _ c.before.before.before.before.before.before.before.before.before.loop.invariant.0 c.before.before.before.before.before.before.before.before.before.loop.invariant.1 _ _ c.before.before.before.before.before.before.before.directive.ensures _ c.before.before.before.r.given.1, c.if1.false)
 
 pub directives-spec : {M : Type 1} → statement M
 directives-spec =
@@ -79,6 +50,8 @@ directives-spec =
     decreases-loop
     loop-holds
     directive-requires
+    (λ c. search rules)
+    (λ c. search rules)
     same_length
     returns
     same-length-2

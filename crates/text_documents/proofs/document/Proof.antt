@@ -2,13 +2,11 @@
 use Prim.Native.Nat.{◌-◌}
 use mathlib.Core.Path.{sym, ◌∙◌}
 use native.Mathlib.Omega.{arith}
+use borrow.Author.Rules.{rules}
 use lib.ListN.{length}
-use Rattle.text_cursor.specs.Reader.{said}
-use Rattle.text_cursor.proofs.ReaderLaws.{said_done, said_refused}
 use Rattle.text_references.proofs.MovedLaws.{end_within}
 use Rattle.text_variables.proofs.CountedLaws.{counted_went}
 use Rattle.text_documents.proofs.DocumentLaws.{Defined, begin_halts, defined_none, defined_ready, defined_stop, defined_all, defined_more}
-use borrow.Author.Rules.{rules}
 use Rattle.text_documents.proofs.document.Statement.{statement}
 use Rattle.text_documents.proofs.document.Tie as tie
 
@@ -22,83 +20,34 @@ begin-requires : tie.Need-begin-requires invariant-loop decreases-loop
 begin-requires c κs = c.before.before.requires.0
 
 returns : tie.Need-returns invariant-loop decreases-loop
-returns c =
-    let at-then1 = c.before in
-    let at-begin = at-then1.before.before in
-    rw c.read.ensures (begin_halts _ _ _ _ (said at-begin.begin.result) at-begin.begin.ensures _ (said_refused _ at-then1.if1.true))
+returns c = begin_halts _ _ _ _ c.before.before.begin.result c.before.before.begin.ensures _ c.enum_told.given.1
 
 loop-holds : tie.Need-loop-init invariant-loop decreases-loop
-loop-holds c =
-    let at-begin = c.before.before in
-    let start = at-begin.before.before.before in
-    defined_none _ _ start.requires.0 start.requires.1 (said at-begin.begin.result) at-begin.begin.ensures _ (said_done _ c.if1.false)
+loop-holds c = defined_none _ _ c.before.before.before.before.before.before.requires.0 c.before.before.before.before.before.before.requires.1 c.before.before.before.begin.result c.before.before.before.begin.ensures _ c.before.r.given.1
 
 definition-requires : tie.Need-definition-requires invariant-loop decreases-loop
-definition-requires c κs =
-    let at-loop = c.before in
-    let at-else1 = at-loop.before in
-    let at-begin = at-else1.before.before in
-    let start = at-begin.before.before.before in
-    defined_ready _ _ start.requires.0 start.requires.1 (said at-begin.begin.result) at-begin.begin.ensures _ (said_done _ at-else1.if1.false) _ _ _ at-loop.loop.invariant
+definition-requires c κs = defined_ready _ _ c.before.before.before.before.before.before.before.before.requires.0 c.before.before.before.before.before.before.before.before.requires.1 c.before.before.before.before.before.begin.result c.before.before.before.before.before.begin.ensures _ c.before.before.before.r.given.1 _ _ _ c.before.loop.invariant
 
 same_length : tie.Need-same-length invariant-loop decreases-loop
-same_length c =
-    let at-definition = c.before.before.before.before.before in
-    let at-loop = at-definition.before.before in
-    let start = at-loop.before.before.before.before.before.before in
-    at-definition.definition.auto.1.0 ∙ at-loop.loop.invariant.size ∙ sym start.requires.1
+same_length c = c.before.before.before.before.definition.auto.1.0 ∙ c.before.before.before.before.before.before.loop.invariant.size ∙ sym c.before.before.before.before.before.before.before.before.before.before.before.before.before.requires.1
 
 returns-2 : tie.Need-returns-2 invariant-loop decreases-loop
-returns-2 c =
-    let at-then2 = c.before in
-    let at-definition = at-then2.before.before.before.before in
-    let at-loop = at-definition.before.before in
-    let at-else1 = at-loop.before in
-    let at-begin = at-else1.before.before in
-    let start = at-begin.before.before.before in
-    rw c.read2.ensures (defined_stop _ _ start.requires.0 start.requires.1 (said at-begin.begin.result) at-begin.begin.ensures _ (said_done _ at-else1.if1.false) _ _ _ at-loop.loop.invariant _ _ (said at-definition.definition.result) at-definition.definition.ensures _ (said_refused _ at-then2.if2.true))
+returns-2 c = defined_stop _ _ c.before.before.before.before.before.before.before.before.before.before.before.before.before.requires.0 c.before.before.before.before.before.before.before.before.before.before.before.before.before.requires.1 c.before.before.before.before.before.before.before.before.before.before.begin.result c.before.before.before.before.before.before.before.before.before.before.begin.ensures _ c.before.before.before.before.before.before.before.before.r.given.1 _ _ _ c.before.before.before.before.before.before.loop.invariant _ _ c.before.before.before.before.definition.result c.before.before.before.before.definition.ensures _ c.enum-told2.given.1
 
 same-length-2 : tie.Need-same-length-2 invariant-loop decreases-loop
-same-length-2 c =
-    let at-definition = c.before.before.before.before.before.before.before in
-    let at-loop = at-definition.before.before in
-    let start = at-loop.before.before.before.before.before.before in
-    at-definition.definition.auto.1.0 ∙ at-loop.loop.invariant.size ∙ sym start.requires.1
+same-length-2 c = c.before.before.before.before.before.before.before.definition.auto.1.0 ∙ c.before.before.before.before.before.before.before.before.before.loop.invariant.size ∙ sym c.before.before.before.before.before.before.before.before.before.before.before.before.before.before.before.before.requires.1
 
 returns-3 : tie.Need-returns-3 invariant-loop decreases-loop
-returns-3 c =
-    let at-then3 = c.before in
-    let at-else2 = at-then3.before.before in
-    let at-definition = at-else2.before.before.before.before in
-    let at-loop = at-definition.before.before in
-    let at-else1 = at-loop.before in
-    let at-begin = at-else1.before.before in
-    let start = at-begin.before.before.before in
-    rw (c.read3.ensures, said_done at-definition.definition.result at-else2.if2.false) (defined_all _ _ start.requires.0 start.requires.1 (said at-begin.begin.result) at-begin.begin.ensures _ (said_done _ at-else1.if1.false) _ _ _ at-loop.loop.invariant _ _ (counted_went _ _ _ _ _ _ _ _ (said at-definition.definition.result) _ _ _ at-definition.definition.ensures _ (said_done _ at-else2.if2.false)) at-then3.if3.true)
+returns-3 c = defined_all _ _ c.before.before.before.before.before.before.before.before.before.before.before.before.before.before.before.before.requires.0 c.before.before.before.before.before.before.before.before.before.before.before.before.before.before.before.before.requires.1 c.before.before.before.before.before.before.before.before.before.before.before.before.before.begin.result c.before.before.before.before.before.before.before.before.before.before.before.before.before.begin.ensures _ c.before.before.before.before.before.before.before.before.before.before.before.r.given.1 _ _ _ c.before.before.before.before.before.before.before.before.before.loop.invariant _ _ (counted_went _ _ _ _ _ _ _ _ c.before.before.before.before.before.before.before.definition.result _ _ _ c.before.before.before.before.before.before.before.definition.ensures _ c.before.before.before.t.given.1) c.if1.true
 
 fragments-after-requires : tie.Need-fragments-after-requires invariant-loop decreases-loop
-fragments-after-requires c κs =
-    let at-loop = c.before.before.before.before.before.before.before.before in
-    let start = at-loop.before.before.before.before.before.before in
-    let g = end_within _ at-loop.loop.c at-loop.loop.invariant.within at-loop.loop.invariant.looks in
-    (g.0, g.1, omega (arith, at-loop.loop.invariant.on, at-loop.loop.invariant.within, start.requires.0))
+fragments-after-requires c κs = let g = end_within _ c.before.before.before.before.before.before.before.before.before.loop.c c.before.before.before.before.before.before.before.before.before.loop.invariant.within c.before.before.before.before.before.before.before.before.before.loop.invariant.looks in (g.0, g.1, omega (arith, c.before.before.before.before.before.before.before.before.before.loop.invariant.on, c.before.before.before.before.before.before.before.before.before.loop.invariant.within, c.before.before.before.before.before.before.before.before.before.before.before.before.before.before.before.before.requires.0))
 
 loop-less : tie.Need-loop-smaller invariant-loop decreases-loop
-loop-less c =
-    let at-else2 = c.before.before.before in
-    let at-definition = at-else2.before.before.before.before in
-    omega (arith, counted_went _ _ _ _ _ _ _ _ (said at-definition.definition.result) _ _ _ at-definition.definition.ensures _ (said_done _ at-else2.if2.false))
+loop-less c = omega (arith, counted_went _ _ _ _ _ _ _ _ c.before.before.before.before.before.before.before.before.definition.result _ _ _ c.before.before.before.before.before.before.before.before.definition.ensures _ c.before.before.before.before.t.given.1)
 
 loop-again : tie.Need-loop-preserved invariant-loop decreases-loop
-loop-again c =
-    let at-else3 = c.before in
-    let at-else2 = at-else3.before.before in
-    let at-definition = at-else2.before.before.before.before in
-    let at-loop = at-definition.before.before in
-    let at-else1 = at-loop.before in
-    let at-begin = at-else1.before.before in
-    let start = at-begin.before.before.before in
-    defined_more _ _ start.requires.0 start.requires.1 (said at-begin.begin.result) at-begin.begin.ensures _ (said_done _ at-else1.if1.false) _ _ _ at-loop.loop.invariant _ _ (counted_went _ _ _ _ _ _ _ _ (said at-definition.definition.result) _ _ _ at-definition.definition.ensures _ (said_done _ at-else2.if2.false)) at-else3.if3.false _ c.fragments-after.ensures
+loop-again c = defined_more _ _ c.before.before.before.before.before.before.before.before.before.before.before.before.before.before.before.before.before.requires.0 c.before.before.before.before.before.before.before.before.before.before.before.before.before.before.before.before.before.requires.1 c.before.before.before.before.before.before.before.before.before.before.before.before.before.before.begin.result c.before.before.before.before.before.before.before.before.before.before.before.before.before.before.begin.ensures _ c.before.before.before.before.before.before.before.before.before.before.before.before.r.given.1 _ _ _ c.before.before.before.before.before.before.before.before.before.before.loop.invariant _ _ (counted_went _ _ _ _ _ _ _ _ c.before.before.before.before.before.before.before.before.definition.result _ _ _ c.before.before.before.before.before.before.before.before.definition.ensures _ c.before.before.before.before.t.given.1) c.before.if1.false _ c.fragments-after.ensures
 
 pub document-spec : {M : Type 1} → statement M
 document-spec =
@@ -107,14 +56,15 @@ document-spec =
     invariant-loop
     decreases-loop
     begin-requires
-    (λ c κs. search rules)
+    (λ c. search rules)
+    (λ c. search rules)
     returns
     loop-holds
     definition-requires
-    (λ c κs. search rules)
+    (λ c. search rules)
+    (λ c. search rules)
     same_length
     returns-2
-    (λ c κs. search rules)
     same-length-2
     returns-3
     fragments-after-requires

@@ -1,4 +1,5 @@
 -- enter: what it writes and answers is put_row and past.
+use mathlib.Core.Path.{refl}
 use native.Mathlib.Omega.{arith}
 use Rattle.text_leaves.specs.Marks.{deep, crowded, entered}
 use Rattle.text_leaves.proofs.MovedLaws.{ready_lies}
@@ -7,13 +8,12 @@ use Rattle.text_leaves.proofs.enter.Statement.{statement}
 use Rattle.text_leaves.proofs.enter.Tie as tie
 
 returns : tie.Need-returns
-returns c = deep (omega (arith, c.before.if1.true)) c.too_deep.ensures
+returns c = deep (omega (arith, c.if1.true)) refl
 
 returns-2 : tie.Need-returns-2
 returns-2 c =
-    let at-then2 = c.before in
-    let at-else1 = at-then2.before in
-    crowded (omega (arith, at-else1.if1.false)) (omega (arith, at-then2.if2.true)) c.too_many_rows.ensures
+    let at-else1 = c.before in
+    crowded (omega (arith, at-else1.if1.false)) (omega (arith, c.if2.true)) refl
 
 past-requires : tie.Need-past-requires
 past-requires c κs =
@@ -31,13 +31,4 @@ returns-3 c =
 pub enter_spec : {M : Type 1} → statement M
 enter_spec =
     tie.close
-    (tie.spec
-    (λ c κs. search rules)
-    returns
-    (λ c κs. search rules)
-    returns-2
-    (λ c κs. search rules)
-    (λ c. search rules)
-    past-requires
-    (λ c. search rules)
-    returns-3)
+    (tie.spec returns returns-2 (λ c κs. search rules) (λ c. search rules) past-requires (λ c. search rules) returns-3)

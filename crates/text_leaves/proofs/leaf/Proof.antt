@@ -1,4 +1,5 @@
 -- leaf: what it writes and answers is put_row and past.
+use mathlib.Core.Path.{refl}
 use native.Mathlib.Omega.{arith}
 use Rattle.text_leaves.specs.Marks.{full, wrote}
 use Rattle.text_leaves.proofs.MovedLaws.{ready_lies}
@@ -7,7 +8,7 @@ use Rattle.text_leaves.proofs.leaf.Statement.{statement}
 use Rattle.text_leaves.proofs.leaf.Tie as tie
 
 returns : tie.Need-returns
-returns c = full (omega (arith, c.before.if1.true)) c.too_many_rows.ensures
+returns c = full (omega (arith, c.if1.true)) refl
 
 past-requires : tie.Need-past-requires
 past-requires c κs =
@@ -23,4 +24,4 @@ returns-2 c =
 
 pub leaf-spec : {M : Type 1} → statement M
 leaf-spec =
-    tie.close (tie.spec (λ c κs. search rules) returns (λ c κs. search rules) (λ c. search rules) past-requires (λ c. search rules) returns-2)
+    tie.close (tie.spec returns (λ c κs. search rules) (λ c. search rules) past-requires (λ c. search rules) returns-2)

@@ -5,8 +5,6 @@ use Prim.Native.Nat.{ℕ, ◌+◌, ◌-◌, ◌*◌, ◌<◌}
 use native.Mathlib.Omega.{arith}
 use borrow.Author.Rules.{rules}
 use lib.ListN.{length}
-use Rattle.text_cursor.specs.Reader.{said}
-use Rattle.text_cursor.proofs.ReaderLaws.{said_done, said_refused}
 use Rattle.text_arguments.specs.Passed.{Passed, shut}
 use Rattle.text_arguments.proofs.Onward.{ready_past, went_past, joined, unmoved}
 use Rattle.text_selections.specs.Selections.{selection_set_stack}
@@ -33,8 +31,6 @@ use Rattle.text_selections.proofs.+body_field_selection_selection_set_spread.Lts
 use Rattle.text_cursor.proofs.Cursor.past.Reads as past-reads
 use Rattle.text_cursor.proofs.no_going.Reads as no-going-reads
 use Rattle.text_cursor.proofs.put_end.Reads as put-end-reads
-use Rattle.text_cursor.proofs.too_deep.Reads as too-deep-reads
-use Rattle.text_cursor.proofs.too_many_rows.Reads as too-many-rows-reads
 use Rattle.text_selections.proofs.field_head.Reads as field-head-reads
 use Rattle.text_selections.proofs.inline_head.Reads as inline-head-reads
 use Rattle.text_selections.proofs.named_spread.Reads as named-spread-reads
@@ -104,115 +100,79 @@ abbrev selection-calls : ℕ → selection-lts.Claims
 selection-calls t = (field_below t, field.Post, spread-below t, spread.Post, no-going-reads.Asked, no-going-reads.Learnt)
 
 abbrev selection-set-calls : ℕ → selection-set-lts.Claims
-selection-set-calls t = (no-going-reads.Asked, no-going-reads.Learnt, too-deep-reads.Asked, too-deep-reads.Learnt, past-reads.Asked, past-reads.Learnt, selection-below t, selection.Post)
+selection-set-calls t = (no-going-reads.Asked, no-going-reads.Learnt, past-reads.Asked, past-reads.Learnt, selection-below t, selection.Post)
 
 abbrev spread-calls : ℕ → spread-lts.Claims
-spread-calls t = (too-many-rows-reads.Asked, too-many-rows-reads.Learnt, past-reads.Asked, past-reads.Learnt, names-fragment-reads.Asked, names-fragment-reads.Learnt, named-spread-reads.Asked, named-spread-reads.Learnt, inline-head-reads.Asked, inline-head-reads.Learnt, body_below t, body.Post)
+spread-calls t = (past-reads.Asked, past-reads.Learnt, names-fragment-reads.Asked, names-fragment-reads.Learnt, named-spread-reads.Asked, named-spread-reads.Learnt, inline-head-reads.Asked, inline-head-reads.Learnt, body_below t, body.Post)
 
 body-selection-set-requires : (t : ℕ) → body-lts.Need-selection-set-requires (body-calls t) (body_at t) body.Post
 body-selection-set-requires t c κs = (omega (arith, c.before.before.before.requires.0), c.before.before.before.requires.1.0)
+
+body-enum-known-r : (t : ℕ) → body-lts.Need-enum-known-r (body-calls t) (body_at t) body.Post
+body-enum-known-r t c = search rules
+
+body-enum-told : (t : ℕ) → body-lts.Need-enum-told (body-calls t) (body_at t) body.Post
+body-enum-told t c = search rules
 
 body-same-length : (t : ℕ) → body-lts.Need-same-length (body-calls t) (body_at t) body.Post
 body-same-length t c = c.before.before.before.before.selection-set.auto.1.0
 
 body-returns : (t : ℕ) → body-lts.Need-returns (body-calls t) (body_at t) body.Post
-body-returns t c =
-    let at-selection-set = c.before.before.before.before in
-    rw (said_refused at-selection-set.selection-set.result c.if1.true) (body_stops _ _ _ _ _ _ _ at-selection-set.selection-set.ensures _ (said_refused _ c.if1.true))
+body-returns t c = rw c.enum_told.given.1 (body_stops _ _ _ _ _ _ _ c.before.before.before.before.selection-set.ensures _ c.enum_told.given.1)
 
 body-put-end-requires : (t : ℕ) → body-lts.Need-put-end-requires (body-calls t) (body_at t) body.Post
-body-put-end-requires t c κs =
-    let at-else1 = c.before in
-    let at-selection-set = at-else1.before.before.before.before in
-    let start = at-selection-set.before.before.before.before in
-    (start.requires.1.1, (body_read _ _ _ _ _ _ _ at-selection-set.selection-set.ensures _ (said_done _ at-else1.if1.false)).size)
+body-put-end-requires t c κs = (c.before.before.before.before.before.before.before.before.before.before.requires.1.1, (body_read _ _ _ _ _ _ _ c.before.before.before.before.before.before.selection-set.ensures _ c.before.before.r.given.1).size)
 
 body-same-length-2 : (t : ℕ) → body-lts.Need-same-length-2 (body-calls t) (body_at t) body.Post
-body-same-length-2 t c =
-    let at-put-end = c.before.before in
-    let at-selection-set = at-put-end.before.before.before.before.before.before in
-    at-put-end.put-end.auto.0 ∙ at-selection-set.selection-set.auto.1.0
+body-same-length-2 t c = c.before.before.put-end.auto.0 ∙ c.before.before.before.before.before.before.before.before.before.selection-set.auto.1.0
 
 body-returns-2 : (t : ℕ) → body-lts.Need-returns-2 (body-calls t) (body_at t) body.Post
-body-returns-2 t c =
-    let at-put-end = c.before.before in
-    let at-else1 = at-put-end.before.before in
-    let at-selection-set = at-else1.before.before.before.before in
-    rw (said_done at-selection-set.selection-set.result at-else1.if1.false) (body_ends _ _ _ _ _ _ _ at-selection-set.selection-set.ensures _ (said_done _ at-else1.if1.false) _ at-put-end.put-end.ensures)
+body-returns-2 t c = body_ends _ _ _ _ _ _ _ c.before.before.before.before.before.before.before.before.before.selection-set.ensures _ c.before.before.before.before.before.r.given.1 _ c.before.before.put-end.ensures
 
 field-field-head-requires : (t : ℕ) → field-lts.Need-field-head-requires (field-calls t) (field_at t) field.Post
 field-field-head-requires t c κs = c.before.before.before.requires.1
+
+field-enum-known-r : (t : ℕ) → field-lts.Need-enum-known-r (field-calls t) (field_at t) field.Post
+field-enum-known-r t c = search rules
+
+field-enum-told : (t : ℕ) → field-lts.Need-enum-told (field-calls t) (field_at t) field.Post
+field-enum-told t c = search rules
 
 field-same-length : (t : ℕ) → field-lts.Need-same-length (field-calls t) (field_at t) field.Post
 field-same-length t c = c.before.before.before.before.field-head.auto.1.0
 
 field-returns : (t : ℕ) → field-lts.Need-returns (field-calls t) (field_at t) field.Post
-field-returns t c =
-    let at-field-head = c.before.before.before.before in
-    rw (said_refused at-field-head.field-head.result c.if1.true) (field_stops _ _ _ _ _ _ _ at-field-head.field-head.ensures _ (said_refused _ c.if1.true))
+field-returns t c = rw c.enum_told.given.1 (field_stops _ _ _ _ _ _ _ c.before.before.before.before.field-head.ensures _ c.enum_told.given.1)
 
 field-body-requires : (t : ℕ) → field-lts.Need-body-requires (field-calls t) (field_at t) field.Post
-field-body-requires t c κs =
-    let at-else1 = c.before.before.before in
-    let at-field-head = at-else1.before.before.before.before in
-    let start = at-field-head.before.before.before.before in
-    (omega (arith, start.requires.0), (field_ready _ _ _ _ _ _ _ at-field-head.field-head.ensures _ (said_done _ at-else1.if1.false) start.requires.1.0.short, (field_read _ _ _ _ _ _ _ at-field-head.field-head.ensures _ (said_done _ at-else1.if1.false)).0))
+field-body-requires t c κs = (omega (arith, c.before.before.before.before.before.before.before.before.before.before.before.before.requires.0), (field_ready _ _ _ _ _ _ _ c.before.before.before.before.before.before.before.before.field-head.ensures _ c.before.before.before.before.r.given.1 c.before.before.before.before.before.before.before.before.before.before.before.before.requires.1.0.short, (field_read _ _ _ _ _ _ _ c.before.before.before.before.before.before.before.before.field-head.ensures _ c.before.before.before.before.r.given.1).0))
 
 field-same-length-2 : (t : ℕ) → field-lts.Need-same-length-2 (field-calls t) (field_at t) field.Post
-field-same-length-2 t c =
-    let at_body = c.before.before in
-    let at-field-head = at_body.before.before.before.before.before.before.before.before in
-    at_body.body.auto.1.0 ∙ at-field-head.field-head.auto.1.0
+field-same-length-2 t c = c.before.before.body.auto.1.0 ∙ c.before.before.before.before.before.before.before.before.before.before.before.field-head.auto.1.0
 
 field-returns-2 : (t : ℕ) → field-lts.Need-returns-2 (field-calls t) (field_at t) field.Post
-field-returns-2 t c =
-    let at_body = c.before.before in
-    let at-then2 = at_body.before.before in
-    let at-else1 = at-then2.before.before in
-    let at-field-head = at-else1.before.before.before.before in
-    field_set _ _ _ _ _ _ _ at-field-head.field-head.ensures _ (said_done _ at-else1.if1.false) at-then2.if2.true _ (said at_body.body.result) at_body.body.ensures
+field-returns-2 t c = field_set _ _ _ _ _ _ _ c.before.before.before.before.before.before.before.before.before.before.before.field-head.ensures _ c.before.before.before.before.before.before.before.r.given.1 c.before.before.before.before.if1.true _ c.before.before.body.result c.before.before.body.ensures
 
 field-put-end-requires : (t : ℕ) → field-lts.Need-put-end-requires (field-calls t) (field_at t) field.Post
-field-put-end-requires t c κs =
-    let at-else1 = c.before.before.before in
-    let at-field-head = at-else1.before.before.before.before in
-    ((field_read _ _ _ _ _ _ _ at-field-head.field-head.ensures _ (said_done _ at-else1.if1.false)).0, (field_read _ _ _ _ _ _ _ at-field-head.field-head.ensures _ (said_done _ at-else1.if1.false)).1.size)
+field-put-end-requires t c κs = ((field_read _ _ _ _ _ _ _ c.before.before.before.before.before.before.before.before.field-head.ensures _ c.before.before.before.before.r.given.1).0, (field_read _ _ _ _ _ _ _ c.before.before.before.before.before.before.before.before.field-head.ensures _ c.before.before.before.before.r.given.1).1.size)
 
 field-same-length-3 : (t : ℕ) → field-lts.Need-same-length-3 (field-calls t) (field_at t) field.Post
-field-same-length-3 t c =
-    let at-put-end = c.before.before in
-    let at-field-head = at-put-end.before.before.before.before.before.before.before.before in
-    at-put-end.put-end.auto.0 ∙ at-field-head.field-head.auto.1.0
+field-same-length-3 t c = c.before.before.put-end.auto.0 ∙ c.before.before.before.before.before.before.before.before.before.before.before.field-head.auto.1.0
 
 field-returns-3 : (t : ℕ) → field-lts.Need-returns-3 (field-calls t) (field_at t) field.Post
-field-returns-3 t c =
-    let at-put-end = c.before.before in
-    let at-else2 = at-put-end.before.before in
-    let at-else1 = at-else2.before.before in
-    let at-field-head = at-else1.before.before.before.before in
-    rw (said_done at-field-head.field-head.result at-else1.if1.false) (field_ends _ _ _ _ _ _ _ at-field-head.field-head.ensures _ (said_done _ at-else1.if1.false) at-else2.if2.false _ at-put-end.put-end.ensures)
+field-returns-3 t c = field_ends _ _ _ _ _ _ _ c.before.before.before.before.before.before.before.before.before.before.before.field-head.ensures _ c.before.before.before.before.before.before.before.r.given.1 c.before.before.before.before.if1.false _ c.before.before.put-end.ensures
 
 selection-field-requires : (t : ℕ) → selection-lts.Need-field-requires (selection-calls t) (selection-at t) selection.Post
-selection-field-requires t c κs =
-    let at-then1 = c.before in
-    let start = at-then1.before.before.before.before in
-    (omega (arith, start.requires.0), (start.requires.1, at-then1.if1.true))
+selection-field-requires t c κs = (omega (arith, c.before.before.before.before.before.requires.0), (c.before.before.before.before.before.requires.1, c.before.if1.true))
 
 selection-same-length : (t : ℕ) → selection-lts.Need-same-length (selection-calls t) (selection-at t) selection.Post
 selection-same-length t c = c.before.before.field.auto.1.0
 
 selection-returns : (t : ℕ) → selection-lts.Need-returns (selection-calls t) (selection-at t) selection.Post
-selection-returns t c =
-    let at_field = c.before.before in
-    let at-then1 = at_field.before.before in
-    let start = at-then1.before.before.before.before in
-    field_selected _ _ _ _ _ start.args.left start.requires.1 at-then1.if1.true (said at_field.field.result) at_field.field.ensures
+selection-returns t c = field_selected _ _ _ _ _ c.before.before.before.before.before.before.before.before.args.left c.before.before.before.before.before.before.before.before.requires.1 c.before.before.before.before.if1.true c.before.before.field.result c.before.before.field.ensures
 
 selection-spread-requires : (t : ℕ) → selection-lts.Need-spread-requires (selection-calls t) (selection-at t) selection.Post
-selection-spread-requires t c κs =
-    let at-then2 = c.before in
-    let start = at-then2.before.before.before.before.before.before in
-    (omega (arith, start.requires.0), (start.requires.1, at-then2.if2.true))
+selection-spread-requires t c κs = (omega (arith, c.before.before.before.before.before.before.before.requires.0), (c.before.before.before.before.before.before.before.requires.1, c.before.if2.true))
 
 selection-same-length-2 : (t : ℕ) → selection-lts.Need-same-length-2 (selection-calls t) (selection-at t) selection.Post
 selection-same-length-2 t c = c.before.before.spread.auto.1.0
@@ -224,11 +184,7 @@ selection-no-going-requires : (t : ℕ) → selection-lts.Need-no-going-requires
 selection-no-going-requires t c κs = search rules
 
 selection-returns-3 : (t : ℕ) → selection-lts.Need-returns-3 (selection-calls t) (selection-at t) selection.Post
-selection-returns-3 t c =
-    let at-else2 = c.before in
-    let at-else1 = at-else2.before.before in
-    let start = at-else1.before.before.before.before in
-    rw c.no_going.ensures (selection_lacks _ _ _ _ _ start.requires.1 at-else1.if1.false at-else2.if2.false)
+selection-returns-3 t c = rw c.no_going.ensures (selection_lacks _ _ _ _ _ c.before.before.before.before.before.before.before.requires.1 c.before.before.before.if1.false c.before.if2.false)
 
 abbrev selection-set-Inv-loop : selection-set-lts.invariant-loop
 selection-set-Inv-loop s rows₀ parent left n d₀ rows d = Passed 0 s rows₀ rows d₀ d parent (left - 1) (left - 1) shut shut one_more one_more
@@ -236,50 +192,36 @@ selection-set-Inv-loop s rows₀ parent left n d₀ rows d = Passed 0 s rows₀ 
 abbrev selection-set-μ-loop : selection-set-lts.decreases-loop
 selection-set-μ-loop s rows₀ parent left n d₀ rows d = length s - d.stop
 
-begun : (t : ℕ) (c : selection-set-lts.Else3 (selection-set-calls t) (selection-set-at t) selection-set.Post selection-set-Inv-loop selection-set-μ-loop)
-    → Passed 1 c.before.before.before.before.before.before.before.before.args.s.now c.before.before.before.before.before.before.before.before.args.rows.now c.before.before.before.before.before.before.before.before.args.rows.now c.before.before.before.before.before.before.before.before.args.c c.before.before.past.result c.before.before.before.before.before.before.before.before.args.parent c.before.before.before.before.before.before.before.before.args.left (c.before.before.before.before.before.before.before.before.args.left - 1) shut shut selection_set_stack one_more
+begun : (t : ℕ) (c : selection-set-lts.After-known-told (selection-set-calls t) (selection-set-at t) selection-set.Post selection-set-Inv-loop selection-set-μ-loop)
+    → Passed 1 c.before.before.before.before.before.before.before.before.before.args.s.now c.before.before.before.before.before.before.before.before.before.args.rows.now c.before.before.before.before.before.before.before.before.before.args.rows.now c.before.before.before.before.before.before.before.before.before.args.c c.before.r.given.0.0 c.before.before.before.before.before.before.before.before.before.args.parent c.before.before.before.before.before.before.before.before.before.args.left (c.before.before.before.before.before.before.before.before.before.args.left - 1) shut shut selection_set_stack one_more
 begun t c =
-    let at-past = c.before.before in
-    let at-else2 = at-past.before in
-    let at-else1 = at-else2.before in
-    let start = at-else1.before.before.before.before in
-    turn_first _ _ _ _ _ start.requires.1 at-else1.if1.false at-else2.if2.false _ _ at-past.past.ensures (said_done _ c.if3.false)
+    turn_first _ _ _ _ _ c.before.before.before.before.before.before.before.before.before.requires.1 c.before.before.before.before.before.if1.false c.before.before.before.before.if2.false _ _ c.before.before.before.past.ensures c.before.r.given.1
 
 joint : (t : ℕ) (c : selection-set-lts.At-loop (selection-set-calls t) (selection-set-at t) selection-set.Post selection-set-Inv-loop selection-set-μ-loop)
-    → Passed 1 c.before.before.before.before.before.before.before.before.before.args.s.now c.before.before.before.before.before.before.before.before.before.args.rows.now c.loop.rows c.before.before.before.before.before.before.before.before.before.args.c c.loop.d c.before.before.before.before.before.before.before.before.before.args.parent c.before.before.before.before.before.before.before.before.before.args.left (c.before.before.before.before.before.before.before.before.before.args.left - 1) shut shut selection_set_stack one_more
+    → Passed 1 c.before.before.before.before.before.before.before.before.before.before.args.s.now c.before.before.before.before.before.before.before.before.before.before.args.rows.now c.loop.rows c.before.before.before.before.before.before.before.before.before.before.args.c c.loop.d c.before.before.before.before.before.before.before.before.before.before.args.parent c.before.before.before.before.before.before.before.before.before.before.args.left (c.before.before.before.before.before.before.before.before.before.before.args.left - 1) shut shut selection_set_stack one_more
 joint t c =
-    let at-else3 = c.before in
-    joined _ _ _ _ _ _ _ _ _ _ _ _ _ _ _ (begun t at-else3) c.loop.invariant
+    joined _ _ _ _ _ _ _ _ _ _ _ _ _ _ _ (begun t c.before) c.loop.invariant
 
 selection-set-no-going-requires : (t : ℕ) → selection-set-lts.Need-no-going-requires (selection-set-calls t) (selection-set-at t) selection-set.Post selection-set-Inv-loop selection-set-μ-loop
 selection-set-no-going-requires t c κs = search rules
 
 selection-set-returns : (t : ℕ) → selection-set-lts.Need-returns (selection-set-calls t) (selection-set-at t) selection-set.Post selection-set-Inv-loop selection-set-μ-loop
-selection-set-returns t c =
-    let at-then1 = c.before in
-    let start = at-then1.before.before.before.before in
-    rw c.no_going.ensures (set_lacks _ _ _ _ _ start.requires.1 at-then1.if1.true)
-
-selection-set-too-deep-requires : (t : ℕ) → selection-set-lts.Need-too-deep-requires (selection-set-calls t) (selection-set-at t) selection-set.Post selection-set-Inv-loop selection-set-μ-loop
-selection-set-too-deep-requires t c κs = search rules
+selection-set-returns t c = rw c.no_going.ensures (set_lacks _ _ _ _ _ c.before.before.before.before.before.requires.1 c.before.if1.true)
 
 selection-set-returns-2 : (t : ℕ) → selection-set-lts.Need-returns-2 (selection-set-calls t) (selection-set-at t) selection-set.Post selection-set-Inv-loop selection-set-μ-loop
-selection-set-returns-2 t c =
-    let at-then2 = c.before in
-    let at-else1 = at-then2.before in
-    let start = at-else1.before.before.before.before in
-    rw c.too_deep.ensures (set_deep _ _ _ _ _ start.requires.1 at-else1.if1.false at-then2.if2.true)
+selection-set-returns-2 t c = set_deep _ _ _ _ _ c.before.before.before.before.before.requires.1 c.before.if1.false c.if2.true
 
 selection-set-past-requires : (t : ℕ) → selection-set-lts.Need-past-requires (selection-set-calls t) (selection-set-at t) selection-set.Post selection-set-Inv-loop selection-set-μ-loop
 selection-set-past-requires t c κs = ready_past _ _ _ _ c.before.before.before.before.before.requires.1
 
+selection-set-enum-known-r : (t : ℕ) → selection-set-lts.Need-enum-known-r (selection-set-calls t) (selection-set-at t) selection-set.Post selection-set-Inv-loop selection-set-μ-loop
+selection-set-enum-known-r t c = search rules
+
+selection-set-enum-told : (t : ℕ) → selection-set-lts.Need-enum-told (selection-set-calls t) (selection-set-at t) selection-set.Post selection-set-Inv-loop selection-set-μ-loop
+selection-set-enum-told t c = search rules
+
 selection-set-returns-3 : (t : ℕ) → selection-set-lts.Need-returns-3 (selection-set-calls t) (selection-set-at t) selection-set.Post selection-set-Inv-loop selection-set-μ-loop
-selection-set-returns-3 t c =
-    let at-past = c.before.before in
-    let at-else2 = at-past.before in
-    let at-else1 = at-else2.before in
-    let start = at-else1.before.before.before.before in
-    rw (said_refused at-past.past.result c.if3.true) (set_bad _ _ _ _ _ start.requires.1 at-else1.if1.false at-else2.if2.false _ at-past.past.ensures _ (said_refused _ c.if3.true))
+selection-set-returns-3 t c = rw c.enum_told.given.1 (set_bad _ _ _ _ _ c.before.before.before.before.before.before.before.before.requires.1 c.before.before.before.before.if1.false c.before.before.before.if2.false _ c.before.before.past.ensures _ c.enum_told.given.1)
 
 selection-set-loop-holds : (t : ℕ) → selection-set-lts.Need-loop-init (selection-set-calls t) (selection-set-at t) selection-set.Post selection-set-Inv-loop selection-set-μ-loop
 selection-set-loop-holds t c = let b = begun t c in unmoved _ _ _ _ _ _ b.size b.within b.few b.looks
@@ -288,72 +230,37 @@ selection-set-sub-selection : (t : ℕ) → selection-set-lts.Need-overflow-sub-
 selection-set-sub-selection t c = search rules
 
 selection-set-selection-requires : (t : ℕ) → selection-set-lts.Need-selection-requires (selection-set-calls t) (selection-set-at t) selection-set.Post selection-set-Inv-loop selection-set-μ-loop
-selection-set-selection-requires t c κs =
-    let at-loop = c.before in
-    let at-else2 = at-loop.before.before.before.before in
-    let start = at-else2.before.before.before.before.before in
-    (omega (arith, start.requires.0, at-else2.if2.false), turn_ready _ _ _ _ _ _ _ _ _ _ at-loop.loop.invariant start.requires.1.short start.requires.1.below)
+selection-set-selection-requires t c κs = (omega (arith, c.before.before.before.before.before.before.before.before.before.before.before.requires.0, c.before.before.before.before.before.before.if2.false), turn_ready _ _ _ _ _ _ _ _ _ _ c.before.loop.invariant c.before.before.before.before.before.before.before.before.before.before.before.requires.1.short c.before.before.before.before.before.before.before.before.before.before.before.requires.1.below)
+
+selection-set-enum-known-t : (t : ℕ) → selection-set-lts.Need-enum-known-t (selection-set-calls t) (selection-set-at t) selection-set.Post selection-set-Inv-loop selection-set-μ-loop
+selection-set-enum-known-t t c = search rules
+
+selection-set-enum-told-2 : (t : ℕ) → selection-set-lts.Need-enum-told-2 (selection-set-calls t) (selection-set-at t) selection-set.Post selection-set-Inv-loop selection-set-μ-loop
+selection-set-enum-told-2 t c = search rules
 
 selection-set-same-length : (t : ℕ) → selection-set-lts.Need-same-length (selection-set-calls t) (selection-set-at t) selection-set.Post selection-set-Inv-loop selection-set-μ-loop
-selection-set-same-length t c =
-    let at-selection = c.before.before.before.before in
-    let at-loop = at-selection.before.before in
-    let start = at-loop.before.before.before.before.before.before.before.before.before in
-    at-selection.selection.auto.1.0 ∙ at-loop.loop.invariant.size ∙ sym start.requires.1.size
+selection-set-same-length t c = c.before.before.before.before.selection.auto.1.0 ∙ c.before.before.before.before.before.before.loop.invariant.size ∙ sym c.before.before.before.before.before.before.before.before.before.before.before.before.before.before.before.before.requires.1.size
 
 selection-set-returns-4 : (t : ℕ) → selection-set-lts.Need-returns-4 (selection-set-calls t) (selection-set-at t) selection-set.Post selection-set-Inv-loop selection-set-μ-loop
-selection-set-returns-4 t c =
-    let at-selection = c.before.before.before.before in
-    let at-loop = at-selection.before.before in
-    rw (said_refused at-selection.selection.result c.if4.true) (turn_stops _ _ _ _ _ _ _ _ _ _ (joint t at-loop) _ _ at-selection.selection.ensures _ (said_refused _ c.if4.true))
+selection-set-returns-4 t c = rw c.enum-told2.given.1 (turn_stops _ _ _ _ _ _ _ _ _ _ (joint t c.before.before.before.before.before.before) _ _ c.before.before.before.before.selection.ensures _ c.enum-told2.given.1)
 
 selection-set-past-requires-2 : (t : ℕ) → selection-set-lts.Need-past-requires-2 (selection-set-calls t) (selection-set-at t) selection-set.Post selection-set-Inv-loop selection-set-μ-loop
-selection-set-past-requires-2 t c κs =
-    let at-else4 = c.before.before in
-    let at-selection = at-else4.before.before.before.before in
-    let at-loop = at-selection.before.before in
-    let start = at-loop.before.before.before.before.before.before.before.before.before in
-    (start.requires.1.short, went_past _ _ _ _ _ _ _ _ _ (turn_read _ _ _ _ _ _ _ _ _ _ at-loop.loop.invariant _ _ at-selection.selection.ensures _ (said_done _ at-else4.if4.false)))
+selection-set-past-requires-2 t c κs = (c.before.before.before.before.before.before.before.before.before.before.before.before.before.before.before.before.before.before.before.requires.1.short, went_past _ _ _ _ _ _ _ _ _ (turn_read _ _ _ _ _ _ _ _ _ _ c.before.before.before.before.before.before.before.before.before.loop.invariant _ _ c.before.before.before.before.before.before.before.selection.ensures _ c.before.before.before.t.given.1))
 
 selection-set-same-length-2 : (t : ℕ) → selection-set-lts.Need-same-length-2 (selection-set-calls t) (selection-set-at t) selection-set.Post selection-set-Inv-loop selection-set-μ-loop
-selection-set-same-length-2 t c =
-    let at-else4 = c.before.before.before in
-    let at-selection = at-else4.before.before.before.before in
-    let at-loop = at-selection.before.before in
-    let start = at-loop.before.before.before.before.before.before.before.before.before in
-    let v = turn_read _ _ _ _ _ _ _ _ _ _ at-loop.loop.invariant _ _ at-selection.selection.ensures _ (said_done _ at-else4.if4.false) in v.size ∙ sym start.requires.1.size
+selection-set-same-length-2 t c = let v = turn_read _ _ _ _ _ _ _ _ _ _ c.before.before.before.before.before.before.before.before.before.before.loop.invariant _ _ c.before.before.before.before.before.before.before.before.selection.ensures _ c.before.before.before.before.t.given.1 in v.size ∙ sym c.before.before.before.before.before.before.before.before.before.before.before.before.before.before.before.before.before.before.before.before.requires.1.size
 
 selection-set-returns-5 : (t : ℕ) → selection-set-lts.Need-returns-5 (selection-set-calls t) (selection-set-at t) selection-set.Post selection-set-Inv-loop selection-set-μ-loop
-selection-set-returns-5 t c =
-    let at-then5 = c.before in
-    let at-else4 = at-then5.before.before in
-    let at-selection = at-else4.before.before.before.before in
-    let at-loop = at-selection.before.before in
-    let at-else2 = at-loop.before.before.before.before in
-    turn_ends _ _ _ _ _ _ _ _ _ (joint t at-loop) _ at-selection.selection.ensures (said_done _ at-else4.if4.false) at-else2.if2.false at-then5.if5.true _ c.past2.ensures
+selection-set-returns-5 t c = turn_ends _ _ _ _ _ _ _ _ _ (joint t c.before.before.before.before.before.before.before.before.before.before) _ c.before.before.before.before.before.before.before.before.selection.ensures c.before.before.before.before.t.given.1 c.before.before.before.before.before.before.before.before.before.before.before.before.before.before.before.if2.false c.before.if3.true _ c.past2.ensures
 
 selection-set-loop-less : (t : ℕ) → selection-set-lts.Need-loop-smaller (selection-set-calls t) (selection-set-at t) selection-set.Post selection-set-Inv-loop selection-set-μ-loop
-selection-set-loop-less t c =
-    let at-else4 = c.before.before in
-    let at-selection = at-else4.before.before.before.before in
-    let at-loop = at-selection.before.before in
-    let v = turn_read _ _ _ _ _ _ _ _ _ _ at-loop.loop.invariant _ _ at-selection.selection.ensures _ (said_done _ at-else4.if4.false) in omega (arith, v.on, v.within)
+selection-set-loop-less t c = let v = turn_read _ _ _ _ _ _ _ _ _ _ c.before.before.before.before.before.before.before.before.before.loop.invariant _ _ c.before.before.before.before.before.before.before.selection.ensures _ c.before.before.before.t.given.1 in omega (arith, v.on, v.within)
 
 selection-set-loop-again : (t : ℕ) → selection-set-lts.Need-loop-preserved (selection-set-calls t) (selection-set-at t) selection-set.Post selection-set-Inv-loop selection-set-μ-loop
-selection-set-loop-again t c =
-    let at-else4 = c.before.before in
-    let at-selection = at-else4.before.before.before.before in
-    let at-loop = at-selection.before.before in
-    turn_more _ _ _ _ _ _ _ _ _ _ at-loop.loop.invariant _ _ at-selection.selection.ensures _ (said_done _ at-else4.if4.false) c.if5.false
-
-spread-too-many-rows-requires : (t : ℕ) → spread-lts.Need-too-many-rows-requires (spread-calls t) (spread_at t) spread.Post
-spread-too-many-rows-requires t c κs = search rules
+selection-set-loop-again t c = turn_more _ _ _ _ _ _ _ _ _ _ c.before.before.before.before.before.before.before.before.before.loop.invariant _ _ c.before.before.before.before.before.before.before.selection.ensures _ c.before.before.before.t.given.1 c.if3.false
 
 spread-returns : (t : ℕ) → spread-lts.Need-returns (spread-calls t) (spread_at t) spread.Post
-spread-returns t c =
-    let at-then1 = c.before in
-    let start = at-then1.before.before.before in
-    rw c.too_many_rows.ensures (spread_full _ _ _ _ _ start.requires.1.0 start.requires.1.1 at-then1.if1.true)
+spread-returns t c = spread_full _ _ _ _ _ c.before.before.before.requires.1.0 c.before.before.before.requires.1.1 c.if1.true
 
 spread-add-past : (t : ℕ) → spread-lts.Need-overflow-add-past (spread-calls t) (spread_at t) spread.Post
 spread-add-past t c = search rules
@@ -361,96 +268,58 @@ spread-add-past t c = search rules
 spread-past-requires : (t : ℕ) → spread-lts.Need-past-requires (spread-calls t) (spread_at t) spread.Post
 spread-past-requires t c κs = ready_past _ _ _ _ c.before.before.before.requires.1.0
 
+spread-enum-known-r : (t : ℕ) → spread-lts.Need-enum-known-r (spread-calls t) (spread_at t) spread.Post
+spread-enum-known-r t c = search rules
+
+spread-enum-told : (t : ℕ) → spread-lts.Need-enum-told (spread-calls t) (spread_at t) spread.Post
+spread-enum-told t c = search rules
+
 spread-returns-2 : (t : ℕ) → spread-lts.Need-returns-2 (spread-calls t) (spread_at t) spread.Post
-spread-returns-2 t c =
-    let at-past = c.before.before in
-    let at-else1 = at-past.before in
-    let start = at-else1.before.before.before in
-    rw (said_refused at-past.past.result c.if2.true) (spread_bad _ _ _ _ _ start.requires.1.0 start.requires.1.1 at-else1.if1.false _ at-past.past.ensures _ (said_refused _ c.if2.true))
+spread-returns-2 t c = rw c.enum_told.given.1 (spread_bad _ _ _ _ _ c.before.before.before.before.before.before.requires.1.0 c.before.before.before.before.before.before.requires.1.1 c.before.before.before.if1.false _ c.before.before.past.ensures _ c.enum_told.given.1)
 
 spread-names-fragment-requires : (t : ℕ) → spread-lts.Need-names-fragment-requires (spread-calls t) (spread_at t) spread.Post
-spread-names-fragment-requires t c κs =
-    let at-past = c.before.before in
-    let at-else1 = at-past.before in
-    let start = at-else1.before.before.before in
-    spread_lies _ _ _ _ 0 start.requires.1.0 start.requires.1.1 at-else1.if1.false _ at-past.past.ensures _ (said_done _ c.if2.false)
+spread-names-fragment-requires t c κs = spread_lies _ _ _ _ 0 c.before.before.before.before.before.before.before.requires.1.0 c.before.before.before.before.before.before.before.requires.1.1 c.before.before.before.before.if1.false _ c.before.before.before.past.ensures _ c.before.r.given.1
 
 spread-named-spread-requires : (t : ℕ) → spread-lts.Need-named-spread-requires (spread-calls t) (spread_at t) spread.Post
-spread-named-spread-requires t c κs =
-    let at-then3 = c.before in
-    let at-names-fragment = at-then3.before in
-    let at-else2 = at-names-fragment.before in
-    let at-past = at-else2.before.before in
-    let at-else1 = at-past.before in
-    let start = at-else1.before.before.before in
-    (spread_ready _ _ _ _ 0 start.requires.1.0 start.requires.1.1 at-else1.if1.false _ at-past.past.ensures _ (said_done _ at-else2.if2.false), sym at-names-fragment.names-fragment.ensures ∙ at-then3.if3.true, spread_rows _ _ _ _ 0 start.requires.1.0 start.requires.1.1 at-else1.if1.false _ at-past.past.ensures _ (said_done _ at-else2.if2.false))
+spread-named-spread-requires t c κs = (spread_ready _ _ _ _ 0 c.before.before.before.before.before.before.before.before.before.before.requires.1.0 c.before.before.before.before.before.before.before.before.before.before.requires.1.1 c.before.before.before.before.before.before.before.if1.false _ c.before.before.before.before.before.before.past.ensures _ c.before.before.before.before.r.given.1, sym c.before.before.names-fragment.ensures ∙ c.before.if2.true, spread_rows _ _ _ _ 0 c.before.before.before.before.before.before.before.before.before.before.requires.1.0 c.before.before.before.before.before.before.before.before.before.before.requires.1.1 c.before.before.before.before.before.before.before.if1.false _ c.before.before.before.before.before.before.past.ensures _ c.before.before.before.before.r.given.1)
 
 spread-same-length : (t : ℕ) → spread-lts.Need-same-length (spread-calls t) (spread_at t) spread.Post
 spread-same-length t c = c.before.before.named-spread.auto.1.0
 
 spread-returns-3 : (t : ℕ) → spread-lts.Need-returns-3 (spread-calls t) (spread_at t) spread.Post
-spread-returns-3 t c =
-    let at-named-spread = c.before.before in
-    let at-else2 = at-named-spread.before.before.before.before in
-    let at-past = at-else2.before.before in
-    let at-else1 = at-past.before in
-    let start = at-else1.before.before.before in
-    spread_named _ _ _ _ start.args.left start.requires.1.0 start.requires.1.1 at-else1.if1.false _ at-past.past.ensures _ (said_done _ at-else2.if2.false) _ (said at-named-spread.named-spread.result) at-named-spread.named-spread.ensures
+spread-returns-3 t c = spread_named _ _ _ _ c.before.before.before.before.before.before.before.before.before.before.before.before.before.args.left c.before.before.before.before.before.before.before.before.before.before.before.before.before.requires.1.0 c.before.before.before.before.before.before.before.before.before.before.before.before.before.requires.1.1 c.before.before.before.before.before.before.before.before.before.before.if1.false _ c.before.before.before.before.before.before.before.before.before.past.ensures _ c.before.before.before.before.before.before.before.r.given.1 _ c.before.before.named-spread.result c.before.before.named-spread.ensures
 
 spread-inline-head-requires : (t : ℕ) → spread-lts.Need-inline-head-requires (spread-calls t) (spread_at t) spread.Post
-spread-inline-head-requires t c κs =
-    let at-else3 = c.before in
-    let at-names-fragment = at-else3.before in
-    let at-else2 = at-names-fragment.before in
-    let at-past = at-else2.before.before in
-    let at-else1 = at-past.before in
-    let start = at-else1.before.before.before in
-    (spread_ready _ _ _ _ 0 start.requires.1.0 start.requires.1.1 at-else1.if1.false _ at-past.past.ensures _ (said_done _ at-else2.if2.false), sym at-names-fragment.names-fragment.ensures ∙ at-else3.if3.false, spread_rows _ _ _ _ 0 start.requires.1.0 start.requires.1.1 at-else1.if1.false _ at-past.past.ensures _ (said_done _ at-else2.if2.false))
+spread-inline-head-requires t c κs = (spread_ready _ _ _ _ 0 c.before.before.before.before.before.before.before.before.before.before.requires.1.0 c.before.before.before.before.before.before.before.before.before.before.requires.1.1 c.before.before.before.before.before.before.before.if1.false _ c.before.before.before.before.before.before.past.ensures _ c.before.before.before.before.r.given.1, sym c.before.before.names-fragment.ensures ∙ c.before.if2.false, spread_rows _ _ _ _ 0 c.before.before.before.before.before.before.before.before.before.before.requires.1.0 c.before.before.before.before.before.before.before.before.before.before.requires.1.1 c.before.before.before.before.before.before.before.if1.false _ c.before.before.before.before.before.before.past.ensures _ c.before.before.before.before.r.given.1)
+
+spread-enum-known-t : (t : ℕ) → spread-lts.Need-enum-known-t (spread-calls t) (spread_at t) spread.Post
+spread-enum-known-t t c = search rules
+
+spread-enum-told-2 : (t : ℕ) → spread-lts.Need-enum-told-2 (spread-calls t) (spread_at t) spread.Post
+spread-enum-told-2 t c = search rules
 
 spread-same-length-2 : (t : ℕ) → spread-lts.Need-same-length-2 (spread-calls t) (spread_at t) spread.Post
 spread-same-length-2 t c = c.before.before.before.before.inline-head.auto.1.0
 
 spread-returns-4 : (t : ℕ) → spread-lts.Need-returns-4 (spread-calls t) (spread_at t) spread.Post
-spread-returns-4 t c =
-    let at-inline-head = c.before.before.before.before in
-    let at-else2 = at-inline-head.before.before.before.before in
-    let at-past = at-else2.before.before in
-    let at-else1 = at-past.before in
-    let start = at-else1.before.before.before in
-    rw (said_refused at-inline-head.inline-head.result c.if4.true) (spread_stops _ _ _ _ _ start.requires.1.0 start.requires.1.1 at-else1.if1.false _ at-past.past.ensures _ (said_done _ at-else2.if2.false) _ _ at-inline-head.inline-head.ensures _ (said_refused _ c.if4.true))
+spread-returns-4 t c = rw c.enum-told2.given.1 (spread_stops _ _ _ _ _ c.before.before.before.before.before.before.before.before.before.before.before.before.before.before.before.requires.1.0 c.before.before.before.before.before.before.before.before.before.before.before.before.before.before.before.requires.1.1 c.before.before.before.before.before.before.before.before.before.before.before.before.if1.false _ c.before.before.before.before.before.before.before.before.before.before.before.past.ensures _ c.before.before.before.before.before.before.before.before.before.r.given.1 _ _ c.before.before.before.before.inline-head.ensures _ c.enum-told2.given.1)
 
 spread-body-requires : (t : ℕ) → spread-lts.Need-body-requires (spread-calls t) (spread_at t) spread.Post
-spread-body-requires t c κs =
-    let at-else4 = c.before in
-    let at-inline-head = at-else4.before.before.before.before in
-    let at-else2 = at-inline-head.before.before.before.before in
-    let at-past = at-else2.before.before in
-    let at-else1 = at-past.before in
-    let start = at-else1.before.before.before in
-    (omega (arith, start.requires.0), (spread_set_ready _ _ _ _ _ start.requires.1.0 start.requires.1.1 at-else1.if1.false _ at-past.past.ensures _ (said_done _ at-else2.if2.false) _ _ at-inline-head.inline-head.ensures _ (said_done _ at-else4.if4.false), spread_room _ _ _ _ 0 start.requires.1.0 start.requires.1.1 at-else1.if1.false))
+spread-body-requires t c κs = (omega (arith, c.before.before.before.before.before.before.before.before.before.before.before.before.before.before.before.before.before.requires.0), (spread_set_ready _ _ _ _ _ c.before.before.before.before.before.before.before.before.before.before.before.before.before.before.before.before.before.requires.1.0 c.before.before.before.before.before.before.before.before.before.before.before.before.before.before.before.before.before.requires.1.1 c.before.before.before.before.before.before.before.before.before.before.before.before.before.before.if1.false _ c.before.before.before.before.before.before.before.before.before.before.before.before.before.past.ensures _ c.before.before.before.before.before.before.before.before.before.before.before.r.given.1 _ _ c.before.before.before.before.before.before.inline-head.ensures _ c.before.before.t.given.1, spread_room _ _ _ _ 0 c.before.before.before.before.before.before.before.before.before.before.before.before.before.before.before.before.before.requires.1.0 c.before.before.before.before.before.before.before.before.before.before.before.before.before.before.before.before.before.requires.1.1 c.before.before.before.before.before.before.before.before.before.before.before.before.before.before.if1.false))
 
 spread-same-length-3 : (t : ℕ) → spread-lts.Need-same-length-3 (spread-calls t) (spread_at t) spread.Post
-spread-same-length-3 t c =
-    let at_body = c.before.before in
-    let at-inline-head = at_body.before.before.before.before.before.before in
-    at_body.body.auto.1.0 ∙ at-inline-head.inline-head.auto.1.0
+spread-same-length-3 t c = c.before.before.body.auto.1.0 ∙ c.before.before.before.before.before.before.before.before.before.inline-head.auto.1.0
 
 spread-returns-5 : (t : ℕ) → spread-lts.Need-returns-5 (spread-calls t) (spread_at t) spread.Post
-spread-returns-5 t c =
-    let at_body = c.before.before in
-    let at-else4 = at_body.before.before in
-    let at-inline-head = at-else4.before.before.before.before in
-    let at-else2 = at-inline-head.before.before.before.before in
-    let at-past = at-else2.before.before in
-    let at-else1 = at-past.before in
-    let start = at-else1.before.before.before in
-    spread_set _ _ _ _ _ start.requires.1.0 start.requires.1.1 at-else1.if1.false _ at-past.past.ensures _ (said_done _ at-else2.if2.false) _ _ at-inline-head.inline-head.ensures _ (said_done _ at-else4.if4.false) _ (said at_body.body.result) at_body.body.ensures
+spread-returns-5 t c = spread_set _ _ _ _ _ c.before.before.before.before.before.before.before.before.before.before.before.before.before.before.before.before.before.before.before.before.requires.1.0 c.before.before.before.before.before.before.before.before.before.before.before.before.before.before.before.before.before.before.before.before.requires.1.1 c.before.before.before.before.before.before.before.before.before.before.before.before.before.before.before.before.before.if1.false _ c.before.before.before.before.before.before.before.before.before.before.before.before.before.before.before.before.past.ensures _ c.before.before.before.before.before.before.before.before.before.before.before.before.before.before.r.given.1 _ _ c.before.before.before.before.before.before.before.before.before.inline-head.ensures _ c.before.before.before.before.before.t.given.1 _ c.before.before.body.result c.before.before.body.ensures
 
 pub +body-field-selection-selection-set-spread-spec : {M : Type 1} → statement M
 +body-field-selection-selection-set-spread-spec =
     close μ-body μ-field μ-selection μ-selection-set μ-spread (λ t. body-lts.spec (body-calls t) (body_at t)
     body.Post
     (body-selection-set-requires t)
+    (body-enum-known-r t)
+    (body-enum-told t)
     (body-same-length t)
     (body-returns t)
     (body-put-end-requires t)
@@ -459,6 +328,8 @@ pub +body-field-selection-selection-set-spread-spec : {M : Type 1} → statement
     (λ t. field-lts.spec (field-calls t) (field_at t)
     field.Post
     (field-field-head-requires t)
+    (field-enum-known-r t)
+    (field-enum-told t)
     (field-same-length t)
     (field-returns t)
     (field-body-requires t)
@@ -483,13 +354,16 @@ pub +body-field-selection-selection-set-spread-spec : {M : Type 1} → statement
     selection-set-μ-loop
     (selection-set-no-going-requires t)
     (selection-set-returns t)
-    (selection-set-too-deep-requires t)
     (selection-set-returns-2 t)
     (selection-set-past-requires t)
+    (selection-set-enum-known-r t)
+    (selection-set-enum-told t)
     (selection-set-returns-3 t)
     (selection-set-loop-holds t)
     (selection-set-sub-selection t)
     (selection-set-selection-requires t)
+    (selection-set-enum-known-t t)
+    (selection-set-enum-told-2 t)
     (selection-set-same-length t)
     (selection-set-returns-4 t)
     (selection-set-past-requires-2 t)
@@ -499,16 +373,19 @@ pub +body-field-selection-selection-set-spread-spec : {M : Type 1} → statement
     (selection-set-loop-again t))
     λ t. spread-lts.spec (spread-calls t) (spread_at t)
     spread.Post
-    (spread-too-many-rows-requires t)
     (spread-returns t)
     (spread-add-past t)
     (spread-past-requires t)
+    (spread-enum-known-r t)
+    (spread-enum-told t)
     (spread-returns-2 t)
     (spread-names-fragment-requires t)
     (spread-named-spread-requires t)
     (spread-same-length t)
     (spread-returns-3 t)
     (spread-inline-head-requires t)
+    (spread-enum-known-t t)
+    (spread-enum-told-2 t)
     (spread-same-length-2 t)
     (spread-returns-4 t)
     (spread-body-requires t)

@@ -1,6 +1,5 @@
 -- scalar: each kind of token by its law.
 use mathlib.Core.List.{[]}
-use Rattle.text_cursor.specs.Reader.{said}
 use Rattle.text_values.proofs.LeafLaws.{int_said, float_said, string_said, no_value}
 use borrow.Author.Rules.{rules}
 use Rattle.text_values.proofs.scalar.Statement.{statement}
@@ -34,7 +33,7 @@ returns-5 c =
     let at-else2 = at-else3.before in
     let at-else1 = at-else2.before in
     let start = at-else1.before.before.before in
-    rw c.no_going.ensures (no_value _ _ [] _ _ start.requires.0 (said c.no_going.result) at-else1.if1.false at-else2.if2.false at-else3.if3.false at-else4.if4.false start.requires.1 start.requires.2 start.requires.3)
+    rw c.no_going.ensures (no_value _ _ [] _ _ start.requires.0 c.no_going.result at-else1.if1.false at-else2.if2.false at-else3.if3.false at-else4.if4.false start.requires.1 start.requires.2 start.requires.3)
 
 pub scalar-spec : {M : Type 1} → statement M
 scalar-spec =

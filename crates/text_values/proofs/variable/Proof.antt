@@ -1,6 +1,5 @@
 -- variable: each way it ends by its law.
 use mathlib.Core.List.{[]}
-use Rattle.text_cursor.proofs.ReaderLaws.{said_done, said_refused}
 use Rattle.text_leaves.proofs.MovedLaws.{ready_lies}
 use Rattle.text_values.proofs.VariableLaws.{variable_full, variable_bad, variable_no_name, name_lies, variable_said}
 use borrow.Author.Rules.{rules}
@@ -9,9 +8,8 @@ use Rattle.text_values.proofs.variable.Tie as tie
 
 returns : tie.Need-returns
 returns c =
-    let at-then1 = c.before in
-    let start = at-then1.before.before.before in
-    rw c.too_many_rows.ensures (variable_full _ _ [] _ _ start.requires.0 start.requires.1 at-then1.if1.true)
+    let start = c.before.before.before in
+    variable_full _ _ [] _ _ start.requires.0 start.requires.1 c.if1.true
 
 past-requires : tie.Need-past-requires
 past-requires c κs =
@@ -23,51 +21,52 @@ returns-2 c =
     let at-past = c.before.before in
     let at-else1 = at-past.before in
     let start = at-else1.before.before.before in
-    variable_bad _ _ [] _ _ start.requires.0 start.requires.1 at-else1.if1.false _ _ at-past.past.ensures (said_refused _ c.if2.true)
+    variable_bad _ _ [] _ _ start.requires.0 start.requires.1 at-else1.if1.false _ _ at-past.past.ensures c.enum_told.given.1
 
 returns-3 : tie.Need-returns-3
 returns-3 c =
-    let at-then3 = c.before in
-    let at-else2 = at-then3.before.before in
-    let at-past = at-else2.before.before in
+    let at-then2 = c.before in
+    let at-r = at-then2.before.before.before in
+    let at-past = at-r.before.before in
     let at-else1 = at-past.before in
     let start = at-else1.before.before.before in
-    rw c.no_going.ensures (variable_no_name _ _ [] _ _ start.requires.0 start.requires.1 at-else1.if1.false _ _ at-past.past.ensures (said_done _ at-else2.if2.false) at-then3.if3.true)
+    rw c.no_going.ensures (variable_no_name _ _ [] _ _ start.requires.0 start.requires.1 at-else1.if1.false _ _ at-past.past.ensures at-r.r.given.1 at-then2.if2.true)
 
 sub-put-row : tie.Need-overflow-sub-put-row
 sub-put-row c =
-    let at-else2 = c.before.before.before.before in
-    let at-past = at-else2.before.before in
+    let at-r = c.before.before.before.before.before in
+    let at-past = at-r.before.before in
     let at-else1 = at-past.before in
     let start = at-else1.before.before.before in
-    (name_lies _ _ [] _ _ start.requires.0 start.requires.1 at-else1.if1.false _ _ at-past.past.ensures (said_done _ at-else2.if2.false)).1
+    (name_lies _ _ [] _ _ start.requires.0 start.requires.1 at-else1.if1.false _ _ at-past.past.ensures at-r.r.given.1).1
 
 past-requires-2 : tie.Need-past-requires-2
 past-requires-2 c κs =
-    let at-else2 = c.before.before.before.before.before.before.before in
-    let at-past = at-else2.before.before in
+    let at-r = c.before.before.before.before.before.before.before.before in
+    let at-past = at-r.before.before in
     let at-else1 = at-past.before in
     let start = at-else1.before.before.before in
-    (start.requires.0.short, (name_lies _ _ [] _ _ start.requires.0 start.requires.1 at-else1.if1.false _ _ at-past.past.ensures (said_done _ at-else2.if2.false)).2)
+    (start.requires.0.short, (name_lies _ _ [] _ _ start.requires.0 start.requires.1 at-else1.if1.false _ _ at-past.past.ensures at-r.r.given.1).2)
 
 returns-4 : tie.Need-returns-4
 returns-4 c =
     let at-put-row = c.before.before.before in
-    let at-else3 = at-put-row.before.before.before in
-    let at-else2 = at-else3.before.before in
-    let at-past = at-else2.before.before in
+    let at-else2 = at-put-row.before.before.before in
+    let at-r = at-else2.before.before.before in
+    let at-past = at-r.before.before in
     let at-else1 = at-past.before in
     let start = at-else1.before.before.before in
-    variable_said _ _ _ _ _ start.requires.0 start.requires.1 at-else1.if1.false _ _ at-past.past.ensures (said_done _ at-else2.if2.false) at-else3.if3.false at-put-row.put-row.ensures _ c.past2.ensures
+    variable_said _ _ _ _ _ start.requires.0 start.requires.1 at-else1.if1.false _ _ at-past.past.ensures at-r.r.given.1 at-else2.if2.false at-put-row.put-row.ensures _ c.past2.ensures
 
 pub variable-spec : {M : Type 1} → statement M
 variable-spec =
     tie.close
     (tie.spec
-    (λ c κs. search rules)
     returns
     (λ c. search rules)
     past-requires
+    (λ c. search rules)
+    (λ c. search rules)
     returns-2
     (λ c κs. search rules)
     returns-3

@@ -1,8 +1,9 @@
 -- `text_cursor::past` meets its contract.
-use mathlib.Core.Path.{sym, ◌∙◌}
+use mathlib.Core.Path.{sym, ap, ◌∙◌}
 use native.Mathlib.Omega.{arith}
 use borrow.Author.Rules.{rules}
-use Rattle.text_cursor.proofs.ReaderLaws.{head_within, token_lies, moved_bad, moved_token}
+use Rattle.text_cursor.specs.Reader.{moved_to}
+use Rattle.text_cursor.proofs.ReaderLaws.{head_within, token_lies, moved_bad}
 use Rattle.text_cursor.proofs.Cursor.past.Statement.{statement}
 use Rattle.text_cursor.proofs.Cursor.past.Tie as tie
 
@@ -20,10 +21,7 @@ cast-t11 : tie.Need-overflow-cast-t11
 cast-t11 c = let l = token_lies _ _ _ _ _ c.before.before.before.before.before.requires.1 (sym c.before.before.before.next.ensures ∙ c.before.t.given.1) in omega arith
 
 returns-2 : tie.Need-returns-2
-returns-2 c =
-    let at_next = c.before.before.before in
-    let start = at_next.before.before in
-    moved_token _ _ _ _ _ _ _ start.requires.0 start.requires.1 at_next.next.ensures c.before.t.given.1
+returns-2 c = ap (moved_to _ _) (sym c.before.t.given.1 ∙ c.before.before.before.next.ensures)
 
 pub past-spec : {M : Type 1} → statement M
 past-spec =
