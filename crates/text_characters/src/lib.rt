@@ -1,4 +1,6 @@
 // The bytes of names, and the characters of comments, one at a time.
+#![tactic(auto)]
+
 ghost use Rattle.std.specs.Prelude.{◌≡◌, ◌<◌, length, drop};
 ghost use Rattle.paper.specs.Lexical.{hits_byte, letter, letter_or_digit, tail};
 ghost use Rattle.text_characters.specs.Characters.{second_of, wide_size, character_size};
