@@ -56,6 +56,7 @@ module _ {A B : Type 0} where
 
   pub gather_complete : (g : A → List B) (xs : List A) (b : B) (x : A) → Memᴰ x xs → Memᴰ b (g x) → Memᴰ b (gather g xs)
   unfolding gather
+  gather_complete g [] b x x4 m = elim x4 [ ]
   gather_complete g (y ∷ xs) b x (Memᴰ.head e) m = Memᴰ.append_left (gather g xs) (subst (λ (z : A). Memᴰ b (g z)) e m)
   gather_complete g (y ∷ xs) b x (Memᴰ.tail k) m = Memᴰ.append_right (g y) (gather_complete g xs b x k m)
 
@@ -65,6 +66,7 @@ module _ {A B : Type 0} where
   map-sound f (x ∷ xs) b (Memᴰ.tail m) = let r = map-sound f xs b m in (r.0, Memᴰ.tail r.1, r.2)
 
   map-complete : (f : A → B) (xs : List A) (x : A) → Memᴰ x xs → Memᴰ (f x) (map f xs)
+  map-complete f [] x x3 = elim x3 [ ]
   map-complete f (y ∷ xs) x (Memᴰ.head e) = Memᴰ.head (ap f e)
   map-complete f (y ∷ xs) x (Memᴰ.tail m) = Memᴰ.tail (map-complete f xs x m)
 

@@ -1,5 +1,6 @@
 // The numbers that document 01 fixes for the type table, as the code writes them, and the answer to a table. No function.
 // `specs/TableNumbers.antt` has the same numbers under the same names, for contracts.
+#![tactic(auto)]
 
 // sizes
 pub const MOST_TABLE: usize = 32768;
