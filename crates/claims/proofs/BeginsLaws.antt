@@ -47,8 +47,8 @@ crosses test q (mark a ∷ es) (suc k) s h o =
 
 -- so at the first token with which a test fails
 module _ (test : Sums → Bool) (z : test nothing_counted ≡ false) (q : (c : Class) (s : Sums) → test (counted (tok c) s) ≡ test s) where
-  first-crosses : (n : Part) (ts : List Class) (k : ℕ) (m : Sums) (s : Summed n ts k m) → T (test m) → ((j : ℕ) (m' : Sums) → j < k → Summed n ts j m' → test m' ≡ false) → Crosses test s.events k nothing_counted
-  first-crosses n ts k m s o f = crosses test q s.events k nothing_counted (test_before test z n ts k m s f) (subst (λ (x : Sums). T (test x)) (sym s.are) o)
+  first_crosses : (n : Part) (ts : List Class) (k : ℕ) (m : Sums) (s : Summed n ts k m) → T (test m) → ((j : ℕ) (m' : Sums) → j < k → Summed n ts j m' → test m' ≡ false) → Crosses test s.events k nothing_counted
+  first_crosses n ts k m s o f = crosses test q s.events k nothing_counted (test_before test z n ts k m s f) (subst (λ (x : Sums). T (test x)) (sym s.are) o)
 
 -- ROWS. Only the beginning of a row counts one
 row_crosses : (a : Mark) (s : Sums) → over_rows s ≡ false → T (over_rows (counted (mark a) s)) → (a ≡ row) × (s.rows ≡ most_rows)
@@ -129,7 +129,7 @@ pub row_begins : (n : Part) {s : List ℕ} {t : Text} (at : ℕ) → Tokens 0 s 
     × Reads n (take (suc k) (classes_of t) ++ later) es × (through (suc k) es ≡ xs ++ (mark row ∷ ys)) × (length (toks xs) ≡ k) × ((sums xs nothing_counted).rows ≡ most_rows)
 row_begins n {s} {t} at k a =
     let r = rows_stands n at k a in
-    let c = first-crosses over_rows refl (λ c s. refl) n (classes_of t) r.0 r.1 r.3 r.4 (λ j m h x. (r.5 j m h x).1) in
+    let c = first_crosses over_rows refl (λ c s. refl) n (classes_of t) r.0 r.1 r.3 r.4 (λ j m h x. (r.5 j m h x).1) in
     let p = row_crosses c.1 (sums c.0 nothing_counted) c.5 c.6 in
     (r.0, r.3.later, r.3.events, c.0, c.2, r.2, inside n t r.0 r.1 r.3, r.3.reads, subst (λ (x : Mark). through (suc r.0) r.3.events ≡ c.0 ++ (mark x ∷ c.2)) p.0 c.3, c.4, p.1)
 
@@ -138,5 +138,5 @@ pub count_begins : (n : Part) {s : List ℕ} {t : Text} (at : ℕ) → Tokens 0 
     × Reads n (take (suc k) (classes_of t) ++ later) es × (through (suc k) es ≡ xs ++ (mark a ∷ ys)) × (length (toks xs) ≡ k) × Passes a (sums xs nothing_counted).counts
 count_begins n {s} {t} at k a =
     let r = many_stands n at k a in
-    let c = first-crosses (λ m. over_counts m.counts) refl (λ c s. refl) n (classes_of t) r.0 r.1 r.3 r.4 (λ j m h x. (r.5 j m h x).2) in
+    let c = first_crosses (λ m. over_counts m.counts) refl (λ c s. refl) n (classes_of t) r.0 r.1 r.3 r.4 (λ j m h x. (r.5 j m h x).2) in
     (r.0, r.3.later, r.3.events, c.0, c.1, c.2, r.2, inside n t r.0 r.1 r.3, r.3.reads, c.3, c.4, count_crosses c.1 (sums c.0 nothing_counted) c.5 c.6)

@@ -32,16 +32,16 @@ refuses≢rows : {r : Refusal} {rs : List Row} → refuses r ≡ rows_are rs →
 refuses≢rows q = let z : ◌≡◌ {A = ℕ} 0 1 = cc in omega arith
 
 few_rows : (n : Part) (s : List ℕ) (rs : List Row) → TextAnswer n (from s 0) (rows_are rs) → length rs ≤ most_rows
-few_rows n s rs d = of-cells (replicate rows_size 0) (length-replicate {A = ℕ} rows_size 0)
+few_rows n s rs d = of_cells (replicate rows_size 0) (length-replicate {A = ℕ} rows_size 0)
   where
-    of-cells : (cells : List ℕ) → length cells ≡ rows_size → length rs ≤ most_rows
-    of-cells cells e = of-answer (go (start cells) (nt n ∷ []) (from s 0)) refl
+    of_cells : (cells : List ℕ) → length cells ≡ rows_size → length rs ≤ most_rows
+    of_cells cells e = of_answer (go (start cells) (nt n ∷ []) (from s 0)) refl
       where
-        of-answer : (o : Out) → go (start cells) (nt n ∷ []) (from s 0) ≡ o → length rs ≤ most_rows
-        of-answer (whole m) q =
+        of_answer : (o : Out) → go (start cells) (nt n ∷ []) (from s 0) ≡ o → length rs ≤ most_rows
+        of_answer (whole m) q =
             let g = going_whole n (from s 0) cells m e q in
             subst (λ (z : List Row). length z ≤ most_rows) (rows_inj (said_one g.1 d)) g.3
-        of-answer (halt r) q = absurd (refuses≢rows (said_one (going_halt n (from s 0) (from_rising s) cells r q) d))
+        of_answer (halt r) q = absurd (refuses≢rows (said_one (going_halt n (from s 0) (from_rising s) cells r q) d))
 
 pub rows_few : (n : Part) {s : List ℕ} {t : Text} (rs : List Row) → Tokens 0 s t → TextAnswer n t (rows_are rs) → length rs ≤ most_rows
 rows_few n {s} {t} rs k d = few_rows n s rs (subst (λ (z : Text). TextAnswer n z (rows_are rs)) (tokens_from k) d)

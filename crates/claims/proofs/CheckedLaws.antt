@@ -19,16 +19,16 @@ use Rattle.claims.proofs.BuffersLaws.{filled_kept}
 
 -- some result is as `Checked` says
 module _ (table report : List ℕ) where
-  of-table : report_size ≤ length report → Dec (length table ≤ most_table) → (report' : List ℕ) × (a : ℕ) × Checked table report report' a
-  of-table h (yes l) = (tells_table (judge table) report, table_number (judge table), judges h l refl)
-  of-table h (no l) = (tells (OverLength input_table) report, number_of (OverLength input_table), over_length h (lt_of_not-le l) refl)
+  of_table : report_size ≤ length report → Dec (length table ≤ most_table) → (report' : List ℕ) × (a : ℕ) × Checked table report report' a
+  of_table h (yes l) = (tells_table (judge table) report, table_number (judge table), judges h l refl)
+  of_table h (no l) = (tells (OverLength input_table) report, number_of (OverLength input_table), over_length h (lt_of_not-le l) refl)
 
-  of-report : Dec (report_size ≤ length report) → (report' : List ℕ) × (a : ℕ) × Checked table report report' a
-  of-report (yes h) = of-table h (dec_le (length table) most_table)
-  of-report (no h) = (report, number_of Buffer, short_report (lt_of_not-le h) refl)
+  of_report : Dec (report_size ≤ length report) → (report' : List ℕ) × (a : ℕ) × Checked table report report' a
+  of_report (yes h) = of_table h (dec_le (length table) most_table)
+  of_report (no h) = (report, number_of Buffer, short_report (lt_of_not-le h) refl)
 
   pub checked_some : (report' : List ℕ) × (a : ℕ) × Checked table report report' a
-  checked_some = of-report (dec_le report_size (length report))
+  checked_some = of_report (dec_le report_size (length report))
 
 -- an answer's numbers fit the report, and 0 is that of one alone
 pub told_fits : (a : TableAnswer) → length (table_number a ∷ table_shown a) ≤ report_size

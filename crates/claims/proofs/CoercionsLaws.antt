@@ -99,93 +99,93 @@ module _ (End : Ending → Type 0) (Stops : ℕ → List ℕ → Type 0) (Unread
   tells_it (answered {bs} l s d e f) q = (l, s, (yields bs, d, refl, e, f))
 
   -- the ending that is due is the one that is told
-  of-ending : {a : ℕ} → Coerced End table document variables value report value' report' a → ValueLent value report → ValueShort table document variables → (e : Ending) → End e →
+  of_ending : {a : ℕ} → Coerced End table document variables value report value' report' a → ValueLent value report → ValueShort table document variables → (e : Ending) → End e →
       (a ≡ answer_of e) × (value' ≡ value_left value e) × (report' ≡ report_left report e)
-  of-ending c l s (ends k shown) d = coerced_one End one table document variables value report c (refused l s d refl refl)
-  of-ending c l s (yields bs) d = coerced_one End one table document variables value report c (answered l s d refl refl)
+  of_ending c l s (ends k shown) d = coerced_one End one table document variables value report c (refused l s d refl refl)
+  of_ending c l s (yields bs) d = coerced_one End one table document variables value report c (answered l s d refl refl)
 
   pub told : {a : ℕ} → Coerced End table document variables value report value' report' a → ValueLent value report → ValueShort table document variables → (e : Ending) → Ends Stops Unread Wrong Gives e →
       (a ≡ answer_of e) × (value' ≡ value_left value e) × (report' ≡ report_left report e)
-  told c l s e d = of-ending c l s e (join e d)
+  told c l s e d = of_ending c l s e (join e d)
 
   pub ending_told : {a : ℕ} → Coerced End table document variables value report value' report' a → ValueLent value report → ValueShort table document variables → (e : Ending) →
       End e → (a ≡ answer_of e) × (value' ≡ value_left value e) × (report' ≡ report_left report e)
-  ending_told = of-ending
+  ending_told = of_ending
 
   -- ---- 0
 
-  gives-from : {e : Ending} → Ends Stops Unread Wrong Gives e → answer_of e ≡ 0 → (t : Tree) × Gives t × (length (encode t) ≤ most_coerced) × (e ≡ yields (encode t))
-  gives-from (stopped {k} {shown} p) q = absurd (omega (arith, q, (stop k shown p).0))
-  gives-from (unread {r} u) q = absurd (omega (arith, q, said r u))
-  gives-from (wrong i h) q = absurd (omega (arith, q))
-  gives-from (long t g l) q = absurd (omega (arith, q))
-  gives-from (fits t g l) q = (t, g, l, refl)
+  gives_from : {e : Ending} → Ends Stops Unread Wrong Gives e → answer_of e ≡ 0 → (t : Tree) × Gives t × (length (encode t) ≤ most_coerced) × (e ≡ yields (encode t))
+  gives_from (stopped {k} {shown} p) q = absurd (omega (arith, q, (stop k shown p).0))
+  gives_from (unread {r} u) q = absurd (omega (arith, q, said r u))
+  gives_from (wrong i h) q = absurd (omega (arith, q))
+  gives_from (long t g l) q = absurd (omega (arith, q))
+  gives_from (fits t g l) q = (t, g, l, refl)
 
   pub accepted_gives : {a : ℕ} → Coerced End table document variables value report value' report' a → a ≡ 0 →
       ValueLent value report × ValueShort table document variables
       × ((t : Tree) × Gives t × (length (encode t) ≤ most_coerced) × (value' ≡ filled most_coerced (encode t) value) × (report' ≡ filled report_size (0 ∷ length (encode t) ∷ []) report))
   accepted_gives c q =
       let h = tells_it c (inl q) in
-      let g = gives-from (split h.2.0 h.2.1) (sym h.2.2 ∙ q) in
+      let g = gives_from (split h.2.0 h.2.1) (sym h.2.2 ∙ q) in
       (h.0, h.1, (g.0, g.1, g.2, h.2.3 ∙ ap (value_left value) g.3, h.2.4 ∙ ap (report_left report) g.3))
 
   -- ---- 11
 
-  wrong-from : {e : Ending} → Ends Stops Unread Wrong Gives e → answer_of e ≡ refuse_value → (i : At) × (w : ℕ) × Wrong i w × (e ≡ ends refuse_value (i.text ∷ i.row ∷ w ∷ []))
-  wrong-from (stopped {k} {shown} p) q = absurd ((stop k shown p).1 q)
-  wrong-from (unread {r} u) q = absurd (omega (arith, q, text_below r))
-  wrong-from (wrong i {w} h) q = (i, w, h, refl)
-  wrong-from (long t g l) q = absurd (omega (arith, q))
-  wrong-from (fits t g l) q = absurd (omega (arith, q))
+  wrong_from : {e : Ending} → Ends Stops Unread Wrong Gives e → answer_of e ≡ refuse_value → (i : At) × (w : ℕ) × Wrong i w × (e ≡ ends refuse_value (i.text ∷ i.row ∷ w ∷ []))
+  wrong_from (stopped {k} {shown} p) q = absurd ((stop k shown p).1 q)
+  wrong_from (unread {r} u) q = absurd (omega (arith, q, text_below r))
+  wrong_from (wrong i {w} h) q = (i, w, h, refl)
+  wrong_from (long t g l) q = absurd (omega (arith, q))
+  wrong_from (fits t g l) q = absurd (omega (arith, q))
 
   pub refused_wrong : {a : ℕ} → Coerced End table document variables value report value' report' a → a ≡ 11 →
       ValueLent value report × ValueShort table document variables × ((i : At) × (w : ℕ) × Wrong i w × (report' ≡ filled report_size (11 ∷ i.text ∷ i.row ∷ w ∷ []) report))
   refused_wrong c q =
       let h = tells_it c (inr (omega (arith, q))) in
-      let g = wrong-from (split h.2.0 h.2.1) (sym h.2.2 ∙ q) in
+      let g = wrong_from (split h.2.0 h.2.1) (sym h.2.2 ∙ q) in
       (h.0, h.1, (g.0, g.1, g.2, h.2.4 ∙ ap (report_left report) g.3))
 
   -- ---- 16
 
-  long-from : {e : Ending} → Ends Stops Unread Wrong Gives e → answer_of e ≡ refuse_too_long → (t : Tree) × Gives t × (most_coerced < length (encode t))
-  long-from (stopped {k} {shown} p) q = absurd ((stop k shown p).2 q)
-  long-from (unread {r} u) q = absurd (omega (arith, q, text_below r))
-  long-from (wrong i {w} h) q = absurd (omega (arith, q))
-  long-from (long t g l) q = (t, g, l)
-  long-from (fits t g l) q = absurd (omega (arith, q))
+  long_from : {e : Ending} → Ends Stops Unread Wrong Gives e → answer_of e ≡ refuse_too_long → (t : Tree) × Gives t × (most_coerced < length (encode t))
+  long_from (stopped {k} {shown} p) q = absurd ((stop k shown p).2 q)
+  long_from (unread {r} u) q = absurd (omega (arith, q, text_below r))
+  long_from (wrong i {w} h) q = absurd (omega (arith, q))
+  long_from (long t g l) q = (t, g, l)
+  long_from (fits t g l) q = absurd (omega (arith, q))
 
   pub refused_long : {a : ℕ} → Coerced End table document variables value report value' report' a → a ≡ 16 →
       ValueLent value report × ValueShort table document variables × ((t : Tree) × Gives t × (most_coerced < length (encode t)))
   refused_long c q =
       let h = tells_it c (inr (omega (arith, q))) in
-      (h.0, h.1, long-from (split h.2.0 h.2.1) (sym h.2.2 ∙ q))
+      (h.0, h.1, long_from (split h.2.0 h.2.1) (sym h.2.2 ∙ q))
 
   -- ---- 12
 
-  stop-from : {e : Ending} → Ends Stops Unread Wrong Gives e → answer_of e ≡ 12 → (shown : List ℕ) × Stops 12 shown
-  stop-from (stopped {k} {shown} p) q = (shown, rw q at p)
-  stop-from (unread {r} u) q = absurd (omega (arith, q, text_below r))
-  stop-from (wrong i h) q = absurd (omega (arith, q))
-  stop-from (long t g l) q = absurd (omega (arith, q))
-  stop-from (fits t g l) q = absurd (omega (arith, q))
+  stop_from : {e : Ending} → Ends Stops Unread Wrong Gives e → answer_of e ≡ 12 → (shown : List ℕ) × Stops 12 shown
+  stop_from (stopped {k} {shown} p) q = (shown, rw q at p)
+  stop_from (unread {r} u) q = absurd (omega (arith, q, text_below r))
+  stop_from (wrong i h) q = absurd (omega (arith, q))
+  stop_from (long t g l) q = absurd (omega (arith, q))
+  stop_from (fits t g l) q = absurd (omega (arith, q))
 
   pub refused_stop : {a : ℕ} → Coerced End table document variables value report value' report' a → a ≡ 12 → ValueLent value report × ValueShort table document variables × ((shown : List ℕ) × Stops 12 shown)
   refused_stop c q =
       let h = tells_it c (inr (omega (arith, q))) in
-      (h.0, h.1, stop-from (split h.2.0 h.2.1) (sym h.2.2 ∙ q))
+      (h.0, h.1, stop_from (split h.2.0 h.2.1) (sym h.2.2 ∙ q))
 
   -- ---- 3 to 6 of the variables text
 
-  unread-from : {e : Ending} → Ends Stops Unread Wrong Gives e → (k at : ℕ) → 2 < k → k < 7 → answer_of e ≡ k → take 3 (report_left report e) ≡ k ∷ at ∷ 1 ∷ [] →
+  unread_from : {e : Ending} → Ends Stops Unread Wrong Gives e → (k at : ℕ) → 2 < k → k < 7 → answer_of e ≡ k → take 3 (report_left report e) ≡ k ∷ at ∷ 1 ∷ [] →
       (r : Refusal) × Unread r × (number_of r ≡ k) × (shown_in_text input_variables r ≡ at ∷ 1 ∷ [])
-  unread-from (stopped {k = m} {shown} p) k at l u q z =
+  unread_from (stopped {k = m} {shown} p) k at l u q z =
       let x = (stop m shown p).4 (omega (arith, q, u)) report in
       let y = ap (λ (ns : List ℕ). get_or ns 2 0) z in
       absurd (omega (arith, x, y))
-  unread-from (unread {r} h) k at l u q z = (r, h, q, text_shown r report k at z)
-  unread-from (wrong i h) k at l u q z = absurd (omega (arith, q, u))
-  unread-from (long t g x) k at l u q z = absurd (omega (arith, q, u))
-  unread-from (fits t g x) k at l u q z = absurd (omega (arith, q, l))
+  unread_from (unread {r} h) k at l u q z = (r, h, q, text_shown r report k at z)
+  unread_from (wrong i h) k at l u q z = absurd (omega (arith, q, u))
+  unread_from (long t g x) k at l u q z = absurd (omega (arith, q, u))
+  unread_from (fits t g x) k at l u q z = absurd (omega (arith, q, l))
 
   abbrev Read : (k at : ℕ) → Type 0
   Read k at = ValueLent value report × ValueShort table document variables × ((r : Refusal) × Unread r × (number_of r ≡ k) × (shown_in_text input_variables r ≡ at ∷ 1 ∷ []))
@@ -197,7 +197,7 @@ module _ (End : Ending → Type 0) (Stops : ℕ → List ℕ → Type 0) (Unread
       to : (a ≡ k) × (take 3 report' ≡ k ∷ at ∷ 1 ∷ []) → Read k at
       to q =
           let h = tells_it c (inr (omega (arith, q.0, l))) in
-          (h.0, h.1, unread-from (split h.2.0 h.2.1) k at l u (sym h.2.2 ∙ q.0) (ap (take 3) (sym h.2.4) ∙ q.1))
+          (h.0, h.1, unread_from (split h.2.0 h.2.1) k at l u (sym h.2.2 ∙ q.0) (ap (take 3) (sym h.2.4) ∙ q.1))
 
       from : Read k at → (a ≡ k) × (take 3 report' ≡ k ∷ at ∷ 1 ∷ [])
       from h =

@@ -39,21 +39,21 @@ module _ (t : Table) (d : Doc) (h : (a : QueryAnswer) → Judged t d a → ⊥) 
   not_after i k f g j l b (no z) = inl (lt_of_not-le z)
   not_after i k f g j l b (yes z) = same_row (dec_le i j)
     where
-      same-rule : i ≡ j → Dec (k ≤ l) → NotAfter i k j l
-      same-rule e (yes w) = inr (e, w)
-      same-rule e (no w) = absurd (g l (lt_of_not-le w) (rw e b))
+      same_rule : i ≡ j → Dec (k ≤ l) → NotAfter i k j l
+      same_rule e (yes w) = inr (e, w)
+      same_rule e (no w) = absurd (g l (lt_of_not-le w) (rw e b))
 
       same_row : Dec (i ≤ j) → NotAfter i k j l
-      same_row (yes w) = same-rule (omega (arith, z, w)) (dec_le k l)
+      same_row (yes w) = same_rule (omega (arith, z, w)) (dec_le k l)
       same_row (no w) = absurd (f j l (lt_of_not-le w) b)
 
-  none-in-row : (i : ℕ) → ((j l : ℕ) → j < i → Broken t d j l → ⊥) → (m l : ℕ) → l < m → Broken t d i l → ⊥
-  none-in-row i f zero l z b = omega (arith, z)
-  none-in-row i f (suc m) l z b = h (Breaks i l) (least_break b (λ j x c. not_after i l f (λ y w. none-in-row i f m y (omega (arith, z, w))) j x c (dec_le j i)))
+  none_in_row : (i : ℕ) → ((j l : ℕ) → j < i → Broken t d j l → ⊥) → (m l : ℕ) → l < m → Broken t d i l → ⊥
+  none_in_row i f zero l z b = omega (arith, z)
+  none_in_row i f (suc m) l z b = h (Breaks i l) (least_break b (λ j x c. not_after i l f (λ y w. none_in_row i f m y (omega (arith, z, w))) j x c (dec_le j i)))
 
   none_before : (i j l : ℕ) → j < i → Broken t d j l → ⊥
   none_before zero j l z b = omega (arith, z)
-  none_before (suc i) j l z b = none-in-row j (λ x y w. none_before i x y (omega (arith, z, w))) (suc l) l (omega arith) b
+  none_before (suc i) j l z b = none_in_row j (λ x y w. none_before i x y (omega (arith, z, w))) (suc l) l (omega arith) b
 
   pub unjudged : ⊥
   unjudged = h Fits (no_break (λ i k b. none_before (suc i) i k (omega arith) b))
@@ -67,24 +67,24 @@ accepts_or_not (TooMany at) = no (λ e. let z : ◌≡◌ {A = ℕ} 0 1 = cc in 
 accepts_or_not (TableBreaks i k m p a) = no (λ e. let z : ◌≡◌ {A = ℕ} 0 1 = cc in omega arith)
 
 module _ (table document name : List ℕ) (h : (o : Outcome) → Opened table document name o → ⊥) where
-  of-name : {rs : List Row} → AcceptedDocument table document rs → (m : Option ℕ) → operation_meant (read document rs) name ≡ m → ⊥
-  of-name a none q = h _ (no_operation a q)
-  of-name a (some op) q = h _ (opened a q)
+  of_name : {rs : List Row} → AcceptedDocument table document rs → (m : Option ℕ) → operation_meant (read document rs) name ≡ m → ⊥
+  of_name a none q = h _ (no_operation a q)
+  of_name a (some op) q = h _ (opened a q)
 
-  of-rules : judge table ≡ Accepted → (t : Text) → Tokens 0 document t → (rs : List Row) → TextAnswer Document t (rows_are rs) → (a : QueryAnswer) → Judged (table_of table) (read document rs) a → ⊥
-  of-rules j t k rs s Fits q = of-name (record { table_right = j; text = t; tokens = k; said = s; judged = q }) (operation_meant (read document rs) name) refl
-  of-rules j t k rs s (Breaks i r) q = h _ (rule_broken j k s q)
+  of_rules : judge table ≡ Accepted → (t : Text) → Tokens 0 document t → (rs : List Row) → TextAnswer Document t (rows_are rs) → (a : QueryAnswer) → Judged (table_of table) (read document rs) a → ⊥
+  of_rules j t k rs s Fits q = of_name (record { table_right = j; text = t; tokens = k; said = s; judged = q }) (operation_meant (read document rs) name) refl
+  of_rules j t k rs s (Breaks i r) q = h _ (rule_broken j k s q)
 
-  of-text : judge table ≡ Accepted → (t : Text) → Tokens 0 document t → (a : Answer) → TextAnswer Document t a → ⊥
-  of-text j t k (rows_are rs) s = unjudged (table_of table) (read document rs) (λ a q. of-rules j t k rs s a q)
-  of-text j t k (refuses r) s = h _ (text_refused j k s)
+  of_text : judge table ≡ Accepted → (t : Text) → Tokens 0 document t → (a : Answer) → TextAnswer Document t a → ⊥
+  of_text j t k (rows_are rs) s = unjudged (table_of table) (read document rs) (λ a q. of_rules j t k rs s a q)
+  of_text j t k (refuses r) s = h _ (text_refused j k s)
 
-  of-table : Dec (judge table ≡ Accepted) → ⊥
-  of-table (yes j) = let t = tokens_some document in let s = said_of Document t.1 in of-text j t.0 t.1 s.0 s.1
-  of-table (no n) = h _ (table_refused refl n)
+  of_table : Dec (judge table ≡ Accepted) → ⊥
+  of_table (yes j) = let t = tokens_some document in let s = said_of Document t.1 in of_text j t.0 t.1 s.0 s.1
+  of_table (no n) = h _ (table_refused refl n)
 
   pub unopened : ⊥
-  unopened = of-table (accepts_or_not (judge table))
+  unopened = of_table (accepts_or_not (judge table))
 
 -- ---- how the calls end
 
@@ -94,59 +94,59 @@ module _ (table document name variables : List ℕ) where
     after_text rs op p t k (rows_are vs) s = h _ (calls.variables_coerced p k s (variables_have (kind_of_type (table_of table)) _ _))
     after_text rs op p t k (refuses r) s = h _ (calls.text_refused p k s)
 
-    after-opening : (o : Outcome) → Opened table document name o → ⊥
-    after-opening (stops k shown) p = h _ (calls.nothing_opened p)
-    after-opening (opens rs op) p = let t = tokens_some variables in let s = said_of VariablesText t.1 in after_text rs op p t.0 t.1 s.0 s.1
+    after_opening : (o : Outcome) → Opened table document name o → ⊥
+    after_opening (stops k shown) p = h _ (calls.nothing_opened p)
+    after_opening (opens rs op) p = let t = tokens_some variables in let s = said_of VariablesText t.1 in after_text rs op p t.0 t.1 s.0 s.1
 
-    variables-unended : ⊥
-    variables-unended = unopened table document name after-opening
+    variables_unended : ⊥
+    variables_unended = unopened table document name after_opening
 
   module _ (row : ℕ) (h : (e : Ending) → ArgumentsEnd table document name variables row e → ⊥) where
-    after-argument-text : (rs : List Row) (op : ℕ) → Opened table document name (opens rs op) → ReachedField (read document rs) op row → (t : Text) → Tokens 0 variables t → (a : Answer) → TextAnswer VariablesText t a → ⊥
-    after-argument-text rs op p f t k (rows_are vs) s = h _ (calls.arguments_coerced p f k s (arguments_have (kind_of_type (table_of table)) _ _ _ _ _))
-    after-argument-text rs op p f t k (refuses r) s = h _ (calls.variables_unread p f k s)
+    after_argument_text : (rs : List Row) (op : ℕ) → Opened table document name (opens rs op) → ReachedField (read document rs) op row → (t : Text) → Tokens 0 variables t → (a : Answer) → TextAnswer VariablesText t a → ⊥
+    after_argument_text rs op p f t k (rows_are vs) s = h _ (calls.arguments_coerced p f k s (arguments_have (kind_of_type (table_of table)) _ _ _ _ _))
+    after_argument_text rs op p f t k (refuses r) s = h _ (calls.variables_unread p f k s)
 
-    after-row : (o : Outcome) → Opened table document name o → ⊥
-    after-row (stops k shown) p = h _ (calls.no_operation_opened p)
-    after-row (opens rs op) p = let t = tokens_some variables in let s = said_of VariablesText t.1 in h _ (calls.no_field_reached p (λ f. after-argument-text rs op p f t.0 t.1 s.0 s.1))
+    after_row : (o : Outcome) → Opened table document name o → ⊥
+    after_row (stops k shown) p = h _ (calls.no_operation_opened p)
+    after_row (opens rs op) p = let t = tokens_some variables in let s = said_of VariablesText t.1 in h _ (calls.no_field_reached p (λ f. after_argument_text rs op p f t.0 t.1 s.0 s.1))
 
-    arguments-unended : ⊥
-    arguments-unended = unopened table document name after-row
+    arguments_unended : ⊥
+    arguments_unended = unopened table document name after_row
 
 -- ---- the calls
 
 module _ (End : Ending → Type 0) (some_end : ((e : Ending) → End e → ⊥) → ⊥) (table document variables value report : List ℕ)
     (h : (value' report' : List ℕ) (a : ℕ) → Coerced End table document variables value report value' report' a → ⊥) where
-  with-end : ValueLent value report → ValueShort table document variables → (e : Ending) → End e → ⊥
-  with-end l s (ends k shown) d = h _ _ _ (calls.refused l s d refl refl)
-  with-end l s (yields bs) d = h _ _ _ (calls.answered l s d refl refl)
+  with_end : ValueLent value report → ValueShort table document variables → (e : Ending) → End e → ⊥
+  with_end l s (ends k shown) d = h _ _ _ (calls.refused l s d refl refl)
+  with_end l s (yields bs) d = h _ _ _ (calls.answered l s d refl refl)
 
-  with-table : ValueLent value report → length document ≤ most_text → length variables ≤ most_text → Dec (length table ≤ most_table) → ⊥
-  with-table l x y (yes z) = some_end (with-end l (x, y, z))
-  with-table l x y (no z) = h _ _ _ (calls.long_table l x y (lt_of_not-le z) refl refl)
+  with_table : ValueLent value report → length document ≤ most_text → length variables ≤ most_text → Dec (length table ≤ most_table) → ⊥
+  with_table l x y (yes z) = some_end (with_end l (x, y, z))
+  with_table l x y (no z) = h _ _ _ (calls.long_table l x y (lt_of_not-le z) refl refl)
 
-  with-variables : ValueLent value report → length document ≤ most_text → Dec (length variables ≤ most_text) → ⊥
-  with-variables l x (yes y) = with-table l x y (dec_le (length table) most_table)
-  with-variables l x (no y) = h _ _ _ (calls.long_variables l x (lt_of_not-le y) refl refl)
+  with_variables : ValueLent value report → length document ≤ most_text → Dec (length variables ≤ most_text) → ⊥
+  with_variables l x (yes y) = with_table l x y (dec_le (length table) most_table)
+  with_variables l x (no y) = h _ _ _ (calls.long_variables l x (lt_of_not-le y) refl refl)
 
-  with-document : ValueLent value report → Dec (length document ≤ most_text) → ⊥
-  with-document l (yes x) = with-variables l x (dec_le (length variables) most_text)
-  with-document l (no x) = h _ _ _ (calls.long_document l (lt_of_not-le x) refl refl)
+  with_document : ValueLent value report → Dec (length document ≤ most_text) → ⊥
+  with_document l (yes x) = with_variables l x (dec_le (length variables) most_text)
+  with_document l (no x) = h _ _ _ (calls.long_document l (lt_of_not-le x) refl refl)
 
   with_value : report_size ≤ length report → Dec (most_coerced ≤ length value) → ⊥
-  with_value r (yes w) = with-document (r, w) (dec_le (length document) most_text)
+  with_value r (yes w) = with_document (r, w) (dec_le (length document) most_text)
   with_value r (no w) = h _ _ _ (calls.short_value r (lt_of_not-le w) refl refl)
 
-  with-report : Dec (report_size ≤ length report) → ⊥
-  with-report (yes r) = with_value r (dec_le most_coerced (length value))
-  with-report (no r) = h _ _ _ (calls.short_report (lt_of_not-le r) refl refl)
+  with_report : Dec (report_size ≤ length report) → ⊥
+  with_report (yes r) = with_value r (dec_le most_coerced (length value))
+  with_report (no r) = h _ _ _ (calls.short_report (lt_of_not-le r) refl refl)
 
 pub coerced_variables_some : (table document name variables value report : List ℕ) →
     ((value' report' : List ℕ) (a : ℕ) → CoercedVariables table document name variables value report value' report' a → ⊥) → ⊥
 coerced_variables_some table document name variables value report h =
-    with-report (VariablesEnd table document name variables) (variables-unended table document name variables) table document variables value report h (dec_le report_size (length report))
+    with_report (VariablesEnd table document name variables) (variables_unended table document name variables) table document variables value report h (dec_le report_size (length report))
 
 pub coerced_arguments_some : (table document name variables : List ℕ) (row : ℕ) (value report : List ℕ) →
     ((value' report' : List ℕ) (a : ℕ) → CoercedArguments table document name variables row value report value' report' a → ⊥) → ⊥
 coerced_arguments_some table document name variables row value report h =
-    with-report (ArgumentsEnd table document name variables row) (arguments-unended table document name variables row) table document variables value report h (dec_le report_size (length report))
+    with_report (ArgumentsEnd table document name variables row) (arguments_unended table document name variables row) table document variables value report h (dec_le report_size (length report))

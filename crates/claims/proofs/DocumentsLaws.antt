@@ -83,19 +83,19 @@ module _ {table document rows report rows' report' : List ℕ} {a : ℕ} (c : Ch
 
 module _ {table document rows report rows' report' : List ℕ} where
   -- 0: all is kept to, and no rule is broken
-  to-accepted : {a : ℕ} → CheckedDocument table document rows report rows' report' a → a ≡ 0 → Lent rows report × Short table document × (judge table ≡ Accepted) × ((rs : List Row) × Rows document rs × NoBreak (table_of table) (read document rs))
-  to-accepted (short_report h e f) l = let z : ⊥ = omega arith in absurd z
-  to-accepted (short_rows h w e f) l = let z : ⊥ = omega arith in absurd z
-  to-accepted (long_document h w e f) l = let z : ⊥ = omega arith in absurd z
-  to-accepted (long_table h v w e f) l = let z : ⊥ = omega arith in absurd z
-  to-accepted (refuses_table {a = b} h s j n e f) l = let z : ⊥ = omega (arith, (table_number_is b n).0) in absurd z
-  to-accepted (refuses_text h s j k d e f) l = let z : ⊥ = omega (arith, (text_number d).0) in absurd z
-  to-accepted (breaks_rule h s j k d q e f) l = let z : ⊥ = omega arith in absurd z
-  to-accepted (accepts {t} {rs} h s j k d q e f) l = (h, s, j, (rs, (t, k, d), (fits_exactly (table_of table) (read document rs)).0 q))
+  to_accepted : {a : ℕ} → CheckedDocument table document rows report rows' report' a → a ≡ 0 → Lent rows report × Short table document × (judge table ≡ Accepted) × ((rs : List Row) × Rows document rs × NoBreak (table_of table) (read document rs))
+  to_accepted (short_report h e f) l = let z : ⊥ = omega arith in absurd z
+  to_accepted (short_rows h w e f) l = let z : ⊥ = omega arith in absurd z
+  to_accepted (long_document h w e f) l = let z : ⊥ = omega arith in absurd z
+  to_accepted (long_table h v w e f) l = let z : ⊥ = omega arith in absurd z
+  to_accepted (refuses_table {a = b} h s j n e f) l = let z : ⊥ = omega (arith, (table_number_is b n).0) in absurd z
+  to_accepted (refuses_text h s j k d e f) l = let z : ⊥ = omega (arith, (text_number d).0) in absurd z
+  to_accepted (breaks_rule h s j k d q e f) l = let z : ⊥ = omega arith in absurd z
+  to_accepted (accepts {t} {rs} h s j k d q e f) l = (h, s, j, (rs, (t, k, d), (fits_exactly (table_of table) (read document rs)).0 q))
 
   pub accepted_exactly : {a : ℕ} → CheckedDocument table document rows report rows' report' a →
       (a ≡ 0) ↔ (Lent rows report × Short table document × (judge table ≡ Accepted) × ((rs : List Row) × Rows document rs × NoBreak (table_of table) (read document rs)))
-  accepted_exactly c = (to-accepted c, λ h. (checked_document_one c (accepts h.0 h.1 h.2 h.3.1.1 h.3.1.2 (no_break h.3.2) refl refl)).0)
+  accepted_exactly c = (to_accepted c, λ h. (checked_document_one c (accepts h.0 h.1 h.2 h.3.1.1 h.3.1.2 (no_break h.3.2) refl refl)).0)
 
   -- 10: all is kept to but a rule, and the report shows the least row and its least rule
   pub to_broken : {a : ℕ} → CheckedDocument table document rows report rows' report' a → a ≡ 10 →

@@ -61,13 +61,13 @@ module _ {document rows report rows' report' : List ℕ} where
       (a ≡ 0) ↔ ((report_size ≤ length report) × (rows_size ≤ length rows) × (length document ≤ most_text) × ((rs : List Row) × Rows document rs))
   parsed_exactly c = (to_read c, λ h. (parsed_one c (reads h.0 h.1 h.2 h.3.1.1 h.3.1.2 refl refl)).0)
 
-  to-refused : {a : ℕ} → Parsed document rows report rows' report' a → 2 < a →
+  to_refused : {a : ℕ} → Parsed document rows report rows' report' a → 2 < a →
       (report_size ≤ length report) × (rows_size ≤ length rows) × (length document ≤ most_text) × ((r : Refusal) × NoRows document r × (a ≡ number_of r) × (report' ≡ tells r report))
-  to-refused (short_report h e f) l = let z : ⊥ = omega arith in absurd z
-  to-refused (short_rows h w e f) l = let z : ⊥ = omega arith in absurd z
-  to-refused (over_length h w m e f) l = let z : ⊥ = omega arith in absurd z
-  to-refused (refuses_text {t} {r} h w m k s e f) l = (h, w, m, (r, (t, k, s), refl, f))
-  to-refused (reads h w m k s e f) l = let z : ⊥ = omega arith in absurd z
+  to_refused (short_report h e f) l = let z : ⊥ = omega arith in absurd z
+  to_refused (short_rows h w e f) l = let z : ⊥ = omega arith in absurd z
+  to_refused (over_length h w m e f) l = let z : ⊥ = omega arith in absurd z
+  to_refused (refuses_text {t} {r} h w m k s e f) l = (h, w, m, (r, (t, k, s), refl, f))
+  to_refused (reads h w m k s e f) l = let z : ⊥ = omega arith in absurd z
 
   -- the refusal that the text asks for is told, and none other
   pub parse_refuses : {a : ℕ} → Parsed document rows report rows' report' a → report_size ≤ length report → rows_size ≤ length rows → length document ≤ most_text →
@@ -76,7 +76,7 @@ module _ {document rows report rows' report' : List ℕ} where
 
   pub parse_told : {a : ℕ} → Parsed document rows report rows' report' a → 2 < a →
       (report_size ≤ length report) × (rows_size ≤ length rows) × (length document ≤ most_text) × ((r : Refusal) × NoRows document r × (a ≡ number_of r) × (report' ≡ tells r report))
-  parse_told = to-refused
+  parse_told = to_refused
 
   -- 1 and 2: the sizes are tested in this order, and the rows are left as they were
   pub parse_short_rows : {a : ℕ} → Parsed document rows report rows' report' a → report_size ≤ length report → length rows < rows_size → (a ≡ 1) × (rows' ≡ rows) × (report' ≡ tells Buffer report)
@@ -88,17 +88,17 @@ module _ {document rows report rows' report' : List ℕ} where
 
 -- ---- gw_check_table
 module _ {table report report' : List ℕ} where
-  to-accepted : {a : ℕ} → Checked table report report' a → a ≡ 0 → (report_size ≤ length report) × (length table ≤ most_table) × (framing_offset table ≡ none) × (counts_offset table ≡ none) × (breaks (table_of table) ≡ [])
-  to-accepted (table-cases.short_report h e) l = let z : ⊥ = omega arith in absurd z
-  to-accepted (table-cases.over_length h m e) l = let z : ⊥ = omega arith in absurd z
-  to-accepted (table-cases.judges h m e) l = let j = (judged.accepted_exactly table).0 (accepts {table = table} {report = report} {report' = report'} (table-cases.judges h m e) l).1 in (h, m, j.0, j.1, j.2)
+  to_accepted : {a : ℕ} → Checked table report report' a → a ≡ 0 → (report_size ≤ length report) × (length table ≤ most_table) × (framing_offset table ≡ none) × (counts_offset table ≡ none) × (breaks (table_of table) ≡ [])
+  to_accepted (table-cases.short_report h e) l = let z : ⊥ = omega arith in absurd z
+  to_accepted (table-cases.over_length h m e) l = let z : ⊥ = omega arith in absurd z
+  to_accepted (table-cases.judges h m e) l = let j = (judged.accepted_exactly table).0 (accepts {table = table} {report = report} {report' = report'} (table-cases.judges h m e) l).1 in (h, m, j.0, j.1, j.2)
 
-  from-accepted : {a : ℕ} → Checked table report report' a → report_size ≤ length report → length table ≤ most_table → judge table ≡ Accepted → a ≡ 0
-  from-accepted c h m j = (checked_one c (table-cases.judges h m refl)).0 ∙ ap table_number j
+  from_accepted : {a : ℕ} → Checked table report report' a → report_size ≤ length report → length table ≤ most_table → judge table ≡ Accepted → a ≡ 0
+  from_accepted c h m j = (checked_one c (table-cases.judges h m refl)).0 ∙ ap table_number j
 
   pub checked_exactly : {a : ℕ} → Checked table report report' a →
       (a ≡ 0) ↔ ((report_size ≤ length report) × (length table ≤ most_table) × (framing_offset table ≡ none) × (counts_offset table ≡ none) × (breaks (table_of table) ≡ []))
-  checked_exactly c = (to-accepted c, λ h. from-accepted c h.0 h.1 ((judged.accepted_exactly table).1 (h.2, h.3, h.4)))
+  checked_exactly c = (to_accepted c, λ h. from_accepted c h.0 h.1 ((judged.accepted_exactly table).1 (h.2, h.3, h.4)))
 
   -- what is said of the table is told, and shown
   pub checked_tells : {a : ℕ} → Checked table report report' a → report_size ≤ length report → length table ≤ most_table → (a ≡ table_number (judge table)) × (report' ≡ tells_table (judge table) report)
@@ -109,31 +109,31 @@ module _ {table report report' : List ℕ} where
 
 -- ---- gw_check
 module _ (table document rows report : List ℕ) (h : (rows' report' : List ℕ) (a : ℕ) → CheckedDocument table document rows report rows' report' a → ⊥) where
-  of-rules : Lent rows report → Short table document → judge table ≡ Accepted → (t : Text) → Tokens 0 document t → (rs : List Row) → TextAnswer Document t (rows_are rs) →
+  of_rules : Lent rows report → Short table document → judge table ≡ Accepted → (t : Text) → Tokens 0 document t → (rs : List Row) → TextAnswer Document t (rows_are rs) →
       (a : QueryAnswer) → Judged (table_of table) (read document rs) a → ⊥
-  of-rules l s j t k rs d Fits q = h _ _ _ (check-cases.accepts l s j k d q refl refl)
-  of-rules l s j t k rs d (Breaks i r) q = h _ _ _ (check-cases.breaks_rule l s j k d q refl refl)
+  of_rules l s j t k rs d Fits q = h _ _ _ (check-cases.accepts l s j k d q refl refl)
+  of_rules l s j t k rs d (Breaks i r) q = h _ _ _ (check-cases.breaks_rule l s j k d q refl refl)
 
-  of-text : Lent rows report → Short table document → judge table ≡ Accepted → (t : Text) → Tokens 0 document t → (a : Answer) → TextAnswer Document t a → ⊥
-  of-text l s j t k (rows_are rs) d = unjudged (table_of table) (read document rs) (of-rules l s j t k rs d)
-  of-text l s j t k (refuses r) d = h _ _ _ (check-cases.refuses_text l s j k d refl refl)
+  of_text : Lent rows report → Short table document → judge table ≡ Accepted → (t : Text) → Tokens 0 document t → (a : Answer) → TextAnswer Document t a → ⊥
+  of_text l s j t k (rows_are rs) d = unjudged (table_of table) (read document rs) (of_rules l s j t k rs d)
+  of_text l s j t k (refuses r) d = h _ _ _ (check-cases.refuses_text l s j k d refl refl)
 
-  of-table : Lent rows report → Short table document → Dec (judge table ≡ Accepted) → ⊥
-  of-table l s (yes j) = let t = tokens_some document in let d = said_of Document t.1 in of-text l s j t.0 t.1 d.0 d.1
-  of-table l s (no n) = h _ _ _ (check-cases.refuses_table l s refl n refl refl)
+  of_table : Lent rows report → Short table document → Dec (judge table ≡ Accepted) → ⊥
+  of_table l s (yes j) = let t = tokens_some document in let d = said_of Document t.1 in of_text l s j t.0 t.1 d.0 d.1
+  of_table l s (no n) = h _ _ _ (check-cases.refuses_table l s refl n refl refl)
 
-  of-lengths : Lent rows report → Dec (length document ≤ most_text) → Dec (length table ≤ most_table) → ⊥
-  of-lengths l (yes x) (yes y) = of-table l (x, y) (accepts_or_not (judge table))
-  of-lengths l (yes x) (no y) = h _ _ _ (check-cases.long_table l x (lt_of_not-le y) refl refl)
-  of-lengths l (no x) y = h _ _ _ (check-cases.long_document l (lt_of_not-le x) refl refl)
+  of_lengths : Lent rows report → Dec (length document ≤ most_text) → Dec (length table ≤ most_table) → ⊥
+  of_lengths l (yes x) (yes y) = of_table l (x, y) (accepts_or_not (judge table))
+  of_lengths l (yes x) (no y) = h _ _ _ (check-cases.long_table l x (lt_of_not-le y) refl refl)
+  of_lengths l (no x) y = h _ _ _ (check-cases.long_document l (lt_of_not-le x) refl refl)
 
-  of-buffers : Dec (report_size ≤ length report) → Dec (rows_size ≤ length rows) → ⊥
-  of-buffers (yes r) (yes w) = of-lengths (r, w) (dec_le (length document) most_text) (dec_le (length table) most_table)
-  of-buffers (yes r) (no w) = h _ _ _ (check-cases.short_rows r (lt_of_not-le w) refl refl)
-  of-buffers (no r) w = h _ _ _ (check-cases.short_report (lt_of_not-le r) refl refl)
+  of_buffers : Dec (report_size ≤ length report) → Dec (rows_size ≤ length rows) → ⊥
+  of_buffers (yes r) (yes w) = of_lengths (r, w) (dec_le (length document) most_text) (dec_le (length table) most_table)
+  of_buffers (yes r) (no w) = h _ _ _ (check-cases.short_rows r (lt_of_not-le w) refl refl)
+  of_buffers (no r) w = h _ _ _ (check-cases.short_report (lt_of_not-le r) refl refl)
 
   pub checked_document_some : ⊥
-  checked_document_some = of-buffers (dec_le report_size (length report)) (dec_le rows_size (length rows))
+  checked_document_some = of_buffers (dec_le report_size (length report)) (dec_le rows_size (length rows))
 
 module _ {table document rows report rows' report' : List ℕ} {a : ℕ} (c : CheckedDocument table document rows report rows' report' a) where
   pub check_short_rows : report_size ≤ length report → length rows < rows_size → (a ≡ 1) × (rows' ≡ rows) × (report' ≡ tells Buffer report)

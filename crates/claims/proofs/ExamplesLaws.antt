@@ -146,7 +146,7 @@ walk_told : (object : ℕ) (ps : List Pair) → is_object (definition_at (table_
     ((vars : ℕ → Bool) → planning.walk_answer vars (λ k. applies (table_of table_t) k object) plan_d (1 ∷ 2 ∷ []) ≡ ps) →
     Tells (walk table_t (lent plan_of_d) object (1 ∷ 2 ∷ []) none_true) (0 ∷ length ps ∷ []) (pair_numbers ps)
 unfolding first_at
-walk_told object ps is low e output report l = only (walk_fixed table_t (lent plan_of_d) object (1 ∷ 2 ∷ []) none_true output report).1 _ (of-result (walked_some table_t (lent plan_of_d) object (1 ∷ 2 ∷ []) none_true output report))
+walk_told object ps is low e output report l = only (walk_fixed table_t (lent plan_of_d) object (1 ∷ 2 ∷ []) none_true output report).1 _ (of_result (walked_some table_t (lent plan_of_d) object (1 ∷ 2 ∷ []) none_true output report))
   where
     Left : List ℕ → List ℕ → ℕ → Type 0
     Left pairs' report' a = Walked table_t (lent plan_of_d) object (1 ∷ 2 ∷ []) none_true output report pairs' report' a
@@ -161,8 +161,8 @@ walk_told object ps is low e output report l = only (walk_fixed table_t (lent pl
         subst (λ (x : List ℕ). Left x report' a) (c.2 ∙ ap (λ (x : List Pair). filled pairs_size (pair_numbers x) output) q) w))
     so g pairs' report' a w q (inr c) = absurd (let z : length (pairs_of D g) ≡ length ps = ap length q in omega (arith, c.0))
 
-    of-result : (pairs' report' : List ℕ) × (a : ℕ) × Left pairs' report' a → Left (filled pairs_size (pair_numbers ps) output) (filled report_size (0 ∷ length ps ∷ []) report) 0
-    of-result w =
+    of_result : (pairs' report' : List ℕ) × (a : ℕ) × Left pairs' report' a → Left (filled pairs_size (pair_numbers ps) output) (filled report_size (0 ∷ length ps ∷ []) report) 0
+    of_result w =
         let k = by_blocks lent_planned D.rows 0 blocks_d (opened D-accepted D-meant) blocks_of_d object (1 ∷ 2 ∷ []) none_true is (lit≤ tt) known (omega (arith, length-replicate {A = ℕ} variables_size 0))
         output report w.0 w.1 w.2 l w.3 in
         so k.0 w.0 w.1 w.2 w.3 (sym (walk_answers table_t D.bytes D.rows D-accepted 0 (is_one none_true) object blocks_d (1 ∷ 7 ∷ []) (refl, (refl, tt)) k.0 k.1) ∙ e (is_one none_true)) k.3

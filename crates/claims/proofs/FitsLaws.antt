@@ -85,21 +85,21 @@ module _ (n : Part) (t : Text) (es : Evs) (w : EndsWell t) (r : Reads n (classes
   not_stopped : (k : ℕ) → k ≤ length (tokens_of t) → StopsAt n (classes_of t) k → ⊥
   not_stopped k h s = accepted≢stopped (sym (accepted_only n (classes_of t) r) ∙ stops_only n (classes_of t) k (let e = classes_length t in omega arith) s)
 
-  within-sums : ((k : ℕ) → k < length (tokens_of t) → Within (sums (through (suc k) es) nothing_counted)) → (k : ℕ) (m : Sums) → Summed n (classes_of t) k m → Within m
-  within-sums f k m h =
+  within_sums : ((k : ℕ) → k < length (tokens_of t) → Within (sums (through (suc k) es) nothing_counted)) → (k : ℕ) (m : Sums) → Summed n (classes_of t) k m → Within m
+  within_sums f k m h =
       let i : k < length (tokens_of t) = (let e = classes_length t in let j = h.inside in omega arith) in
       subst Within (summed_one n (classes_of t) k (sums (through (suc k) es) nothing_counted) m (summed_reading n t es k r i) h) (f k i)
 
-  no-fault : ((k : ℕ) → k < length (tokens_of t) → Within (sums (through (suc k) es) nothing_counted)) → (z : Refusal) → Fault n t z → ⊥
-  no-fault f z (no_token b) = not_bad w b
-  no-fault f z (no_going k h s) = not_stopped k (omega arith) s
-  no-fault f z (no_end v s) = not_stopped (length (tokens_of t)) (omega arith) s
-  no-fault f z (too_deep k {s = m} h o) = over_not (over_levels m) o (within-sums f k m h).0
-  no-fault f z (too_many_rows k {s = m} h o) = over_not (over_rows m) o (within-sums f k m h).1
-  no-fault f z (too_many k {s = m} h o) = over_not (over_counts m.counts) o (within-sums f k m h).2
+  no_fault : ((k : ℕ) → k < length (tokens_of t) → Within (sums (through (suc k) es) nothing_counted)) → (z : Refusal) → Fault n t z → ⊥
+  no_fault f z (no_token b) = not_bad w b
+  no_fault f z (no_going k h s) = not_stopped k (omega arith) s
+  no_fault f z (no_end v s) = not_stopped (length (tokens_of t)) (omega arith) s
+  no_fault f z (too_deep k {s = m} h o) = over_not (over_levels m) o (within_sums f k m h).0
+  no_fault f z (too_many_rows k {s = m} h o) = over_not (over_rows m) o (within_sums f k m h).1
+  no_fault f z (too_many k {s = m} h o) = over_not (over_counts m.counts) o (within_sums f k m h).2
 
-  all-within : ((z : Refusal) → Fault n t z → ⊥) → (k : ℕ) → k < length (tokens_of t) → Within (sums (through (suc k) es) nothing_counted)
-  all-within g k h =
+  all_within : ((z : Refusal) → Fault n t z → ⊥) → (k : ℕ) → k < length (tokens_of t) → Within (sums (through (suc k) es) nothing_counted)
+  all_within g k h =
       let m = sums (through (suc k) es) nothing_counted in
       let s = summed_reading n t es k r h in (
         not_over (over_levels m) (λ o. g (TooDeep (place_of k t)) (too_deep k s o)),
@@ -113,10 +113,10 @@ Fits n t rs =
     (es : Evs) × EndsWell t × Reads n (classes_of t) es × ((k : ℕ) → k < length (tokens_of t) → Within (sums (through (suc k) es) nothing_counted)) × (rs ≡ rows_of es (tokens_of t))
 
 said_fits : (n : Part) (t : Text) (rs : List Row) → TextAnswer n t (rows_are rs) → Fits n t rs
-said_fits n t rs (accepts {es} w d c) = (es, w, d, all-within n t es w d c, refl)
+said_fits n t rs (accepts {es} w d c) = (es, w, d, all_within n t es w d c, refl)
 
 fits_said : (n : Part) (t : Text) (rs : List Row) → Fits n t rs → TextAnswer n t (rows_are rs)
-fits_said n t rs (es, w, d, f, e) = subst (λ (z : List Row). TextAnswer n t (rows_are z)) (sym e) (accepts w d (no-fault n t es w d f))
+fits_said n t rs (es, w, d, f, e) = subst (λ (z : List Row). TextAnswer n t (rows_are z)) (sym e) (accepts w d (no_fault n t es w d f))
 
 pub fits_exactly : (n : Part) (t : Text) (rs : List Row) → TextAnswer n t (rows_are rs) ↔ Fits n t rs
 fits_exactly n t rs = (said_fits n t rs, fits_said n t rs)

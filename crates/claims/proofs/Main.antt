@@ -67,7 +67,7 @@ demand_1 = (
 -- DEMAND 2. It follows the draft as document 01 lists it: a document is accepted exactly when grammar, query rules and sizes are met; a
 -- table exactly when framing, sizes and schema rules are; each input value coerces to the one result the rules give, or is refused exactly
 -- where they refuse it.
-pub demand-2 :
+pub demand_2 :
     -- a text: it fits grammar and sizes (then it has rows)
     ((document rows report rows' report' : List ℕ) (a : ℕ) → Parsed document rows report rows' report' a →
     (a ≡ 0) ↔ ((report_size ≤ length report) × (rows_size ≤ length rows) × (length document ≤ most_text)
@@ -100,7 +100,7 @@ pub demand-2 :
     × ((i : At) (w : ℕ) → ((a ≡ 11) × (take 4 report' ≡ 11 ∷ i.text ∷ i.row ∷ w ∷ [])) ↔ (ValueLent value report
     × ValueShort table document variables × ((rs : List Row) × (op : ℕ) × (vs : List Row) × ReachedField (read document rs) op row
     × VariablesRead table document name variables rs op vs × ArgumentsGive table document variables row rs op vs (No i w)))))
-demand-2 = (
+demand_2 = (
   λ d w r x s a c. exactly.parsed_exactly c,
   λ t r s a c. exactly.checked_exactly c,
   λ t d w r x s a c. documents.accepted_exactly c,

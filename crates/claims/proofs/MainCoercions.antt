@@ -28,7 +28,7 @@ use Rattle.paper_values.specs.Written.{four_bytes}
 use Rattle.paper_values.specs.Characters.{characters_of}
 use Rattle.paper_values.specs.NumberTokens.{int_of}
 use Rattle.paper_values.specs.Signed.{number_written, number_held, is_int}
-use Rattle.paper_values.specs.Values.{Name, At, Value, Values, variable, integer, string, null, list, object, Entries, no-entries, entry, Due, Tree, Null, Bits, Fields, Pairs, no_pairs, pair, Out, Got, No}
+use Rattle.paper_values.specs.Values.{Name, At, Value, Values, variable, integer, string, null, list, object, Entries, no_entries, entry, Due, Tree, Null, Bits, Fields, Pairs, no_pairs, pair, Out, Got, No}
 use Rattle.paper_values.specs.Kinds.{Kind, Int, kind_of_type}
 use Rattle.paper_values.specs.Computed.{Given, coerce, coerce_all, variablesFrom, variables_of, argumentsOf}
 use Rattle.paper_values.specs.Coercion.{Head, heads, repeated_entry, unknown_entry, value_in}
@@ -298,14 +298,14 @@ abbrev pub give : Ref → Value → Out Tree
 give r v = coerce (kind_of_type types) (λ n. none) v r
 
 -- (1) to (7), over one list.
-pub examples-1-to-7 :
+pub examples_1_to_7 :
     give (named (bytes "Int")) (integer (here 1) (bytes "2147483647")) ∷
     give (named (bytes "Int")) (integer (here 1) (bytes "2147483648")) ∷
     give (named (bytes "Int")) (integer (here 1) (bytes "-2147483648")) ∷
     give (named (bytes "Int")) (integer (here 1) (bytes "-2147483649")) ∷
-    give (named (bytes "In")) (object (here 0) (entry (here 1) (bytes "a") (string (here 2) (0x22 ∷ (bytes "abc" ++ (0x22 ∷ []))) (characters_of (0x22 ∷ (bytes "abc" ++ (0x22 ∷ []))))) no-entries)) ∷
-    give (named (bytes "In")) (object (here 0) (entry (here 1) (bytes "a") (null (here 2)) (entry (here 3) (bytes "b") (integer (here 4) (bytes "1")) no-entries))) ∷
-    give (named (bytes "In")) (object (here 0) (entry (here 1) (bytes "a") (variable (here 2) (bytes "var")) (entry (here 3) (bytes "b") (integer (here 4) (bytes "1")) no-entries))) ∷
+    give (named (bytes "In")) (object (here 0) (entry (here 1) (bytes "a") (string (here 2) (0x22 ∷ (bytes "abc" ++ (0x22 ∷ []))) (characters_of (0x22 ∷ (bytes "abc" ++ (0x22 ∷ []))))) no_entries)) ∷
+    give (named (bytes "In")) (object (here 0) (entry (here 1) (bytes "a") (null (here 2)) (entry (here 3) (bytes "b") (integer (here 4) (bytes "1")) no_entries))) ∷
+    give (named (bytes "In")) (object (here 0) (entry (here 1) (bytes "a") (variable (here 2) (bytes "var")) (entry (here 3) (bytes "b") (integer (here 4) (bytes "1")) no_entries))) ∷
     [] ≡
     Got (Bits 2147483647) ∷
     No (here 1) 2 ∷
@@ -315,7 +315,7 @@ pub examples-1-to-7 :
     Got (Fields (pair (bytes "a") Null (pair (bytes "b") (Bits 1) no_pairs))) ∷
     Got (Fields (pair (bytes "b") (Bits 1) no_pairs)) ∷
     []
-examples-1-to-7 = examples.seven
+examples_1_to_7 = examples.seven
 
 -- ---- THE CALL `gw_coerce_variables`: an operation's variables
 

@@ -38,13 +38,13 @@ pub examples_1_to_11 : AllTell (
     (check_table [], 9 ∷ 0 ∷ 16 ∷ 65535 ∷ 65535 ∷ 65535 ∷ [], []) ∷
     [])
 examples_1_to_11 =
-    examples.got 3 _ (values.seven-end).0 and
-    examples.no_value 6 11 (0 ∷ 8 ∷ 2 ∷ []) (values.seven-end).1 and
-    examples.got 9 _ (values.seven-end).2 and
-    examples.no_value 12 11 (0 ∷ 14 ∷ 2 ∷ []) (values.seven-end).3 and
-    examples.no_value 15 11 (0 ∷ 17 ∷ 3 ∷ []) (values.seven-end).4 and
-    examples.got 20 _ (values.seven-end).5 and
-    examples.got 27 _ (values.seven-end).6 and
+    examples.got 3 _ (values.seven_end).0 and
+    examples.no_value 6 11 (0 ∷ 8 ∷ 2 ∷ []) (values.seven_end).1 and
+    examples.got 9 _ (values.seven_end).2 and
+    examples.no_value 12 11 (0 ∷ 14 ∷ 2 ∷ []) (values.seven_end).3 and
+    examples.no_value 15 11 (0 ∷ 17 ∷ 3 ∷ []) (values.seven_end).4 and
+    examples.got 20 _ (values.seven_end).5 and
+    examples.got 27 _ (values.seven_end).6 and
     examples.rows_told and
     examples.plan_told and
     examples.fan_told and

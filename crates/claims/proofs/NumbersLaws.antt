@@ -78,14 +78,14 @@ arguments_number e (values.variables_unread {r} p f k s) = refusal_number r
 arguments_number e (values.arguments_coerced {o} p f k s c) = ended_number o
 
 module _ (End : Ending → Type 0) (numbered : (e : Ending) → End e → Numbered e) where
-  coerced-number : {table document variables value report value' report' : List ℕ} {a : ℕ} → Coerced End table document variables value report value' report' a → a ≤ Refusals
-  coerced-number (values.short_report h e f) = omega arith
-  coerced-number (values.short_value h w e f) = omega arith
-  coerced-number (values.long_document h w e f) = omega arith
-  coerced-number (values.long_variables h v w e f) = omega arith
-  coerced-number (values.long_table h u v w e f) = omega arith
-  coerced-number (values.refused {k} {shown} l s d e f) = numbered (ends k shown) d
-  coerced-number (values.answered l s d e f) = omega arith
+  coerced_number : {table document variables value report value' report' : List ℕ} {a : ℕ} → Coerced End table document variables value report value' report' a → a ≤ Refusals
+  coerced_number (values.short_report h e f) = omega arith
+  coerced_number (values.short_value h w e f) = omega arith
+  coerced_number (values.long_document h w e f) = omega arith
+  coerced_number (values.long_variables h v w e f) = omega arith
+  coerced_number (values.long_table h u v w e f) = omega arith
+  coerced_number (values.refused {k} {shown} l s d e f) = numbered (ends k shown) d
+  coerced_number (values.answered l s d e f) = omega arith
 
 -- ---- the seven calls
 
@@ -112,10 +112,10 @@ check_number (check.breaks_rule h s j k d q e f) = omega arith
 check_number (check.accepts h s j k d q e f) = omega arith
 
 pub variables_answer : (table document name variables : List ℕ) {value report value' report' : List ℕ} {a : ℕ} → CoercedVariables table document name variables value report value' report' a → a ≤ 16
-variables_answer table document name variables = coerced-number (VariablesEnd table document name variables) variables_number
+variables_answer table document name variables = coerced_number (VariablesEnd table document name variables) variables_number
 
 pub arguments_answer : (table document name variables : List ℕ) (row : ℕ) {value report value' report' : List ℕ} {a : ℕ} → CoercedArguments table document name variables row value report value' report' a → a ≤ 16
-arguments_answer table document name variables row = coerced-number (ArgumentsEnd table document name variables row) arguments_number
+arguments_answer table document name variables row = coerced_number (ArgumentsEnd table document name variables row) arguments_number
 
 pub plan_number : {table document name plan report plan' report' : List ℕ} {a : ℕ} → Planned table document name plan report plan' report' a → a ≤ 16
 plan_number (plan.short_report h e f) = omega arith

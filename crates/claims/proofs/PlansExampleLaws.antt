@@ -124,11 +124,11 @@ within_spread f s (inl e) w h = at_5 f (subst (Within D f) e w) h
     at_5 : (x : ℕ) → Within D x 5 → Fragment x → ⊥
     at_5 _ itself k = k
     at_5 x (deeper t v) k = within_1 x v k
-within_spread f s (inr e) w h = at-6 f (subst (Within D f) e w) h
+within_spread f s (inr e) w h = at_6 f (subst (Within D f) e w) h
   where
-    at-6 : (x : ℕ) → Within D x 6 → Fragment x → ⊥
-    at-6 _ itself k = k
-    at-6 x (deeper t v) k = within_0 x v k
+    at_6 : (x : ℕ) → Within D x 6 → Fragment x → ⊥
+    at_6 _ itself k = k
+    at_6 x (deeper t v) k = within_0 x v k
 
 spread_to : (s f : ℕ) → (s ≡ 5) ⊎ (s ≡ 6) → fragment_named D (name_of D s) ≡ f → Fragment f
 unfolding fragment_named first_at

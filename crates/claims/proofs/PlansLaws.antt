@@ -140,32 +140,32 @@ module _ {table document name plan report plan' report' : List ℕ} where
       (a ≡ 0) ↔ (PlanLent plan report × Short table document × ((p : Plan) × PlanIs table document name p × (length p.steps ≤ most_steps)))
   made_exactly c = (to_made c, λ h. (planned_one c (plans h.0 h.1 h.2.1 h.2.2 refl refl)).0)
 
-  to-many : {a : ℕ} → Planned table document name plan report plan' report' a → a ≡ 13 →
+  to_many : {a : ℕ} → Planned table document name plan report plan' report' a → a ≡ 13 →
       PlanLent plan report × Short table document × ((p : Plan) × PlanIs table document name p × (most_steps < length p.steps))
-  to-many (short_report h e f) q = absurd (omega (arith, q))
-  to-many (short_plan h w e f) q = absurd (omega (arith, q))
-  to-many (long_document l w e f) q = absurd (omega (arith, q))
-  to-many (long_table l x w e f) q = absurd (omega (arith, q))
-  to-many (refuses_opening l s o e f) q = absurd (omega (arith, q, (stop_facts o).1))
-  to-many (too_many_steps {p} l s i m e f) q = (l, s, (p, i, m))
-  to-many (plans l s i m e f) q = absurd (omega (arith, q))
+  to_many (short_report h e f) q = absurd (omega (arith, q))
+  to_many (short_plan h w e f) q = absurd (omega (arith, q))
+  to_many (long_document l w e f) q = absurd (omega (arith, q))
+  to_many (long_table l x w e f) q = absurd (omega (arith, q))
+  to_many (refuses_opening l s o e f) q = absurd (omega (arith, q, (stop_facts o).1))
+  to_many (too_many_steps {p} l s i m e f) q = (l, s, (p, i, m))
+  to_many (plans l s i m e f) q = absurd (omega (arith, q))
 
   pub many_exactly : {a : ℕ} → Planned table document name plan report plan' report' a →
       (a ≡ 13) ↔ (PlanLent plan report × Short table document × ((p : Plan) × PlanIs table document name p × (most_steps < length p.steps)))
-  many_exactly c = (to-many c, λ h. (planned_one c (too_many_steps h.0 h.1 h.2.1 h.2.2 refl refl)).0)
+  many_exactly c = (to_many c, λ h. (planned_one c (too_many_steps h.0 h.1 h.2.1 h.2.2 refl refl)).0)
 
-  to-unnamed : {a : ℕ} → Planned table document name plan report plan' report' a → a ≡ 12 → PlanLent plan report × Short table document × Unnamed table document name
-  to-unnamed (short_report h e f) q = absurd (omega (arith, q))
-  to-unnamed (short_plan h w e f) q = absurd (omega (arith, q))
-  to-unnamed (long_document l w e f) q = absurd (omega (arith, q))
-  to-unnamed (long_table l x w e f) q = absurd (omega (arith, q))
-  to-unnamed (refuses_opening l s o e f) q = (l, s, unnamed_if o q)
-  to-unnamed (too_many_steps l s i m e f) q = absurd (omega (arith, q))
-  to-unnamed (plans l s i m e f) q = absurd (omega (arith, q))
+  to_unnamed : {a : ℕ} → Planned table document name plan report plan' report' a → a ≡ 12 → PlanLent plan report × Short table document × Unnamed table document name
+  to_unnamed (short_report h e f) q = absurd (omega (arith, q))
+  to_unnamed (short_plan h w e f) q = absurd (omega (arith, q))
+  to_unnamed (long_document l w e f) q = absurd (omega (arith, q))
+  to_unnamed (long_table l x w e f) q = absurd (omega (arith, q))
+  to_unnamed (refuses_opening l s o e f) q = (l, s, unnamed_if o q)
+  to_unnamed (too_many_steps l s i m e f) q = absurd (omega (arith, q))
+  to_unnamed (plans l s i m e f) q = absurd (omega (arith, q))
 
   pub unnamed_exactly : {a : ℕ} → Planned table document name plan report plan' report' a →
       (a ≡ 12) ↔ (PlanLent plan report × Short table document × ((rs : List Row) × AcceptedDocument table document rs × (operation_meant (read document rs) name ≡ none)))
-  unnamed_exactly c = (to-unnamed c, λ h. (planned_one c (refuses_opening h.0 h.1 (no_operation h.2.1 h.2.2) refl refl)).0)
+  unnamed_exactly c = (to_unnamed c, λ h. (planned_one c (refuses_opening h.0 h.1 (no_operation h.2.1 h.2.2) refl refl)).0)
 
   -- what stops the opening is told, and 3 to 12 are of that alone
   pub opening_told : {a : ℕ} → Planned table document name plan report plan' report' a → PlanLent plan report → Short table document →

@@ -88,32 +88,32 @@ module _ (d : Doc) (op : ℕ) where
 -- ---- the call
 
 module _ (table document name plan report : List ℕ) (h : (plan' report' : List ℕ) (a : ℕ) → Planned table document name plan report plan' report' a → ⊥) where
-  of-plan : PlanLent plan report → Short table document → (p : Plan) → PlanIs table document name p → Dec (length p.steps ≤ most_steps) → ⊥
-  of-plan l s p q (yes m) = h _ _ _ (plans l s q m refl refl)
-  of-plan l s p q (no m) = h _ _ _ (too_many_steps l s q (lt_of_not-le m) refl refl)
+  of_plan : PlanLent plan report → Short table document → (p : Plan) → PlanIs table document name p → Dec (length p.steps ≤ most_steps) → ⊥
+  of_plan l s p q (yes m) = h _ _ _ (plans l s q m refl refl)
+  of_plan l s p q (no m) = h _ _ _ (too_many_steps l s q (lt_of_not-le m) refl refl)
 
-  of-outcome : PlanLent plan report → Short table document → (o : Outcome) → Opened table document name o → ⊥
-  of-outcome l s (stops k shown) q = h _ _ _ (refuses_opening l s q refl refl)
-  of-outcome l s (opens rs op) q =
+  of_outcome : PlanLent plan report → Short table document → (o : Outcome) → Opened table document name o → ⊥
+  of_outcome l s (stops k shown) q = h _ _ _ (refuses_opening l s q refl refl)
+  of_outcome l s (opens rs op) q =
       no_blocks (read document rs) op (λ rows b.
       let p = plan_for (table_of table) (read document rs) op rows in
-      of-plan l s p (record { rows = rs; operation = op; blocks = rows; opened = q; their = b; is = refl }) (dec_le (length p.steps) most_steps))
+      of_plan l s p (record { rows = rs; operation = op; blocks = rows; opened = q; their = b; is = refl }) (dec_le (length p.steps) most_steps))
 
-  with-table : PlanLent plan report → length document ≤ most_text → Dec (length table ≤ most_table) → ⊥
-  with-table l x (yes y) = unopened table document name (of-outcome l (x, y))
-  with-table l x (no y) = h _ _ _ (long_table l x (lt_of_not-le y) refl refl)
+  with_table : PlanLent plan report → length document ≤ most_text → Dec (length table ≤ most_table) → ⊥
+  with_table l x (yes y) = unopened table document name (of_outcome l (x, y))
+  with_table l x (no y) = h _ _ _ (long_table l x (lt_of_not-le y) refl refl)
 
-  with-document : PlanLent plan report → Dec (length document ≤ most_text) → ⊥
-  with-document l (yes x) = with-table l x (dec_le (length table) most_table)
-  with-document l (no x) = h _ _ _ (long_document l (lt_of_not-le x) refl refl)
+  with_document : PlanLent plan report → Dec (length document ≤ most_text) → ⊥
+  with_document l (yes x) = with_table l x (dec_le (length table) most_table)
+  with_document l (no x) = h _ _ _ (long_document l (lt_of_not-le x) refl refl)
 
-  with-plan : report_size ≤ length report → Dec (plan_size ≤ length plan) → ⊥
-  with-plan r (yes w) = with-document (r, w) (dec_le (length document) most_text)
-  with-plan r (no w) = h _ _ _ (short_plan r (lt_of_not-le w) refl refl)
+  with_plan : report_size ≤ length report → Dec (plan_size ≤ length plan) → ⊥
+  with_plan r (yes w) = with_document (r, w) (dec_le (length document) most_text)
+  with_plan r (no w) = h _ _ _ (short_plan r (lt_of_not-le w) refl refl)
 
-  with-report : Dec (report_size ≤ length report) → ⊥
-  with-report (yes r) = with-plan r (dec_le plan_size (length plan))
-  with-report (no r) = h _ _ _ (short_report (lt_of_not-le r) refl refl)
+  with_report : Dec (report_size ≤ length report) → ⊥
+  with_report (yes r) = with_plan r (dec_le plan_size (length plan))
+  with_report (no r) = h _ _ _ (short_report (lt_of_not-le r) refl refl)
 
   pub planned_some : ⊥
-  planned_some = with-report (dec_le report_size (length report))
+  planned_some = with_report (dec_le report_size (length report))

@@ -7,7 +7,7 @@ use lib.Dec.{eqb}
 use Rattle.paper.specs.Numbers.{kind_object_field, kind_variable, kind_integer, kind_string, kind_null, kind_object}
 use Rattle.paper_query.specs.Constructs.{Doc, count, kind_of, parent_of, name_of}
 use Rattle.paper_values.specs.Characters.{characters_of}
-use Rattle.paper_values.specs.Values.{Value, variable, integer, string, null, object, Entries, no-entries, entry}
+use Rattle.paper_values.specs.Values.{Value, variable, integer, string, null, object, Entries, no_entries, entry}
 use Rattle.paper_values.specs.RowValues.{placed, tokenAt, entriesFrom, valueBy, value_at}
 
 module _ (text : ℕ) (d : Doc) where
@@ -17,7 +17,7 @@ module _ (text : ℕ) (d : Doc) where
   passing k h (suc m) c = let rest = passing k h m (c + 1) in cond (eqb (parent_of d c) h && eqb (kind_of d c) k) (c ∷ rest) rest
 
   abbrev pub over : (ℕ → Value) → List ℕ → Entries
-  over read [] = no-entries
+  over read [] = no_entries
   over read (c ∷ cs) = entry (placed text d c) (name_of d c) (read (c + 1)) (over read cs)
 
   entries_over : (read : ℕ → Value) (k h m c : ℕ) → entriesFrom text d read k h m c ≡ over read (passing k h m c)

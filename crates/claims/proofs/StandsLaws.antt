@@ -105,14 +105,14 @@ module _ (n : Part) (t : Text) (r : Refusal) (k : ℕ) (up : Rising t) (inside :
   not_later r' (inl h) = omega arith
   not_later r' (inr h) = let e = h.0 in omega arith
 
-  no-earlier : (j : ℕ) (r' : Refusal) → j < k → offset_of r' ≡ place_of j t → Fault n t r' → ⊥
-  no-earlier j r' h e f = let a = not_later r' (l r' f) in let b = up j k h inside in omega arith
+  no_earlier : (j : ℕ) (r' : Refusal) → j < k → offset_of r' ≡ place_of j t → Fault n t r' → ⊥
+  no_earlier j r' h e f = let a = not_later r' (l r' f) in let b = up j k h inside in omega arith
 
-  within-before : (j : ℕ) (m : Sums) → j < k → Summed n (classes_of t) j m → (over_levels m ≡ false) × (over_rows m ≡ false) × (over_counts m.counts ≡ false)
-  within-before j m h s = (
-    not_over (over_levels m) (λ o. no-earlier j (TooDeep (place_of j t)) h refl (too_deep j s o)),
-    not_over (over_rows m) (λ o. no-earlier j (TooManyRows (place_of j t)) h refl (too_many_rows j s o)),
-    not_over (over_counts m.counts) (λ o. no-earlier j (TooMany (place_of j t)) h refl (too_many j s o)),
+  within_before : (j : ℕ) (m : Sums) → j < k → Summed n (classes_of t) j m → (over_levels m ≡ false) × (over_rows m ≡ false) × (over_counts m.counts ≡ false)
+  within_before j m h s = (
+    not_over (over_levels m) (λ o. no_earlier j (TooDeep (place_of j t)) h refl (too_deep j s o)),
+    not_over (over_rows m) (λ o. no_earlier j (TooManyRows (place_of j t)) h refl (too_many_rows j s o)),
+    not_over (over_counts m.counts) (λ o. no_earlier j (TooMany (place_of j t)) h refl (too_many j s o)),
   )
 
 inside : (n : Part) (t : Text) (k : ℕ) (m : Sums) → Summed n (classes_of t) k m → k ≤ length (tokens_of t)
@@ -132,15 +132,15 @@ Deep n t at =
 
 deep_first : (n : Part) (t : Text) (at : ℕ) → Rising t → Fault n t (TooDeep at) → ((r' : Refusal) → Fault n t r' → NoLater (TooDeep at) r') → Deep n t at
 deep_first n t at up (too_deep k {s = m} s o) l =
-    let f = within-before n t (TooDeep (place_of k t)) k up (inside n t k m s) refl l in
+    let f = within_before n t (TooDeep (place_of k t)) k up (inside n t k m s) refl l in
     let d = opens_33 n (classes_of t) k m s o (λ (j : ℕ) (m' : Sums) (h : j < k) (s' : Summed n (classes_of t) j m'). (f j m' h s').0) in
     (k, m, refl, s, d.0, d.1, f)
 
 rows_first : (n : Part) (t : Text) (at : ℕ) → Rising t → Fault n t (TooManyRows at) → ((r' : Refusal) → Fault n t r' → NoLater (TooManyRows at) r') → First n t at over_rows
-rows_first n t at up (too_many_rows k {s = m} s o) l = (k, m, refl, s, o, within-before n t (TooManyRows (place_of k t)) k up (inside n t k m s) refl l)
+rows_first n t at up (too_many_rows k {s = m} s o) l = (k, m, refl, s, o, within_before n t (TooManyRows (place_of k t)) k up (inside n t k m s) refl l)
 
 many_first : (n : Part) (t : Text) (at : ℕ) → Rising t → Fault n t (TooMany at) → ((r' : Refusal) → Fault n t r' → NoLater (TooMany at) r') → First n t at (λ m. over_counts m.counts)
-many_first n t at up (too_many k {s = m} s o) l = (k, m, refl, s, o, within-before n t (TooMany (place_of k t)) k up (inside n t k m s) refl l)
+many_first n t at up (too_many k {s = m} s o) l = (k, m, refl, s, o, within_before n t (TooMany (place_of k t)) k up (inside n t k m s) refl l)
 
 pub deep_stands : (n : Part) {s : List ℕ} {t : Text} (at : ℕ) → Tokens 0 s t → TextAnswer n t (refuses (TooDeep at)) → Deep n t at
 deep_stands n {s} {t} at k (refused f l) = deep_first n t at (rising k) f l

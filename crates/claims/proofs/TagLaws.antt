@@ -25,7 +25,7 @@ use Rattle.paper_values.specs.Written.{house_field_bytes, four_bytes}
 use Rattle.paper_values.specs.Values.{Tree, Null, Bits, Decimal, Text, Truth, Member, Many, Fields, Token, Trees, no_more, also, Pairs, no_pairs, pair}
 use Rattle.paper_values.specs.Encoding.{encode, encode_all, encode_pairs}
 use Rattle.paper_values.proofs.CallsExact.{duly}
-use Rattle.paper_values.proofs.TagInts.{HasInt, the-int, in_list, in-object, HasIntAll, in-this, in-later, HasIntPair, in-this-pair, in-later-pair, HasTokenEntry, DefaultToken, number_read, tag_33_of_variables, tag_33_of_arguments}
+use Rattle.paper_values.proofs.TagInts.{HasInt, the_int, in_list, in_object, HasIntAll, in_this, in_later, HasIntPair, in_this_pair, in_later_pair, HasTokenEntry, DefaultToken, number_read, tag_33_of_variables, tag_33_of_arguments}
 use Rattle.claims.proofs.CoercionsWords.{VariablesRead}
 use Rattle.claims.proofs.CoercedVariables.{variables_success}
 use Rattle.claims.proofs.CoercedArguments.{arguments_success}
@@ -87,7 +87,7 @@ abbrev IntOfPair : List ℕ → Pairs → Type 0
 IntOfPair c ps = (x : ℕ) × HasIntPair x ps × (c ≡ four_bytes x)
 
 of_bits : {c : List ℕ} (x : ℕ) (r : List ℕ) → Begins 33 c 33 (four_bytes x) r → IntOf c (Bits x) ⊎ FieldIn 33 c r
-of_bits x r (inl h) = inl (x, the-int, sym h.1)
+of_bits x r (inl h) = inl (x, the_int, sym h.1)
 of_bits x r (inr (inl h)) = absurd (false≢true h.0)
 of_bits x r (inr (inr h)) = inr h
 
@@ -98,12 +98,12 @@ of_many ts r f (inr (inr h)) = inr h
 
 of_fields : {c : List ℕ} (ps : Pairs) (r : List ℕ) → (FieldIn 33 c (encode_pairs ps) → IntOfPair c ps) → Begins 33 c tag_input (encode_pairs ps) r → IntOf c (Fields ps) ⊎ FieldIn 33 c r
 of_fields ps r f (inl h) = absurd (omega (arith, h.0))
-of_fields ps r f (inr (inl h)) = let i = f h.1 in inl (i.0, in-object i.1, i.2)
+of_fields ps r f (inr (inl h)) = let i = f h.1 in inl (i.0, in_object i.1, i.2)
 of_fields ps r f (inr (inr h)) = inr h
 
 of_also : {c : List ℕ} (t : Tree) (ts : Trees) → (FieldIn 33 c (encode_all ts) → IntOfAll c ts) → IntOf c t ⊎ FieldIn 33 c (encode_all ts) → IntOfAll c (also t ts)
-of_also t ts f (inl i) = (i.0, in-this i.1, i.2)
-of_also t ts f (inr h) = let i = f h in (i.0, in-later i.1, i.2)
+of_also t ts f (inl i) = (i.0, in_this i.1, i.2)
+of_also t ts f (inr h) = let i = f h in (i.0, in_later i.1, i.2)
 
 only : {c : List ℕ} (t : Tree) → IntOf c t ⊎ FieldIn 33 c [] → IntOf c t
 only t (inl i) = i
@@ -118,34 +118,34 @@ of_named {c} n t f (inr (inr h)) = only t (f (subst (FieldIn 33 c) (sym (append-
 of_pair : {c : List ℕ} (n : List ℕ) (t : Tree) (ps : Pairs) → (FieldIn 33 c (encode t ++ []) → IntOf c t ⊎ FieldIn 33 c []) → (FieldIn 33 c (encode_pairs ps) → IntOfPair c ps) →
     Begins 33 c tag_pair (house_field_bytes tag_name n ++ encode t) (encode_pairs ps) → IntOfPair c (pair n t ps)
 of_pair n t ps f g (inl h) = absurd (omega (arith, h.0))
-of_pair n t ps f g (inr (inl h)) = let i = of_named n t f (begins tag_name n (encode t) h.1 refl) in (i.0, in-this-pair i.1, i.2)
-of_pair n t ps f g (inr (inr h)) = let i = g h in (i.0, in-later-pair i.1, i.2)
+of_pair n t ps f g (inr (inl h)) = let i = of_named n t f (begins tag_name n (encode t) h.1 refl) in (i.0, in_this_pair i.1, i.2)
+of_pair n t ps f g (inr (inr h)) = let i = g h in (i.0, in_later_pair i.1, i.2)
 
 mutual
   unfolding encode
 
-  int-or-behind : {c : List ℕ} (t : Tree) (r : List ℕ) → FieldIn 33 c (encode t ++ r) → IntOf c t ⊎ FieldIn 33 c r
-  int-or-behind Null r h = behind 32 [] r (λ z. omega (arith, z)) refl (begins 32 [] r h refl)
-  int-or-behind (Bits x) r h = of_bits x r (begins 33 (four_bytes x) r h refl)
-  int-or-behind (Decimal s) r h = behind 34 s r (λ z. omega (arith, z)) refl (begins 34 s r h refl)
-  int-or-behind (Text s) r h = behind 35 s r (λ z. omega (arith, z)) refl (begins 35 s r h refl)
-  int-or-behind (Truth b) r h = behind 36 (cond b 1 0 ∷ []) r (λ z. omega (arith, z)) refl (begins 36 (cond b 1 0 ∷ []) r h refl)
-  int-or-behind (Member n) r h = behind 37 n r (λ z. omega (arith, z)) refl (begins 37 n r h refl)
-  int-or-behind (Many ts) r h = of_many ts r (λ k. int-of-all ts k) (begins tag_list (encode_all ts) r h refl)
-  int-or-behind (Fields ps) r h = of_fields ps r (λ k. int-of-pair ps k) (begins tag_input (encode_pairs ps) r h refl)
-  int-or-behind (Token s) r h = behind 41 s r (λ z. omega (arith, z)) refl (begins 41 s r h refl)
+  int_or_behind : {c : List ℕ} (t : Tree) (r : List ℕ) → FieldIn 33 c (encode t ++ r) → IntOf c t ⊎ FieldIn 33 c r
+  int_or_behind Null r h = behind 32 [] r (λ z. omega (arith, z)) refl (begins 32 [] r h refl)
+  int_or_behind (Bits x) r h = of_bits x r (begins 33 (four_bytes x) r h refl)
+  int_or_behind (Decimal s) r h = behind 34 s r (λ z. omega (arith, z)) refl (begins 34 s r h refl)
+  int_or_behind (Text s) r h = behind 35 s r (λ z. omega (arith, z)) refl (begins 35 s r h refl)
+  int_or_behind (Truth b) r h = behind 36 (cond b 1 0 ∷ []) r (λ z. omega (arith, z)) refl (begins 36 (cond b 1 0 ∷ []) r h refl)
+  int_or_behind (Member n) r h = behind 37 n r (λ z. omega (arith, z)) refl (begins 37 n r h refl)
+  int_or_behind (Many ts) r h = of_many ts r (λ k. int_of_all ts k) (begins tag_list (encode_all ts) r h refl)
+  int_or_behind (Fields ps) r h = of_fields ps r (λ k. int_of_pair ps k) (begins tag_input (encode_pairs ps) r h refl)
+  int_or_behind (Token s) r h = behind 41 s r (λ z. omega (arith, z)) refl (begins 41 s r h refl)
 
-  int-of-all : {c : List ℕ} (ts : Trees) → FieldIn 33 c (encode_all ts) → IntOfAll c ts
-  int-of-all no_more h = absurd (none_in h refl)
-  int-of-all (also t ts) h = of_also t ts (λ k. int-of-all ts k) (int-or-behind t (encode_all ts) h)
+  int_of_all : {c : List ℕ} (ts : Trees) → FieldIn 33 c (encode_all ts) → IntOfAll c ts
+  int_of_all no_more h = absurd (none_in h refl)
+  int_of_all (also t ts) h = of_also t ts (λ k. int_of_all ts k) (int_or_behind t (encode_all ts) h)
 
-  int-of-pair : {c : List ℕ} (ps : Pairs) → FieldIn 33 c (encode_pairs ps) → IntOfPair c ps
-  int-of-pair no_pairs h = absurd (none_in h refl)
-  int-of-pair (pair n t ps) h = of_pair n t ps (λ k. int-or-behind t [] k) (λ k. int-of-pair ps k) (begins tag_pair (house_field_bytes tag_name n ++ encode t) (encode_pairs ps) h refl)
+  int_of_pair : {c : List ℕ} (ps : Pairs) → FieldIn 33 c (encode_pairs ps) → IntOfPair c ps
+  int_of_pair no_pairs h = absurd (none_in h refl)
+  int_of_pair (pair n t ps) h = of_pair n t ps (λ k. int_or_behind t [] k) (λ k. int_of_pair ps k) (begins tag_pair (house_field_bytes tag_name n ++ encode t) (encode_pairs ps) h refl)
 
 -- a field of tag 33 in a value's bytes is an Int's of the value
 pub tag_33_in : (t : Tree) (c : List ℕ) → FieldIn 33 c (encode t) → (x : ℕ) × HasInt x t × (c ≡ four_bytes x)
-tag_33_in t c h = only t (int-or-behind t [] (subst (FieldIn 33 c) (sym (append-nil (encode t))) h))
+tag_33_in t c h = only t (int_or_behind t [] (subst (FieldIn 33 c) (sym (append-nil (encode t))) h))
 
 -- ---- what the calls leave
 

@@ -57,13 +57,13 @@ Evs = List (Ev Class Mark)
 -- the parts of a variables text
 abbrev constant : Part → Bool
 constant n =
-    oneNumber
+    one_number
     (num_n VariablesText ∷ num_n ConstValue ∷ num_n ConstListValue ∷ num_n ConstValue+ ∷ num_n ConstValue* ∷ num_n ConstObjectValue ∷ num_n ConstObjectField+ ∷ num_n ConstObjectField* ∷ num_n ConstObjectField ∷ num_n EnumValue ∷ num_n Name ∷ [])
     (num_n n)
   where
-    oneNumber : List ℕ → ℕ → Bool
-    oneNumber [] k = false
-    oneNumber (j ∷ js) k = eqb j k || oneNumber js k
+    one_number : List ℕ → ℕ → Bool
+    one_number [] k = false
+    one_number (j ∷ js) k = eqb j k || one_number js k
 
 -- a mark that counts a row at most
 abbrev counts_none : Mark → Bool

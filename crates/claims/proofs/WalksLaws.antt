@@ -48,47 +48,47 @@ module _ {table plan : List ℕ} {object : ℕ} {blocks variables pairs report p
 
 module _ {table plan : List ℕ} {object : ℕ} {blocks variables pairs report pairs' report' : List ℕ} where
   -- 0, 14 and 15, each exactly where it is due
-  to-listed : {a : ℕ} → Walked table plan object blocks variables pairs report pairs' report' a → a ≡ 0 →
+  to_listed : {a : ℕ} → Walked table plan object blocks variables pairs report pairs' report' a → a ≡ 0 →
       WalkLent pairs report × Right table × CanWalk (table_of table) plan object blocks variables × (length (listed (table_of table) plan object blocks variables) ≤ most_pairs)
-  to-listed (short_report h e f) l = let z : ⊥ = omega arith in absurd z
-  to-listed (short_pairs h w e f) l = let z : ⊥ = omega arith in absurd z
-  to-listed (long_table h w e f) l = let z : ⊥ = omega arith in absurd z
-  to-listed (refuses_table {a = b} h s j n e f) l = let z : ⊥ = omega (arith, (table_number_is b n).0) in absurd z
-  to-listed (refuses_walk h r n e f) l = let z : ⊥ = omega arith in absurd z
-  to-listed (too_many_pairs h r w m e f) l = let z : ⊥ = omega arith in absurd z
-  to-listed (lists h r w m e f) l = (h, r, w, m)
+  to_listed (short_report h e f) l = let z : ⊥ = omega arith in absurd z
+  to_listed (short_pairs h w e f) l = let z : ⊥ = omega arith in absurd z
+  to_listed (long_table h w e f) l = let z : ⊥ = omega arith in absurd z
+  to_listed (refuses_table {a = b} h s j n e f) l = let z : ⊥ = omega (arith, (table_number_is b n).0) in absurd z
+  to_listed (refuses_walk h r n e f) l = let z : ⊥ = omega arith in absurd z
+  to_listed (too_many_pairs h r w m e f) l = let z : ⊥ = omega arith in absurd z
+  to_listed (lists h r w m e f) l = (h, r, w, m)
 
   pub listed_exactly : {a : ℕ} → Walked table plan object blocks variables pairs report pairs' report' a →
       (a ≡ 0) ↔ (WalkLent pairs report × Right table × CanWalk (table_of table) plan object blocks variables × (length (listed (table_of table) plan object blocks variables) ≤ most_pairs))
-  listed_exactly c = (to-listed c, λ h. (walked_one c (lists h.0 h.1 h.2 h.3 refl refl)).0)
+  listed_exactly c = (to_listed c, λ h. (walked_one c (lists h.0 h.1 h.2 h.3 refl refl)).0)
 
-  to-refused : {a : ℕ} → Walked table plan object blocks variables pairs report pairs' report' a → a ≡ 14 →
+  to_refused : {a : ℕ} → Walked table plan object blocks variables pairs report pairs' report' a → a ≡ 14 →
       WalkLent pairs report × Right table × (CanWalk (table_of table) plan object blocks variables → ⊥)
-  to-refused (short_report h e f) l = let z : ⊥ = omega arith in absurd z
-  to-refused (short_pairs h w e f) l = let z : ⊥ = omega arith in absurd z
-  to-refused (long_table h w e f) l = let z : ⊥ = omega arith in absurd z
-  to-refused (refuses_table {a = b} h s j n e f) l = let z : ⊥ = omega (arith, (table_number_is b n).1) in absurd z
-  to-refused (refuses_walk h r n e f) l = (h, r, n)
-  to-refused (too_many_pairs h r w m e f) l = let z : ⊥ = omega arith in absurd z
-  to-refused (lists h r w m e f) l = let z : ⊥ = omega arith in absurd z
+  to_refused (short_report h e f) l = let z : ⊥ = omega arith in absurd z
+  to_refused (short_pairs h w e f) l = let z : ⊥ = omega arith in absurd z
+  to_refused (long_table h w e f) l = let z : ⊥ = omega arith in absurd z
+  to_refused (refuses_table {a = b} h s j n e f) l = let z : ⊥ = omega (arith, (table_number_is b n).1) in absurd z
+  to_refused (refuses_walk h r n e f) l = (h, r, n)
+  to_refused (too_many_pairs h r w m e f) l = let z : ⊥ = omega arith in absurd z
+  to_refused (lists h r w m e f) l = let z : ⊥ = omega arith in absurd z
 
   pub refused_exactly : {a : ℕ} → Walked table plan object blocks variables pairs report pairs' report' a →
       (a ≡ 14) ↔ (WalkLent pairs report × Right table × (CanWalk (table_of table) plan object blocks variables → ⊥))
-  refused_exactly c = (to-refused c, λ h. (walked_one c (refuses_walk h.0 h.1 h.2 refl refl)).0)
+  refused_exactly c = (to_refused c, λ h. (walked_one c (refuses_walk h.0 h.1 h.2 refl refl)).0)
 
-  to-many : {a : ℕ} → Walked table plan object blocks variables pairs report pairs' report' a → a ≡ 15 →
+  to_many : {a : ℕ} → Walked table plan object blocks variables pairs report pairs' report' a → a ≡ 15 →
       WalkLent pairs report × Right table × CanWalk (table_of table) plan object blocks variables × (most_pairs < length (listed (table_of table) plan object blocks variables))
-  to-many (short_report h e f) l = let z : ⊥ = omega arith in absurd z
-  to-many (short_pairs h w e f) l = let z : ⊥ = omega arith in absurd z
-  to-many (long_table h w e f) l = let z : ⊥ = omega arith in absurd z
-  to-many (refuses_table {a = b} h s j n e f) l = let z : ⊥ = omega (arith, (table_number_is b n).1) in absurd z
-  to-many (refuses_walk h r n e f) l = let z : ⊥ = omega arith in absurd z
-  to-many (too_many_pairs h r w m e f) l = (h, r, w, m)
-  to-many (lists h r w m e f) l = let z : ⊥ = omega arith in absurd z
+  to_many (short_report h e f) l = let z : ⊥ = omega arith in absurd z
+  to_many (short_pairs h w e f) l = let z : ⊥ = omega arith in absurd z
+  to_many (long_table h w e f) l = let z : ⊥ = omega arith in absurd z
+  to_many (refuses_table {a = b} h s j n e f) l = let z : ⊥ = omega (arith, (table_number_is b n).1) in absurd z
+  to_many (refuses_walk h r n e f) l = let z : ⊥ = omega arith in absurd z
+  to_many (too_many_pairs h r w m e f) l = (h, r, w, m)
+  to_many (lists h r w m e f) l = let z : ⊥ = omega arith in absurd z
 
   pub many_exactly : {a : ℕ} → Walked table plan object blocks variables pairs report pairs' report' a →
       (a ≡ 15) ↔ (WalkLent pairs report × Right table × CanWalk (table_of table) plan object blocks variables × (most_pairs < length (listed (table_of table) plan object blocks variables)))
-  many_exactly c = (to-many c, λ h. (walked_one c (too_many_pairs h.0 h.1 h.2 h.3 refl refl)).0)
+  many_exactly c = (to_many c, λ h. (walked_one c (too_many_pairs h.0 h.1 h.2 h.3 refl refl)).0)
 
   -- success: the pairs and zeros, and their count
   pub pairs_listed : {a : ℕ} → Walked table plan object blocks variables pairs report pairs' report' a → a ≡ 0 →

@@ -32,21 +32,21 @@ is_whole (whole s) = true
 is_whole (halt r) = false
 
 module _ (p : Part) (s : List ℕ) (rs : List Row) (read : is_whole (goes p s) ≡ true) where
-  with-events : {qs : List Row} → TextAnswer p (from s 0) (rows_are qs) → {es : List _} → run graphql (nt p ∷ []) (classes_of (from s 0)) ≡ derived es →
+  with_events : {qs : List Row} → TextAnswer p (from s 0) (rows_are qs) → {es : List _} → run graphql (nt p ∷ []) (classes_of (from s 0)) ≡ derived es →
       rows_of es (tokens_of (from s 0)) ≡ rs → TextAnswer p (from s 0) (rows_are rs)
-  with-events (accepts w r c) {es} e q = subst (λ (qs : List Row). TextAnswer p (from s 0) (rows_are qs)) q (accepts {es = es} w (reading.accepts p (classes_of (from s 0)) e) c)
+  with_events (accepts w r c) {es} e q = subst (λ (qs : List Row). TextAnswer p (from s 0) (rows_are qs)) q (accepts {es = es} w (reading.accepts p (classes_of (from s 0)) e) c)
 
-  of-out : {es : List _} → run graphql (nt p ∷ []) (classes_of (from s 0)) ≡ derived es → rows_of es (tokens_of (from s 0)) ≡ rs → (o : Out) → goes p s ≡ o → TextAnswer p (from s 0) (rows_are rs)
-  of-out e q (whole m) w = with-events (going_whole p (from s 0) (replicate rows_size 0) m (length-replicate {A = ℕ} rows_size 0) w).1 e q
-  of-out e q (halt r) w = absurd (true≢false (sym read ∙ ap is_whole w))
+  of_out : {es : List _} → run graphql (nt p ∷ []) (classes_of (from s 0)) ≡ derived es → rows_of es (tokens_of (from s 0)) ≡ rs → (o : Out) → goes p s ≡ o → TextAnswer p (from s 0) (rows_are rs)
+  of_out e q (whole m) w = with_events (going_whole p (from s 0) (replicate rows_size 0) m (length-replicate {A = ℕ} rows_size 0) w).1 e q
+  of_out e q (halt r) w = absurd (true≢false (sym read ∙ ap is_whole w))
 
   -- its rows are those that `rows_by` computes, if there are some
   pub said_by : (n : Row) (ns : List Row) → rs ≡ n ∷ ns → rows_by p s ≡ rs → TextAnswer p (from s 0) (rows_are rs)
-  said_by n ns some are = of-run (run graphql (nt p ∷ []) (classes_of (from s 0))) refl
+  said_by n ns some are = of_run (run graphql (nt p ∷ []) (classes_of (from s 0))) refl
     where
-      of-run : (a : Answer Class Mark) → run graphql (nt p ∷ []) (classes_of (from s 0)) ≡ a → TextAnswer p (from s 0) (rows_are rs)
-      of-run (derived es) e = of-out e (rw e at are) (goes p s) refl
-      of-run (stopped k) e = let q : [] ≡ rs = rw e at are in let z : ◌≡◌ {A = ℕ} 0 1 = cc in absurd (omega arith)
+      of_run : (a : Answer Class Mark) → run graphql (nt p ∷ []) (classes_of (from s 0)) ≡ a → TextAnswer p (from s 0) (rows_are rs)
+      of_run (derived es) e = of_out e (rw e at are) (goes p s) refl
+      of_run (stopped k) e = let q : [] ≡ rs = rw e at are in let z : ◌≡◌ {A = ℕ} 0 1 = cc in absurd (omega arith)
 
 -- what no row passes
 pub silent : (d : Doc) (p : ℕ → Bool) → up_to (λ i. not (p i)) (count d) ≡ true → (i : ℕ) → i < count d → T (p i) → ⊥

@@ -32,8 +32,8 @@ module _ {A : Type 0} (d : Doc) (from : ℕ → Option A → Option A) (before :
   climb_none (suc f) i h = absent i h (climb from (parent_of d) f (parent_of d i))
 
   -- looked from a row's parent, with two bounds that both reach it
-  parent-far : (f g i : ℕ) → (parent_of d i < i → climb from (parent_of d) f (parent_of d i) ≡ climb from (parent_of d) g (parent_of d i)) → from i (climb from (parent_of d) f (parent_of d i)) ≡ from i (climb from (parent_of d) g (parent_of d i))
-  parent-far f g i same = go (leb (count d) i) refl
+  parent_far : (f g i : ℕ) → (parent_of d i < i → climb from (parent_of d) f (parent_of d i) ≡ climb from (parent_of d) g (parent_of d i)) → from i (climb from (parent_of d) f (parent_of d i)) ≡ from i (climb from (parent_of d) g (parent_of d i))
+  parent_far f g i same = go (leb (count d) i) refl
     where
       go : (b : Bool) → leb (count d) i ≡ b → from i (climb from (parent_of d) f (parent_of d i)) ≡ from i (climb from (parent_of d) g (parent_of d i))
       go true q = absent i (leb-true (count d) i q) (climb from (parent_of d) f (parent_of d i)) ∙ sym (absent i (leb-true (count d) i q) (climb from (parent_of d) g (parent_of d i)))
@@ -45,9 +45,9 @@ module _ {A : Type 0} (d : Doc) (from : ℕ → Option A → Option A) (before :
   unfolding climb
   climb_far zero g i h k = absurd (omega arith)
   climb_far (suc f) zero i h k = absurd (omega arith)
-  climb_far (suc f) (suc g) i h k = parent-far f g i (λ l. climb_far f g (parent_of d i) (omega arith) (omega arith))
+  climb_far (suc f) (suc g) i h k = parent_far f g i (λ l. climb_far f g (parent_of d i) (omega arith) (omega arith))
 
   -- a row has what `from` says, by what its parent has
   pub climb_step : (i : ℕ) → climb from (parent_of d) (suc i) i ≡ from i (climb from (parent_of d) (suc (parent_of d i)) (parent_of d i))
   unfolding climb
-  climb_step i = parent-far i (suc (parent_of d i)) i (λ l. climb_far i (suc (parent_of d i)) (parent_of d i) l (omega arith))
+  climb_step i = parent_far i (suc (parent_of d i)) i (λ l. climb_far i (suc (parent_of d i)) (parent_of d i) l (omega arith))

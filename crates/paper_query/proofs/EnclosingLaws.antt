@@ -15,24 +15,24 @@ use Rattle.paper_query.specs.Enclosing.{then, definition_at, if_composite, compo
 use Rattle.paper_query.proofs.Climbing.{ParentsBefore, row_none, climb, climb_none, climb_step}
 
 module _ (t : Table) (d : Doc) where
-  inside-climbs : (f i : ℕ) → type_inside_by t d f i ≡ climb (type_inside_from t d) (parent_of d) f i
+  inside_climbs : (f i : ℕ) → type_inside_by t d f i ≡ climb (type_inside_from t d) (parent_of d) f i
   unfolding type_inside_by climb
-  inside-climbs zero i = refl
-  inside-climbs (suc f) i = ap (type_inside_from t d i) (inside-climbs f (parent_of d i))
+  inside_climbs zero i = refl
+  inside_climbs (suc f) i = ap (type_inside_from t d i) (inside_climbs f (parent_of d i))
 
-  nothing-inside : (i : ℕ) → count d ≤ i → (above : Option ℕ) → type_inside_from t d i above ≡ none
+  nothing_inside : (i : ℕ) → count d ≤ i → (above : Option ℕ) → type_inside_from t d i above ≡ none
   unfolding type_inside_from
-  nothing-inside i h above = rw (row_none d i h)
+  nothing_inside i h above = rw (row_none d i h)
 
   module _ (before : ParentsBefore d) where
     pub inside_step : (i : ℕ) → type_inside t d i ≡ type_inside_from t d i (type_inside t d (parent_of d i))
     unfolding type_inside
-    inside_step i = inside-climbs (suc i) i ∙ climb_step d (type_inside_from t d) before nothing-inside i ∙ ap (type_inside_from t d i) (sym (inside-climbs (suc (parent_of d i)) (parent_of d i)))
+    inside_step i = inside_climbs (suc i) i ∙ climb_step d (type_inside_from t d) before nothing_inside i ∙ ap (type_inside_from t d i) (sym (inside_climbs (suc (parent_of d i)) (parent_of d i)))
 
     -- a row that is not there has no type inside
     pub inside_none : (i : ℕ) → count d ≤ i → type_inside t d i ≡ none
     unfolding type_inside
-    inside_none i h = inside-climbs (suc i) i ∙ climb_none d (type_inside_from t d) before nothing-inside (suc i) i h
+    inside_none i h = inside_climbs (suc i) i ∙ climb_none d (type_inside_from t d) before nothing_inside (suc i) i h
 
   -- by the row's kind
   module _ (i : ℕ) (above : Option ℕ) where
@@ -97,9 +97,9 @@ module _ (t : Table) (d : Doc) where
   root_is none k e = no_type_is k e
   root_is (some m) k e = composite_is t m.name k e
 
-  condition-is : (o : Option Row) (above : Option ℕ) → ((k : ℕ) → above ≡ some k → Composite t k) → (k : ℕ) → conditioned t d above o ≡ some k → Composite t k
-  condition-is none above h k e = h k e
-  condition-is (some r) above h k e = composite_is t (spelt d r) k e
+  condition_is : (o : Option Row) (above : Option ℕ) → ((k : ℕ) → above ≡ some k → Composite t k) → (k : ℕ) → conditioned t d above o ≡ some k → Composite t k
+  condition_is none above h k e = h k e
+  condition_is (some r) above h k e = composite_is t (spelt d r) k e
 
   type_is : (f : FieldIs) (k : ℕ) → selections_type t f ≡ some k → Composite t k
   type_is typename k e = no_type_is k e
@@ -115,16 +115,16 @@ module _ (t : Table) (d : Doc) where
           → cond a (then (root_of t (extra_of d i)) (λ m. composite_of t m.name)) (cond b (conditioned t d none (condition_of d i)) (cond c (conditioned t d above (condition_of d i)) (cond f (selections_type t (field_named t above (name_of d i))) none))) ≡ some k
           → Composite t k
       go true b c f e = root_is (root_of t (extra_of d i)) k e
-      go false true c f e = condition-is (condition_of d i) none (λ j q. no_type_is j q) k e
-      go false false true f e = condition-is (condition_of d i) above h k e
+      go false true c f e = condition_is (condition_of d i) none (λ j q. no_type_is j q) k e
+      go false false true f e = condition_is (condition_of d i) above h k e
       go false false false true e = type_is (field_named t above (name_of d i)) k e
       go false false false false e = no_type_is k e
 
-  by-is : (f i k : ℕ) → type_inside_by t d f i ≡ some k → Composite t k
+  by_is : (f i k : ℕ) → type_inside_by t d f i ≡ some k → Composite t k
   unfolding type_inside_by
-  by-is zero i k e = no_type_is k e
-  by-is (suc f) i k e = from_is i (type_inside_by t d f (parent_of d i)) (λ j q. by-is f (parent_of d i) j q) k e
+  by_is zero i k e = no_type_is k e
+  by_is (suc f) i k e = from_is i (type_inside_by t d f (parent_of d i)) (λ j q. by_is f (parent_of d i) j q) k e
 
   pub inside_is : (i k : ℕ) → type_inside t d i ≡ some k → Composite t k
   unfolding type_inside
-  inside_is i k e = by-is (suc i) i k e
+  inside_is i k e = by_is (suc i) i k e

@@ -81,8 +81,8 @@ abbrev counts_at : List (Ev Class Mark) → ℕ → List ℕ
 counts_at es n = let s = sums (through n es) nothing_counted in s.levels ∷ s.rows ∷ s.counts.fragments ∷ s.counts.variables ∷ s.counts.wrappers ∷ []
 
 -- of the tokens `$`, `[`, `!`, `)`, `b`, the second `{` and the last of this document
-sums-are :
+sums_are :
     map (λ n. counts_at (events_in (run graphql (nt Document ∷ []) (classes_of (from (bytes "query($a:[I!]){b}fragment F on T{c}") 0)))) n) (3 ∷ 6 ∷ 8 ∷ 10 ∷ 12 ∷ 18 ∷ 20 ∷ []) ≡
     (1 ∷ 2 ∷ 0 ∷ 1 ∷ 0 ∷ []) ∷ (2 ∷ 3 ∷ 0 ∷ 1 ∷ 1 ∷ []) ∷ (2 ∷ 3 ∷ 0 ∷ 1 ∷ 2 ∷ []) ∷ (0 ∷ 3 ∷ 0 ∷ 1 ∷ 2 ∷ []) ∷ (1 ∷ 4 ∷ 0 ∷ 1 ∷ 2 ∷ []) ∷ (1 ∷ 6 ∷ 1 ∷ 1 ∷ 2 ∷ []) ∷ (0 ∷ 7 ∷ 1 ∷ 1 ∷ 2 ∷ []) ∷ []
 unfolding from text scan step enter choose lexical lex_factored language factored run tokens_of sums through
-sums-are = refl
+sums_are = refl

@@ -22,11 +22,11 @@ abbrev tk : Class → ℕ → ℕ → Text → Text
 tk c a e t = token (record { class = c; start = a; stop = e }) t
 
 -- the longest match, and the next begins anew
-longest-matches :
+longest_matches :
     map (λ s. from (bytes s) 0) ("1.x" ∷ "007" ∷ "...." ∷ "-0.5e+3e" ∷ "1..." ∷ "on one" ∷ []) ≡
     tk int 0 1 (bad 1) ∷ tk int 0 1 (tk int 1 2 (tk int 2 3 (at_end 3))) ∷ tk spread 0 3 (bad 3) ∷ tk float 0 7 (tk n_other 7 8 (at_end 8)) ∷ tk int 0 1 (tk spread 1 4 (at_end 4)) ∷ tk n_on 0 2 (tk n_other 3 6 (at_end 6)) ∷ []
 unfolding from text scan step enter choose lexical lex_factored
-longest-matches = refl
+longest_matches = refl
 
 -- a document, and its count of rows or its refusal: bytes that start no token, ignored text, comments
 abbrev pieces : List (List ℕ × List ℕ)

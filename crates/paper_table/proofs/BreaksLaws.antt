@@ -60,15 +60,15 @@ module _ {A B : Type 0} where
   gather_complete g (y ∷ xs) b x (Memᴰ.head e) m = Memᴰ.append_left (gather g xs) (subst (λ (z : A). Memᴰ b (g z)) e m)
   gather_complete g (y ∷ xs) b x (Memᴰ.tail k) m = Memᴰ.append_right (g y) (gather_complete g xs b x k m)
 
-  map-sound : (f : A → B) (xs : List A) (b : B) → Memᴰ b (map f xs) → (x : A) × Memᴰ x xs × (b ≡ f x)
-  map-sound f [] b m = absurd (Memᴰ.not-nil m)
-  map-sound f (x ∷ xs) b (Memᴰ.head e) = (x, Memᴰ.head refl, e)
-  map-sound f (x ∷ xs) b (Memᴰ.tail m) = let r = map-sound f xs b m in (r.0, Memᴰ.tail r.1, r.2)
+  map_sound : (f : A → B) (xs : List A) (b : B) → Memᴰ b (map f xs) → (x : A) × Memᴰ x xs × (b ≡ f x)
+  map_sound f [] b m = absurd (Memᴰ.not-nil m)
+  map_sound f (x ∷ xs) b (Memᴰ.head e) = (x, Memᴰ.head refl, e)
+  map_sound f (x ∷ xs) b (Memᴰ.tail m) = let r = map_sound f xs b m in (r.0, Memᴰ.tail r.1, r.2)
 
-  map-complete : (f : A → B) (xs : List A) (x : A) → Memᴰ x xs → Memᴰ (f x) (map f xs)
-  map-complete f [] x x3 = elim x3 [ ]
-  map-complete f (y ∷ xs) x (Memᴰ.head e) = Memᴰ.head (ap f e)
-  map-complete f (y ∷ xs) x (Memᴰ.tail m) = Memᴰ.tail (map-complete f xs x m)
+  map_complete : (f : A → B) (xs : List A) (x : A) → Memᴰ x xs → Memᴰ (f x) (map f xs)
+  map_complete f [] x x3 = elim x3 [ ]
+  map_complete f (y ∷ xs) x (Memᴰ.head e) = Memᴰ.head (ap f e)
+  map_complete f (y ∷ xs) x (Memᴰ.tail m) = Memᴰ.tail (map_complete f xs x m)
 
 -- a break of definition i
 of_definition : (t : Table) (b : Break) (i : ℕ) → i < length t → Memᴰ b (breaks_of t i (definition_at t i)) → Broken t b
@@ -79,7 +79,7 @@ of_definition t b i h m = by_rule (gather_sound (breaks_of_rule t i (definition_
     at n r q = subst (Broken t) (sym q.2) (at_place i n q.0 h r q.1)
 
     by_rule : (n : Numbered) × Memᴰ n rules × Memᴰ b (breaks_of_rule t i (definition_at t i) n) → Broken t b
-    by_rule n = at n.0 n.1 (map-sound (break i n.0.number) (n.0.rule t i (definition_at t i)) b n.2)
+    by_rule n = at n.0 n.1 (map_sound (break i n.0.number) (n.0.rule t i (definition_at t i)) b n.2)
 
 pub breaks_sound : (t : Table) (b : Break) → Memᴰ b (breaks t) → Broken t b
 unfolding breaks
@@ -102,7 +102,7 @@ unfolding breaks breaks_of
 breaks_complete t b (at_place i n q h r m) =
     Memᴰ.append_left _ (each_complete (breaks_of t) (blank_definition tag_nothing) 0 t (break i n.number q) i h
     (subst (λ (j : ℕ). Memᴰ (break i n.number q) (breaks_of t j (definition_at t i))) (sym (zero-add i))
-    (gather_complete (breaks_of_rule t i (definition_at t i)) rules (break i n.number q) n r (map-complete (break i n.number) (n.rule t i (definition_at t i)) q m))))
+    (gather_complete (breaks_of_rule t i (definition_at t i)) rules (break i n.number q) n r (map_complete (break i n.number) (n.rule t i (definition_at t i)) q m))))
 breaks_complete t b (at_query e) = Memᴰ.append_right (each_from 0 (breaks_of t) t) (rw e (Memᴰ.head refl))
 
 -- there is none exactly where no rule is broken

@@ -110,10 +110,10 @@ module _ (inner : Offsets) (k : ℕ) (ss : List Slot) (free : in_place k ss ≡ 
   Rest = (ps : List HouseField) → in_order inner ss ps ≡ [] → lacks_house_field ss ps ≡ false → Filled inner ss ps
 
   -- a slot for k before these: its field, then what fills the rest
-  here-once : (x : Slot) → ((t : ℕ) → is_for t x ≡ eqb t k) → ((t : ℕ) → open_after t (x ∷ ss) ≡ cond (eqb t k) ss (open_after t ss))
+  here_once : (x : Slot) → ((t : ℕ) → is_for t x ≡ eqb t k) → ((t : ℕ) → open_after t (x ∷ ss) ≡ cond (eqb t k) ss (open_after t ss))
       → (at t : ℕ) (s : List ℕ) (ps : List HouseField) → eqb t k ≡ true → in_order inner (x ∷ ss) (house_field at t s ∷ ps) ≡ [] → lacks_house_field ss (house_field at t s ∷ ps) ≡ false
       → (inner at k s ≡ []) × (in_order inner ss ps ≡ []) × (lacks_house_field ss ps ≡ false)
-  here-once x f o at t s ps q e l =
+  here_once x f o at t s ps q e l =
       let r = order_inv inner (x ∷ ss) at t s ps e in
       let g : open_after t (x ∷ ss) ≡ ss = o t ∙ ap (λ (b : Bool). cond b ss (open_after t ss)) q in
       let z : t ≡ k = eqb-true t k q in
@@ -141,26 +141,26 @@ module _ (inner : Offsets) (k : ℕ) (ss : List Slot) (free : in_place k ss ≡ 
   fill_one rest (house_field at t s ∷ ps) e l = go (eqb t k) refl (or_inv (not (any_of (tag_is k) (house_field at t s ∷ ps))) (lacks_house_field ss (house_field at t s ∷ ps)) l)
     where
       go : (b : Bool) → eqb t k ≡ b → (not (any_of (tag_is k) (house_field at t s ∷ ps)) ≡ false) × (lacks_house_field ss (house_field at t s ∷ ps) ≡ false) → Filled inner (one k ∷ ss) (house_field at t s ∷ ps)
-      go true q z = let h = here-once (one k) (λ n. refl) (λ n. refl) at t s ps q e z.1 in same_tag (one k) at t s ps q (the_one h.0 (rest ps h.1 h.2))
+      go true q z = let h = here_once (one k) (λ n. refl) (λ n. refl) at t s ps q e z.1 in same_tag (one k) at t s ps q (the_one h.0 (rest ps h.1 h.2))
       go false q z =
           let p = passed (one k) (λ n. refl) at t s ps q (ap (λ (b : Bool). cond b ss (open_after t ss)) q) e in
           absurd (true≢false (sym (not_false _ z.0) ∙ no_place inner k (house_field at t s ∷ ps) ss free p))
 
-  fill-at-most : Rest → (ps : List HouseField) → in_order inner (at_most_one k ∷ ss) ps ≡ [] → lacks_house_field (at_most_one k ∷ ss) ps ≡ false → Filled inner (at_most_one k ∷ ss) ps
+  fill_at_most : Rest → (ps : List HouseField) → in_order inner (at_most_one k ∷ ss) ps ≡ [] → lacks_house_field (at_most_one k ∷ ss) ps ≡ false → Filled inner (at_most_one k ∷ ss) ps
   unfolding any_of in_order open_after
-  fill-at-most rest [] e l = not_there (rest [] refl l)
-  fill-at-most rest (cut at ∷ ps) e l = absurd (cons≢nil e)
-  fill-at-most rest (house_field at t s ∷ ps) e l = go (eqb t k) refl
+  fill_at_most rest [] e l = not_there (rest [] refl l)
+  fill_at_most rest (cut at ∷ ps) e l = absurd (cons≢nil e)
+  fill_at_most rest (house_field at t s ∷ ps) e l = go (eqb t k) refl
     where
       go : (b : Bool) → eqb t k ≡ b → Filled inner (at_most_one k ∷ ss) (house_field at t s ∷ ps)
-      go true q = let h = here-once (at_most_one k) (λ n. refl) (λ n. refl) at t s ps q e l in same_tag (at_most_one k) at t s ps q (once h.0 (rest ps h.1 h.2))
+      go true q = let h = here_once (at_most_one k) (λ n. refl) (λ n. refl) at t s ps q e l in same_tag (at_most_one k) at t s ps q (once h.0 (rest ps h.1 h.2))
       go false q = not_there (rest (house_field at t s ∷ ps) (passed (at_most_one k) (λ n. refl) at t s ps q (ap (λ (b : Bool). cond b ss (open_after t ss)) q) e) l)
 
-  fill-many : Rest → (ps : List HouseField) → in_order inner (many k ∷ ss) ps ≡ [] → lacks_house_field (many k ∷ ss) ps ≡ false → Filled inner (many k ∷ ss) ps
+  fill_many : Rest → (ps : List HouseField) → in_order inner (many k ∷ ss) ps ≡ [] → lacks_house_field (many k ∷ ss) ps ≡ false → Filled inner (many k ∷ ss) ps
   unfolding any_of in_order open_after
-  fill-many rest [] e l = no_more (rest [] refl l)
-  fill-many rest (cut at ∷ ps) e l = absurd (cons≢nil e)
-  fill-many rest (house_field at t s ∷ ps) e l = go (eqb t k) refl (fill-many rest ps)
+  fill_many rest [] e l = no_more (rest [] refl l)
+  fill_many rest (cut at ∷ ps) e l = absurd (cons≢nil e)
+  fill_many rest (house_field at t s ∷ ps) e l = go (eqb t k) refl (fill_many rest ps)
     where
       go : (b : Bool) → eqb t k ≡ b → (in_order inner (many k ∷ ss) ps ≡ [] → lacks_house_field (many k ∷ ss) ps ≡ false → Filled inner (many k ∷ ss) ps) → Filled inner (many k ∷ ss) (house_field at t s ∷ ps)
       go true q ih =
@@ -178,8 +178,8 @@ filled_complete inner [] d [] e l = filled
 filled_complete inner [] d (cut at ∷ ps) e l = absurd (cons≢nil e)
 filled_complete inner [] d (house_field at t s ∷ ps) e l = absurd (cons≢nil e)
 filled_complete inner (one k ∷ ss) d ps e l = let z = and_inv (not (in_place k ss)) (distinct ss) d in fill_one inner k ss (not_inv _ z.0) (filled_complete inner ss z.1) ps e l
-filled_complete inner (at_most_one k ∷ ss) d ps e l = let z = and_inv (not (in_place k ss)) (distinct ss) d in fill-at-most inner k ss (not_inv _ z.0) (filled_complete inner ss z.1) ps e l
-filled_complete inner (many k ∷ ss) d ps e l = let z = and_inv (not (in_place k ss)) (distinct ss) d in fill-many inner k ss (not_inv _ z.0) (filled_complete inner ss z.1) ps e l
+filled_complete inner (at_most_one k ∷ ss) d ps e l = let z = and_inv (not (in_place k ss)) (distinct ss) d in fill_at_most inner k ss (not_inv _ z.0) (filled_complete inner ss z.1) ps e l
+filled_complete inner (many k ∷ ss) d ps e l = let z = and_inv (not (in_place k ss)) (distinct ss) d in fill_many inner k ss (not_inv _ z.0) (filled_complete inner ss z.1) ps e l
 
 -- The other way round.
 eqb_sym : (a b : ℕ) → eqb a b ≡ false → eqb b a ≡ false

@@ -129,12 +129,12 @@ name_of_is d (the_one {at = at} {s = n} e f) = name_right d at tag_name n refl e
 
 -- a record with its name and members of one tag
 module _ (k : ℕ) (members : (at : ℕ) (s : List ℕ) → wrongs 3 at k s ≡ [] → Every (MemberOf k) (member_of (house_field at k s))) (plain : (at : ℕ) (s : List ℕ) → implemented_of (house_field at k s) ≡ []) where
-  members-right : {ps : List HouseField} → Filled (wrongs 3) (one tag_name ∷ many k ∷ []) ps → Every (MemberOf k) (gather member_of ps)
+  members_right : {ps : List HouseField} → Filled (wrongs 3) (one tag_name ∷ many k ∷ []) ps → Every (MemberOf k) (gather member_of ps)
   unfolding member_of
-  members-right f = filled_gather (wrongs 3) (MemberOf k) member_of (one_more (λ at s e. no_more) (one_more members no_more)) f
+  members_right f = filled_gather (wrongs 3) (MemberOf k) member_of (one_more (λ at s e. no_more) (one_more members no_more)) f
 
-  none-implemented : {ps : List HouseField} → Filled (wrongs 3) (one tag_name ∷ many k ∷ []) ps → gather implemented_of ps ≡ []
-  none-implemented f =
+  none_implemented : {ps : List HouseField} → Filled (wrongs 3) (one tag_name ∷ many k ∷ []) ps → gather implemented_of ps ≡ []
+  none_implemented f =
       nothing_in (filled_gather (wrongs 3) (λ x. ⊥) implemented_of (one_more (λ at s e. no_more) (one_more (λ at s e. subst (Every (λ x. ⊥)) (sym (plain at s)) no_more) no_more)) f)
 
 fields_right : (at : ℕ) (s : List ℕ) → wrongs 3 at tag_field s ≡ [] → Every (MemberOf tag_field) (member_of (house_field at tag_field s))
@@ -177,31 +177,31 @@ pub interface_right : (at : ℕ) (s : List ℕ) → wrongs most_deep at tag_inte
 unfolding contents look_up any_of
 interface_right at s e =
     let f = holder_right 3 at tag_interface s (one tag_name ∷ many tag_field ∷ []) refl refl e in
-    an_interface refl (name_of_is 2 f) (none-implemented tag_field fields_right (λ at s. refl) f) (members-right tag_field fields_right (λ at s. refl) f)
+    an_interface refl (name_of_is 2 f) (none_implemented tag_field fields_right (λ at s. refl) f) (members_right tag_field fields_right (λ at s. refl) f)
 
 pub union_right : (at : ℕ) (s : List ℕ) → wrongs most_deep at tag_union s ≡ [] → RightDefinition (definition_in at tag_union s)
 unfolding contents look_up any_of
 union_right at s e =
     let f = holder_right 3 at tag_union s (one tag_name ∷ many tag_union_member ∷ []) refl refl e in
-    a_union refl (name_of_is 2 f) (none-implemented tag_union_member union_members_right (λ at s. refl) f) (members-right tag_union_member union_members_right (λ at s. refl) f)
+    a_union refl (name_of_is 2 f) (none_implemented tag_union_member union_members_right (λ at s. refl) f) (members_right tag_union_member union_members_right (λ at s. refl) f)
 
 pub enum_right : (at : ℕ) (s : List ℕ) → wrongs most_deep at tag_enum s ≡ [] → RightDefinition (definition_in at tag_enum s)
 unfolding contents look_up any_of
 enum_right at s e =
     let f = holder_right 3 at tag_enum s (one tag_name ∷ many tag_enum_value ∷ []) refl refl e in
-    an_enum refl (name_of_is 2 f) (none-implemented tag_enum_value values_right (λ at s. refl) f) (members-right tag_enum_value values_right (λ at s. refl) f)
+    an_enum refl (name_of_is 2 f) (none_implemented tag_enum_value values_right (λ at s. refl) f) (members_right tag_enum_value values_right (λ at s. refl) f)
 
 pub input_object_right : (at : ℕ) (s : List ℕ) → wrongs most_deep at tag_input_object s ≡ [] → RightDefinition (definition_in at tag_input_object s)
 unfolding contents look_up any_of
 input_object_right at s e =
     let f = holder_right 3 at tag_input_object s (one tag_name ∷ many tag_argument ∷ []) refl refl e in
-    an_input_object refl (name_of_is 2 f) (none-implemented tag_argument inputs_right (λ at s. refl) f) (members-right tag_argument inputs_right (λ at s. refl) f)
+    an_input_object refl (name_of_is 2 f) (none_implemented tag_argument inputs_right (λ at s. refl) f) (members_right tag_argument inputs_right (λ at s. refl) f)
 
 pub directive_right_is : (at : ℕ) (s : List ℕ) → wrongs most_deep at tag_directive s ≡ [] → RightDefinition (definition_in at tag_directive s)
 unfolding contents look_up any_of
 directive_right_is at s e =
     let f = holder_right 3 at tag_directive s (one tag_name ∷ many tag_argument ∷ []) refl refl e in
-    a_directive refl (name_of_is 2 f) (none-implemented tag_argument inputs_right (λ at s. refl) f) (members-right tag_argument inputs_right (λ at s. refl) f)
+    a_directive refl (name_of_is 2 f) (none_implemented tag_argument inputs_right (λ at s. refl) f) (members_right tag_argument inputs_right (λ at s. refl) f)
 
 no_name : {inner : Offsets} {ps : List HouseField} → Filled inner (one tag_query_root ∷ at_most_one tag_mutation_root ∷ at_most_one tag_subscription_root ∷ []) ps → name_in ps ≡ []
 unfolding text_of

@@ -62,15 +62,15 @@ both_more b s ih = (one, λ k r. two k r (eqb b byte_bang) refl)
 
 closings_both : (s : List ℕ) → Both s
 unfolding closings whole_ref closed marked behind
-closings_both [] = (nothing, nothing-marked)
+closings_both [] = (nothing, nothing_marked)
   where
     nothing : (k : ℕ) (r : Ref) → closings k (got r []) ≡ behind k true r []
     nothing zero r = refl
     nothing (suc k) r = closings_bad k
 
-    nothing-marked : (k : ℕ) (r : Ref) → closings k (got r []) ≡ behind k false r []
-    nothing-marked zero r = refl
-    nothing-marked (suc k) r = closings_bad k
+    nothing_marked : (k : ℕ) (r : Ref) → closings k (got r []) ≡ behind k false r []
+    nothing_marked zero r = refl
+    nothing_marked (suc k) r = closings_bad k
 closings_both (b ∷ s) = both_more b s (closings_both s)
 
 ref_from_opened : (f k : ℕ) (s : List ℕ) → length s ≤ f → closings k (ref_from f s) ≡ opened k s

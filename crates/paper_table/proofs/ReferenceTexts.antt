@@ -124,14 +124,14 @@ Reads' q s = Written q × (ref_text q ≡ s)
 
 module _ (b : ℕ) (s : List ℕ) (ih : (k : ℕ) (r q : Ref) → Written r → behind k (is_non_null r) r s ≡ some q → Reads' q (brackets k (ref_text r ++ s))) where
   -- a `!` behind r
-  with-bang : (k : ℕ) (r q : Ref) → Written r → eqb b byte_bang ≡ true → is_non_null r ≡ false → behind k true (non_null r) s ≡ some q → Reads' q (brackets k (ref_text r ++ (b ∷ s)))
-  with-bang k r q w e n h =
+  with_bang : (k : ℕ) (r q : Ref) → Written r → eqb b byte_bang ≡ true → is_non_null r ≡ false → behind k true (non_null r) s ≡ some q → Reads' q (brackets k (ref_text r ++ (b ∷ s)))
+  with_bang k r q w e n h =
       let z = ih k (non_null r) q (a_non_null n w) h in
       (z.0, z.1 ∙ ap (brackets k) (append_assoc (ref_text r) (byte_bang ∷ []) s ∙ ap (λ (c : ℕ). ref_text r ++ (c ∷ s)) (sym (eqb-true b byte_bang e))))
 
   -- a `]` behind r
-  with-close : (k : ℕ) (r q : Ref) → Written r → eqb b byte_bracket_r ≡ true → behind k false (list_of r) s ≡ some q → Reads' q (brackets (suc k) (ref_text r ++ (b ∷ s)))
-  with-close k r q w e h =
+  with_close : (k : ℕ) (r q : Ref) → Written r → eqb b byte_bracket_r ≡ true → behind k false (list_of r) s ≡ some q → Reads' q (brackets (suc k) (ref_text r ++ (b ∷ s)))
+  with_close k r q w e h =
       let z = ih k (list_of r) q (a_list w) h in
       (z.0, z.1 ∙ ap (λ (t : List ℕ). brackets k (byte_bracket_l ∷ t)) (append_assoc (ref_text r) (byte_bracket_r ∷ []) s ∙ ap (λ (c : ℕ). ref_text r ++ (c ∷ s)) (sym (eqb-true b byte_bracket_r e))))
 
@@ -140,18 +140,18 @@ module _ (b : ℕ) (s : List ℕ) (ih : (k : ℕ) (r q : Ref) → Written r → 
   behind_more zero r q w h = go (eqb b byte_bang) (is_non_null r) refl refl h
     where
       go : (c n : Bool) → eqb b byte_bang ≡ c → is_non_null r ≡ n → cond (c && not n) (behind zero true (non_null r) s) none ≡ some q → Reads' q (ref_text r ++ (b ∷ s))
-      go true false e f g = with-bang zero r q w e f g
+      go true false e f g = with_bang zero r q w e f g
       go true true e f g = absurd (none≢some g)
       go false n e f g = absurd (none≢some g)
   behind_more (suc k) r q w h = go (eqb b byte_bang) (is_non_null r) refl refl h
     where
       close : (c : Bool) → eqb b byte_bracket_r ≡ c → cond c (behind k false (list_of r) s) none ≡ some q → Reads' q (brackets (suc k) (ref_text r ++ (b ∷ s)))
-      close true e g = with-close k r q w e g
+      close true e g = with_close k r q w e g
       close false e g = absurd (none≢some g)
 
       go : (c n : Bool) → eqb b byte_bang ≡ c → is_non_null r ≡ n → cond (c && not n) (behind (suc k) true (non_null r) s) (cond (eqb b byte_bracket_r) (behind k false (list_of r) s) none) ≡ some q
           → Reads' q (brackets (suc k) (ref_text r ++ (b ∷ s)))
-      go true false e f g = with-bang (suc k) r q w e f g
+      go true false e f g = with_bang (suc k) r q w e f g
       go true true e f g = close (eqb b byte_bracket_r) refl g
       go false n e f g = close (eqb b byte_bracket_r) refl g
 

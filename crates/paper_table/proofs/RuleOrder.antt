@@ -96,19 +96,19 @@ implemented_ordered fails d =
     (_, rise_lower key_of empty (each_all key_of (λ k. k) (λ m n. only_if (fails m n) (member_at m)) (λ m n. rise_one key_of (fails m n) (member_at m) (same refl empty) (less (below m))) d.implements))
 
 module _ (fails : ℕ → Member → Bool) (argument_fails : Member → ℕ → Argument → Bool) where
-  arguments-rise : (m : ℕ) (e : Member) → Rise key_of (m ∷ no_place ∷ 0 ∷ []) (argument_places argument_fails m e) (m ∷ no_place ∷ (0 + length e.arguments) ∷ [])
-  arguments-rise m e =
+  arguments_rise : (m : ℕ) (e : Member) → Rise key_of (m ∷ no_place ∷ 0 ∷ []) (argument_places argument_fails m e) (m ∷ no_place ∷ (0 + length e.arguments) ∷ [])
+  arguments_rise m e =
       each_all key_of (λ k. m ∷ no_place ∷ k) (λ a x. only_if (argument_fails e a x) (argument_at m a))
       (λ a x. rise_one key_of (argument_fails e a x) (argument_at m a) (same refl (same refl (same refl empty))) (same refl (same refl (less (below a))))) e.arguments
 
-  member-rises : (m : ℕ) (e : Member) → Fits e → Rise key_of (m ∷ []) (member_places fails argument_fails m e) (suc m ∷ [])
-  member-rises m e h =
-      rise_append key_of (rise_lower key_of (same refl empty) (arguments-rise m e))
+  member_rises : (m : ℕ) (e : Member) → Fits e → Rise key_of (m ∷ []) (member_places fails argument_fails m e) (suc m ∷ [])
+  member_rises m e h =
+      rise_append key_of (rise_lower key_of (same refl empty) (arguments_rise m e))
       (rise_one key_of (fails m e) (member_at m) (same refl (same refl (at_most (0 + length e.arguments) no_place [] (let k : 0 + length e.arguments ≤ no_place = omega arith in k)))) (less (below m)))
 
-  members-or-arguments-ordered : (d : Definition) → Every Fits d.members → Ordered (members_or_arguments_that fails argument_fails d)
-  members-or-arguments-ordered d fits =
-      (_, rise_lower key_of empty (each_rises key_of (λ k. k) Fits (member_places fails argument_fails) member-rises 0 d.members fits (0 + length d.members) refl))
+  members_or_arguments_ordered : (d : Definition) → Every Fits d.members → Ordered (members_or_arguments_that fails argument_fails d)
+  members_or_arguments_ordered d fits =
+      (_, rise_lower key_of empty (each_rises key_of (λ k. k) Fits (member_places fails argument_fails) member_rises 0 d.members fits (0 + length d.members) refl))
 
 -- what is asked of an interface's field lies between it and the next
 abbrev Asks : FieldBreaks → Type 0
@@ -157,11 +157,11 @@ no_members_ordered t i d fits = whole_ordered (needs_members d && eqb (length d.
 
 pub name_repeated_ordered : RuleOrdered name_repeated
 unfolding name_repeated
-name_repeated_ordered t i d fits = if_ordered (is_roots d) _ _ nil_ordered (members-or-arguments-ordered (member_repeats d) argument_repeats d fits)
+name_repeated_ordered t i d fits = if_ordered (is_roots d) _ _ nil_ordered (members_or_arguments_ordered (member_repeats d) argument_repeats d fits)
 
 pub reserved_member_ordered : RuleOrdered reserved_member
 unfolding reserved_member
-reserved_member_ordered t i d fits = if_ordered (is_object d || is_interface d) _ _ (members-or-arguments-ordered member_reserved argument_reserved d fits) nil_ordered
+reserved_member_ordered t i d fits = if_ordered (is_object d || is_interface d) _ _ (members_or_arguments_ordered member_reserved argument_reserved d fits) nil_ordered
 
 pub enum_value_ordered : RuleOrdered enum_value
 unfolding enum_value
@@ -169,11 +169,11 @@ enum_value_ordered t i d fits = if_ordered (is_enum d) _ _ (members_ordered is_n
 
 pub no_type_ordered : RuleOrdered no_type
 unfolding no_type
-no_type_ordered t i d fits = members-or-arguments-ordered (member_type_unknown t) (argument_type_unknown t) d fits
+no_type_ordered t i d fits = members_or_arguments_ordered (member_type_unknown t) (argument_type_unknown t) d fits
 
 pub wrong_base_ordered : RuleOrdered wrong_base
 unfolding wrong_base
-wrong_base_ordered t i d fits = members-or-arguments-ordered (member_base_wrong t) (argument_base_wrong t) d fits
+wrong_base_ordered t i d fits = members_or_arguments_ordered (member_base_wrong t) (argument_base_wrong t) d fits
 
 pub not_object_or_interface_ordered : RuleOrdered not_object_or_interface
 unfolding not_object_or_interface

@@ -24,32 +24,32 @@ module _ {N P C A : Type 0} (G : Tables N P C A) where
   Within n none = Unit {0}
   Within n (some m) = m.size ≤ n
 
-  here-within : (n : ℕ) (s : Step N P C A) → Within n (here G s)
-  here-within n (took es σ) = tt
-  here-within n (emptied es) = zero-le
-  here-within n refused = tt
-  here-within n spent = tt
+  here_within : (n : ℕ) (s : Step N P C A) → Within n (here G s)
+  here_within n (took es σ) = tt
+  here_within n (emptied es) = zero-le
+  here_within n refused = tt
+  here_within n spent = tt
 
-  longer-within : (n : ℕ) (es : List (Ev C A)) (o o' : Option (Match C A)) → Within n o → Within (suc n) o' → Within (suc n) (longer G es o o')
-  longer-within n es none o' h h' = h'
-  longer-within n es (some m) o' h h' = suc-le-suc h
+  longer_within : (n : ℕ) (es : List (Ev C A)) (o o' : Option (Match C A)) → Within n o → Within (suc n) o' → Within (suc n) (longer G es o o')
+  longer_within n es none o' h h' = h'
+  longer_within n es (some m) o' h h' = suc-le-suc h
 
-  scan-within : (bs : List C) (σ : List (Sym N P A)) → Within (length bs) (scan G σ bs)
+  scan_within : (bs : List C) (σ : List (Sym N P A)) → Within (length bs) (scan G σ bs)
   unfolding scan
-  scan-within [] σ = here-within 0 (step G σ none)
-  scan-within (b ∷ bs) σ = go (step G σ (some b)) (λ (σ' : List (Sym N P A)). scan-within bs σ')
+  scan_within [] σ = here_within 0 (step G σ none)
+  scan_within (b ∷ bs) σ = go (step G σ (some b)) (λ (σ' : List (Sym N P A)). scan_within bs σ')
     where
       rest : Within (suc (length bs)) (here G (step G σ none))
-      rest = here-within (suc (length bs)) (step G σ none)
+      rest = here_within (suc (length bs)) (step G σ none)
 
       go : (s : Step N P C A) → ((σ' : List (Sym N P A)) → Within (length bs) (scan G σ' bs)) → Within (suc (length bs)) (further G (λ σ'. scan G σ' bs) s (here G (step G σ none)))
-      go (took es σ') f = longer-within (length bs) es (scan G σ' bs) (here G (step G σ none)) (f σ') rest
+      go (took es σ') f = longer_within (length bs) es (scan G σ' bs) (here G (step G σ none)) (f σ') rest
       go (emptied es) f = rest
       go refused f = rest
       go spent f = rest
 
 pub piece_within : (bs : List ℕ) (m : Match ℕ What) → scan lexer (nt Piece ∷ []) bs ≡ some m → m.size ≤ length bs
-piece_within bs m q = subst (λ (o : Option (Match ℕ What)). Within lexer (length bs) o) q (scan-within lexer bs (nt Piece ∷ []))
+piece_within bs m q = subst (λ (o : Option (Match ℕ What)). Within lexer (length bs) o) q (scan_within lexer bs (nt Piece ∷ []))
 
 -- what is at the offset p or later, in the bytes s
 abbrev Laid : List ℕ → ℕ → Text → Type 0

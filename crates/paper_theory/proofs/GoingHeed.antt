@@ -56,7 +56,7 @@ pub data Heeded (k : Tok) (s : State) (m : Sums) (f : State → Out) : Out → T
       Tracks (st s.cells s.rows s.open' k.stop l s.counts) m → Heeded k s m f (f (st s.cells s.rows s.open' k.stop l s.counts))
 
 pub heeds : (k : Tok) (s : State) (m : Sums) (f : State → Out) → Tracks s m → (T (closes_level k.class) → 1 ≤ m.levels) → Heeded k s (counted (tok k.class) m) f (heed k s f)
-heeds k s m f h up = by-class (opens_level k.class) (closes_level k.class) s.left refl refl refl
+heeds k s m f h up = by_class (opens_level k.class) (closes_level k.class) s.left refl refl refl
   where
     next : ℕ → State
     next l = st s.cells s.rows s.open' k.stop l s.counts
@@ -64,30 +64,30 @@ heeds k s m f h up = by-class (opens_level k.class) (closes_level k.class) s.lef
     m' : Sums
     m' = counted (tok k.class) m
 
-    not-deep : (l : ℕ) → l + leveled k.class m.levels ≡ most_levels → T (over_levels m') → ⊥
-    not-deep l e t = let u = ltb→lt most_levels (leveled k.class m.levels) t in omega arith
+    not_deep : (l : ℕ) → l + leveled k.class m.levels ≡ most_levels → T (over_levels m') → ⊥
+    not_deep l e t = let u = ltb→lt most_levels (leveled k.class m.levels) t in omega arith
 
     shut : (b : Bool) → b ≡ false → T b → ⊥
     shut true e t = let z : ◌≡◌ {A = Bool} true false = e in subst T z tt
     shut false e t = t
 
-    by-counts : (l : ℕ) → l + leveled k.class m.levels ≡ most_levels → (T (over_rows m') → ⊥) → (c : Bool) → over_counts s.counts ≡ c →
+    by_counts : (l : ℕ) → l + leveled k.class m.levels ≡ most_levels → (T (over_rows m') → ⊥) → (c : Bool) → over_counts s.counts ≡ c →
         Heeded k s m' f (many c (TooMany k.start) (f (next l)))
-    by-counts l e r true q = by_over_counts (not-deep l e) r (subst T (sym q ∙ ap over_counts h.counts_are) tt)
-    by-counts l e r false q =
-        well l (not-deep l e) r (shut (over_counts m.counts) (ap over_counts (sym h.counts_are) ∙ q))
+    by_counts l e r true q = by_over_counts (not_deep l e) r (subst T (sym q ∙ ap over_counts h.counts_are) tt)
+    by_counts l e r false q =
+        well l (not_deep l e) r (shut (over_counts m.counts) (ap over_counts (sym h.counts_are) ∙ q))
         (record { rows_are = h.rows_are; counts_are = h.counts_are; levels_are = e })
 
     by_rows : (l : ℕ) → l + leveled k.class m.levels ≡ most_levels → (r : Bool) → ltb most_rows s.rows ≡ r →
         Heeded k s m' f (many r (TooManyRows k.start) (many (over_counts s.counts) (TooMany k.start) (f (next l))))
-    by_rows l e true q = by_over_rows (not-deep l e) (subst T (sym q ∙ ap (λ (z : ℕ). ltb most_rows z) h.rows_are) tt)
-    by_rows l e false q = by-counts l e (shut (ltb most_rows m.rows) (ap (λ (z : ℕ). ltb most_rows z) (sym h.rows_are) ∙ q)) (over_counts s.counts) refl
+    by_rows l e true q = by_over_rows (not_deep l e) (subst T (sym q ∙ ap (λ (z : ℕ). ltb most_rows z) h.rows_are) tt)
+    by_rows l e false q = by_counts l e (shut (ltb most_rows m.rows) (ap (λ (z : ℕ). ltb most_rows z) (sym h.rows_are) ∙ q)) (over_counts s.counts) refl
 
     rest : (l : ℕ) → Out
     rest l = many (ltb most_rows s.rows) (TooManyRows k.start) (many (over_counts s.counts) (TooMany k.start) (f (next l)))
 
-    by-class : (o c : Bool) (l : ℕ) → opens_level k.class ≡ o → closes_level k.class ≡ c → s.left ≡ l → Heeded k s m' f (deep o c l k.start (λ l. rest l))
-    by-class true c zero p q e = over_deep (lt→ltb most_levels (leveled k.class m.levels) (rw p (let z = h.levels_are in omega arith)))
-    by-class true c (suc l) p q e = by_rows l (rw p (let z = h.levels_are in omega arith)) (ltb most_rows s.rows) refl
-    by-class false true l p q e = by_rows (suc l) (rw (p, q) (let z = h.levels_are in let u = up (subst T (sym q) tt) in omega arith)) (ltb most_rows s.rows) refl
-    by-class false false l p q e = by_rows l (rw (p, q) (let z = h.levels_are in omega arith)) (ltb most_rows s.rows) refl
+    by_class : (o c : Bool) (l : ℕ) → opens_level k.class ≡ o → closes_level k.class ≡ c → s.left ≡ l → Heeded k s m' f (deep o c l k.start (λ l. rest l))
+    by_class true c zero p q e = over_deep (lt→ltb most_levels (leveled k.class m.levels) (rw p (let z = h.levels_are in omega arith)))
+    by_class true c (suc l) p q e = by_rows l (rw p (let z = h.levels_are in omega arith)) (ltb most_rows s.rows) refl
+    by_class false true l p q e = by_rows (suc l) (rw (p, q) (let z = h.levels_are in let u = up (subst T (sym q) tt) in omega arith)) (ltb most_rows s.rows) refl
+    by_class false false l p q e = by_rows l (rw (p, q) (let z = h.levels_are in omega arith)) (ltb most_rows s.rows) refl

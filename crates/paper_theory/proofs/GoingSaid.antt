@@ -89,11 +89,11 @@ unfit_least m σ k t f rise = (unfit f, least)
 
 -- a token that is taken
 module _ (m : Sums) (σ σ' : Stack) (k : Tok) (t : Text) (fs : Evs) (q : step graphql σ (some k.class) ≡ took fs σ') where
-  one-sums : (gs : Evs) (τ : Stack) → step graphql σ (some k.class) ≡ took gs τ → sums gs m ≡ sums fs m
-  one-sums gs τ p = ap (λ (z : Evs). sums z m) (took_events (sym p ∙ q))
+  one_sums : (gs : Evs) (τ : Stack) → step graphql σ (some k.class) ≡ took gs τ → sums gs m ≡ sums fs m
+  one_sums gs τ p = ap (λ (z : Evs). sums z m) (took_events (sym p ∙ q))
 
-  deep-least : T (over_levels (sums fs m)) → Rising (token k t) → Least m σ (token k t) (TooDeep k.start)
-  deep-least o rise = (deeper fs σ' q o, least)
+  deep_least : T (over_levels (sums fs m)) → Rising (token k t) → Least m σ (token k t) (TooDeep k.start)
+  deep_least o rise = (deeper fs σ' q o, least)
     where
       least : (r : Refusal) → Flaw m σ (token k t) r → NoLater (TooDeep k.start) r
       least r (stray (bad_later {n = at} b)) = inl (later_flaw k t rise m σ (NoToken at) (stray b))
@@ -103,111 +103,111 @@ module _ (m : Sums) (σ σ' : Stack) (k : Tok) (t : Text) (fs : Evs) (q : step g
       least r (many gs τ p h) = inr (refl, omega arith)
       least r (onward gs τ p h) = inl (later_flaw k t rise (sums gs m) τ r h)
 
-  rows-least : (T (over_levels (sums fs m)) → ⊥) → T (over_rows (sums fs m)) → Rising (token k t) → Least m σ (token k t) (TooManyRows k.start)
-  rows-least d o rise = (rowed fs σ' q o, least)
+  rows_least : (T (over_levels (sums fs m)) → ⊥) → T (over_rows (sums fs m)) → Rising (token k t) → Least m σ (token k t) (TooManyRows k.start)
+  rows_least d o rise = (rowed fs σ' q o, least)
     where
       least : (r : Refusal) → Flaw m σ (token k t) r → NoLater (TooManyRows k.start) r
       least r (stray (bad_later {n = at} b)) = inl (later_flaw k t rise m σ (NoToken at) (stray b))
       least r (unfit g) = absurd (g fs σ' q)
-      least r (deeper gs τ p h) = absurd (d (subst (λ (z : Sums). T (over_levels z)) (one-sums gs τ p) h))
+      least r (deeper gs τ p h) = absurd (d (subst (λ (z : Sums). T (over_levels z)) (one_sums gs τ p) h))
       least r (rowed gs τ p h) = inr (refl, le_refl 6)
       least r (many gs τ p h) = inr (refl, omega arith)
       least r (onward gs τ p h) = inl (later_flaw k t rise (sums gs m) τ r h)
 
-  many-least : (T (over_levels (sums fs m)) → ⊥) → (T (over_rows (sums fs m)) → ⊥) → T (over_counts (sums fs m).counts) → Rising (token k t) → Least m σ (token k t) (TooMany k.start)
-  many-least d w o rise = (many fs σ' q o, least)
+  many_least : (T (over_levels (sums fs m)) → ⊥) → (T (over_rows (sums fs m)) → ⊥) → T (over_counts (sums fs m).counts) → Rising (token k t) → Least m σ (token k t) (TooMany k.start)
+  many_least d w o rise = (many fs σ' q o, least)
     where
       least : (r : Refusal) → Flaw m σ (token k t) r → NoLater (TooMany k.start) r
       least r (stray (bad_later {n = at} b)) = inl (later_flaw k t rise m σ (NoToken at) (stray b))
       least r (unfit g) = absurd (g fs σ' q)
-      least r (deeper gs τ p h) = absurd (d (subst (λ (z : Sums). T (over_levels z)) (one-sums gs τ p) h))
-      least r (rowed gs τ p h) = absurd (w (subst (λ (z : Sums). T (over_rows z)) (one-sums gs τ p) h))
+      least r (deeper gs τ p h) = absurd (d (subst (λ (z : Sums). T (over_levels z)) (one_sums gs τ p) h))
+      least r (rowed gs τ p h) = absurd (w (subst (λ (z : Sums). T (over_rows z)) (one_sums gs τ p) h))
       least r (many gs τ p h) = inr (refl, le_refl 8)
       least r (onward gs τ p h) = inl (later_flaw k t rise (sums gs m) τ r h)
 
   -- where the token keeps to the sizes, the flaws are those of what comes after
-  on-flaw : (T (over_levels (sums fs m)) → ⊥) → (T (over_rows (sums fs m)) → ⊥) → (T (over_counts (sums fs m).counts) → ⊥) → (r : Refusal) → Flaw m σ (token k t) r → Flaw (sums fs m) σ' t r
-  on-flaw d w c r (stray (bad_later b)) = stray b
-  on-flaw d w c r (unfit g) = absurd (g fs σ' q)
-  on-flaw d w c r (deeper gs τ p h) = absurd (d (subst (λ (z : Sums). T (over_levels z)) (one-sums gs τ p) h))
-  on-flaw d w c r (rowed gs τ p h) = absurd (w (subst (λ (z : Sums). T (over_rows z)) (one-sums gs τ p) h))
-  on-flaw d w c r (many gs τ p h) = absurd (c (subst (λ (z : Sums). T (over_counts z.counts)) (one-sums gs τ p) h))
-  on-flaw d w c r (onward gs τ p h) = subst₂ (λ (z : Sums) (y : Stack). Flaw z y t r) (one-sums gs τ p) (took_stack (sym p ∙ q)) h
+  on_flaw : (T (over_levels (sums fs m)) → ⊥) → (T (over_rows (sums fs m)) → ⊥) → (T (over_counts (sums fs m).counts) → ⊥) → (r : Refusal) → Flaw m σ (token k t) r → Flaw (sums fs m) σ' t r
+  on_flaw d w c r (stray (bad_later b)) = stray b
+  on_flaw d w c r (unfit g) = absurd (g fs σ' q)
+  on_flaw d w c r (deeper gs τ p h) = absurd (d (subst (λ (z : Sums). T (over_levels z)) (one_sums gs τ p) h))
+  on_flaw d w c r (rowed gs τ p h) = absurd (w (subst (λ (z : Sums). T (over_rows z)) (one_sums gs τ p) h))
+  on_flaw d w c r (many gs τ p h) = absurd (c (subst (λ (z : Sums). T (over_counts z.counts)) (one_sums gs τ p) h))
+  on_flaw d w c r (onward gs τ p h) = subst₂ (λ (z : Sums) (y : Stack). Flaw z y t r) (one_sums gs τ p) (took_stack (sym p ∙ q)) h
 
   -- the marks before the token
   ms : Evs
   ms = (step_last graphql k.class σ q).0
 
-  fs-are : fs ≡ ms ++ (tok k.class ∷ [])
+  fs_are : fs ≡ ms ++ (tok k.class ∷ [])
   unfolding ms
-  fs-are = (step_last graphql k.class σ q).1
+  fs_are = (step_last graphql k.class σ q).1
 
-  ms-marks : toks ms ≡ []
+  ms_marks : toks ms ≡ []
   unfolding ms
-  ms-marks = (step_last graphql k.class σ q).2
+  ms_marks = (step_last graphql k.class σ q).2
 
-  sums-are : counted (tok k.class) (sums ms m) ≡ sums fs m
+  sums_are : counted (tok k.class) (sums ms m) ≡ sums fs m
   unfolding sums
-  sums-are = sym (ap (λ (z : Evs). sums z m) fs-are ∙ sums_append ms (tok k.class ∷ []) m)
+  sums_are = sym (ap (λ (z : Evs). sums z m) fs_are ∙ sums_append ms (tok k.class ∷ []) m)
 
-  marked-are : (s : State) → marked fs (token k t) s ≡ marked ms (token k t) s
-  marked-are s = ap (λ (z : Evs). marked z (token k t) s) fs-are ∙ marked_last ms k.class (token k t) s
+  marked_are : (s : State) → marked fs (token k t) s ≡ marked ms (token k t) s
+  marked_are s = ap (λ (z : Evs). marked z (token k t) s) fs_are ∙ marked_last ms k.class (token k t) s
 
   levels_are : (sums fs m).levels ≡ leveled k.class m.levels
-  levels_are = ap (λ (z : Sums). z.levels) (sym sums-are) ∙ ap (leveled k.class) (sums_levels ms m ms-marks)
+  levels_are = ap (λ (z : Sums). z.levels) (sym sums_are) ∙ ap (leveled k.class) (sums_levels ms m ms_marks)
 
-  sound-level : Steady m.levels σ → (gs : Evs) → Derives factored hits σ' gs → (T (closes_level k.class) → 1 ≤ m.levels) × Level (leveled k.class m.levels) gs
-  sound-level h gs d =
-      level_step ms gs k.class m.levels ms-marks (subst (λ (z : Evs). Level m.levels (z ++ gs)) fs-are (h.levels (fs ++ gs) (took_before k.class σ σ' fs gs q d)))
+  sound_level : Steady m.levels σ → (gs : Evs) → Derives factored hits σ' gs → (T (closes_level k.class) → 1 ≤ m.levels) × Level (leveled k.class m.levels) gs
+  sound_level h gs d =
+      level_step ms gs k.class m.levels ms_marks (subst (λ (z : Evs). Level m.levels (z ++ gs)) fs_are (h.levels (fs ++ gs) (took_before k.class σ σ' fs gs q d)))
 
-  sound-on : Steady m.levels σ → Steady (sums fs m).levels σ'
-  sound-on h =
+  sound_on : Steady m.levels σ → Steady (sums fs m).levels σ'
+  sound_on h =
       record {
-        levels = λ gs d. subst (λ (z : ℕ). Level z gs) (sym levels_are) (sound-level h gs d).1;
+        levels = λ gs d. subst (λ (z : ℕ). Level z gs) (sym levels_are) (sound_level h gs d).1;
         sober = λ gs d. sober_later fs gs (h.sober (fs ++ gs) (took_before k.class σ σ' fs gs q d));
       }
 
-  closed-open : Steady m.levels σ → T (closes_level k.class) → 1 ≤ (sums ms m).levels
-  closed-open h c = let w = some_word σ' in rw (sums_levels ms m ms-marks) ((sound-level h w.0 w.1).0 c)
+  closed_open : Steady m.levels σ → T (closes_level k.class) → 1 ≤ (sums ms m).levels
+  closed_open h c = let w = some_word σ' in rw (sums_levels ms m ms_marks) ((sound_level h w.0 w.1).0 c)
 
   -- the rows of what comes after are those of the whole
-  right-on : (s s' : State) (l : ℕ) (b : Book) → Holds s b → (T (over_levels (sums fs m)) → ⊥) → (T (over_rows (sums fs m)) → ⊥) → (T (over_counts (sums fs m).counts) → ⊥) →
+  right_on : (s s' : State) (l : ℕ) (b : Book) → Holds s b → (T (over_levels (sums fs m)) → ⊥) → (T (over_rows (sums fs m)) → ⊥) → (T (over_counts (sums fs m).counts) → ⊥) →
       (marked ms (token k t) s).rows ≤ most_rows →
       Judged (sums fs m) σ' t (st (marked ms (token k t) s).cells (marked ms (token k t) s).rows (marked ms (token k t) s).open' k.stop l (marked ms (token k t) s).counts) (whole s') →
       Right m σ b (token k t) s'
   unfolding tokens_of
-  right-on s s' l b h d w c le f =
-      let a = f (taken (k ∷ tokens_of t) (book ms (k ∷ tokens_of t) b)) (holds_taken k (tokens_of t) l (marked ms (token k t) s) (book ms (k ∷ tokens_of t) b) (holds_marked ms k t (tokens_of t) s b ms-marks h le)) in
+  right_on s s' l b h d w c le f =
+      let a = f (taken (k ∷ tokens_of t) (book ms (k ∷ tokens_of t) b)) (holds_taken k (tokens_of t) l (marked ms (token k t) s) (book ms (k ∷ tokens_of t) b) (holds_marked ms k t (tokens_of t) s b ms_marks h le)) in
       record {
         events = fs ++ a.events;
         derives = took_before k.class σ σ' fs a.events q a.derives;
         reads = took_reads k.class σ σ' fs a.events q ∙ ap (λ (z : List Class). k.class ∷ z) a.reads;
         wholly = ends_well_later a.wholly;
         holds =
-            subst (Holds s') (sym (ap (λ (z : Evs). book (z ++ a.events) (k ∷ tokens_of t) b) fs-are ∙ book_step ms a.events k.class k (tokens_of t) b ms-marks)) a.holds;
-        clean = λ r z. a.clean r (on-flaw d w c r z);
+            subst (Holds s') (sym (ap (λ (z : Evs). book (z ++ a.events) (k ∷ tokens_of t) b) fs_are ∙ book_step ms a.events k.class k (tokens_of t) b ms_marks)) a.holds;
+        clean = λ r z. a.clean r (on_flaw d w c r z);
       }
 
-  taken-judged : (s : State) → Tracks s m → Steady m.levels σ → ((s' : State) → Tracks s' (sums fs m) → Judged (sums fs m) σ' t s' (go s' σ' t)) →
+  taken_judged : (s : State) → Tracks s m → Steady m.levels σ → ((s' : State) → Tracks s' (sums fs m) → Judged (sums fs m) σ' t s' (go s' σ' t)) →
       Judged m σ (token k t) s (heed k (marked fs (token k t) s) (λ s'. go s' σ' t))
-  taken-judged s tr snd ih =
-      subst (λ (z : State). Judged m σ (token k t) s (heed k z (λ s'. go s' σ' t))) (sym (marked-are s))
+  taken_judged s tr snd ih =
+      subst (λ (z : State). Judged m σ (token k t) s (heed k z (λ s'. go s' σ' t))) (sym (marked_are s))
       (cases (heed k s₁ (λ s'. go s' σ' t))
-      (subst (λ (z : Sums). Heeded k s₁ z (λ s'. go s' σ' t) (heed k s₁ (λ s'. go s' σ' t))) sums-are
-      (heeds k s₁ (sums ms m) (λ s'. go s' σ' t) (tracks_marked ms (token k t) s m ms-marks tr) (closed-open snd))))
+      (subst (λ (z : Sums). Heeded k s₁ z (λ s'. go s' σ' t) (heed k s₁ (λ s'. go s' σ' t))) sums_are
+      (heeds k s₁ (sums ms m) (λ s'. go s' σ' t) (tracks_marked ms (token k t) s m ms_marks tr) (closed_open snd))))
     where
       s₁ : State
       s₁ = marked ms (token k t) s
 
       lift : (l : ℕ) → (T (over_levels (sums fs m)) → ⊥) → (T (over_rows (sums fs m)) → ⊥) → (T (over_counts (sums fs m).counts) → ⊥) → s₁.rows ≤ most_rows →
           (o : Out) → Judged (sums fs m) σ' t (st s₁.cells s₁.rows s₁.open' k.stop l s₁.counts) o → Judged m σ (token k t) s o
-      lift l d w c le (whole s') f = λ b h. right-on s s' l b h d w c le f
-      lift l d w c le (halt r) f = λ rise. let a = f (rising_later k t rise) in (onward fs σ' q a.0, λ r' z. a.1 r' (on-flaw d w c r' z))
+      lift l d w c le (whole s') f = λ b h. right_on s s' l b h d w c le f
+      lift l d w c le (halt r) f = λ rise. let a = f (rising_later k t rise) in (onward fs σ' q a.0, λ r' z. a.1 r' (on_flaw d w c r' z))
 
       cases : (o : Out) → Heeded k s₁ (sums fs m) (λ s'. go s' σ' t) o → Judged m σ (token k t) s o
-      cases o (over_deep h) = deep-least h
-      cases o (by_over_rows d h) = rows-least d h
-      cases o (by_over_counts d w h) = many-least d w h
+      cases o (over_deep h) = deep_least h
+      cases o (by_over_rows d h) = rows_least d h
+      cases o (by_over_counts d w h) = many_least d w h
       cases o (well l d w c tr') =
           lift l d w c (let e = tr'.rows_are in let le = nltb→le most_rows (sums fs m).rows (not_T (ltb most_rows (sums fs m).rows) w) in omega arith)
           (go (st s₁.cells s₁.rows s₁.open' k.stop l s₁.counts) σ' t) (ih (st s₁.cells s₁.rows s₁.open' k.stop l s₁.counts) tr')
@@ -222,11 +222,11 @@ end_least m σ n f = (short f, least)
 
 end_judged : (m : Sums) (σ : Stack) (n : ℕ) (s : State) → Steady m.levels σ → Judged m σ (at_end n) s (ended s n (step graphql σ none))
 unfolding tokens_of
-end_judged m σ n s snd = by-step (step graphql σ none) refl (step_sound fits σ none)
+end_judged m σ n s snd = by_step (step graphql σ none) refl (step_sound fits σ none)
   where
-    by-step : (r : Steps) → step graphql σ none ≡ r → Sound fits none σ r → Judged m σ (at_end n) s (ended s n r)
-    by-step (took fs σ') q h = λ rise. end_least m σ n (λ gs p. took≢emptied (sym q ∙ p))
-    by-step (emptied fs) q h = λ b k.
+    by_step : (r : Steps) → step graphql σ none ≡ r → Sound fits none σ r → Judged m σ (at_end n) s (ended s n r)
+    by_step (took fs σ') q h = λ rise. end_least m σ n (λ gs p. took≢emptied (sym q ∙ p))
+    by_step (emptied fs) q h = λ b k.
         record {
           events = fs;
           derives = emptied_derives fits none σ fs h;
@@ -239,8 +239,8 @@ end_judged m σ n s snd = by-step (step graphql σ none) refl (step_sound fits �
         clean : (r : Refusal) → Flaw m σ (at_end n) r → ⊥
         clean r (short g) = g fs q
         clean _ (stray {at = at} x7) = elim x7 [ ]
-    by-step refuses-it q h = λ rise. end_least m σ n (λ gs p. refused≢emptied (sym q ∙ p))
-    by-step spent q h = λ rise. end_least m σ n (λ gs p. spent≢emptied (sym q ∙ p))
+    by_step refuses-it q h = λ rise. end_least m σ n (λ gs p. refused≢emptied (sym q ∙ p))
+    by_step spent q h = λ rise. end_least m σ n (λ gs p. spent≢emptied (sym q ∙ p))
 
 bad_least : (m : Sums) (σ : Stack) (n : ℕ) → Least m σ (bad n) (NoToken n)
 bad_least m σ n = (stray bad_here, least)
@@ -254,14 +254,14 @@ unfolding go
 judged (at_end n) m σ s tr snd = end_judged m σ n s snd
 judged (bad n) m σ s tr snd = λ rise. bad_least m σ n
 judged (token k t) m σ s tr snd =
-    by-step (step graphql σ (some k.class)) refl (λ (m' : Sums) (σ' : Stack) (s' : State) (tr' : Tracks s' m') (snd' : Steady m'.levels σ'). judged t m' σ' s' tr' snd')
+    by_step (step graphql σ (some k.class)) refl (λ (m' : Sums) (σ' : Stack) (s' : State) (tr' : Tracks s' m') (snd' : Steady m'.levels σ'). judged t m' σ' s' tr' snd')
   where
-    by-step : (r : Steps) → step graphql σ (some k.class) ≡ r →
+    by_step : (r : Steps) → step graphql σ (some k.class) ≡ r →
         ((m' : Sums) (σ' : Stack) (s' : State) → Tracks s' m' → Steady m'.levels σ' → Judged m' σ' t s' (go s' σ' t)) → Judged m σ (token k t) s (goes s k t (λ s' σ'. go s' σ' t) r)
-    by-step (took fs σ') q ih = taken-judged m σ σ' k t fs q s tr snd (λ s' tr'. ih (sums fs m) σ' s' tr' (sound-on m σ σ' k t fs q snd))
-    by-step (emptied fs) q ih = unfit_least m σ k t (λ gs σ' p. took≢emptied (sym p ∙ q))
-    by-step refuses-it q ih = unfit_least m σ k t (λ gs σ' p. took≢refused (sym p ∙ q))
-    by-step spent q ih = unfit_least m σ k t (λ gs σ' p. took≢spent (sym p ∙ q))
+    by_step (took fs σ') q ih = taken_judged m σ σ' k t fs q s tr snd (λ s' tr'. ih (sums fs m) σ' s' tr' (sound_on m σ σ' k t fs q snd))
+    by_step (emptied fs) q ih = unfit_least m σ k t (λ gs σ' p. took≢emptied (sym p ∙ q))
+    by_step refuses-it q ih = unfit_least m σ k t (λ gs σ' p. took≢refused (sym p ∙ q))
+    by_step spent q ih = unfit_least m σ k t (λ gs σ' p. took≢spent (sym p ∙ q))
 
 start_tracks : (cells : List ℕ) → Tracks (start cells) nothing_counted
 start_tracks cells = record { rows_are = refl; counts_are = refl; levels_are = refl }

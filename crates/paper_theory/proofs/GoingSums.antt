@@ -23,11 +23,11 @@ abbrev pub Ends : {C A : Type 0} → C → List (Ev C A) → Type 0
 Ends {C} {A} t es = (ms : List (Ev C A)) × (es ≡ ms ++ (tok t ∷ [])) × (toks ms ≡ [])
 
 module _ {C A : Type 0} where
-  toks-none : (ms es : List (Ev C A)) → toks ms ≡ [] → toks (ms ++ es) ≡ toks es
+  toks_none : (ms es : List (Ev C A)) → toks ms ≡ [] → toks (ms ++ es) ≡ toks es
   unfolding toks
-  toks-none [] es e = refl
-  toks-none (tok c ∷ ms) es e = absurd (cons≢nil e)
-  toks-none (mark a ∷ ms) es e = toks-none ms es e
+  toks_none [] es e = refl
+  toks_none (tok c ∷ ms) es e = absurd (cons≢nil e)
+  toks_none (mark a ∷ ms) es e = toks_none ms es e
 
 module _ {N P C A : Type 0} (G : Tables N P C A) (t : C) where
   abbrev Last : Step N P C A → Type 0
@@ -36,15 +36,15 @@ module _ {N P C A : Type 0} (G : Tables N P C A) (t : C) where
   Last refused = Unit {0}
   Last spent = Unit {0}
 
-  last-after : (ms : List (Ev C A)) → toks ms ≡ [] → (r : Step N P C A) → Last r → Last (ms ▸ r)
-  last-after ms e (took es σ) h = (ms ++ h.0, ap (λ (z : List (Ev C A)). ms ++ z) h.1 ∙ sym (append_assoc ms h.0 (tok t ∷ [])), toks-none ms h.0 e ∙ h.2)
-  last-after ms e (emptied es) h = toks-none ms es e ∙ h
-  last-after ms e refused h = tt
-  last-after ms e spent h = tt
+  last_after : (ms : List (Ev C A)) → toks ms ≡ [] → (r : Step N P C A) → Last r → Last (ms ▸ r)
+  last_after ms e (took es σ) h = (ms ++ h.0, ap (λ (z : List (Ev C A)). ms ++ z) h.1 ∙ sym (append_assoc ms h.0 (tok t ∷ [])), toks_none ms h.0 e ∙ h.2)
+  last_after ms e (emptied es) h = toks_none ms es e ∙ h
+  last_after ms e refused h = tt
+  last_after ms e spent h = tt
 
   last_then : (s : Step N P C A) (σ : List (Sym N P A)) (r : Step N P C A) → Last s → Last r → Last (and_then s σ r)
   last_then (took es σ') σ r h k = h
-  last_then (emptied es) σ r h k = last-after es h r k
+  last_then (emptied es) σ r h k = last_after es h r k
   last_then refused σ r h k = tt
   last_then spent σ r h k = tt
 
@@ -56,13 +56,13 @@ module _ {N P C A : Type 0} (G : Tables N P C A) (t : C) where
       go : (b : Bool) → Last (take_if b t σ)
       go true = ([], refl, refl)
       go false = tt
-  over_last e f (act a ∷ σ) = last-after (mark a ∷ []) refl (over G e σ (some t)) (over_last e f σ)
+  over_last e f (act a ∷ σ) = last_after (mark a ∷ []) refl (over G e σ (some t)) (over_last e f σ)
   over_last e f (nt n ∷ σ) = last_then (e n (some t)) σ (over G e σ (some t)) (f n) (over_last e f σ)
 
-  enter-last : (k : ℕ) (n : N) → Last (enter G k n (some t))
+  enter_last : (k : ℕ) (n : N) → Last (enter G k n (some t))
   unfolding enter
-  enter-last zero n = tt
-  enter-last (suc k) n = go (choose G n (some t)) (λ (m : N). enter-last k m)
+  enter_last zero n = tt
+  enter_last (suc k) n = go (choose G n (some t)) (λ (m : N). enter_last k m)
     where
       go : (o : Option (List (Sym N P A))) → ((m : N) → Last (enter G k m (some t))) → Last (onward G (enter G k) (some t) o)
       go none f = tt
@@ -70,7 +70,7 @@ module _ {N P C A : Type 0} (G : Tables N P C A) (t : C) where
 
   pub step_last : (σ : List (Sym N P A)) {es : List (Ev C A)} {σ' : List (Sym N P A)} → step G σ (some t) ≡ took es σ' → Ends t es
   unfolding step
-  step_last σ {es} {σ'} q = subst Last q (over_last (enter G G.depth) (enter-last G.depth) σ)
+  step_last σ {es} {σ'} q = subst Last q (over_last (enter G G.depth) (enter_last G.depth) σ)
 
 -- the events through a token
 pub through_step : (c : Class) (ms gs : Evs) (k : ℕ) → toks ms ≡ [] → through (suc k) ((ms ++ (tok c ∷ [])) ++ gs) ≡ (ms ++ (tok c ∷ [])) ++ through k gs

@@ -139,18 +139,18 @@ piece_from : AdmitsAll lexical Piece (lex_factored Piece)
 unfolding lexical lex_factored
 piece_from = (λ σ es d. parted lexical IntegerPart (nt NumberRest ∷ σ) (λ z. Derives lexical hits_byte (nt Piece ∷ σ) z) (λ us vs a e. go σ us vs a (by_three lexical hits_byte {n = NumberRest} refl e)) (by_one lexical hits_byte {n = Number} refl d), kept lexical Piece _ (λ α m. Memᴰ.tail (Memᴰ.tail m)))
   where
-    float-piece : (σ : Syms) {es : Evs} → Derives lexical hits_byte (nt FloatValue ∷ act (is float) ∷ σ) es → Derives lexical hits_byte (nt Piece ∷ σ) es
-    float-piece σ d = by (second_of lexical hits_byte {n = Piece} refl) d
+    float_piece : (σ : Syms) {es : Evs} → Derives lexical hits_byte (nt FloatValue ∷ act (is float) ∷ σ) es → Derives lexical hits_byte (nt Piece ∷ σ) es
+    float_piece σ d = by (second_of lexical hits_byte {n = Piece} refl) d
 
     made : (σ : Syms) (es : Evs) → Derives lexical hits_byte (nt IntegerPart ∷ nt FractionalPart ∷ act (is float) ∷ σ) es ⊎ Derives lexical hits_byte (nt IntegerPart ∷ nt FractionalPart ∷ nt ExponentPart ∷ act (is float) ∷ σ) es → Derives lexical hits_byte (nt Piece ∷ σ) es
-    made σ es (inl d) = float-piece σ (by (first_of lexical hits_byte {n = FloatValue} refl) d)
-    made σ es (inr d) = float-piece σ (by (third_of lexical hits_byte {n = FloatValue} refl) d)
+    made σ es (inl d) = float_piece σ (by (first_of lexical hits_byte {n = FloatValue} refl) d)
+    made σ es (inr d) = float_piece σ (by (third_of lexical hits_byte {n = FloatValue} refl) d)
 
     go : (σ : Syms) (us vs : Evs) → Derives lexical hits_byte (nt IntegerPart ∷ []) us →
         Derives lexical hits_byte (act (is int) ∷ σ) vs ⊎ (Derives lexical hits_byte (nt FractionalPart ∷ nt ExponentPart? ∷ act (is float) ∷ σ) vs ⊎ Derives lexical hits_byte (nt ExponentPart ∷ act (is float) ∷ σ) vs) → Derives lexical hits_byte (nt Piece ∷ σ) (us ++ vs)
     go σ us vs a (inl d) = by (first_of lexical hits_byte {n = Piece} refl) (by (first_of lexical hits_byte {n = IntValue} refl) (join lexical hits_byte a d))
     go σ us vs a (inr (inl d)) = fraction_from (act (is float) ∷ σ) (nt Piece ∷ σ) us a (made σ) d
-    go σ us vs a (inr (inr d)) = float-piece σ (by (second_of lexical hits_byte {n = FloatValue} refl) (join lexical hits_byte a d))
+    go σ us vs a (inr (inr d)) = float_piece σ (by (second_of lexical hits_byte {n = FloatValue} refl) (join lexical hits_byte a d))
 
 integer_from : AdmitsAll lexical IntegerPart (lex_factored IntegerPart)
 unfolding lexical lex_factored

@@ -81,9 +81,9 @@ before n ts j k h h' q f g =
 pub stops_only : (n : Part) (ts : List Class) (k : ℕ) → k ≤ length ts → StopsAt n ts k → run graphql (nt n ∷ []) ts ≡ stopped k
 stops_only n ts k h s = go (run graphql (nt n ∷ []) ts) refl
   where
-    ended-there : (r : List Class) → take k ts ++ r ≡ ts → NoGoingOn n (take k ts) r → Is n ts → ⊥
-    ended-there [] e g f = g (subst (λ (z : List Class). Is n z) (sym e ∙ append-nil (take k ts)) f)
-    ended-there (t ∷ r) e g f = g r (subst (λ (z : List Class). Is n z) (sym e) f)
+    ended_there : (r : List Class) → take k ts ++ r ≡ ts → NoGoingOn n (take k ts) r → Is n ts → ⊥
+    ended_there [] e g f = g (subst (λ (z : List Class). Is n z) (sym e ∙ append-nil (take k ts)) f)
+    ended_there (t ∷ r) e g f = g r (subst (λ (z : List Class). Is n z) (sym e) f)
 
     same : (j : ℕ) → StopsAt n ts j → j ≤ length ts → Dec (j < k) → Dec (k < j) → ◌≡◌ {A = Answer Class Mark} (stopped j) (stopped k)
     same j s' b (yes p) d = absurd (before n ts j k p h s.0.0 s.0.1 s'.1)
@@ -91,5 +91,5 @@ stops_only n ts k h s = go (run graphql (nt n ∷ []) ts) refl
     same j s' b (no p) (no q) = ap stopped (omega arith)
 
     go : (a : Answer Class Mark) → run graphql (nt n ∷ []) ts ≡ a → a ≡ stopped k
-    go (accepted es) e = absurd (ended-there (drop k ts) (take-append-drop k ts) s.1 (es, accepts n ts e))
+    go (accepted es) e = absurd (ended_there (drop k ts) (take-append-drop k ts) s.1 (es, accepts n ts e))
     go (stopped j) e = same j (stops n ts j e) (bound ts (nt n ∷ []) j e) (dec_lt j k) (dec_lt k j)

@@ -54,11 +54,11 @@ said_one (refused {r} f l) (refused {r = r'} f' l') = ap refuses (one_refusal r 
 
 -- and something is said of every text: what the machine answers
 pub said_some : (n : Part) (t : Text) → Rising t → (a : Answer) × TextAnswer n t a
-said_some n t rise = of-cells (replicate rows_size 0) (length-replicate {A = ℕ} rows_size 0)
+said_some n t rise = of_cells (replicate rows_size 0) (length-replicate {A = ℕ} rows_size 0)
   where
-    of-cells : (cells : List ℕ) → length cells ≡ rows_size → (a : Answer) × TextAnswer n t a
-    of-cells cells e = of-answer (go (start cells) (nt n ∷ []) t) refl
+    of_cells : (cells : List ℕ) → length cells ≡ rows_size → (a : Answer) × TextAnswer n t a
+    of_cells cells e = of_answer (go (start cells) (nt n ∷ []) t) refl
       where
-        of-answer : (o : Out) → go (start cells) (nt n ∷ []) t ≡ o → (a : Answer) × TextAnswer n t a
-        of-answer (whole s) q = let g = going_whole n t cells s e q in (rows_are g.0, g.1)
-        of-answer (halt r) q = (refuses r, going_halt n t rise cells r q)
+        of_answer : (o : Out) → go (start cells) (nt n ∷ []) t ≡ o → (a : Answer) × TextAnswer n t a
+        of_answer (whole s) q = let g = going_whole n t cells s e q in (rows_are g.0, g.1)
+        of_answer (halt r) q = (refuses r, going_halt n t rise cells r q)

@@ -30,17 +30,17 @@ module _ {N P C A : Type 0} (p : N → List (List (Sym N P A))) (hits : P → C 
   split_done [] ys e = ([], [], refl, done, subst (λ z. Derives p hits z []) e done)
   split_done (x ∷ xs) ys e = absurd (nil≢cons e)
 
-  split-take : (x₀ : P) (c : C) → T (hits x₀ c) → (ss : List (Sym N P A)) (es : List (Ev C A)) (ys : List (Sym N P A)) → Derives p hits ss es → ((xs : List (Sym N P A)) → ss ≡ xs ++ ys → Split xs ys es) →
+  split_take : (x₀ : P) (c : C) → T (hits x₀ c) → (ss : List (Sym N P A)) (es : List (Ev C A)) (ys : List (Sym N P A)) → Derives p hits ss es → ((xs : List (Sym N P A)) → ss ≡ xs ++ ys → Split xs ys es) →
       (xs : List (Sym N P A)) → tm x₀ ∷ ss ≡ xs ++ ys → Split xs ys (tok c ∷ es)
-  split-take x₀ c t ss es ys d f [] e = ([], tok c ∷ es, refl, done, subst (λ z. Derives p hits z (tok c ∷ es)) e (take t d))
-  split-take x₀ c t ss es ys d f (x ∷ xs) e =
+  split_take x₀ c t ss es ys d f [] e = ([], tok c ∷ es, refl, done, subst (λ z. Derives p hits z (tok c ∷ es)) e (take t d))
+  split_take x₀ c t ss es ys d f (x ∷ xs) e =
       let r = f xs (tail-eq_of_cons-eq e) in
       (tok c ∷ r.0, r.1, ap (λ z. tok c ∷ z) r.2, subst (λ z. Derives p hits (z ∷ xs) (tok c ∷ r.0)) (head-eq_of_cons-eq e) (take t r.3), r.4)
 
-  split-note : (a : A) (ss : List (Sym N P A)) (es : List (Ev C A)) (ys : List (Sym N P A)) → Derives p hits ss es → ((xs : List (Sym N P A)) → ss ≡ xs ++ ys → Split xs ys es) →
+  split_note : (a : A) (ss : List (Sym N P A)) (es : List (Ev C A)) (ys : List (Sym N P A)) → Derives p hits ss es → ((xs : List (Sym N P A)) → ss ≡ xs ++ ys → Split xs ys es) →
       (xs : List (Sym N P A)) → act a ∷ ss ≡ xs ++ ys → Split xs ys (mark a ∷ es)
-  split-note a ss es ys d f [] e = ([], mark a ∷ es, refl, done, subst (λ z. Derives p hits z (mark a ∷ es)) e (note d))
-  split-note a ss es ys d f (x ∷ xs) e =
+  split_note a ss es ys d f [] e = ([], mark a ∷ es, refl, done, subst (λ z. Derives p hits z (mark a ∷ es)) e (note d))
+  split_note a ss es ys d f (x ∷ xs) e =
       let r = f xs (tail-eq_of_cons-eq e) in
       (mark a ∷ r.0, r.1, ap (λ z. mark a ∷ z) r.2, subst (λ z. Derives p hits (z ∷ xs) (mark a ∷ r.0)) (head-eq_of_cons-eq e) (note r.3), r.4)
 
@@ -53,8 +53,8 @@ module _ {N P C A : Type 0} (p : N → List (List (Sym N P A))) (hits : P → C 
 
   splits : {zs : List (Sym N P A)} {es : List (Ev C A)} → Derives p hits zs es → (ys xs : List (Sym N P A)) → zs ≡ xs ++ ys → Split xs ys es
   splits done ys xs e = split_done xs ys e
-  splits (take {p = x₀} {c} {ss} {es} t d) ys xs e = split-take x₀ c t ss es ys d (λ xs' e'. splits d ys xs' e') xs e
-  splits (note {a} {ss} {es} d) ys xs e = split-note a ss es ys d (λ xs' e'. splits d ys xs' e') xs e
+  splits (take {p = x₀} {c} {ss} {es} t d) ys xs e = split_take x₀ c t ss es ys d (λ xs' e'. splits d ys xs' e') xs e
+  splits (note {a} {ss} {es} d) ys xs e = split_note a ss es ys d (λ xs' e'. splits d ys xs' e') xs e
   splits (by {n} {α} {ss} {es} m d) ys xs e = split_by n α ss es ys m d (λ xs' e'. splits d ys xs' e') xs e
 
   pub split : (xs ys : List (Sym N P A)) {es : List (Ev C A)} → Derives p hits (xs ++ ys) es → Split xs ys es

@@ -149,21 +149,21 @@ selection_from = (λ σ es d. by (first_of language hits {n = Selection} refl) d
 
 module _ (n : Part) (bare : (σ : Syms) (es : Evs) → Derives language hits (nt n ∷ σ) es → Derives language hits (nt TypeRef ∷ σ) es)
     (banged : (σ : Syms) (es : Evs) → Derives language hits (nt n ∷ act wrapper ∷ t bang ∷ act (wrap wrap_non_null) ∷ σ) es → Derives language hits (nt TypeRef ∷ σ) es) where
-  type-pick : (σ : Syms) (us vs : Evs) → Derives language hits (nt n ∷ []) us → Derives language hits σ vs ⊎ Derives language hits (act wrapper ∷ t bang ∷ act (wrap wrap_non_null) ∷ σ) vs → Derives language hits (nt TypeRef ∷ σ) (us ++ vs)
-  type-pick σ us vs a (inl d) = bare σ (us ++ vs) (join language hits a d)
-  type-pick σ us vs a (inr d) = banged σ (us ++ vs) (join language hits a d)
+  type_pick : (σ : Syms) (us vs : Evs) → Derives language hits (nt n ∷ []) us → Derives language hits σ vs ⊎ Derives language hits (act wrapper ∷ t bang ∷ act (wrap wrap_non_null) ∷ σ) vs → Derives language hits (nt TypeRef ∷ σ) (us ++ vs)
+  type_pick σ us vs a (inl d) = bare σ (us ++ vs) (join language hits a d)
+  type_pick σ us vs a (inr d) = banged σ (us ++ vs) (join language hits a d)
 
-  type-go : (σ : Syms) {es : Evs} → Derives language hits (nt n ∷ nt Bang? ∷ σ) es → Derives language hits (nt TypeRef ∷ σ) es
+  type_go : (σ : Syms) {es : Evs} → Derives language hits (nt n ∷ nt Bang? ∷ σ) es → Derives language hits (nt TypeRef ∷ σ) es
   unfolding language
-  type-go σ d =
+  type_go σ d =
       let r = split language hits (nt n ∷ []) (nt Bang? ∷ σ) d in
-      subst (λ z. Derives language hits (nt TypeRef ∷ σ) z) (sym r.2) (type-pick σ r.0 r.1 r.3 (by_two language hits {n = Bang?} refl r.4))
+      subst (λ z. Derives language hits (nt TypeRef ∷ σ) z) (sym r.2) (type_pick σ r.0 r.1 r.3 (by_two language hits {n = Bang?} refl r.4))
 
 type_from : AdmitsAll language TypeRef (factored TypeRef)
 unfolding language factored
 type_from = (
-  λ σ es d. type-go NamedType (λ σ es d. by (first_of language hits {n = TypeRef} refl) d) (λ σ es d. by (third_of language hits {n = TypeRef} refl) (by (first_of language hits {n = NonNullType} refl) d)) σ d,
-  (λ σ es d. type-go ListType (λ σ es d. by (second_of language hits {n = TypeRef} refl) d) (λ σ es d. by (third_of language hits {n = TypeRef} refl) (by (second_of language hits {n = NonNullType} refl) d)) σ d, tt),
+  λ σ es d. type_go NamedType (λ σ es d. by (first_of language hits {n = TypeRef} refl) d) (λ σ es d. by (third_of language hits {n = TypeRef} refl) (by (first_of language hits {n = NonNullType} refl) d)) σ d,
+  (λ σ es d. type_go ListType (λ σ es d. by (second_of language hits {n = TypeRef} refl) d) (λ σ es d. by (third_of language hits {n = TypeRef} refl) (by (second_of language hits {n = NonNullType} refl) d)) σ d, tt),
 )
 
 bracket_from : (o c : Terminal) (n x x+ x* : Part) → language n ≡ (tm o ∷ tm c ∷ []) ∷ (tm o ∷ nt x+ ∷ tm c ∷ []) ∷ [] → language x+ ≡ (nt x ∷ nt x* ∷ []) ∷ [] → language x* ≡ [] ∷ (nt x ∷ nt x* ∷ []) ∷ [] →

@@ -70,46 +70,46 @@ module _ {N P C A : Type 0} (G : Tables N P C A) (follow : N → C → Bool) (al
     pub first_not : (n : N) → G.first n c ≡ false
     pub follow_not : (n : N) → follow n c ≡ false
 
-  fst-far : {c : C} → Far c → (ss : List (Sym N P A)) → fst G ss c ≡ false
-  fst-far f [] = refl
-  fst-far f (tm p ∷ ss) = f.hits_not p
-  fst-far f (act a ∷ ss) = fst-far f ss
-  fst-far f (nt n ∷ ss) = rw (f.first_not n, fst-far f ss) (and_false (G.null n))
+  fst_far : {c : C} → Far c → (ss : List (Sym N P A)) → fst G ss c ≡ false
+  fst_far f [] = refl
+  fst_far f (tm p ∷ ss) = f.hits_not p
+  fst_far f (act a ∷ ss) = fst_far f ss
+  fst_far f (nt n ∷ ss) = rw (f.first_not n, fst_far f ss) (and_false (G.null n))
     where
       and_false : (b : Bool) → b && false ≡ false
       and_false true = refl
       and_false false = refl
 
-  pick-far : {c : C} → Far c → (rs : List (List (Sym N P A))) → pick (λ α. fst G α c) rs ≡ none
-  pick-far f [] = refl
-  pick-far f (α ∷ rs) = rw (fst-far f α) (pick-far f rs)
+  pick_far : {c : C} → Far c → (rs : List (List (Sym N P A))) → pick (λ α. fst G α c) rs ≡ none
+  pick_far f [] = refl
+  pick_far f (α ∷ rs) = rw (fst_far f α) (pick_far f rs)
 
-  choose-far : (n : N) {c : C} → Far c → choose G n (some c) ≡ choose G n none
+  choose_far : (n : N) {c : C} → Far c → choose G n (some c) ≡ choose G n none
   unfolding choose
-  choose-far n f = rw (pick-far f (G.prods n)) refl
+  choose_far n f = rw (pick_far f (G.prods n)) refl
 
-  over-far : {c : C} → Far c → (e : N → Option C → Step N P C A) → ((n : N) → e n (some c) ≡ e n none) → (σ : List (Sym N P A)) → over G e σ (some c) ≡ over G e σ none
-  over-far f e h [] = refl
-  over-far f e h (tm p ∷ σ) = rw (f.hits_not p) refl
-  over-far f e h (act a ∷ σ) = rw (over-far f e h σ) refl
-  over-far f e h (nt n ∷ σ) = rw (h n, over-far f e h σ) refl
+  over_far : {c : C} → Far c → (e : N → Option C → Step N P C A) → ((n : N) → e n (some c) ≡ e n none) → (σ : List (Sym N P A)) → over G e σ (some c) ≡ over G e σ none
+  over_far f e h [] = refl
+  over_far f e h (tm p ∷ σ) = rw (f.hits_not p) refl
+  over_far f e h (act a ∷ σ) = rw (over_far f e h σ) refl
+  over_far f e h (nt n ∷ σ) = rw (h n, over_far f e h σ) refl
 
-  enter-far : (k : ℕ) (n : N) {c : C} → Far c → enter G k n (some c) ≡ enter G k n none
+  enter_far : (k : ℕ) (n : N) {c : C} → Far c → enter G k n (some c) ≡ enter G k n none
   unfolding enter
-  enter-far zero n f = refl
-  enter-far (suc k) n {c} f = rw (choose-far n f) (go (choose G n none) (λ m. enter-far k m f))
+  enter_far zero n f = refl
+  enter_far (suc k) n {c} f = rw (choose_far n f) (go (choose G n none) (λ m. enter_far k m f))
     where
       go : (o : Option (List (Sym N P A))) → ((m : N) → enter G k m (some c) ≡ enter G k m none) → onward G (enter G k) (some c) o ≡ onward G (enter G k) none o
       go none h = refl
-      go (some α) h = over-far f (enter G k) h α
+      go (some α) h = over_far f (enter G k) h α
 
   module _ (num_n : N → ℕ) (at_n : (n : N) → get_elem? all_n (num_n n) ≡ some n) (num_c : C → ℕ) (near : (c : C) → (get_elem? all_c (num_c c) ≡ some c) ⊎ Far c) where
     at_part : (p : N → Bool) → T (all p all_n) → (n : N) → T (p n)
     at_part p h n = all_at p all_n (num_n n) h (at_n n)
 
     -- of a token that is listed, by the test; of another, for that reason
-    at-class : (p : C → Bool) → T (all p all_c) → ((c : C) → Far c → T (p c)) → (c : C) → T (p c)
-    at-class p h far c = go (near c)
+    at_class : (p : C → Bool) → T (all p all_c) → ((c : C) → Far c → T (p c)) → (c : C) → T (p c)
+    at_class p h far c = go (near c)
       where
         go : (get_elem? all_c (num_c c) ≡ some c) ⊎ Far c → T (p c)
         go (inl e) = all_at p all_c (num_c c) h e
@@ -125,40 +125,40 @@ module _ {N P C A : Type 0} (G : Tables N P C A) (follow : N → C → Bool) (al
     implies_true true = tt
     implies_true false = tt
 
-    one-far : {c : C} → Far c → (rs : List (List (Sym N P A))) → T (at_most_one (λ α. fst G α c) rs)
-    one-far f [] = tt
-    one-far f (α ∷ rs) = rw (fst-far f α) (one-far f rs)
+    one_far : {c : C} → Far c → (rs : List (List (Sym N P A))) → T (at_most_one (λ α. fst G α c) rs)
+    one_far f [] = tt
+    one_far f (α ∷ rs) = rw (fst_far f α) (one_far f rs)
 
-    followsT-out : (n : N) (ss : List (Sym N P A)) → T (followsT n ss) → Follows G follow n ss
-    followsT-out n [] h = tt
-    followsT-out n (tm c ∷ ss) h = followsT-out n ss h
-    followsT-out n (act a ∷ ss) h = followsT-out n ss h
-    followsT-out n (nt m ∷ ss) h =
+    follows_t_out : (n : N) (ss : List (Sym N P A)) → T (followsT n ss) → Follows G follow n ss
+    follows_t_out n [] h = tt
+    follows_t_out n (tm c ∷ ss) h = follows_t_out n ss h
+    follows_t_out n (act a ∷ ss) h = follows_t_out n ss h
+    follows_t_out n (nt m ∷ ss) h =
         let h₁ = and_l (all (afterT m ss) all_c) (all (lastT n m ss) all_c && followsT n ss) h in
         let h₂ = and_r (all (afterT m ss) all_c) (all (lastT n m ss) all_c && followsT n ss) h in (
-          λ t k. implies_out (fst G ss t) (follow m t) (at-class (afterT m ss) h₁ (λ c f. rw (fst-far f ss) tt) t) k,
-          λ t k j. implies_out (follow n t) (follow m t) (implies_out (nul G ss) (implies (follow n t) (follow m t)) (at-class (lastT n m ss) (and_l (all (lastT n m ss) all_c) (followsT n ss) h₂) (λ c f. rw (f.follow_not n) (implies_true (nul G ss))) t) k) j,
-          followsT-out n ss (and_r (all (lastT n m ss) all_c) (followsT n ss) h₂),
+          λ t k. implies_out (fst G ss t) (follow m t) (at_class (afterT m ss) h₁ (λ c f. rw (fst_far f ss) tt) t) k,
+          λ t k j. implies_out (follow n t) (follow m t) (implies_out (nul G ss) (implies (follow n t) (follow m t)) (at_class (lastT n m ss) (and_l (all (lastT n m ss) all_c) (followsT n ss) h₂) (λ c f. rw (f.follow_not n) (implies_true (nul G ss))) t) k) j,
+          follows_t_out n ss (and_r (all (lastT n m ss) all_c) (followsT n ss) h₂),
         )
 
     pub fit : {sample : N → List C} → Tested sample → Fit G follow
     fit h = record {
-      first_closed = λ n {α} t m k. implies_out (fst G α t) (G.first n t) (at-class (λ u. implies (fst G α u) (G.first n u))
-          (all_mem (λ β. all (λ u. implies (fst G β u) (G.first n u)) all_c) (at_part (λ n. all (λ α. all (λ t. implies (fst G α t) (G.first n t)) all_c) (G.prods n)) h.first_closed n) m) (λ c f. rw (fst-far f α) tt) t) k;
+      first_closed = λ n {α} t m k. implies_out (fst G α t) (G.first n t) (at_class (λ u. implies (fst G α u) (G.first n u))
+          (all_mem (λ β. all (λ u. implies (fst G β u) (G.first n u)) all_c) (at_part (λ n. all (λ α. all (λ t. implies (fst G α t) (G.first n t)) all_c) (G.prods n)) h.first_closed n) m) (λ c f. rw (fst_far f α) tt) t) k;
       null_closed = λ n {α} m k. implies_out (nul G α) (G.null n) (all_mem (λ β. implies (nul G β) (G.null n)) (at_part (λ n. all (λ α. implies (nul G α) (G.null n)) (G.prods n)) h.null_closed n) m) k;
-      one_first = λ n t. at-class (λ u. at_most_one (λ α. fst G α u) (G.prods n)) (at_part (λ n. all (λ t. at_most_one (λ α. fst G α t) (G.prods n)) all_c) h.one_first n) (λ c f. one-far f (G.prods n)) t;
+      one_first = λ n t. at_class (λ u. at_most_one (λ α. fst G α u) (G.prods n)) (at_part (λ n. all (λ t. at_most_one (λ α. fst G α t) (G.prods n)) all_c) h.one_first n) (λ c f. one_far f (G.prods n)) t;
       one_null = λ n. at_part (λ n. at_most_one (λ α. nul G α) (G.prods n)) h.one_null n;
-      apart = λ n t. not_both (G.null n) (G.first n t) (follow n t) (at-class (λ u. implies (G.null n) (implies (G.first n u) (not (follow n u)))) (at_part (λ n. all (λ t. implies (G.null n) (implies (G.first n t) (not (follow n t)))) all_c) h.apart n) (λ c f. rw (f.first_not n) (implies_true (G.null n))) t);
-      follows = λ n {α} m. followsT-out n α (all_mem (λ β. followsT n β) (at_part (λ n. all (λ α. followsT n α) (G.prods n)) h.follows n) m);
-      deep = λ n l. deep-at n l;
+      apart = λ n t. not_both (G.null n) (G.first n t) (follow n t) (at_class (λ u. implies (G.null n) (implies (G.first n u) (not (follow n u)))) (at_part (λ n. all (λ t. implies (G.null n) (implies (G.first n t) (not (follow n t)))) all_c) h.apart n) (λ c f. rw (f.first_not n) (implies_true (G.null n))) t);
+      follows = λ n {α} m. follows_t_out n α (all_mem (λ β. followsT n β) (at_part (λ n. all (λ α. followsT n α) (G.prods n)) h.follows n) m);
+      deep = λ n l. deep_at n l;
     }
       where
-        deep-end-at : (n : N) → T (alive (enter G G.depth n none))
-        deep-end-at n = at_part (λ n. alive (enter G G.depth n none)) h.deep_end n
+        deep_end_at : (n : N) → T (alive (enter G G.depth n none))
+        deep_end_at n = at_part (λ n. alive (enter G G.depth n none)) h.deep_end n
 
-        deep-at : (n : N) (l : Option C) → T (alive (enter G G.depth n l))
-        deep-at n none = deep-end-at n
-        deep-at n (some t) = at-class (λ u. alive (enter G G.depth n (some u))) (at_part (λ n. all (λ t. alive (enter G G.depth n (some t))) all_c) h.deep n) (λ c f. rw (enter-far G.depth n f) (deep-end-at n)) t
+        deep_at : (n : N) (l : Option C) → T (alive (enter G G.depth n l))
+        deep_at n none = deep_end_at n
+        deep_at n (some t) = at_class (λ u. alive (enter G G.depth n (some u))) (at_part (λ n. all (λ t. alive (enter G G.depth n (some t))) all_c) h.deep n) (λ c f. rw (enter_far G.depth n f) (deep_end_at n)) t
 
     pub words_of : {sample : N → List C} → Fit G follow → Tested sample → (n : N) → (es : List (Ev C A)) × Derives G.prods G.hits (nt n ∷ []) es
     words_of {sample} F h n = go (run G (nt n ∷ []) (sample n)) refl (at_part (λ n. ok_t (run G (nt n ∷ []) (sample n))) h.words n)

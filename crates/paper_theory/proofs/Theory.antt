@@ -38,24 +38,24 @@ not_out true s u = s
 not_out false s u = u
 
 module _ {X : Type 0} (p : X → Bool) where
-  nobody-out : {x : X} {xs : List X} → T (nobody p xs) → Memᴰ x xs → T (p x) → ⊥
-  nobody-out h (Memᴰ.head {x = y} {xs = ys} e) t = not_out (p y) (and_l (not (p y)) (nobody p ys) h) (subst (λ z. T (p z)) e t)
-  nobody-out h (Memᴰ.tail {x = y} {xs = ys} m) t = nobody-out (and_r (not (p y)) (nobody p ys) h) m t
+  nobody_out : {x : X} {xs : List X} → T (nobody p xs) → Memᴰ x xs → T (p x) → ⊥
+  nobody_out h (Memᴰ.head {x = y} {xs = ys} e) t = not_out (p y) (and_l (not (p y)) (nobody p ys) h) (subst (λ z. T (p z)) e t)
+  nobody_out h (Memᴰ.tail {x = y} {xs = ys} m) t = nobody_out (and_r (not (p y)) (nobody p ys) h) m t
 
-  pick-head : (b : Bool) (y : X) (o : Option X) → T b → pick_if b y o ≡ some y
-  pick-head true y o t = refl
-  pick-head false y o t = absurd t
+  pick_head : (b : Bool) (y : X) (o : Option X) → T b → pick_if b y o ≡ some y
+  pick_head true y o t = refl
+  pick_head false y o t = absurd t
 
-  pick-tail : (b : Bool) (y : X) (o : Option X) → (T b → ⊥) → pick_if b y o ≡ o
-  pick-tail true y o f = absurd (f tt)
-  pick-tail false y o f = refl
+  pick_tail : (b : Bool) (y : X) (o : Option X) → (T b → ⊥) → pick_if b y o ≡ o
+  pick_tail true y o f = absurd (f tt)
+  pick_tail false y o f = refl
 
   pub pick_one : {x : X} {xs : List X} → T (at_most_one p xs) → Memᴰ x xs → T (p x) → pick p xs ≡ some x
-  pick_one {x} h (Memᴰ.head {x = y} {xs = ys} e) t = pick-head (p y) y (pick p ys) (subst (λ z. T (p z)) e t) ∙ ap some (sym e)
+  pick_one {x} h (Memᴰ.head {x = y} {xs = ys} e) t = pick_head (p y) y (pick p ys) (subst (λ z. T (p z)) e t) ∙ ap some (sym e)
   pick_one {x} h (Memᴰ.tail {x = y} {xs = ys} m) t = go (p y) h (λ (h' : T (at_most_one p ys)). pick_one h' m t)
     where
       go : (b : Bool) → T (cond b (nobody p ys) (at_most_one p ys)) → (T (at_most_one p ys) → pick p ys ≡ some x) → pick_if b y (pick p ys) ≡ some x
-      go true k f = absurd (nobody-out k m t)
+      go true k f = absurd (nobody_out k m t)
       go false k f = f k
 
   pub pick_mem : (xs : List X) {x : X} → pick p xs ≡ some x → Memᴰ x xs
@@ -68,7 +68,7 @@ module _ {X : Type 0} (p : X → Bool) where
 
   pub pick_none : (xs : List X) → ((x : X) → Memᴰ x xs → T (p x) → ⊥) → pick p xs ≡ none
   pick_none [] f = refl
-  pick_none (y ∷ ys) f = pick-tail (p y) y (pick p ys) (f y (Memᴰ.head refl)) ∙ pick_none ys (λ x m. f x (Memᴰ.tail m))
+  pick_none (y ∷ ys) f = pick_tail (p y) y (pick p ys) (f y (Memᴰ.head refl)) ∙ pick_none ys (λ x m. f x (Memᴰ.tail m))
 
 IsAccepted : {C A : Type 0} → Answer C A → Type 0
 IsAccepted (accepted es) = Unit {0}
@@ -80,11 +80,11 @@ accepted≢stopped q = subst IsAccepted q tt
 
 -- steps
 module _ {N P C A : Type 0} where
-  nil-▸ : (r : Step N P C A) → [] ▸ r ≡ r
-  nil-▸ (took es σ) = refl
-  nil-▸ (emptied es) = refl
-  nil-▸ refused = refl
-  nil-▸ spent = refl
+  nil_▸ : (r : Step N P C A) → [] ▸ r ≡ r
+  nil_▸ (took es σ) = refl
+  nil_▸ (emptied es) = refl
+  nil_▸ refused = refl
+  nil_▸ spent = refl
 
   ▸-assoc : (es fs : List (Ev C A)) (r : Step N P C A) → (es ++ fs) ▸ r ≡ es ▸ (fs ▸ r)
   ▸-assoc es fs (took gs σ) = rw append_assoc
@@ -92,21 +92,21 @@ module _ {N P C A : Type 0} where
   ▸-assoc es fs refused = refl
   ▸-assoc es fs spent = refl
 
-  andThen-▸ : (es : List (Ev C A)) (s : Step N P C A) (ys : List (Sym N P A)) (r : Step N P C A) → and_then (es ▸ s) ys r ≡ es ▸ and_then s ys r
-  andThen-▸ es (took fs σ) ys r = refl
-  andThen-▸ es (emptied fs) ys r = ▸-assoc es fs r
-  andThen-▸ es refused ys r = refl
-  andThen-▸ es spent ys r = refl
+  and_then_▸ : (es : List (Ev C A)) (s : Step N P C A) (ys : List (Sym N P A)) (r : Step N P C A) → and_then (es ▸ s) ys r ≡ es ▸ and_then s ys r
+  and_then_▸ es (took fs σ) ys r = refl
+  and_then_▸ es (emptied fs) ys r = ▸-assoc es fs r
+  and_then_▸ es refused ys r = refl
+  and_then_▸ es spent ys r = refl
 
-  andThen-assoc : (s : Step N P C A) (xs ys : List (Sym N P A)) (r r' : Step N P C A) → and_then s (xs ++ ys) (and_then r ys r') ≡ and_then (and_then s xs r) ys r'
-  andThen-assoc (took es σ) xs ys r r' = rw append_assoc
-  andThen-assoc (emptied es) xs ys r r' = sym (andThen-▸ es r ys r')
-  andThen-assoc refused xs ys r r' = refl
-  andThen-assoc spent xs ys r r' = refl
+  and_then_assoc : (s : Step N P C A) (xs ys : List (Sym N P A)) (r r' : Step N P C A) → and_then s (xs ++ ys) (and_then r ys r') ≡ and_then (and_then s xs r) ys r'
+  and_then_assoc (took es σ) xs ys r r' = rw append_assoc
+  and_then_assoc (emptied es) xs ys r r' = sym (and_then_▸ es r ys r')
+  and_then_assoc refused xs ys r r' = refl
+  and_then_assoc spent xs ys r r' = refl
 
-  takeIf-andThen : (b : Bool) (c : C) (xs ys : List (Sym N P A)) (r : Step N P C A) → take_if b c (xs ++ ys) ≡ and_then (take_if b c xs) ys r
-  takeIf-andThen true c xs ys r = refl
-  takeIf-andThen false c xs ys r = refl
+  take_if_and_then : (b : Bool) (c : C) (xs ys : List (Sym N P A)) (r : Step N P C A) → take_if b c (xs ++ ys) ≡ and_then (take_if b c xs) ys r
+  take_if_and_then true c xs ys r = refl
+  take_if_and_then false c xs ys r = refl
 
   pub took≢emptied : {es fs : List (Ev C A)} {σ : List (Sym N P A)} → ◌≡◌ {A = Step N P C A} (took es σ) (emptied fs) → ⊥
   took≢emptied q = let z : ◌≡◌ {A = ℕ} 0 1 = cc in omega arith
@@ -132,48 +132,48 @@ module _ {N P C A : Type 0} where
 module _ {N P C A : Type 0} (G : Tables N P C A) where
   -- the law of a stack in two parts
   pub over_append : (e : N → Option C → Step N P C A) (xs ys : List (Sym N P A)) (l : Option C) → over G e (xs ++ ys) l ≡ and_then (over G e xs l) ys (over G e ys l)
-  over_append e [] ys l = sym (nil-▸ (over G e ys l))
+  over_append e [] ys l = sym (nil_▸ (over G e ys l))
   over_append e (tm p ∷ xs) ys none = refl
-  over_append e (tm p ∷ xs) ys (some c) = takeIf-andThen (G.hits p c) c xs ys (over G e ys (some c))
-  over_append e (act a ∷ xs) ys l = ap (λ r. (mark a ∷ []) ▸ r) (over_append e xs ys l) ∙ sym (andThen-▸ (mark a ∷ []) (over G e xs l) ys (over G e ys l))
-  over_append e (nt n ∷ xs) ys l = ap (λ r. and_then (e n l) (xs ++ ys) r) (over_append e xs ys l) ∙ andThen-assoc (e n l) xs ys (over G e xs l) (over G e ys l)
+  over_append e (tm p ∷ xs) ys (some c) = take_if_and_then (G.hits p c) c xs ys (over G e ys (some c))
+  over_append e (act a ∷ xs) ys l = ap (λ r. (mark a ∷ []) ▸ r) (over_append e xs ys l) ∙ sym (and_then_▸ (mark a ∷ []) (over G e xs l) ys (over G e ys l))
+  over_append e (nt n ∷ xs) ys l = ap (λ r. and_then (e n l) (xs ++ ys) r) (over_append e xs ys l) ∙ and_then_assoc (e n l) xs ys (over G e xs l) (over G e ys l)
 
   -- more depth changes nothing where there was enough
-  over-mono : (e e' : N → Option C → Step N P C A) → ((n : N) (l : Option C) → T (alive (e n l)) → e' n l ≡ e n l) →
+  over_mono : (e e' : N → Option C → Step N P C A) → ((n : N) (l : Option C) → T (alive (e n l)) → e' n l ≡ e n l) →
       (σ : List (Sym N P A)) (l : Option C) → T (alive (over G e σ l)) → over G e' σ l ≡ over G e σ l
-  over-mono e e' f [] l h = refl
-  over-mono e e' f (tm c ∷ σ) l h = refl
-  over-mono e e' f (act a ∷ σ) l h = ap (λ r. (mark a ∷ []) ▸ r) (over-mono e e' f σ l (alive-▸ (over G e σ l) h))
+  over_mono e e' f [] l h = refl
+  over_mono e e' f (tm c ∷ σ) l h = refl
+  over_mono e e' f (act a ∷ σ) l h = ap (λ r. (mark a ∷ []) ▸ r) (over_mono e e' f σ l (alive_▸ (over G e σ l) h))
     where
-      alive-▸ : (r : Step N P C A) → T (alive ((mark a ∷ []) ▸ r)) → T (alive r)
-      alive-▸ (took es ss) t = tt
-      alive-▸ (emptied es) t = tt
-      alive-▸ refused t = tt
-      alive-▸ spent t = t
-  over-mono e e' f (nt n ∷ σ) l h = go (e n l) (f n l) h (λ (k : T (alive (over G e σ l))). over-mono e e' f σ l k)
+      alive_▸ : (r : Step N P C A) → T (alive ((mark a ∷ []) ▸ r)) → T (alive r)
+      alive_▸ (took es ss) t = tt
+      alive_▸ (emptied es) t = tt
+      alive_▸ refused t = tt
+      alive_▸ spent t = t
+  over_mono e e' f (nt n ∷ σ) l h = go (e n l) (f n l) h (λ (k : T (alive (over G e σ l))). over_mono e e' f σ l k)
     where
-      alive-▸ : (es : List (Ev C A)) (r : Step N P C A) → T (alive (es ▸ r)) → T (alive r)
-      alive-▸ es (took fs ss) t = tt
-      alive-▸ es (emptied fs) t = tt
-      alive-▸ es refused t = tt
-      alive-▸ es spent t = t
+      alive_▸ : (es : List (Ev C A)) (r : Step N P C A) → T (alive (es ▸ r)) → T (alive r)
+      alive_▸ es (took fs ss) t = tt
+      alive_▸ es (emptied fs) t = tt
+      alive_▸ es refused t = tt
+      alive_▸ es spent t = t
 
       go : (s : Step N P C A) → (T (alive s) → e' n l ≡ s) → T (alive (and_then s σ (over G e σ l))) → (T (alive (over G e σ l)) → over G e' σ l ≡ over G e σ l) →
           and_then (e' n l) σ (over G e' σ l) ≡ and_then s σ (over G e σ l)
       go (took es ss) q t k = rw (q tt)
-      go (emptied es) q t k = rw (q tt, k (alive-▸ es (over G e σ l) t))
+      go (emptied es) q t k = rw (q tt, k (alive_▸ es (over G e σ l) t))
       go refused q t k = rw (q tt)
       go spent q t k = absurd t
 
-  enter-mono : (k : ℕ) (n : N) (l : Option C) → T (alive (enter G k n l)) → enter G (suc k) n l ≡ enter G k n l
+  enter_mono : (k : ℕ) (n : N) (l : Option C) → T (alive (enter G k n l)) → enter G (suc k) n l ≡ enter G k n l
   unfolding enter
-  enter-mono zero n l h = absurd h
-  enter-mono (suc k) n l h = go (λ (m : N) (u : Option C) (q : T (alive (enter G k m u))). enter-mono k m u q) (choose G n l) h
+  enter_mono zero n l h = absurd h
+  enter_mono (suc k) n l h = go (λ (m : N) (u : Option C) (q : T (alive (enter G k m u))). enter_mono k m u q) (choose G n l) h
     where
       go : ((m : N) (u : Option C) → T (alive (enter G k m u)) → enter G (suc k) m u ≡ enter G k m u) →
           (o : Option (List (Sym N P A))) → T (alive (onward G (enter G k) l o)) → onward G (enter G (suc k)) l o ≡ onward G (enter G k) l o
       go f none t = refl
-      go f (some α) t = over-mono (enter G k) (enter G (suc k)) f α l t
+      go f (some α) t = over_mono (enter G k) (enter G (suc k)) f α l t
 
   -- what may follow a nonterminal on a stack stays within a table
   abbrev pub Kept : (N → C → Bool) → List (Sym N P A) → Type 0
@@ -200,11 +200,11 @@ pub record Fit {N P C A : Type 0} (G : Tables N P C A) (follow : N → C → Boo
   pub deep : (n : N) (l : Option C) → T (alive (enter G G.depth n l))
 
 module _ {N P C A : Type 0} {G : Tables N P C A} {follow : N → C → Bool} (F : Fit G follow) where
-  fst-append : (α ss : List (Sym N P A)) (t : C) → T (fst G (α ++ ss) t) → T (fst G α t) ⊎ (T (nul G α) × T (fst G ss t))
-  fst-append [] ss t h = inr (tt, h)
-  fst-append (tm c ∷ α) ss t h = inl h
-  fst-append (act a ∷ α) ss t h = fst-append α ss t h
-  fst-append (nt n ∷ α) ss t h = go (or_cases (G.first n t) (G.null n && fst G (α ++ ss) t) h) (fst-append α ss t)
+  fst_append : (α ss : List (Sym N P A)) (t : C) → T (fst G (α ++ ss) t) → T (fst G α t) ⊎ (T (nul G α) × T (fst G ss t))
+  fst_append [] ss t h = inr (tt, h)
+  fst_append (tm c ∷ α) ss t h = inl h
+  fst_append (act a ∷ α) ss t h = fst_append α ss t h
+  fst_append (nt n ∷ α) ss t h = go (or_cases (G.first n t) (G.null n && fst G (α ++ ss) t) h) (fst_append α ss t)
     where
       goal : Type 0
       goal = T (fst G (nt n ∷ α) t) ⊎ (T (nul G (nt n ∷ α)) × T (fst G ss t))
@@ -217,17 +217,17 @@ module _ {N P C A : Type 0} {G : Tables N P C A} {follow : N → C → Bool} (F 
       go (inl k) f = inl (or_l (G.first n t) (G.null n && fst G α t) k)
       go (inr k) f = deeper (and_l (G.null n) (fst G (α ++ ss) t) k) (f (and_r (G.null n) (fst G (α ++ ss) t) k))
 
-  nul-append : (α ss : List (Sym N P A)) → T (nul G (α ++ ss)) → T (nul G α) × T (nul G ss)
-  nul-append [] ss h = (tt, h)
-  nul-append (tm c ∷ α) ss h = absurd h
-  nul-append (act a ∷ α) ss h = nul-append α ss h
-  nul-append (nt n ∷ α) ss h = let k = nul-append α ss (and_r (G.null n) (nul G (α ++ ss)) h) in (and_i (G.null n) (nul G α) (and_l (G.null n) (nul G (α ++ ss)) h) k.0, k.1)
+  nul_append : (α ss : List (Sym N P A)) → T (nul G (α ++ ss)) → T (nul G α) × T (nul G ss)
+  nul_append [] ss h = (tt, h)
+  nul_append (tm c ∷ α) ss h = absurd h
+  nul_append (act a ∷ α) ss h = nul_append α ss h
+  nul_append (nt n ∷ α) ss h = let k = nul_append α ss (and_r (G.null n) (nul G (α ++ ss)) h) in (and_i (G.null n) (nul G α) (and_l (G.null n) (nul G (α ++ ss)) h) k.0, k.1)
 
   kept_append : (n : N) (α ss : List (Sym N P A)) → Follows G follow n α → ((t : C) → T (fst G ss t) → T (follow n t)) → Kept G follow ss → Kept G follow (α ++ ss)
   kept_append n [] ss f g k = k
   kept_append n (tm c ∷ α) ss f g k = kept_append n α ss f g k
   kept_append n (act a ∷ α) ss f g k = kept_append n α ss f g k
-  kept_append n (nt m ∷ α) ss f g k = (λ t h. go t (fst-append α ss t h), kept_append n α ss f.2 g k)
+  kept_append n (nt m ∷ α) ss f g k = (λ t h. go t (fst_append α ss t h), kept_append n α ss f.2 g k)
     where
       go : (t : C) → T (fst G α t) ⊎ (T (nul G α) × T (fst G ss t)) → T (follow m t)
       go t (inl h) = f.0 t h
@@ -239,33 +239,33 @@ module _ {N P C A : Type 0} {G : Tables N P C A} {follow : N → C → Bool} (F 
   derives_null done q = tt
   derives_null (take h d) q = absurd (cons≢nil q)
   derives_null (note d) q = derives_null d q
-  derives_null (by {n} {α} {ss} m d) q = let k = nul-append α ss (derives_null d q) in and_i (G.null n) (nul G ss) (F.null_closed n m k.0) k.1
+  derives_null (by {n} {α} {ss} m d) q = let k = nul_append α ss (derives_null d q) in and_i (G.null n) (nul G ss) (F.null_closed n m k.0) k.1
 
-  derives-first : {ss : List (Sym N P A)} {es : List (Ev C A)} {t : C} {ts : List C} → Derives G.prods G.hits ss es → toks es ≡ t ∷ ts → T (fst G ss t)
+  derives_first : {ss : List (Sym N P A)} {es : List (Ev C A)} {t : C} {ts : List C} → Derives G.prods G.hits ss es → toks es ≡ t ∷ ts → T (fst G ss t)
   unfolding toks
-  derives-first done q = absurd (nil≢cons q)
-  derives-first (take {p} {c} h d) q = subst (λ z. T (G.hits p z)) (head-eq_of_cons-eq q) h
-  derives-first (note d) q = derives-first d q
-  derives-first {t} (by {n} {α} {ss} m d) q = go (fst-append α ss t (derives-first d q))
+  derives_first done q = absurd (nil≢cons q)
+  derives_first (take {p} {c} h d) q = subst (λ z. T (G.hits p z)) (head-eq_of_cons-eq q) h
+  derives_first (note d) q = derives_first d q
+  derives_first {t} (by {n} {α} {ss} m d) q = go (fst_append α ss t (derives_first d q))
     where
       go : T (fst G α t) ⊎ (T (nul G α) × T (fst G ss t)) → T (fst G (nt n ∷ ss) t)
       go (inl h) = or_l (G.first n t) (G.null n && fst G ss t) (F.first_closed n t m h)
       go (inr h) = or_r (G.first n t) (G.null n && fst G ss t) (and_i (G.null n) (fst G ss t) (F.null_closed n m h.0) h.1)
 
-  choose-mem : (n : N) (l : Option C) {α : List (Sym N P A)} → choose G n l ≡ some α → Memᴰ α (G.prods n)
+  choose_mem : (n : N) (l : Option C) {α : List (Sym N P A)} → choose G n l ≡ some α → Memᴰ α (G.prods n)
   unfolding choose
-  choose-mem n none q = pick_mem (λ β. nul G β) (G.prods n) q
-  choose-mem n (some t) {α} q = go (pick (λ β. fst G β t) (G.prods n)) refl q
+  choose_mem n none q = pick_mem (λ β. nul G β) (G.prods n) q
+  choose_mem n (some t) {α} q = go (pick (λ β. fst G β t) (G.prods n)) refl q
     where
       go : (o : Option (List (Sym N P A))) → pick (λ β. fst G β t) (G.prods n) ≡ o → or_else o (pick (λ β. nul G β) (G.prods n)) ≡ some α → Memᴰ α (G.prods n)
       go none e k = pick_mem (λ β. nul G β) (G.prods n) k
       go (some β) e k = pick_mem (λ γ. fst G γ t) (G.prods n) (e ∙ k)
 
   -- the production that a derivation uses is the one chosen
-  choose-right : (n : N) {α : List (Sym N P A)} (ss : List (Sym N P A)) (t : C) → Memᴰ α (G.prods n) → ((u : C) → T (fst G ss u) → T (follow n u)) →
+  choose_right : (n : N) {α : List (Sym N P A)} (ss : List (Sym N P A)) (t : C) → Memᴰ α (G.prods n) → ((u : C) → T (fst G ss u) → T (follow n u)) →
       T (fst G (α ++ ss) t) → choose G n (some t) ≡ some α
   unfolding choose
-  choose-right n {α} ss t m g h = go (fst-append α ss t h)
+  choose_right n {α} ss t m g h = go (fst_append α ss t h)
     where
       go : T (fst G α t) ⊎ (T (nul G α) × T (fst G ss t)) → or_else (pick (λ β. fst G β t) (G.prods n)) (pick (λ β. nul G β) (G.prods n)) ≡ some α
       go (inl k) = rw (pick_one (λ β. fst G β t) (F.one_first n t) m k)
@@ -282,22 +282,22 @@ module _ {N P C A : Type 0} {G : Tables N P C A} {follow : N → C → Bool} (F 
   unfolding choose
   choose_null n t m h g = rw (pick_none (λ β. fst G β t) (G.prods n) (λ β mβ hβ. g (F.first_closed n t mβ hβ))) (pick_one (λ β. nul G β) (F.one_null n) m h)
 
-  choose-end : (n : N) {α : List (Sym N P A)} → Memᴰ α (G.prods n) → T (nul G α) → choose G n none ≡ some α
+  choose_end : (n : N) {α : List (Sym N P A)} → Memᴰ α (G.prods n) → T (nul G α) → choose G n none ≡ some α
   unfolding choose
-  choose-end n m h = pick_one (λ β. nul G β) (F.one_null n) m h
+  choose_end n m h = pick_one (λ β. nul G β) (F.one_null n) m h
 
   -- a step on a nonterminal is the step on the production chosen
-  enter-by : (n : N) (l : Option C) → enter G G.depth n l ≡ onward G (enter G G.depth) l (choose G n l)
+  enter_by : (n : N) (l : Option C) → enter G G.depth n l ≡ onward G (enter G G.depth) l (choose G n l)
   unfolding enter
-  enter-by n l = sym (enter-mono G G.depth n l (F.deep n l))
+  enter_by n l = sym (enter_mono G G.depth n l (F.deep n l))
 
   pub step_by : (n : N) (l : Option C) {α : List (Sym N P A)} (ss : List (Sym N P A)) → choose G n l ≡ some α → step G (nt n ∷ ss) l ≡ step G (α ++ ss) l
   unfolding step
-  step_by n l {α} ss q = rw (enter-by n l, q) (sym (over_append G (enter G G.depth) α ss l))
+  step_by n l {α} ss q = rw (enter_by n l, q) (sym (over_append G (enter G G.depth) α ss l))
 
   pub step_none : (n : N) (l : Option C) (ss : List (Sym N P A)) → choose G n l ≡ none → step G (nt n ∷ ss) l ≡ refused
   unfolding step
-  step_none n l ss q = rw (enter-by n l, q) refl
+  step_none n l ss q = rw (enter_by n l, q) refl
 
   -- COMPLETE, one step: if the stack derives a text that begins with t, the machine takes t, and the stack left derives the rest
   pub complete_step : {σ : List (Sym N P A)} {es : List (Ev C A)} {t : C} {ts : List C} → Derives G.prods G.hits σ es → Kept G follow σ → toks es ≡ t ∷ ts →
@@ -312,14 +312,14 @@ module _ {N P C A : Type 0} {G : Tables N P C A} {follow : N → C → Bool} (F 
       (mark a ∷ r.0, r.1, r.2, rw r.3 refl, r.4, r.5, ap (λ z. mark a ∷ z) r.6, r.7)
   complete_step {t} (by {n} {α} {ss} m d) k q =
       let r = complete_step d (kept_append n α ss (F.follows n m) k.0 k.1) q in
-      (r.0, r.1, r.2, step_by n (some t) ss (choose-right n ss t m k.0 (derives-first d q)) ∙ r.3, r.4, r.5, r.6, r.7)
+      (r.0, r.1, r.2, step_by n (some t) ss (choose_right n ss t m k.0 (derives_first d q)) ∙ r.3, r.4, r.5, r.6, r.7)
 
   pub complete_end : {σ : List (Sym N P A)} {es : List (Ev C A)} → Derives G.prods G.hits σ es → toks es ≡ [] → step G σ none ≡ emptied es
   unfolding toks step
   complete_end done q = refl
   complete_end (take h d) q = absurd (cons≢nil q)
   complete_end (note {a} d) q = rw (complete_end d q) refl
-  complete_end (by {n} {α} {ss} m d) q = step_by n none ss (choose-end n m (nul-append α ss (derives_null d q)).0) ∙ complete_end d q
+  complete_end (by {n} {α} {ss} m d) q = step_by n none ss (choose_end n m (nul_append α ss (derives_null d q)).0) ∙ complete_end d q
 
   toks_append : (es fs : List (Ev C A)) → toks (es ++ fs) ≡ toks es ++ toks fs
   unfolding toks
@@ -336,105 +336,105 @@ module _ {N P C A : Type 0} {G : Tables N P C A} {follow : N → C → Bool} (F 
   Sound l σ refused = Unit {0}
   Sound l σ spent = Unit {0}
 
-  sound-mark : (l : Option C) (a : A) (σ : List (Sym N P A)) (r : Step N P C A) → Sound l σ r → Sound l (act a ∷ σ) ((mark a ∷ []) ▸ r)
+  sound_mark : (l : Option C) (a : A) (σ : List (Sym N P A)) (r : Step N P C A) → Sound l σ r → Sound l (act a ∷ σ) ((mark a ∷ []) ▸ r)
   unfolding toks
-  sound-mark l a σ (took es σ') h = (h.0, λ ss fs d. note (h.1 ss fs d))
-  sound-mark l a σ (emptied es) h = (h.0, λ ss fs d. note (h.1 ss fs d))
-  sound-mark l a σ refused h = tt
-  sound-mark l a σ spent h = tt
+  sound_mark l a σ (took es σ') h = (h.0, λ ss fs d. note (h.1 ss fs d))
+  sound_mark l a σ (emptied es) h = (h.0, λ ss fs d. note (h.1 ss fs d))
+  sound_mark l a σ refused h = tt
+  sound_mark l a σ spent h = tt
 
-  sound-take : (l : Option C) (p : P) (σ : List (Sym N P A)) → Sound l (tm p ∷ σ) (takeAt G p σ l)
+  sound_take : (l : Option C) (p : P) (σ : List (Sym N P A)) → Sound l (tm p ∷ σ) (takeAt G p σ l)
   unfolding toks
-  sound-take none p σ = tt
-  sound-take (some c) p σ = go (G.hits p c) refl
+  sound_take none p σ = tt
+  sound_take (some c) p σ = go (G.hits p c) refl
     where
       go : (b : Bool) → G.hits p c ≡ b → Sound (some c) (tm p ∷ σ) (take_if b c σ)
       go true q = ((c, refl, refl), λ ss fs k. take (subst T (sym q) tt) k)
       go false q = tt
 
-  sound-then : (l : Option C) (n : N) (σ : List (Sym N P A)) (s r : Step N P C A) → Sound l (nt n ∷ []) s → Sound l σ r → Sound l (nt n ∷ σ) (and_then s σ r)
-  sound-then l n σ (took es σ') r h k = (h.0, λ ss fs d. h.1 (σ ++ ss) fs (rw append_assoc at d))
-  sound-then l n σ (emptied es) (took fs σ') h k =
+  sound_then : (l : Option C) (n : N) (σ : List (Sym N P A)) (s r : Step N P C A) → Sound l (nt n ∷ []) s → Sound l σ r → Sound l (nt n ∷ σ) (and_then s σ r)
+  sound_then l n σ (took es σ') r h k = (h.0, λ ss fs d. h.1 (σ ++ ss) fs (rw append_assoc at d))
+  sound_then l n σ (emptied es) (took fs σ') h k =
       ((k.0.0, k.0.1, toks_append es fs ∙ rw h.0 k.0.2), λ ss gs d. rw append_assoc (h.1 (σ ++ ss) (fs ++ gs) (k.1 ss gs d)))
-  sound-then l n σ (emptied es) (emptied fs) h k = (toks_append es fs ∙ rw h.0 k.0, λ ss gs d. rw append_assoc (h.1 (σ ++ ss) (fs ++ gs) (k.1 ss gs d)))
-  sound-then l n σ (emptied es) refused h k = tt
-  sound-then l n σ (emptied es) spent h k = tt
-  sound-then l n σ refused r h k = tt
-  sound-then l n σ spent r h k = tt
+  sound_then l n σ (emptied es) (emptied fs) h k = (toks_append es fs ∙ rw h.0 k.0, λ ss gs d. rw append_assoc (h.1 (σ ++ ss) (fs ++ gs) (k.1 ss gs d)))
+  sound_then l n σ (emptied es) refused h k = tt
+  sound_then l n σ (emptied es) spent h k = tt
+  sound_then l n σ refused r h k = tt
+  sound_then l n σ spent r h k = tt
 
-  over-sound : (e : N → Option C → Step N P C A) → ((n : N) (l : Option C) → Sound l (nt n ∷ []) (e n l)) → (σ : List (Sym N P A)) (l : Option C) → Sound l σ (over G e σ l)
+  over_sound : (e : N → Option C → Step N P C A) → ((n : N) (l : Option C) → Sound l (nt n ∷ []) (e n l)) → (σ : List (Sym N P A)) (l : Option C) → Sound l σ (over G e σ l)
   unfolding toks
-  over-sound e f [] l = (refl, λ ss fs d. d)
-  over-sound e f (tm p ∷ σ) l = sound-take l p σ
-  over-sound e f (act a ∷ σ) l = sound-mark l a σ (over G e σ l) (over-sound e f σ l)
-  over-sound e f (nt n ∷ σ) l = sound-then l n σ (e n l) (over G e σ l) (f n l) (over-sound e f σ l)
+  over_sound e f [] l = (refl, λ ss fs d. d)
+  over_sound e f (tm p ∷ σ) l = sound_take l p σ
+  over_sound e f (act a ∷ σ) l = sound_mark l a σ (over G e σ l) (over_sound e f σ l)
+  over_sound e f (nt n ∷ σ) l = sound_then l n σ (e n l) (over G e σ l) (f n l) (over_sound e f σ l)
 
-  sound-by : (l : Option C) (n : N) (α : List (Sym N P A)) → Memᴰ α (G.prods n) → (r : Step N P C A) → Sound l α r → Sound l (nt n ∷ []) r
-  sound-by l n α m (took es σ') h = (h.0, λ ss fs d. by m (h.1 ss fs d))
-  sound-by l n α m (emptied es) h = (h.0, λ ss fs d. by m (h.1 ss fs d))
-  sound-by l n α m refused h = tt
-  sound-by l n α m spent h = tt
+  sound_by : (l : Option C) (n : N) (α : List (Sym N P A)) → Memᴰ α (G.prods n) → (r : Step N P C A) → Sound l α r → Sound l (nt n ∷ []) r
+  sound_by l n α m (took es σ') h = (h.0, λ ss fs d. by m (h.1 ss fs d))
+  sound_by l n α m (emptied es) h = (h.0, λ ss fs d. by m (h.1 ss fs d))
+  sound_by l n α m refused h = tt
+  sound_by l n α m spent h = tt
 
-  enter-sound : (k : ℕ) (n : N) (l : Option C) → Sound l (nt n ∷ []) (enter G k n l)
+  enter_sound : (k : ℕ) (n : N) (l : Option C) → Sound l (nt n ∷ []) (enter G k n l)
   unfolding enter
-  enter-sound zero n l = tt
-  enter-sound (suc k) n l = go (choose G n l) refl (λ (m : N) (u : Option C). enter-sound k m u)
+  enter_sound zero n l = tt
+  enter_sound (suc k) n l = go (choose G n l) refl (λ (m : N) (u : Option C). enter_sound k m u)
     where
       go : (o : Option (List (Sym N P A))) → choose G n l ≡ o → ((m : N) (u : Option C) → Sound u (nt m ∷ []) (enter G k m u)) → Sound l (nt n ∷ []) (onward G (enter G k) l o)
       go none q f = tt
-      go (some α) q f = sound-by l n α (choose-mem n l q) (over G (enter G k) α l) (over-sound (enter G k) f α l)
+      go (some α) q f = sound_by l n α (choose_mem n l q) (over G (enter G k) α l) (over_sound (enter G k) f α l)
 
   pub step_sound : (σ : List (Sym N P A)) (l : Option C) → Sound l σ (step G σ l)
   unfolding step
-  step_sound σ l = over-sound (enter G G.depth) (enter-sound G.depth) σ l
+  step_sound σ l = over_sound (enter G G.depth) (enter_sound G.depth) σ l
 
   -- the stack left by a step is kept
   abbrev KeptBy : N → List (Sym N P A) → Type 0
   KeptBy n β = (ss : List (Sym N P A)) → ((t : C) → T (fst G ss t) → T (follow n t)) → Kept G follow ss → Kept G follow (β ++ ss)
 
-  took-inj : {es fs : List (Ev C A)} {σ σ' : List (Sym N P A)} → ◌≡◌ {A = Step N P C A} (took es σ) (took fs σ') → σ ≡ σ'
-  took-inj q = cc
+  took_inj : {es fs : List (Ev C A)} {σ σ' : List (Sym N P A)} → ◌≡◌ {A = Step N P C A} (took es σ) (took fs σ') → σ ≡ σ'
+  took_inj q = cc
 
-  took-▸ : (es : List (Ev C A)) (s : Step N P C A) {fs : List (Ev C A)} {σ : List (Sym N P A)} → es ▸ s ≡ took fs σ → (gs : List (Ev C A)) × (s ≡ took gs σ)
-  took-▸ es (took gs ss) q = (gs, ap (λ z. took gs z) (took-inj q))
-  took-▸ es (emptied gs) q = absurd (took≢emptied (sym q))
-  took-▸ es refused q = absurd (took≢refused (sym q))
-  took-▸ es spent q = absurd (took≢spent (sym q))
+  took_▸ : (es : List (Ev C A)) (s : Step N P C A) {fs : List (Ev C A)} {σ : List (Sym N P A)} → es ▸ s ≡ took fs σ → (gs : List (Ev C A)) × (s ≡ took gs σ)
+  took_▸ es (took gs ss) q = (gs, ap (λ z. took gs z) (took_inj q))
+  took_▸ es (emptied gs) q = absurd (took≢emptied (sym q))
+  took_▸ es refused q = absurd (took≢refused (sym q))
+  took_▸ es spent q = absurd (took≢spent (sym q))
 
-  kept-take : (p : P) (l : Option C) (σ ss : List (Sym N P A)) {es : List (Ev C A)} {σ' : List (Sym N P A)} → Kept G follow (σ ++ ss) → takeAt G p σ l ≡ took es σ' → Kept G follow (σ' ++ ss)
-  kept-take p none σ ss k q = absurd (took≢refused (sym q))
-  kept-take p (some c) σ ss {es} {σ'} k q = go (G.hits p c) q
+  kept_take : (p : P) (l : Option C) (σ ss : List (Sym N P A)) {es : List (Ev C A)} {σ' : List (Sym N P A)} → Kept G follow (σ ++ ss) → takeAt G p σ l ≡ took es σ' → Kept G follow (σ' ++ ss)
+  kept_take p none σ ss k q = absurd (took≢refused (sym q))
+  kept_take p (some c) σ ss {es} {σ'} k q = go (G.hits p c) q
     where
       go : (b : Bool) → take_if b c σ ≡ took es σ' → Kept G follow (σ' ++ ss)
-      go true e = subst (λ z. Kept G follow (z ++ ss)) (took-inj e) k
+      go true e = subst (λ z. Kept G follow (z ++ ss)) (took_inj e) k
       go false e = absurd (took≢refused (sym e))
 
-  over-kept : (e : N → Option C → Step N P C A) (l : Option C) → ((n : N) (es : List (Ev C A)) (β : List (Sym N P A)) → e n l ≡ took es β → KeptBy n β) →
+  over_kept : (e : N → Option C → Step N P C A) (l : Option C) → ((n : N) (es : List (Ev C A)) (β : List (Sym N P A)) → e n l ≡ took es β → KeptBy n β) →
       (σ ss : List (Sym N P A)) {es : List (Ev C A)} {σ' : List (Sym N P A)} → Kept G follow (σ ++ ss) → over G e σ l ≡ took es σ' → Kept G follow (σ' ++ ss)
-  over-kept e l h [] ss k q = absurd (took≢emptied (sym q))
-  over-kept e l h (tm p ∷ σ) ss k q = kept-take p l σ ss k q
-  over-kept e l h (act a ∷ σ) ss k q = over-kept e l h σ ss k (took-▸ (mark a ∷ []) (over G e σ l) q).1
-  over-kept e l h (nt n ∷ σ) ss {es} {σ'} k q = go (e n l) (h n) q (λ (fs : List (Ev C A)) (z : over G e σ l ≡ took fs σ'). over-kept e l h σ ss k.1 z)
+  over_kept e l h [] ss k q = absurd (took≢emptied (sym q))
+  over_kept e l h (tm p ∷ σ) ss k q = kept_take p l σ ss k q
+  over_kept e l h (act a ∷ σ) ss k q = over_kept e l h σ ss k (took_▸ (mark a ∷ []) (over G e σ l) q).1
+  over_kept e l h (nt n ∷ σ) ss {es} {σ'} k q = go (e n l) (h n) q (λ (fs : List (Ev C A)) (z : over G e σ l ≡ took fs σ'). over_kept e l h σ ss k.1 z)
     where
       go : (s : Step N P C A) → ((fs : List (Ev C A)) (β : List (Sym N P A)) → s ≡ took fs β → KeptBy n β) → and_then s σ (over G e σ l) ≡ took es σ' →
           ((fs : List (Ev C A)) → over G e σ l ≡ took fs σ' → Kept G follow (σ' ++ ss)) → Kept G follow (σ' ++ ss)
-      go (took fs β) f z r = subst (λ x. Kept G follow (x ++ ss)) (took-inj z) (rw append_assoc (f fs β refl (σ ++ ss) k.0 k.1))
-      go (emptied fs) f z r = let w = took-▸ fs (over G e σ l) z in r w.0 w.1
+      go (took fs β) f z r = subst (λ x. Kept G follow (x ++ ss)) (took_inj z) (rw append_assoc (f fs β refl (σ ++ ss) k.0 k.1))
+      go (emptied fs) f z r = let w = took_▸ fs (over G e σ l) z in r w.0 w.1
       go refused f z r = absurd (took≢refused (sym z))
       go spent f z r = absurd (took≢spent (sym z))
 
-  enter-kept : (d : ℕ) (n : N) (l : Option C) (es : List (Ev C A)) (β : List (Sym N P A)) → enter G d n l ≡ took es β → KeptBy n β
+  enter_kept : (d : ℕ) (n : N) (l : Option C) (es : List (Ev C A)) (β : List (Sym N P A)) → enter G d n l ≡ took es β → KeptBy n β
   unfolding enter
-  enter-kept zero n l es β q = absurd (took≢spent (sym q))
-  enter-kept (suc d) n l es β q = go (choose G n l) refl q (λ (m : N) (fs : List (Ev C A)) (γ : List (Sym N P A)) (z : enter G d m l ≡ took fs γ). enter-kept d m l fs γ z)
+  enter_kept zero n l es β q = absurd (took≢spent (sym q))
+  enter_kept (suc d) n l es β q = go (choose G n l) refl q (λ (m : N) (fs : List (Ev C A)) (γ : List (Sym N P A)) (z : enter G d m l ≡ took fs γ). enter_kept d m l fs γ z)
     where
       go : (o : Option (List (Sym N P A))) → choose G n l ≡ o → onward G (enter G d) l o ≡ took es β → ((m : N) (fs : List (Ev C A)) (γ : List (Sym N P A)) → enter G d m l ≡ took fs γ → KeptBy m γ) → KeptBy n β
       go none c z f = absurd (took≢refused (sym z))
-      go (some α) c z f = λ ss g k. over-kept (enter G d) l f α ss (kept_append n α ss (F.follows n (choose-mem n l c)) g k) z
+      go (some α) c z f = λ ss g k. over_kept (enter G d) l f α ss (kept_append n α ss (F.follows n (choose_mem n l c)) g k) z
 
   pub kept_step : (σ : List (Sym N P A)) {σ' : List (Sym N P A)} {fs : List (Ev C A)} (t : C) → Kept G follow σ → step G σ (some t) ≡ took fs σ' → Kept G follow σ'
   unfolding step
-  kept_step σ t k q = simp append-nil at (over-kept (enter G G.depth) (some t) (λ n es β z. enter-kept G.depth n (some t) es β z) σ [] (simp append-nil k) q)
+  kept_step σ t k q = simp append-nil at (over_kept (enter G G.depth) (some t) (λ n es β z. enter_kept G.depth n (some t) es β z) σ [] (simp append-nil k) q)
 
   -- THE WHOLE TEXT. A text fits a stack where the stack derives events whose tokens are the text
   abbrev pub Fits : List (Sym N P A) → List C → Type 0
@@ -494,19 +494,19 @@ module _ {N P C A : Type 0} {G : Tables N P C A} {follow : N → C → Bool} (F 
   pub unique : {σ : List (Sym N P A)} {es fs : List (Ev C A)} → Kept G follow σ → Derives G.prods G.hits σ es → Derives G.prods G.hits σ fs → toks es ≡ toks fs → es ≡ fs
   unique {σ} {es} {fs} k d d' q = let a = run_complete (toks fs) d k q in let b = run_complete (toks fs) d' k refl in cc
 
-  derives-append : {ss : List (Sym N P A)} {es : List (Ev C A)} {ss' : List (Sym N P A)} {fs : List (Ev C A)} →
+  derives_append : {ss : List (Sym N P A)} {es : List (Ev C A)} {ss' : List (Sym N P A)} {fs : List (Ev C A)} →
       Derives G.prods G.hits ss es → Derives G.prods G.hits ss' fs → Derives G.prods G.hits (ss ++ ss') (es ++ fs)
-  derives-append done d' = d'
-  derives-append (take h d) d' = take h (derives-append d d')
-  derives-append (note d) d' = note (derives-append d d')
-  derives-append {ss'} {fs} (by {n} {α} {ss} {es} m d) d' = by m (rw append_assoc at (derives-append d d'))
+  derives_append done d' = d'
+  derives_append (take h d) d' = take h (derives_append d d')
+  derives_append (note d) d' = note (derives_append d d')
+  derives_append {ss'} {fs} (by {n} {α} {ss} {es} m d) d' = by m (rw append_assoc at (derives_append d d'))
 
   module _ (hit : (p : P) → (c : C) × T (G.hits p c)) (words : (n : N) → (es : List (Ev C A)) × Derives G.prods G.hits (nt n ∷ []) es) where
     pub word : (σ : List (Sym N P A)) → (es : List (Ev C A)) × Derives G.prods G.hits σ es
     word [] = ([], done)
     word (tm p ∷ σ) = (tok (hit p).0 ∷ (word σ).0, take (hit p).1 (word σ).1)
     word (act a ∷ σ) = (mark a ∷ (word σ).0, note (word σ).1)
-    word (nt n ∷ σ) = ((words n).0 ++ (word σ).0, derives-append (words n).1 (word σ).1)
+    word (nt n ∷ σ) = ((words n).0 ++ (word σ).0, derives_append (words n).1 (word σ).1)
 
     -- STOPPED: the tokens before are a prefix of a text that fits, and no text that fits begins with those and the one refused; at the end: they are none
     abbrev pub Refused : List (Sym N P A) → List C → List C → Type 0
@@ -522,13 +522,13 @@ module _ {N P C A : Type 0} {G : Tables N P C A} {follow : N → C → Bool} (F 
     stops_end : (σ : List (Sym N P A)) (k : ℕ) → 0 ≡ k → ((fs : List (Ev C A)) → step G σ none ≡ emptied fs → ⊥) → Stops σ [] k
     stops_end σ k e nope = subst (Stops σ []) e (some_fit σ, λ f. nope f.0 (complete_end f.1 f.2))
 
-    stops-here : (σ : List (Sym N P A)) (t : C) (ts : List C) (k : ℕ) → Kept G follow σ → 0 ≡ k → ((fs : List (Ev C A)) (σ' : List (Sym N P A)) → step G σ (some t) ≡ took fs σ' → ⊥) →
+    stops_here : (σ : List (Sym N P A)) (t : C) (ts : List C) (k : ℕ) → Kept G follow σ → 0 ≡ k → ((fs : List (Ev C A)) (σ' : List (Sym N P A)) → step G σ (some t) ≡ took fs σ' → ⊥) →
         Stops σ (t ∷ ts) k
-    stops-here σ t ts k h e nope = subst (Stops σ (t ∷ ts)) e (some_fit σ, λ q f. let r = complete_step f.1 h f.2 in nope r.0 r.1 r.3)
+    stops_here σ t ts k h e nope = subst (Stops σ (t ∷ ts)) e (some_fit σ, λ q f. let r = complete_step f.1 h f.2 in nope r.0 r.1 r.3)
 
     -- after a step that took t, the text of the old stack is t and a text of the new one
-    stops-later : (σ σ' : List (Sym N P A)) (fs : List (Ev C A)) (t : C) (ts : List C) (j : ℕ) → Kept G follow σ → step G σ (some t) ≡ took fs σ' → Stops σ' ts j → Stops σ (t ∷ ts) (suc j)
-    stops-later σ σ' fs t ts j h q s = ((s.0.0, (fs ++ s.0.1.0, took_derives (some t) σ σ' fs s.0.1.0 snd s.0.1.1, took_toks t σ σ' fs s.0.1.0 snd ∙ ap (λ z. t ∷ z) s.0.1.2)), go (drop j ts) s.1)
+    stops_later : (σ σ' : List (Sym N P A)) (fs : List (Ev C A)) (t : C) (ts : List C) (j : ℕ) → Kept G follow σ → step G σ (some t) ≡ took fs σ' → Stops σ' ts j → Stops σ (t ∷ ts) (suc j)
+    stops_later σ σ' fs t ts j h q s = ((s.0.0, (fs ++ s.0.1.0, took_derives (some t) σ σ' fs s.0.1.0 snd s.0.1.1, took_toks t σ σ' fs s.0.1.0 snd ∙ ap (λ z. t ∷ z) s.0.1.2)), go (drop j ts) s.1)
       where
         snd : Sound (some t) σ (took fs σ')
         snd = rw q at (step_sound σ (some t))
@@ -558,7 +558,7 @@ module _ {N P C A : Type 0} {G : Tables N P C A} {follow : N → C → Bool} (F 
             ((σ' : List (Sym N P A)) (j : ℕ) → Kept G follow σ' → run G σ' ts ≡ stopped j → Stops σ' ts j) → Stops σ (t ∷ ts) k
         go (took fs σ') e z f =
             let c = counted fs (run G σ' ts) z in
-            subst (Stops σ (t ∷ ts)) (sym c.2) (stops-later σ σ' fs t ts c.0 h e (f σ' c.0 (kept_step σ t h e) c.1))
-        go (emptied fs) e z f = stops-here σ t ts k h (cc) (λ gs σ' e'. took≢emptied (sym e' ∙ e))
-        go refused e z f = stops-here σ t ts k h (cc) (λ gs σ' e'. took≢refused (sym e' ∙ e))
-        go spent e z f = stops-here σ t ts k h (cc) (λ gs σ' e'. took≢spent (sym e' ∙ e))
+            subst (Stops σ (t ∷ ts)) (sym c.2) (stops_later σ σ' fs t ts c.0 h e (f σ' c.0 (kept_step σ t h e) c.1))
+        go (emptied fs) e z f = stops_here σ t ts k h (cc) (λ gs σ' e'. took≢emptied (sym e' ∙ e))
+        go refused e z f = stops_here σ t ts k h (cc) (λ gs σ' e'. took≢refused (sym e' ∙ e))
+        go spent e z f = stops_here σ t ts k h (cc) (λ gs σ' e'. took≢spent (sym e' ∙ e))

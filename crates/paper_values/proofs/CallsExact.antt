@@ -11,7 +11,7 @@ use Rattle.paper_values.specs.Kinds.{Kind}
 use Rattle.paper_values.specs.Coercion.{heads, repeated_entry, unknown_entry, value_in}
 use Rattle.paper_values.specs.Computed.{entry_of, pair_first, due_field, due_fields, unless, in_object, coerce, givens, orDefault, variablesFrom, variables_of, argumentsOf}
 use Rattle.paper_values.specs.CoercionRules.{valueFor, Coerces}
-use Rattle.paper_values.specs.CallRules.{no_variables, InDues, no_dues, given-refused, given-got, default-refused, default-got, due-missing, due-left-out, CoercesVariables, name_repeated_is, in_order, CoercesArguments, variables_refused, argument-repeated, argument-unknown, arguments}
+use Rattle.paper_values.specs.CallRules.{no_variables, InDues, no_dues, given_refused, given_got, default_refused, default_got, due_missing, due_left_out, CoercesVariables, name_repeated_is, in_order, CoercesArguments, variables_refused, argument_repeated, argument_unknown, arguments}
 use Rattle.paper_values.proofs.CoercionExact.{into, found, coerces_is, coerces_has}
 
 module _ (kinds : Name → Kind) where
@@ -36,48 +36,48 @@ module _ (kinds : Name → Kind) where
   -- a result by the rules is the computed one
   pub dues_is : {vars : Name → Option Tree} {es : Entries} {vs : List (At × Due)} {o : Out Pairs} → InDues kinds vars es vs o → duesFrom vars es vs ≡ o
   dues_is no_dues = refl
-  dues_is {vars} {es} (given-refused {i} {j} {d} {ds} {w} v q c) =
+  dues_is {vars} {es} (given_refused {i} {j} {d} {ds} {w} v q c) =
       turned vars es (i, d) ds (some v) d.default q refl ∙ ap (λ (x : Out Tree). pair_first d.name x (duesFrom vars es ds)) (coerces_is kinds vars c)
-  dues_is {vars} {es} (given-got {i} {d} {ds} {t} {o} v q c e f) =
+  dues_is {vars} {es} (given_got {i} {d} {ds} {t} {o} v q c e f) =
       turned vars es (i, d) ds (some v) d.default q refl ∙ ap (λ (x : Out Tree). pair_first d.name x (duesFrom vars es ds)) (coerces_is kinds vars c)
       ∙ ap (λ (x : Out Pairs). and_then x (λ ps. Got (pair d.name t ps))) (dues_is e) ∙ f
-  dues_is {vars} {es} (default-refused {i} {j} {d} {ds} {w} v q e c) =
+  dues_is {vars} {es} (default_refused {i} {j} {d} {ds} {w} v q e c) =
       turned vars es (i, d) ds none (some v) q e ∙ ap (λ (x : Out Tree). pair_first d.name x (duesFrom vars es ds)) (coerces_is kinds no_variables c)
-  dues_is {vars} {es} (default-got {i} {d} {ds} {t} {o} v q e c g f) =
+  dues_is {vars} {es} (default_got {i} {d} {ds} {t} {o} v q e c g f) =
       turned vars es (i, d) ds none (some v) q e ∙ ap (λ (x : Out Tree). pair_first d.name x (duesFrom vars es ds)) (coerces_is kinds no_variables c)
       ∙ ap (λ (x : Out Pairs). and_then x (λ ps. Got (pair d.name t ps))) (dues_is g) ∙ f
-  dues_is {vars} {es} (due-missing {i} {d} {ds} q e h) =
+  dues_is {vars} {es} (due_missing {i} {d} {ds} q e h) =
       turned vars es (i, d) ds none none q e ∙ ap (λ (b : Bool). cond b (No i reason_missing) (duesFrom vars es ds)) h
-  dues_is {vars} {es} (due-left-out {i} {d} {ds} {o} q e h g) =
+  dues_is {vars} {es} (due_left_out {i} {d} {ds} {o} q e h g) =
       turned vars es (i, d) ds none none q e ∙ ap (λ (b : Bool). cond b (No i reason_missing) (duesFrom vars es ds)) h ∙ dues_is g
 
   -- the computed result is one by the rules
-  has-given : (vars : Name → Option Tree) (es : Entries) (i : At) (d : Due) (ds : List (At × Due)) (v : Value) (o : Out Tree) (rest : Out Pairs) → valueFor kinds vars d.name es ≡ some v
+  has_given : (vars : Name → Option Tree) (es : Entries) (i : At) (d : Due) (ds : List (At × Due)) (v : Value) (o : Out Tree) (rest : Out Pairs) → valueFor kinds vars d.name es ≡ some v
       → Coerces kinds vars v d.type o → InDues kinds vars es ds rest → InDues kinds vars es ((i, d) ∷ ds) (pair_first d.name o rest)
-  has-given vars es i d ds v (Got t) rest q c g = given-got v q c g refl
-  has-given vars es i d ds v (No j w) rest q c g = given-refused v q c
+  has_given vars es i d ds v (Got t) rest q c g = given_got v q c g refl
+  has_given vars es i d ds v (No j w) rest q c g = given_refused v q c
 
-  has-default : (vars : Name → Option Tree) (es : Entries) (i : At) (d : Due) (ds : List (At × Due)) (v : Value) (o : Out Tree) (rest : Out Pairs) → valueFor kinds vars d.name es ≡ none
+  has_default : (vars : Name → Option Tree) (es : Entries) (i : At) (d : Due) (ds : List (At × Due)) (v : Value) (o : Out Tree) (rest : Out Pairs) → valueFor kinds vars d.name es ≡ none
       → d.default ≡ some v → Coerces kinds no_variables v d.type o → InDues kinds vars es ds rest → InDues kinds vars es ((i, d) ∷ ds) (pair_first d.name o rest)
-  has-default vars es i d ds v (Got t) rest q e c g = default-got v q e c g refl
-  has-default vars es i d ds v (No j w) rest q e c g = default-refused v q e c
+  has_default vars es i d ds v (Got t) rest q e c g = default_got v q e c g refl
+  has_default vars es i d ds v (No j w) rest q e c g = default_refused v q e c
 
-  has-nothing : (vars : Name → Option Tree) (es : Entries) (i : At) (d : Due) (ds : List (At × Due)) (b : Bool) (rest : Out Pairs) → valueFor kinds vars d.name es ≡ none
+  has_nothing : (vars : Name → Option Tree) (es : Entries) (i : At) (d : Due) (ds : List (At × Due)) (b : Bool) (rest : Out Pairs) → valueFor kinds vars d.name es ≡ none
       → d.default ≡ none → is_non_null d.type ≡ b → InDues kinds vars es ds rest → InDues kinds vars es ((i, d) ∷ ds) (cond b (No i reason_missing) rest)
-  has-nothing vars es i d ds true rest q e h g = due-missing q e h
-  has-nothing vars es i d ds false rest q e h g = due-left-out q e h g
+  has_nothing vars es i d ds true rest q e h g = due_missing q e h
+  has_nothing vars es i d ds false rest q e h g = due_left_out q e h g
 
-  has-turn : (vars : Name → Option Tree) (es : Entries) (v : At × Due) (vs : List (At × Due)) (m d : Option Value) (rest : Out Pairs) → valueFor kinds vars v.1.name es ≡ m → v.1.default ≡ d
+  has_turn : (vars : Name → Option Tree) (es : Entries) (v : At × Due) (vs : List (At × Due)) (m d : Option Value) (rest : Out Pairs) → valueFor kinds vars v.1.name es ≡ m → v.1.default ≡ d
       → InDues kinds vars es vs rest → InDues kinds vars es (v ∷ vs) (stepped vars v d m rest)
-  has-turn vars es (i, x) vs none none rest q e g = has-nothing vars es i x vs (is_non_null x.type) rest q e refl g
-  has-turn vars es (i, x) vs none (some w) rest q e g = has-default vars es i x vs w (coerce kinds no_variables w x.type) rest q e (coerces_has kinds no_variables w x.type) g
-  has-turn vars es (i, x) vs (some w) d rest q e g = has-given vars es i x vs w (coerce kinds vars w x.type) rest q (coerces_has kinds vars w x.type) g
+  has_turn vars es (i, x) vs none none rest q e g = has_nothing vars es i x vs (is_non_null x.type) rest q e refl g
+  has_turn vars es (i, x) vs none (some w) rest q e g = has_default vars es i x vs w (coerce kinds no_variables w x.type) rest q e (coerces_has kinds no_variables w x.type) g
+  has_turn vars es (i, x) vs (some w) d rest q e g = has_given vars es i x vs w (coerce kinds vars w x.type) rest q (coerces_has kinds vars w x.type) g
 
   pub dues_have : (vars : Name → Option Tree) (es : Entries) (vs : List (At × Due)) → InDues kinds vars es vs (duesFrom vars es vs)
   dues_have vars es [] = no_dues
   dues_have vars es (v ∷ vs) =
       subst (λ (o : Out Pairs). InDues kinds vars es (v ∷ vs) o) (sym (turned vars es v vs (valueFor kinds vars v.1.name es) v.1.default refl refl))
-      (has-turn vars es v vs (valueFor kinds vars v.1.name es) v.1.default (duesFrom vars es vs) refl refl (dues_have vars es vs))
+      (has_turn vars es v vs (valueFor kinds vars v.1.name es) v.1.default (duesFrom vars es vs) refl refl (dues_have vars es vs))
 
   -- ---- variables
 
@@ -89,21 +89,21 @@ module _ (kinds : Name → Kind) where
   variables_is {es} {vs} (name_repeated_is q) = ap (λ (m : Option At). unless m reason_repeated (variablesFrom kinds (givens kinds no_variables es) vs)) q
   variables_is {es} {vs} (in_order q c) = ap (λ (m : Option At). unless m reason_repeated (variablesFrom kinds (givens kinds no_variables es) vs)) q ∙ from_is es vs ∙ dues_is c
 
-  has-variables : (es : Entries) (vs : List (At × Due)) (m : Option At) → repeated_entry [] (heads es) ≡ m → CoercesVariables kinds es vs (unless m reason_repeated (variablesFrom kinds (givens kinds no_variables es) vs))
-  has-variables es vs none q = in_order q (subst (λ (o : Out Pairs). InDues kinds no_variables es vs o) (sym (from_is es vs)) (dues_have no_variables es vs))
-  has-variables es vs (some e) q = name_repeated_is q
+  has_variables : (es : Entries) (vs : List (At × Due)) (m : Option At) → repeated_entry [] (heads es) ≡ m → CoercesVariables kinds es vs (unless m reason_repeated (variablesFrom kinds (givens kinds no_variables es) vs))
+  has_variables es vs none q = in_order q (subst (λ (o : Out Pairs). InDues kinds no_variables es vs o) (sym (from_is es vs)) (dues_have no_variables es vs))
+  has_variables es vs (some e) q = name_repeated_is q
 
   pub variables_have : (es : Entries) (vs : List (At × Due)) → CoercesVariables kinds es vs (variables_of kinds es vs)
-  variables_have es vs = has-variables es vs (repeated_entry [] (heads es)) refl
+  variables_have es vs = has_variables es vs (repeated_entry [] (heads es)) refl
 
   pub variables_one : {es : Entries} {vs : List (At × Due)} {o p : Out Pairs} → CoercesVariables kinds es vs o → CoercesVariables kinds es vs p → o ≡ p
   variables_one a b = sym (variables_is a) ∙ variables_is b
 
   -- ---- arguments
 
-  arguments-from : (vars : Name → Option Tree) (es : Entries) (i : At) (ds : List Due) → due_fields (λ d rest. orDefault kinds i d d.default rest) (givens kinds vars es) ds ≡ duesFrom vars es (duly ds i)
-  arguments-from vars es i [] = refl
-  arguments-from vars es i (d ∷ ds) = ap (λ (rest : Out Pairs). due_field (orDefault kinds i d d.default rest) d (entry_of d.name (givens kinds vars es)) rest) (arguments-from vars es i ds)
+  arguments_from : (vars : Name → Option Tree) (es : Entries) (i : At) (ds : List Due) → due_fields (λ d rest. orDefault kinds i d d.default rest) (givens kinds vars es) ds ≡ duesFrom vars es (duly ds i)
+  arguments_from vars es i [] = refl
+  arguments_from vars es i (d ∷ ds) = ap (λ (rest : Out Pairs). due_field (orDefault kinds i d d.default rest) d (entry_of d.name (givens kinds vars es)) rest) (arguments_from vars es i ds)
 
   abbrev behind : Pairs → At → Entries → List Due → Out Tree
   behind ps i es ds = in_object (λ d rest. orDefault kinds i d d.default rest) (heads es) (givens kinds (value_in ps) es) ds
@@ -116,7 +116,7 @@ module _ (kinds : Name → Kind) where
   inside ps i es ds = told (repeated_entry [] (heads es)) (unknown_entry ds (heads es)) (and_then (duesFrom (value_in ps) es (duly ds i)) (λ qs. Got (Fields qs)))
 
   inside_is : (ps : Pairs) (i : At) (es : Entries) (ds : List Due) → behind ps i es ds ≡ inside ps i es ds
-  inside_is ps i es ds = ap (λ (o : Out Pairs). told (repeated_entry [] (heads es)) (unknown_entry ds (heads es)) (and_then o (λ qs. Got (Fields qs)))) (arguments-from (value_in ps) es i ds)
+  inside_is ps i es ds = ap (λ (o : Out Pairs). told (repeated_entry [] (heads es)) (unknown_entry ds (heads es)) (and_then o (λ qs. Got (Fields qs)))) (arguments_from (value_in ps) es i ds)
 
   pub arguments_are : (given : Entries) (vs : List (At × Due)) (i : At) (es : Entries) (ds : List Due) → argumentsOf kinds given vs i es ds ≡ and_then (variables_of kinds given vs) (λ ps. inside ps i es ds)
   arguments_are given vs i es ds = go (variables_of kinds given vs)
@@ -127,10 +127,10 @@ module _ (kinds : Name → Kind) where
 
   pub arguments_is : {given : Entries} {vs : List (At × Due)} {i : At} {es : Entries} {ds : List Due} {o : Out Tree} → CoercesArguments kinds given vs i es ds o → argumentsOf kinds given vs i es ds ≡ o
   arguments_is {given} {vs} {i} {es} {ds} (variables_refused c) = ap (λ (x : Out Pairs). and_then x (λ ps. behind ps i es ds)) (variables_is c)
-  arguments_is {given} {vs} {i} {es} {ds} (argument-repeated ps c q) =
+  arguments_is {given} {vs} {i} {es} {ds} (argument_repeated ps c q) =
       arguments_are given vs i es ds ∙ ap (λ (x : Out Pairs). and_then x (λ ps. inside ps i es ds)) (variables_is c)
       ∙ ap (λ (m : Option At). told m (unknown_entry ds (heads es)) (and_then (duesFrom (value_in ps) es (duly ds i)) (λ qs. Got (Fields qs)))) q
-  arguments_is {given} {vs} {i} {es} {ds} (argument-unknown ps c q e) =
+  arguments_is {given} {vs} {i} {es} {ds} (argument_unknown ps c q e) =
       arguments_are given vs i es ds ∙ ap (λ (x : Out Pairs). and_then x (λ ps. inside ps i es ds)) (variables_is c)
       ∙ ap (λ (m : Option At). told m (unknown_entry ds (heads es)) (and_then (duesFrom (value_in ps) es (duly ds i)) (λ qs. Got (Fields qs)))) q
       ∙ ap (λ (m : Option At). told none m (and_then (duesFrom (value_in ps) es (duly ds i)) (λ qs. Got (Fields qs)))) e
@@ -140,20 +140,20 @@ module _ (kinds : Name → Kind) where
       ∙ ap (λ (m : Option At). told none m (and_then (duesFrom (value_in ps) es (duly ds i)) (λ qs. Got (Fields qs)))) e
       ∙ ap (λ (x : Out Pairs). and_then x (λ qs. Got (Fields qs))) (dues_is g) ∙ f
 
-  has-inside : (given : Entries) (vs : List (At × Due)) (i : At) (es : Entries) (ds : List Due) (ps : Pairs) → CoercesVariables kinds given vs (Got ps)
+  has_inside : (given : Entries) (vs : List (At × Due)) (i : At) (es : Entries) (ds : List Due) (ps : Pairs) → CoercesVariables kinds given vs (Got ps)
       → (a b : Option At) → repeated_entry [] (heads es) ≡ a → unknown_entry ds (heads es) ≡ b
       → CoercesArguments kinds given vs i es ds (told a b (and_then (duesFrom (value_in ps) es (duly ds i)) (λ qs. Got (Fields qs))))
-  has-inside given vs i es ds ps c none none q e = arguments ps c q e (dues_have (value_in ps) es (duly ds i)) refl
-  has-inside given vs i es ds ps c none (some x) q e = argument-unknown ps c q e
-  has-inside given vs i es ds ps c (some x) b q e = argument-repeated ps c q
+  has_inside given vs i es ds ps c none none q e = arguments ps c q e (dues_have (value_in ps) es (duly ds i)) refl
+  has_inside given vs i es ds ps c none (some x) q e = argument_unknown ps c q e
+  has_inside given vs i es ds ps c (some x) b q e = argument_repeated ps c q
 
-  has-arguments : (given : Entries) (vs : List (At × Due)) (i : At) (es : Entries) (ds : List Due) (o : Out Pairs) → CoercesVariables kinds given vs o
+  has_arguments : (given : Entries) (vs : List (At × Due)) (i : At) (es : Entries) (ds : List Due) (o : Out Pairs) → CoercesVariables kinds given vs o
       → CoercesArguments kinds given vs i es ds (and_then o (λ ps. inside ps i es ds))
-  has-arguments given vs i es ds (Got ps) c = has-inside given vs i es ds ps c (repeated_entry [] (heads es)) (unknown_entry ds (heads es)) refl refl
-  has-arguments given vs i es ds (No j w) c = variables_refused c
+  has_arguments given vs i es ds (Got ps) c = has_inside given vs i es ds ps c (repeated_entry [] (heads es)) (unknown_entry ds (heads es)) refl refl
+  has_arguments given vs i es ds (No j w) c = variables_refused c
 
   pub arguments_have : (given : Entries) (vs : List (At × Due)) (i : At) (es : Entries) (ds : List Due) → CoercesArguments kinds given vs i es ds (argumentsOf kinds given vs i es ds)
-  arguments_have given vs i es ds = subst (λ (o : Out Tree). CoercesArguments kinds given vs i es ds o) (sym (arguments_are given vs i es ds)) (has-arguments given vs i es ds (variables_of kinds given vs) (variables_have given vs))
+  arguments_have given vs i es ds = subst (λ (o : Out Tree). CoercesArguments kinds given vs i es ds o) (sym (arguments_are given vs i es ds)) (has_arguments given vs i es ds (variables_of kinds given vs) (variables_have given vs))
 
   pub arguments_one : {given : Entries} {vs : List (At × Due)} {i : At} {es : Entries} {ds : List Due} {o p : Out Tree} → CoercesArguments kinds given vs i es ds o → CoercesArguments kinds given vs i es ds p → o ≡ p
   arguments_one a b = sym (arguments_is a) ∙ arguments_is b

@@ -7,11 +7,11 @@ use mathlib.Core.List.{List, [], ◌∷◌}
 use Rattle.paper.specs.Tokens.{same}
 use Rattle.paper_table.specs.References.{Ref, named, list_of, non_null, is_non_null}
 use Rattle.paper_values.specs.ValueNumbers.{reason_kind, reason_missing, reason_null, reason_unknown, reason_repeated}
-use Rattle.paper_values.specs.Values.{Name, At, Value, variable, integer, float, string, boolean, null, enum, list, object, Values, no-values, item, Entries, no-entries, entry, Due, Tree, Null, Bits, Decimal, Text, Truth, Member, Many, Fields, Token, Trees, no_more, also, Pairs, pair, Out, Got, No, and_then}
+use Rattle.paper_values.specs.Values.{Name, At, Value, variable, integer, float, string, boolean, null, enum, list, object, Values, no_values, item, Entries, no_entries, entry, Due, Tree, Null, Bits, Decimal, Text, Truth, Member, Many, Fields, Token, Trees, no_more, also, Pairs, pair, Out, Got, No, and_then}
 use Rattle.paper_values.specs.Kinds.{Kind, Int, Float, String, Boolean, ID, Own, Other, Enum, Input}
 use Rattle.paper_values.specs.Computed.{null_at, object_at, entry_of, missing_due, due_field, due_fields, unless, in_object, single, several, held, coerce, coerce_all, givens}
 use Rattle.paper_values.specs.Coercion.{integer_at, float_at, string_at, boolean_at, enum_at, heads, repeated_entry, unknown_entry, leftOut}
-use Rattle.paper_values.specs.CoercionRules.{plain_value, single_value, as_input, valueFor, Coerces, null-kept, null_refused, absent-variable, null-variable, held-variable, at-non-null, a_list, list-of-one, no_list, an-integer, a-float, a-string, a-boolean, an_enum, no_object, entry-repeated, entry-unknown, an_object, Items, no_items, item_refused, item-got, InFields, no_fields, required-missing, left_out, field_refused, field-got}
+use Rattle.paper_values.specs.CoercionRules.{plain_value, single_value, as_input, valueFor, Coerces, null_kept, null_refused, absent_variable, null_variable, held_variable, at_non_null, a_list, list_of_one, no_list, an_integer, a_float, a_string, a_boolean, an_enum, no_object, entry_repeated, entry_unknown, an_object, Items, no_items, item_refused, item_got, InFields, no_fields, required_missing, left_out, field_refused, field_got}
 
 abbrev Falsity : Bool → Type 0
 Falsity true = ⊥
@@ -42,15 +42,15 @@ value_or w (some v) = v
 module _ (kinds : Name → Kind) (vars : Name → Option Tree) where
   -- ---- what `coerce` computes, rule by rule
 
-  null-free : (i : At) (r : Ref) → is_non_null r ≡ false → null_at i r ≡ Got Null
-  null-free i (named n) q = refl
-  null-free i (list_of r) q = refl
-  null-free i (non_null r) q = absurd (differ (sym q))
+  null_free : (i : At) (r : Ref) → is_non_null r ≡ false → null_at i r ≡ Got Null
+  null_free i (named n) q = refl
+  null_free i (list_of r) q = refl
+  null_free i (non_null r) q = absurd (differ (sym q))
 
-  null-barred : (i : At) (r : Ref) → is_non_null r ≡ true → null_at i r ≡ No i reason_null
-  null-barred i (named n) q = absurd (differ q)
-  null-barred i (list_of r) q = absurd (differ q)
-  null-barred i (non_null r) q = refl
+  null_barred : (i : At) (r : Ref) → is_non_null r ≡ true → null_at i r ≡ No i reason_null
+  null_barred i (named n) q = absurd (differ q)
+  null_barred i (list_of r) q = absurd (differ q)
+  null_barred i (non_null r) q = refl
 
   inside : (v : Value) (r : Ref) → plain_value v ≡ true → coerce kinds vars v (non_null r) ≡ coerce kinds vars v r
   unfolding coerce
@@ -76,16 +76,16 @@ module _ (kinds : Name → Kind) (vars : Name → Option Tree) where
   wrapped (list i vs) r q = absurd (differ q)
   wrapped (object i es) r q = refl
 
-  held-other : (i : At) (r : Ref) (t : Tree) → (t ≡ Null → ⊥) → held kinds vars i r (some t) ≡ Got t
-  held-other i r Null q = absurd (q refl)
-  held-other i r (Bits x) q = refl
-  held-other i r (Decimal s) q = refl
-  held-other i r (Text s) q = refl
-  held-other i r (Truth b) q = refl
-  held-other i r (Member n) q = refl
-  held-other i r (Many ts) q = refl
-  held-other i r (Fields ps) q = refl
-  held-other i r (Token s) q = refl
+  held_other : (i : At) (r : Ref) (t : Tree) → (t ≡ Null → ⊥) → held kinds vars i r (some t) ≡ Got t
+  held_other i r Null q = absurd (q refl)
+  held_other i r (Bits x) q = refl
+  held_other i r (Decimal s) q = refl
+  held_other i r (Text s) q = refl
+  held_other i r (Truth b) q = refl
+  held_other i r (Member n) q = refl
+  held_other i r (Many ts) q = refl
+  held_other i r (Fields ps) q = refl
+  held_other i r (Token s) q = refl
 
   abbrev pub into : Option Value → Option (Ref → Out Tree)
   into none = none
@@ -94,7 +94,7 @@ module _ (kinds : Name → Kind) (vars : Name → Option Tree) where
   -- the entry that is looked up is the value's
   pub found : (n : Name) (es : Entries) → entry_of n (givens kinds vars es) ≡ into (valueFor kinds vars n es)
   unfolding coerce
-  found n no-entries = refl
+  found n no_entries = refl
   found n (entry i m v es) = go (same n m) (leftOut kinds vars v) (found n es)
     where
       go : (b c : Bool) → entry_of n (givens kinds vars es) ≡ into (valueFor kinds vars n es)
@@ -107,24 +107,24 @@ module _ (kinds : Name → Kind) (vars : Name → Option Tree) where
   tabled none i f = No i reason_kind
   tabled (some ds) i f = f ds
 
-  object-tabled : (k : Kind) (i : At) (f : List Due → Out Tree) → object_at i f k ≡ tabled (as_input k) i f
-  object-tabled Int i f = refl
-  object-tabled Float i f = refl
-  object-tabled String i f = refl
-  object-tabled Boolean i f = refl
-  object-tabled ID i f = refl
-  object-tabled Own i f = refl
-  object-tabled Other i f = refl
-  object-tabled (Enum ms) i f = refl
-  object-tabled (Input ds) i f = refl
+  object_tabled : (k : Kind) (i : At) (f : List Due → Out Tree) → object_at i f k ≡ tabled (as_input k) i f
+  object_tabled Int i f = refl
+  object_tabled Float i f = refl
+  object_tabled String i f = refl
+  object_tabled Boolean i f = refl
+  object_tabled ID i f = refl
+  object_tabled Own i f = refl
+  object_tabled Other i f = refl
+  object_tabled (Enum ms) i f = refl
+  object_tabled (Input ds) i f = refl
 
-  of-object : (i : At) (es : Entries) (n : Name) → coerce kinds vars (object i es) (named n) ≡ tabled (as_input (kinds n)) i (in_object (missing_due i) (heads es) (givens kinds vars es))
+  of_object : (i : At) (es : Entries) (n : Name) → coerce kinds vars (object i es) (named n) ≡ tabled (as_input (kinds n)) i (in_object (missing_due i) (heads es) (givens kinds vars es))
   unfolding coerce
-  of-object i es n = object-tabled (kinds n) i (in_object (missing_due i) (heads es) (givens kinds vars es))
+  of_object i es n = object_tabled (kinds n) i (in_object (missing_due i) (heads es) (givens kinds vars es))
 
-  of-input : (i : At) (es : Entries) (n : Name) (ds : List Due) → as_input (kinds n) ≡ some ds
+  of_input : (i : At) (es : Entries) (n : Name) (ds : List Due) → as_input (kinds n) ≡ some ds
       → coerce kinds vars (object i es) (named n) ≡ unless (repeated_entry [] (heads es)) reason_repeated (unless (unknown_entry ds (heads es)) reason_unknown (and_then (due_fields (missing_due i) (givens kinds vars es) ds) (λ ps. Got (Fields ps))))
-  of-input i es n ds q = of-object i es n ∙ ap (λ (m : Option (List Due)). tabled m i (in_object (missing_due i) (heads es) (givens kinds vars es))) q
+  of_input i es n ds q = of_object i es n ∙ ap (λ (m : Option (List Due)). tabled m i (in_object (missing_due i) (heads es) (givens kinds vars es))) q
 
   of_field : (i : At) (es : Entries) (d : Due) (rest : Out Pairs) (m : Option Value) → valueFor kinds vars d.name es ≡ m
       → due_field (missing_due i d rest) d (entry_of d.name (givens kinds vars es)) rest ≡ due_field (missing_due i d rest) d (into m) rest
@@ -136,27 +136,27 @@ module _ (kinds : Name → Kind) (vars : Name → Option Tree) where
     unfolding coerce
 
     pub coerces_is : {v : Value} {r : Ref} {o : Out Tree} → Coerces kinds vars v r o → coerce kinds vars v r ≡ o
-    coerces_is (null-kept {i} {r} q) = null-free i r q
-    coerces_is (null_refused {i} {r} q) = null-barred i r q
-    coerces_is (absent-variable {i} {n} {r} {o} q c) = ap (held kinds vars i r) q ∙ coerces_is c
-    coerces_is (null-variable {i} {n} {r} {o} q c) = ap (held kinds vars i r) q ∙ coerces_is c
-    coerces_is (held-variable {i} {n} {r} t q h) = ap (held kinds vars i r) q ∙ held-other i r t h
-    coerces_is (at-non-null {v} {r} {o} q c) = inside v r q ∙ coerces_is c
+    coerces_is (null_kept {i} {r} q) = null_free i r q
+    coerces_is (null_refused {i} {r} q) = null_barred i r q
+    coerces_is (absent_variable {i} {n} {r} {o} q c) = ap (held kinds vars i r) q ∙ coerces_is c
+    coerces_is (null_variable {i} {n} {r} {o} q c) = ap (held kinds vars i r) q ∙ coerces_is c
+    coerces_is (held_variable {i} {n} {r} t q h) = ap (held kinds vars i r) q ∙ held_other i r t h
+    coerces_is (at_non_null {v} {r} {o} q c) = inside v r q ∙ coerces_is c
     coerces_is (a_list {i} {vs} {r} {o} c e) = ap (λ (x : Out Trees). and_then x (λ ts. Got (Many ts))) (items_is c) ∙ e
-    coerces_is (list-of-one {v} {r} {o} q c e) = wrapped v r q ∙ ap (λ (x : Out Tree). and_then x (λ t. Got (Many (also t no_more)))) (coerces_is c) ∙ e
+    coerces_is (list_of_one {v} {r} {o} q c e) = wrapped v r q ∙ ap (λ (x : Out Tree). and_then x (λ t. Got (Many (also t no_more)))) (coerces_is c) ∙ e
     coerces_is no_list = refl
-    coerces_is (an-integer e) = e
-    coerces_is (a-float e) = e
-    coerces_is (a-string e) = e
-    coerces_is (a-boolean e) = e
+    coerces_is (an_integer e) = e
+    coerces_is (a_float e) = e
+    coerces_is (a_string e) = e
+    coerces_is (a_boolean e) = e
     coerces_is (an_enum e) = e
-    coerces_is (no_object {i} {es} {n} q) = of-object i es n ∙ ap (λ (m : Option (List Due)). tabled m i (in_object (missing_due i) (heads es) (givens kinds vars es))) q
-    coerces_is (entry-repeated {i} {es} {n} {e} ds q a) = of-input i es n ds q
+    coerces_is (no_object {i} {es} {n} q) = of_object i es n ∙ ap (λ (m : Option (List Due)). tabled m i (in_object (missing_due i) (heads es) (givens kinds vars es))) q
+    coerces_is (entry_repeated {i} {es} {n} {e} ds q a) = of_input i es n ds q
         ∙ ap (λ (m : Option At). unless m reason_repeated (unless (unknown_entry ds (heads es)) reason_unknown (and_then (due_fields (missing_due i) (givens kinds vars es) ds) (λ ps. Got (Fields ps))))) a
-    coerces_is (entry-unknown {i} {es} {n} {e} ds q a b) = of-input i es n ds q
+    coerces_is (entry_unknown {i} {es} {n} {e} ds q a b) = of_input i es n ds q
         ∙ ap (λ (m : Option At). unless m reason_repeated (unless (unknown_entry ds (heads es)) reason_unknown (and_then (due_fields (missing_due i) (givens kinds vars es) ds) (λ ps. Got (Fields ps))))) a
         ∙ ap (λ (m : Option At). unless m reason_unknown (and_then (due_fields (missing_due i) (givens kinds vars es) ds) (λ ps. Got (Fields ps)))) b
-    coerces_is (an_object {i} {es} {n} {o} ds q a b c e) = of-input i es n ds q
+    coerces_is (an_object {i} {es} {n} {o} ds q a b c e) = of_input i es n ds q
         ∙ ap (λ (m : Option At). unless m reason_repeated (unless (unknown_entry ds (heads es)) reason_unknown (and_then (due_fields (missing_due i) (givens kinds vars es) ds) (λ ps. Got (Fields ps))))) a
         ∙ ap (λ (m : Option At). unless m reason_unknown (and_then (due_fields (missing_due i) (givens kinds vars es) ds) (λ ps. Got (Fields ps)))) b
         ∙ ap (λ (x : Out Pairs). and_then x (λ ps. Got (Fields ps))) (fields_is c) ∙ e
@@ -164,17 +164,17 @@ module _ (kinds : Name → Kind) (vars : Name → Option Tree) where
     pub items_is : {vs : Values} {r : Ref} {o : Out Trees} → Items kinds vars vs r o → coerce_all kinds vars vs r ≡ o
     items_is no_items = refl
     items_is (item_refused {v} {vs} {r} {i} {w} c) = ap (λ (x : Out Tree). and_then x (λ t. and_then (coerce_all kinds vars vs r) (λ ts. Got (also t ts)))) (coerces_is c)
-    items_is (item-got {v} {vs} {r} {t} {o} c d e) = ap (λ (x : Out Tree). and_then x (λ t. and_then (coerce_all kinds vars vs r) (λ ts. Got (also t ts)))) (coerces_is c)
+    items_is (item_got {v} {vs} {r} {t} {o} c d e) = ap (λ (x : Out Tree). and_then x (λ t. and_then (coerce_all kinds vars vs r) (λ ts. Got (also t ts)))) (coerces_is c)
         ∙ ap (λ (x : Out Trees). and_then x (λ ts. Got (also t ts))) (items_is d) ∙ e
 
     pub fields_is : {i : At} {es : Entries} {ds : List Due} {o : Out Pairs} → InFields kinds vars i es ds o → due_fields (missing_due i) (givens kinds vars es) ds ≡ o
     fields_is no_fields = refl
-    fields_is (required-missing {i} {es} {d} {ds} q h) = of_field i es d (due_fields (missing_due i) (givens kinds vars es) ds) none q ∙ ap (λ (b : Bool). cond b (No i reason_missing) (due_fields (missing_due i) (givens kinds vars es) ds)) h
+    fields_is (required_missing {i} {es} {d} {ds} q h) = of_field i es d (due_fields (missing_due i) (givens kinds vars es) ds) none q ∙ ap (λ (b : Bool). cond b (No i reason_missing) (due_fields (missing_due i) (givens kinds vars es) ds)) h
     fields_is (left_out {i} {es} {d} {ds} {o} q h c) = of_field i es d (due_fields (missing_due i) (givens kinds vars es) ds) none q
         ∙ ap (λ (b : Bool). cond b (No i reason_missing) (due_fields (missing_due i) (givens kinds vars es) ds)) h ∙ fields_is c
     fields_is (field_refused {i} {es} {d} {ds} {j} {w} v q c) = of_field i es d (due_fields (missing_due i) (givens kinds vars es) ds) (some v) q
         ∙ ap (λ (x : Out Tree). and_then x (λ t. and_then (due_fields (missing_due i) (givens kinds vars es) ds) (λ ps. Got (pair d.name t ps)))) (coerces_is c)
-    fields_is (field-got {i} {es} {d} {ds} {t} {o} v q c e f) = of_field i es d (due_fields (missing_due i) (givens kinds vars es) ds) (some v) q
+    fields_is (field_got {i} {es} {d} {ds} {t} {o} v q c e f) = of_field i es d (due_fields (missing_due i) (givens kinds vars es) ds) (some v) q
         ∙ ap (λ (x : Out Tree). and_then x (λ t. and_then (due_fields (missing_due i) (givens kinds vars es) ds) (λ ps. Got (pair d.name t ps)))) (coerces_is c)
         ∙ ap (λ (x : Out Pairs). and_then x (λ ps. Got (pair d.name t ps))) (fields_is e) ∙ f
 
@@ -184,101 +184,101 @@ module _ (kinds : Name → Kind) (vars : Name → Option Tree) where
 
   -- ---- the computed result is one by the rules
 
-  has-null : (i : At) (r : Ref) → Coerces kinds vars (null i) r (null_at i r)
-  has-null i (named n) = null-kept refl
-  has-null i (list_of r) = null-kept refl
-  has-null i (non_null r) = null_refused refl
+  has_null : (i : At) (r : Ref) → Coerces kinds vars (null i) r (null_at i r)
+  has_null i (named n) = null_kept refl
+  has_null i (list_of r) = null_kept refl
+  has_null i (non_null r) = null_refused refl
 
-  has-held : (i : At) (n : Name) (r : Ref) (m : Option Tree) → vars n ≡ m → Coerces kinds vars (variable i n) r (held kinds vars i r m)
-  has-held i n r none q = absent-variable q (has-null i r)
-  has-held i n r (some Null) q = null-variable q (has-null i r)
-  has-held i n r (some (Bits x)) q = held-variable (Bits x) q (λ e. subst is_other e tt)
-  has-held i n r (some (Decimal s)) q = held-variable (Decimal s) q (λ e. subst is_other e tt)
-  has-held i n r (some (Text s)) q = held-variable (Text s) q (λ e. subst is_other e tt)
-  has-held i n r (some (Truth b)) q = held-variable (Truth b) q (λ e. subst is_other e tt)
-  has-held i n r (some (Member m)) q = held-variable (Member m) q (λ e. subst is_other e tt)
-  has-held i n r (some (Many ts)) q = held-variable (Many ts) q (λ e. subst is_other e tt)
-  has-held i n r (some (Fields ps)) q = held-variable (Fields ps) q (λ e. subst is_other e tt)
-  has-held i n r (some (Token s)) q = held-variable (Token s) q (λ e. subst is_other e tt)
+  has_held : (i : At) (n : Name) (r : Ref) (m : Option Tree) → vars n ≡ m → Coerces kinds vars (variable i n) r (held kinds vars i r m)
+  has_held i n r none q = absent_variable q (has_null i r)
+  has_held i n r (some Null) q = null_variable q (has_null i r)
+  has_held i n r (some (Bits x)) q = held_variable (Bits x) q (λ e. subst is_other e tt)
+  has_held i n r (some (Decimal s)) q = held_variable (Decimal s) q (λ e. subst is_other e tt)
+  has_held i n r (some (Text s)) q = held_variable (Text s) q (λ e. subst is_other e tt)
+  has_held i n r (some (Truth b)) q = held_variable (Truth b) q (λ e. subst is_other e tt)
+  has_held i n r (some (Member m)) q = held_variable (Member m) q (λ e. subst is_other e tt)
+  has_held i n r (some (Many ts)) q = held_variable (Many ts) q (λ e. subst is_other e tt)
+  has_held i n r (some (Fields ps)) q = held_variable (Fields ps) q (λ e. subst is_other e tt)
+  has_held i n r (some (Token s)) q = held_variable (Token s) q (λ e. subst is_other e tt)
 
-  has-single : (v : Value) (f : Kind → Out Tree) → single_value v ≡ true → plain_value v ≡ true → ((n : Name) → Coerces kinds vars v (named n) (f (kinds n))) → (r : Ref) → Coerces kinds vars v r (single kinds vars f r)
-  has-single v f q p h (named n) = h n
-  has-single v f q p h (list_of r) = list-of-one q (has-single v f q p h r) refl
-  has-single v f q p h (non_null r) = at-non-null p (has-single v f q p h r)
+  has_single : (v : Value) (f : Kind → Out Tree) → single_value v ≡ true → plain_value v ≡ true → ((n : Name) → Coerces kinds vars v (named n) (f (kinds n))) → (r : Ref) → Coerces kinds vars v r (single kinds vars f r)
+  has_single v f q p h (named n) = h n
+  has_single v f q p h (list_of r) = list_of_one q (has_single v f q p h r) refl
+  has_single v f q p h (non_null r) = at_non_null p (has_single v f q p h r)
 
-  has-several : (i : At) (vs : Values) → ((r : Ref) → Items kinds vars vs r (coerce_all kinds vars vs r)) → (r : Ref)
+  has_several : (i : At) (vs : Values) → ((r : Ref) → Items kinds vars vs r (coerce_all kinds vars vs r)) → (r : Ref)
       → Coerces kinds vars (list i vs) r (several kinds vars i (λ q. coerce_all kinds vars vs q) r)
-  has-several i vs h (named n) = no_list
-  has-several i vs h (list_of r) = a_list (h r) refl
-  has-several i vs h (non_null r) = at-non-null refl (has-several i vs h r)
+  has_several i vs h (named n) = no_list
+  has_several i vs h (list_of r) = a_list (h r) refl
+  has_several i vs h (non_null r) = at_non_null refl (has_several i vs h r)
 
   -- every value that an entry has is coerced
   abbrev Each : Entries → Type 0
   Each es = (n : Name) (v : Value) → valueFor kinds vars n es ≡ some v → (r : Ref) → Coerces kinds vars v r (coerce kinds vars v r)
 
-  has-field : (i : At) (es : Entries) (d : Due) (ds : List Due) (rest : Out Pairs) → Each es → InFields kinds vars i es ds rest → (m : Option Value) → valueFor kinds vars d.name es ≡ m
+  has_field : (i : At) (es : Entries) (d : Due) (ds : List Due) (rest : Out Pairs) → Each es → InFields kinds vars i es ds rest → (m : Option Value) → valueFor kinds vars d.name es ≡ m
       → InFields kinds vars i es (d ∷ ds) (due_field (missing_due i d rest) d (into m) rest)
-  has-field i es d ds rest h c none q = go (is_non_null d.type) refl
+  has_field i es d ds rest h c none q = go (is_non_null d.type) refl
     where
       go : (b : Bool) → is_non_null d.type ≡ b → InFields kinds vars i es (d ∷ ds) (cond b (No i reason_missing) rest)
-      go true e = required-missing q e
+      go true e = required_missing q e
       go false e = left_out q e c
-  has-field i es d ds rest h c (some v) q = go (coerce kinds vars v d.type) (h d.name v q d.type)
+  has_field i es d ds rest h c (some v) q = go (coerce kinds vars v d.type) (h d.name v q d.type)
     where
       go : (o : Out Tree) → Coerces kinds vars v d.type o → InFields kinds vars i es (d ∷ ds) (and_then o (λ t. and_then rest (λ ps. Got (pair d.name t ps))))
-      go (Got t) e = field-got v q e c refl
+      go (Got t) e = field_got v q e c refl
       go (No j w) e = field_refused v q e
 
-  has-fields : (i : At) (es : Entries) → Each es → (ds : List Due) → InFields kinds vars i es ds (due_fields (missing_due i) (givens kinds vars es) ds)
-  has-fields i es h [] = no_fields
-  has-fields i es h (d ∷ ds) = subst (λ (o : Out Pairs). InFields kinds vars i es (d ∷ ds) o)
+  has_fields : (i : At) (es : Entries) → Each es → (ds : List Due) → InFields kinds vars i es ds (due_fields (missing_due i) (givens kinds vars es) ds)
+  has_fields i es h [] = no_fields
+  has_fields i es h (d ∷ ds) = subst (λ (o : Out Pairs). InFields kinds vars i es (d ∷ ds) o)
       (sym (of_field i es d (due_fields (missing_due i) (givens kinds vars es) ds) (valueFor kinds vars d.name es) refl))
-      (has-field i es d ds (due_fields (missing_due i) (givens kinds vars es) ds) h (has-fields i es h ds) (valueFor kinds vars d.name es) refl)
+      (has_field i es d ds (due_fields (missing_due i) (givens kinds vars es) ds) h (has_fields i es h ds) (valueFor kinds vars d.name es) refl)
 
-  has-input : (i : At) (es : Entries) (n : Name) → Each es → (m : Option (List Due)) → as_input (kinds n) ≡ m
+  has_input : (i : At) (es : Entries) (n : Name) → Each es → (m : Option (List Due)) → as_input (kinds n) ≡ m
       → Coerces kinds vars (object i es) (named n) (tabled m i (in_object (missing_due i) (heads es) (givens kinds vars es)))
-  has-input i es n h none q = no_object q
-  has-input i es n h (some ds) q = go (repeated_entry [] (heads es)) refl (unknown_entry ds (heads es)) refl
+  has_input i es n h none q = no_object q
+  has_input i es n h (some ds) q = go (repeated_entry [] (heads es)) refl (unknown_entry ds (heads es)) refl
     where
       go : (a : Option At) → repeated_entry [] (heads es) ≡ a → (b : Option At) → unknown_entry ds (heads es) ≡ b
           → Coerces kinds vars (object i es) (named n) (unless a reason_repeated (unless b reason_unknown (and_then (due_fields (missing_due i) (givens kinds vars es) ds) (λ ps. Got (Fields ps)))))
-      go none e none f = an_object ds q e f (has-fields i es h ds) refl
-      go none e (some x) f = entry-unknown ds q e f
-      go (some x) e b f = entry-repeated ds q e
+      go none e none f = an_object ds q e f (has_fields i es h ds) refl
+      go none e (some x) f = entry_unknown ds q e f
+      go (some x) e b f = entry_repeated ds q e
 
-  has-object : (i : At) (es : Entries) → Each es → (n : Name) → Coerces kinds vars (object i es) (named n) (object_at i (in_object (missing_due i) (heads es) (givens kinds vars es)) (kinds n))
-  has-object i es h n = subst (λ (o : Out Tree). Coerces kinds vars (object i es) (named n) o)
-      (sym (object-tabled (kinds n) i (in_object (missing_due i) (heads es) (givens kinds vars es)))) (has-input i es n h (as_input (kinds n)) refl)
+  has_object : (i : At) (es : Entries) → Each es → (n : Name) → Coerces kinds vars (object i es) (named n) (object_at i (in_object (missing_due i) (heads es) (givens kinds vars es)) (kinds n))
+  has_object i es h n = subst (λ (o : Out Tree). Coerces kinds vars (object i es) (named n) o)
+      (sym (object_tabled (kinds n) i (in_object (missing_due i) (heads es) (givens kinds vars es)))) (has_input i es n h (as_input (kinds n)) refl)
 
-  has-items : (v : Value) (vs : Values) (r : Ref) (o : Out Tree) → Coerces kinds vars v r o → Items kinds vars vs r (coerce_all kinds vars vs r)
+  has_items : (v : Value) (vs : Values) (r : Ref) (o : Out Tree) → Coerces kinds vars v r o → Items kinds vars vs r (coerce_all kinds vars vs r)
       → Items kinds vars (item v vs) r (and_then o (λ t. and_then (coerce_all kinds vars vs r) (λ ts. Got (also t ts))))
-  has-items v vs r (Got t) c d = item-got c d refl
-  has-items v vs r (No i w) c d = item_refused c
+  has_items v vs r (Got t) c d = item_got c d refl
+  has_items v vs r (No i w) c d = item_refused c
 
-  has-entry : (m : Name) (w : Value) (es : Entries) → ((r : Ref) → Coerces kinds vars w r (coerce kinds vars w r)) → Each es
+  has_entry : (m : Name) (w : Value) (es : Entries) → ((r : Ref) → Coerces kinds vars w r (coerce kinds vars w r)) → Each es
       → (n : Name) (v : Value) (b c : Bool) → cond b (cond c none (some w)) (valueFor kinds vars n es) ≡ some v → (r : Ref) → Coerces kinds vars v r (coerce kinds vars v r)
-  has-entry m w es h t n v true true q r = absurd (subst is_absent q tt)
-  has-entry m w es h t n v true false q r = subst (λ (x : Value). Coerces kinds vars x r (coerce kinds vars x r)) (ap (value_or w) q) (h r)
-  has-entry m w es h t n v false c q r = t n v q r
+  has_entry m w es h t n v true true q r = absurd (subst is_absent q tt)
+  has_entry m w es h t n v true false q r = subst (λ (x : Value). Coerces kinds vars x r (coerce kinds vars x r)) (ap (value_or w) q) (h r)
+  has_entry m w es h t n v false c q r = t n v q r
 
   mutual
     unfolding coerce
 
     pub coerces_has : (v : Value) (r : Ref) → Coerces kinds vars v r (coerce kinds vars v r)
-    coerces_has (variable i n) r = has-held i n r (vars n) refl
-    coerces_has (integer i s) r = has-single (integer i s) (integer_at i s) refl refl (λ n. an-integer refl) r
-    coerces_has (float i s) r = has-single (float i s) (float_at i s) refl refl (λ n. a-float refl) r
-    coerces_has (string i s cs) r = has-single (string i s cs) (string_at i s cs) refl refl (λ n. a-string refl) r
-    coerces_has (boolean i b) r = has-single (boolean i b) (boolean_at i b) refl refl (λ n. a-boolean refl) r
-    coerces_has (null i) r = has-null i r
-    coerces_has (enum i e) r = has-single (enum i e) (enum_at i e) refl refl (λ n. an_enum refl) r
-    coerces_has (list i vs) r = has-several i vs (λ q. items_have vs q) r
-    coerces_has (object i es) r = has-single (object i es) (object_at i (in_object (missing_due i) (heads es) (givens kinds vars es))) refl refl (has-object i es (λ n v q r. entries_have es n v q r)) r
+    coerces_has (variable i n) r = has_held i n r (vars n) refl
+    coerces_has (integer i s) r = has_single (integer i s) (integer_at i s) refl refl (λ n. an_integer refl) r
+    coerces_has (float i s) r = has_single (float i s) (float_at i s) refl refl (λ n. a_float refl) r
+    coerces_has (string i s cs) r = has_single (string i s cs) (string_at i s cs) refl refl (λ n. a_string refl) r
+    coerces_has (boolean i b) r = has_single (boolean i b) (boolean_at i b) refl refl (λ n. a_boolean refl) r
+    coerces_has (null i) r = has_null i r
+    coerces_has (enum i e) r = has_single (enum i e) (enum_at i e) refl refl (λ n. an_enum refl) r
+    coerces_has (list i vs) r = has_several i vs (λ q. items_have vs q) r
+    coerces_has (object i es) r = has_single (object i es) (object_at i (in_object (missing_due i) (heads es) (givens kinds vars es))) refl refl (has_object i es (λ n v q r. entries_have es n v q r)) r
 
     pub items_have : (vs : Values) (r : Ref) → Items kinds vars vs r (coerce_all kinds vars vs r)
-    items_have no-values r = no_items
-    items_have (item v vs) r = has-items v vs r (coerce kinds vars v r) (coerces_has v r) (items_have vs r)
+    items_have no_values r = no_items
+    items_have (item v vs) r = has_items v vs r (coerce kinds vars v r) (coerces_has v r) (items_have vs r)
 
     pub entries_have : (es : Entries) (n : Name) (v : Value) → valueFor kinds vars n es ≡ some v → (r : Ref) → Coerces kinds vars v r (coerce kinds vars v r)
-    entries_have no-entries n v q r = absurd (subst is_absent q tt)
-    entries_have (entry i m w es) n v q r = has-entry m w es (λ r. coerces_has w r) (λ n v q r. entries_have es n v q r) n v (same n m) (leftOut kinds vars w) q r
+    entries_have no_entries n v q r = absurd (subst is_absent q tt)
+    entries_have (entry i m w es) n v q r = has_entry m w es (λ r. coerces_has w r) (λ n v q r. entries_have es n v q r) n v (same n m) (leftOut kinds vars w) q r

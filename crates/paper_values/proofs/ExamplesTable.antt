@@ -10,7 +10,7 @@ use Rattle.paper_table.specs.TableNumbers.{tag_scalar, tag_enum, tag_input_objec
 use Rattle.paper_table.specs.References.{Ref, named, list_of, non_null}
 use Rattle.paper_table.specs.Types.{Table, built_ins, meaning}
 use Rattle.paper_values.specs.NumberTokens.{value_from, int_of, float_content}
-use Rattle.paper_values.specs.Values.{At, Value, integer, float, string, boolean, null, enum, list, object, no-values, item, no-entries, entry, Tree, Null, Bits, Decimal, Text, Truth, Member, Many, Fields, Token, no_more, also, no_pairs, pair, Out, Got, No}
+use Rattle.paper_values.specs.Values.{At, Value, integer, float, string, boolean, null, enum, list, object, no_values, item, no_entries, entry, Tree, Null, Bits, Decimal, Text, Truth, Member, Many, Fields, Token, no_more, also, no_pairs, pair, Out, Got, No}
 use Rattle.paper_values.specs.Kinds.{kind_of_type}
 use Rattle.paper_values.specs.Computed.{coerce}
 use Rattle.paper_values.specs.Encoding.{encode}
@@ -49,8 +49,8 @@ tokens =
     boolean (here 3) true ∷
     null (here 3) ∷
     enum (here 3) (bytes "A") ∷
-    list (here 3) (item (integer (here 4) (bytes "7")) no-values) ∷
-    object (here 3) (entry (here 4) (bytes "b") (integer (here 5) (bytes "7")) no-entries) ∷
+    list (here 3) (item (integer (here 4) (bytes "7")) no_values) ∷
+    object (here 3) (entry (here 4) (bytes "b") (integer (here 5) (bytes "7")) no_entries) ∷
     []
 
 -- reason 1, and null
@@ -61,7 +61,7 @@ abbrev nil : Out Tree
 nil = Got Null
 
 -- a line for each kind of token, in the order of the kinds of type
-pub every-token-at-every-kind :
+pub every_token_at_every_kind :
     map at_each tokens ≡
     (Got (Bits 7) ∷ Got (Decimal (bytes "7.0")) ∷ no ∷ no ∷ Got (Text (bytes "7")) ∷ Got (Token (bytes "7")) ∷ no ∷ no ∷ []) ∷
     (no ∷ Got (Decimal (bytes "1.5")) ∷ no ∷ no ∷ no ∷ Got (Token (bytes "1.5")) ∷ no ∷ no ∷ []) ∷
@@ -73,17 +73,17 @@ pub every-token-at-every-kind :
     (no ∷ no ∷ no ∷ no ∷ no ∷ no ∷ no ∷ Got (Fields (pair (bytes "b") (Bits 7) no_pairs)) ∷ []) ∷
     []
 unfolding coerce kind_of_type built_ins meaning any_of first_at gather int_of float_content value_from
-every-token-at-every-kind = refl
+every_token_at_every_kind = refl
 
 -- a list and an object where they are due, and a value as a list of one
-pub in-lists :
-    give (list_of (named (bytes "Int"))) (list (here 3) (item (integer (here 4) (bytes "7")) (item (null (here 5)) no-values))) ∷
-    give (list_of (named (bytes "In"))) (object (here 3) no-entries) ∷
+pub in_lists :
+    give (list_of (named (bytes "Int"))) (list (here 3) (item (integer (here 4) (bytes "7")) (item (null (here 5)) no_values))) ∷
+    give (list_of (named (bytes "In"))) (object (here 3) no_entries) ∷
     give (non_null (list_of (named (bytes "Boolean")))) (boolean (here 3) false) ∷
     [] ≡
     Got (Many (also (Bits 7) (also Null no_more))) ∷ Got (Many (also (Fields no_pairs) no_more)) ∷ Got (Many (also (Truth false) no_more)) ∷ []
 unfolding coerce kind_of_type built_ins meaning any_of first_at gather int_of float_content value_from
-in-lists = refl
+in_lists = refl
 
 -- reasons 1 to 8, in order; each at its own place
 abbrev needed : Table
@@ -98,22 +98,22 @@ ask r v = coerce (kind_of_type needed) (λ n. none) v r
 abbrev seven : ℕ → Value
 seven i = integer (here i) (bytes "7")
 
-pub every-reason :
+pub every_reason :
     ask (named (bytes "Int")) (float (here 3) (bytes "1.0")) ∷
     ask (named (bytes "Int")) (integer (here 3) (bytes "2147483648")) ∷
-    ask (named (bytes "In")) (object (here 3) no-entries) ∷
+    ask (named (bytes "In")) (object (here 3) no_entries) ∷
     ask (non_null (named (bytes "Int"))) (null (here 3)) ∷
-    ask (named (bytes "In")) (object (here 3) (entry (here 4) (bytes "b") (seven 5) (entry (here 6) (bytes "z") (seven 7) no-entries))) ∷
-    ask (named (bytes "In")) (object (here 3) (entry (here 4) (bytes "b") (seven 5) (entry (here 6) (bytes "b") (seven 7) no-entries))) ∷
+    ask (named (bytes "In")) (object (here 3) (entry (here 4) (bytes "b") (seven 5) (entry (here 6) (bytes "z") (seven 7) no_entries))) ∷
+    ask (named (bytes "In")) (object (here 3) (entry (here 4) (bytes "b") (seven 5) (entry (here 6) (bytes "b") (seven 7) no_entries))) ∷
     ask (named (bytes "E")) (enum (here 3) (bytes "B")) ∷
     ask (named (bytes "String")) (string (here 3) (0x22 ∷ 0x5c ∷ (bytes "uD800" ++ (0x22 ∷ []))) none) ∷
     [] ≡
     No (here 3) 1 ∷ No (here 3) 2 ∷ No (here 3) 3 ∷ No (here 3) 4 ∷ No (here 6) 5 ∷ No (here 6) 6 ∷ No (here 3) 7 ∷ No (here 3) 8 ∷ []
 unfolding coerce kind_of_type built_ins meaning any_of first_at gather int_of float_content value_from
-every-reason = refl
+every_reason = refl
 
 -- tags 32 to 41, in order (40 in a 39)
-pub every-tag :
+pub every_tag :
     encode Null ∷
     encode (Bits 2147483648) ∷
     encode (Decimal (bytes "7.0")) ∷
@@ -137,4 +137,4 @@ pub every-tag :
     (41 ∷ 0 ∷ 3 ∷ 49 ∷ 46 ∷ 53 ∷ []) ∷
     []
 unfolding encode
-every-tag = refl
+every_tag = refl

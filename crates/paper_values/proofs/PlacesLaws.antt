@@ -10,7 +10,7 @@ use Rattle.paper.specs.Tokens.{same}
 use Rattle.paper_table.specs.Lists.{any_of}
 use Rattle.paper_table.specs.References.{Ref, named, list_of, non_null, is_non_null}
 use Rattle.paper_query.specs.Constructs.{Doc, count, kind_of, parent_of, name_of}
-use Rattle.paper_values.specs.Values.{Name, At, Value, variable, integer, float, string, boolean, null, enum, list, object, Values, no-values, item, Entries, no-entries, entry, Due, Tree, Null, Bits, Decimal, Text, Truth, Member, Many, Fields, Token, Trees, Pairs, pair, Out, Got, No, and_then}
+use Rattle.paper_values.specs.Values.{Name, At, Value, variable, integer, float, string, boolean, null, enum, list, object, Values, no_values, item, Entries, no_entries, entry, Due, Tree, Null, Bits, Decimal, Text, Truth, Member, Many, Fields, Token, Trees, Pairs, pair, Out, Got, No, and_then}
 use Rattle.paper_values.specs.Kinds.{Kind, Int, Float, String, Boolean, ID, Own, Other, Enum, Input}
 use Rattle.paper_values.specs.Computed.{null_at, object_at, Given, entry_of, pair_first, missing_due, due_field, due_fields, unless, in_object, single, several, held, coerce, coerce_all, givens, constant, orDefault, variablesFrom, variables_of}
 use Rattle.paper_values.specs.Coercion.{in_range, text_at, integer_at, float_at, string_at, boolean_at, enum_at, heads, repeated_entry, unknown_entry}
@@ -38,11 +38,11 @@ module _ (P : At → Type 0) where
     Placed (object i es) = P i × PlacedEntries es
 
     pub PlacedAll : Values → Type 0
-    PlacedAll no-values = Unit
+    PlacedAll no_values = Unit
     PlacedAll (item v vs) = Placed v × PlacedAll vs
 
     pub PlacedEntries : Entries → Type 0
-    PlacedEntries no-entries = Unit
+    PlacedEntries no_entries = Unit
     PlacedEntries (entry i n v es) = P i × Placed v × PlacedEntries es
 
   kept_then : {A B : Type 0} (o : Out A) (f : A → Out B) → Kept o → ((a : A) → Kept (f a)) → Kept (and_then o f)
@@ -60,79 +60,79 @@ module _ (P : At → Type 0) where
   kept_null i (list_of r) h = tt
   kept_null i (non_null r) h = h
 
-  kept-range : {A : Type 0} (i : At) (f : A → Tree) (o : Option A) → P i → Kept (in_range i f o)
-  kept-range i f none h = h
-  kept-range i f (some x) h = tt
+  kept_range : {A : Type 0} (i : At) (f : A → Tree) (o : Option A) → P i → Kept (in_range i f o)
+  kept_range i f none h = h
+  kept_range i f (some x) h = tt
 
-  kept-text : (i : At) (o : Option (List ℕ)) → P i → Kept (text_at i o)
-  kept-text i none h = h
-  kept-text i (some s) h = tt
+  kept_text : (i : At) (o : Option (List ℕ)) → P i → Kept (text_at i o)
+  kept_text i none h = h
+  kept_text i (some s) h = tt
 
-  kept-integer : (i : At) (s : List ℕ) (k : Kind) → P i → Kept (integer_at i s k)
-  kept-integer i s Int h = kept-range i Bits (int_of s) h
-  kept-integer i s Float h = kept-range i Decimal (float_content true s) h
-  kept-integer i s String h = h
-  kept-integer i s Boolean h = h
-  kept-integer i s ID h = tt
-  kept-integer i s Own h = tt
-  kept-integer i s Other h = h
-  kept-integer i s (Enum ms) h = h
-  kept-integer i s (Input ds) h = h
+  kept_integer : (i : At) (s : List ℕ) (k : Kind) → P i → Kept (integer_at i s k)
+  kept_integer i s Int h = kept_range i Bits (int_of s) h
+  kept_integer i s Float h = kept_range i Decimal (float_content true s) h
+  kept_integer i s String h = h
+  kept_integer i s Boolean h = h
+  kept_integer i s ID h = tt
+  kept_integer i s Own h = tt
+  kept_integer i s Other h = h
+  kept_integer i s (Enum ms) h = h
+  kept_integer i s (Input ds) h = h
 
-  kept-float : (i : At) (s : List ℕ) (k : Kind) → P i → Kept (float_at i s k)
-  kept-float i s Int h = h
-  kept-float i s Float h = kept-range i Decimal (float_content false s) h
-  kept-float i s String h = h
-  kept-float i s Boolean h = h
-  kept-float i s ID h = h
-  kept-float i s Own h = tt
-  kept-float i s Other h = h
-  kept-float i s (Enum ms) h = h
-  kept-float i s (Input ds) h = h
+  kept_float : (i : At) (s : List ℕ) (k : Kind) → P i → Kept (float_at i s k)
+  kept_float i s Int h = h
+  kept_float i s Float h = kept_range i Decimal (float_content false s) h
+  kept_float i s String h = h
+  kept_float i s Boolean h = h
+  kept_float i s ID h = h
+  kept_float i s Own h = tt
+  kept_float i s Other h = h
+  kept_float i s (Enum ms) h = h
+  kept_float i s (Input ds) h = h
 
-  kept-string : (i : At) (s : List ℕ) (cs : Option (List ℕ)) (k : Kind) → P i → Kept (string_at i s cs k)
-  kept-string i s cs Int h = h
-  kept-string i s cs Float h = h
-  kept-string i s cs String h = kept-text i cs h
-  kept-string i s cs Boolean h = h
-  kept-string i s cs ID h = kept-text i cs h
-  kept-string i s cs Own h = tt
-  kept-string i s cs Other h = h
-  kept-string i s cs (Enum ms) h = h
-  kept-string i s cs (Input ds) h = h
+  kept_string : (i : At) (s : List ℕ) (cs : Option (List ℕ)) (k : Kind) → P i → Kept (string_at i s cs k)
+  kept_string i s cs Int h = h
+  kept_string i s cs Float h = h
+  kept_string i s cs String h = kept_text i cs h
+  kept_string i s cs Boolean h = h
+  kept_string i s cs ID h = kept_text i cs h
+  kept_string i s cs Own h = tt
+  kept_string i s cs Other h = h
+  kept_string i s cs (Enum ms) h = h
+  kept_string i s cs (Input ds) h = h
 
-  kept-boolean : (i : At) (b : Bool) (k : Kind) → P i → Kept (boolean_at i b k)
-  kept-boolean i b Int h = h
-  kept-boolean i b Float h = h
-  kept-boolean i b String h = h
-  kept-boolean i b Boolean h = tt
-  kept-boolean i b ID h = h
-  kept-boolean i b Own h = tt
-  kept-boolean i b Other h = h
-  kept-boolean i b (Enum ms) h = h
-  kept-boolean i b (Input ds) h = h
+  kept_boolean : (i : At) (b : Bool) (k : Kind) → P i → Kept (boolean_at i b k)
+  kept_boolean i b Int h = h
+  kept_boolean i b Float h = h
+  kept_boolean i b String h = h
+  kept_boolean i b Boolean h = tt
+  kept_boolean i b ID h = h
+  kept_boolean i b Own h = tt
+  kept_boolean i b Other h = h
+  kept_boolean i b (Enum ms) h = h
+  kept_boolean i b (Input ds) h = h
 
-  kept-enum : (i : At) (n : Name) (k : Kind) → P i → Kept (enum_at i n k)
-  kept-enum i n Int h = h
-  kept-enum i n Float h = h
-  kept-enum i n String h = h
-  kept-enum i n Boolean h = h
-  kept-enum i n ID h = h
-  kept-enum i n Own h = h
-  kept-enum i n Other h = h
-  kept-enum i n (Enum ms) h = kept_if (any_of (same n) ms) (Got (Member n)) (No i 7) tt h
-  kept-enum i n (Input ds) h = h
+  kept_enum : (i : At) (n : Name) (k : Kind) → P i → Kept (enum_at i n k)
+  kept_enum i n Int h = h
+  kept_enum i n Float h = h
+  kept_enum i n String h = h
+  kept_enum i n Boolean h = h
+  kept_enum i n ID h = h
+  kept_enum i n Own h = h
+  kept_enum i n Other h = h
+  kept_enum i n (Enum ms) h = kept_if (any_of (same n) ms) (Got (Member n)) (No i 7) tt h
+  kept_enum i n (Input ds) h = h
 
-  kept-object : (i : At) (f : List Due → Out Tree) (k : Kind) → P i → ((ds : List Due) → Kept (f ds)) → Kept (object_at i f k)
-  kept-object i f Int h g = h
-  kept-object i f Float h g = h
-  kept-object i f String h g = h
-  kept-object i f Boolean h g = h
-  kept-object i f ID h g = h
-  kept-object i f Own h g = h
-  kept-object i f Other h g = h
-  kept-object i f (Enum ms) h g = h
-  kept-object i f (Input ds) h g = g ds
+  kept_object : (i : At) (f : List Due → Out Tree) (k : Kind) → P i → ((ds : List Due) → Kept (f ds)) → Kept (object_at i f k)
+  kept_object i f Int h g = h
+  kept_object i f Float h g = h
+  kept_object i f String h g = h
+  kept_object i f Boolean h g = h
+  kept_object i f ID h g = h
+  kept_object i f Own h g = h
+  kept_object i f Other h g = h
+  kept_object i f (Enum ms) h g = h
+  kept_object i f (Input ds) h g = g ds
 
   -- ---- objects
 
@@ -140,27 +140,27 @@ module _ (P : At → Type 0) where
   Told none = Unit
   Told (some i) = P i
 
-  kept-unless : {A : Type 0} (m : Option At) (w : ℕ) (o : Out A) → Told m → Kept o → Kept (unless m w o)
-  kept-unless none w o h k = k
-  kept-unless (some i) w o h k = h
+  kept_unless : {A : Type 0} (m : Option At) (w : ℕ) (o : Out A) → Told m → Kept o → Kept (unless m w o)
+  kept_unless none w o h k = k
+  kept_unless (some i) w o h k = h
 
-  told-if : (b : Bool) (i : At) (m : Option At) → P i → Told m → Told (cond b (some i) m)
-  told-if true i m h k = h
-  told-if false i m h k = k
+  told_if : (b : Bool) (i : At) (m : Option At) → P i → Told m → Told (cond b (some i) m)
+  told_if true i m h k = h
+  told_if false i m h k = k
 
-  told-unless : (b : Bool) (i : At) (m : Option At) → P i → Told m → Told (cond b m (some i))
-  told-unless true i m h k = k
-  told-unless false i m h k = h
+  told_unless : (b : Bool) (i : At) (m : Option At) → P i → Told m → Told (cond b m (some i))
+  told_unless true i m h k = k
+  told_unless false i m h k = h
 
-  kept-repeated : (es : Entries) (seen : List Name) → PlacedEntries es → Told (repeated_entry seen (heads es))
+  kept_repeated : (es : Entries) (seen : List Name) → PlacedEntries es → Told (repeated_entry seen (heads es))
   unfolding Placed
-  kept-repeated no-entries seen h = tt
-  kept-repeated (entry i n v es) seen h = told-if (any_of (same n) seen) i (repeated_entry (n ∷ seen) (heads es)) h.0 (kept-repeated es (n ∷ seen) h.2)
+  kept_repeated no_entries seen h = tt
+  kept_repeated (entry i n v es) seen h = told_if (any_of (same n) seen) i (repeated_entry (n ∷ seen) (heads es)) h.0 (kept_repeated es (n ∷ seen) h.2)
 
   kept_unknown : (es : Entries) (ds : List Due) → PlacedEntries es → Told (unknown_entry ds (heads es))
   unfolding Placed
-  kept_unknown no-entries ds h = tt
-  kept_unknown (entry i n v es) ds h = told-unless (any_of (λ d. same n d.name) ds) i (unknown_entry ds (heads es)) h.0 (kept_unknown es ds h.2)
+  kept_unknown no_entries ds h = tt
+  kept_unknown (entry i n v es) ds h = told_unless (any_of (λ d. same n d.name) ds) i (unknown_entry ds (heads es)) h.0 (kept_unknown es ds h.2)
 
   -- what is given keeps it at every type
   abbrev Givens : List Given → Type 0
@@ -171,85 +171,85 @@ module _ (P : At → Type 0) where
   Found none = Unit
   Found (some f) = (r : Ref) → Kept (f r)
 
-  found-if : (b c : Bool) (f : Ref → Out Tree) (m : Option (Ref → Out Tree)) → ((r : Ref) → Kept (f r)) → Found m → Found (cond b (cond c none (some f)) m)
-  found-if true true f m h k = tt
-  found-if true false f m h k = h
-  found-if false c f m h k = k
+  found_if : (b c : Bool) (f : Ref → Out Tree) (m : Option (Ref → Out Tree)) → ((r : Ref) → Kept (f r)) → Found m → Found (cond b (cond c none (some f)) m)
+  found_if true true f m h k = tt
+  found_if true false f m h k = h
+  found_if false c f m h k = k
 
   kept_entry : (n : Name) (gs : List Given) → Givens gs → Found (entry_of n gs)
   kept_entry n [] h = tt
-  kept_entry n (g ∷ gs) h = found-if (same n g.name) g.out g.at (entry_of n gs) h.0 (kept_entry n gs h.1)
+  kept_entry n (g ∷ gs) h = found_if (same n g.name) g.out g.at (entry_of n gs) h.0 (kept_entry n gs h.1)
 
-  kept-first : (n : Name) (o : Out Tree) (rest : Out Pairs) → Kept o → Kept rest → Kept (pair_first n o rest)
-  kept-first n o rest k h = kept_then o (λ t. and_then rest (λ ps. Got (pair n t ps))) k (λ t. kept_then rest (λ ps. Got (pair n t ps)) h (λ ps. tt))
+  kept_first : (n : Name) (o : Out Tree) (rest : Out Pairs) → Kept o → Kept rest → Kept (pair_first n o rest)
+  kept_first n o rest k h = kept_then o (λ t. and_then rest (λ ps. Got (pair n t ps))) k (λ t. kept_then rest (λ ps. Got (pair n t ps)) h (λ ps. tt))
 
   kept_field : (lack : Out Pairs) (d : Due) (m : Option (Ref → Out Tree)) (rest : Out Pairs) → Kept lack → Found m → Kept rest → Kept (due_field lack d m rest)
   kept_field lack d none rest k f h = k
-  kept_field lack d (some g) rest k f h = kept-first d.name (g d.type) rest (f d.type) h
+  kept_field lack d (some g) rest k f h = kept_first d.name (g d.type) rest (f d.type) h
 
   kept_missing : (i : At) (d : Due) (rest : Out Pairs) → P i → Kept rest → Kept (missing_due i d rest)
   kept_missing i d rest h k = kept_if (is_non_null d.type) (No i 3) rest h k
 
-  kept-fields : (lack : Due → Out Pairs → Out Pairs) → ((d : Due) (rest : Out Pairs) → Kept rest → Kept (lack d rest)) → (gs : List Given) → Givens gs → (ds : List Due) → Kept (due_fields lack gs ds)
-  kept-fields lack l gs h [] = tt
-  kept-fields lack l gs h (d ∷ ds) =
-      kept_field (lack d (due_fields lack gs ds)) d (entry_of d.name gs) (due_fields lack gs ds) (l d (due_fields lack gs ds) (kept-fields lack l gs h ds)) (kept_entry d.name gs h) (kept-fields lack l gs h ds)
+  kept_fields : (lack : Due → Out Pairs → Out Pairs) → ((d : Due) (rest : Out Pairs) → Kept rest → Kept (lack d rest)) → (gs : List Given) → Givens gs → (ds : List Due) → Kept (due_fields lack gs ds)
+  kept_fields lack l gs h [] = tt
+  kept_fields lack l gs h (d ∷ ds) =
+      kept_field (lack d (due_fields lack gs ds)) d (entry_of d.name gs) (due_fields lack gs ds) (l d (due_fields lack gs ds) (kept_fields lack l gs h ds)) (kept_entry d.name gs h) (kept_fields lack l gs h ds)
 
-  kept-input : (lack : Due → Out Pairs → Out Pairs) → ((d : Due) (rest : Out Pairs) → Kept rest → Kept (lack d rest)) → (es : Entries) → PlacedEntries es → (gs : List Given) → Givens gs → (ds : List Due)
+  kept_input : (lack : Due → Out Pairs → Out Pairs) → ((d : Due) (rest : Out Pairs) → Kept rest → Kept (lack d rest)) → (es : Entries) → PlacedEntries es → (gs : List Given) → Givens gs → (ds : List Due)
       → Kept (in_object lack (heads es) gs ds)
-  kept-input lack l es p gs h ds =
-      kept-unless (repeated_entry [] (heads es)) 6 _ (kept-repeated es [] p)
-      (kept-unless (unknown_entry ds (heads es)) 5 _ (kept_unknown es ds p)
-      (kept_then (due_fields lack gs ds) (λ ps. Got (Fields ps)) (kept-fields lack l gs h ds) (λ ps. tt)))
+  kept_input lack l es p gs h ds =
+      kept_unless (repeated_entry [] (heads es)) 6 _ (kept_repeated es [] p)
+      (kept_unless (unknown_entry ds (heads es)) 5 _ (kept_unknown es ds p)
+      (kept_then (due_fields lack gs ds) (λ ps. Got (Fields ps)) (kept_fields lack l gs h ds) (λ ps. tt)))
 
   -- ---- values
 
   module _ (kinds : Name → Kind) (vars : Name → Option Tree) where
-    kept-single : (f : Kind → Out Tree) → ((k : Kind) → Kept (f k)) → (r : Ref) → Kept (single kinds vars f r)
-    kept-single f h (named n) = h (kinds n)
-    kept-single f h (list_of r) = kept_then (single kinds vars f r) _ (kept-single f h r) (λ t. tt)
-    kept-single f h (non_null r) = kept-single f h r
+    kept_single : (f : Kind → Out Tree) → ((k : Kind) → Kept (f k)) → (r : Ref) → Kept (single kinds vars f r)
+    kept_single f h (named n) = h (kinds n)
+    kept_single f h (list_of r) = kept_then (single kinds vars f r) _ (kept_single f h r) (λ t. tt)
+    kept_single f h (non_null r) = kept_single f h r
 
-    kept-several : (i : At) (items : Ref → Out Trees) → P i → ((r : Ref) → Kept (items r)) → (r : Ref) → Kept (several kinds vars i items r)
-    kept-several i items p h (named n) = p
-    kept-several i items p h (list_of r) = kept_then (items r) _ (h r) (λ ts. tt)
-    kept-several i items p h (non_null r) = kept-several i items p h r
+    kept_several : (i : At) (items : Ref → Out Trees) → P i → ((r : Ref) → Kept (items r)) → (r : Ref) → Kept (several kinds vars i items r)
+    kept_several i items p h (named n) = p
+    kept_several i items p h (list_of r) = kept_then (items r) _ (h r) (λ ts. tt)
+    kept_several i items p h (non_null r) = kept_several i items p h r
 
-    kept-held : (i : At) (r : Ref) (m : Option Tree) → P i → Kept (held kinds vars i r m)
-    kept-held i r none p = kept_null i r p
-    kept-held i r (some Null) p = kept_null i r p
-    kept-held i r (some (Bits x)) p = tt
-    kept-held i r (some (Decimal s)) p = tt
-    kept-held i r (some (Text s)) p = tt
-    kept-held i r (some (Truth b)) p = tt
-    kept-held i r (some (Member n)) p = tt
-    kept-held i r (some (Many ts)) p = tt
-    kept-held i r (some (Fields ps)) p = tt
-    kept-held i r (some (Token s)) p = tt
+    kept_held : (i : At) (r : Ref) (m : Option Tree) → P i → Kept (held kinds vars i r m)
+    kept_held i r none p = kept_null i r p
+    kept_held i r (some Null) p = kept_null i r p
+    kept_held i r (some (Bits x)) p = tt
+    kept_held i r (some (Decimal s)) p = tt
+    kept_held i r (some (Text s)) p = tt
+    kept_held i r (some (Truth b)) p = tt
+    kept_held i r (some (Member n)) p = tt
+    kept_held i r (some (Many ts)) p = tt
+    kept_held i r (some (Fields ps)) p = tt
+    kept_held i r (some (Token s)) p = tt
 
     mutual
       unfolding coerce Placed
 
       pub value_kept : (v : Value) → Placed v → (r : Ref) → Kept (coerce kinds vars v r)
-      value_kept (variable i n) p r = kept-held i r (vars n) p
-      value_kept (integer i s) p r = kept-single (integer_at i s) (λ k. kept-integer i s k p) r
-      value_kept (float i s) p r = kept-single (float_at i s) (λ k. kept-float i s k p) r
-      value_kept (string i s cs) p r = kept-single (string_at i s cs) (λ k. kept-string i s cs k p) r
-      value_kept (boolean i b) p r = kept-single (boolean_at i b) (λ k. kept-boolean i b k p) r
+      value_kept (variable i n) p r = kept_held i r (vars n) p
+      value_kept (integer i s) p r = kept_single (integer_at i s) (λ k. kept_integer i s k p) r
+      value_kept (float i s) p r = kept_single (float_at i s) (λ k. kept_float i s k p) r
+      value_kept (string i s cs) p r = kept_single (string_at i s cs) (λ k. kept_string i s cs k p) r
+      value_kept (boolean i b) p r = kept_single (boolean_at i b) (λ k. kept_boolean i b k p) r
       value_kept (null i) p r = kept_null i r p
-      value_kept (enum i n) p r = kept-single (enum_at i n) (λ k. kept-enum i n k p) r
-      value_kept (list i vs) p r = kept-several i (λ q. coerce_all kinds vars vs q) p.0 (λ q. items_kept vs p.1 q) r
+      value_kept (enum i n) p r = kept_single (enum_at i n) (λ k. kept_enum i n k p) r
+      value_kept (list i vs) p r = kept_several i (λ q. coerce_all kinds vars vs q) p.0 (λ q. items_kept vs p.1 q) r
       value_kept (object i es) p r =
-          kept-single (object_at i (in_object (missing_due i) (heads es) (givens kinds vars es)))
-          (λ k. kept-object i (in_object (missing_due i) (heads es) (givens kinds vars es)) k p.0
-          (λ ds. kept-input (missing_due i) (λ d rest h. kept_missing i d rest p.0 h) es p.1 (givens kinds vars es) (givens_kept es p.1) ds)) r
+          kept_single (object_at i (in_object (missing_due i) (heads es) (givens kinds vars es)))
+          (λ k. kept_object i (in_object (missing_due i) (heads es) (givens kinds vars es)) k p.0
+          (λ ds. kept_input (missing_due i) (λ d rest h. kept_missing i d rest p.0 h) es p.1 (givens kinds vars es) (givens_kept es p.1) ds)) r
 
       pub items_kept : (vs : Values) → PlacedAll vs → (r : Ref) → Kept (coerce_all kinds vars vs r)
-      items_kept no-values p r = tt
+      items_kept no_values p r = tt
       items_kept (item v vs) p r = kept_then (coerce kinds vars v r) _ (value_kept v p.0 r) (λ t. kept_then (coerce_all kinds vars vs r) _ (items_kept vs p.1 r) (λ ts. tt))
 
       pub givens_kept : (es : Entries) → PlacedEntries es → Givens (givens kinds vars es)
-      givens_kept no-entries p = tt
+      givens_kept no_entries p = tt
       givens_kept (entry i n v es) p = (λ r. value_kept v p.1 r, givens_kept es p.2)
 
   -- ---- the calls
@@ -264,25 +264,25 @@ module _ (P : At → Type 0) where
   PlacedDues (v ∷ vs) = P v.0 × PlacedIf v.1.default × PlacedDues vs
 
   module _ (kinds : Name → Kind) where
-    kept-default : (i : At) (d : Due) (m : Option Value) (rest : Out Pairs) → P i → PlacedIf m → Kept rest → Kept (orDefault kinds i d m rest)
-    kept-default i d none rest p h k = kept_missing i d rest p k
-    kept-default i d (some v) rest p h k = kept-first d.name (constant kinds v d.type) rest (value_kept kinds (λ n. none) v h d.type) k
+    kept_default : (i : At) (d : Due) (m : Option Value) (rest : Out Pairs) → P i → PlacedIf m → Kept rest → Kept (orDefault kinds i d m rest)
+    kept_default i d none rest p h k = kept_missing i d rest p k
+    kept_default i d (some v) rest p h k = kept_first d.name (constant kinds v d.type) rest (value_kept kinds (λ n. none) v h d.type) k
 
-    kept-variables : (gs : List Given) → Givens gs → (vs : List (At × Due)) → PlacedDues vs → Kept (variablesFrom kinds gs vs)
-    kept-variables gs h [] p = tt
-    kept-variables gs h (v ∷ vs) p =
+    kept_variables : (gs : List Given) → Givens gs → (vs : List (At × Due)) → PlacedDues vs → Kept (variablesFrom kinds gs vs)
+    kept_variables gs h [] p = tt
+    kept_variables gs h (v ∷ vs) p =
         kept_field (orDefault kinds v.0 v.1 v.1.default (variablesFrom kinds gs vs)) v.1 (entry_of v.1.name gs) (variablesFrom kinds gs vs)
-        (kept-default v.0 v.1 v.1.default (variablesFrom kinds gs vs) p.0 p.1 (kept-variables gs h vs p.2))
-        (kept_entry v.1.name gs h) (kept-variables gs h vs p.2)
+        (kept_default v.0 v.1 v.1.default (variablesFrom kinds gs vs) p.0 p.1 (kept_variables gs h vs p.2))
+        (kept_entry v.1.name gs h) (kept_variables gs h vs p.2)
 
     pub variables_kept : (es : Entries) → PlacedEntries es → (vs : List (At × Due)) → PlacedDues vs → Kept (variables_of kinds es vs)
     variables_kept es p vs q =
-        kept-unless (repeated_entry [] (heads es)) 6 (variablesFrom kinds (givens kinds (λ n. none) es) vs) (kept-repeated es [] p)
-        (kept-variables (givens kinds (λ n. none) es) (givens_kept kinds (λ n. none) es p) vs q)
+        kept_unless (repeated_entry [] (heads es)) 6 (variablesFrom kinds (givens kinds (λ n. none) es) vs) (kept_repeated es [] p)
+        (kept_variables (givens kinds (λ n. none) es) (givens_kept kinds (λ n. none) es p) vs q)
 
     -- an object's entries, or a field's arguments, where these are due
     pub object_kept : (vars : Name → Option Tree) (i : At) → P i → (es : Entries) → PlacedEntries es → (ds : List Due) → Kept (in_object (missing_due i) (heads es) (givens kinds vars es) ds)
-    object_kept vars i p es q ds = kept-input (missing_due i) (λ d rest h. kept_missing i d rest p h) es q (givens kinds vars es) (givens_kept kinds vars es q) ds
+    object_kept vars i p es q ds = kept_input (missing_due i) (λ d rest h. kept_missing i d rest p h) es q (givens kinds vars es) (givens_kept kinds vars es q) ds
 
 -- ---- rows
 
@@ -303,12 +303,12 @@ entries_if m true v w p q = p
 entries_if m false v w p q = q
 
 module _ (text : ℕ) (d : Doc) (m : ℕ) (few : count d ≤ m) where
-  items-placed : (read : ℕ → Value) → ((i : ℕ) → i ≤ m → Placed (UpTo m) (read i)) → (h k c : ℕ) → (0 < k → c + k ≤ m) → PlacedAll (UpTo m) (itemsFrom text d read h k c)
+  items_placed : (read : ℕ → Value) → ((i : ℕ) → i ≤ m → Placed (UpTo m) (read i)) → (h k c : ℕ) → (0 < k → c + k ≤ m) → PlacedAll (UpTo m) (itemsFrom text d read h k c)
   unfolding Placed itemsFrom
-  items-placed read p h zero c q = tt
-  items-placed read p h (suc k) c q =
+  items_placed read p h zero c q = tt
+  items_placed read p h (suc k) c q =
       let f : c + suc k ≤ m = q (omega arith) in
-      let rest = items-placed read p h k (c + 1) (λ z. omega (arith, f)) in
+      let rest = items_placed read p h k (c + 1) (λ z. omega (arith, f)) in
       items_if m (eqb (parent_of d c) h) (item (read c) (itemsFrom text d read h k (c + 1))) (itemsFrom text d read h k (c + 1)) (p c (omega (arith, f)), rest) rest
 
   pub entries_placed : (read : ℕ → Value) → ((i : ℕ) → i ≤ m → Placed (UpTo m) (read i)) → (kind h k c : ℕ) → (0 < k → c + k ≤ m) → PlacedEntries (UpTo m) (entriesFrom text d read kind h k c)
@@ -320,9 +320,9 @@ module _ (text : ℕ) (d : Doc) (m : ℕ) (few : count d ≤ m) where
       entries_if m (eqb (parent_of d c) h && eqb (kind_of d c) kind) (entry (placed text d c) (name_of d c) (read (c + 1)) (entriesFrom text d read kind h k (c + 1))) (entriesFrom text d read kind h k (c + 1))
       (omega (arith, f), p (c + 1) (omega (arith, f)), rest) rest
 
-  by-placed : (read : ℕ → Value) → ((i : ℕ) → i ≤ m → Placed (UpTo m) (read i)) → (i : ℕ) → i ≤ m → Placed (UpTo m) (valueBy text d read i)
+  by_placed : (read : ℕ → Value) → ((i : ℕ) → i ≤ m → Placed (UpTo m) (read i)) → (i : ℕ) → i ≤ m → Placed (UpTo m) (valueBy text d read i)
   unfolding Placed valueBy
-  by-placed read p i q =
+  by_placed read p i q =
       value_if m (eqb (kind_of d i) kind_variable) _ _ q
       (value_if m (eqb (kind_of d i) kind_integer) _ _ q
       (value_if m (eqb (kind_of d i) kind_float) _ _ q
@@ -330,11 +330,11 @@ module _ (text : ℕ) (d : Doc) (m : ℕ) (few : count d ≤ m) where
       (value_if m (eqb (kind_of d i) kind_boolean) _ _ q
       (value_if m (eqb (kind_of d i) kind_null) _ _ q
       (value_if m (eqb (kind_of d i) kind_enum) _ _ q
-      (value_if m (eqb (kind_of d i) kind_list) _ _ (q, items-placed read p i (count d - (i + 1)) (i + 1) (λ z. omega (arith, z, few)))
+      (value_if m (eqb (kind_of d i) kind_list) _ _ (q, items_placed read p i (count d - (i + 1)) (i + 1) (λ z. omega (arith, z, few)))
       (q, entries_placed read p kind_object_field i (count d - (i + 1)) (i + 1) (λ z. omega (arith, z, few))))))))))
 
   -- every place in the value of a row is a row of the text, or one past the last
   pub value_placed : (k i : ℕ) → i ≤ m → Placed (UpTo m) (value_at text d k i)
   unfolding Placed value_at
   value_placed zero i q = q
-  value_placed (suc k) i q = by-placed (value_at text d k) (λ j z. value_placed k j z) i q
+  value_placed (suc k) i q = by_placed (value_at text d k) (λ j z. value_placed k j z) i q

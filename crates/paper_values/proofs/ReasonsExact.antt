@@ -9,11 +9,11 @@ use Prim.Native.Nat.{ℕ}
 use native.Mathlib.Omega.{arith}
 use Rattle.paper_table.specs.References.{Ref, named, list_of, non_null, is_non_null}
 use Rattle.paper_values.specs.ValueNumbers.{reason_kind, reason_range, reason_missing, reason_null, reason_unknown, reason_repeated, reason_enum, reason_surrogate}
-use Rattle.paper_values.specs.Values.{Name, At, Value, variable, integer, float, string, boolean, null, enum, list, object, Values, no-values, item, Entries, Due, Tree, Null, Bits, Decimal, Text, Truth, Member, Many, Fields, Token, Trees, no_more, also, Pairs, pair, Out, Got, No, and_then}
+use Rattle.paper_values.specs.Values.{Name, At, Value, variable, integer, float, string, boolean, null, enum, list, object, Values, no_values, item, Entries, Due, Tree, Null, Bits, Decimal, Text, Truth, Member, Many, Fields, Token, Trees, no_more, also, Pairs, pair, Out, Got, No, and_then}
 use Rattle.paper_values.specs.Kinds.{Kind, Int, Float, String, Boolean, ID, Own, Other, Enum, Input}
 use Rattle.paper_values.specs.Computed.{null_at, held, coerce, coerce_all}
 use Rattle.paper_values.specs.Coercion.{heads, repeated_entry, unknown_entry}
-use Rattle.paper_values.specs.CoercionRules.{plain_value, single_value, as_input, valueFor, Coerces, at-non-null, list-of-one, no_object, entry-repeated, entry-unknown, an_object, InFields, no_fields, required-missing, left_out, field_refused, field-got}
+use Rattle.paper_values.specs.CoercionRules.{plain_value, single_value, as_input, valueFor, Coerces, at_non_null, list_of_one, no_object, entry_repeated, entry_unknown, an_object, InFields, no_fields, required_missing, left_out, field_refused, field_got}
 use Rattle.paper_values.proofs.CoercionExact.{coerces_is, coerces_has}
 use Rattle.paper_values.proofs.PlacesLaws.{Kept, Placed, value_kept}
 use Rattle.paper_values.proofs.ReasonTables.{takes, outside, no_member, no_text, place_of, why, true≢false, AtOwn, Cell, wrong_kind, inside, Judged, kind_told, range_told, enum_told, surrogate_told, integer_cell, float_cell, string_cell, boolean_cell, enum_cell}
@@ -53,8 +53,8 @@ module _ (kinds : Name → Kind) (vars : Name → Option Tree) where
   -- the first of those due that fails is a Non-Null without an entry: those before it are coerced, or may be left out
   pub data Lacks (es : Entries) : List Due → Type 0 where
     lacking : {d : Due} {ds : List Due} → valueFor kinds vars d.name es ≡ none → is_non_null d.type ≡ true → Lacks es (d ∷ ds)
-    after-left-out : {d : Due} {ds : List Due} → valueFor kinds vars d.name es ≡ none → is_non_null d.type ≡ false → Lacks es ds → Lacks es (d ∷ ds)
-    after-got : {d : Due} {ds : List Due} {t : Tree} (v : Value) → valueFor kinds vars d.name es ≡ some v → Coerces kinds vars v d.type (Got t) → Lacks es ds → Lacks es (d ∷ ds)
+    after_left_out : {d : Due} {ds : List Due} → valueFor kinds vars d.name es ≡ none → is_non_null d.type ≡ false → Lacks es ds → Lacks es (d ∷ ds)
+    after_got : {d : Due} {ds : List Due} {t : Tree} (v : Value) → valueFor kinds vars d.name es ≡ some v → Coerces kinds vars v d.type (Got t) → Lacks es ds → Lacks es (d ∷ ds)
 
   -- a refusal inside an object, at a place apart from its entries' values, is the object's for a field that is missing
   abbrev Outer : At → At → Entries → List Due → Out Pairs → Type 0
@@ -64,28 +64,28 @@ module _ (kinds : Name → Kind) (vars : Name → Option Tree) where
   pub refused_inside : (e : At) {j : At} {v : Value} {r : Ref} {w : ℕ} → Placed (λ k. k ≡ e → ⊥) v → Coerces kinds vars v r (No j w) → j ≡ e → ⊥
   refused_inside e {v = v} {r} p c = subst (λ (o : Out Tree). Kept (λ k. k ≡ e → ⊥) o) (coerces_is kinds vars c) (value_kept (λ k. k ≡ e → ⊥) kinds vars v p r)
 
-  outer-pair : (e i : At) (es : Entries) (d : Due) (ds : List Due) {t : Tree} (v : Value) (o : Out Pairs) → valueFor kinds vars d.name es ≡ some v → Coerces kinds vars v d.type (Got t)
+  outer_pair : (e i : At) (es : Entries) (d : Due) (ds : List Due) {t : Tree} (v : Value) (o : Out Pairs) → valueFor kinds vars d.name es ≡ some v → Coerces kinds vars v d.type (Got t)
       → Outer e i es ds o → Outer e i es (d ∷ ds) (and_then o (λ ps. Got (pair d.name t ps)))
-  outer-pair e i es d ds v (Got ps) q c h = tt
-  outer-pair e i es d ds v (No j w) q c h = λ z. ((h z).0, (h z).1, after-got v q c (h z).2)
+  outer_pair e i es d ds v (Got ps) q c h = tt
+  outer_pair e i es d ds v (No j w) q c h = λ z. ((h z).0, (h z).1, after_got v q c (h z).2)
 
-  outer-later : (e i : At) (es : Entries) (d : Due) (ds : List Due) (o : Out Pairs) → valueFor kinds vars d.name es ≡ none → is_non_null d.type ≡ false → Outer e i es ds o → Outer e i es (d ∷ ds) o
-  outer-later e i es d ds (Got ps) q l h = tt
-  outer-later e i es d ds (No j w) q l h = λ z. ((h z).0, (h z).1, after-left-out q l (h z).2)
+  outer_later : (e i : At) (es : Entries) (d : Due) (ds : List Due) (o : Out Pairs) → valueFor kinds vars d.name es ≡ none → is_non_null d.type ≡ false → Outer e i es ds o → Outer e i es (d ∷ ds) o
+  outer_later e i es d ds (Got ps) q l h = tt
+  outer_later e i es d ds (No j w) q l h = λ z. ((h z).0, (h z).1, after_left_out q l (h z).2)
 
   outer : (e : At) {i : At} {es : Entries} {ds : List Due} {o : Out Pairs} → Apart kinds vars e es → InFields kinds vars i es ds o → Outer e i es ds o
   outer e h no_fields = tt
-  outer e h (required-missing q l) = λ z. (refl, refl, lacking q l)
-  outer e h (left_out {i} {es} {d} {ds} {o} q l c) = outer-later e i es d ds o q l (outer e h c)
+  outer e h (required_missing q l) = λ z. (refl, refl, lacking q l)
+  outer e h (left_out {i} {es} {d} {ds} {o} q l c) = outer_later e i es d ds o q l (outer e h c)
   outer e h (field_refused {d = d} v q c) = λ z. absurd (refused_inside e (h d.name v q) c z)
-  outer e h (field-got {i} {es} {d} {ds} {o = o} v q c f g) = subst (λ (p : Out Pairs). Outer e i es (d ∷ ds) p) g (outer-pair e i es d ds v o q c (outer e h f))
+  outer e h (field_got {i} {es} {d} {ds} {o = o} v q c f g) = subst (λ (p : Out Pairs). Outer e i es (d ∷ ds) p) g (outer_pair e i es d ds v o q c (outer e h f))
 
   -- an object, by its rules: at what is no input object; for 6; for 5; for its fields
   pub data Refused (i : At) (es : Entries) (n : Name) : At → ℕ → Type 0 where
-    at-another-kind : as_input (kinds n) ≡ none → Refused i es n i reason_kind
-    for-repeated : {e : At} (ds : List Due) → as_input (kinds n) ≡ some ds → repeated_entry [] (heads es) ≡ some e → Refused i es n e reason_repeated
-    for-unknown : {e : At} (ds : List Due) → as_input (kinds n) ≡ some ds → repeated_entry [] (heads es) ≡ none → unknown_entry ds (heads es) ≡ some e → Refused i es n e reason_unknown
-    for-a-field : {e : At} {w : ℕ} (ds : List Due) → as_input (kinds n) ≡ some ds → repeated_entry [] (heads es) ≡ none → unknown_entry ds (heads es) ≡ none →
+    at_another_kind : as_input (kinds n) ≡ none → Refused i es n i reason_kind
+    for_repeated : {e : At} (ds : List Due) → as_input (kinds n) ≡ some ds → repeated_entry [] (heads es) ≡ some e → Refused i es n e reason_repeated
+    for_unknown : {e : At} (ds : List Due) → as_input (kinds n) ≡ some ds → repeated_entry [] (heads es) ≡ none → unknown_entry ds (heads es) ≡ some e → Refused i es n e reason_unknown
+    for_a_field : {e : At} {w : ℕ} (ds : List Due) → as_input (kinds n) ≡ some ds → repeated_entry [] (heads es) ≡ none → unknown_entry ds (heads es) ≡ none →
         InFields kinds vars i es ds (No e w) → Refused i es n e w
 
   pub no_fields_refused : (o : Out Pairs) {e : At} {w : ℕ} → and_then o (λ ps. Got (Fields ps)) ≡ No e w → o ≡ No e w
@@ -97,68 +97,68 @@ module _ (kinds : Name → Kind) (vars : Name → Option Tree) where
   RefusedAs i es n (Got t) = ⊥
   RefusedAs i es n (No e w) = Refused i es n e w
 
-  refused-by : {i e : At} {es : Entries} {n : Name} {w : ℕ} {o : Out Tree} → Coerces kinds vars (object i es) (named n) o → o ≡ No e w → Refused i es n e w
-  refused-by {i} {es = es} {n} (no_object q) z = subst (RefusedAs i es n) z (at-another-kind q)
-  refused-by {i} {es = es} {n} (entry-repeated ds q a) z = subst (RefusedAs i es n) z (for-repeated ds q a)
-  refused-by {i} {es = es} {n} (entry-unknown ds q a b) z = subst (RefusedAs i es n) z (for-unknown ds q a b)
-  refused-by {i} {es = es} (an_object {o = o} ds q a b c f) z = for-a-field ds q a b (subst (λ (x : Out Pairs). InFields kinds vars i es ds x) (no_fields_refused o (f ∙ z)) c)
+  refused_by : {i e : At} {es : Entries} {n : Name} {w : ℕ} {o : Out Tree} → Coerces kinds vars (object i es) (named n) o → o ≡ No e w → Refused i es n e w
+  refused_by {i} {es = es} {n} (no_object q) z = subst (RefusedAs i es n) z (at_another_kind q)
+  refused_by {i} {es = es} {n} (entry_repeated ds q a) z = subst (RefusedAs i es n) z (for_repeated ds q a)
+  refused_by {i} {es = es} {n} (entry_unknown ds q a b) z = subst (RefusedAs i es n) z (for_unknown ds q a b)
+  refused_by {i} {es = es} (an_object {o = o} ds q a b c f) z = for_a_field ds q a b (subst (λ (x : Out Pairs). InFields kinds vars i es ds x) (no_fields_refused o (f ∙ z)) c)
 
-  to-refused : {i e : At} {es : Entries} {n : Name} {w : ℕ} → Refused i es n e w → Coerces kinds vars (object i es) (named n) (No e w)
-  to-refused (at-another-kind q) = no_object q
-  to-refused (for-repeated ds q a) = entry-repeated ds q a
-  to-refused (for-unknown ds q a b) = entry-unknown ds q a b
-  to-refused (for-a-field ds q a b c) = an_object ds q a b c refl
+  to_refused : {i e : At} {es : Entries} {n : Name} {w : ℕ} → Refused i es n e w → Coerces kinds vars (object i es) (named n) (No e w)
+  to_refused (at_another_kind q) = no_object q
+  to_refused (for_repeated ds q a) = entry_repeated ds q a
+  to_refused (for_unknown ds q a b) = entry_unknown ds q a b
+  to_refused (for_a_field ds q a b c) = an_object ds q a b c refl
 
   pub object_refused_exactly : (i : At) (es : Entries) (n : Name) (e : At) (w : ℕ) → (coerce kinds vars (object i es) (named n) ≡ No e w) ↔ Refused i es n e w
-  object_refused_exactly i es n e w = (λ q. refused-by (coerces_has kinds vars (object i es) (named n)) q, λ r. coerces_is kinds vars (to-refused r))
+  object_refused_exactly i es n e w = (λ q. refused_by (coerces_has kinds vars (object i es) (named n)) q, λ r. coerces_is kinds vars (to_refused r))
 
   -- 3, where the object stands; 5 and 6, where an entry stands
-  lacks-refused : {es : Entries} {ds : List Due} (i : At) → Lacks es ds → InFields kinds vars i es ds (No i reason_missing)
-  lacks-refused i (lacking q l) = required-missing q l
-  lacks-refused i (after-left-out q l h) = left_out q l (lacks-refused i h)
-  lacks-refused i (after-got v q c h) = field-got v q c (lacks-refused i h) refl
+  lacks_refused : {es : Entries} {ds : List Due} (i : At) → Lacks es ds → InFields kinds vars i es ds (No i reason_missing)
+  lacks_refused i (lacking q l) = required_missing q l
+  lacks_refused i (after_left_out q l h) = left_out q l (lacks_refused i h)
+  lacks_refused i (after_got v q c h) = field_got v q c (lacks_refused i h) refl
 
   abbrev Missing : Entries → Name → Type 0
   Missing es n = (ds : List Due) × (as_input (kinds n) ≡ some ds) × (repeated_entry [] (heads es) ≡ none) × (unknown_entry ds (heads es) ≡ none) × Lacks es ds
 
-  missing-from : {i e : At} {es : Entries} {n : Name} {w : ℕ} → Apart kinds vars e es → Refused i es n e w → w ≡ reason_missing → Missing es n
-  missing-from h (at-another-kind q) z = absurd (omega (arith, z))
-  missing-from h (for-repeated ds q a) z = absurd (omega (arith, z))
-  missing-from h (for-unknown ds q a b) z = absurd (omega (arith, z))
-  missing-from {e = e} h (for-a-field ds q a b c) z = (ds, q, a, b, (outer e h c refl).2)
+  missing_from : {i e : At} {es : Entries} {n : Name} {w : ℕ} → Apart kinds vars e es → Refused i es n e w → w ≡ reason_missing → Missing es n
+  missing_from h (at_another_kind q) z = absurd (omega (arith, z))
+  missing_from h (for_repeated ds q a) z = absurd (omega (arith, z))
+  missing_from h (for_unknown ds q a b) z = absurd (omega (arith, z))
+  missing_from {e = e} h (for_a_field ds q a b c) z = (ds, q, a, b, (outer e h c refl).2)
 
   pub missing_exactly : (i : At) (es : Entries) (n : Name) → Apart kinds vars i es → (coerce kinds vars (object i es) (named n) ≡ No i reason_missing) ↔ Missing es n
   missing_exactly i es n h = (
-    λ q. missing-from h ((object_refused_exactly i es n i reason_missing).0 q) refl,
-    λ m. (object_refused_exactly i es n i reason_missing).1 (for-a-field m.0 m.1 m.2 m.3 (lacks-refused i m.4)),
+    λ q. missing_from h ((object_refused_exactly i es n i reason_missing).0 q) refl,
+    λ m. (object_refused_exactly i es n i reason_missing).1 (for_a_field m.0 m.1 m.2 m.3 (lacks_refused i m.4)),
   )
 
-  unknown-from : {i e : At} {es : Entries} {n : Name} {w : ℕ} → Apart kinds vars e es → Refused i es n e w → w ≡ reason_unknown →
+  unknown_from : {i e : At} {es : Entries} {n : Name} {w : ℕ} → Apart kinds vars e es → Refused i es n e w → w ≡ reason_unknown →
       (ds : List Due) × (as_input (kinds n) ≡ some ds) × (repeated_entry [] (heads es) ≡ none) × (unknown_entry ds (heads es) ≡ some e)
-  unknown-from h (at-another-kind q) z = absurd (omega (arith, z))
-  unknown-from h (for-repeated ds q a) z = absurd (omega (arith, z))
-  unknown-from h (for-unknown ds q a b) z = (ds, q, a, b)
-  unknown-from {e = e} h (for-a-field ds q a b c) z = absurd (omega (arith, z, (outer e h c refl).1))
+  unknown_from h (at_another_kind q) z = absurd (omega (arith, z))
+  unknown_from h (for_repeated ds q a) z = absurd (omega (arith, z))
+  unknown_from h (for_unknown ds q a b) z = (ds, q, a, b)
+  unknown_from {e = e} h (for_a_field ds q a b c) z = absurd (omega (arith, z, (outer e h c refl).1))
 
   pub unknown_exactly : (i : At) (es : Entries) (n : Name) (e : At) → Apart kinds vars e es →
       (coerce kinds vars (object i es) (named n) ≡ No e reason_unknown) ↔ ((ds : List Due) × (as_input (kinds n) ≡ some ds) × (repeated_entry [] (heads es) ≡ none) × (unknown_entry ds (heads es) ≡ some e))
   unknown_exactly i es n e h = (
-    λ q. unknown-from h ((object_refused_exactly i es n e reason_unknown).0 q) refl,
-    λ m. (object_refused_exactly i es n e reason_unknown).1 (for-unknown m.0 m.1 m.2 m.3),
+    λ q. unknown_from h ((object_refused_exactly i es n e reason_unknown).0 q) refl,
+    λ m. (object_refused_exactly i es n e reason_unknown).1 (for_unknown m.0 m.1 m.2 m.3),
   )
 
-  repeated-from : {i e : At} {es : Entries} {n : Name} {w : ℕ} → Apart kinds vars e es → Refused i es n e w → w ≡ reason_repeated →
+  repeated_from : {i e : At} {es : Entries} {n : Name} {w : ℕ} → Apart kinds vars e es → Refused i es n e w → w ≡ reason_repeated →
       (ds : List Due) × (as_input (kinds n) ≡ some ds) × (repeated_entry [] (heads es) ≡ some e)
-  repeated-from h (at-another-kind q) z = absurd (omega (arith, z))
-  repeated-from h (for-repeated ds q a) z = (ds, q, a)
-  repeated-from h (for-unknown ds q a b) z = absurd (omega (arith, z))
-  repeated-from {e = e} h (for-a-field ds q a b c) z = absurd (omega (arith, z, (outer e h c refl).1))
+  repeated_from h (at_another_kind q) z = absurd (omega (arith, z))
+  repeated_from h (for_repeated ds q a) z = (ds, q, a)
+  repeated_from h (for_unknown ds q a b) z = absurd (omega (arith, z))
+  repeated_from {e = e} h (for_a_field ds q a b c) z = absurd (omega (arith, z, (outer e h c refl).1))
 
   pub repeated_exactly : (i : At) (es : Entries) (n : Name) (e : At) → Apart kinds vars e es →
       (coerce kinds vars (object i es) (named n) ≡ No e reason_repeated) ↔ ((ds : List Due) × (as_input (kinds n) ≡ some ds) × (repeated_entry [] (heads es) ≡ some e))
   repeated_exactly i es n e h = (
-    λ q. repeated-from h ((object_refused_exactly i es n e reason_repeated).0 q) refl,
-    λ m. (object_refused_exactly i es n e reason_repeated).1 (for-repeated m.0 m.1 m.2),
+    λ q. repeated_from h ((object_refused_exactly i es n e reason_repeated).0 q) refl,
+    λ m. (object_refused_exactly i es n e reason_repeated).1 (for_repeated m.0 m.1 m.2),
   )
 
   -- ---- 1, 2, 7 and 8, where the value stands
@@ -167,29 +167,29 @@ module _ (kinds : Name → Kind) (vars : Name → Option Tree) where
   Whole i none o = o ≡ No i reason_kind
   Whole i (some ds) o = AtOwn i o
 
-  own-fields : (i : At) (es : Entries) (ds : List Due) (o : Out Pairs) → Outer i i es ds o → AtOwn i (and_then o (λ ps. Got (Fields ps)))
-  own-fields i es ds (Got ps) h = tt
-  own-fields i es ds (No j w) h = λ z. (omega (arith, (h z).1), omega (arith, (h z).1), λ x. omega (arith, x, (h z).1))
+  own_fields : (i : At) (es : Entries) (ds : List Due) (o : Out Pairs) → Outer i i es ds o → AtOwn i (and_then o (λ ps. Got (Fields ps)))
+  own_fields i es ds (Got ps) h = tt
+  own_fields i es ds (No j w) h = λ z. (omega (arith, (h z).1), omega (arith, (h z).1), λ x. omega (arith, x, (h z).1))
 
   whole : {i : At} {es : Entries} {n : Name} {o : Out Tree} → Apart kinds vars i es → Coerces kinds vars (object i es) (named n) o → Whole i (as_input (kinds n)) o
   whole {i} {o = o} h (no_object q) = subst (λ (m : Option (List Due)). Whole i m o) (sym q) refl
-  whole {i} {o = o} h (entry-repeated ds q a) = subst (λ (m : Option (List Due)). Whole i m o) (sym q) (λ z. (omega arith, omega arith, λ x. omega (arith, x)))
-  whole {i} {o = o} h (entry-unknown ds q a b) = subst (λ (m : Option (List Due)). Whole i m o) (sym q) (λ z. (omega arith, omega arith, λ x. omega (arith, x)))
-  whole {i} {es} {o = o} h (an_object {o = ps} ds q a b c f) = subst (λ (m : Option (List Due)). Whole i m o) (sym q) (subst (AtOwn i) f (own-fields i es ds ps (outer i h c)))
+  whole {i} {o = o} h (entry_repeated ds q a) = subst (λ (m : Option (List Due)). Whole i m o) (sym q) (λ z. (omega arith, omega arith, λ x. omega (arith, x)))
+  whole {i} {o = o} h (entry_unknown ds q a b) = subst (λ (m : Option (List Due)). Whole i m o) (sym q) (λ z. (omega arith, omega arith, λ x. omega (arith, x)))
+  whole {i} {es} {o = o} h (an_object {o = ps} ds q a b c f) = subst (λ (m : Option (List Due)). Whole i m o) (sym q) (subst (AtOwn i) f (own_fields i es ds ps (outer i h c)))
 
   wrong : (i : At) (o : Out Tree) → o ≡ No i reason_kind → Cell i false false false false o
   wrong i o q = subst (Cell i false false false false) (sym q) wrong_kind
 
-  object-cell : (i : At) (es : Entries) (k : Kind) (o : Out Tree) → Whole i (as_input k) o → Judged (object i es) k o
-  object-cell i es Int o h = wrong i o h
-  object-cell i es Float o h = wrong i o h
-  object-cell i es String o h = wrong i o h
-  object-cell i es Boolean o h = wrong i o h
-  object-cell i es ID o h = wrong i o h
-  object-cell i es Own o h = wrong i o h
-  object-cell i es Other o h = wrong i o h
-  object-cell i es (Enum ms) o h = wrong i o h
-  object-cell i es (Input ds) o h = inside h
+  object_cell : (i : At) (es : Entries) (k : Kind) (o : Out Tree) → Whole i (as_input k) o → Judged (object i es) k o
+  object_cell i es Int o h = wrong i o h
+  object_cell i es Float o h = wrong i o h
+  object_cell i es String o h = wrong i o h
+  object_cell i es Boolean o h = wrong i o h
+  object_cell i es ID o h = wrong i o h
+  object_cell i es Own o h = wrong i o h
+  object_cell i es Other o h = wrong i o h
+  object_cell i es (Enum ms) o h = wrong i o h
+  object_cell i es (Input ds) o h = inside h
 
   cell : (v : Value) (n : Name) → plain_value v ≡ true → ApartInside kinds vars v → Judged v (kinds n) (coerce kinds vars v (named n))
   unfolding coerce
@@ -201,7 +201,7 @@ module _ (kinds : Name → Kind) (vars : Name → Option Tree) where
   cell (null i) n p h = absurd (true≢false (sym p))
   cell (enum i e) n p h = enum_cell i e (kinds n)
   cell (list i vs) n p h = wrong_kind
-  cell (object i es) n p h = object-cell i es (kinds n) _ (whole h (coerces_has kinds vars (object i es) (named n)))
+  cell (object i es) n p h = object_cell i es (kinds n) _ (whole h (coerces_has kinds vars (object i es) (named n)))
 
   pub kind_exactly : (v : Value) (n : Name) → plain_value v ≡ true → ApartInside kinds vars v → (coerce kinds vars v (named n) ≡ No (place_of v) reason_kind) ↔ (takes v (kinds n) ≡ false)
   kind_exactly v n p h = kind_told (cell v n p h)
@@ -217,75 +217,75 @@ module _ (kinds : Name → Kind) (vars : Name → Option Tree) where
 
   -- ---- null, and the wrappers
 
-  null-told : (i : At) (r : Ref) → (null_at i r ≡ No i reason_null) ↔ (is_non_null r ≡ true)
-  null-told i (named n) = (λ q. absurd (omega (arith, ap why q)), λ q. absurd (true≢false (sym q)))
-  null-told i (list_of r) = (λ q. absurd (omega (arith, ap why q)), λ q. absurd (true≢false (sym q)))
-  null-told i (non_null r) = (λ q. refl, λ q. refl)
+  null_told : (i : At) (r : Ref) → (null_at i r ≡ No i reason_null) ↔ (is_non_null r ≡ true)
+  null_told i (named n) = (λ q. absurd (omega (arith, ap why q)), λ q. absurd (true≢false (sym q)))
+  null_told i (list_of r) = (λ q. absurd (omega (arith, ap why q)), λ q. absurd (true≢false (sym q)))
+  null_told i (non_null r) = (λ q. refl, λ q. refl)
 
   pub null_exactly : (i : At) (r : Ref) → (coerce kinds vars (null i) r ≡ No i reason_null) ↔ (is_non_null r ≡ true)
   unfolding coerce
-  null_exactly i r = null-told i r
+  null_exactly i r = null_told i r
 
-  held-told : (i : At) (r : Ref) (m : Option Tree) → (held kinds vars i r m ≡ No i reason_null) ↔ ((as_null m ≡ true) × (is_non_null r ≡ true))
-  held-told i r none = (λ q. (refl, (null-told i r).0 q), λ h. (null-told i r).1 h.1)
-  held-told i r (some Null) = (λ q. (refl, (null-told i r).0 q), λ h. (null-told i r).1 h.1)
-  held-told i r (some (Bits x)) = (λ q. absurd (omega (arith, ap why q)), λ h. absurd (true≢false (sym h.0)))
-  held-told i r (some (Decimal s)) = (λ q. absurd (omega (arith, ap why q)), λ h. absurd (true≢false (sym h.0)))
-  held-told i r (some (Text s)) = (λ q. absurd (omega (arith, ap why q)), λ h. absurd (true≢false (sym h.0)))
-  held-told i r (some (Truth b)) = (λ q. absurd (omega (arith, ap why q)), λ h. absurd (true≢false (sym h.0)))
-  held-told i r (some (Member n)) = (λ q. absurd (omega (arith, ap why q)), λ h. absurd (true≢false (sym h.0)))
-  held-told i r (some (Many ts)) = (λ q. absurd (omega (arith, ap why q)), λ h. absurd (true≢false (sym h.0)))
-  held-told i r (some (Fields ps)) = (λ q. absurd (omega (arith, ap why q)), λ h. absurd (true≢false (sym h.0)))
-  held-told i r (some (Token s)) = (λ q. absurd (omega (arith, ap why q)), λ h. absurd (true≢false (sym h.0)))
+  held_told : (i : At) (r : Ref) (m : Option Tree) → (held kinds vars i r m ≡ No i reason_null) ↔ ((as_null m ≡ true) × (is_non_null r ≡ true))
+  held_told i r none = (λ q. (refl, (null_told i r).0 q), λ h. (null_told i r).1 h.1)
+  held_told i r (some Null) = (λ q. (refl, (null_told i r).0 q), λ h. (null_told i r).1 h.1)
+  held_told i r (some (Bits x)) = (λ q. absurd (omega (arith, ap why q)), λ h. absurd (true≢false (sym h.0)))
+  held_told i r (some (Decimal s)) = (λ q. absurd (omega (arith, ap why q)), λ h. absurd (true≢false (sym h.0)))
+  held_told i r (some (Text s)) = (λ q. absurd (omega (arith, ap why q)), λ h. absurd (true≢false (sym h.0)))
+  held_told i r (some (Truth b)) = (λ q. absurd (omega (arith, ap why q)), λ h. absurd (true≢false (sym h.0)))
+  held_told i r (some (Member n)) = (λ q. absurd (omega (arith, ap why q)), λ h. absurd (true≢false (sym h.0)))
+  held_told i r (some (Many ts)) = (λ q. absurd (omega (arith, ap why q)), λ h. absurd (true≢false (sym h.0)))
+  held_told i r (some (Fields ps)) = (λ q. absurd (omega (arith, ap why q)), λ h. absurd (true≢false (sym h.0)))
+  held_told i r (some (Token s)) = (λ q. absurd (omega (arith, ap why q)), λ h. absurd (true≢false (sym h.0)))
 
   pub null_variable_exactly : (i : At) (n : Name) (r : Ref) → (coerce kinds vars (variable i n) r ≡ No i reason_null) ↔ ((as_null (vars n) ≡ true) × (is_non_null r ≡ true))
   unfolding coerce
-  null_variable_exactly i n r = held-told i r (vars n)
+  null_variable_exactly i n r = held_told i r (vars n)
 
   -- what is neither null nor a variable is at a Non-Null type what it is inside; what is no list is refused as a list of one as it is itself
   pub non_null_same : (v : Value) (r : Ref) → plain_value v ≡ true → coerce kinds vars v (non_null r) ≡ coerce kinds vars v r
-  non_null_same v r p = coerces_is kinds vars (at-non-null p (coerces_has kinds vars v r))
+  non_null_same v r p = coerces_is kinds vars (at_non_null p (coerces_has kinds vars v r))
 
-  one-refused : (o : Out Tree) {e : At} {w : ℕ} → (and_then o (λ t. Got (Many (also t no_more))) ≡ No e w) ↔ (o ≡ No e w)
-  one-refused (Got t) = (λ q. let z : ◌≡◌ {A = ℕ} 0 1 = cc in absurd (omega (arith, z)), λ q. let z : ◌≡◌ {A = ℕ} 0 1 = cc in absurd (omega (arith, z)))
-  one-refused (No j x) = (λ q. cc, λ q. cc)
+  one_refused : (o : Out Tree) {e : At} {w : ℕ} → (and_then o (λ t. Got (Many (also t no_more))) ≡ No e w) ↔ (o ≡ No e w)
+  one_refused (Got t) = (λ q. let z : ◌≡◌ {A = ℕ} 0 1 = cc in absurd (omega (arith, z)), λ q. let z : ◌≡◌ {A = ℕ} 0 1 = cc in absurd (omega (arith, z)))
+  one_refused (No j x) = (λ q. cc, λ q. cc)
 
   pub list_of_one_refused : (v : Value) (r : Ref) (e : At) (w : ℕ) → single_value v ≡ true → (coerce kinds vars v (list_of r) ≡ No e w) ↔ (coerce kinds vars v r ≡ No e w)
   list_of_one_refused v r e w p =
-      let s = coerces_is kinds vars (list-of-one p (coerces_has kinds vars v r) refl) in
-      (λ q. (one-refused (coerce kinds vars v r)).0 (sym s ∙ q), λ q. s ∙ (one-refused (coerce kinds vars v r)).1 q)
+      let s = coerces_is kinds vars (list_of_one p (coerces_has kinds vars v r) refl) in
+      (λ q. (one_refused (coerce kinds vars v r)).0 (sym s ∙ q), λ q. s ∙ (one_refused (coerce kinds vars v r)).1 q)
 
   -- a list: an item is refused so, and those before it are coerced
   pub data RefusedItem (r : Ref) (e : At) (w : ℕ) : Values → Type 0 where
-    this-item : {v : Value} {vs : Values} → coerce kinds vars v r ≡ No e w → RefusedItem r e w (item v vs)
-    later-item : {v : Value} {vs : Values} (t : Tree) → coerce kinds vars v r ≡ Got t → RefusedItem r e w vs → RefusedItem r e w (item v vs)
+    this_item : {v : Value} {vs : Values} → coerce kinds vars v r ≡ No e w → RefusedItem r e w (item v vs)
+    later_item : {v : Value} {vs : Values} (t : Tree) → coerce kinds vars v r ≡ Got t → RefusedItem r e w vs → RefusedItem r e w (item v vs)
 
-  rest-refused : (t : Tree) (o : Out Trees) {e : At} {w : ℕ} → and_then o (λ ts. Got (also t ts)) ≡ No e w → o ≡ No e w
-  rest-refused t (Got ts) q = let z : ◌≡◌ {A = ℕ} 0 1 = cc in absurd (omega (arith, z))
-  rest-refused t (No j x) q = cc
+  rest_refused : (t : Tree) (o : Out Trees) {e : At} {w : ℕ} → and_then o (λ ts. Got (also t ts)) ≡ No e w → o ≡ No e w
+  rest_refused t (Got ts) q = let z : ◌≡◌ {A = ℕ} 0 1 = cc in absurd (omega (arith, z))
+  rest_refused t (No j x) q = cc
 
-  many-refused : (o : Out Trees) {e : At} {w : ℕ} → (and_then o (λ ts. Got (Many ts)) ≡ No e w) ↔ (o ≡ No e w)
-  many-refused (Got ts) = (λ q. let z : ◌≡◌ {A = ℕ} 0 1 = cc in absurd (omega (arith, z)), λ q. let z : ◌≡◌ {A = ℕ} 0 1 = cc in absurd (omega (arith, z)))
-  many-refused (No j x) = (λ q. cc, λ q. cc)
+  many_refused : (o : Out Trees) {e : At} {w : ℕ} → (and_then o (λ ts. Got (Many ts)) ≡ No e w) ↔ (o ≡ No e w)
+  many_refused (Got ts) = (λ q. let z : ◌≡◌ {A = ℕ} 0 1 = cc in absurd (omega (arith, z)), λ q. let z : ◌≡◌ {A = ℕ} 0 1 = cc in absurd (omega (arith, z)))
+  many_refused (No j x) = (λ q. cc, λ q. cc)
 
   item_by : (v : Value) (vs : Values) (r : Ref) (e : At) (w : ℕ) (o : Out Tree) → coerce kinds vars v r ≡ o → and_then o (λ t. and_then (coerce_all kinds vars vs r) (λ ts. Got (also t ts))) ≡ No e w →
       (coerce_all kinds vars vs r ≡ No e w → RefusedItem r e w vs) → RefusedItem r e w (item v vs)
-  item_by v vs r e w (Got t) c z f = later-item t c (f (rest-refused t (coerce_all kinds vars vs r) z))
-  item_by v vs r e w (No j x) c z f = let y : ◌≡◌ {A = Out Tree} (No j x) (No e w) = cc in this-item (c ∙ y)
+  item_by v vs r e w (Got t) c z f = later_item t c (f (rest_refused t (coerce_all kinds vars vs r) z))
+  item_by v vs r e w (No j x) c z f = let y : ◌≡◌ {A = Out Tree} (No j x) (No e w) = cc in this_item (c ∙ y)
 
   item_from : (vs : Values) (r : Ref) (e : At) (w : ℕ) → coerce_all kinds vars vs r ≡ No e w → RefusedItem r e w vs
   unfolding coerce
-  item_from no-values r e w q = let z : ◌≡◌ {A = ℕ} 0 1 = cc in absurd (omega (arith, z))
+  item_from no_values r e w q = let z : ◌≡◌ {A = ℕ} 0 1 = cc in absurd (omega (arith, z))
   item_from (item v vs) r e w q = item_by v vs r e w (coerce kinds vars v r) refl q (λ z. item_from vs r e w z)
 
   to_item : {r : Ref} {e : At} {w : ℕ} {vs : Values} → RefusedItem r e w vs → coerce_all kinds vars vs r ≡ No e w
   unfolding coerce
-  to_item (this-item q) = rw q
-  to_item (later-item t q h) = rw (q, to_item h)
+  to_item (this_item q) = rw q
+  to_item (later_item t q h) = rw (q, to_item h)
 
   pub list_refused_exactly : (i : At) (vs : Values) (r : Ref) (e : At) (w : ℕ) → (coerce kinds vars (list i vs) (list_of r) ≡ No e w) ↔ RefusedItem r e w vs
   unfolding coerce
   list_refused_exactly i vs r e w = (
-    λ q. item_from vs r e w ((many-refused (coerce_all kinds vars vs r)).0 q),
-    λ h. (many-refused (coerce_all kinds vars vs r)).1 (to_item h),
+    λ q. item_from vs r e w ((many_refused (coerce_all kinds vars vs r)).0 q),
+    λ h. (many_refused (coerce_all kinds vars vs r)).1 (to_item h),
   )

@@ -10,7 +10,7 @@ use Rattle.paper_table.specs.References.{Ref, named, list_of, non_null, base_of}
 use Rattle.paper_query.specs.Constructs.{Doc, kind_of, parent_of, name_of}
 use Rattle.paper_query.specs.PlaceTypes.{wrappers_of}
 use Rattle.paper_values.specs.Characters.{utf8, unicode_escape, escape, written, characters_from, characters_of}
-use Rattle.paper_values.specs.Values.{Value, integer, string, list, object, no-values, item, no-entries, entry}
+use Rattle.paper_values.specs.Values.{Value, integer, string, list, object, no_values, item, no_entries, entry}
 use Rattle.paper_values.specs.RowValues.{ref_of_wrappers, placed, itemsFrom, entriesFrom, valueBy, value_at, arguments_at}
 use mathlib.Core.Option.{some}
 
@@ -73,9 +73,9 @@ sample = record {
       line 1 0 20 2048 0 0 ∷ line 3 1 19 0 1 1 ∷ line 6 3 10 1 3 1 ∷ line 28 5 10 2 0 0 ∷ line 10 6 9 3 6 1 ∷ line 21 8 9 4 0 0 ∷ line 6 11 18 1 11 1 ∷ line 27 13 18 6 0 0 ∷ line 23 14 17 7 0 0 ∷ [];
 }
 
-pub sample-arguments :
+pub sample_arguments :
     arguments_at 0 sample 1 ≡
-    entry (placed 0 sample 2) (bytes "i") (object (placed 0 sample 3) (entry (placed 0 sample 4) (bytes "n") (integer (placed 0 sample 5) (bytes "1")) no-entries))
-    (entry (placed 0 sample 6) (bytes "k") (list (placed 0 sample 7) (item (string (placed 0 sample 8) (0x22 ∷ 97 ∷ 0x22 ∷ []) (some (bytes "a"))) no-values)) no-entries)
+    entry (placed 0 sample 2) (bytes "i") (object (placed 0 sample 3) (entry (placed 0 sample 4) (bytes "n") (integer (placed 0 sample 5) (bytes "1")) no_entries))
+    (entry (placed 0 sample 6) (bytes "k") (list (placed 0 sample 7) (item (string (placed 0 sample 8) (0x22 ∷ 97 ∷ 0x22 ∷ []) (some (bytes "a"))) no_values)) no_entries)
 unfolding itemsFrom entriesFrom valueBy value_at utf8 unicode_escape escape written characters_from characters_of
-sample-arguments = refl
+sample_arguments = refl

@@ -12,7 +12,7 @@ use mathlib.Core.List.{List, [], ◌∷◌, map}
 use Rattle.paper_table.specs.Types.{Argument}
 use Rattle.paper_query.specs.Constructs.{Doc, count, kind_of, parent_of, name_of}
 use Rattle.paper_query.specs.Enclosing.{FieldIs, typename, member, missing, unknown}
-use Rattle.paper_values.specs.Values.{Name, At, Value, Values, item, Entries, no-entries, entry, Tree}
+use Rattle.paper_values.specs.Values.{Name, At, Value, Values, item, Entries, no_entries, entry, Tree}
 use Rattle.paper_values.specs.Kinds.{Kind, due_argument}
 use Rattle.paper_values.specs.Coercion.{leftOut}
 use Rattle.paper_values.specs.CoercionRules.{valueFor}
@@ -41,35 +41,35 @@ module _ (P : At → Type 0) where
 
   -- an entry that is found is one of them
   module _ (kinds : Name → Kind) (vars : Name → Option Tree) where
-    found-if : (b c : Bool) (v w : Value) (m : Option Value) → Placed P w → (m ≡ some v → Placed P v) → cond b (cond c none (some w)) m ≡ some v → Placed P v
-    found-if true true v w m p h q = absurd (none≢some q)
-    found-if true false v w m p h q = let e : w ≡ v = cc in subst (Placed P) e p
-    found-if false c v w m p h q = h q
+    found_if : (b c : Bool) (v w : Value) (m : Option Value) → Placed P w → (m ≡ some v → Placed P v) → cond b (cond c none (some w)) m ≡ some v → Placed P v
+    found_if true true v w m p h q = absurd (none≢some q)
+    found_if true false v w m p h q = let e : w ≡ v = cc in subst (Placed P) e p
+    found_if false c v w m p h q = h q
 
-    entry-placed : (es : Entries) → PlacedEntries P es → (n : Name) (v : Value) → valueFor kinds vars n es ≡ some v → Placed P v
+    entry_placed : (es : Entries) → PlacedEntries P es → (n : Name) (v : Value) → valueFor kinds vars n es ≡ some v → Placed P v
     unfolding Placed
-    entry-placed no-entries p n v q = absurd (none≢some q)
-    entry-placed (entry i m w es) p n v q = found-if (same n m) (leftOut kinds vars w) v w (valueFor kinds vars n es) p.1 (λ z. entry-placed es p.2 n v z) q
+    entry_placed no_entries p n v q = absurd (none≢some q)
+    entry_placed (entry i m w es) p n v q = found_if (same n m) (leftOut kinds vars w) v w (valueFor kinds vars n es) p.1 (λ z. entry_placed es p.2 n v z) q
 
   module _ (text : ℕ) (d : Doc) (i : ℕ) (later : (c : ℕ) → i < c → P (placed text d c)) where
-    items-later : (read : ℕ → Value) → ((c : ℕ) → i < c → Placed P (read c)) → (h k c : ℕ) → i < c → PlacedAll P (itemsFrom text d read h k c)
+    items_later : (read : ℕ → Value) → ((c : ℕ) → i < c → Placed P (read c)) → (h k c : ℕ) → i < c → PlacedAll P (itemsFrom text d read h k c)
     unfolding Placed itemsFrom
-    items-later read p h zero c l = tt
-    items-later read p h (suc k) c l =
-        let rest = items-later read p h k (c + 1) (omega arith) in
+    items_later read p h zero c l = tt
+    items_later read p h (suc k) c l =
+        let rest = items_later read p h k (c + 1) (omega arith) in
         items_if (eqb (parent_of d c) h) (item (read c) (itemsFrom text d read h k (c + 1))) (itemsFrom text d read h k (c + 1)) (p c l, rest) rest
 
-    entries-later : (read : ℕ → Value) → ((c : ℕ) → i < c → Placed P (read c)) → (kind h k c : ℕ) → i < c → PlacedEntries P (entriesFrom text d read kind h k c)
+    entries_later : (read : ℕ → Value) → ((c : ℕ) → i < c → Placed P (read c)) → (kind h k c : ℕ) → i < c → PlacedEntries P (entriesFrom text d read kind h k c)
     unfolding Placed entriesFrom
-    entries-later read p kind h zero c l = tt
-    entries-later read p kind h (suc k) c l =
-        let rest = entries-later read p kind h k (c + 1) (omega arith) in
+    entries_later read p kind h zero c l = tt
+    entries_later read p kind h (suc k) c l =
+        let rest = entries_later read p kind h k (c + 1) (omega arith) in
         entries_if (eqb (parent_of d c) h && eqb (kind_of d c) kind) (entry (placed text d c) (name_of d c) (read (c + 1)) (entriesFrom text d read kind h k (c + 1))) (entriesFrom text d read kind h k (c + 1))
         (later c l, p (c + 1) (omega arith), rest) rest
 
-    by-later : (read : ℕ → Value) → ((c : ℕ) → i < c → Placed P (read c)) → (c : ℕ) → i < c → Placed P (valueBy text d read c)
+    by_later : (read : ℕ → Value) → ((c : ℕ) → i < c → Placed P (read c)) → (c : ℕ) → i < c → Placed P (valueBy text d read c)
     unfolding Placed valueBy
-    by-later read p c l =
+    by_later read p c l =
         value_if (eqb (kind_of d c) kind_variable) _ _ (later c l)
         (value_if (eqb (kind_of d c) kind_integer) _ _ (later c l)
         (value_if (eqb (kind_of d c) kind_float) _ _ (later c l)
@@ -77,13 +77,13 @@ module _ (P : At → Type 0) where
         (value_if (eqb (kind_of d c) kind_boolean) _ _ (later c l)
         (value_if (eqb (kind_of d c) kind_null) _ _ (later c l)
         (value_if (eqb (kind_of d c) kind_enum) _ _ (later c l)
-        (value_if (eqb (kind_of d c) kind_list) _ _ (later c l, items-later read p c (count d - (c + 1)) (c + 1) (omega arith))
-        (later c l, entries-later read p kind_object_field c (count d - (c + 1)) (c + 1) (omega arith)))))))))
+        (value_if (eqb (kind_of d c) kind_list) _ _ (later c l, items_later read p c (count d - (c + 1)) (c + 1) (omega arith))
+        (later c l, entries_later read p kind_object_field c (count d - (c + 1)) (c + 1) (omega arith)))))))))
 
-    value-later : (k c : ℕ) → i < c → Placed P (value_at text d k c)
+    value_later : (k c : ℕ) → i < c → Placed P (value_at text d k c)
     unfolding Placed value_at
-    value-later zero c l = later c l
-    value-later (suc k) c l = by-later (value_at text d k) (λ j z. value-later k j z) c l
+    value_later zero c l = later c l
+    value_later (suc k) c l = by_later (value_at text d k) (λ j z. value_later k j z) c l
 
 -- the value of every row
 module _ (kinds : Name → Kind) (vars : Name → Option Tree) (text : ℕ) (d : Doc) where
@@ -94,10 +94,10 @@ module _ (kinds : Name → Kind) (vars : Name → Option Tree) (text : ℕ) (d :
   other_row : (i c : ℕ) → i < c → placed text d c ≡ placed text d i → ⊥
   other_row i c l q = let e = ap (λ (j : At). j.row) q in omega (arith, e)
 
-  entries-apart : (kind k i c n : ℕ) → i < c → Apart kinds vars (placed text d i) (entriesFrom text d (value_at text d k) kind i n c)
-  entries-apart kind k i c n l =
-      entry-placed (λ j. j ≡ placed text d i → ⊥) kinds vars _
-      (entries-later (λ j. j ≡ placed text d i → ⊥) text d i (other_row i) (value_at text d k) (value-later (λ j. j ≡ placed text d i → ⊥) text d i (other_row i) k) kind i n c l)
+  entries_apart : (kind k i c n : ℕ) → i < c → Apart kinds vars (placed text d i) (entriesFrom text d (value_at text d k) kind i n c)
+  entries_apart kind k i c n l =
+      entry_placed (λ j. j ≡ placed text d i → ⊥) kinds vars _
+      (entries_later (λ j. j ≡ placed text d i → ⊥) text d i (other_row i) (value_at text d k) (value_later (λ j. j ≡ placed text d i → ⊥) text d i (other_row i) k) kind i n c l)
 
   pub row_apart : (k i : ℕ) → ApartInside kinds vars (value_at text d k i)
   unfolding value_at valueBy
@@ -110,11 +110,11 @@ module _ (kinds : Name → Kind) (vars : Name → Option Tree) (text : ℕ) (d :
       (apart_if (eqb (kind_of d i) kind_boolean) _ _ tt
       (apart_if (eqb (kind_of d i) kind_null) _ _ tt
       (apart_if (eqb (kind_of d i) kind_enum) _ _ tt
-      (apart_if (eqb (kind_of d i) kind_list) _ _ tt (entries-apart kind_object_field k i (i + 1) (count d - (i + 1)) (omega arith)))))))))
+      (apart_if (eqb (kind_of d i) kind_list) _ _ tt (entries_apart kind_object_field k i (i + 1) (count d - (i + 1)) (omega arith)))))))))
 
   -- the arguments of the field at a row
   pub arguments_apart : (i : ℕ) → Apart kinds vars (placed text d i) (arguments_at text d i)
-  arguments_apart i = entries-apart kind_argument (suc most_levels) i (i + 1) (count d - (i + 1)) (omega arith)
+  arguments_apart i = entries_apart kind_argument (suc most_levels) i (i + 1) (count d - (i + 1)) (omega arith)
 
 -- what the variables text gives stands in another text than the document's rows
 other_text : (d : Doc) (e : At) → e.text ≡ input_document → (c : ℕ) → placed input_variables d c ≡ e → ⊥
@@ -122,9 +122,9 @@ other_text d e t c q = let z = ap (λ (j : At). j.text) q in omega (arith, z, t)
 
 pub given_apart : (kinds : Name → Kind) (vars : Name → Option Tree) (d : Doc) (e : At) → e.text ≡ input_document → Apart kinds vars e (given_in d)
 given_apart kinds vars d e t =
-    entry-placed (λ j. j ≡ e → ⊥) kinds vars _
-    (entries-later (λ j. j ≡ e → ⊥) input_variables d 0 (λ c l. other_text d e t c) (value_at input_variables d (suc most_levels))
-    (value-later (λ j. j ≡ e → ⊥) input_variables d 0 (λ c l. other_text d e t c) (suc most_levels)) kind_object_field 0 (count d - 1) 1 (omega arith))
+    entry_placed (λ j. j ≡ e → ⊥) kinds vars _
+    (entries_later (λ j. j ≡ e → ⊥) input_variables d 0 (λ c l. other_text d e t c) (value_at input_variables d (suc most_levels))
+    (value_later (λ j. j ≡ e → ⊥) input_variables d 0 (λ c l. other_text d e t c) (suc most_levels)) kind_object_field 0 (count d - 1) 1 (omega arith))
 
 -- an argument has no default so far
 no_defaults : (kinds : Name → Kind) (e i : At) (bs : List Argument) → ApartDefaults e (duly kinds (map due_argument bs) i)

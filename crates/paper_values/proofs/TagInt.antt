@@ -20,9 +20,9 @@ use Rattle.paper_values.specs.Encoding.{encode}
 use Rattle.paper_values.proofs.IntExact.{int_number, int_outside, int_refused}
 
 module _ (kinds : Name → Kind) (vars : Name → Option Tree) where
-  at-int : (i : At) (s : List ℕ) (n : Name) → kinds n ≡ Int → coerce kinds vars (integer i s) (named n) ≡ in_range i Bits (int_of s)
+  at_int : (i : At) (s : List ℕ) (n : Name) → kinds n ≡ Int → coerce kinds vars (integer i s) (named n) ≡ in_range i Bits (int_of s)
   unfolding coerce
-  at-int i s n k = ap (integer_at i s) k
+  at_int i s n k = ap (integer_at i s) k
 
   pub bits_in : (i : At) (x : ℕ) (o : Option ℕ) → in_range i Bits o ≡ Got (Bits x) → o ≡ some x
   bits_in i x none q = let z : ◌≡◌ {A = ℕ} 0 1 = cc in absurd (omega (arith, z))
@@ -36,13 +36,13 @@ module _ (kinds : Name → Kind) (vars : Name → Option Tree) where
   pub tag_int_exact : (i : At) (b : ℕ) (bs : List ℕ) (n : Name) (x : ℕ) → kinds n ≡ Int → coerce kinds vars (integer i (b ∷ bs)) (named n) ≡ Got (Bits x) →
       (encode (Bits x) ≡ 33 ∷ 0 ∷ 4 ∷ four_bytes x) × (number_held x ≡ number_written (b ∷ bs))
   unfolding encode
-  tag_int_exact i b bs n x k q = (refl, (int_number b bs x (bits_in i x (int_of (b ∷ bs)) (sym (at-int i (b ∷ bs) n k) ∙ q))).1)
+  tag_int_exact i b bs n x k q = (refl, (int_number b bs x (bits_in i x (int_of (b ∷ bs)) (sym (at_int i (b ∷ bs) n k) ∙ q))).1)
 
   pub int_refused_exactly : (i : At) (b : ℕ) (bs : List ℕ) (n : Name) → kinds n ≡ Int →
       (coerce kinds vars (integer i (b ∷ bs)) (named n) ≡ No i reason_range) ↔ (is_int (number_written (b ∷ bs)) ≡ false)
   int_refused_exactly i b bs n k = (
-    λ q. int_outside b bs (none_in i (int_of (b ∷ bs)) (sym (at-int i (b ∷ bs) n k) ∙ q)),
-    λ h. at-int i (b ∷ bs) n k ∙ ap (in_range i Bits) (int_refused b bs h),
+    λ q. int_outside b bs (none_in i (int_of (b ∷ bs)) (sym (at_int i (b ∷ bs) n k) ∙ q)),
+    λ h. at_int i (b ∷ bs) n k ∙ ap (in_range i Bits) (int_refused b bs h),
   )
 
   -- within the range it has bits
@@ -54,6 +54,6 @@ module _ (kinds : Name → Kind) (vars : Name → Option Tree) where
       (x : ℕ) × (coerce kinds vars (integer i (b ∷ bs)) (named n) ≡ Got (Bits x)) × (encode (Bits x) ≡ 33 ∷ 0 ∷ 4 ∷ four_bytes x) × (number_held x ≡ number_written (b ∷ bs))
   int_held i b bs n k h =
       let e = either_way i (int_of (b ∷ bs)) (is_int (number_written (b ∷ bs))) (int_outside b bs) h in
-      let q = at-int i (b ∷ bs) n k ∙ e.1 in
+      let q = at_int i (b ∷ bs) n k ∙ e.1 in
       let f = tag_int_exact i b bs n e.0 k q in
       (e.0, q, f.0, f.1)

@@ -23,11 +23,11 @@ narrowed_int_of (b ∷ bs) =
     (cond (leb (narrowed (value_of (b ∷ bs))) 2147483647) (some (narrowed (value_of (b ∷ bs)))) none)
 
 -- it takes 4294967297 for 1, -4294967297 for −1, 4294967296 for 0
-pub narrowed-takes :
+pub narrowed_takes :
     narrowed_int_of (bytes "4294967297") ∷ narrowed_int_of (bytes "-4294967297") ∷ narrowed_int_of (bytes "4294967296") ∷ narrowed_int_of (bytes "6442450944") ∷ [] ≡
     some 1 ∷ some 4294967295 ∷ some 0 ∷ none ∷ []
 unfolding value_from
-narrowed-takes = refl
+narrowed_takes = refl
 
 -- where `int_of` refuses all four
 pub int_refuses : int_of (bytes "4294967297") ∷ int_of (bytes "-4294967297") ∷ int_of (bytes "4294967296") ∷ int_of (bytes "6442450944") ∷ [] ≡ none ∷ none ∷ none ∷ none ∷ []

@@ -14,7 +14,7 @@ use Rattle.paper_table.specs.Lists.{bytes, any_of, first_at, gather}
 use Rattle.paper_table.specs.References.{Ref, named}
 use Rattle.paper_table.specs.Types.{built_ins, meaning}
 use Rattle.paper_values.specs.NumberTokens.{value_from, int_of}
-use Rattle.paper_values.specs.Values.{Name, At, Value, variable, integer, boolean, Values, no-values, item, Entries, no-entries, entry, Due, Tree, Null, Bits, Trees, no_more, also, Pairs, no_pairs, pair, Out, Got, No, and_then}
+use Rattle.paper_values.specs.Values.{Name, At, Value, variable, integer, boolean, Values, no_values, item, Entries, no_entries, entry, Due, Tree, Null, Bits, Trees, no_more, also, Pairs, no_pairs, pair, Out, Got, No, and_then}
 use Rattle.paper_values.specs.Kinds.{Kind, kind_of_type}
 use Rattle.paper_values.specs.Computed.{Given, missing_due, entry_of, due_field, due_fields, coerce, coerce_all, givens, constant, orDefault, variablesFrom}
 use Rattle.paper_values.specs.Coercion.{Head, repeated_entry, heads, leftOut}
@@ -66,7 +66,7 @@ least_row i gs (d ∷ ds) = lesser_field i d (entry_of d.name gs) (least_row i g
 
 -- `{b: true, a: true}` where a: Int and b: Int are due
 abbrev given : List Given
-given = givens kinds unset (entry (here 1) (bytes "b") (boolean (here 2) true) (entry (here 3) (bytes "a") (boolean (here 4) true) no-entries))
+given = givens kinds unset (entry (here 1) (bytes "b") (boolean (here 2) true) (entry (here 3) (bytes "a") (boolean (here 4) true) no_entries))
 
 abbrev due : Name → Due
 due n = record { name = n; type = int; default = none }
@@ -98,12 +98,12 @@ least_differs h = let z : ◌≡◌ {A = ℕ} 2 4 = ap row_told (h given dues) i
 
 -- `coerce_all`, but that an absent variable leaves its item out
 abbrev pub items_left : Values → Ref → Out Trees
-items_left no-values r = Got no_more
+items_left no_values r = Got no_more
 items_left (item v vs) r = cond (leftOut kinds unset v) (items_left vs r) (and_then (coerce kinds unset v r) (λ t. and_then (items_left vs r) (λ ts. Got (also t ts))))
 
 -- `[$v]` at [Int], where $v is absent: null stands there
 abbrev items : Values
-items = item (variable (here 1) (bytes "v")) no-values
+items = item (variable (here 1) (bytes "v")) no_values
 
 pub absent_item : coerce_all kinds unset items int ∷ items_left items int ∷ [] ≡ Got (also Null no_more) ∷ Got no_more ∷ []
 unfolding coerce
@@ -127,7 +127,7 @@ repeated_first (e ∷ es) = cond (any_of (λ f. same e.1 f.1) es) (some e.0) (re
 
 -- `{a: true, a: true}`: the second is told
 abbrev twice : List Head
-twice = heads (entry (here 1) (bytes "a") (boolean (here 2) true) (entry (here 3) (bytes "a") (boolean (here 4) true) no-entries))
+twice = heads (entry (here 1) (bytes "a") (boolean (here 2) true) (entry (here 3) (bytes "a") (boolean (here 4) true) no_entries))
 
 pub second_told : repeated_entry [] twice ∷ repeated_first twice ∷ [] ≡ some (here 3) ∷ some (here 1) ∷ []
 unfolding any_of
@@ -156,15 +156,15 @@ defaults_judged gs (v ∷ vs) =
 
 -- `$v: Int = true`, given `{v: 1}`: v is 1
 abbrev one : Entries
-one = entry (record { text = 1; row = 1 }) (bytes "v") (integer (record { text = 1; row = 2 }) (bytes "1")) no-entries
+one = entry (record { text = 1; row = 1 }) (bytes "v") (integer (record { text = 1; row = 2 }) (bytes "1")) no_entries
 
 abbrev wrong_default : List (At × Due)
 wrong_default = (here 1, record { name = bytes "v"; type = int; default = some (boolean (here 3) true) }) ∷ []
 
-pub default-passed-over :
+pub default_passed_over :
     variablesFrom kinds (givens kinds unset one) wrong_default ∷ defaults_judged (givens kinds unset one) wrong_default ∷ [] ≡ Got (pair (bytes "v") (Bits 1) no_pairs) ∷ No (here 3) 1 ∷ []
 unfolding coerce kind_of_type built_ins meaning any_of first_at gather int_of value_from
-default-passed-over = refl
+default_passed_over = refl
 
 pub judging_differs : ((gs : List Given) (vs : List (At × Due)) → defaults_judged gs vs ≡ variablesFrom kinds gs vs) → ⊥
 unfolding coerce kind_of_type built_ins meaning any_of first_at gather int_of value_from

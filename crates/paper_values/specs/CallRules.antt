@@ -20,17 +20,17 @@ module _ (kinds : Name → Kind) where
   -- What is due, in definition order, each with the place that is told where it is missing: its entry's value; else its default; else nothing.
   pub data InDues (vars : Name → Option Tree) (es : Entries) : List (At × Due) → Out Pairs → Type 0 where
     no_dues : InDues vars es [] (Got no_pairs)
-    given-refused : {i j : At} {d : Due} {ds : List (At × Due)} {w : ℕ} (v : Value) → valueFor kinds vars d.name es ≡ some v →
+    given_refused : {i j : At} {d : Due} {ds : List (At × Due)} {w : ℕ} (v : Value) → valueFor kinds vars d.name es ≡ some v →
         Coerces kinds vars v d.type (No j w) → InDues vars es ((i, d) ∷ ds) (No j w)
-    given-got : {i : At} {d : Due} {ds : List (At × Due)} {t : Tree} {o p : Out Pairs} (v : Value) → valueFor kinds vars d.name es ≡ some v →
+    given_got : {i : At} {d : Due} {ds : List (At × Due)} {t : Tree} {o p : Out Pairs} (v : Value) → valueFor kinds vars d.name es ≡ some v →
         Coerces kinds vars v d.type (Got t) → InDues vars es ds o → and_then o (λ ps. Got (pair d.name t ps)) ≡ p → InDues vars es ((i, d) ∷ ds) p
-    default-refused : {i j : At} {d : Due} {ds : List (At × Due)} {w : ℕ} (v : Value) → valueFor kinds vars d.name es ≡ none → d.default ≡ some v →
+    default_refused : {i j : At} {d : Due} {ds : List (At × Due)} {w : ℕ} (v : Value) → valueFor kinds vars d.name es ≡ none → d.default ≡ some v →
         Coerces kinds no_variables v d.type (No j w) → InDues vars es ((i, d) ∷ ds) (No j w)
-    default-got : {i : At} {d : Due} {ds : List (At × Due)} {t : Tree} {o p : Out Pairs} (v : Value) → valueFor kinds vars d.name es ≡ none → d.default ≡ some v →
+    default_got : {i : At} {d : Due} {ds : List (At × Due)} {t : Tree} {o p : Out Pairs} (v : Value) → valueFor kinds vars d.name es ≡ none → d.default ≡ some v →
         Coerces kinds no_variables v d.type (Got t) → InDues vars es ds o → and_then o (λ ps. Got (pair d.name t ps)) ≡ p → InDues vars es ((i, d) ∷ ds) p
-    due-missing : {i : At} {d : Due} {ds : List (At × Due)} → valueFor kinds vars d.name es ≡ none → d.default ≡ none →
+    due_missing : {i : At} {d : Due} {ds : List (At × Due)} → valueFor kinds vars d.name es ≡ none → d.default ≡ none →
         is_non_null d.type ≡ true → InDues vars es ((i, d) ∷ ds) (No i reason_missing)
-    due-left-out : {i : At} {d : Due} {ds : List (At × Due)} {o : Out Pairs} → valueFor kinds vars d.name es ≡ none → d.default ≡ none →
+    due_left_out : {i : At} {d : Due} {ds : List (At × Due)} {o : Out Pairs} → valueFor kinds vars d.name es ≡ none → d.default ≡ none →
         is_non_null d.type ≡ false → InDues vars es ds o → InDues vars es ((i, d) ∷ ds) o
 
   -- an operation's variables vs, from the entries es of the variables text: a repeated name before all else; other names are passed over
@@ -41,9 +41,9 @@ module _ (kinds : Name → Kind) where
   -- then the arguments es of the field at i, as an input object of their definitions ds
   pub data CoercesArguments (given : Entries) (vs : List (At × Due)) (i : At) (es : Entries) (ds : List Due) : Out Tree → Type 0 where
     variables_refused : {j : At} {w : ℕ} → CoercesVariables given vs (No j w) → CoercesArguments given vs i es ds (No j w)
-    argument-repeated : {e : At} (ps : Pairs) → CoercesVariables given vs (Got ps) → repeated_entry [] (heads es) ≡ some e →
+    argument_repeated : {e : At} (ps : Pairs) → CoercesVariables given vs (Got ps) → repeated_entry [] (heads es) ≡ some e →
         CoercesArguments given vs i es ds (No e reason_repeated)
-    argument-unknown : {e : At} (ps : Pairs) → CoercesVariables given vs (Got ps) → repeated_entry [] (heads es) ≡ none → unknown_entry ds (heads es) ≡ some e →
+    argument_unknown : {e : At} (ps : Pairs) → CoercesVariables given vs (Got ps) → repeated_entry [] (heads es) ≡ none → unknown_entry ds (heads es) ≡ some e →
         CoercesArguments given vs i es ds (No e reason_unknown)
     arguments : {o : Out Pairs} {p : Out Tree} (ps : Pairs) → CoercesVariables given vs (Got ps) → repeated_entry [] (heads es) ≡ none → unknown_entry ds (heads es) ≡ none →
         InDues (value_in ps) es (map (λ d. (i, d)) ds) o → and_then o (λ qs. Got (Fields qs)) ≡ p → CoercesArguments given vs i es ds p

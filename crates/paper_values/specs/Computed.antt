@@ -6,7 +6,7 @@ use Rattle.std.proofs.Math.Option.{Option, none, some}
 use Rattle.paper.specs.Tokens.{same}
 use Rattle.paper_table.specs.References.{Ref, named, list_of, non_null, is_non_null}
 use Rattle.paper_values.specs.ValueNumbers.{reason_missing, reason_null, reason_unknown, reason_repeated}
-use Rattle.paper_values.specs.Values.{Name, At, Value, variable, integer, float, string, boolean, null, enum, list, object, Values, no-values, item, Entries, no-entries, entry, Due, Tree, Null, Bits, Decimal, Text, Truth, Member, Many, Fields, Token, Trees, no_more, also, Pairs, no_pairs, pair, Out, Got, No, and_then}
+use Rattle.paper_values.specs.Values.{Name, At, Value, variable, integer, float, string, boolean, null, enum, list, object, Values, no_values, item, Entries, no_entries, entry, Due, Tree, Null, Bits, Decimal, Text, Truth, Member, Many, Fields, Token, Trees, no_more, also, Pairs, no_pairs, pair, Out, Got, No, and_then}
 use Rattle.paper_values.specs.Kinds.{Kind}
 use Rattle.paper_values.specs.Coercion.{by_type, wrong_kind, integer_at, float_at, string_at, boolean_at, enum_at, Head, repeated_entry, unknown_entry, heads, leftOut, value_in}
 
@@ -97,11 +97,11 @@ module _ (kinds : Name → Kind) (vars : Name → Option Tree) where
     coerce (object i es) r = single (object_at i (in_object (missing_due i) (heads es) (givens es))) r
 
     pub coerce_all : Values → Ref → Out Trees
-    coerce_all no-values r = Got no_more
+    coerce_all no_values r = Got no_more
     coerce_all (item v vs) r = and_then (coerce v r) (λ t. and_then (coerce_all vs r) (λ ts. Got (also t ts)))
 
     pub givens : Entries → List Given
-    givens no-entries = []
+    givens no_entries = []
     givens (entry i n v es) = record { name = n; out = leftOut kinds vars v; at = λ r. coerce v r } ∷ givens es
 
 -- ---- the two calls

@@ -7,7 +7,7 @@ use Rattle.paper_table.specs.References.{Ref, named, list_of, non_null}
 use Rattle.paper_query.specs.Constructs.{Doc, count, row_of, kind_of, parent_of, extra_of, name_of}
 use Rattle.paper_query.specs.PlaceTypes.{Shape}
 use Rattle.paper_values.specs.Characters.{characters_of}
-use Rattle.paper_values.specs.Values.{At, Value, variable, integer, float, string, boolean, null, enum, list, object, Values, no-values, item, Entries, no-entries, entry}
+use Rattle.paper_values.specs.Values.{At, Value, variable, integer, float, string, boolean, null, enum, list, object, Values, no_values, item, Entries, no_entries, entry}
 
 -- a type reference's row as a type: wrappers from outside in, lowest two bits first; the first number bounds how many
 unfoldable pub ref_of_wrappers : ℕ → List ℕ → ℕ → Ref
@@ -28,12 +28,12 @@ module _ (text : ℕ) (d : Doc) where
 
   -- the values right below row h among the m rows from c on
   unfoldable pub itemsFrom : (ℕ → Value) → ℕ → ℕ → ℕ → Values
-  itemsFrom read h zero c = no-values
+  itemsFrom read h zero c = no_values
   itemsFrom read h (suc m) c = cond (eqb (parent_of d c) h) (item (read c) (itemsFrom read h m (c + 1))) (itemsFrom read h m (c + 1))
 
   -- the entries of this kind (6 arguments, 10 an object's fields) right below row h among the m rows from c on
   unfoldable pub entriesFrom : (ℕ → Value) → ℕ → ℕ → ℕ → ℕ → Entries
-  entriesFrom read k h zero c = no-entries
+  entriesFrom read k h zero c = no_entries
   entriesFrom read k h (suc m) c =
       cond (eqb (parent_of d c) h && eqb (kind_of d c) k) (entry (placed c) (name_of d c) (read (c + 1)) (entriesFrom read k h m (c + 1))) (entriesFrom read k h m (c + 1))
 

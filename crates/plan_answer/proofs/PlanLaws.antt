@@ -121,11 +121,11 @@ made_steps {t} {d} {o} {p} {r} w = go w.made
     go (inr f) = omega (arith, f.told)
 
 module _ (t : Table) (d : Doc) (o : ℕ) (plan p₁ p₂ report report' : List ℕ) (size : length plan ≡ plan_size) (r a : ℕ) (w : PlanMade t d o p₁ r) where
-  left-many : PlanOver t d o w.blocks r → length p₁ ≡ plan_size → MadeTold r p₁ p₂ report report' a → TooManyTold t d o w.blocks plan p₂ report report' a
-  left-many f size₁ h = let u = h.too_many f.told in record { many = f.many; answer = u.0; cleared = u.1 ∙ all_cleared plan p₁ size size₁; told = u.2 }
+  left_many : PlanOver t d o w.blocks r → length p₁ ≡ plan_size → MadeTold r p₁ p₂ report report' a → TooManyTold t d o w.blocks plan p₂ report report' a
+  left_many f size₁ h = let u = h.too_many f.told in record { many = f.many; answer = u.0; cleared = u.1 ∙ all_cleared plan p₁ size size₁; told = u.2 }
 
-  left-plan : PlanFits t d o w.blocks p₁ r → MadeTold r p₁ p₂ report report' a → PlanTold t d o w.blocks plan p₂ report report' a
-  left-plan f h =
+  left_plan : PlanFits t d o w.blocks p₁ r → MadeTold r p₁ p₂ report report' a → PlanTold t d o w.blocks plan p₂ report report' a
+  left_plan f h =
       let u = h.counted f.top in
       let p = plan_for t d o w.blocks in
       let first : get_or p₁ 0 0 ≡ length p.first = ap (λ (l : List ℕ). get_or l 0 0) f.written in
@@ -140,8 +140,8 @@ module _ (t : Table) (d : Doc) (o : ℕ) (plan p₁ p₂ report report' : List �
   left_told size₁ h = record { blocks = w.blocks; their = w.their; left = go w.made }
     where
       go : PlanFits t d o w.blocks p₁ r ⊎ PlanOver t d o w.blocks r → TooManyTold t d o w.blocks plan p₂ report report' a ⊎ PlanTold t d o w.blocks plan p₂ report report' a
-      go (inl f) = inr (left-plan f h)
-      go (inr f) = inl (left-many f size₁ h)
+      go (inl f) = inr (left_plan f h)
+      go (inr f) = inl (left_many f size₁ h)
 
 -- an opened operation
 module _ (table document name plan report plan' report' : List ℕ) (lent : PlanLent plan report) (short : Short table document) where
@@ -149,22 +149,22 @@ module _ (table document name plan report plan' report' : List ℕ) (lent : Plan
       → Left (table_of table) (doc_of document rows n) o plan₁ plan' report report' r → Planned table document name plan report plan' report' r
   planned_left rows book plan₁ n o r w e f l = go l.left
     where
-      is-plan : PlanIs table document name (plan_for (table_of table) (doc_of document rows n) o l.blocks)
-      is-plan = record { rows = rows_in rows n; operation = o; blocks = l.blocks; opened = w.opened; their = l.their; is = refl }
+      is_plan : PlanIs table document name (plan_for (table_of table) (doc_of document rows n) o l.blocks)
+      is_plan = record { rows = rows_in rows n; operation = o; blocks = l.blocks; opened = w.opened; their = l.their; is = refl }
 
       same : (xs : List ℕ) → filled plan_size xs plan₁ ≡ filled plan_size xs plan
       same xs = sym (none_beyond (xs ++ replicate (plan_size - length xs) 0) plan₁ f) ∙ none_beyond (xs ++ replicate (plan_size - length xs) 0) plan e
 
       go : TooManyTold (table_of table) (doc_of document rows n) o l.blocks plan₁ plan' report report' r ⊎ PlanTold (table_of table) (doc_of document rows n) o l.blocks plan₁ plan' report report' r
           → Planned table document name plan report plan' report' r
-      go (inl x) = subst (Planned table document name plan report plan' report') (sym x.answer) (too_many_steps lent short is-plan x.many (x.cleared ∙ same []) x.told)
+      go (inl x) = subst (Planned table document name plan report plan' report') (sym x.answer) (too_many_steps lent short is_plan x.many (x.cleared ∙ same []) x.told)
       go (inr x) =
           subst (Planned table document name plan report plan' report') (sym x.answer)
-          (plans lent short is-plan x.few (x.written ∙ same (plan_numbers (plan_for (table_of table) (doc_of document rows n) o l.blocks))) x.told)
+          (plans lent short is_plan x.few (x.written ∙ same (plan_numbers (plan_for (table_of table) (doc_of document rows n) o l.blocks))) x.told)
 
   -- the same of the buffer whose front holds the rows
-  rows-front : (rows : List ℕ) → length plan ≡ plan_size → length rows ≡ rows_size → length (rows ++ drop rows_size plan) ≡ plan_size
-  rows-front rows e f = omega (arith, length-append rows (drop rows_size plan), length-drop rows_size plan)
+  rows_front : (rows : List ℕ) → length plan ≡ plan_size → length rows ≡ rows_size → length (rows ++ drop rows_size plan) ≡ plan_size
+  rows_front rows e f = omega (arith, length-append rows (drop rows_size plan), length-drop rows_size plan)
 
   pub opened_asked : (rows book : List ℕ) (x : Start) (n o : ℕ) → Opens table document name rows book x → x ≡ Open n o → Asked table book document (take rows_size (rows ++ drop rows_size plan)) n o
   opened_asked rows book x n o w e =
@@ -176,7 +176,7 @@ module _ (table document name plan report plan' report' : List ℕ) (lent : Plan
   planned_opened rows book x n o r w e size l =
       let k = open_ready table document name rows book x n o w e in
       let f : length rows ≡ rows_size = k.taken.rowed.size in
-      planned_left rows book (rows ++ drop rows_size plan) n o r k size (rows-front rows size f)
+      planned_left rows book (rows ++ drop rows_size plan) n o r k size (rows_front rows size f)
       (subst (λ (z : List ℕ). Left (table_of table) (doc_of document z n) o (rows ++ drop rows_size plan) plan' report report' r) (front_rows rows plan f) l)
 
   pub planned_stop : (rows book plan₁ : List ℕ) (x : Start) (r : ℕ) → Opens table document name rows book x → ((n o : ℕ) → x ≡ Open n o → ⊥) → length plan ≡ plan_size → length plan₁ ≡ plan_size

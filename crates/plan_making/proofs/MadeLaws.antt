@@ -65,27 +65,27 @@ module _ (t book s rows : List ℕ) (n o : ℕ) (a : Asked t book s rows n o) wh
     kinds : (r j : ℕ) → r < n → j < get_or cells (12 * r + 3) 0 → (1 ≤ get_or cells (12 * r + 4 + 2 * j) 0) × (get_or cells (12 * r + 4 + 2 * j) 0 ≤ 4)
     kinds r j l h = table_kinds t s rows n o cells w.table r j l h
 
-    made-is : plan_of (by_numbers (table_of t) d o) (suc n) (map (set_of d) (o ∷ take m out)) ≡ plan_for (table_of t) d o (o ∷ take m out)
-    made-is = ap (λ (k : ℕ). plan_of (by_numbers (table_of t) d o) (suc k) (map (set_of d) (o ∷ take m out))) (sym (rows_count rows n))
+    made_is : plan_of (by_numbers (table_of t) d o) (suc n) (map (set_of d) (o ∷ take m out)) ≡ plan_for (table_of t) d o (o ∷ take m out)
+    made_is = ap (λ (k : ℕ). plan_of (by_numbers (table_of t) d o) (suc k) (map (set_of d) (o ∷ take m out))) (sym (rows_count rows n))
 
     few_blocks : length (o ∷ take m out) ≤ most_blocks
     few_blocks = let q = prepared_holders in omega (arith, q.few, length-take-le m out q.within)
 
-    steps-count : length (rawProgram cells n 0 (o ∷ take m out)) ≡ length (plan_for (table_of t) d o (o ∷ take m out)).steps
-    steps-count =
+    steps_count : length (rawProgram cells n 0 (o ∷ take m out)) ≡ length (plan_for (table_of t) d o (o ∷ take m out)).steps
+    steps_count =
         plan_steps_count cells n kinds (by_numbers (table_of t) d o) (table_tabled t s rows n o cells w.table) (set_of d) (table_set t s rows n o cells w.table) (o ∷ take m out)
-        ∙ ap (λ (p : Plan). length p.steps) made-is
+        ∙ ap (λ (p : Plan). length p.steps) made_is
 
     pub prepared_made : (p : List ℕ) (r : ℕ) → Writes cells n (o ∷ take m out) p r → PlanMade (table_of t) d o p r
     prepared_made p r q = record { blocks = o ∷ take m out; their = blocks_rows d o out m n (rows_count rows n) w.blocks; made = go q }
       where
         go : Writes cells n (o ∷ take m out) p r → PlanFits (table_of t) d o (o ∷ take m out) p r ⊎ PlanOver (table_of t) d o (o ∷ take m out) r
         go (inl f) = inl (record {
-          end = f.end ∙ steps-count;
+          end = f.end ∙ steps_count;
           top = f.top;
           written =
               f.written
               ∙ plan_cells_is cells n kinds (by_numbers (table_of t) d o) (table_tabled t s rows n o cells w.table) (set_of d) (table_set t s rows n o cells w.table) (o ∷ take m out) r f.end few_blocks
-              ∙ ap (λ (p : Plan). plan_numbers p ++ replicate (plan_size - length (plan_numbers p)) 0) made-is;
+              ∙ ap (λ (p : Plan). plan_numbers p ++ replicate (plan_size - length (plan_numbers p)) 0) made_is;
         })
-        go (inr f) = inr (record { told = f.told; many = let e = steps-count in omega (arith, f.many, e) })
+        go (inr f) = inr (record { told = f.told; many = let e = steps_count in omega (arith, f.many, e) })

@@ -57,12 +57,12 @@ module _ (t : List ℕ) (n holder k from : ℕ) (p₀ : List ℕ) where
       }))
 
   -- too many steps of a level are too many
-  over-levels : (d : ℕ) (rows steps : List ℕ) (j h start : ℕ) (before : List ℕ) → Opened d rows steps j h start before → TooMany start 4097 (expandOf t n (suc j) start h) → TooMany from 4097 (expandOf t n k from holder)
-  over-levels zero rows steps j h start before o m =
+  over_levels : (d : ℕ) (rows steps : List ℕ) (j h start : ℕ) (before : List ℕ) → Opened d rows steps j h start before → TooMany start 4097 (expandOf t n (suc j) start h) → TooMany from 4097 (expandOf t n k from holder)
+  over_levels zero rows steps j h start before o m =
       subst (λ (x : ℕ). TooMany from 4097 (expandOf t n x from holder)) o.0 (subst (λ (x : ℕ). TooMany from 4097 (expandOf t n (suc j) from x)) o.1 (subst (λ (x : ℕ). TooMany x 4097 (expandOf t n (suc j) x h)) o.2 m))
-  over-levels (suc d) rows steps j h start before o m =
+  over_levels (suc d) rows steps j h start before o m =
       let c = get_or rows d 0 in let a = get_or steps d 0 in
-      over-levels d rows steps (suc j) (above t c) o.its_start o.its_before o.under
+      over_levels d rows steps (suc j) (above t c) o.its_start o.its_before o.under
       (over_nested t n (above t c) (suc j) o.its_start o.its_before before a c o.doing o.low 4097 refl o.no_none o.no_dropped o.no_field
       (subst (λ (x : ℕ). TooMany (a + count t c) 4097 (expandOf t n (suc j) (a + count t c) x)) o.behind (subst (λ (x : ℕ). TooMany x 4097 (expandOf t n (suc j) x h)) o.begins m)))
 
@@ -82,19 +82,19 @@ module _ (t : List ℕ) (n holder k from : ℕ) (p₀ : List ℕ) where
     go_on p' at' c' q = record { own = w.own; start = w.start; before = w.before; opened = w.opened; levels = w.levels; doing = q; size = q.size ∙ sym w.doing.size ∙ w.size }
 
     pub go_over : TooMany w.start 4097 (expandOf t n (suc w.own) w.start h) → TooMany from 4097 (expandOf t n k from holder)
-    go_over m = over-levels d rows steps w.own h w.start w.before w.opened m
+    go_over m = over_levels d rows steps w.own h w.start w.before w.opened m
 
     -- a level more than k is left out
-    go-deepest : (p' : List ℕ) → c < n → above t c ≡ h → (what t c ≡ 0 → ⊥) → (what t c ≡ 3 → ⊥) → (what t c ≡ 1 → ⊥) → at + count t c ≤ 4096 → d + 1 ≡ k
+    go_deepest : (p' : List ℕ) → c < n → above t c ≡ h → (what t c ≡ 0 → ⊥) → (what t c ≡ 3 → ⊥) → (what t c ≡ 1 → ⊥) → at + count t c ≤ 4096 → d + 1 ≡ k
         → p' ≡ sets p (2050 + 3 * at) (flat_raw (rawTests t (12 * c + 4) (count t c) (at + count t c))) → Doing t n h w.own w.start w.before p' (at + count t c) (c + 1)
-    go-deepest p' low f n0 n3 n1 room last q =
+    go_deepest p' low f n0 n3 n1 room last q =
         do_nested t n h w.own w.start w.before p at c w.doing low p p' (at + count t c) f n0 n3 n1 (none_fits t n (arg t c) (at + count t c) w.own p (omega (arith, w.levels)) room) q
 
     pub go_last : (p' : List ℕ) {m : ℕ} → c < n → above t c ≡ h → (what t c ≡ 0 → ⊥) → (what t c ≡ 3 → ⊥) → (what t c ≡ 1 → ⊥) → m ≡ count t c → at + m ≤ 4096 → d + 1 ≡ k
         → p' ≡ sets p (2050 + 3 * at) (flat_raw (rawTests t (12 * c + 4) (count t c) (at + m))) → Doing t n h w.own w.start w.before p' (at + m) (c + 1)
     go_last p' {m} low f n0 n3 n1 e room last q =
         subst (λ (x : ℕ). Doing t n h w.own w.start w.before p' (at + x) (c + 1)) (sym e)
-        (go-deepest p' low f n0 n3 n1 (omega (arith, e)) last (q ∙ ap (λ (x : ℕ). sets p (2050 + 3 * at) (flat_raw (rawTests t (12 * c + 4) (count t c) (at + x)))) e))
+        (go_deepest p' low f n0 n3 n1 (omega (arith, e)) last (q ∙ ap (λ (x : ℕ). sets p (2050 + 3 * at) (flat_raw (rawTests t (12 * c + 4) (count t c) (at + x)))) e))
 
   module _ (first next : List ℕ) (ch : Chained t n first next) where
     pub go_start : (rows steps : List ℕ) {c : ℕ} → (k ≡ 0 → ⊥) → from ≤ 4096 → holder ≤ 2048 → c ≡ get_or first holder 0 → Going rows steps p₀ 0 holder from c
@@ -114,14 +114,14 @@ module _ (t : List ℕ) (n holder k from : ℕ) (p₀ : List ℕ) where
     go_next rows steps p d h at c w p' at' {c'} q low f e = go_on rows steps p d h at c w p' at' c' (do_next t n h w.own w.start w.before first next ch p' at' c q low f e)
 
     -- into the rows behind row c
-    go-in : (rows steps p : List ℕ) (d h at c : ℕ) (w : Going rows steps p d h at c) {c' : ℕ} → c < n → above t c ≡ h → (what t c ≡ 0 → ⊥) → (what t c ≡ 3 → ⊥) → (what t c ≡ 1 → ⊥) → at + count t c ≤ 4096 → (d + 1 ≡ k → ⊥)
+    go_in : (rows steps p : List ℕ) (d h at c : ℕ) (w : Going rows steps p d h at c) {c' : ℕ} → c < n → above t c ≡ h → (what t c ≡ 0 → ⊥) → (what t c ≡ 3 → ⊥) → (what t c ≡ 1 → ⊥) → at + count t c ≤ 4096 → (d + 1 ≡ k → ⊥)
         → d < length rows → d < length steps → arg t c ≤ 2048 → c' ≡ get_or first (arg t c) 0 → Going (set rows d c) (set steps d at) p (d + 1) (arg t c) (at + count t c) c'
-    go-in rows steps p d h at c w {c'} low f n0 n3 n1 room more lr ls few e = subst (λ (x : ℕ). Going (set rows d c) (set steps d at) p x (arg t c) (at + count t c) c') one (record {
+    go_in rows steps p d h at c w {c'} low f n0 n3 n1 room more lr ls few e = subst (λ (x : ℕ). Going (set rows d c) (set steps d at) p x (arg t c) (at + count t c) c') one (record {
       own = w.own - 1;
       start = at + count t c;
       before = p;
-      opened = subst (λ (x : ℕ). Level t n below (w.own - 1) x (get_or (set steps d at) d 0) (arg t c) (at + count t c) p) (sym here-row)
-          (subst (λ (x : ℕ). Level t n below (w.own - 1) c x (arg t c) (at + count t c) p) (sym here-step) (record {
+      opened = subst (λ (x : ℕ). Level t n below (w.own - 1) x (get_or (set steps d at) d 0) (arg t c) (at + count t c) p) (sym here_row)
+          (subst (λ (x : ℕ). Level t n below (w.own - 1) c x (arg t c) (at + count t c) p) (sym here_step) (record {
             its_start = w.start;
             its_before = w.before;
             under = subst (λ (x : ℕ). Opened d (set rows d c) (set steps d at) x (above t c) w.start w.before) less
@@ -147,11 +147,11 @@ module _ (t : List ℕ) (n holder k from : ℕ) (p₀ : List ℕ) where
         less : w.own ≡ suc (w.own - 1)
         less = omega (arith, w.levels, more)
 
-        here-row : get_or (set rows d c) d 0 ≡ c
-        here-row = get_or-set_same rows d c 0 lr
+        here_row : get_or (set rows d c) d 0 ≡ c
+        here_row = get_or-set_same rows d c 0 lr
 
-        here-step : get_or (set steps d at) d 0 ≡ at
-        here-step = get_or-set_same steps d at 0 ls
+        here_step : get_or (set steps d at) d 0 ≡ at
+        here_step = get_or-set_same steps d at 0 ls
 
         below : ℕ → ℕ → List ℕ → Type 0
         below h' start' before' = Opened d (set rows d c) (set steps d at) (suc (w.own - 1)) h' start' before'
@@ -160,7 +160,7 @@ module _ (t : List ℕ) (n holder k from : ℕ) (p₀ : List ℕ) where
         → (d + 1 ≡ k → ⊥) → d < length rows → d < length steps → arg t c ≤ 2048 → h' ≡ arg t c → c' ≡ get_or first h' 0 → Going (set rows d c) (set steps d at) p (d + 1) h' (at + m) c'
     go_deeper rows steps p d h at c w {m} {h'} {c'} low f n0 n3 n1 e room more lr ls few eh ec =
         subst (λ (x : ℕ). Going (set rows d c) (set steps d at) p (d + 1) x (at + m) c') (sym eh) (subst (λ (x : ℕ). Going (set rows d c) (set steps d at) p (d + 1) (arg t c) (at + x) c') (sym e)
-        (go-in rows steps p d h at c w low f n0 n3 n1 (omega (arith, e)) more lr ls few (ec ∙ ap (λ (x : ℕ). get_or first x 0) eh)))
+        (go_in rows steps p d h at c w low f n0 n3 n1 (omega (arith, e)) more lr ls few (ec ∙ ap (λ (x : ℕ). get_or first x 0) eh)))
 
     -- and out of them, when no row is left: the tests of the open row are written
     module _ (rows steps p : List ℕ) (d h at c : ℕ) (w : Going rows steps p (suc d) h at c) where

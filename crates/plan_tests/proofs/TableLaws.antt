@@ -80,25 +80,25 @@ module _ (s rows : List ℕ) (n i j : ℕ) (e : j ≡ first_below (rows_in rows 
 
 -- variables' numbers are small
 module _ (d : Doc) (o : ℕ) (few : count d ≤ most_rows) where
-  variable-most : (x : List ℕ) → variable_number d o x ≤ most_rows
-  variable-most x =
+  variable_most : (x : List ℕ) → variable_number d o x ≤ most_rows
+  variable_most x =
       let e = sym (variable_is d o x) ∙ rank_first (is_variable_of o) (called d x) d.rows in
       omega (arith, e, rank_most (is_variable_of o) d.rows (first_at (λ r. is_variable_of o r && called d x r) d.rows), first_at_most (λ r. is_variable_of o r && called d x r) d.rows, few)
 
-  small-value : (b : Bool) (v : Row) → Small (coded (cond b (literal (eqb v.extra 1)) (variable (variable_number d o (spelt d v)))))
-  small-value true v = tt
-  small-value false v = variable-most (spelt d v)
+  small_value : (b : Bool) (v : Row) → Small (coded (cond b (literal (eqb v.extra 1)) (variable (variable_number d o (spelt d v)))))
+  small_value true v = tt
+  small_value false v = variable_most (spelt d v)
 
-  small-from : (r : Option Row) → Small (coded (cond_from d o r))
-  small-from none = tt
-  small-from (some v) = small-value (is kind_boolean v) v
+  small_from : (r : Option Row) → Small (coded (cond_from d o r))
+  small_from none = tt
+  small_from (some v) = small_value (is kind_boolean v) v
 
   pub small_if : (x : List ℕ) (i : ℕ) → Small (coded (if_of d o x i))
   unfolding if_of
   small_if x i = go (ltb (directive_on d x i) (count d)) (find (λ r. is_value r && below (argument_below d (directive_on d x i)) r) d.rows)
     where
       go : (b : Bool) (r : Option Row) → Small (coded (cond b (cond_from d o r) absent))
-      go true r = small-from r
+      go true r = small_from r
       go false r = tt
 
 pub small_coded : (d : Doc) (o : ℕ) → count d ≤ most_rows → (x : List ℕ) (i : ℕ) (c : If) → c ≡ coded (if_of d o x i) → Small c
@@ -118,15 +118,15 @@ module _ (t : Table) (d : Doc) (o i : ℕ) where
   pub sort_inline : ((row_of d i).kind ≡ kind_field → ⊥) → ((row_of d i).kind ≡ kind_spread → ⊥) → view.sort i ≡ inline (type_if t d (condition_of d i))
   sort_inline a b = rw (ne_eqb (row_of d i).kind kind_field a, ne_eqb (row_of d i).kind kind_spread b)
 
-  fragment-at : (f : List ℕ) → fragment_row d (fragment_number d f) ≡ fragment_named d f
+  fragment_at : (f : List ℕ) → fragment_row d (fragment_number d f) ≡ fragment_named d f
   unfolding fragment_named
-  fragment-at f = where_placed (is kind_fragment) d (called d f)
+  fragment_at f = where_placed (is kind_fragment) d (called d f)
 
   pub spread_on : (f : List ℕ) → view.on (fragment_number d f) ≡ type_on t d (condition_of d (fragment_named d f))
-  spread_on f = ap (λ (n : ℕ). type_on t d (condition_of d n)) (fragment-at f)
+  spread_on f = ap (λ (n : ℕ). type_on t d (condition_of d n)) (fragment_at f)
 
   pub spread_set : (f : List ℕ) → view.fragment (fragment_number d f) ≡ set_of d (fragment_named d f)
-  spread_set f = ap (set_of d) (fragment-at f)
+  spread_set f = ap (set_of d) (fragment_at f)
 
   pub key_most : key_number d (key_at d i) ≤ count d
   unfolding key_number
@@ -260,8 +260,8 @@ module _ (t s rows : List ℕ) (n o : ℕ) (cells : List ℕ) (w : TableTo t s r
       let k = (w r l).kinds j (omega (arith, cell r 3 (omega arith))) in
       (omega (arith, q, e, k.0), omega (arith, q, e, k.1))
 
-  belongs-is : (h r : ℕ) → r < n → belongs cells h r ≡ (below h (row_in rows n r) && is_selection (row_in rows n r))
-  belongs-is h r l = go (is_selection (row_in rows n r)) refl
+  belongs_is : (h r : ℕ) → r < n → belongs cells h r ≡ (below h (row_in rows n r) && is_selection (row_in rows n r))
+  belongs_is h r l = go (is_selection (row_in rows n r)) refl
     where
       x : above cells r ≡ (row_in rows n r).parent
       x = table_above r l
@@ -282,13 +282,13 @@ module _ (t s rows : List ℕ) (n o : ℕ) (cells : List ℕ) (w : TableTo t s r
           flat true = refl
           flat false = refl
 
-  keep-rows : (p : ℕ → Bool) (q : Row → Bool) (rs : List Row) (i : ℕ) → ((k : ℕ) → k < length rs → p (i + k) ≡ q (get_or rs k no_row)) → keep p (up_from (length rs) i) ≡ each_from i (λ j r. only_if (q r) j) rs
+  keep_rows : (p : ℕ → Bool) (q : Row → Bool) (rs : List Row) (i : ℕ) → ((k : ℕ) → k < length rs → p (i + k) ≡ q (get_or rs k no_row)) → keep p (up_from (length rs) i) ≡ each_from i (λ j r. only_if (q r) j) rs
   unfolding each_from
-  keep-rows p q [] i h = refl
-  keep-rows p q (r ∷ rs) i h =
+  keep_rows p q [] i h = refl
+  keep_rows p q (r ∷ rs) i h =
       let z : i + 0 ≡ i = omega arith in
       let e : p i ≡ q r = ap p (sym z) ∙ h 0 (omega arith) in
-      let more = keep-rows p q rs (suc i) (λ k l. let y : suc i + k ≡ i + suc k = omega arith in ap p y ∙ h (suc k) (omega arith)) in
+      let more = keep_rows p q rs (suc i) (λ k l. let y : suc i + k ≡ i + suc k = omega arith in ap p y ∙ h (suc k) (omega arith)) in
       ap (λ (b : Bool). cond b (i ∷ keep p (up_from (length rs) (suc i))) (keep p (up_from (length rs) (suc i)))) e ∙ go (q r) more
     where
       go : (b : Bool) → keep p (up_from (length rs) (suc i)) ≡ each_from (suc i) (λ j x. only_if (q x) j) rs
@@ -301,8 +301,8 @@ module _ (t s rows : List ℕ) (n o : ℕ) (cells : List ℕ) (w : TableTo t s r
   unfolding numbers_where
   table_set h =
       ap (λ (m : ℕ). keep (λ r. belongs cells h r) (up_from m 0)) (sym (rows_count rows n))
-      ∙ keep-rows (λ r. belongs cells h r) (λ r. below h r && is_selection r) (rows_in rows n) 0
-      (λ k l. let z : 0 + k ≡ k = omega arith in ap (λ (x : ℕ). belongs cells h x) z ∙ belongs-is h k (omega (arith, rows_count rows n)))
+      ∙ keep_rows (λ r. belongs cells h r) (λ r. below h r && is_selection r) (rows_in rows n) 0
+      (λ k l. let z : 0 + k ≡ k = omega arith in ap (λ (x : ℕ). belongs cells h x) z ∙ belongs_is h k (omega (arith, rows_count rows n)))
 
   pub table_tabled : Tabled cells n (by_numbers (table_of t) d o)
   table_tabled = record { row = one }

@@ -52,48 +52,48 @@ reaches_set d a p y o (here w) = here (within_set d a p y o w)
 reaches_set d a p y o (reached {f = f} r s w) = reached r s (within_set d f p y o w)
 
 module _ (t : Table) (d : Doc) (op : ℕ) (ok : Plannable d) where
-  set-above : (p y : ℕ) → p < count d → OfSet d p y → p < y
-  set-above p y h o = go (ok.parents y o.low)
+  set_above : (p y : ℕ) → p < count d → OfSet d p y → p < y
+  set_above p y h o = go (ok.parents y o.low)
     where
       go : (parent_of d y < y) ⊎ (parent_of d y ≡ no_parent) → p < y
       go (inl u) = omega (arith, o.parent)
       go (inr u) = absurd (omega (arith, o.parent, ok.few))
 
   -- a row's sort, read back
-  sort-cases : (i : ℕ) (b c : Bool) → is kind_field (row_of d i) ≡ b → is kind_spread (row_of d i) ≡ c → (so : Sort Name)
+  sort_cases : (i : ℕ) (b c : Bool) → is kind_field (row_of d i) ≡ b → is kind_spread (row_of d i) ≡ c → (so : Sort Name)
       → cond b (field (key_at d i)) (cond c (spread (name_of d i)) (inline (type_if t d (condition_of d i)))) ≡ so
       → ((k : Name) → so ≡ field k → (is kind_field (row_of d i) ≡ true) × (key_at d i ≡ k)) × ((f : Name) → so ≡ spread f → (is kind_spread (row_of d i) ≡ true) × (name_of d i ≡ f))
-  sort-cases i true c p q so e =
+  sort_cases i true c p q so e =
       ((λ k h. (p, cc)), (λ f h. let z : ◌≡◌ {A = ℕ} 0 1 = cc in absurd (omega arith)))
-  sort-cases i false true p q so e =
+  sort_cases i false true p q so e =
       ((λ k h. let z : ◌≡◌ {A = ℕ} 0 1 = cc in absurd (omega arith)), (λ f h. (q, cc)))
-  sort-cases i false false p q so e =
+  sort_cases i false false p q so e =
       ((λ k h. let z : ◌≡◌ {A = ℕ} 0 1 = cc in absurd (omega arith)), (λ f h. let z : ◌≡◌ {A = ℕ} 0 1 = cc in absurd (omega arith)))
 
   pub is_field_is : (i : ℕ) (k : Name) → sort_of t d i ≡ field k → (is kind_field (row_of d i) ≡ true) × (key_at d i ≡ k)
-  is_field_is i k h = (sort-cases i (is kind_field (row_of d i)) (is kind_spread (row_of d i)) refl refl (sort_of t d i) refl).0 k h
+  is_field_is i k h = (sort_cases i (is kind_field (row_of d i)) (is kind_spread (row_of d i)) refl refl (sort_of t d i) refl).0 k h
 
   pub is_spread : (i : ℕ) (f : Name) → sort_of t d i ≡ spread f → (is kind_spread (row_of d i) ≡ true) × (name_of d i ≡ f)
-  is_spread i f h = (sort-cases i (is kind_field (row_of d i)) (is kind_spread (row_of d i)) refl refl (sort_of t d i) refl).1 f h
+  is_spread i f h = (sort_cases i (is kind_field (row_of d i)) (is kind_spread (row_of d i)) refl refl (sort_of t d i) refl).1 f h
 
   abbrev Behind : ℕ → List ℕ → Type 0
   Behind a rs = (y : ℕ) → elem eqb y rs ≡ true → Reaches d a y
 
   -- what reaches a selection reaches what stands behind it
-  reaches-behind : (a r : ℕ) (so : Sort Name) → sort_of t d r ≡ so → Reaches d a r → Behind a (behind (by_names t d op) r so)
-  reaches-behind a r (field k) e h y q = clash (sym q)
-  reaches-behind a r (spread f) e h y q =
+  reaches_behind : (a r : ℕ) (so : Sort Name) → sort_of t d r ≡ so → Reaches d a r → Behind a (behind (by_names t d op) r so)
+  reaches_behind a r (field k) e h y q = clash (sym q)
+  reaches_behind a r (spread f) e h y q =
       let s = is_spread r f e in
       let o = of_set d (fragment_named d f) y q in
       reached h (rw s.1 at (spread_of d ok r s.0)) (within_set d (fragment_named d f) (fragment_named d f) y o itself)
-  reaches-behind a r (inline c) e h y q = reaches_set d a r y (of_set d r y q) h
+  reaches_behind a r (inline c) e h y q = reaches_set d a r y (of_set d r y q) h
 
-  reaches-from : {rs : List ℕ} {x : ℕ} → From (by_names t d op) rs x → (a : ℕ) → Behind a rs → Reaches d a x
-  reaches-from (among {x = x} h) a f = f x h
-  reaches-from (through r h g) a f = reaches-from g a (reaches-behind a r (sort_of t d r) refl (f r h))
+  reaches_from : {rs : List ℕ} {x : ℕ} → From (by_names t d op) rs x → (a : ℕ) → Behind a rs → Reaches d a x
+  reaches_from (among {x = x} h) a f = f x h
+  reaches_from (through r h g) a f = reaches_from g a (reaches_behind a r (sort_of t d r) refl (f r h))
 
-  fragment-behind : (f : Name) → Behind (fragment_named d f) (set_of d (fragment_named d f))
-  fragment-behind f y q = here (within_set d (fragment_named d f) (fragment_named d f) y (of_set d (fragment_named d f) y q) itself)
+  fragment_behind : (f : Name) → Behind (fragment_named d f) (set_of d (fragment_named d f))
+  fragment_behind f y q = here (within_set d (fragment_named d f) (fragment_named d f) y (of_set d (fragment_named d f) y q) itself)
 
   -- on the way to x a row is passed that spreads f, and from there on it goes
   record Jump (rs : List ℕ) (x : ℕ) : Type 0 where
@@ -121,23 +121,23 @@ module _ (t : Table) (d : Doc) (op : ℕ) (ok : Plannable d) where
       go (inline c) e w ih =
           keep (ih (λ y q.
           let o = of_set d r y (subst (λ (so : Sort Name). elem eqb y (behind (by_names t d op) r so) ≡ true) e q) in
-          (omega (arith, (f r h).0, set-above r y (f r h).1 o), o.low)))
+          (omega (arith, (f r h).0, set_above r y (f r h).1 o), o.low)))
 
   -- every selection is a row
   abbrev all_rows : List ℕ
   all_rows = numbers_where (λ r. true) d
 
-  set-rows : (p x : ℕ) → elem eqb x (set_of d p) ≡ true → elem eqb x all_rows ≡ true
-  set-rows p x h = where_keeps (λ r. true) d x (of_set d p x h).low refl
+  set_rows : (p x : ℕ) → elem eqb x (set_of d p) ≡ true → elem eqb x all_rows ≡ true
+  set_rows p x h = where_keeps (λ r. true) d x (of_set d p x h).low refl
 
-  behind-rows : (r x : ℕ) (so : Sort Name) → elem eqb x (behind (by_names t d op) r so) ≡ true → elem eqb x all_rows ≡ true
-  behind-rows r x (field k) h = clash (sym h)
-  behind-rows r x (spread f) h = set-rows (fragment_named d f) x h
-  behind-rows r x (inline c) h = set-rows r x h
+  behind_rows : (r x : ℕ) (so : Sort Name) → elem eqb x (behind (by_names t d op) r so) ≡ true → elem eqb x all_rows ≡ true
+  behind_rows r x (field k) h = clash (sym h)
+  behind_rows r x (spread f) h = set_rows (fragment_named d f) x h
+  behind_rows r x (inline c) h = set_rows r x h
 
-  from-rows : {rs : List ℕ} {x : ℕ} → From (by_names t d op) rs x → ((y : ℕ) → elem eqb y rs ≡ true → elem eqb y all_rows ≡ true) → elem eqb x all_rows ≡ true
-  from-rows (among {x = x} h) f = f x h
-  from-rows (through r h g) f = from-rows g (λ y k. behind-rows r y (sort_of t d r) k)
+  from_rows : {rs : List ℕ} {x : ℕ} → From (by_names t d op) rs x → ((y : ℕ) → elem eqb y rs ≡ true → elem eqb y all_rows ≡ true) → elem eqb x all_rows ≡ true
+  from_rows (among {x = x} h) f = f x h
+  from_rows (through r h g) f = from_rows g (λ y k. behind_rows r y (sort_of t d r) k)
 
   some_first : {rs : List ℕ} {x : ℕ} → From (by_names t d op) rs x → (y : ℕ) × (elem eqb y rs ≡ true)
   some_first (among {x = x} h) = (x, h)
@@ -150,19 +150,19 @@ module _ (t : Table) (d : Doc) (op : ℕ) (ok : Plannable d) where
       spot s f e w = let u = is_spread s f e in no_circle d ok s u.0 (subst (λ (n : Name). Reaches d (fragment_named d n) s) (sym u.1) w)
 
       low : From (by_names t d op) (set_of d r) r → r < count d
-      low w = (where_kept (λ r. true) d r (from-rows w (λ y h. set-rows r y h))).0
+      low w = (where_kept (λ r. true) d r (from_rows w (λ y h. set_rows r y h))).0
 
       round : From (by_names t d op) (set_of d r) r → (r < r) ⊎ Jump (set_of d r) r → ⊥
       round w (inl u) = omega arith
       round w (inr j) =
-          let back : Reaches d (fragment_named d j.name) r = reaches-from j.on (fragment_named d j.name) (fragment-behind j.name) in
-          spot j.at j.name j.spreads (reaches-from j.to (fragment_named d j.name) (λ y q. reaches_set d (fragment_named d j.name) r y (of_set d r y q) back))
+          let back : Reaches d (fragment_named d j.name) r = reaches_from j.on (fragment_named d j.name) (fragment_behind j.name) in
+          spot j.at j.name j.spreads (reaches_from j.to (fragment_named d j.name) (λ y q. reaches_set d (fragment_named d j.name) r y (of_set d r y q) back))
 
       go : (so : Sort Name) → sort_of t d r ≡ so → From (by_names t d op) (behind (by_names t d op) r so) r → ⊥
       go (field k) e w = clash (sym (some_first w).1)
-      go (spread f) e w = spot r f e (reaches-from w (fragment_named d f) (fragment-behind f))
-      go (inline c) e w = round w (rises w r (λ y q. let o = of_set d r y q in (set-above r y (low w) o, o.low)))
+      go (spread f) e w = spot r f e (reaches_from w (fragment_named d f) (fragment_behind f))
+      go (inline c) e w = round w (rises w r (λ y q. let o = of_set d r y q in (set_above r y (low w) o, o.low)))
 
   -- so the count of rows bounds how deep they stand in one another
   pub set_deep : (p : ℕ) → deep (by_names t d op) (suc (count d)) (set_of d p) ≡ true
-  set_deep p = ends (by_names t d op) acyclic (suc (count d)) all_rows (set_of d p) (omega (arith, where_all d)) (λ x f. from-rows f (λ y h. set-rows p y h))
+  set_deep p = ends (by_names t d op) acyclic (suc (count d)) all_rows (set_of d p) (omega (arith, where_all d)) (λ x f. from_rows f (λ y h. set_rows p y h))

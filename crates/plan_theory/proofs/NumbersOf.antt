@@ -62,10 +62,10 @@ module _ (p : Row → Bool) where
       go false u = u
 
   -- the place among those that pass of the first that passes q too
-  placed-from : (q : Row → Bool) (rs : List Row) (i z : ℕ) → z ≡ i + length rs → get_or (numbers i rs) (first_at q (gather (λ r. only_if (p r) r) rs)) z ≡ i + first_at (λ r. p r && q r) rs
+  placed_from : (q : Row → Bool) (rs : List Row) (i z : ℕ) → z ≡ i + length rs → get_or (numbers i rs) (first_at q (gather (λ r. only_if (p r) r) rs)) z ≡ i + first_at (λ r. p r && q r) rs
   unfolding each_from gather first_at
-  placed-from q [] i z e = e
-  placed-from q (r ∷ rs) i z e = go (p r) (q r) refl (placed-from q rs (suc i) z (omega arith))
+  placed_from q [] i z e = e
+  placed_from q (r ∷ rs) i z e = go (p r) (q r) refl (placed_from q rs (suc i) z (omega arith))
     where
       go : (b c : Bool) → q r ≡ c → get_or (numbers (suc i) rs) (first_at q (gather (λ r. only_if (p r) r) rs)) z ≡ suc i + first_at (λ r. p r && q r) rs
           → get_or (only_if b i ++ numbers (suc i) rs) (first_at q (only_if b r ++ gather (λ r. only_if (p r) r) rs)) z ≡ i + cond (b && c) 0 (suc (first_at (λ r. p r && q r) rs))
@@ -87,7 +87,7 @@ module _ (p : Row → Bool) where
 
     pub where_placed : (q : Row → Bool) → get_or (numbers_where p d) (first_at q (rows_where p d)) (count d) ≡ first_at (λ r. p r && q r) d.rows
     unfolding numbers_where rows_where
-    where_placed q = let z : 0 + first_at (λ r. p r && q r) d.rows ≡ first_at (λ r. p r && q r) d.rows = omega arith in placed-from q d.rows 0 (count d) (omega arith) ∙ z
+    where_placed q = let z : 0 + first_at (λ r. p r && q r) d.rows ≡ first_at (λ r. p r && q r) d.rows = omega arith in placed_from q d.rows 0 (count d) (omega arith) ∙ z
 
 -- all rows
 numbers_size : (rs : List Row) (i : ℕ) → length (each_from i (λ j r. only_if true j) rs) ≡ length rs

@@ -78,8 +78,8 @@ module _ (t : Table) (p : List ℕ) where
   steps b = below (end_in p b) (λ i. first_in p b ≤ i → Formed t p (end_in p b) i) (λ i. where_so (dec_le (first_in p b) i) (step (end_in p b) i))
 
   -- a plan
-  well-formed-decided : Dec (WellFormed t p)
-  well-formed-decided =
+  well_formed_decided : Dec (WellFormed t p)
+  well_formed_decided =
       same_as (both (dec_le plan_size (length p)) (both (dec_le 1 (blocks_in p)) (both (dec_le (blocks_in p) most_blocks) (both (dec_le (steps_in p) most_steps) (both (ℕ_discrete (first_in p 0) 0)
       (both (below (blocks_in p) (λ b. suc b < blocks_in p → first_in p b ≤ first_in p (suc b)) (λ b. where_so (dec_lt (suc b) (blocks_in p)) (dec_le (first_in p b) (first_in p (suc b)))))
       (both (below (blocks_in p) (λ b. first_in p b ≤ steps_in p) (λ b. dec_le (first_in p b) (steps_in p))) (below (blocks_in p) Steps steps))))))))
@@ -97,7 +97,7 @@ module _ (t : Table) (p : List ℕ) where
 
   pub can_walk_decided : (object : ℕ) (blocks variables : List ℕ) → Dec (CanWalk t p object blocks variables)
   can_walk_decided object blocks variables =
-      same_as (both well-formed-decided (both (below (length blocks) (λ j. get_or blocks j 0 < blocks_in p) (λ j. dec_lt (get_or blocks j 0) (blocks_in p)))
+      same_as (both well_formed_decided (both (below (length blocks) (λ j. get_or blocks j 0 < blocks_in p) (λ j. dec_lt (get_or blocks j 0) (blocks_in p)))
       (both (is_true (is_object (definition_at t object))) (both (dec_le (length blocks) most_walked) (dec_le variables_size (length variables))))))
       (λ x. record { well_formed = x.0; known = x.1.0; object_record = x.1.1.0; few_blocks = x.1.1.1.0; all_variables = x.1.1.1.1 })
       (λ c. (c.well_formed, (c.known, (c.object_record, (c.few_blocks, c.all_variables)))))

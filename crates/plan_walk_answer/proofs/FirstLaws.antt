@@ -29,10 +29,10 @@ module _ (p q : List ℕ) (long : plan_size ≤ length q) (same : (i : ℕ) → 
       ∙ ap (λ (k : ℕ). step_of (kind_at q i) k (two_at p i)) (same (2051 + 3 * i) (omega arith))
       ∙ ap (step_of (kind_at q i) (one_at q i)) (same (2052 + 3 * i) (omega arith))
 
-  steps-same : (i n : ℕ) → i + n ≤ most_steps → steps_from p i n ≡ steps_from q i n
+  steps_same : (i n : ℕ) → i + n ≤ most_steps → steps_from p i n ≡ steps_from q i n
   unfolding steps_from
-  steps-same i zero h = refl
-  steps-same i (suc n) h = ap (λ (x : Step). x ∷ steps_from p (suc i) n) (step_same i (omega arith)) ∙ ap (λ (xs : List Step). step_at q i ∷ xs) (steps-same (suc i) n (omega arith))
+  steps_same i zero h = refl
+  steps_same i (suc n) h = ap (λ (x : Step). x ∷ steps_from p (suc i) n) (step_same i (omega arith)) ∙ ap (λ (xs : List Step). step_at q i ∷ xs) (steps_same (suc i) n (omega arith))
 
   firsts_same : (b n : ℕ) → b + n ≤ most_blocks → firsts_from p b n ≡ firsts_from q b n
   unfolding firsts_from
@@ -42,10 +42,10 @@ module _ (p q : List ℕ) (long : plan_size ≤ length q) (same : (i : ℕ) → 
   pub plan_same : blocks_in p ≤ most_blocks → steps_in p ≤ most_steps → plan_in p ≡ plan_in q
   plan_same f s =
       ap (λ (xs : List ℕ). record { first = xs; steps = steps_from p 0 (steps_in p) }) (firsts_same 0 (blocks_in p) (omega arith) ∙ ap (firsts_from q 0) (same 0 (omega arith)))
-      ∙ ap (λ (xs : List Step). record { first = firsts_from q 0 (blocks_in q); steps = xs }) (steps-same 0 (steps_in p) (omega arith) ∙ ap (steps_from q 0) (same 1 (omega arith)))
+      ∙ ap (λ (xs : List Step). record { first = firsts_from q 0 (blocks_in q); steps = xs }) (steps_same 0 (steps_in p) (omega arith) ∙ ap (steps_from q 0) (same 1 (omega arith)))
 
-  formed-same : (t : Table) (end i : ℕ) → i < most_steps → Formed t p end i → Formed t q end i
-  formed-same t end i h f =
+  formed_same : (t : Table) (end i : ℕ) → i < most_steps → Formed t p end i → Formed t q end i
+  formed_same t end i h f =
       let k = same (2050 + 3 * i) (omega arith) in
       let a = same (2051 + 3 * i) (omega arith) in
       let b = same (2052 + 3 * i) (omega arith) in
@@ -84,7 +84,7 @@ module _ (p q : List ℕ) (long : plan_size ≤ length q) (same : (i : ℕ) → 
             let e = end_same b l w.few_blocks in
             let top = (formed_blocks t p w b l).top in
             subst (λ (x : ℕ). Formed t q x i) e
-            (formed-same t (end_in p b) i (omega (arith, e, top, w.few_steps)) (w.formed b i l (omega (arith, same (2 + b) (omega (arith, w.few_blocks)))) (omega (arith, e))));
+            (formed_same t (end_in p b) i (omega (arith, e, top, w.few_steps)) (w.formed b i l (omega (arith, same (2 + b) (omega (arith, w.few_blocks)))) (omega (arith, e))));
       }
 
   -- what is asked of a walk, and what it lists
@@ -103,17 +103,17 @@ module _ (p q : List ℕ) (long : plan_size ≤ length q) (same : (i : ℕ) → 
 
 -- of a longer plan the first numbers do as well
 module _ (table plan : List ℕ) (object : ℕ) (blocks variables pairs report pairs' report' : List ℕ) (long : plan_size ≤ length plan) where
-  first-long : plan_size ≤ length (take plan_size plan)
-  first-long = le_of_eq (sym (length-take-le {A = ℕ} plan_size plan long))
+  first_long : plan_size ≤ length (take plan_size plan)
+  first_long = le_of_eq (sym (length-take-le {A = ℕ} plan_size plan long))
 
-  first-same : (i : ℕ) → i < plan_size → get_or plan i 0 ≡ get_or (take plan_size plan) i 0
-  first-same i h = sym (get_or-take plan_size plan i 0 h)
+  first_same : (i : ℕ) → i < plan_size → get_or plan i 0 ≡ get_or (take plan_size plan) i 0
+  first_same i h = sym (get_or-take plan_size plan i 0 h)
 
-  to-first : CanWalk (table_of table) plan object blocks variables → CanWalk (table_of table) (take plan_size plan) object blocks variables
-  to-first = can_walk_same plan (take plan_size plan) first-long first-same (table_of table) object blocks variables
+  to_first : CanWalk (table_of table) plan object blocks variables → CanWalk (table_of table) (take plan_size plan) object blocks variables
+  to_first = can_walk_same plan (take plan_size plan) first_long first_same (table_of table) object blocks variables
 
   from_first : CanWalk (table_of table) (take plan_size plan) object blocks variables → CanWalk (table_of table) plan object blocks variables
-  from_first = can_walk_same (take plan_size plan) plan long (λ i h. sym (first-same i h)) (table_of table) object blocks variables
+  from_first = can_walk_same (take plan_size plan) plan long (λ i h. sym (first_same i h)) (table_of table) object blocks variables
 
   pub walked_first : {n : ℕ} → Walked table plan object blocks variables pairs report pairs' report' n → Walked table (take plan_size plan) object blocks variables pairs report pairs' report' n
   walked_first (short_report h f g) = short_report h f g
@@ -122,8 +122,8 @@ module _ (table plan : List ℕ) (object : ℕ) (blocks variables pairs report p
   walked_first (refuses_table l s j n f g) = refuses_table l s j n f g
   walked_first (refuses_walk l r n f g) = refuses_walk l r (λ c. n (from_first c)) f g
   walked_first (too_many_pairs l r c m f g) =
-      let e = listed_same plan (take plan_size plan) first-long first-same (table_of table) object blocks variables c in too_many_pairs l r (to-first c) (omega (arith, m, ap length e)) f g
+      let e = listed_same plan (take plan_size plan) first_long first_same (table_of table) object blocks variables c in too_many_pairs l r (to_first c) (omega (arith, m, ap length e)) f g
   walked_first (lists l r c m f g) =
-      let e = listed_same plan (take plan_size plan) first-long first-same (table_of table) object blocks variables c in
-      lists l r (to-first c) (omega (arith, m, ap length e)) (f ∙ ap (λ (ps : List Pair). filled pairs_size (pair_numbers ps) pairs) e)
+      let e = listed_same plan (take plan_size plan) first_long first_same (table_of table) object blocks variables c in
+      lists l r (to_first c) (omega (arith, m, ap length e)) (f ∙ ap (λ (ps : List Pair). filled pairs_size (pair_numbers ps) pairs) e)
       (g ∙ ap (λ (ps : List Pair). filled report_size (accepted ∷ length ps ∷ []) report) e)

@@ -31,29 +31,29 @@ module _ (table plan : List ℕ) (object : ℕ) (blocks variables pairs report :
   abbrev Some : Type 0
   Some = (pairs' report' : List ℕ) × (a : ℕ) × Walked table plan object blocks variables pairs report pairs' report' a
 
-  of-pairs : WalkLent pairs report → Right table → CanWalk (table_of table) plan object blocks variables → Dec (length (listed (table_of table) plan object blocks variables) ≤ most_pairs) → Some
-  of-pairs l r c (yes f) = (_, _, accepted, lists l r c f refl refl)
-  of-pairs l r c (no f) = (_, _, refuse_too_many_pairs, too_many_pairs l r c (lt_of_not-le f) refl refl)
+  of_pairs : WalkLent pairs report → Right table → CanWalk (table_of table) plan object blocks variables → Dec (length (listed (table_of table) plan object blocks variables) ≤ most_pairs) → Some
+  of_pairs l r c (yes f) = (_, _, accepted, lists l r c f refl refl)
+  of_pairs l r c (no f) = (_, _, refuse_too_many_pairs, too_many_pairs l r c (lt_of_not-le f) refl refl)
 
-  of-walk : WalkLent pairs report → Right table → Dec (CanWalk (table_of table) plan object blocks variables) → Some
-  of-walk l r (yes c) = of-pairs l r c (dec_le (length (listed (table_of table) plan object blocks variables)) most_pairs)
-  of-walk l r (no n) = (_, _, refuse_walk, refuses_walk l r n refl refl)
+  of_walk : WalkLent pairs report → Right table → Dec (CanWalk (table_of table) plan object blocks variables) → Some
+  of_walk l r (yes c) = of_pairs l r c (dec_le (length (listed (table_of table) plan object blocks variables)) most_pairs)
+  of_walk l r (no n) = (_, _, refuse_walk, refuses_walk l r n refl refl)
 
-  of-rules : WalkLent pairs report → length table ≤ most_table → Dec (judge table ≡ Accepted) → Some
-  of-rules l s (yes j) = of-walk l (s, j) (can_walk_decided (table_of table) plan object blocks variables)
-  of-rules l s (no n) = (_, _, table_number (judge table), refuses_table l s refl n refl refl)
+  of_rules : WalkLent pairs report → length table ≤ most_table → Dec (judge table ≡ Accepted) → Some
+  of_rules l s (yes j) = of_walk l (s, j) (can_walk_decided (table_of table) plan object blocks variables)
+  of_rules l s (no n) = (_, _, table_number (judge table), refuses_table l s refl n refl refl)
 
-  of-table : WalkLent pairs report → Dec (length table ≤ most_table) → Some
-  of-table l (yes s) = of-rules l s (accepts_or_not (judge table))
-  of-table l (no s) = (_, _, number_of (OverLength input_table), long_table l (lt_of_not-le s) refl refl)
+  of_table : WalkLent pairs report → Dec (length table ≤ most_table) → Some
+  of_table l (yes s) = of_rules l s (accepts_or_not (judge table))
+  of_table l (no s) = (_, _, number_of (OverLength input_table), long_table l (lt_of_not-le s) refl refl)
 
-  of-buffers : report_size ≤ length report → Dec (pairs_size ≤ length pairs) → Some
-  of-buffers h (yes w) = of-table (h, w) (dec_le (length table) most_table)
-  of-buffers h (no w) = (_, _, number_of Buffer, short_pairs h (lt_of_not-le w) refl refl)
+  of_buffers : report_size ≤ length report → Dec (pairs_size ≤ length pairs) → Some
+  of_buffers h (yes w) = of_table (h, w) (dec_le (length table) most_table)
+  of_buffers h (no w) = (_, _, number_of Buffer, short_pairs h (lt_of_not-le w) refl refl)
 
-  of-report : Dec (report_size ≤ length report) → Some
-  of-report (yes h) = of-buffers h (dec_le pairs_size (length pairs))
-  of-report (no h) = (_, _, number_of Buffer, short_report (lt_of_not-le h) refl refl)
+  of_report : Dec (report_size ≤ length report) → Some
+  of_report (yes h) = of_buffers h (dec_le pairs_size (length pairs))
+  of_report (no h) = (_, _, number_of Buffer, short_report (lt_of_not-le h) refl refl)
 
   pub walked_some : (pairs' report' : List ℕ) × (a : ℕ) × Walked table plan object blocks variables pairs report pairs' report' a
-  walked_some = of-report (dec_le report_size (length report))
+  walked_some = of_report (dec_le report_size (length report))

@@ -38,8 +38,8 @@ firsts_end p k (suc n) zero d h = absurd (omega arith)
 firsts_end p k (suc n) (suc b) d h = firsts_end p (suc k) n b d (omega arith)
 
 module _ (p : List ℕ) (w : Walkable p) (b : ℕ) (h : b < blocks_in p) where
-  first-is : get_or (plan_in p).first b 0 ≡ first_in p b
-  first-is = firsts_at p 0 (blocks_in p) b 0 h ∙ ap (first_in p) (zero-add b)
+  first_is : get_or (plan_in p).first b 0 ≡ first_in p b
+  first_is = firsts_at p 0 (blocks_in p) b 0 h ∙ ap (first_in p) (zero-add b)
 
   next_is : get_or (plan_in p).first (suc b) (length (plan_in p).steps) ≡ end_in p b
   next_is = go (dec_lt (suc b) (blocks_in p))
@@ -50,15 +50,15 @@ module _ (p : List ℕ) (w : Walkable p) (b : ℕ) (h : b < blocks_in p) where
 
   pub block_is : block_of (plan_in p) b ≡ steps_from p (first_in p b) (end_in p b - first_in p b)
   block_is =
-      ap (λ (a : ℕ). take (get_or (plan_in p).first (suc b) (length (plan_in p).steps) - a) (drop a (plan_in p).steps)) first-is
+      ap (λ (a : ℕ). take (get_or (plan_in p).first (suc b) (length (plan_in p).steps) - a) (drop a (plan_in p).steps)) first_is
       ∙ ap (λ (e : ℕ). take (e - first_in p b) (drop (first_in p b) (plan_in p).steps)) next_is
       ∙ steps_part p (steps_in p) (first_in p b) (end_in p b - first_in p b) 0 (omega (arith, w.order b h, w.top b h))
       ∙ ap (λ (i : ℕ). steps_from p i (end_in p b - first_in p b)) (zero-add (first_in p b))
 
-  walked-is : (vars fits l : List ℕ) (o : List Pair) → block_walk p (first_in p b) (end_in p b) vars fits l o ≡ after_block p b vars fits record { met = l; out = o }
-  walked-is vars fits l o =
+  walked_is : (vars fits l : List ℕ) (o : List Pair) → block_walk p (first_in p b) (end_in p b) vars fits l o ≡ after_block p b vars fits record { met = l; out = o }
+  walked_is vars fits l o =
       ap (λ (ss : List Step). walk (is_one vars) (is_one fits) ss (first_in p b) 0 record { met = l; out = o }) (sym block_is)
-      ∙ ap (λ (a : ℕ). walk (is_one vars) (is_one fits) (block_of (plan_in p) b) a 0 record { met = l; out = o }) (sym first-is)
+      ∙ ap (λ (a : ℕ). walk (is_one vars) (is_one fits) (block_of (plan_in p) b) a 0 record { met = l; out = o }) (sym first_is)
 
   pub block_ready : (vars fits met out : List ℕ) (n from end : ℕ) → from ≡ first_in p b → end ≡ end_in p b → Room vars fits met out → n ≤ 512 → Ready p from end vars fits met out n
   block_ready vars fits met out n from end e f r g = record {
@@ -77,7 +77,7 @@ module _ (p : List ℕ) (w : Walkable p) (b : ℕ) (h : b < blocks_in p) where
       → Walks p b vars fits met out n met' out' r
   block_walks vars fits met out n from end met' out' r e f g l o q c =
       let s : block_walk p from end vars fits l o ≡ after_block p b vars fits record { met = l; out = o }
-      = ap (λ (x : ℕ). block_walk p x end vars fits l o) e ∙ ap (λ (x : ℕ). block_walk p (first_in p b) x vars fits l o) f ∙ walked-is vars fits l o in
+      = ap (λ (x : ℕ). block_walk p x end vars fits l o) e ∙ ap (λ (x : ℕ). block_walk p (first_in p b) x vars fits l o) f ∙ walked_is vars fits l o in
       subst (λ (x : State). Over r x ⊎ Held r met' out' x) s (g l o q c)
 
 -- a well_formed plan can be walked

@@ -17,19 +17,19 @@ use Rattle.plan_walk_blocks.specs.Answers.{key_in, pairs_from, before}
 
 -- whether a key came before, from the last pair down
 module _ (f : List ℕ) (key j : ℕ) (h : 0 < j) where
-  before-step : before f j key ≡ eqb key (key_in f (j - 1)) || before f (j - 1) key
+  before_step : before f j key ≡ eqb key (key_in f (j - 1)) || before f (j - 1) key
   unfolding before
-  before-step = go j h
+  before_step = go j h
     where
       go : (i : ℕ) → 0 < i → before f i key ≡ eqb key (key_in f (i - 1)) || before f (i - 1) key
       go zero l = absurd (omega arith)
       go (suc i) l = let z : i ≡ suc i - 1 = omega arith in ap (λ (k : ℕ). eqb key (key_in f k) || before f k key) z
 
   pub before_found : key_in f (j - 1) ≡ key → before f j key ≡ true
-  before_found e = before-step ∙ rw (eq-eqb key (key_in f (j - 1)) (sym e))
+  before_found e = before_step ∙ rw (eq-eqb key (key_in f (j - 1)) (sym e))
 
   pub before_on : (key_in f (j - 1) ≡ key → ⊥) → before f j key ≡ before f (j - 1) key
-  before_on n = before-step ∙ rw (ne_eqb key (key_in f (j - 1)) (λ q. n (sym q)))
+  before_on n = before_step ∙ rw (ne_eqb key (key_in f (j - 1)) (λ q. n (sym q)))
 
 pub before_none : (f : List ℕ) (key : ℕ) → before f 0 key ≡ false
 unfolding before

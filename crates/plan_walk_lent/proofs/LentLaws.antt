@@ -77,16 +77,16 @@ module _ (t book p vars fits : List ℕ) (b : Booked t book) (w : WellFormed (ta
       subst (AllSame (is_one vars) one two) (sym (block_is p y k h))
       (all_same (first_in p k) (end_in p k - first_in p k) (λ j u v. same_step (end_in p k) j (w.formed k j h u (omega (arith, v, y.order k h)))))
 
-  blocks-same : (bs : List ℕ) (s : State) → ((j : ℕ) → j < length bs → get_or bs j 0 < blocks_in p) → blocks (is_one vars) one (plan_in p) bs s ≡ blocks (is_one vars) two (plan_in p) bs s
+  blocks_same : (bs : List ℕ) (s : State) → ((j : ℕ) → j < length bs → get_or bs j 0 < blocks_in p) → blocks (is_one vars) one (plan_in p) bs s ≡ blocks (is_one vars) two (plan_in p) bs s
   unfolding blocks
-  blocks-same [] s h = refl
-  blocks-same (k ∷ bs) s h =
+  blocks_same [] s h = refl
+  blocks_same (k ∷ bs) s h =
       ap (blocks (is_one vars) one (plan_in p) bs) (same_walk (is_one vars) one two (block_of (plan_in p) k) (get_or (plan_in p).first k 0) 0 s (block_same k (h 0 (omega arith))))
-      ∙ blocks-same bs (walk (is_one vars) two (block_of (plan_in p) k) (get_or (plan_in p).first k 0) 0 s) (λ j l. h (suc j) (omega arith))
+      ∙ blocks_same bs (walk (is_one vars) two (block_of (plan_in p) k) (get_or (plan_in p).first k 0) 0 s) (λ j l. h (suc j) (omega arith))
 
   -- the answer for the object type of record o
   pub lent_answer : (bs : List ℕ) → ((j : ℕ) → j < length bs → get_or bs j 0 < blocks_in p) → answer_of p bs vars fits ≡ walk_answer (is_one vars) (λ k. applies (table_of t) k o) (plan_in p) bs
-  lent_answer bs h = ap (λ (s : State). pairs (grouped [] s.out)) (blocks-same bs record { met = []; out = [] } h)
+  lent_answer bs h = ap (λ (s : State). pairs (grouped [] s.out)) (blocks_same bs record { met = []; out = [] } h)
 
 -- a plan that was made of an accepted document: demand 3
 pub lent_collects : (t book document : List ℕ) (rs : List Row) (a : AcceptedDocument t document rs) (op : ℕ) (rows more vars fits : List ℕ) (o : ℕ)

@@ -97,19 +97,19 @@ module _ (vars one two : ℕ → Bool) where
   AllSame [] = Unit {0}
   AllSame (x ∷ xs) = Same x × AllSame xs
 
-  same-goal : (x : Step) (s : State) → Same x → goal vars one x s ≡ goal vars two x s
-  same-goal (leave (if_true v) n) s e = refl
-  same-goal (leave (unless_true v) n) s e = refl
-  same-goal (leave (unless_applies t) n) s e = ap (λ (b : Bool). cond (not b) n 0) e
-  same-goal (leave (if_met f) n) s e = refl
-  same-goal (list k r) s e = refl
+  same_goal : (x : Step) (s : State) → Same x → goal vars one x s ≡ goal vars two x s
+  same_goal (leave (if_true v) n) s e = refl
+  same_goal (leave (unless_true v) n) s e = refl
+  same_goal (leave (unless_applies t) n) s e = ap (λ (b : Bool). cond (not b) n 0) e
+  same_goal (leave (if_met f) n) s e = refl
+  same_goal (list k r) s e = refl
 
-  same-does : (x : Step) (s : State) → does vars one x s ≡ does vars two x s
-  same-does (leave (if_true v) n) s = refl
-  same-does (leave (unless_true v) n) s = refl
-  same-does (leave (unless_applies t) n) s = refl
-  same-does (leave (if_met f) n) s = refl
-  same-does (list k r) s = refl
+  same_does : (x : Step) (s : State) → does vars one x s ≡ does vars two x s
+  same_does (leave (if_true v) n) s = refl
+  same_does (leave (unless_true v) n) s = refl
+  same_does (leave (unless_applies t) n) s = refl
+  same_does (leave (if_met f) n) s = refl
+  same_does (list k r) s = refl
 
   pub same_walk : (xs : List Step) (pc to : ℕ) (s : State) → AllSame xs → walk vars one xs pc to s ≡ walk vars two xs pc to s
   unfolding walk
@@ -118,4 +118,4 @@ module _ (vars one two : ℕ → Bool) where
       ap (λ (u : State). cond (ltb pc to) u (walk vars one xs (suc pc) (goal vars one x s) (does vars one x s))) (same_walk xs (suc pc) to s e.1)
       ∙ ap (λ (u : State). cond (ltb pc to) (walk vars two xs (suc pc) to s) u)
       (same_walk xs (suc pc) (goal vars one x s) (does vars one x s) e.1
-      ∙ ap (λ (g : ℕ). walk vars two xs (suc pc) g (does vars one x s)) (same-goal x s e.0) ∙ ap (walk vars two xs (suc pc) (goal vars two x s)) (same-does x s))
+      ∙ ap (λ (g : ℕ). walk vars two xs (suc pc) g (does vars one x s)) (same_goal x s e.0) ∙ ap (walk vars two xs (suc pc) (goal vars two x s)) (same_does x s))

@@ -62,11 +62,11 @@ module _ (table document name plan : List ℕ) (rs : List Row) (op : ℕ) (rows 
   zeros = replicate (plan_size - length (plan_numbers the)) 0
 
   -- the buffer, with the plan's numbers in front
-  more-are : filled plan_size (plan_numbers the) plan ≡ plan_numbers the ++ (zeros ++ drop plan_size plan)
-  more-are = append_assoc (plan_numbers the) zeros (drop plan_size plan)
+  more_are : filled plan_size (plan_numbers the) plan ≡ plan_numbers the ++ (zeros ++ drop plan_size plan)
+  more_are = append_assoc (plan_numbers the) zeros (drop plan_size plan)
 
-  blocks-in : blocks_in (filled plan_size (plan_numbers the) plan) ≡ length rows
-  blocks-in = blocks_count (table_of table) doc op (accepted_plannable table document rs (opened_document o)) (accepted_sane table document rs (opened_document o) op (opened_operation o)) (opened_operation o) rows w []
+  blocks_in_is : blocks_in (filled plan_size (plan_numbers the) plan) ≡ length rows
+  blocks_in_is = blocks_count (table_of table) doc op (accepted_plannable table document rs (opened_document o)) (accepted_sane table document rs (opened_document o) op (opened_operation o)) (opened_operation o) rows w []
 
   module _ (few : length the.steps ≤ most_steps) where
     formed : WellFormed (table_of table) (plan_numbers the ++ (zeros ++ drop plan_size plan))
@@ -76,16 +76,16 @@ module _ (table document name plan : List ℕ) (rs : List Row) (op : ℕ) (rows 
 
     module _ (short : length table ≤ most_table) (object : ℕ) (variables : List ℕ) (is-object : is_object (definition_at (table_of table) object) ≡ true) (long : variables_size ≤ length variables)
         (pairs report pairs' report' : List ℕ) (n : ℕ) (lent : WalkLent pairs report) where
-      made-collects : (holders : List ℕ) → Among rows holders → length holders ≤ most_walked → Walked table (filled plan_size (plan_numbers the) plan) object (map (block_in rows) holders) variables pairs report pairs' report' n →
+      made_collects : (holders : List ℕ) → Among rows holders → length holders ≤ most_walked → Walked table (filled plan_size (plan_numbers the) plan) object (map (block_in rows) holders) variables pairs report pairs' report' n →
           Collected (table_of table) doc op object holders variables pairs report pairs' report' n
-      made-collects holders a f c =
+      made_collects holders a f c =
           let x = opened_document o in
           let g = collection_some table document rs x op (is_one variables) object holders in (
             g.0,
             g.1,
             λ h q. collection_one table document rs x op (is_one variables) object holders g.0 h g.1 q,
             walked_collects table document rs x op rows (zeros ++ drop plan_size plan) object holders variables a formed is-object f long g.0 g.1 pairs report pairs' report' n lent short
-                (subst (λ (l : List ℕ). Walked table l object (map (block_in rows) holders) variables pairs report pairs' report' n) more-are c),
+                (subst (λ (l : List ℕ). Walked table l object (map (block_in rows) holders) variables pairs report pairs' report' n) more_are c),
           )
 
 -- what a call leaves that makes a plan
@@ -112,10 +112,10 @@ module _ (table document name plan plan' : List ℕ) (m : Made table document na
     few_steps = omega (arith, m.few, ap (λ (p : Plan). length p.steps) same)
 
     pub made_blocks : blocks_in plan' ≡ length rows
-    made_blocks = ap blocks_in left ∙ blocks-in table document name plan rs op rows o w
+    made_blocks = ap blocks_in left ∙ blocks_in_is table document name plan rs op rows o w
 
-    made-formed : WellFormed (table_of table) plan'
-    made-formed = subst (WellFormed (table_of table)) (sym (left ∙ more-are table document name plan rs op rows o w)) (formed table document name plan rs op rows o w few_steps)
+    made_formed : WellFormed (table_of table) plan'
+    made_formed = subst (WellFormed (table_of table)) (sym (left ∙ more_are table document name plan rs op rows o w)) (formed table document name plan rs op rows o w few_steps)
 
     module _ (object : ℕ) (variables : List ℕ) (is-object : is_object (definition_at (table_of table) object) ≡ true) (long : variables_size ≤ length variables)
         (pairs report pairs' report' : List ℕ) (n : ℕ) (lent : WalkLent pairs report) where
@@ -123,7 +123,7 @@ module _ (table document name plan plan' : List ℕ) (m : Made table document na
       pub planned_rows : (holders : List ℕ) → Among rows holders → length holders ≤ most_walked → Walked table plan' object (map (block_in rows) holders) variables pairs report pairs' report' n →
           Collected (table_of table) (read document rs) op object holders variables pairs report pairs' report' n
       planned_rows holders a f c =
-          made-collects table document name plan rs op rows o w few_steps m.short.1 object variables is-object long pairs report pairs' report' n lent holders a f
+          made_collects table document name plan rs op rows o w few_steps m.short.1 object variables is-object long pairs report pairs' report' n lent holders a f
           (subst (λ (l : List ℕ). Walked table l object (map (block_in rows) holders) variables pairs report pairs' report' n) left c)
 
       -- by the blocks' numbers
@@ -135,4 +135,4 @@ module _ (table document name plan plan' : List ℕ) (m : Made table document na
           (subst (λ (l : List ℕ). Walked table plan' object l variables pairs report pairs' report' n) (sym (blocks_back (read document rs) op (opened_operation o) rows w blocks known)) c)
 
   pub planned_formed : WellFormed (table_of table) plan'
-  planned_formed = made-formed m.is.rows m.is.operation m.is.blocks m.is.opened m.is.their
+  planned_formed = made_formed m.is.rows m.is.operation m.is.blocks m.is.opened m.is.their

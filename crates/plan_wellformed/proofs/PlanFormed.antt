@@ -58,11 +58,11 @@ module _ (t : Table) (d : Doc) (op : ℕ) (ok : Plannable d) (sane : Sane t d op
   abbrev sets : List (List ℕ)
   sets = map (set_of d) rows
 
-  sets-count : length sets ≡ length rows
-  sets-count = length-map rows (set_of d)
+  sets_count : length sets ≡ length rows
+  sets_count = length-map rows (set_of d)
 
   pub blocks_count : length the.first ≡ length rows
-  blocks_count = firsts_length (by_numbers t d op) (suc (count d)) 0 sets ∙ sets-count
+  blocks_count = firsts_length (by_numbers t d op) (suc (count d)) 0 sets ∙ sets_count
 
   pub blocks_most : length the.first ≤ most_blocks
   blocks_most = omega (arith, blocks_count, blocks_few d op operation rows w, ok.few)
@@ -70,16 +70,16 @@ module _ (t : Table) (d : Doc) (op : ℕ) (ok : Plannable d) (sane : Sane t d op
   abbrev first : ℕ → ℕ
   first b = get_or the.first b 0
 
-  first-is : (b : ℕ) → b < length the.first → first_in numbers b ≡ first b
-  first-is = plan_first the blocks_most more
+  first_is : (b : ℕ) → b < length the.first → first_in numbers b ≡ first b
+  first_is = plan_first the blocks_most more
 
   formed : (b i : ℕ) → b < length the.first → first_in numbers b ≤ i → i < end_in numbers b → Formed t numbers (end_in numbers b) i
   formed b i h l u =
       let e = end_in_is the more b blocks_most in
       subst (λ (n : ℕ). Formed t numbers n i) (sym e)
       (block_formed (by_numbers t d op) (suc (count d)) t numbers sets 0 b i (length the.steps) (plan_stands the more blocks_most)
-      (program_right t d op ok sane (suc (count d)) 0 rows (blocks_reached d op operation rows w)) (omega (arith, blocks_count, sets-count)) (omega arith)
-      (omega (arith, first-is b h)) (omega (arith, e)))
+      (program_right t d op ok sane (suc (count d)) 0 rows (blocks_reached d op operation rows w)) (omega (arith, blocks_count, sets_count)) (omega arith)
+      (omega (arith, first_is b h)) (omega (arith, e)))
 
   -- at most 4,096 steps, and 14,338 numbers lent
   pub plan_formed : length the.steps ≤ most_steps → plan_size ≤ length numbers → WellFormed t numbers
@@ -88,8 +88,8 @@ module _ (t : Table) (d : Doc) (op : ℕ) (ok : Plannable d) (sane : Sane t d op
     some = omega (arith, blocks_count, blocks_some d op operation rows w);
     few_blocks = blocks_most;
     few_steps = few;
-    zeroth = first-is 0 (omega (arith, blocks_count, blocks_some d op operation rows w)) ∙ first_zero (by_numbers t d op) (suc (count d)) sets;
-    rising = λ b h. omega (arith, first-is b (omega arith), first-is (suc b) h, first_rises (by_numbers t d op) (suc (count d)) sets 0 b (omega (arith, blocks_count, sets-count)));
-    inside = λ b h. omega (arith, first-is b h, first_inside (by_numbers t d op) (suc (count d)) sets 0 b (omega (arith, blocks_count, sets-count)));
+    zeroth = first_is 0 (omega (arith, blocks_count, blocks_some d op operation rows w)) ∙ first_zero (by_numbers t d op) (suc (count d)) sets;
+    rising = λ b h. omega (arith, first_is b (omega arith), first_is (suc b) h, first_rises (by_numbers t d op) (suc (count d)) sets 0 b (omega (arith, blocks_count, sets_count)));
+    inside = λ b h. omega (arith, first_is b h, first_inside (by_numbers t d op) (suc (count d)) sets 0 b (omega (arith, blocks_count, sets_count)));
     formed = formed;
   }

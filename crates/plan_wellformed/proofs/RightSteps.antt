@@ -45,25 +45,25 @@ module _ (t : Table) where
   AllRight [] = Unit {0}
   AllRight (s ∷ ss) = Right s × AllRight ss
 
-  tests-both : (xs ys : List Test) → RightTests xs → RightTests ys → RightTests (xs ++ ys)
-  tests-both [] ys a b = b
-  tests-both (x ∷ xs) ys a b = (a.0, tests-both xs ys a.1 b)
+  tests_both : (xs ys : List Test) → RightTests xs → RightTests ys → RightTests (xs ++ ys)
+  tests_both [] ys a b = b
+  tests_both (x ∷ xs) ys a b = (a.0, tests_both xs ys a.1 b)
 
-  steps-both : (xs ys : List Step) → AllRight xs → AllRight ys → AllRight (xs ++ ys)
-  steps-both [] ys a b = b
-  steps-both (x ∷ xs) ys a b = (a.0, steps-both xs ys a.1 b)
+  steps_both : (xs ys : List Step) → AllRight xs → AllRight ys → AllRight (xs ++ ys)
+  steps_both [] ys a b = b
+  steps_both (x ∷ xs) ys a b = (a.0, steps_both xs ys a.1 b)
 
   pub right_later : (xs ys : List Step) → AllRight (xs ++ ys) → AllRight ys
   right_later [] ys a = a
   right_later (x ∷ xs) ys a = right_later xs ys a.1
 
-  closed-right : (past : ℕ) (ts : List Test) → RightTests ts → AllRight (leaves_past past ts)
-  closed-right past [] a = tt
-  closed-right past (x ∷ ts) a = (a.0, closed-right past ts a.1)
+  closed_right : (past : ℕ) (ts : List Test) → RightTests ts → AllRight (leaves_past past ts)
+  closed_right past [] a = tt
+  closed_right past (x ∷ ts) a = (a.0, closed_right past ts a.1)
 
-  unless-right : (b : Bool) (s : List Step) → AllRight s → AllRight (unless_dropped b s)
-  unless-right true s a = tt
-  unless-right false s a = a
+  unless_right : (b : Bool) (s : List Step) → AllRight s → AllRight (unless_dropped b s)
+  unless_right true s a = tt
+  unless_right false s a = a
 
 -- what reaches a row reaches its selections
 no_definition : (r : Row) → is_selection r ≡ true → T (not (is_definition r))
@@ -94,75 +94,75 @@ module _ (t : Table) (d : Doc) (op : ℕ) (ok : Plannable d) (sane : Sane t d op
   set_found : (p : ℕ) → Reaches d op p → AllFound (set_of d p)
   set_found p h r e = let o = of_set d p r e in record { low = o.low; selection = o.selection; reached = reaches_set d op p r o h }
 
-  fragment-placed : (f : List ℕ) → fragment_row d (fragment_number d f) ≡ fragment_named d f
+  fragment_placed : (f : List ℕ) → fragment_row d (fragment_number d f) ≡ fragment_named d f
   unfolding fragment_named
-  fragment-placed f = where_placed (is kind_fragment) d (called d f)
+  fragment_placed f = where_placed (is kind_fragment) d (called d f)
 
   module _ (r : ℕ) (f : Found r) where
-    skip-right : (c : Cond) → if_of d op (bytes "skip") r ≡ c → RightTests t (skip_tests c)
-    skip-right absent e = tt
-    skip-right (literal b) e = tt
-    skip-right (variable v) e = (sane.skip_below r v f.reached f.selection e, tt)
+    skip_right : (c : Cond) → if_of d op (bytes "skip") r ≡ c → RightTests t (skip_tests c)
+    skip_right absent e = tt
+    skip_right (literal b) e = tt
+    skip_right (variable v) e = (sane.skip_below r v f.reached f.selection e, tt)
 
-    include-right : (c : Cond) → if_of d op (bytes "include") r ≡ c → RightTests t (include_tests c)
-    include-right absent e = tt
-    include-right (literal b) e = tt
-    include-right (variable v) e = (sane.include_below r v f.reached f.selection e, tt)
+    include_right : (c : Cond) → if_of d op (bytes "include") r ≡ c → RightTests t (include_tests c)
+    include_right absent e = tt
+    include_right (literal b) e = tt
+    include_right (variable v) e = (sane.include_below r v f.reached f.selection e, tt)
 
-    condition-right : (c : Option ℕ) → type_if t d (condition_of d r) ≡ c → RightTests t (condition_tests c)
-    condition-right none e = tt
-    condition-right (some k) e = (sane.inline_output r k e f.selection, tt)
+    condition_right : (c : Option ℕ) → type_if t d (condition_of d r) ≡ c → RightTests t (condition_tests c)
+    condition_right none e = tt
+    condition_right (some k) e = (sane.inline_output r k e f.selection, tt)
 
     -- what is so of a spread's fragment, by its row, is so by its number
     by_number : (P : ℕ → Type 0) → P (fragment_named d (name_of d r)) → P (fragment_row d (fragment_number d (name_of d r)))
-    by_number P = subst P (sym (fragment-placed (name_of d r)))
+    by_number P = subst P (sym (fragment_placed (name_of d r)))
 
-    spread-right : is kind_spread (row_of d r) ≡ true → RightTests t (sortTests view (spread (fragment_number d (name_of d r))))
-    spread-right q =
+    spread_right : is kind_spread (row_of d r) ≡ true → RightTests t (sortTests view (spread (fragment_number d (name_of d r))))
+    spread_right q =
         let there = ok.spreads r q in
         let n = fragment_row d (fragment_number d (name_of d r)) in
         let fragment : is kind_fragment (row_of d n) ≡ true = by_number (λ (i : ℕ). is kind_fragment (row_of d i) ≡ true) (fragment_is d (name_of d r) there).1 in
         (sane.fragment_below (name_of d r) there, (sane.on_output n fragment, tt))
 
-    sort-right : (b c : Bool) → is kind_field (row_of d r) ≡ b → is kind_spread (row_of d r) ≡ c →
+    sort_right : (b c : Bool) → is kind_field (row_of d r) ≡ b → is kind_spread (row_of d r) ≡ c →
         RightTests t (sortTests view (number_sort d (cond b (field (key_at d r)) (cond c (spread (name_of d r)) (inline (type_if t d (condition_of d r)))))))
-    sort-right true c e q = tt
-    sort-right false true e q = spread-right q
-    sort-right false false e q = condition-right (type_if t d (condition_of d r)) refl
+    sort_right true c e q = tt
+    sort_right false true e q = spread_right q
+    sort_right false false e q = condition_right (type_if t d (condition_of d r)) refl
 
-    tests-right : RightTests t (tests view r)
-    tests-right =
-        tests-both t (skip_tests (view.skip r)) (include_tests (view.include r) ++ sortTests view (view.sort r)) (skip-right (view.skip r) refl)
-        (tests-both t (include_tests (view.include r)) (sortTests view (view.sort r)) (include-right (view.include r) refl)
-        (sort-right (is kind_field (row_of d r)) (is kind_spread (row_of d r)) refl refl))
+    tests_right : RightTests t (tests view r)
+    tests_right =
+        tests_both t (skip_tests (view.skip r)) (include_tests (view.include r) ++ sortTests view (view.sort r)) (skip_right (view.skip r) refl)
+        (tests_both t (include_tests (view.include r)) (sortTests view (view.sort r)) (include_right (view.include r) refl)
+        (sort_right (is kind_field (row_of d r)) (is kind_spread (row_of d r)) refl refl))
 
-    content-right : (inner : ℕ → List ℕ → List Step) → ((at : ℕ) (rs : List ℕ) → AllFound rs → AllRight t (inner at rs)) → (at : ℕ) (b c : Bool) →
+    content_right : (inner : ℕ → List ℕ → List Step) → ((at : ℕ) (rs : List ℕ) → AllFound rs → AllRight t (inner at rs)) → (at : ℕ) (b c : Bool) →
         is kind_field (row_of d r) ≡ b → is kind_spread (row_of d r) ≡ c →
         AllRight t (content view inner at r (number_sort d (cond b (field (key_at d r)) (cond c (spread (name_of d r)) (inline (type_if t d (condition_of d r)))))))
-    content-right inner right at true c e q = ((omega (arith, key_most d r f.low e, f.low, ok.few), omega (arith, f.low, ok.few)), tt)
-    content-right inner right at false true e q =
+    content_right inner right at true c e q = ((omega (arith, key_most d r f.low e, f.low, ok.few), omega (arith, f.low, ok.few)), tt)
+    content_right inner right at false true e q =
         right at (set_of d (fragment_row d (fragment_number d (name_of d r)))) (set_found (fragment_row d (fragment_number d (name_of d r))) (by_number (Reaches d op) (through f.reached (spread_of d ok r q) itself)))
-    content-right inner right at false false e q = right at (set_of d r) (set_found r f.reached)
+    content_right inner right at false false e q = right at (set_of d r) (set_found r f.reached)
 
-    selection-right : (inner : ℕ → List ℕ → List Step) → ((at : ℕ) (rs : List ℕ) → AllFound rs → AllRight t (inner at rs)) → (at : ℕ) → AllRight t (selection view inner at r)
-    selection-right inner right at =
+    selection_right : (inner : ℕ → List ℕ → List Step) → ((at : ℕ) (rs : List ℕ) → AllFound rs → AllRight t (inner at rs)) → (at : ℕ) → AllRight t (selection view inner at r)
+    selection_right inner right at =
         let n = at + length (tests view r) in
         let b = content view inner n r (view.sort r) in
-        unless-right t (dropped (view.skip r) (view.include r)) (guarded (tests view r) at b)
-        (steps-both t (leaves_past (n + length b) (tests view r)) b (closed-right t (n + length b) (tests view r) tests-right)
-        (content-right inner right n (is kind_field (row_of d r)) (is kind_spread (row_of d r)) refl refl))
+        unless_right t (dropped (view.skip r) (view.include r)) (guarded (tests view r) at b)
+        (steps_both t (leaves_past (n + length b) (tests view r)) b (closed_right t (n + length b) (tests view r) tests_right)
+        (content_right inner right n (is kind_field (row_of d r)) (is kind_spread (row_of d r)) refl refl))
 
-  selections-right : (inner : ℕ → List ℕ → List Step) → ((at : ℕ) (rs : List ℕ) → AllFound rs → AllRight t (inner at rs)) → (at : ℕ) (rs : List ℕ) → AllFound rs → AllRight t (selections view inner at rs)
-  selections-right inner right at [] f = tt
-  selections-right inner right at (r ∷ rs) f =
+  selections_right : (inner : ℕ → List ℕ → List Step) → ((at : ℕ) (rs : List ℕ) → AllFound rs → AllRight t (inner at rs)) → (at : ℕ) (rs : List ℕ) → AllFound rs → AllRight t (selections view inner at rs)
+  selections_right inner right at [] f = tt
+  selections_right inner right at (r ∷ rs) f =
       let s = selection view inner at r in
-      steps-both t s (selections view inner (at + length s) rs) (selection-right r (f r (or_l (elem eqb r rs) (eq-eqb r r refl))) inner right at)
-      (selections-right inner right (at + length s) rs (λ y e. f y (or_r (eqb y r) e)))
+      steps_both t s (selections view inner (at + length s) rs) (selection_right r (f r (or_l (elem eqb r rs) (eq-eqb r r refl))) inner right at)
+      (selections_right inner right (at + length s) rs (λ y e. f y (or_r (eqb y r) e)))
 
-  plan-right : (k at : ℕ) (rs : List ℕ) → AllFound rs → AllRight t (plan view k at rs)
+  plan_right : (k at : ℕ) (rs : List ℕ) → AllFound rs → AllRight t (plan view k at rs)
   unfolding plan
-  plan-right zero at rs f = tt
-  plan-right (suc k) at rs f = selections-right (λ at' rs'. plan view k at' rs') (λ at' rs' f'. plan-right k at' rs' f') at rs f
+  plan_right zero at rs f = tt
+  plan_right (suc k) at rs f = selections_right (λ at' rs'. plan view k at' rs') (λ at' rs' f'. plan_right k at' rs' f') at rs f
 
   -- the blocks of rows that the operation reaches
   pub program_right : (k at : ℕ) (rows : List ℕ) → ((h : ℕ) → elem eqb h rows ≡ true → Reaches d op h) → AllRight t (program view k at (map (set_of d) rows))
@@ -170,5 +170,5 @@ module _ (t : Table) (d : Doc) (op : ℕ) (ok : Plannable d) (sane : Sane t d op
   program_right k at [] f = tt
   program_right k at (h ∷ rows) f =
       let s = plan view k at (set_of d h) in
-      steps-both t s (program view k (at + length s) (map (set_of d) rows)) (plan-right k at (set_of d h) (set_found h (f h (or_l (elem eqb h rows) (eq-eqb h h refl)))))
+      steps_both t s (program view k (at + length s) (map (set_of d) rows)) (plan_right k at (set_of d h) (set_found h (f h (or_l (elem eqb h rows) (eq-eqb h h refl)))))
       (program_right k (at + length s) rows (λ y e. f y (or_r (eqb y h) e)))

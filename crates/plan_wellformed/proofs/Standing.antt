@@ -69,9 +69,9 @@ stand_later p [] ys i j e a = let z : i ≡ j = omega arith in subst (λ (n : �
 stand_later p (x ∷ xs) ys i j e a = stand_later p xs ys (suc i) j (omega arith) a.1
 
 module _ (t : Table) (p : List ℕ) (end : ℕ) where
-  leave-formed : (i k v n : ℕ) → kind_at p i ≡ k → one_at p i ≡ v → two_at p i ≡ n → 1 ≤ k → k < step_list → (k ≤ step_unless_true → v < most_variables) →
+  leave_formed : (i k v n : ℕ) → kind_at p i ≡ k → one_at p i ≡ v → two_at p i ≡ n → 1 ≤ k → k < step_list → (k ≤ step_unless_true → v < most_variables) →
       (k ≡ step_unless_applies → is_composite (definition_at t v) ≡ true) → (k ≡ step_if_met → v < most_fragments) → i < n → n ≤ end → Formed t p end i
-  leave-formed i k v n e f g low high variables applies met later within = record {
+  leave_formed i k v n e f g low high variables applies met later within = record {
     low = omega (arith, e);
     high = omega (arith, e);
     variable_low = λ h. omega (arith, f, variables (omega (arith, e)));
@@ -82,16 +82,16 @@ module _ (t : Table) (p : List ℕ) (end : ℕ) where
     within = λ h. omega (arith, g);
   }
 
-  step-formed : (i : ℕ) (s : Step) → Stands p i s → Goes i end s → Right t s → Formed t p end i
-  step-formed i (leave (if_true v) n) w g r =
-      leave-formed i step_if_true v n w.kind w.one w.two (omega arith) (omega arith) (λ h. r) (λ h. absurd (omega (arith, h))) (λ h. absurd (omega (arith, h))) g.0 g.1
-  step-formed i (leave (unless_true v) n) w g r =
-      leave-formed i step_unless_true v n w.kind w.one w.two (omega arith) (omega arith) (λ h. r) (λ h. absurd (omega (arith, h))) (λ h. absurd (omega (arith, h))) g.0 g.1
-  step-formed i (leave (unless_applies k) n) w g r =
-      leave-formed i step_unless_applies k n w.kind w.one w.two (omega arith) (omega arith) (λ h. absurd (omega (arith, h))) (λ h. r) (λ h. absurd (omega (arith, h))) g.0 g.1
-  step-formed i (leave (if_met f) n) w g r =
-      leave-formed i step_if_met f n w.kind w.one w.two (omega arith) (omega arith) (λ h. absurd (omega (arith, h))) (λ h. absurd (omega (arith, h))) (λ h. r) g.0 g.1
-  step-formed i (list k r) w g x = record {
+  step_formed : (i : ℕ) (s : Step) → Stands p i s → Goes i end s → Right t s → Formed t p end i
+  step_formed i (leave (if_true v) n) w g r =
+      leave_formed i step_if_true v n w.kind w.one w.two (omega arith) (omega arith) (λ h. r) (λ h. absurd (omega (arith, h))) (λ h. absurd (omega (arith, h))) g.0 g.1
+  step_formed i (leave (unless_true v) n) w g r =
+      leave_formed i step_unless_true v n w.kind w.one w.two (omega arith) (omega arith) (λ h. r) (λ h. absurd (omega (arith, h))) (λ h. absurd (omega (arith, h))) g.0 g.1
+  step_formed i (leave (unless_applies k) n) w g r =
+      leave_formed i step_unless_applies k n w.kind w.one w.two (omega arith) (omega arith) (λ h. absurd (omega (arith, h))) (λ h. r) (λ h. absurd (omega (arith, h))) g.0 g.1
+  step_formed i (leave (if_met f) n) w g r =
+      leave_formed i step_if_met f n w.kind w.one w.two (omega arith) (omega arith) (λ h. absurd (omega (arith, h))) (λ h. absurd (omega (arith, h))) (λ h. r) g.0 g.1
+  step_formed i (list k r) w g x = record {
     low = omega (arith, w.kind);
     high = omega (arith, w.kind);
     variable_low = λ h. absurd (omega (arith, w.kind, h));
@@ -109,4 +109,4 @@ module _ (t : Table) (p : List ℕ) (end : ℕ) where
     where
       go : Dec (i < j) → (i < j → Formed t p end j) → Formed t p end j
       go (yes u) ih = ih u
-      go (no u) ih = let e : i ≡ j = omega arith in subst (Formed t p end) e (step-formed i x w.0 a.0 r.0)
+      go (no u) ih = let e : i ≡ j = omega arith in subst (Formed t p end) e (step_formed i x w.0 a.0 r.0)

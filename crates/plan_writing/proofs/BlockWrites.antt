@@ -48,9 +48,9 @@ module _ (t : List ℕ) (n : ℕ) (hs : List ℕ) where
         w.steps_rest ∙ ap (λ (l : List ℕ). w.raws ++ rawProgram t n at l) (drop-cons hs b 0 low) ∙ ap (λ (x : ℕ). w.raws ++ rawProgram t n at (x ∷ drop (suc b) hs)) (sym eh)
         ∙ sym (append_assoc w.raws s (rawProgram t n (at + length s) (drop (suc b) hs)))
 
-    firsts-next : rawFirsts t n 0 hs ≡ (w.firsts ++ (at ∷ [])) ++ rawFirsts t n (at + length s) (drop (suc b) hs)
+    firsts_next : rawFirsts t n 0 hs ≡ (w.firsts ++ (at ∷ [])) ++ rawFirsts t n (at + length s) (drop (suc b) hs)
     unfolding rawFirsts
-    firsts-next =
+    firsts_next =
         w.firsts_rest ∙ ap (λ (l : List ℕ). w.firsts ++ rawFirsts t n at l) (drop-cons hs b 0 low) ∙ ap (λ (x : ℕ). w.firsts ++ rawFirsts t n at (x ∷ drop (suc b) hs)) (sym eh)
         ∙ sym (append_assoc w.firsts (at ∷ []) (rawFirsts t n (at + length s) (drop (suc b) hs)))
 
@@ -65,7 +65,7 @@ module _ (t : List ℕ) (n : ℕ) (hs : List ℕ) where
       size = ap length f.written ∙ length-sets p₁ (2050 + 3 * at) (flat_raw s) ∙ ap length q ∙ length-set p (2 + b) at ∙ w.size;
       cells = all;
       steps_rest = steps_next ∙ ap (λ (x : ℕ). (w.raws ++ s) ++ rawProgram t n x (drop (suc b) hs)) (sym f.end) ∙ ap (λ (k : ℕ). (w.raws ++ s) ++ rawProgram t n e (drop k hs)) one;
-      firsts_rest = firsts-next ∙ ap (λ (x : ℕ). (w.firsts ++ (at ∷ [])) ++ rawFirsts t n x (drop (suc b) hs)) (sym f.end) ∙ ap (λ (k : ℕ). (w.firsts ++ (at ∷ [])) ++ rawFirsts t n e (drop k hs)) one;
+      firsts_rest = firsts_next ∙ ap (λ (x : ℕ). (w.firsts ++ (at ∷ [])) ++ rawFirsts t n x (drop (suc b) hs)) (sym f.end) ∙ ap (λ (k : ℕ). (w.firsts ++ (at ∷ [])) ++ rawFirsts t n e (drop k hs)) one;
     }
       where
         one : suc b ≡ b + 1
@@ -86,22 +86,22 @@ module _ (t : List ℕ) (n : ℕ) (hs : List ℕ) where
 
   -- all blocks are written
   module _ (p : List ℕ) (at : ℕ) (w : Going t n hs p at (length hs)) where
-    raws-all : rawProgram t n 0 hs ≡ w.raws
+    raws_all : rawProgram t n 0 hs ≡ w.raws
     unfolding rawProgram
-    raws-all = w.steps_rest ∙ ap (λ (l : List ℕ). w.raws ++ rawProgram t n at l) (drop_of_length-le hs {i = length hs} (omega arith)) ∙ append-nil w.raws
+    raws_all = w.steps_rest ∙ ap (λ (l : List ℕ). w.raws ++ rawProgram t n at l) (drop_of_length-le hs {i = length hs} (omega arith)) ∙ append-nil w.raws
 
-    firsts-all : rawFirsts t n 0 hs ≡ w.firsts
+    firsts_all : rawFirsts t n 0 hs ≡ w.firsts
     unfolding rawFirsts
-    firsts-all = w.firsts_rest ∙ ap (λ (l : List ℕ). w.firsts ++ rawFirsts t n at l) (drop_of_length-le hs {i = length hs} (omega arith)) ∙ append-nil w.firsts
+    firsts_all = w.firsts_rest ∙ ap (λ (l : List ℕ). w.firsts ++ rawFirsts t n at l) (drop_of_length-le hs {i = length hs} (omega arith)) ∙ append-nil w.firsts
 
     pub going_fits : (x : ℕ) → length hs ≤ most_blocks → x ≡ length hs → Fits t n hs (set (set p 0 x) 1 at) at
     going_fits x few e = record {
-      end = w.reached ∙ sym (ap length raws-all);
+      end = w.reached ∙ sym (ap length raws_all);
       top = w.top;
       written =
           counted w.firsts (flat_raw w.raws) (omega (arith, w.count)) (omega (arith, flat_length w.raws, w.reached, w.top)) p x at w.cells
-          ∙ ap (λ (k : ℕ). plan_cells k at w.firsts (flat_raw w.raws)) e ∙ ap (λ (l : List ℕ). plan_cells (length hs) at l (flat_raw w.raws)) (sym firsts-all)
-          ∙ ap (λ (l : List Raw). plan_cells (length hs) at (rawFirsts t n 0 hs) (flat_raw l)) (sym raws-all);
+          ∙ ap (λ (k : ℕ). plan_cells k at w.firsts (flat_raw w.raws)) e ∙ ap (λ (l : List ℕ). plan_cells (length hs) at l (flat_raw w.raws)) (sym firsts_all)
+          ∙ ap (λ (l : List Raw). plan_cells (length hs) at (rawFirsts t n 0 hs) (flat_raw l)) (sym raws_all);
     }
 
 -- by what was told

@@ -70,15 +70,15 @@ pub record FragmentLoop (d : Doc) (old flag mark stack : List ℕ) (f : ℕ) : T
 
 module _ (d : Doc) where
   -- over rows that are no fragments
-  fragments-skip : (t : Table) (flag : List ℕ) (g k : ℕ) → ((r : ℕ) → g ≤ r → r < k → kind_of d r ≡ kind_fragment → ⊥) → FlagsTo t d g 0 flag → FlagsTo t d k 0 flag
-  fragments-skip t flag g k s x = record { size = x.size; variables = x.variables; fragments = λ i h e. go i h e (dec_lt i g); others = x.others }
+  fragments_skip : (t : Table) (flag : List ℕ) (g k : ℕ) → ((r : ℕ) → g ≤ r → r < k → kind_of d r ≡ kind_fragment → ⊥) → FlagsTo t d g 0 flag → FlagsTo t d k 0 flag
+  fragments_skip t flag g k s x = record { size = x.size; variables = x.variables; fragments = λ i h e. go i h e (dec_lt i g); others = x.others }
     where
       go : (i : ℕ) → i < k → kind_of d i ≡ kind_fragment → Dec (i < g) → Circled d i (get_or flag i 0)
       go i h e (yes l) = x.fragments i l e
       go i h e (no l) = absurd (s i (omega arith) h e)
 
-  fragments-set : (t : Table) (flag : List ℕ) (f x : ℕ) → f < room_of (count d) → kind_of d f ≡ kind_fragment → Circled d f x → FlagsTo t d f 0 flag → FlagsTo t d (suc f) 0 (set flag f x)
-  fragments-set t flag f x l k c p = record {
+  fragments_set : (t : Table) (flag : List ℕ) (f x : ℕ) → f < room_of (count d) → kind_of d f ≡ kind_fragment → Circled d f x → FlagsTo t d f 0 flag → FlagsTo t d (suc f) 0 (set flag f x)
+  fragments_set t flag f x l k c p = record {
     size = length-set flag f x ∙ p.size;
     variables = λ i e. rw (other i (λ z. omega (arith, e, k, ap (kind_of d) z))) (p.variables i e);
     fragments = λ i h e. go i h e (ℕ_discrete i f);
@@ -99,7 +99,7 @@ module _ (d : Doc) where
     size = l;
     stamped = stamped_up m (omega arith);
     stacked = s;
-    judged = λ t x. fragments-skip t flag 0 f n.skips x;
+    judged = λ t x. fragments_skip t flag 0 f n.skips x;
   }
 
   pub fragments_more : (old flag mark stack mark' stack' : List ℕ) (f x k : ℕ) → FragmentLoop d old flag mark stack f → f < count d → count d ≤ most_rows → FirstKind d kind_fragment (suc f) k → Circled d f x
@@ -110,7 +110,7 @@ module _ (d : Doc) where
     size = length-set flag f x ∙ p.size;
     stamped = stamped_up m (omega (arith, n.from));
     stacked = s;
-    judged = λ t y. fragments-skip t (set flag f x) (suc f) k n.skips (fragments-set t flag f x (omega (arith, room_enough (count d) l)) (p.at h) c (p.judged t y));
+    judged = λ t y. fragments_skip t (set flag f x) (suc f) k n.skips (fragments_set t flag f x (omega (arith, room_enough (count d) l)) (p.at h) c (p.judged t y));
   }
 
   pub fragments_end : (old flag mark stack : List ℕ) (f n : ℕ) → FragmentLoop d old flag mark stack f → count d ≤ f → n ≡ count d → FragmentsTo d old n flag

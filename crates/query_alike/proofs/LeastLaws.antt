@@ -25,57 +25,57 @@ holds e = rw e tt
 
 module _ (t : Table) (d : Doc) (o i : ℕ) where
   -- a verdict by its two tests
-  verdict-by : (a b : Bool) → defines d o (name_of d i) ≡ a → differ (declared_by d o (name_of d i)) (place t d i) ≡ b → verdict_of t d o i ≡ cond a (cond b rule_variable_type no_rule) rule_undefined
+  verdict_by : (a b : Bool) → defines d o (name_of d i) ≡ a → differ (declared_by d o (name_of d i)) (place t d i) ≡ b → verdict_of t d o i ≡ cond a (cond b rule_variable_type no_rule) rule_undefined
   unfolding verdict_of
-  verdict-by a b p q = rw (p, q)
+  verdict_by a b p q = rw (p, q)
 
   pub verdict_known : (verdict_of t d o i ≡ no_rule) ⊎ ((verdict_of t d o i ≡ rule_undefined) ⊎ (verdict_of t d o i ≡ rule_variable_type))
   verdict_known = go (defines d o (name_of d i)) refl (differ (declared_by d o (name_of d i)) (place t d i)) refl
     where
       go : (a : Bool) → defines d o (name_of d i) ≡ a → (b : Bool) → differ (declared_by d o (name_of d i)) (place t d i) ≡ b
           → (verdict_of t d o i ≡ no_rule) ⊎ ((verdict_of t d o i ≡ rule_undefined) ⊎ (verdict_of t d o i ≡ rule_variable_type))
-      go true p true q = inr (inr (verdict-by true true p q))
-      go true p false q = inl (verdict-by true false p q)
-      go false p b q = inr (inl (verdict-by false b p q))
+      go true p true q = inr (inr (verdict_by true true p q))
+      go true p false q = inl (verdict_by true false p q)
+      go false p b q = inr (inl (verdict_by false b p q))
 
   -- rule 10
-  undefined-says : T (not (defines d o (name_of d i))) → verdict_of t d o i ≡ rule_undefined
-  undefined-says h = go (defines d o (name_of d i)) refl
+  undefined_says : T (not (defines d o (name_of d i))) → verdict_of t d o i ≡ rule_undefined
+  undefined_says h = go (defines d o (name_of d i)) refl
     where
       go : (a : Bool) → defines d o (name_of d i) ≡ a → verdict_of t d o i ≡ rule_undefined
       go true p = absurd (subst (λ b. T (not b)) p h)
-      go false p = verdict-by false (differ (declared_by d o (name_of d i)) (place t d i)) p refl
+      go false p = verdict_by false (differ (declared_by d o (name_of d i)) (place t d i)) p refl
 
   says_undefined : verdict_of t d o i ≡ rule_undefined → T (not (defines d o (name_of d i)))
   says_undefined e = go (defines d o (name_of d i)) refl (differ (declared_by d o (name_of d i)) (place t d i)) refl
     where
       go : (a : Bool) → defines d o (name_of d i) ≡ a → (b : Bool) → differ (declared_by d o (name_of d i)) (place t d i) ≡ b → T (not (defines d o (name_of d i)))
-      go true p true q = absurd (omega (arith, e, verdict-by true true p q))
-      go true p false q = absurd (omega (arith, e, verdict-by true false p q))
+      go true p true q = absurd (omega (arith, e, verdict_by true true p q))
+      go true p false q = absurd (omega (arith, e, verdict_by true false p q))
       go false p b q = rw p tt
 
   -- rule 11
-  none-declared : defines d o (name_of d i) ≡ false → differ (declared_by d o (name_of d i)) (place t d i) ≡ false
+  none_declared : defines d o (name_of d i) ≡ false → differ (declared_by d o (name_of d i)) (place t d i) ≡ false
   unfolding declared_by
-  none-declared p = rw p
+  none_declared p = rw p
 
-  differs-says : T (differ (declared_by d o (name_of d i)) (place t d i)) → verdict_of t d o i ≡ rule_variable_type
-  differs-says h = go (defines d o (name_of d i)) refl
+  differs_says : T (differ (declared_by d o (name_of d i)) (place t d i)) → verdict_of t d o i ≡ rule_variable_type
+  differs_says h = go (defines d o (name_of d i)) refl
     where
       q : differ (declared_by d o (name_of d i)) (place t d i) ≡ true
       q = held (differ (declared_by d o (name_of d i)) (place t d i)) h
 
       go : (a : Bool) → defines d o (name_of d i) ≡ a → verdict_of t d o i ≡ rule_variable_type
-      go true p = verdict-by true true p q
-      go false p = absurd (true≢false (sym q ∙ none-declared p))
+      go true p = verdict_by true true p q
+      go false p = absurd (true≢false (sym q ∙ none_declared p))
 
   says_differs : verdict_of t d o i ≡ rule_variable_type → T (differ (declared_by d o (name_of d i)) (place t d i))
   says_differs e = go (defines d o (name_of d i)) refl (differ (declared_by d o (name_of d i)) (place t d i)) refl
     where
       go : (a : Bool) → defines d o (name_of d i) ≡ a → (b : Bool) → differ (declared_by d o (name_of d i)) (place t d i) ≡ b → T (differ (declared_by d o (name_of d i)) (place t d i))
       go true p true q = holds q
-      go true p false q = absurd (omega (arith, e, verdict-by true false p q))
-      go false p b q = absurd (omega (arith, e, verdict-by false b p q))
+      go true p false q = absurd (omega (arith, e, verdict_by true false p q))
+      go false p b q = absurd (omega (arith, e, verdict_by false b p q))
 
 -- an operation is a row
 operation_within : (d : Doc) (o : ℕ) → T (is kind_operation (row_of d o)) → o < count d
@@ -95,12 +95,12 @@ module _ (t : Table) (d : Doc) (i : ℕ) where
     pub unsaid_undefined : Unsaid t d m i rule_undefined → Undefined d i → ⊥
     unsaid_undefined n x =
         let l = operation_within d x.operation x.is_operation in
-        n x.operation (omega arith) (record { operation = x.is_operation; reaches = x.reaches }) (undefined-says t d x.operation i x.undefined)
+        n x.operation (omega arith) (record { operation = x.is_operation; reaches = x.reaches }) (undefined_says t d x.operation i x.undefined)
 
     pub unsaid_differs : Unsaid t d m i rule_variable_type → Differs t d i → ⊥
     unsaid_differs n x =
         let l = operation_within d x.operation x.is_operation in
-        n x.operation (omega arith) (record { operation = x.is_operation; reaches = x.reaches }) (differs-says t d x.operation i x.differs)
+        n x.operation (omega arith) (record { operation = x.is_operation; reaches = x.reaches }) (differs_says t d x.operation i x.differs)
 
 -- operation by operation
 module _ (t : Table) (d : Doc) (i : ℕ) where
@@ -114,8 +114,8 @@ module _ (t : Table) (d : Doc) (i : ℕ) where
   }
 
   -- over rows that are no operations
-  unsaid-skip : (m n k : ℕ) → ((o : ℕ) → m ≤ o → o < n → is kind_operation (row_of d o) ≡ false) → Unsaid t d m i k → Unsaid t d n i k
-  unsaid-skip m n k s u o h r e = go (dec_lt o m)
+  unsaid_skip : (m n k : ℕ) → ((o : ℕ) → m ≤ o → o < n → is kind_operation (row_of d o) ≡ false) → Unsaid t d m i k → Unsaid t d n i k
+  unsaid_skip m n k s u o h r e = go (dec_lt o m)
     where
       go : Dec (o < m) → ⊥
       go (yes l) = u o l r e
@@ -125,14 +125,14 @@ module _ (t : Table) (d : Doc) (i : ℕ) where
   least_skip m n f s x = record {
     undefined = x.undefined;
     differs = x.differs;
-    no_undefined = λ e. unsaid-skip m n rule_undefined s (x.no_undefined e);
-    no_differs = λ e. unsaid-skip m n rule_variable_type s (x.no_differs e);
+    no_undefined = λ e. unsaid_skip m n rule_undefined s (x.no_undefined e);
+    no_differs = λ e. unsaid_skip m n rule_variable_type s (x.no_differs e);
     known = x.known;
   }
 
   module _ (o f : ℕ) (x : Least t d o i f) where
-    unsaid-more : (k : ℕ) → Unsaid t d o i k → (Reaching d o i → verdict_of t d o i ≡ k → ⊥) → Unsaid t d (o + 1) i k
-    unsaid-more k u n p h r e = go (eqb p o) refl
+    unsaid_more : (k : ℕ) → Unsaid t d o i k → (Reaching d o i → verdict_of t d o i ≡ k → ⊥) → Unsaid t d (o + 1) i k
+    unsaid_more k u n p h r e = go (eqb p o) refl
       where
         go : (b : Bool) → eqb p o ≡ b → ⊥
         go true q = let z : p ≡ o = eqb-true p o q in n (subst (λ y. Reaching d y i) z r) (sym (ap (λ y. verdict_of t d y i) z) ∙ e)
@@ -148,28 +148,28 @@ module _ (t : Table) (d : Doc) (i : ℕ) where
       known = x.known;
     }
 
-    least-same : (Reaching d o i → verdict_of t d o i ≡ rule_undefined → ⊥) → (Reaching d o i → verdict_of t d o i ≡ rule_variable_type → ⊥) → Least t d (o + 1) i f
-    least-same a b = record {
+    least_same : (Reaching d o i → verdict_of t d o i ≡ rule_undefined → ⊥) → (Reaching d o i → verdict_of t d o i ≡ rule_variable_type → ⊥) → Least t d (o + 1) i f
+    least_same a b = record {
       undefined = x.undefined;
       differs = x.differs;
-      no_undefined = λ h. unsaid-more rule_undefined (x.no_undefined h) a;
-      no_differs = λ h. unsaid-more rule_variable_type (x.no_differs h) b;
+      no_undefined = λ h. unsaid_more rule_undefined (x.no_undefined h) a;
+      no_differs = λ h. unsaid_more rule_variable_type (x.no_differs h) b;
       known = x.known;
     }
 
     -- the operation of row o does not reach the variable, or says nothing
     pub least_apart : (Reaches d o i → ⊥) → Least t d (o + 1) i f
-    least_apart n = least-same (λ r e. n r.reaches) (λ r e. n r.reaches)
+    least_apart n = least_same (λ r e. n r.reaches) (λ r e. n r.reaches)
 
     pub least_silent : no_rule ≡ verdict_of t d o i → Least t d (o + 1) i f
-    least_silent e = least-same (λ r h. omega arith) (λ r h. omega arith)
+    least_silent e = least_same (λ r h. omega arith) (λ r h. omega arith)
 
     -- it says something
     pub least_said : (v : ℕ) → (f ≡ rule_undefined → ⊥) → kind_of d o ≡ kind_operation → Reaches d o i → v ≡ verdict_of t d o i → (v ≡ no_rule → ⊥) → Least t d (o + 1) i v
     least_said v h k r e n = record {
       undefined = λ z. record { at = o; reaching = here; says = sym e ∙ z };
       differs = λ z. record { at = o; reaching = here; says = sym e ∙ z };
-      no_undefined = λ z. unsaid-more rule_undefined (x.no_undefined h) (λ _ q. z (e ∙ q));
+      no_undefined = λ z. unsaid_more rule_undefined (x.no_undefined h) (λ _ q. z (e ∙ q));
       no_differs = λ z. absurd (n z);
       known = subst (λ w. (w ≡ no_rule) ⊎ ((w ≡ rule_undefined) ⊎ (w ≡ rule_variable_type))) (sym e) (verdict_known t d o i);
     }

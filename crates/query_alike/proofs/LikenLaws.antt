@@ -27,41 +27,41 @@ module _ (t : Table) (d : Doc) where
   pub least_small : (m i f : ℕ) → Least t d m i f → f < like_first
   least_small m i f x = ⊎_elim (λ z. omega arith) (λ y. ⊎_elim (λ z. omega arith) (λ z. omega arith) y) x.known
 
-  judged-own : (m : ℕ) (flag : List ℕ) (i : ℕ) → Least t d m i (get_or flag i 0) → Judged t d m flag i
-  judged-own m flag i x = record { own = λ _. x; like = λ h. absurd (omega (arith, least_small m i (get_or flag i 0) x)) }
+  judged_own : (m : ℕ) (flag : List ℕ) (i : ℕ) → Least t d m i (get_or flag i 0) → Judged t d m flag i
+  judged_own m flag i x = record { own = λ _. x; like = λ h. absurd (omega (arith, least_small m i (get_or flag i 0) x)) }
 
   -- a row that is like another is so whatever is judged
-  judged-like : (m k : ℕ) (flag : List ℕ) (i : ℕ) → like_first ≤ get_or flag i 0 → Judged t d m flag i → Judged t d k flag i
-  judged-like m k flag i h x = record { own = λ l. absurd (omega arith); like = x.like }
+  judged_like : (m k : ℕ) (flag : List ℕ) (i : ℕ) → like_first ≤ get_or flag i 0 → Judged t d m flag i → Judged t d k flag i
+  judged_like m k flag i h x = record { own = λ l. absurd (omega arith); like = x.like }
 
   -- the flag of row j is written: of another row holds what held, if the rows before it with a flag of their own still have one
   module _ (flag : List ℕ) (j x : ℕ) where
     other : (i : ℕ) → (i ≡ j → ⊥) → get_or (set flag j x) i 0 ≡ get_or flag i 0
     other i z = get_or-set_other flag j i x 0 z
 
-    least-set : (m i : ℕ) → (i ≡ j → ⊥) → Least t d m i (get_or flag i 0) → Least t d m i (get_or (set flag j x) i 0)
-    least-set m i z y = rw (other i z) y
+    least_set : (m i : ℕ) → (i ≡ j → ⊥) → Least t d m i (get_or flag i 0) → Least t d m i (get_or (set flag j x) i 0)
+    least_set m i z y = rw (other i z) y
 
-    judged-set : (m i : ℕ) → (i ≡ j → ⊥) → ((r : ℕ) → r < i → get_or flag r 0 < like_first → get_or (set flag j x) r 0 < like_first) → Judged t d m flag i → Judged t d m (set flag j x) i
-    judged-set m i z w y = record { own = λ h. rw (other i z) (y.own (omega (arith, other i z))); like = λ h. rw (other i z) (like (y.like (omega (arith, other i z)))) }
+    judged_set : (m i : ℕ) → (i ≡ j → ⊥) → ((r : ℕ) → r < i → get_or flag r 0 < like_first → get_or (set flag j x) r 0 < like_first) → Judged t d m flag i → Judged t d m (set flag j x) i
+    judged_set m i z w y = record { own = λ h. rw (other i z) (y.own (omega (arith, other i z))); like = λ h. rw (other i z) (like (y.like (omega (arith, other i z)))) }
       where
         like : {r : ℕ} → Like t d flag i r → Like t d (set flag j x) i r
         like {r = r} v = record { before = v.before; variable = v.variable; own = w r v.before v.own; alike = v.alike }
 
     -- by a flag of its own
-    own-still : j < length flag → x < like_first → (r : ℕ) → get_or flag r 0 < like_first → get_or (set flag j x) r 0 < like_first
-    own-still l h r y = go (ℕ_discrete r j)
+    own_still : j < length flag → x < like_first → (r : ℕ) → get_or flag r 0 < like_first → get_or (set flag j x) r 0 < like_first
+    own_still l h r y = go (ℕ_discrete r j)
       where
         go : Dec (r ≡ j) → get_or (set flag j x) r 0 < like_first
         go (yes z) = rw (z, get_or-set_same flag j x 0 l) h
         go (no z) = rw (other r z) y
 
-    judged-write : (m i : ℕ) → j < length flag → x < like_first → (i ≡ j → ⊥) → Judged t d m flag i → Judged t d m (set flag j x) i
-    judged-write m i l h z y = judged-set m i z (λ r b. own-still l h r) y
+    judged_write : (m i : ℕ) → j < length flag → x < like_first → (i ≡ j → ⊥) → Judged t d m flag i → Judged t d m (set flag j x) i
+    judged_write m i l h z y = judged_set m i z (λ r b. own_still l h r) y
 
     -- by one that is not, after them
-    judged-after : (m i : ℕ) → i < j → Judged t d m flag i → Judged t d m (set flag j x) i
-    judged-after m i h y = judged-set m i (λ z. omega arith) (λ r b o. rw (other r (λ z. omega arith)) o) y
+    judged_after : (m i : ℕ) → i < j → Judged t d m flag i → Judged t d m (set flag j x) i
+    judged_after m i h y = judged_set m i (λ z. omega arith) (λ r b o. rw (other r (λ z. omega arith)) o) y
 
 -- Judging by the operation of row o.
 abbrev pub JudgeLoop : Table → Doc → ℕ → ℕ → List ℕ → ℕ → Type 0
@@ -76,16 +76,16 @@ module _ (t : Table) (d : Doc) (g o : ℕ) (flag : List ℕ) where
     judge_left h = (p.flags.variables j (p.at h)).left (omega arith)
 
     pub judge_skip : (k : ℕ) → j < count d → FirstKind d kind_variable (suc j) k → like_first ≤ get_or flag j 0 → JudgeLoop t d g o flag k
-    judge_skip k h n l = variables_skip (Judged t d (o + 1) flag) (Judged t d o flag) d g flag j p k n (judged-like t d o (o + 1) flag j l (judge_left h))
+    judge_skip k h n l = variables_skip (Judged t d (o + 1) flag) (Judged t d o flag) d g flag j p k n (judged_like t d o (o + 1) flag j l (judge_left h))
 
     pub judge_more : (x k : ℕ) → j < count d → count d ≤ most_rows → FirstKind d kind_variable (suc j) k → Least t d (o + 1) j x → JudgeLoop t d g o (set flag j x) k
     judge_more x k h l n c =
         let a : x < like_first = least_small t d (o + 1) j x c in
         let b : j < length flag = omega (arith, p.flags.size, room_enough (count d) l) in
         variables_set (Judged t d (o + 1) flag) (Judged t d o flag) d g flag j p (Judged t d (o + 1) (set flag j x)) (Judged t d o (set flag j x)) x k h n
-        (judged-own t d (o + 1) (set flag j x) j (rw (get_or-set_same flag j x 0 b) c))
-        (λ i m y. judged-write t d flag j x (o + 1) i b a (λ z. omega arith) y)
-        (λ i m y. judged-write t d flag j x o i b a (λ z. omega arith) y)
+        (judged_own t d (o + 1) (set flag j x) j (rw (get_or-set_same flag j x 0 b) c))
+        (λ i m y. judged_write t d flag j x (o + 1) i b a (λ z. omega arith) y)
+        (λ i m y. judged_write t d flag j x o i b a (λ z. omega arith) y)
 
     pub judge_end : count d ≤ j → LikenedTo t d g (o + 1) flag
     judge_end h = variables_end (Judged t d (o + 1) flag) (Judged t d o flag) d g flag j p h
@@ -110,31 +110,31 @@ module _ (t : Table) (d : Doc) (g m : ℕ) (flag : List ℕ) where
   settle_start j n x = variables_start D (Judged t d m flag) d g flag j n x
 
   module _ (j : ℕ) (p : SettleLoop t d g m flag j) where
-    settle-left : j < count d → Judged t d m flag j
-    settle-left h = (p.flags.variables j (p.at h)).left (omega arith)
+    settle_left : j < count d → Judged t d m flag j
+    settle_left h = (p.flags.variables j (p.at h)).left (omega arith)
 
     -- the row that it is like stands before it, and has its flag
     pub settle_before : j < count d → like_first ≤ get_or flag j 0 → get_or flag j 0 - like_first < j
-    settle_before h l = ((settle-left h).like l).before
+    settle_before h l = ((settle_left h).like l).before
 
-    settle-least : j < count d → Least t d m j (own_flag flag j)
-    settle-least h = go (dec_lt (get_or flag j 0) like_first)
+    settle_least : j < count d → Least t d m j (own_flag flag j)
+    settle_least h = go (dec_lt (get_or flag j 0) like_first)
       where
         go : Dec (get_or flag j 0 < like_first) → Least t d m j (own_flag flag j)
-        go (yes l) = rw (own_small flag j l) ((settle-left h).own l)
+        go (yes l) = rw (own_small flag j l) ((settle_left h).own l)
         go (no l) =
-            let y : Like t d flag j (get_or flag j 0 - like_first) = (settle-left h).like (omega arith) in
+            let y : Like t d flag j (get_or flag j 0 - like_first) = (settle_left h).like (omega arith) in
             rw (own_large flag j (omega arith)) (y.alike m (get_or flag (get_or flag j 0 - like_first) 0) ((p.flags.variables (get_or flag j 0 - like_first) y.variable).done y.before))
 
     pub settle_more : (x k : ℕ) → j < count d → count d ≤ most_rows → FirstKind d kind_variable (suc j) k → x ≡ own_flag flag j → SettleLoop t d g m (set flag j x) k
     settle_more x k h l n e =
-        let c : Least t d m j x = rw e (settle-least h) in
+        let c : Least t d m j x = rw e (settle_least h) in
         let a : x < like_first = least_small t d m j x c in
         let b : j < length flag = omega (arith, p.flags.size, room_enough (count d) l) in
         variables_set D (Judged t d m flag) d g flag j p (λ i. Least t d m i (get_or (set flag j x) i 0)) (Judged t d m (set flag j x)) x k h n
         (rw (get_or-set_same flag j x 0 b) c)
-        (λ i w y. least-set t d flag j x m i (λ z. omega arith) y)
-        (λ i w y. judged-write t d flag j x m i b a (λ z. omega arith) y)
+        (λ i w y. least_set t d flag j x m i (λ z. omega arith) y)
+        (λ i w y. judged_write t d flag j x m i b a (λ z. omega arith) y)
 
     pub settle_end : count d ≤ j → FlagsTo t d g m flag
     settle_end h = variables_end D (Judged t d m flag) d g flag j p h
@@ -157,17 +157,17 @@ module _ (t : Table) (d : Doc) (g : ℕ) where
     mine : Least t d 0 j (get_or flag j 0)
     mine = (p.loop.flags.variables j (p.loop.at h)).left (omega arith)
 
-    models-up : (k : ℕ) → j < k → Models d stack m k
-    models-up k a = record { size = p.models.size; few = omega (arith, p.models.few); variables = p.models.variables; before = λ r b. omega (arith, p.models.before r b) }
+    models_up : (k : ℕ) → j < k → Models d stack m k
+    models_up k a = record { size = p.models.size; few = omega (arith, p.models.few); variables = p.models.variables; before = λ r b. omega (arith, p.models.before r b) }
 
     copied : (r k : ℕ) → ModelOf t d stack m j r → FirstKind d kind_variable (suc j) k → LikenLoop t d g stack (set flag j (like_first + r)) m k
     copied r k y n = record {
       loop =
           variables_set (Judged t d 0 flag) (λ i. Least t d 0 i (get_or flag i 0)) d g flag j p.loop (Judged t d 0 (set flag j (like_first + r))) (λ i. Least t d 0 i (get_or (set flag j (like_first + r)) i 0)) (like_first + r) k h n
           (record { own = λ a. absurd (omega (arith, here)); like = λ a. rw (here, back) like })
-          (λ i a b. judged-after t d flag j (like_first + r) 0 i a b)
-          (λ i a b. least-set t d flag j (like_first + r) 0 i (λ z. omega arith) b);
-      models = models-up k n.from;
+          (λ i a b. judged_after t d flag j (like_first + r) 0 i a b)
+          (λ i a b. least_set t d flag j (like_first + r) 0 i (λ z. omega arith) b);
+      models = models_up k n.from;
       own = λ q a. still (get_or stack q 0) (p.models.before q a) (p.own q a);
     }
       where
@@ -190,7 +190,7 @@ module _ (t : Table) (d : Doc) (g : ℕ) where
 
     stacked : (k : ℕ) → FirstKind d kind_variable (suc j) k → LikenLoop t d g (set stack m j) flag (m + 1) k
     stacked k n = record {
-      loop = variables_skip (Judged t d 0 flag) (λ i. Least t d 0 i (get_or flag i 0)) d g flag j p.loop k n (judged-own t d 0 flag j mine);
+      loop = variables_skip (Judged t d 0 flag) (λ i. Least t d 0 i (get_or flag i 0)) d g flag j p.loop k n (judged_own t d 0 flag j mine);
       models = record {
         size = length-set stack m j ∙ p.models.size;
         few = omega (arith, p.models.few, n.from);

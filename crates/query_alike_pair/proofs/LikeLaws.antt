@@ -26,38 +26,38 @@ use Rattle.query_alike_pair.specs.Alike.{verdict_of, Reaching, Said, Unsaid, Ali
 
 -- what reaches a row is told by its owner
 module _ (d : Doc) (owner : List ℕ) (w : Owned d owner) (i j : ℕ) (l : i < count d) (m : j < count d) (q : get_or owner i 0 ≡ get_or owner j 0) where
-  within-alike : (a : ℕ) → Defines d a → Within d a i → Within d a j
-  within-alike a h v =
+  within_alike : (a : ℕ) → Defines d a → Within d a i → Within d a j
+  within_alike a h v =
       let e : get_or owner j 0 ≡ a = sym q ∙ (w.owns i l).sole a h v in
       subst (λ (k : ℕ). Within d k j) e ((w.owns j m).stands (omega (arith, e, definition_within d a h)))
 
-  reaches-alike : (o : ℕ) → Defines d o → Reaches d o i → Reaches d o j
-  reaches-alike o h x =
-      ⊎_elim (λ v. here (within-alike o h v)) (λ v. through v.1.reaches v.1.spreads (within-alike v.0 (draws_defines d o v.0 v.1) v.2)) (reaches_either d o i x)
+  reaches_alike : (o : ℕ) → Defines d o → Reaches d o i → Reaches d o j
+  reaches_alike o h x =
+      ⊎_elim (λ v. here (within_alike o h v)) (λ v. through v.1.reaches v.1.spreads (within_alike v.0 (draws_defines d o v.0 v.1) v.2)) (reaches_either d o i x)
 
   pub reaching_alike : (o : ℕ) → Reaching d o i → Reaching d o j
   reaching_alike o r =
-      record { operation = r.operation; reaches = reaches-alike o (operation_defines d o (eqb→eq (kind_of d o) kind_operation r.operation)) r.reaches }
+      record { operation = r.operation; reaches = reaches_alike o (operation_defines d o (eqb→eq (kind_of d o) kind_operation r.operation)) r.reaches }
 
 -- what an operation says of a variable depends on its name and its place
 module _ (t : Table) (d : Doc) (i j : ℕ) (e : name_of d i ≡ name_of d j) (p : place t d i ≡ place t d j) where
-  verdict-alike : (o : ℕ) → verdict_of t d o i ≡ verdict_of t d o j
+  verdict_alike : (o : ℕ) → verdict_of t d o i ≡ verdict_of t d o j
   unfolding verdict_of
-  verdict-alike o = rw (e, p)
+  verdict_alike o = rw (e, p)
 
   module _ (to : (o : ℕ) → Reaching d o i → Reaching d o j) (from : (o : ℕ) → Reaching d o j → Reaching d o i) where
-    said-alike : (k : ℕ) → Said t d j k → Said t d i k
-    said-alike k x = record { at = x.at; reaching = from x.at x.reaching; says = verdict-alike x.at ∙ x.says }
+    said_alike : (k : ℕ) → Said t d j k → Said t d i k
+    said_alike k x = record { at = x.at; reaching = from x.at x.reaching; says = verdict_alike x.at ∙ x.says }
 
-    unsaid-alike : (m k : ℕ) → Unsaid t d m j k → Unsaid t d m i k
-    unsaid-alike m k u o h r z = u o h (to o r) (sym (verdict-alike o) ∙ z)
+    unsaid_alike : (m k : ℕ) → Unsaid t d m j k → Unsaid t d m i k
+    unsaid_alike m k u o h r z = u o h (to o r) (sym (verdict_alike o) ∙ z)
 
-    least-alike : Alike t d i j
-    least-alike m f x = record {
-      undefined = λ z. said-alike rule_undefined (x.undefined z);
-      differs = λ z. said-alike rule_variable_type (x.differs z);
-      no_undefined = λ z. unsaid-alike m rule_undefined (x.no_undefined z);
-      no_differs = λ z. unsaid-alike m rule_variable_type (x.no_differs z);
+    least_alike : Alike t d i j
+    least_alike m f x = record {
+      undefined = λ z. said_alike rule_undefined (x.undefined z);
+      differs = λ z. said_alike rule_variable_type (x.differs z);
+      no_undefined = λ z. unsaid_alike m rule_undefined (x.no_undefined z);
+      no_differs = λ z. unsaid_alike m rule_variable_type (x.no_differs z);
       known = x.known;
     }
 
@@ -85,4 +85,4 @@ module _ (t s rows : List ℕ) (n : ℕ) (at es wrappers owner : List ℕ) (u : 
       let x = variable_within d i k in
       let y = variable_within d j l in
       let z : place (table_of t) d i ≡ coded t es (record { at = get_or at j 0; wrappers = get_or wrappers j 0 }) = rw (← a, ← c) (place_kept i k) in
-      least-alike (table_of t) d i j e (z ∙ sym (place_kept j l)) (reaching_alike d owner u.owned i j x y o) (reaching_alike d owner u.owned j i y x (sym o))
+      least_alike (table_of t) d i j e (z ∙ sym (place_kept j l)) (reaching_alike d owner u.owned i j x y o) (reaching_alike d owner u.owned j i y x (sym o))

@@ -59,8 +59,8 @@ module _ (table document rows report rows₁ : List ℕ) (lent : Lent rows repor
     taken : Taken Document document rows₁ d.rows
     taken = done_taken document rows rows₁ r d short.0 e f q
 
-    judged-read : (a : QueryAnswer) → Judged (table_of table) (doc_of document rows₁ d.rows) a → Judged (table_of table) (read document taken.list) a
-    judged-read a = subst (λ (rs : List Row). Judged (table_of table) (read document rs) a) taken.are
+    judged_read : (a : QueryAnswer) → Judged (table_of table) (doc_of document rows₁ d.rows) a → Judged (table_of table) (read document taken.list) a
+    judged_read a = subst (λ (rs : List Row). Judged (table_of table) (read document rs) a) taken.are
 
     rows_left : rows₁ ≡ filled rows_size (flat taken.list) rows
     rows_left =
@@ -79,10 +79,10 @@ module _ (table document rows report rows₁ : List ℕ) (lent : Lent rows repor
     unfolding Ended
     judged_told rows' report' (Breaks i k) n h t =
         subst (CheckedDocument table document rows report rows' report') (sym t.0)
-        (breaks_rule lent short j (tokens_are document) taken.said (judged-read (Breaks i k) h) (t.1 ∙ all_cleared rows rows₁ e taken.rowed.size) t.2)
+        (breaks_rule lent short j (tokens_are document) taken.said (judged_read (Breaks i k) h) (t.1 ∙ all_cleared rows rows₁ e taken.rowed.size) t.2)
     judged_told rows' report' Fits n h t =
         subst (CheckedDocument table document rows report rows' report') (sym t.0)
-        (accepts lent short j (tokens_are document) taken.said (judged-read Fits h) (t.1 ∙ rows_left) (t.2 ∙ ap (λ (k : ℕ). filled report_size (accepted ∷ k ∷ []) report) taken.count))
+        (accepts lent short j (tokens_are document) taken.said (judged_read Fits h) (t.1 ∙ rows_left) (t.2 ∙ ap (λ (k : ℕ). filled report_size (accepted ∷ k ∷ []) report) taken.count))
 
 -- A table that is not accepted.
 pub table_refused : (table document rows report rows' report' : List ℕ) (a : TableAnswer) (n : ℕ) → Lent rows report → Short table document → length rows ≡ rows_size → a ≡ judge table → (a ≡ Accepted → ⊥) →

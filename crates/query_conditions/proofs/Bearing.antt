@@ -65,8 +65,8 @@ lower_upper K P n (c ∷ (d ∷ σ)) (o ∷ os) h = (h.1, h.2, h.3, (λ l. absur
 
 -- A ROW ENDS.
 module _ (K P : ℕ → ℕ) (n : ℕ) (ss : Syms) where
-  bears-pop : (c : Cell) (σ : Stack) (os : List ℕ) → T (ends c) → T (settled (run ss σ)) → Bears K P n (c ∷ σ) os → Bears K P n σ (pop os)
-  bears-pop c σ os e t h = record { upper = above σ os t h.upper; beyond = h.beyond; fragments = λ i z. inl (here (h.fragments i z)); values = h.values; arguments = h.arguments; references = h.references }
+  bears_pop : (c : Cell) (σ : Stack) (os : List ℕ) → T (ends c) → T (settled (run ss σ)) → Bears K P n (c ∷ σ) os → Bears K P n σ (pop os)
+  bears_pop c σ os e t h = record { upper = above σ os t h.upper; beyond = h.beyond; fragments = λ i z. inl (here (h.fragments i z)); values = h.values; arguments = h.arguments; references = h.references }
     where
       above : (σ : Stack) (os : List ℕ) → T (settled (run ss σ)) → Upper K P n (c ∷ σ) os → Upper K P n σ (pop os)
       above [] os t u = absurd (not_dead ss t)
@@ -83,23 +83,23 @@ module _ (K P : ℕ → ℕ) (n : ℕ) (ss : Syms) where
   bears_end (c ∷ σ) os t h = go (ends c) refl t
     where
       go : (b : Bool) → ends c ≡ b → T (settled (run ss (cond b σ []))) → Bears K P n (cond b σ []) (pop os)
-      go true e t = bears-pop c σ os (subst T (sym e) tt) t h
+      go true e t = bears_pop c σ os (subst T (sym e) tt) t h
       go false e t = absurd (not_dead ss t)
 
 -- A ROW BEGINS: its kind is 0 as before, its parent is the innermost open row.
 module _ (K P Q : ℕ → ℕ) (n : ℕ) (off : (i : ℕ) → (i ≡ n → ⊥) → Q i ≡ P i) where
-  lower-row : (σ : Stack) (os : List ℕ) → Lower K P n σ os → Lower K Q (suc n) σ os
-  lower-row [] os h = h
-  lower-row (c ∷ []) [] h = h
-  lower-row (c ∷ []) (o ∷ os) h = h
-  lower-row (c ∷ (d ∷ σ)) [] h = h
-  lower-row (c ∷ (d ∷ σ)) (o ∷ os) h = let l = h.2 in (h.0, h.1, omega arith, off o (λ e. omega arith) ∙ h.3, lower-row (d ∷ σ) os h.4)
+  lower_row : (σ : Stack) (os : List ℕ) → Lower K P n σ os → Lower K Q (suc n) σ os
+  lower_row [] os h = h
+  lower_row (c ∷ []) [] h = h
+  lower_row (c ∷ []) (o ∷ os) h = h
+  lower_row (c ∷ (d ∷ σ)) [] h = h
+  lower_row (c ∷ (d ∷ σ)) (o ∷ os) h = let l = h.2 in (h.0, h.1, omega arith, off o (λ e. omega arith) ∙ h.3, lower_row (d ∷ σ) os h.4)
 
-  under-row : (c : Cell) (σ : Stack) (os : List ℕ) → T (bears c) → Upper K P n (c ∷ σ) os → Lower K Q (suc n) (under c ∷ σ) os
-  under-row c [] [] b u = base_under c u
-  under-row c [] (o ∷ os) b u = u
-  under-row c (d ∷ σ) [] b u = u
-  under-row c (d ∷ σ) (o ∷ os) b u = let l = u.1 in (under_grown c b, under_kind c (K o) b u.0, omega arith, off o (λ e. omega arith) ∙ u.2, lower-row (d ∷ σ) os u.5)
+  under_row : (c : Cell) (σ : Stack) (os : List ℕ) → T (bears c) → Upper K P n (c ∷ σ) os → Lower K Q (suc n) (under c ∷ σ) os
+  under_row c [] [] b u = base_under c u
+  under_row c [] (o ∷ os) b u = u
+  under_row c (d ∷ σ) [] b u = u
+  under_row c (d ∷ σ) (o ∷ os) b u = let l = u.1 in (under_grown c b, under_kind c (K o) b u.0, omega arith, off o (λ e. omega arith) ∙ u.2, lower_row (d ∷ σ) os u.5)
 
   -- the innermost was just begun, or just got its kind
   next_row : (c : Cell) (σ : Stack) (os : List ℕ) → Upper K P n (c ∷ σ) os → T (not (grown c)) → n ≡ suc (top os)
@@ -119,10 +119,10 @@ module _ (K P Q : ℕ → ℕ) (n : ℕ) (off : (i : ℕ) → (i ≡ n → ⊥) 
     value_kept : (j : ℕ) → T (of_value (K j)) → Q j ≡ P j
     value_kept j v = off j (λ z. subst (λ (i : ℕ). T (of_value i)) (ap K z ∙ none_yet) v)
 
-    fragment-row : (i : ℕ) → Conditioned K P i ⊎ Exempt c i (top os) → Conditioned K Q i ⊎ Exempt (born c) i n
-    fragment-row i (inl z) = inl (z.0, kept (suc i) _ z.0 ∙ z.1)
-    fragment-row i (inr (inl z)) = let y = z.1 in let x = next_row c σ os h.upper (bare_late c z.0) in inr (inr (bare_born c z.0, omega arith))
-    fragment-row i (inr (inr z)) = absurd (not_both (bears c) b (asked_bears c z.0))
+    fragment_row : (i : ℕ) → Conditioned K P i ⊎ Exempt c i (top os) → Conditioned K Q i ⊎ Exempt (born c) i n
+    fragment_row i (inl z) = inl (z.0, kept (suc i) _ z.0 ∙ z.1)
+    fragment_row i (inr (inl z)) = let y = z.1 in let x = next_row c σ os h.upper (bare_late c z.0) in inr (inr (bare_born c z.0, omega arith))
+    fragment_row i (inr (inr z)) = absurd (not_both (bears c) b (asked_bears c z.0))
 
     begins : Bears K Q (suc n) (born c ∷ (under c ∷ σ)) (n ∷ os)
     begins = record {
@@ -132,10 +132,10 @@ module _ (K P Q : ℕ → ℕ) (n : ℕ) (off : (i : ℕ) → (i ≡ n → ⊥) 
         on,
         (λ l. refl),
         (λ l. next_row c σ os h.upper (born_near c l) ∙ ap suc (sym on)),
-        under-row c σ os b h.upper,
+        under_row c σ os b h.upper,
       );
       beyond = λ i l. h.beyond i (omega arith);
-      fragments = λ i e. fragment-row i (h.fragments i e);
+      fragments = λ i e. fragment_row i (h.fragments i e);
       values = λ j v. subst (λ (p : ℕ). p < j) (sym (value_kept j v)) (h.values j v);
       arguments = λ i j e v p. h.arguments i j e v (sym (value_kept j v) ∙ p);
       references = λ j e. subst (λ (p : ℕ). T (holder (K p))) (sym (kept j _ e)) (h.references j e);

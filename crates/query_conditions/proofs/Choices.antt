@@ -49,10 +49,10 @@ variable_one e = cc
 
 module _ (t : Table) (d : Doc) (judged : Judged t d Fits) (rows : Below d.rows) where
   -- RULE 9. The only argument of a directive: it is an `if`, a boolean or a variable
-  one-if : (bs : List ℕ) → T (only_ifs d bs) → (a : ℕ) × (bs ≡ a ∷ []) × T (is_if d a)
-  one-if [] h = absurd h
-  one-if (a ∷ []) h = (a, refl, h)
-  one-if (a ∷ (b ∷ bs)) h = absurd h
+  one_if : (bs : List ℕ) → T (only_ifs d bs) → (a : ℕ) × (bs ≡ a ∷ []) × T (is_if d a)
+  one_if [] h = absurd h
+  one_if (a ∷ []) h = (a, refl, h)
+  one_if (a ∷ (b ∷ bs)) h = absurd h
 
   directive_right_is : (k : ℕ) → T (is kind_directive (row_of d k)) → T (only_ifs d (rows_below d kind_argument k))
   unfolding directive_wrong
@@ -81,13 +81,13 @@ module _ (t : Table) (d : Doc) (judged : Judged t d Fits) (rows : Below d.rows) 
       go (inr x) = subst (λ (m : ℕ). T (leb kind_variable m && leb m kind_object)) (sym (eqb→eq n kind_variable x)) tt
 
   -- a value right below an argument is the row right behind it
-  value-place : (a j : ℕ) → T (is kind_argument (row_of d a)) → T (is_value (row_of d j)) → T (below a (row_of d j)) → j ≡ suc a
-  value-place a j k v p = rows.arguments a j (eqb→eq (row_of d a).kind kind_argument k) v (eqb→eq (parent_of d j) a p)
+  value_place : (a j : ℕ) → T (is kind_argument (row_of d a)) → T (is_value (row_of d j)) → T (below a (row_of d j)) → j ≡ suc a
+  value_place a j k v p = rows.arguments a j (eqb→eq (row_of d a).kind kind_argument k) v (eqb→eq (parent_of d j) a p)
 
-  choice-of : (k : ℕ) → T (is kind_directive (row_of d k)) → Choice k
+  choice_of : (k : ℕ) → T (is kind_directive (row_of d k)) → Choice k
   unfolding rows_below
-  choice-of k h =
-      let o = one-if (rows_below d kind_argument k) (directive_right_is k h) in
+  choice_of k h =
+      let o = one_if (rows_below d kind_argument k) (directive_right_is k h) in
       let a = o.0 in
       let f = first_number (isArgument k) d.rows 0 a [] o.1 in
       let q : a ≡ argument_below d k = f.0 ∙ zero-add (argument_below d k) in
@@ -96,7 +96,7 @@ module _ (t : Table) (d : Doc) (judged : Judged t d Fits) (rows : Below d.rows) 
       let c : T (isChoice (argument_below d k) (row_of d j)) = subst (λ (x : ℕ). T (isChoice x (row_of d j))) q s.1 in
       let b : T (is kind_boolean (row_of d j) || is kind_variable (row_of d j)) = and_l (is kind_boolean (row_of d j) || is kind_variable (row_of d j)) (below (argument_below d k) (row_of d j)) c in
       let p : T (below (argument_below d k) (row_of d j)) = and_r (is kind_boolean (row_of d j) || is kind_variable (row_of d j)) (below (argument_below d k) (row_of d j)) c in
-      let z = value-place (argument_below d k) j (and_l (is kind_argument (row_of d (argument_below d k))) (below k (row_of d (argument_below d k))) f.1) (value_of (row_of d j).kind b) p in
+      let z = value_place (argument_below d k) j (and_l (is kind_argument (row_of d (argument_below d k))) (below k (row_of d (argument_below d k))) f.1) (value_of (row_of d j).kind b) p in
       record { argument = f.1; choice = subst (λ (x : ℕ). T (isChoice (argument_below d k) (row_of d x))) z c }
 
   -- the variable of a @skip or @include, row by row
@@ -104,12 +104,12 @@ module _ (t : Table) (d : Doc) (judged : Judged t d Fits) (rows : Below d.rows) 
     pub value : ℕ
     argument : ℕ
     directive : ℕ
-    is-variable : T (is kind_variable (row_of d value))
-    is-argument : T (is kind_argument (row_of d argument))
-    is-directive : T (is kind_directive (row_of d directive))
-    below-argument : parent_of d value ≡ argument
-    below-directive : parent_of d argument ≡ directive
-    below-it : parent_of d directive ≡ i
+    is_variable : T (is kind_variable (row_of d value))
+    is_argument : T (is kind_argument (row_of d argument))
+    is_directive : T (is kind_directive (row_of d directive))
+    below_argument : parent_of d value ≡ argument
+    below_directive : parent_of d argument ≡ directive
+    below_it : parent_of d directive ≡ i
     pub number : variable_number d op (name_of d value) ≡ v
 
   chosen : (r : Row) → T (is kind_boolean r || is kind_variable r) → is kind_boolean r ≡ false → T (is kind_variable r)
@@ -125,47 +125,47 @@ module _ (t : Table) (d : Doc) (judged : Judged t d Fits) (rows : Below d.rows) 
       a : ℕ
       a = argument_below d k
 
-      isIts : Row → Bool
-      isIts r = is_value r && below a r
+      is_its : Row → Bool
+      is_its r = is_value r && below a r
 
-      valued : T (is kind_directive (row_of d k)) → parent_of d k ≡ i → (w : Row) → find isIts d.rows ≡ some w → (b : Bool) → is kind_boolean w ≡ b → cond b (literal (eqb w.extra extra_true)) (variable (variable_number d op (spelt d w))) ≡ variable v → Given op i v
+      valued : T (is kind_directive (row_of d k)) → parent_of d k ≡ i → (w : Row) → find is_its d.rows ≡ some w → (b : Bool) → is kind_boolean w ≡ b → cond b (literal (eqb w.extra extra_true)) (variable (variable_number d op (spelt d w))) ≡ variable v → Given op i v
       valued h p w f true q e = absurd (literal≢variable e)
       valued h p w f false q e =
-          let s = find_some isIts d.rows w no_row f in
+          let s = find_some is_its d.rows w no_row f in
           let j = s.0 in
           let y : row_of d j ≡ w = s.2 in
-          let u : T (isIts (row_of d j)) = subst (λ (r : Row). T (isIts r)) (sym y) (holds (isIts w) s.3) in
-          let c = choice-of k h in
+          let u : T (is_its (row_of d j)) = subst (λ (r : Row). T (is_its r)) (sym y) (holds (is_its w) s.3) in
+          let c = choice_of k h in
           let n : T (is kind_argument (row_of d a)) = and_l (is kind_argument (row_of d a)) (below k (row_of d a)) c.argument in
-          let z = value-place a j n (and_l (is_value (row_of d j)) (below a (row_of d j)) u) (and_r (is_value (row_of d j)) (below a (row_of d j)) u) in
+          let z = value_place a j n (and_l (is_value (row_of d j)) (below a (row_of d j)) u) (and_r (is_value (row_of d j)) (below a (row_of d j)) u) in
           let m : T (isChoice a (row_of d j)) = subst (λ (o : ℕ). T (isChoice a (row_of d o))) (sym z) c.choice in
           record {
             value = j;
             argument = a;
             directive = k;
-            is-variable = chosen (row_of d j) (and_l (is kind_boolean (row_of d j) || is kind_variable (row_of d j)) (below a (row_of d j)) m) (ap (is kind_boolean) y ∙ q);
-            is-argument = n;
-            is-directive = h;
-            below-argument = eqb→eq (parent_of d j) a (and_r (is_value (row_of d j)) (below a (row_of d j)) u);
-            below-directive = eqb→eq (parent_of d a) k (and_r (is kind_argument (row_of d a)) (below k (row_of d a)) c.argument);
-            below-it = p;
+            is_variable = chosen (row_of d j) (and_l (is kind_boolean (row_of d j) || is kind_variable (row_of d j)) (below a (row_of d j)) m) (ap (is kind_boolean) y ∙ q);
+            is_argument = n;
+            is_directive = h;
+            below_argument = eqb→eq (parent_of d j) a (and_r (is_value (row_of d j)) (below a (row_of d j)) u);
+            below_directive = eqb→eq (parent_of d a) k (and_r (is kind_argument (row_of d a)) (below k (row_of d a)) c.argument);
+            below_it = p;
             number = ap (λ (r : Row). variable_number d op (spelt d r)) y ∙ variable_one e;
           }
 
-      looked : T (is kind_directive (row_of d k)) → parent_of d k ≡ i → (o : Option Row) → find isIts d.rows ≡ o → cond_from d op o ≡ variable v → Given op i v
+      looked : T (is kind_directive (row_of d k)) → parent_of d k ≡ i → (o : Option Row) → find is_its d.rows ≡ o → cond_from d op o ≡ variable v → Given op i v
       looked h p none f e = absurd (absent≢variable e)
       looked h p (some w) f e = valued h p w f (is kind_boolean w) refl e
 
-      found : (b : Bool) → ltb k (count d) ≡ b → cond b (cond_from d op (find isIts d.rows)) absent ≡ variable v → Given op i v
+      found : (b : Bool) → ltb k (count d) ≡ b → cond b (cond_from d op (find is_its d.rows)) absent ≡ variable v → Given op i v
       found false l e = absurd (absent≢variable e)
       found true l e =
           let u = first_passes (λ r. is kind_directive r && (below i r && called d x r)) d.rows (ltb-true k (count d) l) in
           let q = and_r (is kind_directive (row_of d k)) (below i (row_of d k) && called d x (row_of d k)) u in
-          looked (and_l (is kind_directive (row_of d k)) (below i (row_of d k) && called d x (row_of d k)) u) (eqb→eq (parent_of d k) i (and_l (below i (row_of d k)) (called d x (row_of d k)) q)) (find isIts d.rows) refl e
+          looked (and_l (is kind_directive (row_of d k)) (below i (row_of d k) && called d x (row_of d k)) u) (eqb→eq (parent_of d k) i (and_l (below i (row_of d k)) (called d x (row_of d k)) q)) (find is_its d.rows) refl e
 
   -- RULE 10. What stands right below a row that is reached is reached
-  reach-below : (op j p k : ℕ) → T (is k (row_of d j)) → T (not (eqb k kind_operation || eqb k kind_fragment)) → parent_of d j ≡ p → Reaches d op p → Reaches d op j
-  reach-below op j p k h n e r = go r
+  reach_below : (op j p k : ℕ) → T (is k (row_of d j)) → T (not (eqb k kind_operation || eqb k kind_fragment)) → parent_of d j ≡ p → Reaches d op p → Reaches d op j
+  reach_below op j p k h n e r = go r
     where
       other : T (not (is_definition (row_of d j)))
       other = subst (λ (m : ℕ). T (not (eqb m kind_operation || eqb m kind_fragment))) (sym (eqb→eq (row_of d j).kind k h)) n
@@ -177,10 +177,10 @@ module _ (t : Table) (d : Doc) (judged : Judged t d Fits) (rows : Below d.rows) 
   pub given_defined : (op i v : ℕ) → T (is kind_operation (row_of d op)) → Reaches d op i → (g : Given op i v) → T (defines d op (name_of d g.value))
   given_defined op i v o r g =
       right (defines d op (name_of d g.value))
-      (λ u. not_broken t d judged g.value _ (undefined (record { variable = g.is-variable; operation = op; is_operation = o; reaches = reached; undefined = u })))
+      (λ u. not_broken t d judged g.value _ (undefined (record { variable = g.is_variable; operation = op; is_operation = o; reaches = reached; undefined = u })))
     where
       reached : Reaches d op g.value
       reached =
-          reach-below op g.value g.argument kind_variable g.is-variable tt g.below-argument
-          (reach-below op g.argument g.directive kind_argument g.is-argument tt g.below-directive
-          (reach-below op g.directive i kind_directive g.is-directive tt g.below-it r))
+          reach_below op g.value g.argument kind_variable g.is_variable tt g.below_argument
+          (reach_below op g.argument g.directive kind_argument g.is_argument tt g.below_directive
+          (reach_below op g.directive i kind_directive g.is_directive tt g.below_it r))

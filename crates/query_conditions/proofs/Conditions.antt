@@ -36,9 +36,9 @@ output_number t (definition k) h = go (is_composite (definition_at t k)) refl h
 
 module _ (t : Table) (d : Doc) (judged : Judged t d Fits) (rows : Below d.rows) where
   -- row j is a type condition: it is right
-  condition-right : (j : ℕ) → T (is kind_type_reference (row_of d j)) → T (is_fragment (row_of d (parent_of d j))) → T (is_composite (meant t (name_of d j)))
+  condition_right : (j : ℕ) → T (is kind_type_reference (row_of d j)) → T (is_fragment (row_of d (parent_of d j))) → T (is_composite (meant t (name_of d j)))
   unfolding condition_wrong
-  condition-right j r f =
+  condition_right j r f =
       right (is_composite (meant t (name_of d j)))
       (λ w. not_broken t d judged j _ (condition (and_i (is kind_type_reference (row_of d j)) (is_fragment (row_of d (parent_of d j)) && not (is_composite (meant t (name_of d j)))) r (and_i (is_fragment (row_of d (parent_of d j))) (not (is_composite (meant t (name_of d j)))) f w))))
 
@@ -46,13 +46,13 @@ module _ (t : Table) (d : Doc) (judged : Judged t d Fits) (rows : Below d.rows) 
   abbrev isCondition : ℕ → Row → Bool
   isCondition i r = cond (is kind_type_reference r) (below i r) false
 
-  cond-left : (a b : Bool) → cond a b false ≡ true → T a
-  cond-left true b e = tt
-  cond-left false b e = absurd (true≢false (sym e))
+  cond_left : (a b : Bool) → cond a b false ≡ true → T a
+  cond_left true b e = tt
+  cond_left false b e = absurd (true≢false (sym e))
 
-  cond-right : (a b : Bool) → cond a b false ≡ true → T b
-  cond-right true b e = holds b e
-  cond-right false b e = absurd (true≢false (sym e))
+  cond_right : (a b : Bool) → cond a b false ≡ true → T b
+  cond_right true b e = holds b e
+  cond_right false b e = absurd (true≢false (sym e))
 
   found_right : (i : ℕ) (r : Row) → condition_of d i ≡ some r → ((j : ℕ) → T (is kind_type_reference (row_of d j)) → parent_of d j ≡ i → T (is_fragment (row_of d i))) → is_composite (definition_at t (type_number t (spelt d r))) ≡ true
   unfolding condition_of composite_of
@@ -60,9 +60,9 @@ module _ (t : Table) (d : Doc) (judged : Judged t d Fits) (rows : Below d.rows) 
       let s = find_some (isCondition i) d.rows r no_row e in
       let j = s.0 in
       let q : row_of d j ≡ r = s.2 in
-      let k : T (is kind_type_reference (row_of d j)) = subst (λ (x : Row). T (is kind_type_reference x)) (sym q) (cond-left (is kind_type_reference r) (below i r) s.3) in
-      let p : parent_of d j ≡ i = eqb→eq (parent_of d j) i (subst (λ (x : Row). T (below i x)) (sym q) (cond-right (is kind_type_reference r) (below i r) s.3)) in
-      output_number t (meaning t (spelt d r)) (subst (λ (x : Row). T (is_composite (meant t (spelt d x)))) q (condition-right j k (subst (λ (x : ℕ). T (is_fragment (row_of d x))) (sym p) (f j k p))))
+      let k : T (is kind_type_reference (row_of d j)) = subst (λ (x : Row). T (is kind_type_reference x)) (sym q) (cond_left (is kind_type_reference r) (below i r) s.3) in
+      let p : parent_of d j ≡ i = eqb→eq (parent_of d j) i (subst (λ (x : Row). T (below i x)) (sym q) (cond_right (is kind_type_reference r) (below i r) s.3)) in
+      output_number t (meaning t (spelt d r)) (subst (λ (x : Row). T (is_composite (meant t (spelt d x)))) q (condition_right j k (subst (λ (x : ℕ). T (is_fragment (row_of d x))) (sym p) (f j k p))))
 
   some_there : (f : ℕ) → T (is kind_fragment (row_of d f)) → condition_of d f ≡ none → ⊥
   unfolding condition_of

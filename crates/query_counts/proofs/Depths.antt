@@ -153,24 +153,24 @@ module _ (b : Bool) (e z c : ℕ) (g : T b → c ≡ 0) where
   up a t = let q = g t in omega arith
 
   -- symbols where c rows more are open, and others behind them
-  fits-append : (α ss : Syms) (f : Bool) (a : ℕ) → T (fits b e α f a) → T (fits true z ss false (c + e)) → T (fits true z (α ++ ss) f (c + a))
-  fits-append [] ss f a h k = let q = eqb→eq a e h in fits_same z ss f (omega arith) (fits_fresh z ss f (c + e) k)
-  fits-append (nt n ∷ α) ss f a h k =
+  fits_append : (α ss : Syms) (f : Bool) (a : ℕ) → T (fits b e α f a) → T (fits true z ss false (c + e)) → T (fits true z (α ++ ss) f (c + a))
+  fits_append [] ss f a h k = let q = eqb→eq a e h in fits_same z ss f (omega arith) (fits_fresh z ss f (c + e) k)
+  fits_append (nt n ∷ α) ss f a h k =
       and_i (placed true n (c + a)) (fits true z (α ++ ss) false (c + a + gain n))
       (placed_more b n a (c + a) (up a) (and_l (placed b n a) (fits b e α false (a + gain n)) h))
-      (fits_same z (α ++ ss) false (let q : c + (a + gain n) ≡ c + a + gain n = omega arith in q) (fits-append α ss false (a + gain n) (and_r (placed b n a) (fits b e α false (a + gain n)) h) k))
-  fits-append (tm p ∷ α) ss f a h k = fits-append α ss false a h k
-  fits-append (act row ∷ α) ss f a h k = fits_same z (α ++ ss) true (let q : c + suc a ≡ suc (c + a) = omega arith in q) (fits-append α ss true (suc a) h k)
-  fits-append (act (kind i x) ∷ α) ss f a h k =
+      (fits_same z (α ++ ss) false (let q : c + (a + gain n) ≡ c + a + gain n = omega arith in q) (fits_append α ss false (a + gain n) (and_r (placed b n a) (fits b e α false (a + gain n)) h) k))
+  fits_append (tm p ∷ α) ss f a h k = fits_append α ss false a h k
+  fits_append (act row ∷ α) ss f a h k = fits_same z (α ++ ss) true (let q : c + suc a ≡ suc (c + a) = omega arith in q) (fits_append α ss true (suc a) h k)
+  fits_append (act (kind i x) ∷ α) ss f a h k =
       and_i (suits true f (c + a) (takes (α ++ ss)) i) (fits true z (α ++ ss) false (c + a))
       (suits_more b f a (c + a) (takes α) (takes (α ++ ss)) i (up a) (takes_append α ss) (and_l (suits b f a (takes α) i) (fits b e α false a) h))
-      (fits-append α ss false a (and_r (suits b f a (takes α) i) (fits b e α false a) h) k)
-  fits-append (act named ∷ α) ss f a h k = fits-append α ss false a h k
-  fits-append (act wrapper ∷ α) ss f a h k = fits-append α ss false a h k
-  fits-append (act (wrap w) ∷ α) ss f a h k = fits-append α ss false a h k
-  fits-append (act end ∷ α) ss f zero h k = absurd h
-  fits-append (act end ∷ α) ss f (suc a) h k =
-      fits_same z (act end ∷ (α ++ ss)) f (let q : suc (c + a) ≡ c + suc a = omega arith in q) (fits-append α ss false a h k)
+      (fits_append α ss false a (and_r (suits b f a (takes α) i) (fits b e α false a) h) k)
+  fits_append (act named ∷ α) ss f a h k = fits_append α ss false a h k
+  fits_append (act wrapper ∷ α) ss f a h k = fits_append α ss false a h k
+  fits_append (act (wrap w) ∷ α) ss f a h k = fits_append α ss false a h k
+  fits_append (act end ∷ α) ss f zero h k = absurd h
+  fits_append (act end ∷ α) ss f (suc a) h k =
+      fits_same z (act end ∷ (α ++ ss)) f (let q : suc (c + a) ≡ c + suc a = omega arith in q) (fits_append α ss false a h k)
 
 -- a part's production in its place
 fits_by : (n : Part) (α ss : Syms) (z : ℕ) (f : Bool) (d : ℕ) → Memᴰ α (language n) → T (fits true z (nt n ∷ ss) f d) → T (fits true z (α ++ ss) f d)
@@ -183,11 +183,11 @@ fits_by n α ss z f d m h = fits_fresh z (α ++ ss) f d (go (is_free n) (implies
     later = and_r (placed true n d) (fits true z ss false (d + gain n)) h
 
     go : (u : Bool) → T (cond u (all (λ α. fits false (gain n) α false 0) (language n)) (all (λ α. fits true (home n + gain n) α false (home n)) (language n))) → T (u || eqb d (home n)) → T (fits true z (α ++ ss) false d)
-    go true t p = fits_same z (α ++ ss) false (let q : d + 0 ≡ d = omega arith in q) (fits-append false (gain n) z d (λ x. absurd x) α ss false 0 (all_mem (λ β. fits false (gain n) β false 0) t m) later)
+    go true t p = fits_same z (α ++ ss) false (let q : d + 0 ≡ d = omega arith in q) (fits_append false (gain n) z d (λ x. absurd x) α ss false 0 (all_mem (λ β. fits false (gain n) β false 0) t m) later)
     go false t p =
         let q = eqb→eq d (home n) p in
         fits_same z (α ++ ss) false (let q : 0 + home n ≡ d = omega arith in q)
-        (fits-append true (home n + gain n) z 0 (λ x. refl) α ss false (home n) (all_mem (λ β. fits true (home n + gain n) β false (home n)) t m) (fits_same z ss false (let q : d + gain n ≡ 0 + (home n + gain n) = omega arith in q) later))
+        (fits_append true (home n + gain n) z 0 (λ x. refl) α ss false (home n) (all_mem (λ β. fits true (home n + gain n) β false (home n)) t m) (fits_same z ss false (let q : d + gain n ≡ 0 + (home n + gain n) = omega arith in q) later))
 
 -- OF EVENTS. The next one is a token
 abbrev pub token : Evs → Bool

@@ -142,8 +142,8 @@ module _ (k x : ℕ) (f t : Bool) (d : ℕ) (q : Counts) (rs : List Row) (u : Su
   abbrev then' : List ℕ → List Row
   then' os = change (of_kind k x) (top os) rs
 
-  fragments-then : (os : List ℕ) → fragments_in rs ≤ q.fragments → fragments_in (then' os) ≤ (kinded k q).fragments
-  fragments-then os h = go (eqb k kind_fragment) (tally_change (is kind_fragment) (of_kind k x) (top os) rs)
+  fragments_then : (os : List ℕ) → fragments_in rs ≤ q.fragments → fragments_in (then' os) ≤ (kinded k q).fragments
+  fragments_then os h = go (eqb k kind_fragment) (tally_change (is kind_fragment) (of_kind k x) (top os) rs)
     where
       go : (b : Bool) → fragments_in (then' os) ≤ fragments_in rs + one b → fragments_in (then' os) ≤ cond b (q.fragments + 1) q.fragments
       go true l = omega arith
@@ -154,8 +154,8 @@ module _ (k x : ℕ) (f t : Bool) (d : ℕ) (q : Counts) (rs : List Row) (u : Su
   no_more e os p = let l = tally_change (defining p) (of_kind k x) (top os) rs in let z = rw (ne_eqb k kind_variable_definition e) at l in omega (arith, z)
 
   -- an operation: it has none yet
-  other-now : (k ≡ kind_variable_definition → ⊥) → (os : List ℕ) → Stands f d q rs os → Lowest (λ p. variables_of (then' os) p ≤ (kinded k q).variables) os
-  other-now e os h = go (ℕ_discrete k kind_operation)
+  other_now : (k ≡ kind_variable_definition → ⊥) → (os : List ℕ) → Stands f d q rs os → Lowest (λ p. variables_of (then' os) p ≤ (kinded k q).variables) os
+  other_now e os h = go (ℕ_discrete k kind_operation)
     where
       begins : (os : List ℕ) → length os ≡ 1 → variables_of rs (top os) ≡ 0 → ((p : ℕ) → variables_of (then' os) p ≤ variables_of rs p) → Lowest (λ p. variables_of (then' os) p ≤ (kinded k q).variables) os
       begins [] l z g = tt
@@ -168,13 +168,13 @@ module _ (k x : ℕ) (f t : Bool) (d : ℕ) (q : Counts) (rs : List Row) (u : Su
           lowest_map (λ p. variables_of rs p ≤ q.variables) (λ p. variables_of (then' os) p ≤ (kinded k q).variables)
           (λ p l. rw (ne_eqb k kind_operation a, ne_eqb k kind_variable_definition e) (let m = no_more e os p in omega arith)) os h.now
 
-  stands-other : (k ≡ kind_variable_definition → ⊥) → (os : List ℕ) → Stands f d q rs os → Stands false d (kinded k q) (then' os) os
-  stands-other e os h = record {
+  stands_other : (k ≡ kind_variable_definition → ⊥) → (os : List ℕ) → Stands f d q rs os → Stands false d (kinded k q) (then' os) os
+  stands_other e os h = record {
     level = h.level;
     chain = chain_change (of_kind k x) (λ r. refl) (top os) rs os h.chain;
-    fragments = fragments-then os h.fragments;
+    fragments = fragments_then os h.fragments;
     few = λ p. let m = no_more e os p in let l = h.few p in omega arith;
-    now = other-now e os h;
+    now = other_now e os h;
     later = λ p l. let m = no_more e os p in let z = h.later p (omega (arith, change_length (of_kind k x) (top os) rs)) in omega arith;
     fresh = λ t. absurd t;
   }
@@ -187,27 +187,27 @@ module _ (k x : ℕ) (f t : Bool) (d : ℕ) (q : Counts) (rs : List Row) (u : Su
     one_more : (p : ℕ) → variables_of after p ≤ variables_of rs p + one (eqb (at rs j).parent p)
     one_more p = let l = tally_change (defining p) (of_kind k x) j rs in rw (eq-eqb k kind_variable_definition e) at l
 
-    of-it : variables_of after o ≤ variables_of rs o + 1
-    of-it = let l = one_more o in rw (eq-eqb (at rs j).parent o h.chain.1) at l
+    of_it : variables_of after o ≤ variables_of rs o + 1
+    of_it = let l = one_more o in rw (eq-eqb (at rs j).parent o h.chain.1) at l
 
-    of-else : (p : ℕ) → (o ≡ p → ⊥) → variables_of after p ≤ variables_of rs p
-    of-else p n = let l = one_more p in let z = rw (ne_eqb (at rs j).parent p (λ i. n (sym h.chain.1 ∙ i))) at l in omega (arith, z)
+    of_else : (p : ℕ) → (o ≡ p → ⊥) → variables_of after p ≤ variables_of rs p
+    of_else p n = let l = one_more p in let z = rw (ne_eqb (at rs j).parent p (λ i. n (sym h.chain.1 ∙ i))) at l in omega (arith, z)
 
     are : (kinded k q).variables ≡ q.variables + 1
     are = rw e refl
 
-    few-then : (p : ℕ) → Dec (o ≡ p) → variables_of after p ≤ most_variables
-    few-then p (yes i) = subst (λ (y : ℕ). variables_of after y ≤ most_variables) i (omega (arith, of-it, h.now, are, v.1))
-    few-then p (no i) = omega (arith, of-else p i, h.few p)
+    few_then : (p : ℕ) → Dec (o ≡ p) → variables_of after p ≤ most_variables
+    few_then p (yes i) = subst (λ (y : ℕ). variables_of after y ≤ most_variables) i (omega (arith, of_it, h.now, are, v.1))
+    few_then p (no i) = omega (arith, of_else p i, h.few p)
 
-    stands-definition : Stands false d (kinded k q) after (j ∷ (o ∷ []))
-    stands-definition = record {
+    stands_definition : Stands false d (kinded k q) after (j ∷ (o ∷ []))
+    stands_definition = record {
       level = h.level;
       chain = chain_change (of_kind k x) (λ r. refl) j rs (j ∷ (o ∷ [])) h.chain;
-      fragments = fragments-then (j ∷ (o ∷ [])) h.fragments;
-      few = λ p. few-then p (ℕ_discrete o p);
-      now = omega (arith, of-it, h.now, are);
-      later = λ p l. let s = change_length (of_kind k x) j rs in let c = h.chain.2.0 in let z = h.later p (omega arith) in let m = of-else p (λ i. absurd (omega arith)) in omega arith;
+      fragments = fragments_then (j ∷ (o ∷ [])) h.fragments;
+      few = λ p. few_then p (ℕ_discrete o p);
+      now = omega (arith, of_it, h.now, are);
+      later = λ p l. let s = change_length (of_kind k x) j rs in let c = h.chain.2.0 in let z = h.later p (omega arith) in let m = of_else p (λ i. absurd (omega arith)) in omega arith;
       fresh = λ t. absurd t;
     }
 
@@ -217,9 +217,9 @@ module _ (k x : ℕ) (f t : Bool) (d : ℕ) (q : Counts) (rs : List Row) (u : Su
       two : k ≡ kind_variable_definition → (os : List ℕ) → length os ≡ 2 → Stands f d q rs os → Stands false d (kinded k q) (then' os) os
       two e [] l h = absurd (omega arith)
       two e (j ∷ []) l h = absurd (omega arith)
-      two e (j ∷ (o ∷ [])) l h = stands-definition e j o h
+      two e (j ∷ (o ∷ [])) l h = stands_definition e j o h
       two e (j ∷ (o ∷ (i ∷ os))) l h = absurd (omega arith)
 
       go : Dec (k ≡ kind_variable_definition) → Stands false d (kinded k q) (then' os) os
       go (yes e) = two e os (h.level ∙ (u.definition e).1) h
-      go (no e) = stands-other e os h
+      go (no e) = stands_other e os h

@@ -32,9 +32,9 @@ module _ (t : List ℕ) (f : Fitted t) where
       go (yes h) = all_at slim_definition (blank_definition tag_nothing) (table_of t) (references_slim t f.framed f.counted) k h
       go (no h) = ap slim_definition (get_or-eq_default (table_of t) (blank_definition tag_nothing) (omega arith))
 
-  found-slim : (k : ℕ) (n : List ℕ) (m : Member) → field_of (table_of t) k n ≡ some m → slim_member m ≡ true
+  found_slim : (k : ℕ) (n : List ℕ) (m : Member) → field_of (table_of t) k n ≡ some m → slim_member m ≡ true
   unfolding field_of
-  found-slim k n m e = go (is_union (definition_at (table_of t) k)) e
+  found_slim k n m e = go (is_union (definition_at (table_of t) k)) e
     where
       go : (b : Bool) → cond b none (find (member_named n) (definition_at (table_of t) k).members) ≡ some m → slim_member m ≡ true
       go true q = let z : ◌≡◌ {A = Option Member} none (some m) = q in absurd (true≢false cc)
@@ -47,4 +47,4 @@ module _ (t : List ℕ) (f : Fitted t) where
     where
       go : (b : Bool) → cond b typename (or_missing (field_of (table_of t) k n)) ≡ member m → all_of slim_argument m.arguments ≡ true
       go true q = let z : ◌≡◌ {A = FieldIs} typename (member m) = q in absurd (true≢false cc)
-      go false q = and_right (slim m.type) (all_of slim_argument m.arguments) (found-slim k n m (member_found (field_of (table_of t) k n) m q))
+      go false q = and_right (slim m.type) (all_of slim_argument m.arguments) (found_slim k n m (member_found (field_of (table_of t) k n) m q))

@@ -108,13 +108,13 @@ module _ (t book es : List ℕ) (d : Doc) (i at : ℕ) (e : kind_of d (parent_of
 
 -- an object's field, by the definition that the base means
 module _ (t : Table) (n base : List ℕ) (w : ℕ) where
-  field-of-other : ((meant t base).tag ≡ tag_input_object → ⊥) → input_field_of t n (shape base w) ≡ none
+  field_of_other : ((meant t base).tag ≡ tag_input_object → ⊥) → input_field_of t n (shape base w) ≡ none
   unfolding input_field_of
-  field-of-other e = rw (ne_eqb (meant t base).tag tag_input_object e)
+  field_of_other e = rw (ne_eqb (meant t base).tag tag_input_object e)
 
-  field-of-object : (meant t base).tag ≡ tag_input_object → input_field_of t n (shape base w) ≡ member_shape (find (member_named n) (meant t base).members)
+  field_of_object : (meant t base).tag ≡ tag_input_object → input_field_of t n (shape base w) ≡ member_shape (find (member_named n) (meant t base).members)
   unfolding input_field_of
-  field-of-object e = rw (eq-eqb (meant t base).tag tag_input_object e)
+  field_of_object e = rw (eq-eqb (meant t base).tag tag_input_object e)
 
 -- Boolean is no input object
 boolean_scalar : (t : Table) → (meant t (bytes "Boolean")).tag ≡ tag_scalar
@@ -129,7 +129,7 @@ module _ (t book es : List ℕ) (b : Booked t book) (n : List ℕ) (p r : Place)
       go true q = rw (coded_unknown t es p (eqb-true p.at place_unknown q))
       go false q =
           rw (coded_boolean t es p (omega (arith, eqb-false p.at place_unknown q)))
-          (field-of-other (table_of t) n (bytes "Boolean") p.wrappers (λ e. omega (arith, boolean_scalar (table_of t))))
+          (field_of_other (table_of t) n (bytes "Boolean") p.wrappers (λ e. omega (arith, boolean_scalar (table_of t))))
 
   module _ (h : place_first ≤ p.at) (w : Within t book es p) (k : ℕ) (a : MeantAnswer es (p.at - place_first) k) where
     meant_is : NumberMeant t book (base_at t es (p.at - place_first)) k
@@ -140,7 +140,7 @@ module _ (t book es : List ℕ) (b : Booked t book) (n : List ℕ) (p r : Place)
 
     pub input_of_other : (kind_in book k ≡ tag_input_object → ⊥) → r.at ≡ place_unknown → Keeps t book es (then (coded t es p) (input_field_of (table_of t) n)) r
     input_of_other e z =
-        rw (base_is ∙ field-of-other (table_of t) n (base_at t es (p.at - place_first)) p.wrappers (λ q. go q (dec_lt k (count_in book)))) (keeps_unknown t book es r z)
+        rw (base_is ∙ field_of_other (table_of t) n (base_at t es (p.at - place_first)) p.wrappers (λ q. go q (dec_lt k (count_in book)))) (keeps_unknown t book es r z)
       where
         go : (meant (table_of t) (base_at t es (p.at - place_first))).tag ≡ tag_input_object → Dec (k < count_in book) → ⊥
         go q (yes l) = e (kind_is t book b k ∙ ap (λ (d : Definition). d.tag) (sym (meant_is.is l)) ∙ q)
@@ -163,5 +163,5 @@ module _ (t book es : List ℕ) (b : Booked t book) (n : List ℕ) (p r : Place)
       pub input_of_object : Keeps t book es (member_shape (find (member_named n) (definition_on t k).members)) r → Keeps t book es (then (coded t es p) (input_field_of (table_of t) n)) r
       input_of_object y =
           let a = meant_is.is input_below in
-          rw (base_is ∙ field-of-object (table_of t) n (base_at t es (p.at - place_first)) p.wrappers (ap (λ (d : Definition). d.tag) a ∙ tag_is)
+          rw (base_is ∙ field_of_object (table_of t) n (base_at t es (p.at - place_first)) p.wrappers (ap (λ (d : Definition). d.tag) a ∙ tag_is)
           ∙ ap (λ (d : Definition). member_shape (find (member_named n) d.members)) a) y

@@ -79,9 +79,9 @@ module _ (t book : List ℕ) (b : Booked t book) (k : ℕ) (o : Composite (table
     union_lacks u = rw (eq-eqb (definition_at (table_of t) k).tag tag_union (tag_is ∙ u)) (kept_missing t book es)
 
     module _ (u : get_or book k 0 ≡ tag_union → ⊥) where
-      field-sought : field_of (table_of t) k n ≡ find (member_named n) (definition_at (table_of t) k).members
+      field_sought : field_of (table_of t) k n ≡ find (member_named n) (definition_at (table_of t) k).members
       unfolding field_of
-      field-sought = rw (ne_eqb (definition_at (table_of t) k).tag tag_union (λ z. u (sym tag_is ∙ z)))
+      field_sought = rw (ne_eqb (definition_at (table_of t) k).tag tag_union (λ z. u (sym tag_is ∙ z)))
 
       -- an object or interface, whose members have types
       pub members_typed : has_types (definition_at (table_of t) k).tag ≡ true
@@ -99,12 +99,12 @@ module _ (t book : List ℕ) (b : Booked t book) (k : ℕ) (o : Composite (table
 
       module _ (r : ℕ) (h : Hit t book es room_entries n (definition_at (table_of t) k).members r) where
         pub field_lacks : room_entries ≤ r → FieldKept t book es (or_missing (field_of (table_of t) k n)) field_missing
-        field_lacks l = rw (field-sought ∙ h.none_is l) (kept_missing t book es)
+        field_lacks l = rw (field_sought ∙ h.none_is l) (kept_missing t book es)
 
         pub field_kept : r < room_entries → (at : ℕ) → at ≡ r + field_first → FieldKept t book es (or_missing (field_of (table_of t) k n)) at
         field_kept l at q =
             let g = h.found l in
-            rw (field-sought ∙ g.1) (kept_member t book es g.0 r at (record { member = g.0; is = g.2; on = g.3; most = g.5 }) refl q)
+            rw (field_sought ∙ g.1) (kept_member t book es g.0 r at (record { member = g.0; is = g.2; on = g.3; most = g.5 }) refl q)
 
 -- what a field is in the type above
 module _ (t book es : List ℕ) (above : ℕ) (n : List ℕ) where

@@ -33,14 +33,14 @@ module _ (t s rows : List ℕ) (n i j : ℕ) (e : j ≡ first_below (rows_in row
   unconditioned h =
       rw (found_at ∙ find_no (is_below kind_type_reference i) (rows_in rows n) 0 (omega (arith, e, rows_count rows n)))
 
-  condition-is : j < n → condition_of (doc_of s rows n) i ≡ some (row_in rows n j)
-  condition-is h =
+  condition_is : j < n → condition_of (doc_of s rows n) i ≡ some (row_in rows n j)
+  condition_is h =
       found_at ∙ find_yes (is_below kind_type_reference i) (rows_in rows n) no_row 0 (omega (arith, e, rows_count rows n))
       ∙ ap (λ (k : ℕ). some (row_in rows n k)) (sym e)
 
   pub condition_typed : {r : Option ℕ} (at size : ℕ) → j < n → at ≡ (row_in rows n j).name_start → size ≡ (row_in rows n j).name_length → r ≡ composite_of (table_of t) (part s at size)
       → r ≡ conditioned (table_of t) (doc_of s rows n) above (condition_of (doc_of s rows n) i)
-  condition_typed at size h p q f = f ∙ rw (condition-is h, p, q)
+  condition_typed at size h p q f = f ∙ rw (condition_is h, p, q)
 
 -- by the row's kind
 module _ (t s rows : List ℕ) (n i above : ℕ) {r : Option ℕ} where

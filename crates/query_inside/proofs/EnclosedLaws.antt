@@ -75,8 +75,8 @@ module _ (t s rows : List ℕ) (n : ℕ) (r : Rowed s rows n) where
         go (yes k) = f j k
         go (no k) = let z : i ≡ j = omega arith in subst P z x
 
-    kept-before : (xs : List ℕ) (x j : ℕ) → j < i → get_or xs j 0 ≡ get_or (set xs i x) j 0
-    kept-before xs x j h = sym (get_or-set_other xs i j x 0 (λ z. omega arith))
+    kept_before : (xs : List ℕ) (x j : ℕ) → j < i → get_or xs j 0 ≡ get_or (set xs i x) j 0
+    kept_before xs x j h = sym (get_or-set_other xs i j x 0 (λ z. omega arith))
 
     kept_here : (xs : List ℕ) (x : ℕ) → length xs ≡ room_of n → x ≡ get_or (set xs i x) i 0
     kept_here xs x h = sym (get_or-set_same xs i x 0 (omega (arith, room)))
@@ -89,18 +89,18 @@ module _ (t s rows : List ℕ) (n : ℕ) (r : Rowed s rows n) where
       fields = up_to e.fields (λ z. absurd (no_field (row_in rows n i).kind q z));
     }
 
-    types-kept : (c : ℕ) → type_inside (table_of t) (doc_of s rows n) i ≡ type_coded c
+    types_kept : (c : ℕ) → type_inside (table_of t) (doc_of s rows n) i ≡ type_coded c
         → (j : ℕ) → j < suc i → encloses (row_in rows n j).kind ≡ true → type_inside (table_of t) (doc_of s rows n) j ≡ type_coded (get_or (set inner i c) j 0)
-    types-kept c q =
+    types_kept c q =
         up_to {P = λ j. encloses (row_in rows n j).kind ≡ true → type_inside (table_of t) (doc_of s rows n) j ≡ type_coded (get_or (set inner i c) j 0)}
-        (λ j h k. e.types j h k ∙ ap type_coded (kept-before inner c j h)) (λ k. q ∙ ap type_coded (kept_here inner c e.inners))
+        (λ j h k. e.types j h k ∙ ap type_coded (kept_before inner c j h)) (λ k. q ∙ ap type_coded (kept_here inner c e.inners))
 
     pub enclosed_type : (c above : ℕ) → ((row_in rows n i).kind ≡ kind_field → ⊥) → enclosing (table_of t) (doc_of s rows n) i ≡ type_coded above
         → type_coded c ≡ type_inside_from (table_of t) (doc_of s rows n) i (type_coded above) → EnclosedTo t book es s rows n (suc i) (set inner i c) at
     enclosed_type c above k a q = record {
       inners = length-set inner i c ∙ e.inners;
       ats = e.ats;
-      types = types-kept c (step i ∙ rw a (sym q));
+      types = types_kept c (step i ∙ rw a (sym q));
       fields = up_to e.fields (λ z. absurd (k z));
     }
 
@@ -110,10 +110,10 @@ module _ (t s rows : List ℕ) (n : ℕ) (r : Rowed s rows n) where
     enclosed_field c a above k u f q = record {
       inners = length-set inner i c ∙ e.inners;
       ats = length-set at i a ∙ e.ats;
-      types = types-kept c (field_inside i k ∙ rw u (sym (q (field_named (table_of t) (type_coded above) (name_of (doc_of s rows n) i)) f)));
+      types = types_kept c (field_inside i k ∙ rw u (sym (q (field_named (table_of t) (type_coded above) (name_of (doc_of s rows n) i)) f)));
       fields =
           up_to {P = λ j. (row_in rows n j).kind ≡ kind_field → FieldKept t book es (field_at (table_of t) (doc_of s rows n) j) (get_or (set at i a) j 0)}
-          (λ j h z. rw (← kept-before at a j h) (e.fields j h z))
+          (λ j h z. rw (← kept_before at a j h) (e.fields j h z))
           (λ z. rw (← kept_here at a e.ats, u) f);
     }
 

@@ -23,8 +23,8 @@ module _ (k : ℕ) where
   pub field_encloses : k ≡ kind_field → true ≡ encloses k
   field_encloses e = rw e
 
-  inline-encloses : k ≡ kind_inline → true ≡ encloses k
-  inline-encloses e = rw e
+  inline_encloses : k ≡ kind_inline → true ≡ encloses k
+  inline_encloses e = rw e
 
   rest : (k ≡ kind_operation → ⊥) → (k ≡ kind_fragment → ⊥) → (k ≡ kind_field → ⊥) → encloses k ≡ eqb k kind_inline
   rest a b c = rw (ne_eqb k kind_operation a, ne_eqb k kind_fragment b, ne_eqb k kind_field c)
@@ -47,7 +47,7 @@ module _ (k : ℕ) where
     no_field z = true≢false (field_encloses z ∙ e)
 
     pub no_inline : k ≡ kind_inline → ⊥
-    no_inline z = true≢false (inline-encloses z ∙ e)
+    no_inline z = true≢false (inline_encloses z ∙ e)
 
 -- a row that may have one is there
 pub encloses_there : (rows : List ℕ) (n i : ℕ) → encloses (row_in rows n i).kind ≡ true → i < n

@@ -23,8 +23,8 @@ abbrev pub RowWalk : List ℕ → ℕ → (Row → Bool) → (Row → Bool) → 
 RowWalk rows n p q i j = Walk no_row p q (rows_in rows n) n i j
 
 module _ (rows : List ℕ) (n : ℕ) where
-  row-walk : (p q : Row → Bool) (i j : ℕ) → i ≤ n → ((r : Row) → q r ≡ true → p r ≡ true) → j ≡ next_with p (rows_in rows n) i → RowWalk rows n p q i j
-  row-walk p q i j h f z = walk_start no_row p q (rows_in rows n) n i j (rows_count rows n) h f z
+  row_walk : (p q : Row → Bool) (i j : ℕ) → i ≤ n → ((r : Row) → q r ≡ true → p r ≡ true) → j ≡ next_with p (rows_in rows n) i → RowWalk rows n p q i j
+  row_walk p q i j h f z = walk_start no_row p q (rows_in rows n) n i j (rows_count rows n) h f z
 
   module _ (first next : List ℕ) (f : Family (rows_in rows n) first next) where
     -- the links as `next_with` has them
@@ -43,11 +43,11 @@ module _ (rows : List ℕ) (n : ℕ) where
     family_room j h m = room_at rows n j f.nexts m h
 
     pub family_start : (p : ℕ) (q : Row → Bool) {j : ℕ} → p ≤ most_rows → ((r : Row) → q r ≡ true → below p r ≡ true) → j ≡ get_or first p 0 → RowWalk rows n (below p) q 0 j
-    family_start p q {j = j} h w e = row-walk (below p) q 0 j (omega arith) w (family_first p h e)
+    family_start p q {j = j} h w e = row_walk (below p) q 0 j (omega arith) w (family_first p h e)
 
     pub family_beside : (p : ℕ) (q : Row → Bool) (i : ℕ) {j : ℕ} → i < n → below p (row_in rows n i) ≡ true → ((r : Row) → q r ≡ true → below p r ≡ true) → j ≡ get_or next i 0
         → RowWalk rows n (below p) q (suc i) j
-    family_beside p q i {j = j} h b w e = row-walk (below p) q (suc i) j (omega arith) w (family_after p i h b e)
+    family_beside p q i {j = j} h b w e = row_walk (below p) q (suc i) j (omega arith) w (family_after p i h b e)
 
     pub family_next : (p : ℕ) (q : Row → Bool) (i j : ℕ) {k : ℕ} → RowWalk rows n (below p) q i j → j < n → q (row_in rows n j) ≡ false → k ≡ get_or next j 0 → RowWalk rows n (below p) q i k
     family_next p q i j {k = k} w h t e = walk_next no_row (below p) q (rows_in rows n) n i j w k h t (family_after p j h (w.on h) e)
@@ -68,11 +68,11 @@ module _ (rows : List ℕ) (n : ℕ) where
     kinds_room j h m = room_at rows n j f.nexts m h
 
     pub kinds_start : (p : ℕ) (q : Row → Bool) {j : ℕ} → p < kinds_size → ((r : Row) → q r ≡ true → is p r ≡ true) → j ≡ get_or first p 0 → RowWalk rows n (is p) q 0 j
-    kinds_start p q {j = j} h w e = row-walk (is p) q 0 j (omega arith) w (kinds_first p h e)
+    kinds_start p q {j = j} h w e = row_walk (is p) q 0 j (omega arith) w (kinds_first p h e)
 
     pub kinds_beside : (p : ℕ) (q : Row → Bool) (i : ℕ) {j : ℕ} → p < kinds_size → i < n → is p (row_in rows n i) ≡ true → ((r : Row) → q r ≡ true → is p r ≡ true) → j ≡ get_or next i 0
         → RowWalk rows n (is p) q (suc i) j
-    kinds_beside p q i {j = j} m h b w e = row-walk (is p) q (suc i) j (omega arith) w (kinds_after p i m h b e)
+    kinds_beside p q i {j = j} m h b w e = row_walk (is p) q (suc i) j (omega arith) w (kinds_after p i m h b e)
 
     pub kinds_next : (p : ℕ) (q : Row → Bool) (i j : ℕ) {k : ℕ} → p < kinds_size → RowWalk rows n (is p) q i j → j < n → q (row_in rows n j) ≡ false → k ≡ get_or next j 0 → RowWalk rows n (is p) q i k
     kinds_next p q i j {k = k} m w h t e = walk_next no_row (is p) q (rows_in rows n) n i j w k h t (kinds_after p j m h (w.on h) e)

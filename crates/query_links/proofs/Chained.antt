@@ -78,11 +78,11 @@ module _ {A : Type 0} (d : A) (key : A → ℕ) (size : ℕ) (xs : List A) where
 
     -- it is put in front of the chain of its key
     module _ (h : k < size) (f : first' ≡ set first k j) (g : next' ≡ set next j (get_or first k 0)) where
-      in-room : j < length next
-      in-room = omega (arith, c.least, c.nexts, room_enough (length xs) c.few)
+      in_room : j < length next
+      in_room = omega (arith, c.least, c.nexts, room_enough (length xs) c.few)
 
-      new-head : (m : ℕ) → m < size → get_or first' m 0 ≡ next_with (keyed key m) xs j
-      new-head m w = rw f (go (eqb m k) refl)
+      new_head : (m : ℕ) → m < size → get_or first' m 0 ≡ next_with (keyed key m) xs j
+      new_head m w = rw f (go (eqb m k) refl)
         where
           go : (b : Bool) → eqb m k ≡ b → get_or (set first k j) m 0 ≡ next_with (keyed key m) xs j
           go true q =
@@ -93,12 +93,12 @@ module _ {A : Type 0} (d : A) (key : A → ℕ) (size : ℕ) (xs : List A) where
               get_or-set_other first k m j 0 y ∙ c.head m w
               ∙ rw z (next_step (keyed key m) xs d j (omega (arith, c.least)) (ne_eqb (key (get_or xs j d)) m (λ r. y (sym (e ∙ r)))))
 
-      new-tail : (m : ℕ) → j ≤ m → m < length xs → key (get_or xs m d) < size → get_or next' m 0 ≡ next_with (keyed key (key (get_or xs m d))) xs (suc m)
-      new-tail m u v w = rw g (go (eqb m j) refl)
+      new_tail : (m : ℕ) → j ≤ m → m < length xs → key (get_or xs m d) < size → get_or next' m 0 ≡ next_with (keyed key (key (get_or xs m d))) xs (suc m)
+      new_tail m u v w = rw g (go (eqb m j) refl)
         where
           go : (b : Bool) → eqb m j ≡ b → get_or (set next j (get_or first k 0)) m 0 ≡ next_with (keyed key (key (get_or xs m d))) xs (suc m)
           go true q =
-              rw (eqb-true m j q, ← e, ← z) (get_or-set_same next j (get_or first k 0) 0 in-room ∙ c.head k h)
+              rw (eqb-true m j q, ← e, ← z) (get_or-set_same next j (get_or first k 0) 0 in_room ∙ c.head k h)
           go false q =
               let y : m ≡ j → ⊥ = eqb-false m j q in
               get_or-set_other next j m (get_or first k 0) 0 y ∙ c.tail m (omega arith) v w
@@ -109,6 +109,6 @@ module _ {A : Type 0} (d : A) (key : A → ℕ) (size : ℕ) (xs : List A) where
         nexts = ap length g ∙ length-set next j (get_or first k 0) ∙ c.nexts;
         few = c.few;
         least = omega (arith, c.least);
-        head = new-head;
-        tail = new-tail;
+        head = new_head;
+        tail = new_tail;
       }

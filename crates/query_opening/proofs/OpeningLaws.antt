@@ -61,9 +61,9 @@ module _ {A : Type 0} (p : A → Bool) (xs : List A) (d : A) where
       ∙ ap (λ (b : Bool). cond b (i ∷ []) [] ++ picked (suc i)) q
       ∙ picked_none m (suc i) (omega arith) (omega (arith, next_step p xs d i (omega arith) q))
 
-  picked-some : (m i : ℕ) → m + i ≡ length xs → next_with p xs i < length xs → picked i ≡ next_with p xs i ∷ picked (suc (next_with p xs i))
-  picked-some zero i e h = absurd (omega (arith, next_least p xs i))
-  picked-some (suc m) i e h = go (p (get_or xs i d)) refl (λ f. picked-some m (suc i) (omega arith) f)
+  picked_some : (m i : ℕ) → m + i ≡ length xs → next_with p xs i < length xs → picked i ≡ next_with p xs i ∷ picked (suc (next_with p xs i))
+  picked_some zero i e h = absurd (omega (arith, next_least p xs i))
+  picked_some (suc m) i e h = go (p (get_or xs i d)) refl (λ f. picked_some m (suc i) (omega arith) f)
     where
       go : (b : Bool) → p (get_or xs i d) ≡ b → (next_with p xs (suc i) < length xs → picked (suc i) ≡ next_with p xs (suc i) ∷ picked (suc (next_with p xs (suc i))))
           → picked i ≡ next_with p xs i ∷ picked (suc (next_with p xs i))
@@ -81,14 +81,14 @@ module _ {A : Type 0} (p : A → Bool) (xs : List A) (d : A) where
   pub only_one_is : (i : ℕ) → i ≡ next_with p xs 0 → i < length xs → length xs ≤ next_with p xs (i + 1) → only_one (picked 0) ≡ some i
   only_one_is i e h l =
       let z : suc i ≡ i + 1 = omega arith in
-      ap only_one (picked-some (length xs) 0 (omega arith) (omega (arith, e)) ∙ ap (λ (k : ℕ). k ∷ picked (suc k)) (sym e)
+      ap only_one (picked_some (length xs) 0 (omega arith) (omega (arith, e)) ∙ ap (λ (k : ℕ). k ∷ picked (suc k)) (sym e)
       ∙ ap (λ (l : List ℕ). i ∷ l) (picked_none (length xs - suc i) (suc i) (omega arith) (subst (λ (k : ℕ). length xs ≤ next_with p xs k) (sym z) l)))
 
   pub only_two : (i : ℕ) → i ≡ next_with p xs 0 → i < length xs → next_with p xs (i + 1) < length xs → only_one (picked 0) ≡ none
   only_two i e h l =
       let z : suc i ≡ i + 1 = omega arith in
-      let two = picked-some (length xs - suc i) (suc i) (omega arith) (subst (λ (k : ℕ). next_with p xs k < length xs) (sym z) l) in
-      ap only_one (picked-some (length xs) 0 (omega arith) (omega (arith, e)) ∙ ap (λ (k : ℕ). k ∷ picked (suc k)) (sym e) ∙ ap (λ (l : List ℕ). i ∷ l) two)
+      let two = picked_some (length xs - suc i) (suc i) (omega arith) (subst (λ (k : ℕ). next_with p xs k < length xs) (sym z) l) in
+      ap only_one (picked_some (length xs) 0 (omega arith) (omega (arith, e)) ∙ ap (λ (k : ℕ). k ∷ picked (suc k)) (sym e) ∙ ap (λ (l : List ℕ). i ∷ l) two)
 
 -- A search row by row.
 module _ (rows : List ℕ) (n : ℕ) (p : Row → Bool) (start : ℕ) where
@@ -154,15 +154,15 @@ told_none (some j) e = absurd (true≢false cc)
 
 -- What opening answers.
 module _ (table document name rows book : List ℕ) (n : ℕ) (j : judge table ≡ Accepted) (k : Booked table book) (w : Taken Document document rows n) where
-  judged-read : (a : QueryAnswer) → Judged (table_of table) (doc_of document rows n) a → Judged (table_of table) (read document w.list) a
-  judged-read a = subst (λ (rs : List Row). Judged (table_of table) (read document rs) a) w.are
+  judged_read : (a : QueryAnswer) → Judged (table_of table) (doc_of document rows n) a → Judged (table_of table) (read document w.list) a
+  judged_read a = subst (λ (rs : List Row). Judged (table_of table) (read document rs) a) w.are
 
   pub is_broken : (q : QueryAnswer) (i r : ℕ) → Judged (table_of table) (doc_of document rows n) q → q ≡ Breaks i r → Opens table document name rows book (Broken i r)
-  is_broken q i r g e = rule_broken j (tokens_are document) w.said (judged-read (Breaks i r) (subst (Judged (table_of table) (doc_of document rows n)) e g))
+  is_broken q i r g e = rule_broken j (tokens_are document) w.said (judged_read (Breaks i r) (subst (Judged (table_of table) (doc_of document rows n)) e g))
 
   module _ (q : QueryAnswer) (g : Judged (table_of table) (doc_of document rows n) q) (e : q ≡ Fits) where
-    accepted-document : AcceptedDocument table document (rows_in rows n)
-    accepted-document = record {
+    accepted_document : AcceptedDocument table document (rows_in rows n)
+    accepted_document = record {
       table_right = j;
       text = from document 0;
       tokens = tokens_are document;
@@ -171,12 +171,12 @@ module _ (table document name rows book : List ℕ) (n : ℕ) (j : judge table �
     }
 
     pub is_nothing : (m : Meant) → m ≡ told (operation_meant (doc_of document rows n) name) → m ≡ Nothing → Opens table document name rows book NoOperation
-    is_nothing m u v = no_operation accepted-document (told_none (operation_meant (doc_of document rows n) name) (sym v ∙ u))
+    is_nothing m u v = no_operation accepted_document (told_none (operation_meant (doc_of document rows n) name) (sym v ∙ u))
 
     pub is_open : (m : Meant) (op : ℕ) → m ≡ told (operation_meant (doc_of document rows n) name) → m ≡ Found op → Opens table document name rows book (Open n op)
     is_open m op u v = record {
-      opened = opened accepted-document (told_some (operation_meant (doc_of document rows n) name) op (sym v ∙ u));
-      accepted = accepted-document;
+      opened = opened accepted_document (told_some (operation_meant (doc_of document rows n) name) op (sym v ∙ u));
+      accepted = accepted_document;
       taken = w;
       booked = k;
     }

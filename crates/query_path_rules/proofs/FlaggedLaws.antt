@@ -20,14 +20,14 @@ use Rattle.query_alike.proofs.LeastLaws.{said_undefined, said_differs, unsaid_un
 
 module _ (t : Table) (d : Doc) (i f : ℕ) where
   -- rules 10 and 11 are broken at variables only
-  undefined-not : (kind_of d i ≡ kind_variable → ⊥) → Undefined d i → ⊥
-  undefined-not n x = n (eqb→eq (kind_of d i) kind_variable x.variable)
+  undefined_not : (kind_of d i ≡ kind_variable → ⊥) → Undefined d i → ⊥
+  undefined_not n x = n (eqb→eq (kind_of d i) kind_variable x.variable)
 
-  differs-not : (kind_of d i ≡ kind_variable → ⊥) → Differs t d i → ⊥
-  differs-not n x = n (eqb→eq (kind_of d i) kind_variable x.variable)
+  differs_not : (kind_of d i ≡ kind_variable → ⊥) → Differs t d i → ⊥
+  differs_not n x = n (eqb→eq (kind_of d i) kind_variable x.variable)
 
-  variable-flag : kind_of d i ≡ kind_variable → Least t d (count d) i f → Flag t d i f
-  variable-flag k x = record {
+  variable_flag : kind_of d i ≡ kind_variable → Least t d (count d) i f → Flag t d i f
+  variable_flag k x = record {
     circles = λ e. absurd (⊎_elim (λ z. omega arith) (λ y. ⊎_elim (λ z. omega arith) (λ z. omega arith) y) x.known);
     undefined = λ e. said_undefined t d i k (x.undefined e);
     differs = λ e. said_differs t d i k (x.differs e);
@@ -38,27 +38,27 @@ module _ (t : Table) (d : Doc) (i f : ℕ) where
     known = ⊎_elim inl (λ y. inr (inr y)) x.known;
   }
 
-  fragment-flag : kind_of d i ≡ kind_fragment → Circled d i f → Flag t d i f
-  fragment-flag k x = record {
+  fragment_flag : kind_of d i ≡ kind_fragment → Circled d i f → Flag t d i f
+  fragment_flag k x = record {
     circles = x.circles;
     undefined = λ e. absurd (⊎_elim (λ z. omega arith) (λ z. omega arith) x.known);
     differs = λ e. absurd (⊎_elim (λ z. omega arith) (λ z. omega arith) x.known);
-    defined = λ e. undefined-not (λ z. omega arith);
+    defined = λ e. undefined_not (λ z. omega arith);
     no_circle = x.no_circle;
-    no_undefined = λ e. undefined-not (λ z. omega arith);
-    no_differs = λ e. differs-not (λ z. omega arith);
+    no_undefined = λ e. undefined_not (λ z. omega arith);
+    no_differs = λ e. differs_not (λ z. omega arith);
     known = ⊎_elim inl (λ y. inr (inl y)) x.known;
   }
 
-  other-flag : (kind_of d i ≡ kind_variable → ⊥) → (kind_of d i ≡ kind_fragment → ⊥) → f ≡ no_rule → Flag t d i f
-  other-flag v g z = record {
+  other_flag : (kind_of d i ≡ kind_variable → ⊥) → (kind_of d i ≡ kind_fragment → ⊥) → f ≡ no_rule → Flag t d i f
+  other_flag v g z = record {
     circles = λ e. absurd (omega arith);
     undefined = λ e. absurd (omega arith);
     differs = λ e. absurd (omega arith);
-    defined = λ e. undefined-not v;
+    defined = λ e. undefined_not v;
     no_circle = λ e. circle_not d i g;
-    no_undefined = λ e. undefined-not v;
-    no_differs = λ e. differs-not v;
+    no_undefined = λ e. undefined_not v;
+    no_differs = λ e. differs_not v;
     known = inl z;
   }
 
@@ -66,6 +66,6 @@ pub flagged : (t : Table) (d : Doc) (n : ℕ) (flag : List ℕ) → n ≡ count 
 flagged t d n flag e x = record { size = x.size; flags = λ i. go i (ℕ_discrete (kind_of d i) kind_variable) (ℕ_discrete (kind_of d i) kind_fragment) }
   where
     go : (i : ℕ) → Dec (kind_of d i ≡ kind_variable) → Dec (kind_of d i ≡ kind_fragment) → Flag t d i (get_or flag i 0)
-    go i (yes v) g = variable-flag t d i (get_or flag i 0) v (rw (sym e) (x.variables i v))
-    go i (no v) (yes g) = fragment-flag t d i (get_or flag i 0) g (x.fragments i (let h = row_within d (is kind_fragment) i refl (rw g tt) in omega arith) g)
-    go i (no v) (no g) = other-flag t d i (get_or flag i 0) v g (x.others i v g)
+    go i (yes v) g = variable_flag t d i (get_or flag i 0) v (rw (sym e) (x.variables i v))
+    go i (no v) (yes g) = fragment_flag t d i (get_or flag i 0) g (x.fragments i (let h = row_within d (is kind_fragment) i refl (rw g tt) in omega arith) g)
+    go i (no v) (no g) = other_flag t d i (get_or flag i 0) v g (x.others i v g)

@@ -93,9 +93,9 @@ module _ (p : Place) (w : ℕ) (e : w ≡ nullable p.wrappers) where
     unfolding item_of
     an_item base = rw (← e, eq-eqb (w % 4) wrap_list h)
 
-    item-is : (t es : List ℕ) → then (coded t es p) item_of ≡ coded t es (record { at = p.at; wrappers = w / 4 })
+    item_is : (t es : List ℕ) → then (coded t es p) item_of ≡ coded t es (record { at = p.at; wrappers = w / 4 })
     unfolding coded
-    item-is t es = go (eqb p.at place_unknown) (eqb p.at place_boolean)
+    item_is t es = go (eqb p.at place_unknown) (eqb p.at place_boolean)
       where
         go : (a b : Bool) → then (cond a none (cond b (some (shape (bytes "Boolean") p.wrappers)) (some (shape (base_at t es (p.at - place_first)) p.wrappers)))) item_of
             ≡ cond a none (cond b (some (shape (bytes "Boolean") (w / 4))) (some (shape (base_at t es (p.at - place_first)) (w / 4))))
@@ -104,7 +104,7 @@ module _ (p : Place) (w : ℕ) (e : w ≡ nullable p.wrappers) where
         go false false = an_item (base_at t es (p.at - place_first))
 
     pub items_some : Items p (record { at = p.at; wrappers = w / 4 })
-    items_some t book es v = record { is = item-is t es; within = v }
+    items_some t book es v = record { is = item_is t es; within = v }
 
 -- the tag of an input type
 pub input_nothing : (tag : ℕ) → tag ≡ tag_nothing → false ≡ input_tag tag

@@ -71,8 +71,8 @@ module _ (t book es s rows : List ℕ) (n : ℕ) (r : Rowed s rows n) where
         rw (place_none (table_of t) (doc_of s rows n) (rowed_before s rows n r) i (omega (arith, rows_count rows n)), in_none rows n at wrappers i h) (keeps_unknown t book es no_place refl)
 
     -- at a row with a type inside nothing is due
-    kept-enclosing : (i : ℕ) → i < n → encloses (row_in rows n i).kind ≡ true → At i
-    kept-enclosing i h e =
+    kept_enclosing : (i : ℕ) → i < n → encloses (row_in rows n i).kind ≡ true → At i
+    kept_enclosing i h e =
         let l : (row_in rows n i).kind ≤ kind_inline = enclosing_low (row_in rows n i).kind e in
         let q = from_lower (table_of t) (doc_of s rows n) i (place (table_of t) (doc_of s rows n) (parent_of (doc_of s rows n) i)) (λ z. omega arith) (λ z. omega arith) (omega arith) in
         rw (place_step (table_of t) (doc_of s rows n) (rowed_before s rows n r) i ∙ q, in_enclosing rows n at wrappers i h e) (keeps_unknown t book es no_place refl)
@@ -102,7 +102,7 @@ module _ (t book es s rows : List ℕ) (n : ℕ) (r : Rowed s rows n) where
 
     -- the next row has a type inside
     pub placed_enclosing : (i : ℕ) → i < n → PlacedTo t book es s rows n at wrappers i → encloses (row_in rows n i).kind ≡ true → PlacedTo t book es s rows n at wrappers (i + 1)
-    placed_enclosing i h p e = record { enclosed = p.enclosed; kept = kept_more i p.kept (kept-enclosing i h e) }
+    placed_enclosing i h p e = record { enclosed = p.enclosed; kept = kept_more i p.kept (kept_enclosing i h e) }
 
   -- it has none: its place is written
   module _ (at wrappers : List ℕ) (i : ℕ) (h : i < n) (p : PlacedTo t book es s rows n at wrappers i) (e : encloses (row_in rows n i).kind ≡ false) (x : Place) where
@@ -115,15 +115,15 @@ module _ (t book es s rows : List ℕ) (n : ℕ) (r : Rowed s rows n) where
     no_field : (row_in rows n i).kind ≡ kind_field → ⊥
     no_field q = true≢false (sym (ap encloses q) ∙ e)
 
-    still-enclosed : EnclosedTo t book es s rows n n wraps ats
-    still-enclosed = enclosed_other_at (enclosed_other_inside p.enclosed i x.wrappers e) i x.at no_field
+    still_enclosed : EnclosedTo t book es s rows n n wraps ats
+    still_enclosed = enclosed_other_at (enclosed_other_inside p.enclosed i x.wrappers e) i x.at no_field
 
-    in-other : (j : ℕ) → (j ≡ i → ⊥) → place_in rows n ats wraps j ≡ place_in rows n at wrappers j
+    in_other : (j : ℕ) → (j ≡ i → ⊥) → place_in rows n ats wraps j ≡ place_in rows n at wrappers j
     unfolding place_in
-    in-other j z = rw (get_or-set_other at i j x.at 0 z, get_or-set_other wrappers i j x.wrappers 0 z)
+    in_other j z = rw (get_or-set_other at i j x.at 0 z, get_or-set_other wrappers i j x.wrappers 0 z)
 
-    in-same : place_in rows n ats wraps i ≡ x
-    in-same =
+    in_same : place_in rows n ats wraps i ≡ x
+    in_same =
         let l : i < room_of n = omega (arith, room_enough n r.few) in
         in_row rows n ats wraps i h e
         ∙ rw (get_or-set_same at i x.at 0 (omega (arith, p.enclosed.ats)), get_or-set_same wrappers i x.wrappers 0 (omega (arith, p.enclosed.inners)))
@@ -131,8 +131,8 @@ module _ (t book es s rows : List ℕ) (n : ℕ) (r : Rowed s rows n) where
     pub placed_row : (above : Place) → above ≡ place_in rows n at wrappers (row_in rows n i).parent → Keeps t book es (place_from (table_of t) (doc_of s rows n) i (coded t es above)) x
         → PlacedTo t book es s rows n (set at i x.at) (set wrappers i x.wrappers) (i + 1)
     placed_row above a k = record {
-      enclosed = still-enclosed;
-      kept = kept_more ats wraps i (λ j l. rw (in-other j (λ z. omega arith)) (p.kept j l)) (rw in-same due);
+      enclosed = still_enclosed;
+      kept = kept_more ats wraps i (λ j l. rw (in_other j (λ z. omega arith)) (p.kept j l)) (rw in_same due);
     }
       where
         due : Keeps t book es (place (table_of t) (doc_of s rows n) i) x

@@ -20,17 +20,17 @@ use Rattle.query_reach_pass.proofs.DrawLaws.{draws_here, draws_on, draws_defines
 -- nothing else is reached than what its spreads, and those of fragments that it reaches, lead to
 module _ (d : Doc) (a : ℕ) (M : ℕ → Type 0) (start : (s f : ℕ) → Within d a s → Spreads d s f → M f)
     (step : (g s f : ℕ) → M g → Within d g s → Spreads d s f → M f) where
-  reaches-closed : {i : ℕ} → Reaches d a i → Within d a i ⊎ ((g : ℕ) × M g × Within d g i)
-  reaches-closed (here w) = inl w
-  reaches-closed (through {s = s} {f = f} r p w) =
-      inr (f, ⊎_elim (λ v. start s f v p) (λ v. step v.0 s f v.1 v.2 p) (reaches-closed r), w)
+  reaches_closed : {i : ℕ} → Reaches d a i → Within d a i ⊎ ((g : ℕ) × M g × Within d g i)
+  reaches_closed (here w) = inl w
+  reaches_closed (through {s = s} {f = f} r p w) =
+      inr (f, ⊎_elim (λ v. start s f v p) (λ v. step v.0 s f v.1 v.2 p) (reaches_closed r), w)
 
   pub draws_closed : (f : ℕ) → Draws d a f → M f
-  draws_closed f r = ⊎_elim (λ v. start r.at f v r.spreads) (λ v. step v.0 r.at f v.1 v.2 r.spreads) (reaches-closed r.reaches)
+  draws_closed f r = ⊎_elim (λ v. start r.at f v r.spreads) (λ v. step v.0 r.at f v.1 v.2 r.spreads) (reaches_closed r.reaches)
 
 -- what a row stands in tells what reaches it
 pub reaches_either : (d : Doc) (a i : ℕ) → Reaches d a i → Within d a i ⊎ ((f : ℕ) × Draws d a f × Within d f i)
-reaches_either d a i r = reaches-closed d a (Draws d a) (draws_here d a) (draws_on d a) r
+reaches_either d a i r = reaches_closed d a (Draws d a) (draws_here d a) (draws_on d a) r
 
 -- a circle is a fragment that reaches a spread of itself
 pub circles_draws : (d : Doc) (f : ℕ) → Circles d f → Draws d f f

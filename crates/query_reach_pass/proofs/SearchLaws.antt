@@ -48,13 +48,13 @@ module _ (d : Doc) (a : ℕ) (mark stack : List ℕ) (top g j : ℕ) (x : Search
   search_defines = ⊎_elim (λ e. subst (Defines d) (sym e) x.defines) (λ e. draws_defines d a g (x.sound g e)) x.met
 
   -- what it spreads is reached
-  search-draws : (f : ℕ) → SpreadIn d g j → Spreads d j f → Draws d a f
-  search-draws f s p =
+  search_draws : (f : ℕ) → SpreadIn d g j → Spreads d j f → Draws d a f
+  search_draws f s p =
       ⊎_elim (λ e. draws_here d a j f (subst (λ (k : ℕ). Within d k j) e s.within) p) (λ e. draws_on d a g j f (x.sound g e) s.within p) x.met
 
   -- past rows that are no spreads of this definition, and past one whose fragment is marked
-  search-on : (k : ℕ) → PassedTo d mark (stamp a) g k → Search d a mark stack top g k
-  search-on k p = record {
+  search_on : (k : ℕ) → PassedTo d mark (stamp a) g k → Search d a mark stack top g k
+  search_on k p = record {
     defines = x.defines;
     stamped = x.stamped;
     stacked = x.stacked;
@@ -67,17 +67,17 @@ module _ (d : Doc) (a : ℕ) (mark stack : List ℕ) (top g j : ℕ) (x : Search
   }
 
   pub search_skip : (k : ℕ) → FirstOf (SpreadIn d g) (count d) j k → Search d a mark stack top g k
-  search_skip k n = search-on k (λ s f l i p. go s f l i p (dec_lt s j))
+  search_skip k n = search_on k (λ s f l i p. go s f l i p (dec_lt s j))
     where
       go : (s f : ℕ) → s < k → SpreadIn d g s → Spreads d s f → Dec (s < j) → get_or mark f 0 ≡ stamp a
       go s f l i p (yes h) = x.passed s f h i p
       go s f l i p (no h) = absurd (n.skips s (omega arith) l i)
 
   pub search_to : (k : ℕ) → k ≤ j → Search d a mark stack top g k
-  search_to k l = search-on k (λ s f h i p. x.passed s f (omega arith) i p)
+  search_to k l = search_on k (λ s f h i p. x.passed s f (omega arith) i p)
 
-  search-past : ((f : ℕ) → Spreads d j f → get_or mark f 0 ≡ stamp a) → Search d a mark stack top g (suc j)
-  search-past m = search-on (suc j) (λ s f l i p. go s f l i p (ℕ_discrete s j))
+  search_past : ((f : ℕ) → Spreads d j f → get_or mark f 0 ≡ stamp a) → Search d a mark stack top g (suc j)
+  search_past m = search_on (suc j) (λ s f l i p. go s f l i p (ℕ_discrete s j))
     where
       go : (s f : ℕ) → s < suc j → SpreadIn d g s → Spreads d s f → Dec (s ≡ j) → get_or mark f 0 ≡ stamp a
       go s f l i p (yes e) = m f (subst (λ (y : ℕ). Spreads d y f) e p)
@@ -100,8 +100,8 @@ module _ (d : Doc) (a : ℕ) (mark stack : List ℕ) (top g j : ℕ) (x : Search
     here : get_or (set mark f (stamp a)) f 0 ≡ stamp a
     here = marked_here (stamp a) mark f marked
 
-    search-mark : Search d a (set mark f (stamp a)) (set stack top f) (top + 1) g j
-    search-mark = record {
+    search_mark : Search d a (set mark f (stamp a)) (set stack top f) (top + 1) g j
+    search_mark = record {
       defines = x.defines;
       stamped = record { size = length-set mark f (stamp a) ∙ x.stamped.size; most = λ i. most i (ℕ_discrete i f) };
       stacked = length-set stack top f ∙ x.stacked;
@@ -140,15 +140,15 @@ module _ (d : Doc) (a : ℕ) (mark stack : List ℕ) (top g j : ℕ) (x : Search
 pub search_turn : (d : Doc) (a : ℕ) (mark stack : List ℕ) (top g j n f : ℕ) {mark' stack' : List ℕ} {top' : ℕ} → Search d a mark stack top g j → count d ≡ n → n ≤ most_rows
     → SpreadIn d g j → f ≡ fragment_named d (name_of d j) → Noted n (stamp a) f mark stack top mark' stack' top' → Search d a mark' stack' top' g (suc j)
 search_turn d a mark stack top g j n f x e c s q (none l) =
-    search-past d a mark stack top g j x (λ h p. absurd (omega (arith, p.known, p.named)))
+    search_past d a mark stack top g j x (λ h p. absurd (omega (arith, p.known, p.named)))
 search_turn d a mark stack top g j n f x e c s q (old m) =
-    search-past d a mark stack top g j x (λ h p. subst (λ (i : ℕ). get_or mark i 0 ≡ stamp a) (q ∙ p.named) m)
+    search_past d a mark stack top g j x (λ h p. subst (λ (i : ℕ). get_or mark i 0 ≡ stamp a) (q ∙ p.named) m)
 search_turn d a mark stack top g j n f x e c s q (new l u) =
     let v : f < count d = omega arith in
     let p : Spreads d j f = record { spread = s.spread; named = sym q; known = v } in
-    let r : Draws d a f = search-draws d a mark stack top g j x f s p in
+    let r : Draws d a f = search_draws d a mark stack top g j x f s p in
     let b : count d ≤ most_rows = omega arith in
-    search-past d a (set mark f (stamp a)) (set stack top f) (top + 1) g j (search-mark d a mark stack top g j x f r v b u)
+    search_past d a (set mark f (stamp a)) (set stack top f) (top + 1) g j (search_mark d a mark stack top g j x f r v b u)
     (λ h y. subst (λ (i : ℕ). get_or (set mark f (stamp a)) i 0 ≡ stamp a) (q ∙ y.named) (here d a mark stack top g j x f r v b u))
 
 -- what waits and what is not marked is as much as before

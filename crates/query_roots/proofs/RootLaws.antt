@@ -29,36 +29,36 @@ find_at p d (x ∷ xs) h = go (p x) refl h (λ l. find_at p d xs l)
 module _ (t book : List ℕ) (b : Booked t book) (k : ℕ) (e : k ≡ first_at is_roots (table_of t)) where
   -- no record 8
   module _ (h : count_in book ≤ k) where
-    query-alone : roots_of (table_of t) ≡ name_only tag_query_root (bytes "Query") ∷ []
+    query_alone : roots_of (table_of t) ≡ name_only tag_query_root (bytes "Query") ∷ []
     unfolding roots_of
-    query-alone = ap roots_in (find_any is_roots (table_of t) (any_first is_roots (table_of t) ∙ le-ltb (first_at is_roots (table_of t)) (length (table_of t)) (omega (arith, e, b.count))))
+    query_alone = ap roots_in (find_any is_roots (table_of t) (any_first is_roots (table_of t) ∙ le-ltb (first_at is_roots (table_of t)) (length (table_of t)) (omega (arith, e, b.count))))
 
     pub query_root : (x : ℕ) → x ≡ 0 → root_of (table_of t) x ≡ some (name_only tag_query_root (bytes "Query"))
     unfolding root_of find
-    query_root x z = rw (z, query-alone)
+    query_root x z = rw (z, query_alone)
 
     pub by_no_root : (x : ℕ) → (x ≡ 0 → ⊥) → root_of (table_of t) x ≡ none
     unfolding root_of find
-    by_no_root x z = rw (query-alone, ne_eqb tag_query_root (tag_query_root + x) (λ q. z (omega arith)))
+    by_no_root x z = rw (query_alone, ne_eqb tag_query_root (tag_query_root + x) (λ q. z (omega arith)))
 
   -- record 8 has this content
   module _ (h : k < count_in book) (start end : ℕ) (p : start ≡ start_in book k) (q : end ≡ end_in book k) where
-    roots-are : roots_of (table_of t) ≡ members_in t start end
+    roots_are : roots_of (table_of t) ≡ members_in t start end
     unfolding roots_of
-    roots-are =
+    roots_are =
         ap roots_in (find_at is_roots (blank_definition tag_nothing) (table_of t) (omega (arith, e, b.count)))
         ∙ rw (← e, p, q) (ap (λ (d : Definition). d.members) (b.entered k h).is)
 
     pub written_root : (x tag from to : ℕ) → Finds start end from to (find (tagged (tag_query_root + x)) (members_in t start end)) (member_from t tag from to) → RootWritten t x tag from to
     unfolding root_of
     written_root x tag from to f = record {
-      is = ap (find (tagged (tag_query_root + x))) roots-are ∙ f.is;
+      is = ap (find (tagged (tag_query_root + x))) roots_are ∙ f.is;
       bounds = record { order = f.lies.order; within = omega (arith, f.lies.within, q, (b.entered k h).within); most = b.short };
     }
 
     pub unwritten_root : (x : ℕ) → find (tagged (tag_query_root + x)) (members_in t start end) ≡ none → root_of (table_of t) x ≡ none
     unfolding root_of
-    unwritten_root x f = ap (find (tagged (tag_query_root + x))) roots-are ∙ f
+    unwritten_root x f = ap (find (tagged (tag_query_root + x))) roots_are ∙ f
 
 -- the root's type
 module _ (t : List ℕ) (x : ℕ) where

@@ -37,14 +37,14 @@ above m k (l ∷ ks) w h = go (ltb→lt m l (and_l (ltb m l) (rising l ks) w)) (
     go less f (inr g) = omega (arith, f g)
 
 module _ {t : Table} {d : Doc} {i : ℕ} where
-  told-from : (m : ℕ) (ks : List ℕ) {r : ℕ} → T (rising m ks) → ((k : ℕ) → Broken t d i k → T (among k ks)) → Told t d i ks r → LeastAt t d i r
-  told-from m [] w h no_more = none_at h
-  told-from m (k ∷ ks) w h (found b) = least_at {r = k} (omega (arith, ltb→lt m k (and_l (ltb m k) (rising k ks) w))) b (λ l c. go l (split l k ks (h l c)))
+  told_from : (m : ℕ) (ks : List ℕ) {r : ℕ} → T (rising m ks) → ((k : ℕ) → Broken t d i k → T (among k ks)) → Told t d i ks r → LeastAt t d i r
+  told_from m [] w h no_more = none_at h
+  told_from m (k ∷ ks) w h (found b) = least_at {r = k} (omega (arith, ltb→lt m k (and_l (ltb m k) (rising k ks) w))) b (λ l c. go l (split l k ks (h l c)))
     where
       go : (l : ℕ) → (l ≡ k) ⊎ T (among l ks) → k ≤ l
       go l (inl e) = omega arith
       go l (inr g) = omega (arith, above k l ks (and_r (ltb m k) (rising k ks) w) g)
-  told-from m (k ∷ ks) w h (passed n s) = told-from k ks (and_r (ltb m k) (rising k ks) w) (λ l c. go l c (split l k ks (h l c))) s
+  told_from m (k ∷ ks) w h (passed n s) = told_from k ks (and_r (ltb m k) (rising k ks) w) (λ l c. go l c (split l k ks (h l c))) s
     where
       go : (l : ℕ) → Broken t d i l → (l ≡ k) ⊎ T (among l ks) → T (among l ks)
       go l c (inl e) = absurd (n (subst (Broken t d i) e c))
@@ -52,4 +52,4 @@ module _ {t : Table} {d : Doc} {i : ℕ} where
 
   -- at a row of kind x
   pub told_least : (x : ℕ) {r : ℕ} → kind_of d i ≡ x → T (rising 0 (rules_at x)) → Told t d i (rules_at x) r → LeastAt t d i r
-  told_least x e w s = told-from 0 (rules_at x) w (λ k b. subst (λ (y : ℕ). T (among k (rules_at y))) e (broken_among b)) s
+  told_least x e w s = told_from 0 (rules_at x) w (λ k b. subst (λ (y : ℕ). T (among k (rules_at y))) e (broken_among b)) s

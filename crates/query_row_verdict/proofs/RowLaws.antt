@@ -61,8 +61,8 @@ module _ {t : Table} {d : Doc} {i : ℕ} where
         (last rule_no_root c (λ q₃. by_no_root (so p₃ q₃)) (λ q₃ h. not_so p₃ q₃ (no_root_so h)) w)))
 
   -- Rules 3 and 8 at a fragment definition.
-  flag-fragment : (f : ℕ) → kind_of d i ≡ kind_fragment → Flag t d i f → Told t d i (rule_circle ∷ []) f
-  flag-fragment f e g = go g.known
+  flag_fragment : (f : ℕ) → kind_of d i ≡ kind_fragment → Flag t d i f → Told t d i (rule_circle ∷ []) f
+  flag_fragment f e g = go g.known
     where
       go : (f ≡ 0) ⊎ ((f ≡ rule_circle) ⊎ ((f ≡ rule_undefined) ⊎ (f ≡ rule_variable_type))) → Told t d i (rule_circle ∷ []) f
       go (inl q) = subst (Told t d i (rule_circle ∷ [])) (sym q) (passed (λ h. g.no_circle q (circle_so h)) no_more)
@@ -77,7 +77,7 @@ module _ {t : Table} {d : Doc} {i : ℕ} where
 
     pub fragment_last : a ≡ false → {f : ℕ} → Flag t d i f → LeastAt t d i f
     unfolding rules_at
-    fragment_last q {f} g = told_least kind_fragment e tt (passed (λ h. not_so p q (fragment_repeated_so h)) (flag-fragment f e g))
+    fragment_last q {f} g = told_least kind_fragment e tt (passed (λ h. not_so p q (fragment_repeated_so h)) (flag_fragment f e g))
 
   -- Rules 5 and 6 at a field.
   module _ (e : kind_of d i ≡ kind_field) {a : Bool} (p : a ≡ field_not_of_type t d i) where
@@ -103,8 +103,8 @@ module _ {t : Table} {d : Doc} {i : ℕ} where
         (passed (λ h. not_so p q (name_twice_so h)) (last rule_argument b (λ q₂. unknown_argument (so p₂ q₂)) (λ q₂ h. not_so p₂ q₂ (argument_so h)) w))
 
   -- Rules 11 and 12 at a variable definition.
-  definition-not : kind_of d i ≡ kind_variable_definition → {a : Bool} → a ≡ no_input_type t d i → a ≡ false → Broken t d i rule_variable_type → ⊥
-  definition-not e p q h = go (variable_type_so h)
+  definition_not : kind_of d i ≡ kind_variable_definition → {a : Bool} → a ≡ no_input_type t d i → a ≡ false → Broken t d i rule_variable_type → ⊥
+  definition_not e p q h = go (variable_type_so h)
     where
       go : T (no_input_type t d i) ⊎ Differs t d i → ⊥
       go (inl g) = not_so p q g
@@ -119,7 +119,7 @@ module _ {t : Table} {d : Doc} {i : ℕ} where
     unfolding rules_at
     definition_last q b p₂ w =
         told_least kind_variable_definition e tt
-        (passed (definition-not e p q) (last rule_name_twice b (λ q₂. by_name_twice (so p₂ q₂)) (λ q₂ h. not_so p₂ q₂ (name_twice_so h)) w))
+        (passed (definition_not e p q) (last rule_name_twice b (λ q₂. by_name_twice (so p₂ q₂)) (λ q₂ h. not_so p₂ q₂ (name_twice_so h)) w))
 
   -- Kinds that can break one rule.
   pub spread_only : kind_of d i ≡ kind_spread → (b : Bool) {r : ℕ} → b ≡ spread_of_none d i → r ≡ cond b rule_spread 0 → LeastAt t d i r
@@ -135,26 +135,26 @@ module _ {t : Table} {d : Doc} {i : ℕ} where
   condition_only e b p w = told_least kind_type_reference e tt (last rule_condition b (λ q. condition (so p q)) (λ q h. not_so p q (condition_so h)) w)
 
   -- Rule 10 and the second half of rule 11 at a variable.
-  differs-not : kind_of d i ≡ kind_variable → (Differs t d i → ⊥) → Broken t d i rule_variable_type → ⊥
+  differs_not : kind_of d i ≡ kind_variable → (Differs t d i → ⊥) → Broken t d i rule_variable_type → ⊥
   unfolding no_input_type
-  differs-not e n h = go (variable_type_so h)
+  differs_not e n h = go (variable_type_so h)
     where
       go : T (no_input_type t d i) ⊎ Differs t d i → ⊥
       go (inl g) = rw e at g
       go (inr v) = n v
 
-  flag-variable : (f : ℕ) → kind_of d i ≡ kind_variable → Flag t d i f → Told t d i (rule_undefined ∷ rule_variable_type ∷ []) f
-  flag-variable f e g = go g.known
+  flag_variable : (f : ℕ) → kind_of d i ≡ kind_variable → Flag t d i f → Told t d i (rule_undefined ∷ rule_variable_type ∷ []) f
+  flag_variable f e g = go g.known
     where
       go : (f ≡ 0) ⊎ ((f ≡ rule_circle) ⊎ ((f ≡ rule_undefined) ⊎ (f ≡ rule_variable_type))) → Told t d i (rule_undefined ∷ rule_variable_type ∷ []) f
-      go (inl q) = subst (Told t d i (rule_undefined ∷ rule_variable_type ∷ [])) (sym q) (passed (λ h. g.no_undefined q (undefined_so h)) (passed (differs-not e (g.no_differs q)) no_more))
+      go (inl q) = subst (Told t d i (rule_undefined ∷ rule_variable_type ∷ [])) (sym q) (passed (λ h. g.no_undefined q (undefined_so h)) (passed (differs_not e (g.no_differs q)) no_more))
       go (inr (inl q)) = absurd (omega (arith, eqb→eq (kind_of d i) kind_fragment (g.circles q).fragment))
       go (inr (inr (inl q))) = subst (Told t d i (rule_undefined ∷ rule_variable_type ∷ [])) (sym q) (found (undefined (g.undefined q)))
       go (inr (inr (inr q))) = subst (Told t d i (rule_undefined ∷ rule_variable_type ∷ [])) (sym q) (passed (λ h. g.defined q (undefined_so h)) (found (other_type (g.differs q))))
 
   pub variable_only : kind_of d i ≡ kind_variable → {f : ℕ} → Flag t d i f → LeastAt t d i f
   unfolding rules_at
-  variable_only e {f} g = told_least kind_variable e tt (flag-variable f e g)
+  variable_only e {f} g = told_least kind_variable e tt (flag_variable f e g)
 
 -- Other kinds can break none.
 no_rules : (x : ℕ) → (x ≡ kind_operation → ⊥) → (x ≡ kind_fragment → ⊥) → (x ≡ kind_field → ⊥) → (x ≡ kind_spread → ⊥) → (x ≡ kind_argument → ⊥) → (x ≡ kind_directive → ⊥) →

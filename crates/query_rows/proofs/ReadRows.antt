@@ -64,8 +64,8 @@ pub record Taken (p : Part) (s rows : List ℕ) (n : ℕ) : Type 0 where
   pub rowed : Rowed s rows n
 
 module _ (p : Part) (s rows rows' : List ℕ) (n : ℕ) (l : length s ≤ most_text) (e : length rows ≡ rows_size) where
-  whole-taken : (m : State) → go (start rows) (nt p ∷ []) (from s 0) ≡ whole m → m.rows ≡ n → length rows' ≡ rows_size → take (row_size * m.rows) rows' ≡ take (row_size * m.rows) m.cells → Taken p s rows' n
-  whole-taken m q c z u =
+  whole_taken : (m : State) → go (start rows) (nt p ∷ []) (from s 0) ≡ whole m → m.rows ≡ n → length rows' ≡ rows_size → take (row_size * m.rows) rows' ≡ take (row_size * m.rows) m.cells → Taken p s rows' n
+  whole_taken m q c z u =
       let g = going_whole p (from s 0) rows m e q in
       let rs = g.0 in
       let same : n ≡ length rs = sym c ∙ g.2 in
@@ -82,7 +82,7 @@ module _ (p : Part) (s rows rows' : List ℕ) (n : ℕ) (l : length s ≤ most_t
   -- what `text_documents::document` leaves, where it is done
   pub ended_taken : ((m : State) × (go (start rows) (nt p ∷ []) (from s 0) ≡ whole m) × (m.cells ≡ rows') × (m.rows ≡ n)) → Taken p s rows' n
   ended_taken f =
-      whole-taken f.0 f.1 f.3 (ap length (sym f.2) ∙ (going_whole p (from s 0) rows f.0 e f.1).5) (ap (take (row_size * f.0.rows)) (sym f.2))
+      whole_taken f.0 f.1 f.3 (ap length (sym f.2) ∙ (going_whole p (from s 0) rows f.0 e f.1).5) (ap (take (row_size * f.0.rows)) (sym f.2))
 
   -- the same with zeros behind the rows
   pub cleared_taken : ((m : State) × (go (start rows) (nt p ∷ []) (from s 0) ≡ whole m) × (rows' ≡ take (row_size * m.rows) m.cells ++ replicate (length m.cells - row_size * m.rows) 0) × (m.rows ≡ n)) → Taken p s rows' n
@@ -92,7 +92,7 @@ module _ (p : Part) (s rows rows' : List ℕ) (n : ℕ) (l : length s ≤ most_t
       let size : length m.cells ≡ rows_size = g.5 in
       let room : row_size * m.rows ≤ length m.cells = omega (arith, g.2, g.3) in
       let first : length (take (row_size * m.rows) m.cells) ≡ row_size * m.rows = length-take-le (row_size * m.rows) m.cells room in
-      whole-taken m f.1 f.3
+      whole_taken m f.1 f.3
       (ap length f.2
       ∙ omega (arith, length-append (take (row_size * m.rows) m.cells) (replicate (length m.cells - row_size * m.rows) 0), length-replicate {A = ℕ} (length m.cells - row_size * m.rows) 0))
       (ap (take (row_size * m.rows)) f.2 ∙ take_at (take (row_size * m.rows) m.cells) (replicate (length m.cells - row_size * m.rows) 0) (row_size * m.rows) first)

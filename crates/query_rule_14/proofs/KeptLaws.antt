@@ -44,8 +44,8 @@ module _ (t s rows : List ℕ) (n : ℕ) (at es inside : List ℕ) (r : Rowed s 
   unknown_field h =
       sym (lacks_unknown (name_of (doc_of s rows n) i) (get_or at p 0) (field_at (table_of t) (doc_of s rows n) p) field h)
 
-  no-inside : encloses (row_in rows n i).kind ≡ false
-  no-inside = ap encloses a
+  no_inside : encloses (row_in rows n i).kind ≡ false
+  no_inside = ap encloses a
 
   -- the type due at the argument, as it is kept
   place_is : place (table_of t) (doc_of s rows n) i ≡ argument_shape (argument_called (field_at (table_of t) (doc_of s rows n) p) (name_of (doc_of s rows n) i))
@@ -58,11 +58,11 @@ module _ (t s rows : List ℕ) (n : ℕ) (at es inside : List ℕ) (r : Rowed s 
   place_kept : place (table_of t) (doc_of s rows n) i ≡ coded t es (record { at = get_or at i 0; wrappers = get_or inside i 0 })
   place_kept =
       let h : i < n = argument_there rows n i a in
-      (k.all.kept i h).is ∙ ap (coded t es) (in_row rows n at inside i h no-inside)
+      (k.all.kept i h).is ∙ ap (coded t es) (in_row rows n at inside i h no_inside)
 
-  lacks-is : field_typename ≤ get_or at p 0 → has_no_argument (field_at (table_of t) (doc_of s rows n) p) (name_of (doc_of s rows n) i) ≡ not (found (argument_called (field_at (table_of t) (doc_of s rows n) p) (name_of (doc_of s rows n) i)))
-  lacks-is h = lacks_known (name_of (doc_of s rows n) i) (get_or at p 0) (field_at (table_of t) (doc_of s rows n) p) field h
+  lacks_is : field_typename ≤ get_or at p 0 → has_no_argument (field_at (table_of t) (doc_of s rows n) p) (name_of (doc_of s rows n) i) ≡ not (found (argument_called (field_at (table_of t) (doc_of s rows n) p) (name_of (doc_of s rows n) i)))
+  lacks_is h = lacks_known (name_of (doc_of s rows n) i) (get_or at p 0) (field_at (table_of t) (doc_of s rows n) p) field h
 
   pub known_field : field_typename ≤ get_or at p 0 → eqb (get_or at i 0) place_unknown ≡ has_no_argument (field_at (table_of t) (doc_of s rows n) p) (name_of (doc_of s rows n) i)
   known_field h =
-      sym (lacks-is h ∙ ap not (sym (shape_found (argument_called (field_at (table_of t) (doc_of s rows n) p) (name_of (doc_of s rows n) i)))) ∙ ap (λ (o : Option Shape). not (found o)) (sym place_is ∙ place_kept) ∙ coded_found t es (record { at = get_or at i 0; wrappers = get_or inside i 0 }))
+      sym (lacks_is h ∙ ap not (sym (shape_found (argument_called (field_at (table_of t) (doc_of s rows n) p) (name_of (doc_of s rows n) i)))) ∙ ap (λ (o : Option Shape). not (found o)) (sym place_is ∙ place_kept) ∙ coded_found t es (record { at = get_or at i 0; wrappers = get_or inside i 0 }))

@@ -24,9 +24,9 @@ module _ {A : Type 0} (p : A → Bool) where
       go true e ih = absurd (omega (arith, first_at_here p x xs e))
       go false e ih = ih (omega (arith, first_at_later p x xs e))
 
-  some-pass : (xs : List A) (i : ℕ) → first_at p xs < length xs → numbers i xs ≡ (i + first_at p xs) ∷ numbers (suc (i + first_at p xs)) (drop (suc (first_at p xs)) xs)
-  some-pass [] i h = absurd (omega arith)
-  some-pass (x ∷ xs) i h = each_from_cons i (λ j y. only_if (p y) j) x xs ∙ go (p x) refl (λ l. some-pass xs (suc i) l)
+  some_pass : (xs : List A) (i : ℕ) → first_at p xs < length xs → numbers i xs ≡ (i + first_at p xs) ∷ numbers (suc (i + first_at p xs)) (drop (suc (first_at p xs)) xs)
+  some_pass [] i h = absurd (omega arith)
+  some_pass (x ∷ xs) i h = each_from_cons i (λ j y. only_if (p y) j) x xs ∙ go (p x) refl (λ l. some_pass xs (suc i) l)
     where
       go : (b : Bool) → p x ≡ b → (first_at p xs < length xs → numbers (suc i) xs ≡ (suc i + first_at p xs) ∷ numbers (suc (suc i + first_at p xs)) (drop (suc (first_at p xs)) xs))
           → only_if b i ++ numbers (suc i) xs ≡ (i + first_at p (x ∷ xs)) ∷ numbers (suc (i + first_at p (x ∷ xs))) (drop (suc (first_at p (x ∷ xs))) (x ∷ xs))
@@ -45,7 +45,7 @@ module _ {A : Type 0} (p : A → Bool) where
     unfolding next_with
     numbers_some h =
         let z : i + suc (first_at p (drop i xs)) ≡ suc (i + first_at p (drop i xs)) = omega arith in
-        rw (← z, ← (drop-drop (suc (first_at p (drop i xs))) i xs), z) (some-pass (drop i xs) i (omega (arith, length-drop i xs)))
+        rw (← z, ← (drop-drop (suc (first_at p (drop i xs))) i xs), z) (some_pass (drop i xs) i (omega (arith, length-drop i xs)))
 
 -- one of two tests, with a third: by either
 pub any_either : {A : Type 0} (p q b : A → Bool) (xs : List A) → any_of (λ x. (p x || q x) && b x) xs ≡ (any_of (λ x. p x && b x) xs || any_of (λ x. q x && b x) xs)

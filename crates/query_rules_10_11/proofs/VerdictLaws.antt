@@ -37,13 +37,13 @@ module _ (q x : Shape) where
       and_false true = refl
       and_false false = refl
 
-  fits-base : nullable q.wrappers ≡ nullable x.wrappers → same_but_non_null q x ≡ same q.base x.base
+  fits_base : nullable q.wrappers ≡ nullable x.wrappers → same_but_non_null q x ≡ same q.base x.base
   unfolding same_but_non_null
-  fits-base h = rw (eq-eqb (nullable q.wrappers) (nullable x.wrappers) h) (and-true (same q.base x.base))
+  fits_base h = rw (eq-eqb (nullable q.wrappers) (nullable x.wrappers) h) (and_true (same q.base x.base))
     where
-      and-true : (b : Bool) → b && true ≡ b
-      and-true true = refl
-      and-true false = refl
+      and_true : (b : Bool) → b && true ≡ b
+      and_true true = refl
+      and_true false = refl
 
 -- a type and that of a place
 module _ (t es : List ℕ) (q : Shape) (p : Place) where
@@ -62,11 +62,11 @@ module _ (t es : List ℕ) (q : Shape) (p : Place) where
 
     module _ (h : nullable q.wrappers ≡ nullable p.wrappers) where
       pub differ_boolean : {b : Bool} → p.at ≡ place_boolean → b ≡ same q.base (bytes "Boolean") → not b ≡ differ (some q) (coded t es p)
-      differ_boolean e f = rw (coded_boolean t es p e, fits-base q (shape (bytes "Boolean") p.wrappers) h) (ap not f)
+      differ_boolean e f = rw (coded_boolean t es p e, fits_base q (shape (bytes "Boolean") p.wrappers) h) (ap not f)
 
       pub differ_base : {b : Bool} → (p.at ≡ place_boolean → ⊥) → b ≡ same q.base (base_at t es (p.at - place_first)) → not b ≡ differ (some q) (coded t es p)
       differ_base e f =
-          rw (coded_base t es p (omega arith), fits-base q (shape (base_at t es (p.at - place_first)) p.wrappers) h) (ap not f)
+          rw (coded_base t es p (omega arith), fits_base q (shape (base_at t es (p.at - place_first)) p.wrappers) h) (ap not f)
 
 -- a definition by row o, among the rows right below it
 module _ (d : Doc) (o : ℕ) (n : List ℕ) (r : Row) where
@@ -83,23 +83,23 @@ module _ (t : Table) (d : Doc) (o i v : ℕ) (e : v ≡ first_at (defines_it d o
       rw (any_first (defines_it d o (name_of d i)) d.rows, ← e, le-ltb v (count d) h)
 
   module _ (h : v < count d) (r : ℕ) (f : r ≡ first_below d.rows kind_type_reference v) where
-    is-defined : defines d o (name_of d i) ≡ true
+    is_defined : defines d o (name_of d i) ≡ true
     unfolding defines
-    is-defined = any_first (defines_it d o (name_of d i)) d.rows ∙ rw (← e) (lt-ltb v (count d) h)
+    is_defined = any_first (defines_it d o (name_of d i)) d.rows ∙ rw (← e) (lt-ltb v (count d) h)
 
-    declared-as : declared_by d o (name_of d i) ≡ declared d v
+    declared_as : declared_by d o (name_of d i) ≡ declared d v
     unfolding declared_by
-    declared-as = rw (is-defined, ← e)
+    declared_as = rw (is_defined, ← e)
 
     pub says_nothing : count d ≤ r → no_rule ≡ verdict_of t d o i
     unfolding verdict_of
-    says_nothing l = rw (is-defined, declared-as ∙ declared_none d v r f l)
+    says_nothing l = rw (is_defined, declared_as ∙ declared_none d v r f l)
 
     module _ (l : r < count d) (x : Option Shape) (k : place t d i ≡ x) where
       pub says_differs : true ≡ differ (some (shape_in d (row_of d r))) x → rule_variable_type ≡ verdict_of t d o i
       unfolding verdict_of
-      says_differs z = rw (is-defined, declared-as ∙ declared_some d v r f l, k, ← z)
+      says_differs z = rw (is_defined, declared_as ∙ declared_some d v r f l, k, ← z)
 
       pub says_fits : false ≡ differ (some (shape_in d (row_of d r))) x → no_rule ≡ verdict_of t d o i
       unfolding verdict_of
-      says_fits z = rw (is-defined, declared-as ∙ declared_some d v r f l, k, ← z)
+      says_fits z = rw (is_defined, declared_as ∙ declared_some d v r f l, k, ← z)

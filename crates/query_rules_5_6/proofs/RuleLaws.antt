@@ -39,21 +39,21 @@ module _ (x : Table) (d : Doc) (i : ℕ) where
     leaf_nowhere h = rw (eq-eqb (kind_of d i) kind_field k) (sym (leaf_unknown x at (field_at x d i) f (has_selections d i) h))
 
     module _ (h : field_typename ≤ at) (c : ℕ) (e : selections_type x (field_at x d i) ≡ type_coded c) where
-      by-type : (b : Bool) → has_selections d i ≡ b → leaf_wrong x d i ≡ cond b (not (not (eqb c 0))) (not (eqb c 0))
+      by_type_is : (b : Bool) → has_selections d i ≡ b → leaf_wrong x d i ≡ cond b (not (not (eqb c 0))) (not (eqb c 0))
       unfolding leaf_wrong
-      by-type b q =
+      by_type_is b q =
           rw (eq-eqb (kind_of d i) kind_field k, q)
           (leaf_known x at (field_at x d i) f b h ∙ ap (λ (o : Bool). cond b (not o) o) (ap found e ∙ type_found c))
 
       pub leaf_selects : true ≡ has_selections d i → eqb c 0 ≡ leaf_wrong x d i
-      leaf_selects q = twice (eqb c 0) ∙ sym (by-type true (sym q))
+      leaf_selects q = twice (eqb c 0) ∙ sym (by_type_is true (sym q))
         where
           twice : (b : Bool) → b ≡ not (not b)
           twice true = refl
           twice false = refl
 
       pub leaf_selects_not : false ≡ has_selections d i → not (eqb c 0) ≡ leaf_wrong x d i
-      leaf_selects_not q = sym (by-type false (sym q))
+      leaf_selects_not q = sym (by_type_is false (sym q))
 
 -- the test of a walk over the rows right below i
 abbrev pub selects : ℕ → Row → Bool

@@ -36,25 +36,25 @@ abbrev pub Liking : List ℕ → List ℕ → ℕ → ℕ → ℕ → Type 0
 Liking s rows n i j = RowWalk rows n (below (parent_of (doc_of s rows n) i)) (is_like (doc_of s rows n) i) 0 j
 
 module _ (s rows : List ℕ) (n i : ℕ) where
-  like-below : (x : Row) → is_like (doc_of s rows n) i x ≡ true → below (parent_of (doc_of s rows n) i) x ≡ true
-  like-below x e = and_left (below (parent_of (doc_of s rows n) i) x) (called (doc_of s rows n) (name_of (doc_of s rows n) i) x) (and_right (is (kind_of (doc_of s rows n) i) x) _ e)
+  like_below : (x : Row) → is_like (doc_of s rows n) i x ≡ true → below (parent_of (doc_of s rows n) i) x ≡ true
+  like_below x e = and_left (below (parent_of (doc_of s rows n) i) x) (called (doc_of s rows n) (name_of (doc_of s rows n) i) x) (and_right (is (kind_of (doc_of s rows n) i) x) _ e)
 
   -- right below row i's parent it is like row i if it has its kind and name
-  like-called : (x : Row) → below (parent_of (doc_of s rows n) i) x ≡ true → is_like (doc_of s rows n) i x ≡ kind_called (doc_of s rows n) (kind_of (doc_of s rows n) i) (name_of (doc_of s rows n) i) x
-  like-called x e = rw e
+  like_called : (x : Row) → below (parent_of (doc_of s rows n) i) x ≡ true → is_like (doc_of s rows n) i x ≡ kind_called (doc_of s rows n) (kind_of (doc_of s rows n) i) (name_of (doc_of s rows n) i) x
+  like_called x e = rw e
 
   pub liking_start : (first next : List ℕ) → Family (rows_in rows n) first next → parent_of (doc_of s rows n) i ≤ most_rows
       → {j : ℕ} → j ≡ get_or first (parent_of (doc_of s rows n) i) 0 → Liking s rows n i j
-  liking_start first next f h e = family_start rows n first next f (parent_of (doc_of s rows n) i) (is_like (doc_of s rows n) i) h like-below e
+  liking_start first next f h e = family_start rows n first next f (parent_of (doc_of s rows n) i) (is_like (doc_of s rows n) i) h like_below e
 
   module _ (j : ℕ) (w : Liking s rows n i j) where
     pub liking_next : (first next : List ℕ) → Family (rows_in rows n) first next → {m : ℕ} → j < n
         → kind_called (doc_of s rows n) (kind_of (doc_of s rows n) i) (name_of (doc_of s rows n) i) (row_in rows n j) ≡ false → m ≡ get_or next j 0 → Liking s rows n i m
-    liking_next first next f l q e = family_next rows n first next f (parent_of (doc_of s rows n) i) (is_like (doc_of s rows n) i) 0 j w l (like-called (row_in rows n j) (w.on l) ∙ q) e
+    liking_next first next f l q e = family_next rows n first next f (parent_of (doc_of s rows n) i) (is_like (doc_of s rows n) i) 0 j w l (like_called (row_in rows n j) (w.on l) ∙ q) e
 
     pub liking_here : j < n → kind_called (doc_of s rows n) (kind_of (doc_of s rows n) i) (name_of (doc_of s rows n) i) (row_in rows n j) ≡ true → j ≡ first_like (doc_of s rows n) i
     liking_here l q =
-        walk_first no_row (below (parent_of (doc_of s rows n) i)) (is_like (doc_of s rows n) i) (rows_in rows n) n j w l (like-called (row_in rows n j) (w.on l) ∙ q)
+        walk_first no_row (below (parent_of (doc_of s rows n) i)) (is_like (doc_of s rows n) i) (rows_in rows n) n j w l (like_called (row_in rows n j) (w.on l) ∙ q)
 
     pub liking_end : n ≤ j → j ≡ first_like (doc_of s rows n) i
     liking_end l =

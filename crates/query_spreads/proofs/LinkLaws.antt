@@ -61,15 +61,15 @@ linking_skip d size first next j o x z s l = record {
   enough = x.enough;
   nexts = x.nexts;
   most = omega (arith, x.most);
-  eldest = λ a h. first_later (SpreadIn d a) (count d) (j - 1) (get_or first a 0) (none a h) (first-from a h);
+  eldest = λ a h. first_later (SpreadIn d a) (count d) (j - 1) (get_or first a 0) (none a h) (first_from a h);
   younger = λ a i m h w. younger a i m h w (ℕ_discrete i (j - 1));
 }
   where
     none : (a : ℕ) → Defines d a → SpreadIn d a (j - 1) → ⊥
     none a h w = omega (arith, s.sole a h w, definition_within d a h)
 
-    first-from : (a : ℕ) → Defines d a → FirstOf (SpreadIn d a) (count d) (suc (j - 1)) (get_or first a 0)
-    first-from a h =
+    first_from : (a : ℕ) → Defines d a → FirstOf (SpreadIn d a) (count d) (suc (j - 1)) (get_or first a 0)
+    first_from a h =
         let e : j ≡ suc (j - 1) = omega arith in
         subst (λ (k : ℕ). FirstOf (SpreadIn d a) (count d) k (get_or first a 0)) e (x.eldest a h)
 
@@ -89,8 +89,8 @@ linking_more d size first next j o x z m s b p q = rw (p, q) (record {
   younger = λ a i l h w. younger a i l h w (ℕ_discrete i (j - 1));
 })
   where
-    first-from : (a : ℕ) → Defines d a → FirstOf (SpreadIn d a) (count d) (suc (j - 1)) (get_or first a 0)
-    first-from a h =
+    first_from : (a : ℕ) → Defines d a → FirstOf (SpreadIn d a) (count d) (suc (j - 1)) (get_or first a 0)
+    first_from a h =
         let e : j ≡ suc (j - 1) = omega arith in
         subst (λ (k : ℕ). FirstOf (SpreadIn d a) (count d) k (get_or first a 0)) e (x.eldest a h)
 
@@ -99,12 +99,12 @@ linking_more d size first next j o x z m s b p q = rw (p, q) (record {
         rw (e, get_or-set_same first o (j - 1) 0 (omega (arith, x.firsts, x.enough)))
         (first_here (SpreadIn d o) (count d) (j - 1) (omega (arith, x.most)) (λ _. s.stands (subst (Defines d) e h)))
     eldest a h (no e) =
-        rw (get_or-set_other first o a (j - 1) 0 e) (first_later (SpreadIn d a) (count d) (j - 1) (get_or first a 0) (λ w. e (sym (s.sole a h w))) (first-from a h))
+        rw (get_or-set_other first o a (j - 1) 0 e) (first_later (SpreadIn d a) (count d) (j - 1) (get_or first a 0) (λ w. e (sym (s.sole a h w))) (first_from a h))
 
     younger : (a i : ℕ) → j - 1 ≤ i → Defines d a → SpreadIn d a i → Dec (i ≡ j - 1) → FirstOf (SpreadIn d a) (count d) (suc i) (get_or (set next (j - 1) (get_or first o 0)) i 0)
     younger a i l h w (yes e) =
         let u : o ≡ a = s.sole a h (subst (SpreadIn d a) e w) in
-        rw (e, get_or-set_same next (j - 1) (get_or first o 0) 0 (omega (arith, x.nexts, x.most, room_enough (count d) m)), u) (first-from a h)
+        rw (e, get_or-set_same next (j - 1) (get_or first o 0) 0 (omega (arith, x.nexts, x.most, room_enough (count d) m)), u) (first_from a h)
     younger a i l h w (no e) =
         rw (get_or-set_other next (j - 1) i (get_or first o 0) 0 e) (x.younger a i (omega arith) h w)
 

@@ -103,17 +103,17 @@ module _ (s rows : List ℕ) (n i : ℕ) where
   abbrev d : Doc
   d = doc_of s rows n
 
-  below-not : {k : ℕ} → k ≡ kind_of d i → (k ≡ kind_operation → ⊥) → (k ≡ kind_fragment → ⊥) → T (not (is_definition (row_of d i)))
-  below-not e o f = other_defines_not d i (λ q. o (e ∙ q)) (λ q. f (e ∙ q))
+  below_not : {k : ℕ} → k ≡ kind_of d i → (k ≡ kind_operation → ⊥) → (k ≡ kind_fragment → ⊥) → T (not (is_definition (row_of d i)))
+  below_not e o f = other_defines_not d i (λ q. o (e ∙ q)) (λ q. f (e ∙ q))
 
   pub owner_at_parent : (owner : List ℕ) {k p : ℕ} → k ≡ kind_of d i → (k ≡ kind_operation → ⊥) → (k ≡ kind_fragment → ⊥) → p ≡ parent_of d i → OwnedTo d i owner → p < i
       → Owner d i (get_or owner p 0)
   owner_at_parent owner {p = p} e o f q w l =
-      owner_below d i (get_or owner p 0) (below-not e o f) (subst (λ (x : ℕ). Owner d x (get_or owner p 0)) q (w.owns p l))
+      owner_below d i (get_or owner p 0) (below_not e o f) (subst (λ (x : ℕ). Owner d x (get_or owner p 0)) q (w.owns p l))
 
   pub owner_of_none : {k p : ℕ} → Rowed s rows n → i < n → k ≡ kind_of d i → (k ≡ kind_operation → ⊥) → (k ≡ kind_fragment → ⊥) → p ≡ parent_of d i → i ≤ p → Owner d i no_parent
   owner_of_none r l e o f q h =
       let c = rows_count rows n in
       let b = r.few in
-      owner_below d i no_parent (below-not e o f)
+      owner_below d i no_parent (below_not e o f)
       (owner_none d (parent_of d i) (omega arith) (⊎_elim (λ y. absurd (omega arith)) (λ y. omega arith) (parent_before s rows n r i l)))

@@ -43,9 +43,9 @@ module _ (rs : List Row) (i : ℕ) where
   past_parents j h l = stays_in i (get_or rs j no_row) (next_skips (leaves i) rs no_row (suc i) j h l)
 
   -- so all of them stand in row i
-  under-by : Parented rs → i < length rs → (f j : ℕ) → j < f → i ≤ j → j < past_of rs i → Under rs i j
-  under-by p low zero j u h l = absurd (omega arith)
-  under-by p low (suc f) j u h l = on (dec_lt i j) (λ k v w. under-by p low f k v w)
+  under_by : Parented rs → i < length rs → (f j : ℕ) → j < f → i ≤ j → j < past_of rs i → Under rs i j
+  under_by p low zero j u h l = absurd (omega arith)
+  under_by p low (suc f) j u h l = on (dec_lt i j) (λ k v w. under_by p low f k v w)
     where
       on : Dec (i < j) → ((k : ℕ) → k < f → i ≤ k → k < past_of rs i → Under rs i k) → Under rs i j
       on (yes k) ih =
@@ -55,7 +55,7 @@ module _ (rs : List Row) (i : ℕ) where
       on (no k) ih = let z : j ≡ i = omega arith in rw z itself
 
   pub past_under : Parented rs → i < length rs → (j : ℕ) → i ≤ j → j < past_of rs i → Under rs i j
-  past_under p low j h l = under-by p low (suc j) j (omega arith) h l
+  past_under p low j h l = under_by p low (suc j) j (omega arith) h l
 
   -- in preorder every child lies before it
   pub past_child : Nested rs → length rs ≤ most_rows → (j : ℕ) → j < length rs → i < j → parent_in rs j ≡ i → j < past_of rs i

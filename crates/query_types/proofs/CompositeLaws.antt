@@ -40,17 +40,17 @@ module _ (t book : List ℕ) (b : Booked t book) where
           absurd (true≢false (sym e ∙ ap is_composite q))
 
   module _ (k : ℕ) {r : Bool} (e : r ≡ is_composite_tag (kind_in book k)) where
-    is-output : r ≡ is_composite (definition_at (table_of t) k)
-    is-output = e ∙ ap is_composite_tag (kind_is k)
+    is_output : r ≡ is_composite (definition_at (table_of t) k)
+    is_output = e ∙ ap is_composite_tag (kind_is k)
 
     pub kind_few : r ≡ true → k < room
-    kind_few q = let h = output_below k (sym is-output ∙ q) in omega (arith, h, b.indexed.held.most)
+    kind_few q = let h = output_below k (sym is_output ∙ q) in omega (arith, h, b.indexed.held.most)
 
     pub composite_yes : r ≡ true → type_coded (k + 1) ≡ if_composite (table_of t) (definition k)
-    composite_yes q = rw (add-one k, sym is-output ∙ q)
+    composite_yes q = rw (add-one k, sym is_output ∙ q)
 
     pub composite_no : r ≡ false → none ≡ if_composite (table_of t) (definition k)
-    composite_no q = rw (sym is-output ∙ q)
+    composite_no q = rw (sym is_output ∙ q)
 
 -- by what a name means
 module _ (t n : List ℕ) where

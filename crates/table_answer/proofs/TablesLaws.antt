@@ -41,22 +41,22 @@ within_none none e = refl
 within_none (some x) e = let z : ◌≡◌ {A = ℕ} 0 1 = cc in absurd (omega native.Mathlib.Omega.arith)
 
 module _ (s : List ℕ) where
-  framing-is : (r : Framed) (at : ℕ) → r ≡ told (framing_offset s) → r ≡ Wrong at → Framing at ≡ judge s
+  framing_is : (r : Framed) (at : ℕ) → r ≡ told (framing_offset s) → r ≡ Wrong at → Framing at ≡ judge s
   unfolding judge table_answer
-  framing-is r at p q = rw (wrong_some (framing_offset s) at (sym q ∙ p)) refl
+  framing_is r at p q = rw (wrong_some (framing_offset s) at (sym q ∙ p)) refl
 
   pub framing_wrong : (book : List ℕ) (r : Framed) (at : ℕ) → r ≡ told (framing_offset s) → r ≡ Wrong at → Judges s book (Framing at)
-  framing_wrong book r at p q = record { is = framing-is r at p q; booked = λ e. let z : ◌≡◌ {A = ℕ} 0 1 = cc in absurd (omega native.Mathlib.Omega.arith) }
+  framing_wrong book r at p q = record { is = framing_is r at p q; booked = λ e. let z : ◌≡◌ {A = ℕ} 0 1 = cc in absurd (omega native.Mathlib.Omega.arith) }
 
   pub framing_right : (r : Framed) → r ≡ told (framing_offset s) → r ≡ Right → framing_offset s ≡ none
   framing_right r p q = right_none (framing_offset s) (sym q ∙ p)
 
-  counts-is : (r : Counted) (at : ℕ) → framing_offset s ≡ none → r ≡ told_over (counts_offset s) → r ≡ Over at → TooMany at ≡ judge s
+  counts_is : (r : Counted) (at : ℕ) → framing_offset s ≡ none → r ≡ told_over (counts_offset s) → r ≡ Over at → TooMany at ≡ judge s
   unfolding judge table_answer
-  counts-is r at f p q = rw (f, over_some (counts_offset s) at (sym q ∙ p)) refl
+  counts_is r at f p q = rw (f, over_some (counts_offset s) at (sym q ∙ p)) refl
 
   pub counts_over : (book : List ℕ) (r : Counted) (at : ℕ) → framing_offset s ≡ none → r ≡ told_over (counts_offset s) → r ≡ Over at → Judges s book (TooMany at)
-  counts_over book r at f p q = record { is = counts-is r at f p q; booked = λ e. let z : ◌≡◌ {A = ℕ} 0 1 = cc in absurd (omega native.Mathlib.Omega.arith) }
+  counts_over book r at f p q = record { is = counts_is r at f p q; booked = λ e. let z : ◌≡◌ {A = ℕ} 0 1 = cc in absurd (omega native.Mathlib.Omega.arith) }
 
   pub counts_within : (r : Counted) → r ≡ told_over (counts_offset s) → r ≡ Within → counts_offset s ≡ none
   counts_within r p q = within_none (counts_offset s) (sym q ∙ p)

@@ -36,12 +36,12 @@ module _ (t : List ℕ) (tag start end b : ℕ) (e : b ≡ (base_meant (table_of
   wrong_input n k = sym (rw (ne_eqb tag tag_field n, eq-eqb tag tag_argument k, ← e) refl)
 
 module _ (t : List ℕ) (tag start end : ℕ) (f : tag ≡ tag_field → ⊥) (g : tag ≡ tag_argument → ⊥) where
-  named-only : member_from t tag start end ≡ name_only tag (slice start end t)
+  named_only : member_from t tag start end ≡ name_only tag (slice start end t)
   unfolding member_from
-  named-only = rw (ne_eqb tag tag_field f, ne_eqb tag tag_argument g) refl
+  named_only = rw (ne_eqb tag tag_field f, ne_eqb tag tag_argument g) refl
 
   pub unknown_other : false ≡ member_type_unknown (table_of t) 0 (member_from t tag start end)
-  unknown_other = sym (ap (member_type_unknown (table_of t) 0) named-only ∙ rw (ne_eqb tag tag_field f, ne_eqb tag tag_argument g) refl)
+  unknown_other = sym (ap (member_type_unknown (table_of t) 0) named_only ∙ rw (ne_eqb tag tag_field f, ne_eqb tag tag_argument g) refl)
 
   pub wrong_other : false ≡ member_base_wrong (table_of t) 0 (member_from t tag start end)
-  wrong_other = sym (ap (member_base_wrong (table_of t) 0) named-only ∙ rw (ne_eqb tag tag_field f, ne_eqb tag tag_argument g) refl)
+  wrong_other = sym (ap (member_base_wrong (table_of t) 0) named_only ∙ rw (ne_eqb tag tag_field f, ne_eqb tag tag_argument g) refl)

@@ -46,8 +46,8 @@ module _ (hash : List ℕ → ℕ) (book : List ℕ) (keys : List Key) (j h : �
   abbrev was : ℕ
   was = get_or book (cell_head + h) 0
 
-  new-first : (g : ℕ) → g < room → get_or (put_first book h j) (cell_head + g) 0 ≡ first_from (in_bucket hash g) keys j
-  new-first g l = go (eqb g h) refl
+  new_first : (g : ℕ) → g < room → get_or (put_first book h j) (cell_head + g) 0 ≡ first_from (in_bucket hash g) keys j
+  new_first g l = go (eqb g h) refl
     where
       go : (b : Bool) → eqb g h ≡ b → get_or (put_first book h j) (cell_head + g) 0 ≡ first_from (in_bucket hash g) keys j
       go true q =
@@ -60,8 +60,8 @@ module _ (hash : List ℕ → ℕ) (book : List ℕ) (keys : List Key) (j h : �
           ∙ get_or-set_other book (cell_next + j) (cell_head + g) was 0 (λ z. omega arith)
           ∙ c.first g l ∙ first_step (in_bucket hash g) keys j v (ne_eqb (hash (get_or keys j no_key).name) g (λ z. k (sym (e ∙ z))))
 
-  new-next : (i : ℕ) → j ≤ i → i < length keys → get_or (put_first book h j) (cell_next + i) 0 ≡ first_from (in_bucket hash (hash (get_or keys i no_key).name)) keys (suc i)
-  new-next i l m = go (eqb i j) refl
+  new_next : (i : ℕ) → j ≤ i → i < length keys → get_or (put_first book h j) (cell_next + i) 0 ≡ first_from (in_bucket hash (hash (get_or keys i no_key).name)) keys (suc i)
+  new_next i l m = go (eqb i j) refl
     where
       go : (b : Bool) → eqb i j ≡ b → get_or (put_first book h j) (cell_next + i) 0 ≡ first_from (in_bucket hash (hash (get_or keys i no_key).name)) keys (suc i)
       go true q =
@@ -78,8 +78,8 @@ module _ (hash : List ℕ → ℕ) (book : List ℕ) (keys : List Key) (j h : �
   pub chains_more : Chains hash (put_first book h j) keys j
   chains_more = record {
     cells = length-set (set book (cell_next + j) was) (cell_head + h) j ∙ length-set book (cell_next + j) was ∙ c.cells;
-    first = new-first;
-    next = new-next;
+    first = new_first;
+    next = new_next;
   }
 
 -- an entry of another bucket is not the one looked for

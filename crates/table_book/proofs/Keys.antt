@@ -30,16 +30,16 @@ module _ (t old book : List ℕ) (k : Kept old book) where
   pub key_at_kept : (j : ℕ) → j < room → key_at t book j ≡ key_at t old j
   key_at_kept j h = rw (k.entries j (omega arith), k.entries (cell_name + j) (omega arith), k.entries (cell_size + j) (omega arith))
 
-  from-kept : (j n : ℕ) → j + n ≤ room → keys_from t book j n ≡ keys_from t old j n
+  from_kept : (j n : ℕ) → j + n ≤ room → keys_from t book j n ≡ keys_from t old j n
   unfolding keys_from
-  from-kept j zero h = refl
-  from-kept j (suc n) h = rw (key_at_kept j (omega arith), from-kept (suc j) n (omega arith))
+  from_kept j zero h = refl
+  from_kept j (suc n) h = rw (key_at_kept j (omega arith), from_kept (suc j) n (omega arith))
 
   pub count_kept : count_in book ≡ count_in old
   count_kept = k.entries cell_count (omega arith)
 
   pub keys_kept : count_in old ≤ room → keys_of t book ≡ keys_of t old
-  keys_kept m = rw count_kept (from-kept 0 (count_in old) (omega arith))
+  keys_kept m = rw count_kept (from_kept 0 (count_in old) (omega arith))
 
   pub held_kept : Held t old → Held t book
   held_kept h = record {

@@ -46,13 +46,13 @@ module _ (t book es : List ℕ) where
   as_members e f (x ∷ xs) r = (record { entry = r.0.entry; arguments = sym r.0.next }, r.1, as_members (next_of es e) f xs r.2)
 
   module _ (n : List ℕ) where
-    found-argument : (xs : List Argument) (m : Member) → find (member_named n) (map as_member xs) ≡ some m → (a : Argument) × (find (argument_named n) xs ≡ some a) × (m ≡ as_member a)
+    found_argument : (xs : List Argument) (m : Member) → find (member_named n) (map as_member xs) ≡ some m → (a : Argument) × (find (argument_named n) xs ≡ some a) × (m ≡ as_member a)
     unfolding find
-    found-argument [] m q = absurd (never q)
+    found_argument [] m q = absurd (never q)
       where
         never : ◌≡◌ {A = Option Member} none (some m) → ⊥
         never p = let z : ◌≡◌ {A = ℕ} 0 1 = cc in omega arith
-    found-argument (x ∷ xs) m q = go (λ s. found-argument xs m s) (same x.name n) refl
+    found_argument (x ∷ xs) m q = go (λ s. found_argument xs m s) (same x.name n) refl
       where
         go : (find (member_named n) (map as_member xs) ≡ some m → (a : Argument) × (find (argument_named n) xs ≡ some a) × (m ≡ as_member a)) → (b : Bool) → same x.name n ≡ b → (a : Argument) × (find (argument_named n) (x ∷ xs) ≡ some a) × (m ≡ as_member a)
         go rec true p = let s : some (as_member x) ≡ some m = rw p at q in (x, rw p, cc)
@@ -86,22 +86,22 @@ module _ (t book es : List ℕ) where
         }
 
     module _ (n : List ℕ) (end r : ℕ) (q : end ≡ next_of es e) (x : FindAnswer t book es (e + 1) end n r) where
-      hit-is : (m : Member) → MemberEntry t book es e m → Hit t book es end n (map as_member m.arguments) r
-      hit-is m y =
+      hit_is : (m : Member) → MemberEntry t book es e m → Hit t book es end n (map as_member m.arguments) r
+      hit_is m y =
           let z : suc e ≡ e + 1 = omega arith in
           x (map as_member m.arguments) (rw (q, ← z) (as_members (suc e) (next_of es e) m.arguments y.arguments))
 
       pub argument_hit : r < end → ArgumentAnswer t book es e n r
       argument_hit l m y =
-          let f = (hit-is m y).found l in
-          let g = found-argument n m.arguments f.0 f.1 in
+          let f = (hit_is m y).found l in
+          let g = found_argument n m.arguments f.0 f.1 in
           record {
             found = λ k. (g.0, g.1, rw g.2 at f.2.entry, roomy_less f.5 (omega (arith, f.3)));
             none_is = λ k. absurd (omega (arith, w.most.most, q));
           }
 
       pub argument_none : end ≤ r → ArgumentAnswer t book es e n room_entries
-      argument_none l m y = record { found = λ k. absurd (omega arith); none_is = λ k. no_argument n m.arguments ((hit-is m y).none_is l) }
+      argument_none l m y = record { found = λ k. absurd (omega arith); none_is = λ k. no_argument n m.arguments ((hit_is m y).none_is l) }
 
 -- none before entry e has its name
 module _ (t book es : List ℕ) (from e : ℕ) where

@@ -25,42 +25,42 @@ module _ (t : List ℕ) (start end : ℕ) (b : Bounds t start end) (k a e : ℕ)
   pub first_bounds : Bounds t e end
   first_bounds = record { order = first_lies.2; within = b.within; most = b.most }
 
-  header-named : Named t a (e - a) (name_in (fields_in t start end))
-  header-named =
+  header_named : Named t a (e - a) (name_in (fields_in t start end))
+  header_named =
       let f = seeks_here t start end tag_name start b.within (seeks_start t start end tag_name b.order) first_lies.0 k a e q n in
       record { is = part_slice t a e ∙ f.text; within = omega (arith, first_lies.1, first_lies.2, b.within) }
 
   module _ (l c d : ℕ) (r : field_at t e end ≡ Field l c d) (m : l ≡ tag_reference) where
-    second-lies : (e < end) × (c ≤ d) × (d ≤ end)
-    second-lies = let z = field_lies t e end l c d first_lies.2 r in (omega (arith, z.begins, z.order, z.within), z.order, z.within)
+    second_lies : (e < end) × (c ≤ d) × (d ≤ end)
+    second_lies = let z = field_lies t e end l c d first_lies.2 r in (omega (arith, z.begins, z.order, z.within), z.order, z.within)
 
     pub second_bounds : Bounds t c d
-    second_bounds = record { order = second-lies.1; within = omega (arith, second-lies.2, b.within); most = b.most }
+    second_bounds = record { order = second_lies.1; within = omega (arith, second_lies.2, b.within); most = b.most }
 
-    found-reference : Finds t start end tag_reference c d
-    found-reference =
+    found_reference : Finds t start end tag_reference c d
+    found_reference =
         let s = seeks_on t start end tag_reference start b.within (seeks_start t start end tag_reference b.order) first_lies.0 k a e q (λ z. omega (arith, n)) in
-        seeks_here t start end tag_reference e b.within s second-lies.0 l c d r m
+        seeks_here t start end tag_reference e b.within s second_lies.0 l c d r m
 
     no_argument : (at tag : ℕ) (s : List ℕ) → (tag ≡ tag_name) → argument_of (house_field at tag s) ≡ []
     no_argument at tag s z = rw z
 
-    no-argument-2 : (at tag : ℕ) (s : List ℕ) → (tag ≡ tag_reference) → argument_of (house_field at tag s) ≡ []
-    no-argument-2 at tag s z = rw z
+    no_argument_2 : (at tag : ℕ) (s : List ℕ) → (tag ≡ tag_reference) → argument_of (house_field at tag s) ≡ []
+    no_argument_2 at tag s z = rw z
 
-    same-arguments : arguments_in t start end ≡ arguments_in t d end
-    same-arguments =
+    same_arguments : arguments_in t start end ≡ arguments_in t d end
+    same_arguments =
         gather_field argument_of (λ at. refl) t start end b.within first_lies.0 k a e q
         ∙ ap (λ (xs : List Argument). xs ++ arguments_in t e end) (no_argument start k (slice a e t) n)
-        ∙ gather_field argument_of (λ at. refl) t e end b.within second-lies.0 l c d r
-        ∙ ap (λ (xs : List Argument). xs ++ arguments_in t d end) (no-argument-2 e l (slice c d t) m)
+        ∙ gather_field argument_of (λ at. refl) t e end b.within second_lies.0 l c d r
+        ∙ ap (λ (xs : List Argument). xs ++ arguments_in t d end) (no_argument_2 e l (slice c d t) m)
 
     pub header_in : (x y wrappers : ℕ) → Refers t c d x y wrappers → HeaderIn t start end a (e - a) x (y - x) wrappers d
     header_in x y wrappers f = record {
-      named = header-named;
-      typed = type_found t start end c d found-reference b.within x y wrappers f;
-      arguments = sym same-arguments;
-      order = second-lies.2;
+      named = header_named;
+      typed = type_found t start end c d found_reference b.within x y wrappers f;
+      arguments = sym same_arguments;
+      order = second_lies.2;
     }
 
 module _ (t : List ℕ) (tag start end name size base extent wrappers from : ℕ) (h : HeaderIn t start end name size base extent wrappers from) where

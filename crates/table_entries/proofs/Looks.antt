@@ -47,18 +47,18 @@ module _ (t book es : List ℕ) (from end : ℕ) (n : List ℕ) (e : ℕ) (w : L
       record { found = λ l. absurd (omega arith); none_is = λ l. q.2 ∙ none_left h q.0 q.1; within = looking_within }
 
   module _ (l : e < end) where
-    first-is : (rest : List Member) → Members t book es e end rest → (m : Member) × (others : List Member) × MemberEntry t book es e m × (e < next_of es e) × Members t book es (next_of es e) end others × (rest ≡ m ∷ others)
-    first-is [] r = absurd (omega arith)
-    first-is (m ∷ others) r = (m, others, r.0, r.1, r.2, refl)
+    first_is : (rest : List Member) → Members t book es e end rest → (m : Member) × (others : List Member) × MemberEntry t book es e m × (e < next_of es e) × Members t book es (next_of es e) end others × (rest ≡ m ∷ others)
+    first_is [] r = absurd (omega arith)
+    first_is (m ∷ others) r = (m, others, r.0, r.1, r.2, refl)
 
     pub looking_less : (e < next_of es e) × (next_of es e ≤ end)
     looking_less =
-        let f = first-is w.left w.are in
+        let f = first_is w.left w.are in
         (f.3, run_order (MemberEntry t book es) es (next_of es e) end f.1 f.4)
 
     pub name_stands : Roomy es end → NameStands t es e
     name_stands h =
-        let f = first-is w.left w.are in
+        let f = first_is w.left w.are in
         record {
           most = roomy_less h (omega arith);
           within = f.2.entry.named.within;
@@ -68,7 +68,7 @@ module _ (t book es : List ℕ) (from end : ℕ) (n : List ℕ) (e : ℕ) (w : L
     pub looking_here : Roomy es end → {b : Bool} → b ≡ same (name_at t es e) n → b ≡ true → FindAnswer t book es from end n e
     looking_here o s h ms r =
         let q = w.found_is ms r in
-        let f = first-is q.0 q.1 in
+        let f = first_is q.0 q.1 in
         let y : same f.0.name n ≡ true = ap (λ (x : List ℕ). same x n) (sym f.2.entry.named.is) ∙ sym s ∙ h in
         record {
           found = λ k. (f.0, q.2 ∙ ap (find (member_named n)) f.5 ∙ find_here (member_named n) f.0 f.1 y, f.2, f.3, looking_less.1, roomy_less o looking_less.1);
@@ -78,13 +78,13 @@ module _ (t book es : List ℕ) (from end : ℕ) (n : List ℕ) (e : ℕ) (w : L
 
     pub looking_on : {b : Bool} → b ≡ same (name_at t es e) n → b ≡ false → Looking t book es from end n (next_of es e)
     looking_on s h =
-        let g = first-is w.left w.are in
+        let g = first_is w.left w.are in
         record {
           left = g.1;
           are = g.4;
           found_is = λ ms r.
               let q = w.found_is ms r in
-              let f = first-is q.0 q.1 in
+              let f = first_is q.0 q.1 in
               let y : same f.0.name n ≡ false = ap (λ (x : List ℕ). same x n) (sym f.2.entry.named.is) ∙ sym s ∙ h in
               (f.1, f.4, q.2 ∙ ap (find (member_named n)) f.5 ∙ find_on (member_named n) f.0 f.1 y);
         }

@@ -50,14 +50,14 @@ module _ {B : Type 0} (inner : Offsets) (g : HouseField → List B) (weight : Li
   abbrev Light : Slot → Type 0
   Light x = (at : ℕ) (s : List ℕ) → inner at (slot_tag x) s ≡ [] → 11 * weight (g (house_field at (slot_tag x) s)) ≤ 3 + length s
 
-  filled-weighs : {ss : List Slot} {ps : List HouseField} → Every Light ss → Filled inner ss ps → 11 * weight (gather g ps) ≤ bytes_of ps
+  filled_weighs : {ss : List Slot} {ps : List HouseField} → Every Light ss → Filled inner ss ps → 11 * weight (gather g ps) ≤ bytes_of ps
   unfolding gather
-  filled-weighs h filled = omega (arith, none-weighs)
-  filled-weighs (one_more h hs) (the_one {at = at} {k = k} {s = s} {ps = ps} e f) = omega (arith, adds (g (house_field at k s)) (gather g ps), h at s e, filled-weighs hs f)
-  filled-weighs (one_more h hs) (not_there f) = filled-weighs hs f
-  filled-weighs (one_more h hs) (once {at = at} {k = k} {s = s} {ps = ps} e f) = omega (arith, adds (g (house_field at k s)) (gather g ps), h at s e, filled-weighs hs f)
-  filled-weighs (one_more h hs) (Filled.no_more f) = filled-weighs hs f
-  filled-weighs (one_more h hs) (Filled.once_more {at = at} {k = k} {s = s} {ps = ps} e f) = omega (arith, adds (g (house_field at k s)) (gather g ps), h at s e, filled-weighs (one_more h hs) f)
+  filled_weighs h filled = omega (arith, none-weighs)
+  filled_weighs (one_more h hs) (the_one {at = at} {k = k} {s = s} {ps = ps} e f) = omega (arith, adds (g (house_field at k s)) (gather g ps), h at s e, filled_weighs hs f)
+  filled_weighs (one_more h hs) (not_there f) = filled_weighs hs f
+  filled_weighs (one_more h hs) (once {at = at} {k = k} {s = s} {ps = ps} e f) = omega (arith, adds (g (house_field at k s)) (gather g ps), h at s e, filled_weighs hs f)
+  filled_weighs (one_more h hs) (Filled.no_more f) = filled_weighs hs f
+  filled_weighs (one_more h hs) (Filled.once_more {at = at} {k = k} {s = s} {ps = ps} e f) = omega (arith, adds (g (house_field at k s)) (gather g ps), h at s e, filled_weighs (one_more h hs) f)
 
 -- a name and a reference take eight bytes and hold no argument
 headed : (d : ℕ) {ss : List Slot} {ps : List HouseField} → Filled (wrongs (suc d)) (one tag_name ∷ one tag_reference ∷ ss) ps
@@ -80,7 +80,7 @@ field_size : (at : ℕ) (s : List ℕ) → wrongs 3 at tag_field s ≡ [] → 8 
 unfolding contents look_up any_of
 field_size at s e =
     let f = headed 1 (holder_right 2 at tag_field s (one tag_name ∷ one tag_reference ∷ many tag_argument ∷ []) refl refl e) in
-    let w = filled-weighs (wrongs 2) argument_of length refl (λ (xs ys : List Argument). length-append xs ys) (one_more (one_argument 0) no_more) f.1 in
+    let w = filled_weighs (wrongs 2) argument_of length refl (λ (xs ys : List Argument). length-append xs ys) (one_more (one_argument 0) no_more) f.1 in
     omega (arith, f.2, w, ap (λ (xs : List Argument). length xs) f.3, house_fields_bytes (at + 3) s)
 
 entries_add : (xs ys : List Member) → entries_of (xs ++ ys) ≡ entries_of xs + entries_of ys
@@ -104,12 +104,12 @@ unfolding member_of
 implemented_light at s e = omega arith
 
 members_weigh : {ss : List Slot} {ps : List HouseField} → Every (Light (wrongs 3) member_of entries_of refl entries_add) ss → Filled (wrongs 3) ss ps → 11 * entries_of (gather member_of ps) ≤ bytes_of ps
-members_weigh h f = filled-weighs (wrongs 3) member_of entries_of refl entries_add h f
+members_weigh h f = filled_weighs (wrongs 3) member_of entries_of refl entries_add h f
 
 module _ (at : ℕ) (s : List ℕ) where
-  object-size : wrongs most_deep at tag_object s ≡ [] → 11 * entries_in (definition_in at tag_object s) ≤ 3 + length s
+  object_size : wrongs most_deep at tag_object s ≡ [] → 11 * entries_in (definition_in at tag_object s) ≤ 3 + length s
   unfolding contents look_up any_of
-  object-size e =
+  object_size e =
       omega (
         arith,
         members_weigh (one_more names_light (one_more implemented_light (one_more fields_light no_more)))
@@ -117,14 +117,14 @@ module _ (at : ℕ) (s : List ℕ) where
         house_fields_bytes (at + 3) s,
       )
 
-  interface-size : wrongs most_deep at tag_interface s ≡ [] → 11 * entries_in (definition_in at tag_interface s) ≤ 3 + length s
+  interface_size : wrongs most_deep at tag_interface s ≡ [] → 11 * entries_in (definition_in at tag_interface s) ≤ 3 + length s
   unfolding contents look_up any_of
-  interface-size e =
+  interface_size e =
       omega (arith, members_weigh (one_more names_light (one_more fields_light no_more)) (holder_right 3 at tag_interface s (one tag_name ∷ many tag_field ∷ []) refl refl e), house_fields_bytes (at + 3) s)
 
-  input-size : wrongs most_deep at tag_input_object s ≡ [] → 11 * entries_in (definition_in at tag_input_object s) ≤ 3 + length s
+  input_size : wrongs most_deep at tag_input_object s ≡ [] → 11 * entries_in (definition_in at tag_input_object s) ≤ 3 + length s
   unfolding contents look_up any_of
-  input-size e =
+  input_size e =
       omega (arith, members_weigh (one_more names_light (one_more inputs_light no_more)) (holder_right 3 at tag_input_object s (one tag_name ∷ many tag_argument ∷ []) refl refl e), house_fields_bytes (at + 3) s)
 
   directive_size : wrongs most_deep at tag_directive s ≡ [] → 11 * entries_in (definition_in at tag_directive s) ≤ 3 + length s
@@ -132,12 +132,12 @@ module _ (at : ℕ) (s : List ℕ) where
   directive_size e =
       omega (arith, members_weigh (one_more names_light (one_more inputs_light no_more)) (holder_right 3 at tag_directive s (one tag_name ∷ many tag_argument ∷ []) refl refl e), house_fields_bytes (at + 3) s)
 
-  record-size : (roots : Bool) (tag : ℕ) → record_in_place roots tag ≡ true → wrongs most_deep at tag s ≡ [] → 11 * entries_in (definition_in at tag s) ≤ 3 + length s
-  record-size roots tag b =
+  record_size : (roots : Bool) (tag : ℕ) → record_in_place roots tag ≡ true → wrongs most_deep at tag s ≡ [] → 11 * entries_in (definition_in at tag s) ≤ 3 + length s
+  record_size roots tag b =
       let z = and_inv (leb tag_scalar tag && leb tag tag_roots) (not (eqb tag tag_roots) || roots) b in
       let y = and_inv (leb tag_scalar tag) (leb tag tag_roots) z.0 in
       one_of_eight (λ k. wrongs most_deep at k s ≡ [] → 11 * entries_in (definition_in at k s) ≤ 3 + length s)
-      (λ e. omega arith) object-size interface-size (λ e. omega arith) (λ e. omega arith) input-size directive_size (λ e. omega arith)
+      (λ e. omega arith) object_size interface_size (λ e. omega arith) (λ e. omega arith) input_size directive_size (λ e. omega arith)
       tag (leb-true tag_scalar tag y.0) (leb-true tag tag_roots y.1)
 
 table_size : (ps : List HouseField) (roots : Bool) → table_wrongs roots ps ≡ [] → 11 * entries_on (gather definition_of ps) ≤ bytes_of ps
@@ -149,7 +149,7 @@ table_size (house_field at tag s ∷ ps) roots e = go (record_in_place roots tag
     go : (b : Bool) → record_in_place roots tag ≡ b → cond b (wrongs most_deep at tag s) (at ∷ []) ++ table_wrongs (roots && not (eqb tag tag_roots)) ps ≡ []
         → (table_wrongs (roots && not (eqb tag tag_roots)) ps ≡ [] → 11 * entries_on (gather definition_of ps) ≤ bytes_of ps)
         → 11 * (entries_in (definition_in at tag s) + entries_on (gather definition_of ps)) ≤ 3 + length s + bytes_of ps
-    go true q e ih = let z = append_inv (wrongs most_deep at tag s) _ e in omega (arith, record-size at s roots tag q z.0, ih z.1)
+    go true q e ih = let z = append_inv (wrongs most_deep at tag s) _ e in omega (arith, record_size at s roots tag q z.0, ih z.1)
     go false q e ih = absurd (cons≢nil e)
 
 -- so the cells for its size are enough

@@ -31,15 +31,15 @@ Same old es lo hi = (k : ℕ) → lo ≤ k → k < hi → get_or es k 0 ≡ get_
 
 module _ {A : Type 0} (P Q : ℕ → A → Type 0) (old es : List ℕ) (lo hi : ℕ) (s : Same old es (entry_at lo) (entry_at hi))
     (keeps : (e : ℕ) (x : A) → lo ≤ e → e < next_of old e → next_of old e ≤ hi → P e x → Q e x) where
-  next-same : (e : ℕ) → lo ≤ e → e < hi → next_of es e ≡ next_of old e
-  next-same e l h = s (entry_at e + entry_next) (omega arith) (omega arith)
+  next_same : (e : ℕ) → lo ≤ e → e < hi → next_of es e ≡ next_of old e
+  next_same e l h = s (entry_at e + entry_next) (omega arith) (omega arith)
 
   pub run_same : (e : ℕ) (xs : List A) → lo ≤ e → Run P old e hi xs → Run Q es e hi xs
   run_same e [] l r = r
   run_same e (x ∷ xs) l r =
       let h : next_of old e ≤ hi = run_order P old (next_of old e) hi xs r.2 in
       let m : e < next_of old e = r.1 in
-      let q : next_of es e ≡ next_of old e = next-same e l (omega arith) in
+      let q : next_of es e ≡ next_of old e = next_same e l (omega arith) in
       rw q (keeps e x l m h r.0, m, run_same (next_of old e) xs (omega arith) r.2)
 
 module _ (t book old es : List ℕ) where

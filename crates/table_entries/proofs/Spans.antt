@@ -112,8 +112,8 @@ module _ (t book old es : List ℕ) (b : Booked t book) (i e : ℕ) (w : Spannin
       mid_cells : cells_before ≤ length mid
       mid_cells = omega (arith, x.cells, w.few.cells)
 
-      first-same : (j : ℕ) → j ≤ i → first_of es' j ≡ first_of es j
-      first-same j h = get_or-set_other mid (i + 1) j f 0 (λ z. omega arith) ∙ x.before j (omega (arith, next_room))
+      first_same : (j : ℕ) → j ≤ i → first_of es' j ≡ first_of es j
+      first_same j h = get_or-set_other mid (i + 1) j f 0 (λ z. omega arith) ∙ x.before j (omega (arith, next_room))
 
       first_next : first_of es' (i + 1) ≡ f
       first_next = get_or-set_same mid (i + 1) f 0 (omega (arith, mid_cells, next_room))
@@ -121,41 +121,41 @@ module _ (t book old es : List ℕ) (b : Booked t book) (i e : ℕ) (w : Spannin
       longer : e ≤ f
       longer = omega (arith, x.size)
 
-      old-same : (lo hi : ℕ) → hi ≤ e → Same es es' (entry_at lo) (entry_at hi)
-      old-same lo hi h k g m = get_or-set_other mid (i + 1) k f 0 (λ z. omega (arith, next_room)) ∙ x.before k (omega arith)
+      old_same : (lo hi : ℕ) → hi ≤ e → Same es es' (entry_at lo) (entry_at hi)
+      old_same lo hi h k g m = get_or-set_other mid (i + 1) k f 0 (λ z. omega (arith, next_room)) ∙ x.before k (omega arith)
 
-      mid-same : (lo hi : ℕ) → Same mid es' (entry_at lo) (entry_at hi)
-      mid-same lo hi k g m = get_or-set_other mid (i + 1) k f 0 (λ z. omega (arith, next_room))
+      mid_same : (lo hi : ℕ) → Same mid es' (entry_at lo) (entry_at hi)
+      mid_same lo hi k g m = get_or-set_other mid (i + 1) k f 0 (λ z. omega (arith, next_room))
 
       pub spanning_more : Spanning t book old es' (i + 1) f
       spanning_more = record {
         whole = length-set mid (i + 1) f ∙ x.cells ∙ w.whole;
         count = omega arith;
         here = first_next;
-        order = λ j h. order-go j h (ltb j (i + 1)) refl;
+        order = λ j h. order_go j h (ltb j (i + 1)) refl;
         few =
             let z : i + 1 ≡ suc i = omega arith in
             let n = next_few in
             rw z (record { cells = omega (arith, length-set mid (suc i) f, x.cells, x.size, n.cells); most = omega (arith, x.size, n.most) });
-        are = λ j h. are-go j h (ltb j i) refl;
+        are = λ j h. are_go j h (ltb j i) refl;
       }
         where
-          order-go : (j : ℕ) → j ≤ i + 1 → (q : Bool) → ltb j (i + 1) ≡ q → first_of es' j ≤ f
-          order-go j h true p = let g : j < i + 1 = ltb-true j (i + 1) p in omega (arith, first-same j (omega arith), w.order j (omega arith), longer)
-          order-go j h false p =
+          order_go : (j : ℕ) → j ≤ i + 1 → (q : Bool) → ltb j (i + 1) ≡ q → first_of es' j ≤ f
+          order_go j h true p = let g : j < i + 1 = ltb-true j (i + 1) p in omega (arith, first_same j (omega arith), w.order j (omega arith), longer)
+          order_go j h false p =
               let g : i + 1 ≤ j = ltb-false j (i + 1) p in
               let z : j ≡ i + 1 = omega arith in
               rw z (omega (arith, first_next))
 
-          are-go : (j : ℕ) → j < i + 1 → (q : Bool) → ltb j i ≡ q → has_types (definition_on t j).tag ≡ true
+          are_go : (j : ℕ) → j < i + 1 → (q : Bool) → ltb j i ≡ q → has_types (definition_on t j).tag ≡ true
               → Members t book es' (first_of es' j) (first_of es' (suc j)) (definition_on t j).members
-          are-go j h true p u =
+          are_go j h true p u =
               let g : j < i = ltb-true j i p in
-              rw (first-same j (omega arith), first-same (suc j) (omega arith))
-              (members_kept t book es es' (first_of es j) (first_of es (suc j)) (definition_on t j).members (old-same (first_of es j) (first_of es (suc j)) (w.order (suc j) (omega arith))) (w.are j g u))
-          are-go j h false p u =
+              rw (first_same j (omega arith), first_same (suc j) (omega arith))
+              (members_kept t book es es' (first_of es j) (first_of es (suc j)) (definition_on t j).members (old_same (first_of es j) (first_of es (suc j)) (w.order (suc j) (omega arith))) (w.are j g u))
+          are_go j h false p u =
               let g : i ≤ j = ltb-false j i p in
               let z : j ≡ i = omega arith in
               let v : has_types (definition_on t i).tag ≡ true = rw z at u in
               let y : suc i ≡ i + 1 = omega arith in
-              rw (z, first-same i (omega arith), w.here, y, first_next) (members_kept t book mid es' e f (definition_on t i).members (mid-same e f) (x.run v))
+              rw (z, first_same i (omega arith), w.here, y, first_next) (members_kept t book mid es' e f (definition_on t i).members (mid_same e f) (x.run v))

@@ -31,14 +31,14 @@ module _ {A : Type 0} (P : List ℕ → ℕ → A → Type 0) (weight : List A �
     pub filling_order : e ≤ k
     filling_order = run_order (P es) es e k w.done w.run
 
-    append-none : (xs : List A) → xs ++ [] ≡ xs
-    append-none [] = refl
-    append-none (x ∷ xs) = ap (λ (ys : List A). x ∷ ys) (append-none xs)
+    append_none : (xs : List A) → xs ++ [] ≡ xs
+    append_none [] = refl
+    append_none (x ∷ xs) = ap (λ (ys : List A). x ∷ ys) (append_none xs)
 
     pub filling_end : weight [] ≡ 0 → left ≡ [] → Written P weight old es e k all
     filling_end z n =
         let q : weight left ≡ 0 = ap weight n ∙ z in
-        let d : w.done ≡ all = sym (append-none w.done) ∙ ap (λ (xs : List A). w.done ++ xs) (sym n) ∙ sym w.all_are in
+        let d : w.done ≡ all = sym (append_none w.done) ∙ ap (λ (xs : List A). w.done ++ xs) (sym n) ∙ sym w.all_are in
         record {
           cells = w.cells;
           before = w.before;

@@ -44,11 +44,11 @@ module _ (t : List ℕ) (at end : ℕ) (w : end ≤ length t) where
       let f : at + 2 + 1 ≡ at + 3 = omega arith in
       rw (slice_next t at end (omega arith) w, slice_next t (at + 1) end (omega arith) w, e, slice_next t (at + 2) end (omega arith) w, f)
 
-  cut-one : at + 1 ≡ end → house_fields at (slice at end t) ≡ cut at ∷ []
-  cut-one e = ap (house_fields at) (slice_next t at end (omega arith) w ∙ ap (λ (l : List ℕ). get_or t at 0 ∷ l) (slice_none t (at + 1) end (omega arith) w)) ∙ pieces_one at (get_or t at 0)
+  cut_one : at + 1 ≡ end → house_fields at (slice at end t) ≡ cut at ∷ []
+  cut_one e = ap (house_fields at) (slice_next t at end (omega arith) w ∙ ap (λ (l : List ℕ). get_or t at 0 ∷ l) (slice_none t (at + 1) end (omega arith) w)) ∙ pieces_one at (get_or t at 0)
 
-  cut-two : at + 2 ≡ end → house_fields at (slice at end t) ≡ cut at ∷ []
-  cut-two e =
+  cut_two : at + 2 ≡ end → house_fields at (slice at end t) ≡ cut at ∷ []
+  cut_two e =
       let f : at + 1 + 1 ≡ at + 2 = omega arith in
       let q : slice at end t ≡ get_or t at 0 ∷ get_or t (at + 1) 0 ∷ [] = rw (slice_next t at end (omega arith) w, slice_next t (at + 1) end (omega arith) w, f, slice_none t (at + 2) end (omega arith) w) in
       ap (house_fields at) q ∙ pieces_two at (get_or t at 0) (get_or t (at + 1) 0)
@@ -71,8 +71,8 @@ module _ (t : List ℕ) (at end : ℕ) (w : end ≤ length t) where
 
       short : (n : ℕ) → end - at ≡ n → n < 3 → house_fields at (slice at end t) ≡ cut at ∷ []
       short zero e k = absurd (omega arith)
-      short (suc zero) e k = cut-one (omega arith)
-      short (suc (suc zero)) e k = cut-two (omega arith)
+      short (suc zero) e k = cut_one (omega arith)
+      short (suc (suc zero)) e k = cut_two (omega arith)
       short (suc (suc (suc n))) e k = absurd (omega arith)
 
       go : (b : Bool) → ltb (end - at) 3 ≡ b

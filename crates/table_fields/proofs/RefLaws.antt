@@ -122,9 +122,9 @@ name_yes b s e = rw (letter_goes b e, e, run_all (in_set letter_or_digit) s)
 
 -- What is read from `start` on, if the `[` end at `from`.
 module _ (t : List ℕ) (start end from : ℕ) (o : start ≤ end) (w : end ≤ length t) (q : from ≡ start + bracket_size (slice start end t)) where
-  ref-from : ref_of (slice start end t) ≡ whole_ref (closed_times (from - start) (read_name (slice from end t)))
+  ref_from_is : ref_of (slice start end t) ≡ whole_ref (closed_times (from - start) (read_name (slice from end t)))
   unfolding ref_of
-  ref-from =
+  ref_from_is =
       let k : from - start ≡ bracket_size (slice start end t) = omega arith in
       let e : drop (bracket_size (slice start end t)) (slice start end t) ≡ slice from end t = rw q (slice_drop t start end (bracket_size (slice start end t))) in
       ap whole_ref (brackets (length (slice start end t)) (slice start end t) (omega arith) ∙ rw (e, k))
@@ -132,15 +132,15 @@ module _ (t : List ℕ) (start end from : ℕ) (o : start ≤ end) (w : end ≤ 
   pub brackets_within : (start ≤ from) × (from ≤ end)
   brackets_within = (omega arith, omega (arith, first_at_most (λ b. not (eqb b byte_bracket_l)) (slice start end t), length-slice start end t w))
 
-  bad-none : read_name (slice from end t) ≡ no_reference → ref_of (slice start end t) ≡ none
+  bad_none : read_name (slice from end t) ≡ no_reference → ref_of (slice start end t) ≡ none
   unfolding whole_ref
-  bad-none e = ref-from ∙ ap whole_ref (ap (closed_times (from - start)) e ∙ closed_bad (from - start))
+  bad_none e = ref_from_is ∙ ap whole_ref (ap (closed_times (from - start)) e ∙ closed_bad (from - start))
 
   pub ref_none : end ≤ from → ref_of (slice start end t) ≡ none
-  ref_none h = bad-none (ap read_name (slice_none t from end h w) ∙ name_none)
+  ref_none h = bad_none (ap read_name (slice_none t from end h w) ∙ name_none)
 
   pub ref_no : from < end → in_set letter (get_or t from 0) ≡ false → ref_of (slice start end t) ≡ none
-  ref_no h e = bad-none (ap read_name (slice_next t from end h w) ∙ name_no (get_or t from 0) (slice (from + 1) end t) e)
+  ref_no h e = bad_none (ap read_name (slice_next t from end h w) ∙ name_no (get_or t from 0) (slice (from + 1) end t) e)
 
   module _ (to : ℕ) (h : from < end) (l : in_set letter (get_or t from 0) ≡ true) (z : to ≡ from + 1 + name_size (slice (from + 1) end t)) where
     pub to_order : (from < to) × (to ≤ end)
@@ -155,7 +155,7 @@ module _ (t : List ℕ) (start end from : ℕ) (o : start ≤ end) (w : end ≤ 
     ref_name =
         let n = name_size (slice (from + 1) end t) in
         sym
-        (ref-from
+        (ref_from_is
         ∙ ap (λ (x : ReadRef). whole_ref (closed_times (from - start) x))
         (ap read_name (slice_next t from end h w) ∙ name_yes (get_or t from 0) (slice (from + 1) end t) l ∙ rw (name_is, slice_drop t (from + 1) end n, ← z))
         ∙ (whole (slice to end t)).0 (from - start) (named (slice from to t)) refl)

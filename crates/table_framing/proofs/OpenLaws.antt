@@ -56,34 +56,34 @@ in_open m k (s ∷ ss) = go (eqb k (slot_tag s)) refl (leb m (rank (slot_tag s))
 
 -- what it is to rise: of the first slot, and of those behind it
 module _ (n : ℕ) (s : Slot) (ss : List Slot) (r : ranked n (s ∷ ss) ≡ true) where
-  first-rank : n ≤ rank (slot_tag s)
+  first_rank : n ≤ rank (slot_tag s)
   unfolding ranked
-  first-rank = leb-true n (rank (slot_tag s)) (and_left (leb n (rank (slot_tag s))) _ r)
+  first_rank = leb-true n (rank (slot_tag s)) (and_left (leb n (rank (slot_tag s))) _ r)
 
-  first-many : agrees (slot_many s) (is_many (slot_tag s)) ≡ true
+  first_many : agrees (slot_many s) (is_many (slot_tag s)) ≡ true
   unfolding ranked
-  first-many = and_left (agrees (slot_many s) (is_many (slot_tag s))) _ (and_right (leb n (rank (slot_tag s))) _ r)
+  first_many = and_left (agrees (slot_many s) (is_many (slot_tag s))) _ (and_right (leb n (rank (slot_tag s))) _ r)
 
-  rest-ranked : ranked (suc (rank (slot_tag s))) ss ≡ true
+  rest_ranked : ranked (suc (rank (slot_tag s))) ss ≡ true
   unfolding ranked
-  rest-ranked = and_right (agrees (slot_many s) (is_many (slot_tag s))) _ (and_right (leb n (rank (slot_tag s))) _ r)
+  rest_ranked = and_right (agrees (slot_many s) (is_many (slot_tag s))) _ (and_right (leb n (rank (slot_tag s))) _ r)
 
 -- slots that rise from n on are all of a rank from n on
 open_all : (m n : ℕ) (ss : List Slot) → m ≤ n → ranked n ss ≡ true → open_from m ss ≡ ss
 unfolding open_from
 open_all m n [] h r = refl
 open_all m n (s ∷ ss) h r =
-    let k = first-rank n s ss r in
-    rw (le-leb m (rank (slot_tag s)) (omega arith)) (ap (λ (l : List Slot). s ∷ l) (open_all m (suc (rank (slot_tag s))) ss (omega arith) (rest-ranked n s ss r)))
+    let k = first_rank n s ss r in
+    rw (le-leb m (rank (slot_tag s)) (omega arith)) (ap (λ (l : List Slot). s ∷ l) (open_all m (suc (rank (slot_tag s))) ss (omega arith) (rest_ranked n s ss r)))
 
 in_rank : (n k : ℕ) (ss : List Slot) → ranked n ss ≡ true → in_place k ss ≡ true → n ≤ rank k
 unfolding any_of
 in_rank n k [] r e = absurd (false≢true e)
-in_rank n k (s ∷ ss) r e = go (eqb k (slot_tag s)) refl (sym (in_cons k s ss) ∙ e) (λ q. in_rank (suc (rank (slot_tag s))) k ss (rest-ranked n s ss r) q)
+in_rank n k (s ∷ ss) r e = go (eqb k (slot_tag s)) refl (sym (in_cons k s ss) ∙ e) (λ q. in_rank (suc (rank (slot_tag s))) k ss (rest_ranked n s ss r) q)
   where
     go : (x : Bool) → eqb k (slot_tag s) ≡ x → eqb k (slot_tag s) || in_place k ss ≡ true → (in_place k ss ≡ true → suc (rank (slot_tag s)) ≤ rank k) → n ≤ rank k
-    go true q f ih = rw (eqb-true k (slot_tag s) q) (first-rank n s ss r)
-    go false q f ih = let h = ih (rw q at f) in let l = first-rank n s ss r in omega arith
+    go true q f ih = rw (eqb-true k (slot_tag s) q) (first_rank n s ss r)
+    go false q f ih = let h = ih (rw q at f) in let l = first_rank n s ss r in omega arith
 
 least_over : (k : ℕ) → rank k ≤ least_after k
 least_over k = go (is_many k)
@@ -96,10 +96,10 @@ at_first : (m n : ℕ) (s : Slot) (ss : List Slot) → ranked n (s ∷ ss) ≡ t
     → open_after (slot_tag s) (open_from m (s ∷ ss)) ≡ open_from (least_after (slot_tag s)) (s ∷ ss)
 at_first m n s ss r l =
     ap (open_after (slot_tag s)) (open_cons m s ss ∙ rw l (ap (λ (t : List Slot). s ∷ t) (open_all m (suc (rank (slot_tag s))) ss (let h = leb-true m (rank (slot_tag s)) l in omega arith) behind)))
-    ∙ after_cons (slot_tag s) s ss ∙ rw (eq-eqb (slot_tag s) (slot_tag s) refl) (go (slot_many s) (is_many (slot_tag s)) (first-many n s ss r))
+    ∙ after_cons (slot_tag s) s ss ∙ rw (eq-eqb (slot_tag s) (slot_tag s) refl) (go (slot_many s) (is_many (slot_tag s)) (first_many n s ss r))
   where
     behind : ranked (suc (rank (slot_tag s))) ss ≡ true
-    behind = rest-ranked n s ss r
+    behind = rest_ranked n s ss r
 
     go : (x y : Bool) → agrees x y ≡ true → cond x (s ∷ ss) ss ≡ open_from (cond y (rank (slot_tag s)) (rank (slot_tag s) + 1)) (s ∷ ss)
     go true true e = sym (open_cons (rank (slot_tag s)) s ss ∙ rw (le-leb (rank (slot_tag s)) (rank (slot_tag s)) (omega arith)) (ap (λ (t : List Slot). s ∷ t) (open_all (rank (slot_tag s)) (suc (rank (slot_tag s))) ss (omega arith) behind)))
@@ -122,12 +122,12 @@ pub open_after_is : (m n k : ℕ) (ss : List Slot) → ranked n ss ≡ true → 
     → open_after k (open_from m ss) ≡ open_from (least_after k) ss
 unfolding any_of
 open_after_is m n k [] r l e = absurd (false≢true e)
-open_after_is m n k (s ∷ ss) r l e = go (eqb k (slot_tag s)) refl (λ q. open_after_is m (suc (rank (slot_tag s))) k ss (rest-ranked n s ss r) l q)
+open_after_is m n k (s ∷ ss) r l e = go (eqb k (slot_tag s)) refl (λ q. open_after_is m (suc (rank (slot_tag s))) k ss (rest_ranked n s ss r) l q)
   where
     go : (x : Bool) → eqb k (slot_tag s) ≡ x → (in_place k ss ≡ true → open_after k (open_from m ss) ≡ open_from (least_after k) ss)
         → open_after k (open_from m (s ∷ ss)) ≡ open_from (least_after k) (s ∷ ss)
     go true q ih = let z = eqb-true k (slot_tag s) q in rw z (at_first m n s ss r (rw z at l))
-    go false q ih = let f : in_place k ss ≡ true = rw q at (sym (in_cons k s ss) ∙ e) in at_later m k s ss q (in_rank (suc (rank (slot_tag s))) k ss (rest-ranked n s ss r) f) (ih f)
+    go false q ih = let f : in_place k ss ≡ true = rw q at (sym (in_cons k s ss) ∙ e) in at_later m k s ss q (in_rank (suc (rank (slot_tag s))) k ss (rest_ranked n s ss r) f) (ih f)
 
 pub open_start : (ss : List Slot) → ss ≡ open_from 0 ss
 unfolding open_from

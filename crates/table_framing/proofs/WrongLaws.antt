@@ -170,9 +170,9 @@ module _ (t : List ℕ) (at tag end depth first second from to least i : ℕ) (w
           order = l.within;
         }
 
-  ordered-lacks : end ≤ i → (x y : Bool) → x ≡ any_of (tag_is first) all → y ≡ any_of (tag_is second) all
+  ordered_lacks : end ≤ i → (x y : Bool) → x ≡ any_of (tag_is first) all → y ≡ any_of (tag_is second) all
       → cond (not x || not y) (Wrong at) Right ≡ told (head? (wrongs depth at tag (slice (at + 3) end t)))
-  ordered-lacks h x y f g =
+  ordered_lacks h x y f g =
       let none_left : head? (in_order (wrongs (depth - 1)) slots all) ≡ none =
       sym o.rest ∙ ap (λ (ps : List HouseField). head? (in_order (wrongs (depth - 1)) open' ps)) (pieces_none t i end h w) ∙ ap head? (order_end (wrongs (depth - 1)) open') in
       let lack : not x || not y ≡ lacks_house_field slots all = rw (f, g) (sym (o.holder.dues all)) in
@@ -187,15 +187,15 @@ module _ (t : List ℕ) (at tag end depth first second from to least i : ℕ) (w
 
   -- the end of the fields: one that is due is missing, or none is
   pub ordered_first : end ≤ i → (x : Bool) → x ≡ any_of (tag_is first) all → x ≡ false → Wrong at ≡ told (head? (wrongs depth at tag (slice (at + 3) end t)))
-  ordered_first h x f e = ordered-lacks h false (any_of (tag_is second) all) (sym e ∙ f) refl
+  ordered_first h x f e = ordered_lacks h false (any_of (tag_is second) all) (sym e ∙ f) refl
 
   pub ordered_second : end ≤ i → (x y : Bool) → x ≡ any_of (tag_is first) all → x ≡ true → y ≡ any_of (tag_is second) all → y ≡ false
       → Wrong at ≡ told (head? (wrongs depth at tag (slice (at + 3) end t)))
-  ordered_second h x y f e g d = ordered-lacks h true false (sym e ∙ f) (sym d ∙ g)
+  ordered_second h x y f e g d = ordered_lacks h true false (sym e ∙ f) (sym d ∙ g)
 
   pub ordered_right : end ≤ i → (x y : Bool) → x ≡ any_of (tag_is first) all → x ≡ true → y ≡ any_of (tag_is second) all → y ≡ true
       → Right ≡ told (head? (wrongs depth at tag (slice (at + 3) end t)))
-  ordered_right h x y f e g d = ordered-lacks h true true (sym e ∙ f) (sym d ∙ g)
+  ordered_right h x y f e g d = ordered_lacks h true true (sym e ∙ f) (sym d ∙ g)
 
 -- A table up to the place i.
 pub record Framing (t : List ℕ) (roots : Bool) (i : ℕ) : Type 0 where
@@ -216,27 +216,27 @@ module _ (t : List ℕ) (roots : Bool) (i : ℕ) (o : Framing t roots i) where
   framing_torn h q = ap told (sym (table_cut roots i []) ∙ ap (λ (ps : List HouseField). head? (table_wrongs roots ps)) (sym (pieces_torn t i (length t) (le_refl (length t)) h q)) ∙ o.rest)
 
   module _ (h : i < length t) (k a e : ℕ) (q : field_at t i (length t) ≡ Field k a e) (r : Bool) (p : r ≡ record_in_place roots k) where
-    split-table : table_wrongs roots (house_fields i (slice i (length t) t)) ≡ table_wrongs roots (house_field i k (slice a e t) ∷ house_fields e (slice e (length t) t))
-    split-table = ap (table_wrongs roots) (pieces_read t i (length t) (le_refl (length t)) h k a e q)
+    split_table : table_wrongs roots (house_fields i (slice i (length t) t)) ≡ table_wrongs roots (house_field i k (slice a e t) ∷ house_fields e (slice e (length t) t))
+    split_table = ap (table_wrongs roots) (pieces_read t i (length t) (le_refl (length t)) h k a e q)
 
-    content-table : slice (i + 3) e t ≡ slice a e t
-    content-table = let l = field_lies t i (length t) k a e o.order q in rw l.begins
+    content_table : slice (i + 3) e t ≡ slice a e t
+    content_table = let l = field_lies t i (length t) k a e o.order q in rw l.begins
 
     pub framing_out : r ≡ false → Wrong i ≡ told (framing_offset t)
-    framing_out f = ap told (sym (table_out roots i k (slice a e t) (house_fields e (slice e (length t) t)) (sym p ∙ f)) ∙ sym (ap head? split-table) ∙ o.rest)
+    framing_out f = ap told (sym (table_out roots i k (slice a e t) (house_fields e (slice e (length t) t)) (sym p ∙ f)) ∙ sym (ap head? split_table) ∙ o.rest)
 
     pub framing_inside : r ≡ true → (x : Framed) (v : ℕ) → x ≡ told (head? (wrongs most_deep i k (slice (i + 3) e t))) → x ≡ Wrong v → x ≡ told (framing_offset t)
     framing_inside f x v g z =
-        let y : head? (wrongs most_deep i k (slice a e t)) ≡ some v = rw content-table at (told_wrong (head? (wrongs most_deep i k (slice (i + 3) e t))) v (sym g ∙ z)) in
-        z ∙ ap told (sym (table_inside roots i k (slice a e t) (house_fields e (slice e (length t) t)) v (sym p ∙ f) y) ∙ sym (ap head? split-table) ∙ o.rest)
+        let y : head? (wrongs most_deep i k (slice a e t)) ≡ some v = rw content_table at (told_wrong (head? (wrongs most_deep i k (slice (i + 3) e t))) v (sym g ∙ z)) in
+        z ∙ ap told (sym (table_inside roots i k (slice a e t) (house_fields e (slice e (length t) t)) v (sym p ∙ f) y) ∙ sym (ap head? split_table) ∙ o.rest)
 
     pub framing_on : r ≡ true → (x : Framed) → x ≡ told (head? (wrongs most_deep i k (slice (i + 3) e t))) → x ≡ Right → (b : Bool) → b ≡ roots_after roots k → Framing t b e
     framing_on f x g z b c =
-        let y : wrongs most_deep i k (slice a e t) ≡ [] = head_nil (wrongs most_deep i k (slice a e t)) (rw content-table at (told_right (head? (wrongs most_deep i k (slice (i + 3) e t))) (sym g ∙ z))) in
+        let y : wrongs most_deep i k (slice a e t) ≡ [] = head_nil (wrongs most_deep i k (slice a e t)) (rw content_table at (told_right (head? (wrongs most_deep i k (slice (i + 3) e t))) (sym g ∙ z))) in
         let l = field_lies t i (length t) k a e o.order q in
         record {
           rest =
               ap (λ (d : Bool). head? (table_wrongs d (house_fields e (slice e (length t) t)))) c
-              ∙ sym (ap head? (split-table ∙ table_on roots i k (slice a e t) (house_fields e (slice e (length t) t)) (sym p ∙ f) y)) ∙ o.rest;
+              ∙ sym (ap head? (split_table ∙ table_on roots i k (slice a e t) (house_fields e (slice e (length t) t)) (sym p ∙ f) y)) ∙ o.rest;
           order = l.within;
         }

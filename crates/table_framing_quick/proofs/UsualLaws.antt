@@ -98,19 +98,19 @@ module _ (t : List ℕ) (at tag end first from to least names rest i : ℕ) (w :
 
 -- A record whose fields are right, and the one that is due is there.
 module _ (at tag : ℕ) (s : List ℕ) (slots : List Slot) (c : content_of tag ≡ holds slots) where
-  wrongs-record : wrongs most_deep at tag s ≡ or_lacking at (lacks_house_field slots (house_fields_in at s)) (in_order (wrongs 3) slots (house_fields_in at s))
+  wrongs_record : wrongs most_deep at tag s ≡ or_lacking at (lacks_house_field slots (house_fields_in at s)) (in_order (wrongs 3) slots (house_fields_in at s))
   unfolding wrongs by_content
-  wrongs-record = rw c
+  wrongs_record = rw c
 
-  overs-record : overs most_deep at tag s ≡ overs_in (overs 3) (room_in tag) (house_fields_in at s)
+  overs_record : overs most_deep at tag s ≡ overs_in (overs 3) (room_in tag) (house_fields_in at s)
   unfolding overs overs_by
-  overs-record = rw c
+  overs_record = rw c
 
 pub fine_record : (at tag first from to : ℕ) (s : List ℕ) (x : Bool) → Holder tag first first from to → x ≡ any_of (tag_is first) (house_fields_in at s) → x ≡ true → Members at tag s
     → Fine most_deep at tag s
 fine_record at tag first from to s x a q e m = (
-  wrongs-record at tag s m.slots m.is ∙ ap (or_lacking at (lacks_house_field m.slots (house_fields_in at s))) m.ordered ∙ ap (λ (b : Bool). only_if b at) all_there,
-  overs-record at tag s m.slots m.is ∙ m.within,
+  wrongs_record at tag s m.slots m.is ∙ ap (or_lacking at (lacks_house_field m.slots (house_fields_in at s))) m.ordered ∙ ap (λ (b : Bool). only_if b at) all_there,
+  overs_record at tag s m.slots m.is ∙ m.within,
 )
   where
     there : any_of (tag_is first) (house_fields_in at s) ≡ true
@@ -147,12 +147,12 @@ module _ (t : List ℕ) (roots : Bool) (left i : ℕ) (o : Tabled t roots left i
   )
 
   module _ (h : i < length t) (k a e : ℕ) (q : field_at t i (length t) ≡ Field k a e) (r : Bool) (p : r ≡ record_in_place roots k) (f : r ≡ true) where
-    split-table : house_fields i (slice i (length t) t) ≡ house_field i k (slice (i + 3) e t) ∷ house_fields e (slice e (length t) t)
-    split-table = let l = field_lies t i (length t) k a e o.order q in pieces_read t i (length t) (le_refl (length t)) h k a e q ∙ rw l.begins
+    split_table : house_fields i (slice i (length t) t) ≡ house_field i k (slice (i + 3) e t) ∷ house_fields e (slice e (length t) t)
+    split_table = let l = field_lies t i (length t) k a e o.order q in pieces_read t i (length t) (le_refl (length t)) h k a e q ∙ rw l.begins
 
     -- such a tag is counted
-    is-counted : leb tag_scalar k && leb k tag_roots ≡ true
-    is-counted = go (leb tag_scalar k) (leb k tag_roots) (sym p ∙ f)
+    is_counted : leb tag_scalar k && leb k tag_roots ≡ true
+    is_counted = go (leb tag_scalar k) (leb k tag_roots) (sym p ∙ f)
       where
         go : (x y : Bool) → x && y && (not (eqb k tag_roots) || roots) ≡ true → x && y ≡ true
         go true true z = refl
@@ -164,15 +164,15 @@ module _ (t : List ℕ) (roots : Bool) (left i : ℕ) (o : Tabled t roots left i
     tabled_on n y b c = record {
       ordered =
           ap (λ (d : Bool). table_wrongs d (house_fields e (slice e (length t) t))) c
-          ∙ sym (ap (table_wrongs roots) split-table ∙ table_on roots i k (slice (i + 3) e t) (house_fields e (slice e (length t) t)) (sym p ∙ f) y.0) ∙ o.ordered;
+          ∙ sym (ap (table_wrongs roots) split_table ∙ table_on roots i k (slice (i + 3) e t) (house_fields e (slice e (length t) t)) (sym p ∙ f) y.0) ∙ o.ordered;
       within =
           ap (λ (rs : List Room). overs_in (overs most_deep) rs (house_fields e (slice e (length t) t))) (sym less)
-          ∙ sym (ap (overs_in (overs most_deep) rooms) split-table ∙ over_on (overs most_deep) rooms i k (slice (i + 3) e t) (house_fields e (slice e (length t) t)) room_left y.1) ∙ o.within;
+          ∙ sym (ap (overs_in (overs most_deep) rooms) split_table ∙ over_on (overs most_deep) rooms i k (slice (i + 3) e t) (house_fields e (slice e (length t) t)) room_left y.1) ∙ o.within;
       order = (field_lies t i (length t) k a e o.order q).within;
     }
       where
         room_left : any_of (is_over k) rooms ≡ false
-        room_left = rw (is-counted, ne_eqb left 0 n)
+        room_left = rw (is_counted, ne_eqb left 0 n)
 
         less : ◌≡◌ {A = List Room} (map (less_room k) rooms) (room tag_scalar tag_roots (left - 1) ∷ [])
-        less = rw (is-counted, pred_is left)
+        less = rw (is_counted, pred_is left)

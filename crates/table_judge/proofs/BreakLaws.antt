@@ -96,18 +96,18 @@ module _ (t : Table) (i : ℕ) (d : Definition) where
   skip : (k : ℕ) → InTurn t i d k → k ≤ 16 → rule_of k t i d ≡ [] → InTurn t i d (k + 1)
   skip k w h e = turn_on k w h Kept (sym (ap (λ (ps : List Place). placed (head? ps)) e)) refl
 
-  turn-clean : Sound t i d → InTurn t i d 4 → InTurn t i d 9
+  turn_clean : Sound t i d → InTurn t i d 4 → InTurn t i d 9
   unfolding rule_of early_rule
-  turn-clean s w =
+  turn_clean s w =
       let a = skip 4 w (omega arith) s.name_repeated_is in
       let b = skip 5 a (omega arith) s.reserved_member_is in
       let c = skip 6 b (omega arith) s.enum_value_is in
       let e = skip 7 c (omega arith) s.no_type_is in
       skip 8 e (omega arith) s.wrong_base_is
 
-  turn-kept : AllKept t i d → InTurn t i d 11 → InTurn t i d 16
+  turn_kept : AllKept t i d → InTurn t i d 11 → InTurn t i d 16
   unfolding rule_of late_rule promise_rule
-  turn-kept s w =
+  turn_kept s w =
       let a = skip 11 w (omega arith) s.field_missing in
       let b = skip 12 a (omega arith) s.field_type_is in
       let c = skip 13 b (omega arith) s.argument_missing in
@@ -116,8 +116,8 @@ module _ (t : Table) (i : ℕ) (d : Definition) where
 
   pub turn_next : (clean promising : Bool) (k r : ℕ) → InTurn t i d (k + 1) → (clean ≡ true → Sound t i d) → (promising ≡ false → AllKept t i d) → NextRule clean promising k r → InTurn t i d r
   turn_next clean promising k r w s a (inl e) = subst (InTurn t i d) (sym e) w
-  turn_next clean promising k r w s a (inr (inl e)) = subst (InTurn t i d) (sym e.2) (turn-clean (s e.1) (subst (λ (n : ℕ). InTurn t i d (n + 1)) e.0 w))
-  turn_next clean promising k r w s a (inr (inr e)) = subst (InTurn t i d) (sym e.2) (turn-kept (a e.1) (subst (λ (n : ℕ). InTurn t i d (n + 1)) e.0 w))
+  turn_next clean promising k r w s a (inr (inl e)) = subst (InTurn t i d) (sym e.2) (turn_clean (s e.1) (subst (λ (n : ℕ). InTurn t i d (n + 1)) e.0 w))
+  turn_next clean promising k r w s a (inr (inr e)) = subst (InTurn t i d) (sym e.2) (turn_kept (a e.1) (subst (λ (n : ℕ). InTurn t i d (n + 1)) e.0 w))
 
 pub turn_less : (clean promising : Bool) (k r : ℕ) → k ≤ 16 → NextRule clean promising k r → 17 - r < 17 - k
 turn_less clean promising k r h (inl e) = omega (arith, e)

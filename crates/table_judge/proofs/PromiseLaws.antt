@@ -20,15 +20,15 @@ use Rattle.table_judge.specs.Schema.{Checkable, Promising}
 use Rattle.table_judge.proofs.NumberLaws.{nothing_promised}
 
 module _ (t book : List ℕ) (k : Checkable t book) (i : ℕ) (h : i < count_in book) where
-  few-members : length (definition_on t i).members ≤ most_members
-  few-members = leb-true (length (definition_on t i).members) most_members (all_at few_members (blank_definition tag_nothing) (table_of t) k.few i (omega (arith, k.booked.count)))
+  few_members_is : length (definition_on t i).members ≤ most_members
+  few_members_is = leb-true (length (definition_on t i).members) most_members (all_at few_members (blank_definition tag_nothing) (table_of t) k.few i (omega (arith, k.booked.count)))
 
   module _ (s e : ℕ) (p : s ≡ start_in book i) (q : e ≡ end_in book i) where
     pub listable : (l : List ℕ) → length l ≡ book_size → Listable t l s e
     listable l c = record {
       bounds = bounds_entered t book k.booked i h s e p q;
       cells = c;
-      few = subst (λ (ms : List Member). length ms ≤ room) (sym (members_entered t book k.booked i h s e p q)) (omega (arith, few-members));
+      few = subst (λ (ms : List Member). length ms ≤ room) (sym (members_entered t book k.booked i h s e p q)) (omega (arith, few_members_is));
     }
 
     pub listed_at : (l : List ℕ) → Listed t l s e → Listed t l (start_in book i) (end_in book i)

@@ -42,8 +42,8 @@ entered_same t old book from end i m s e = record {
 
 -- what is behind the first i of a list: one more, or nothing
 module _ {A : Type 0} (xs : List A) (i : ℕ) where
-  left-none : i ≤ length xs → drop i xs ≡ [] → i ≡ length xs
-  left-none h e = let k : length (drop i xs) ≡ 0 = ap length e in omega (arith, k, length-drop i xs)
+  left_none : i ≤ length xs → drop i xs ≡ [] → i ≡ length xs
+  left_none h e = let k : length (drop i xs) ≡ 0 = ap length e in omega (arith, k, length-drop i xs)
 
   module _ (x : A) (ys : List A) (e : drop i xs ≡ x ∷ ys) where
     left_below : i < length xs
@@ -78,7 +78,7 @@ collecting_start t book from end l = record {
 
 module _ (t book : List ℕ) (from end at i : ℕ) (r : Collecting t book from end at i) where
   pub collecting_end : members_in t at end ≡ [] → Collected t book from end i
-  collecting_end e = record { cells = r.cells; count_is = left-none (members_in t from end) i r.count (r.rest ∙ e); entered = r.entered }
+  collecting_end e = record { cells = r.cells; count_is = left_none (members_in t from end) i r.count (r.rest ∙ e); entered = r.entered }
 
   module _ (tag start stop : ℕ) (f : First at end start stop (members_in t at end) (member_from t tag start stop) (members_in t stop end)) where
     next_is : drop i (members_in t from end) ≡ member_from t tag start stop ∷ members_in t stop end
@@ -123,8 +123,8 @@ module _ (t book : List ℕ) (from end n : ℕ) (r : Collected t book from end n
   counted_is : count_in counted ≡ n
   counted_is = get_or-set_same book cell_count n 0 (omega (arith, r.cells))
 
-  counted-entered : (j : ℕ) → j < n → Entered t counted from end j (member_on t from end j)
-  counted-entered j l =
+  counted_entered : (j : ℕ) → j < n → Entered t counted from end j (member_on t from end j)
+  counted_entered j l =
       let h : j < room = omega (arith, r.count_is) in
       entered_same t book counted from end j (member_on t from end j)
       (record {
@@ -140,21 +140,21 @@ module _ (t book : List ℕ) (from end n : ℕ) (r : Collected t book from end n
   counted_held = record {
     cells = length-set book cell_count n ∙ r.cells;
     most = omega (arith, counted_is, r.count_is);
-    within = λ j l. (counted-entered j (omega (arith, counted_is))).name_within;
+    within = λ j l. (counted_entered j (omega (arith, counted_is))).name_within;
   }
 
   pub listed_is : (linked : List ℕ) → Linked t counted linked → Listed t linked from end
   listed_is linked k = record {
     count = e ∙ r.count_is;
-    entered = λ j l. let m : j < n = omega (arith, e) in entered_same t counted linked from end j (member_on t from end j) (same-entry j (omega (arith, r.count_is))) (counted-entered j m);
+    entered = λ j l. let m : j < n = omega (arith, e) in entered_same t counted linked from end j (member_on t from end j) (same_entry j (omega (arith, r.count_is))) (counted_entered j m);
     indexed = k.indexed;
   }
     where
       e : count_in linked ≡ n
       e = count_kept t counted linked k.kept ∙ counted_is
 
-      same-entry : (j : ℕ) → j < room → SameEntry counted linked j
-      same-entry j l = record {
+      same_entry : (j : ℕ) → j < room → SameEntry counted linked j
+      same_entry j l = record {
         kind = k.kept.entries j (omega arith);
         name = k.kept.entries (cell_name + j) (omega arith);
         size = k.kept.entries (cell_size + j) (omega arith);
@@ -193,21 +193,21 @@ find_none p (x ∷ xs) h = go (p x) refl h (λ l. find_none p xs l)
     go false q l ih = let m : suc (length xs) ≤ suc (first_at p xs) = rw q at l in ih (omega arith)
 
 module _ (t book : List ℕ) (from end : ℕ) (b : Listed t book from end) (n : List ℕ) where
-  one-test : (i : ℕ) → i < count_in book → keyed 0 most_tag n (get_or (keys_of t book) i no_key) ≡ member_named n (member_on t from end i)
-  one-test i l =
+  one_test : (i : ℕ) → i < count_in book → keyed 0 most_tag n (get_or (keys_of t book) i no_key) ≡ member_named n (member_on t from end i)
+  one_test i l =
       let e = b.entered i l in
       ap (keyed 0 most_tag n) (keys_at t book i l)
       ∙ rw (le-leb 0 (get_or book i 0) (omega arith), le-leb (get_or book i 0) most_tag e.small, e.name)
 
-  listed-first : first_at (keyed 0 most_tag n) (keys_of t book) ≡ first_at (member_named n) (members_in t from end)
-  listed-first =
+  listed_first : first_at (keyed 0 most_tag n) (keys_of t book) ≡ first_at (member_named n) (members_in t from end)
+  listed_first =
       first_points (keyed 0 most_tag n) (member_named n) no_key (name_only tag_nothing []) (keys_of t book) (members_in t from end) (keys_count t book ∙ b.count)
-      (λ i l. one-test i (omega (arith, keys_count t book)))
+      (λ i l. one_test i (omega (arith, keys_count t book)))
 
   module _ {k : ℕ} (e : k ≡ first_at (keyed 0 most_tag n) (keys_of t book)) where
     pub listed_found : k < count_in book → Finds from end (start_in book k) (end_in book k) (find (member_named n) (members_in t from end)) (member_from t (get_or book k 0) (start_in book k) (end_in book k))
     listed_found l =
-        let f : first_at (member_named n) (members_in t from end) ≡ k = sym (e ∙ listed-first) in
+        let f : first_at (member_named n) (members_in t from end) ≡ k = sym (e ∙ listed_first) in
         record {
           lies = (b.entered k l).lies;
           is =
@@ -217,5 +217,5 @@ module _ (t book : List ℕ) (from end : ℕ) (b : Listed t book from end) (n : 
 
     pub listed_none : count_in book ≤ k → find (member_named n) (members_in t from end) ≡ none
     listed_none l =
-        let f : first_at (member_named n) (members_in t from end) ≡ k = sym (e ∙ listed-first) in
+        let f : first_at (member_named n) (members_in t from end) ≡ k = sym (e ∙ listed_first) in
         find_none (member_named n) (members_in t from end) (omega (arith, f, b.count))

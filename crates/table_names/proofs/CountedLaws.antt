@@ -9,14 +9,14 @@ use Rattle.paper_table.specs.Lists.{any_of}
 use Rattle.table_members.specs.Members.{First}
 
 module _ {A : Type 0} (p : A → Bool) where
-  any-zero : (xs : List A) → any_of p (take 0 xs) ≡ false
+  any_zero : (xs : List A) → any_of p (take 0 xs) ≡ false
   unfolding any_of
-  any-zero xs = refl
+  any_zero xs = refl
 
-  any-empty : (k : ℕ) → any_of p (take k []) ≡ false
+  any_empty : (k : ℕ) → any_of p (take k []) ≡ false
   unfolding any_of
-  any-empty zero = refl
-  any-empty (suc k) = refl
+  any_empty zero = refl
+  any_empty (suc k) = refl
 
   any_first : (k : ℕ) (x : A) (xs : List A) → 0 < k → any_of p (take k (x ∷ xs)) ≡ (p x || any_of p (take (k - 1) xs))
   unfolding any_of
@@ -33,10 +33,10 @@ counting_start p at end count all h = record { within = h; same = refl }
 
 module _ {A : Type 0} (p : A → Bool) (at end i count k : ℕ) (all left : List A) (w : Counting p at end i count k all left) where
   pub counting_none : left ≡ [] → false ≡ any_of p (take count all)
-  counting_none e = sym (w.same ∙ ap (λ (xs : List A). any_of p (take k xs)) e ∙ any-empty p k)
+  counting_none e = sym (w.same ∙ ap (λ (xs : List A). any_of p (take k xs)) e ∙ any_empty p k)
 
   pub counting_end : k ≤ 0 → false ≡ any_of p (take count all)
-  counting_end h = sym (w.same ∙ ap (λ (n : ℕ). any_of p (take n left)) (let e : k ≡ 0 = omega arith in e) ∙ any-zero p left)
+  counting_end h = sym (w.same ∙ ap (λ (n : ℕ). any_of p (take n left)) (let e : k ≡ 0 = omega arith in e) ∙ any_zero p left)
 
   module _ (start stop : ℕ) (one : A) (others : List A) (f : First i end start stop left one others) (h : 0 < k) where
     opened : any_of p (take count all) ≡ (p one || any_of p (take (k - 1) others))

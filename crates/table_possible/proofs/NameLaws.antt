@@ -84,20 +84,20 @@ pub inside_start : {A : Type 0} (at end : ℕ) (all : List A) → at ≤ end →
 inside_start at end all h = record { within = h; so = λ p e. e }
 
 module _ {A : Type 0} (at end i : ℕ) (all left : List A) (w : Inside at end i all left) (start stop : ℕ) (one : A) (others : List A) (f : First i end start stop left one others) where
-  any-one : (p : A → Bool) → p one ≡ true → any_of p (one ∷ others) ≡ true
+  any_one : (p : A → Bool) → p one ≡ true → any_of p (one ∷ others) ≡ true
   unfolding any_of
-  any-one p e = rw e
+  any_one p e = rw e
 
-  any-other : (p : A → Bool) → any_of p others ≡ true → any_of p (one ∷ others) ≡ true
+  any_other : (p : A → Bool) → any_of p others ≡ true → any_of p (one ∷ others) ≡ true
   unfolding any_of
-  any-other p e = rw e (or_true (p one))
+  any_other p e = rw e (or_true (p one))
     where
       or_true : (b : Bool) → b || true ≡ true
       or_true true = refl
       or_true false = refl
 
   pub inside_one : (p : A → Bool) → p one ≡ true → any_of p all ≡ true
-  inside_one p e = w.so p (ap (any_of p) f.all_are ∙ any-one p e)
+  inside_one p e = w.so p (ap (any_of p) f.all_are ∙ any_one p e)
 
   pub inside_on : Inside at end stop all others
-  inside_on = record { within = f.lies.within; so = λ p e. w.so p (ap (any_of p) f.all_are ∙ any-other p e) }
+  inside_on = record { within = f.lies.within; so = λ p e. w.so p (ap (any_of p) f.all_are ∙ any_other p e) }

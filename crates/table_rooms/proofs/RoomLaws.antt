@@ -103,12 +103,12 @@ apart k e = go (leb tag_implements k) refl (leb k tag_implements) refl e
 
 -- the rooms of a holder, by which of its counts a field is of
 module _ (names rest k : ℕ) where
-  record-over : (x y : Bool) → (x ≡ true → y ≡ false)
+  record_over : (x y : Bool) → (x ≡ true → y ≡ false)
       → x && eqb names 0 || (y && eqb rest 0 || false) ≡ ltb names (cond x 1 (cond y 2 0) % 2) || ltb rest (cond x 1 (cond y 2 0) / 2)
-  record-over true true f = let z : true ≡ false = f refl in cc
-  record-over true false f = rw (under_one names, under_none rest)
-  record-over false true f = rw (under_none names, under_one rest) (or_false (eqb rest 0))
-  record-over false false f = rw (under_none names, under_none rest)
+  record_over true true f = let z : true ≡ false = f refl in cc
+  record_over true false f = rw (under_one names, under_none rest)
+  record_over false true f = rw (under_none names, under_one rest) (or_false (eqb rest 0))
+  record_over false false f = rw (under_none names, under_none rest)
 
   field_over : (x : Bool) → x && eqb rest 0 || false ≡ ltb names (cond x 2 0 % 2) || ltb rest (cond x 2 0 / 2)
   field_over true = rw (under_none names, under_one rest) (or_false (eqb rest 0))
@@ -122,21 +122,21 @@ module _ (names rest k : ℕ) where
           → any_of (is_over k) (cond x (room tag_implements tag_implements names ∷ room tag_field tag_subscription_root rest ∷ []) (cond y (room tag_argument tag_argument rest ∷ []) [])) ≡
           ltb names (cond x (cond (between tag_implements tag_implements k) 1 (cond (between tag_field tag_subscription_root k) 2 0)) (cond y (cond (between tag_argument tag_argument k) 2 0) 0) % 2) ||
           ltb rest (cond x (cond (between tag_implements tag_implements k) 1 (cond (between tag_field tag_subscription_root k) 2 0)) (cond y (cond (between tag_argument tag_argument k) 2 0) 0) / 2)
-      go true y = record-over (between tag_implements tag_implements k) (between tag_field tag_subscription_root k) (λ e. apart k e)
+      go true y = record_over (between tag_implements tag_implements k) (between tag_field tag_subscription_root k) (λ e. apart k e)
       go false true = field_over (between tag_argument tag_argument k)
       go false false = rw (under_none names, under_none rest)
 
-  record-less : (x y : Bool) → (x ≡ true → y ≡ false)
+  record_less : (x y : Bool) → (x ≡ true → y ≡ false)
       → ◌≡◌ {A = List Room} (room tag_implements tag_implements (cond x (pred names) names) ∷ room tag_field tag_subscription_root (cond y (pred rest) rest) ∷ [])
       (room tag_implements tag_implements (names - cond x 1 (cond y 2 0) % 2) ∷ room tag_field tag_subscription_root (rest - cond x 1 (cond y 2 0) / 2) ∷ [])
-  record-less true true f = let z : true ≡ false = f refl in cc
-  record-less true false f = rw (pred_is names, less_none rest)
-  record-less false true f = rw (less_none names, pred_is rest)
-  record-less false false f = rw (less_none names, less_none rest)
+  record_less true true f = let z : true ≡ false = f refl in cc
+  record_less true false f = rw (pred_is names, less_none rest)
+  record_less false true f = rw (less_none names, pred_is rest)
+  record_less false false f = rw (less_none names, less_none rest)
 
-  field-less : (x : Bool) → ◌≡◌ {A = List Room} (room tag_argument tag_argument (cond x (pred rest) rest) ∷ []) (room tag_argument tag_argument (rest - cond x 2 0 / 2) ∷ [])
-  field-less true = rw (pred_is rest)
-  field-less false = rw (less_none rest)
+  field_less : (x : Bool) → ◌≡◌ {A = List Room} (room tag_argument tag_argument (cond x (pred rest) rest) ∷ []) (room tag_argument tag_argument (rest - cond x 2 0 / 2) ∷ [])
+  field_less true = rw (pred_is rest)
+  field_less false = rw (less_none rest)
 
   pub room_less : (holder n : ℕ) → n ≡ room_for holder k → map (less_room k) (rooms_of holder names rest) ≡ rooms_of holder (names - n % 2) (rest - n / 2)
   room_less holder n q = rw q (go (leb holder tag_roots) (eqb holder tag_field))
@@ -147,8 +147,8 @@ module _ (names rest k : ℕ) where
           (room tag_implements tag_implements (names - (cond x (cond (between tag_implements tag_implements k) 1 (cond (between tag_field tag_subscription_root k) 2 0)) (cond y (cond (between tag_argument tag_argument k) 2 0) 0) % 2)) ∷
           room tag_field tag_subscription_root (rest - (cond x (cond (between tag_implements tag_implements k) 1 (cond (between tag_field tag_subscription_root k) 2 0)) (cond y (cond (between tag_argument tag_argument k) 2 0) 0) / 2)) ∷ [])
           (cond y (room tag_argument tag_argument (rest - (cond x (cond (between tag_implements tag_implements k) 1 (cond (between tag_field tag_subscription_root k) 2 0)) (cond y (cond (between tag_argument tag_argument k) 2 0) 0) / 2)) ∷ []) [])
-      go true y = record-less (between tag_implements tag_implements k) (between tag_field tag_subscription_root k) (λ e. apart k e)
-      go false true = field-less (between tag_argument tag_argument k)
+      go true y = record_less (between tag_implements tag_implements k) (between tag_field tag_subscription_root k) (λ e. apart k e)
+      go false true = field_less (between tag_argument tag_argument k)
       go false false = refl
 
 pub room_start : (tag : ℕ) → rooms_of tag most_implemented (rest_room tag) ≡ room_in tag

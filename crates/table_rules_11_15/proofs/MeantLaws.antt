@@ -37,8 +37,8 @@ module _ (t book : List ℕ) (b : Booked t book) where
       go true q = ltb-true i (count_in book) q
       go false q = let z : kind_in book i ≡ 0 = rw q in absurd (omega (arith, e, z))
 
-  kind-tag : (i : ℕ) → i < count_in book → (definition_on t i).tag ≡ get_or book i 0
-  kind-tag i h = ap (λ (d : Definition). d.tag) (b.entered i h).is
+  kind_tag : (i : ℕ) → i < count_in book → (definition_on t i).tag ≡ get_or book i 0
+  kind_tag i h = ap (λ (d : Definition). d.tag) (b.entered i h).is
 
   module _ (ask : FieldBreaks) (n : List ℕ) (m k : ℕ) (w : NumberMeant t book n k) where
     pub meant_other : (kind_in book k ≡ tag_interface → ⊥) → Kept ≡ placed (head? (promised_by ask (table_of t) m n))
@@ -51,7 +51,7 @@ module _ (t book : List ℕ) (b : Booked t book) where
         go true q =
             let h = ltb-true k (count_in book) q in
             let z : kind_in book k ≡ get_or book k 0 = rw q in
-            let u : (meant (table_of t) n).tag ≡ get_or book k 0 = ap (λ (d : Definition). d.tag) (w.is h) ∙ kind-tag k h in
+            let u : (meant (table_of t) n).tag ≡ get_or book k 0 = ap (λ (d : Definition). d.tag) (w.is h) ∙ kind_tag k h in
             no (λ f. e (z ∙ sym u ∙ f))
         go false q = let l = w.none (ltb-false k (count_in book) q) in no (λ f. omega (arith, l, f))
 
@@ -60,7 +60,7 @@ module _ (t book : List ℕ) (b : Booked t book) where
         let h = kind_below k e in
         let q : meant (table_of t) n ≡ definition_on t k = w.is h in
         let z : kind_in book k ≡ get_or book k 0 = rw (lt-ltb k (count_in book) h) in
-        let u : (definition_on t k).tag ≡ tag_interface = kind-tag k h ∙ sym z ∙ e in
+        let u : (definition_on t k).tag ≡ tag_interface = kind_tag k h ∙ sym z ∙ e in
         rw (q, eq-eqb (definition_on t k).tag tag_interface u) (ap (each (ask m)) (entry_members k h))
 
   -- a definition of the table, by its content

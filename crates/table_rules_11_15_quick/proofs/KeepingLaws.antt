@@ -51,8 +51,8 @@ any_some : {A : Type 0} (p : A → Bool) (xs : List A) (x : A) → find p xs ≡
 any_some p xs x e = any_found p xs ∙ ap found e
 
 module _ (t : Table) (es : List Member) where
-  promised-none : (ask : FieldBreaks) → ((m p : ℕ) (f : Member) → FieldKept t es f → ask m p f ≡ []) → (i : ℕ) (ns : List (List ℕ)) → Every (NameKept t es) ns → each_from i (promised_by ask t) ns ≡ []
-  promised-none ask h i ns e = every_each (NameKept t es) (promised_by ask t) name i ns e
+  promised_none : (ask : FieldBreaks) → ((m p : ℕ) (f : Member) → FieldKept t es f → ask m p f ≡ []) → (i : ℕ) (ns : List (List ℕ)) → Every (NameKept t es) ns → each_from i (promised_by ask t) ns ≡ []
+  promised_none ask h i ns e = every_each (NameKept t es) (promised_by ask t) name i ns e
     where
       name : (m : ℕ) (n : List ℕ) → NameKept t es n → promised_by ask t m n ≡ []
       name m n k = go (is_interface (meant t n)) k
@@ -64,7 +64,7 @@ module _ (t : Table) (es : List Member) where
 module _ (t : Table) (i : ℕ) (d : Definition) (k : Every (NameKept t d.members) d.implements) where
   by : (ask : FieldBreaks) → ((m p : ℕ) (f : Member) → FieldKept t d.members f → ask m p f ≡ []) → promised ask t d ≡ []
   unfolding promised
-  by ask h = promised-none t d.members ask h 0 d.implements k
+  by ask h = promised_none t d.members ask h 0 d.implements k
 
   field_kept : interface_field_missing t i d ≡ []
   unfolding interface_field_missing
@@ -80,15 +80,15 @@ module _ (t : Table) (i : ℕ) (d : Definition) (k : Every (NameKept t d.members
       by (argument_breaks d) (λ m p f e. rw e.own_is (every_each (ArgumentKept e.own.arguments) (λ a x. cond (lacks_argument e.own x) (part_argument_at m p a ∷ []) [])
       (λ a x q. rw (any_some (argument_named x.name) e.own.arguments q.other q.other_is)) 0 f.arguments e.keeps.arguments))
 
-  argument-type-kept : argument_type t i d ≡ []
+  argument_type_kept : argument_type t i d ≡ []
   unfolding argument_type
-  argument-type-kept =
+  argument_type_kept =
       by (argument_type_breaks d) (λ m p f e. rw e.own_is (every_each (ArgumentKept e.own.arguments) (λ a x. if_any (find (argument_named x.name) e.own.arguments) (λ y. cond (types_differ x y) (part_argument_at m p a ∷ []) []))
       (λ a x q. rw (q.other_is, q.type_is)) 0 f.arguments e.keeps.arguments))
 
-  extra-kept : argument_extra t i d ≡ []
+  extra_kept : argument_extra t i d ≡ []
   unfolding argument_extra
-  extra-kept =
+  extra_kept =
       by (extra_breaks d) (λ m p f e. rw e.own_is (every_each (ExtraKept f.arguments) (λ a y. cond (is_extra f y) (part_argument_at m p a ∷ []) [])
       (λ a y q. rw q) 0 e.own.arguments e.keeps.extras))
 
@@ -97,8 +97,8 @@ module _ (t : Table) (i : ℕ) (d : Definition) (k : Every (NameKept t d.members
     field_missing = field_kept;
     field_type_is = type_kept;
     argument_missing = argument_kept;
-    argument_type_is = argument-type-kept;
-    argument_extra_is = extra-kept;
+    argument_type_is = argument_type_kept;
+    argument_extra_is = extra_kept;
   }
 
 -- what a walk at i knows: if all that is left is kept, all is
@@ -229,11 +229,11 @@ module _ (ys : List Argument) (at end i marks : ℕ) (all left : List Argument) 
     marked = λ j e. go j (bit_or_is marks (1 * 2 ^ k % 4294967296) j e);
   }
     where
-      named-one : any_of (argument_named (get_or ys k no_argument).name) all ≡ true
-      named-one = ap (λ (n : List ℕ). any_of (argument_named n) all) m.name_is ∙ inside_one at end i all left w.inside start stop one others f (argument_named one.name) (same_refl one.name)
+      named_one : any_of (argument_named (get_or ys k no_argument).name) all ≡ true
+      named_one = ap (λ (n : List ℕ). any_of (argument_named n) all) m.name_is ∙ inside_one at end i all left w.inside start stop one others f (argument_named one.name) (same_refl one.name)
 
       go : (j : ℕ) → (bit_of marks j ≡ 1) ⊎ (bit_of (1 * 2 ^ k % 4294967296) j ≡ 1) → any_of (argument_named (get_or ys j no_argument).name) all ≡ true
       go j (inl e) = w.marked j e
       go j (inr e) =
           let q : j ≡ k = lone k j (ap (λ (x : ℕ). bit_of x j) (sym (one_shifted k m.small)) ∙ e) in
-          rw q named-one
+          rw q named_one

@@ -31,10 +31,10 @@ module _ {A B : Type 0} where
   each_same f g h i [] = refl
   each_same f g h i (x ∷ xs) = rw (h i x) (ap (λ (ys : List B). g i x ++ ys) (each_same f g h (suc i) xs))
 
-  each-nothing : (f : ℕ → A → List B) → ((i : ℕ) (x : A) → f i x ≡ []) → (i : ℕ) (xs : List A) → each_from i f xs ≡ []
+  each_nothing : (f : ℕ → A → List B) → ((i : ℕ) (x : A) → f i x ≡ []) → (i : ℕ) (xs : List A) → each_from i f xs ≡ []
   unfolding each_from
-  each-nothing f h i [] = refl
-  each-nothing f h i (x ∷ xs) = rw (h i x) (each-nothing f h (suc i) xs)
+  each_nothing f h i [] = refl
+  each_nothing f h i (x ∷ xs) = rw (h i x) (each_nothing f h (suc i) xs)
 
 -- where no argument fails, the members alone are told
 members_only : (t : Table) (fails : ℕ → Member → Bool) (argument_fails : Member → ℕ → Argument → Bool) → ((e : Member) (a : ℕ) (x : Argument) → argument_fails e a x ≡ false)
@@ -42,7 +42,7 @@ members_only : (t : Table) (fails : ℕ → Member → Bool) (argument_fails : M
 members_only t fails argument_fails h ms = each_same (λ m e. only_if (fails m e) (member_at m)) (member_places fails argument_fails) at 0 ms
   where
     none_of : (m : ℕ) (e : Member) → argument_places argument_fails m e ≡ []
-    none_of m e = each-nothing (λ a x. only_if (argument_fails e a x) (argument_at m a)) (λ a x. rw (h e a x) refl) 0 e.arguments
+    none_of m e = each_nothing (λ a x. only_if (argument_fails e a x) (argument_at m a)) (λ a x. rw (h e a x) refl) 0 e.arguments
 
     at : (m : ℕ) (e : Member) → only_if (fails m e) (member_at m) ≡ member_places fails argument_fails m e
     at m e = sym (ap (λ (ps : List Place). ps ++ only_if (fails m e) (member_at m)) (none_of m e))

@@ -47,8 +47,8 @@ module _ (t : Table) (ms : List Member) (k : EveryFrom (MemberSound t ms) 0 ms) 
           let q : argument_places argument_fails m e ≡ [] = every_none (ArgumentSound t e.arguments) (λ a x. only_if (argument_fails e a x) (argument_at m a)) (λ a x y. only_none (argument_fails e a x) (argument_at m a) (g e a x y)) 0 e.arguments s.arguments in
           ap (λ (ps : List Place). ps ++ only_if (fails m e) (member_at m)) q ∙ only_none (fails m e) (member_at m) (h m e s)
 
-  values-none : each (λ m e. only_if (is_no_enum_value m e) (member_at m)) ms ≡ []
-  values-none = every_none (MemberSound t ms) (λ m e. only_if (is_no_enum_value m e) (member_at m)) (λ m e s. only_none (is_no_enum_value m e) (member_at m) s.value) 0 ms k
+  values_none : each (λ m e. only_if (is_no_enum_value m e) (member_at m)) ms ≡ []
+  values_none = every_none (MemberSound t ms) (λ m e. only_if (is_no_enum_value m e) (member_at m)) (λ m e s. only_none (is_no_enum_value m e) (member_at m) s.value) 0 ms k
 
 if_none : (b : Bool) (ps : List Place) → ps ≡ [] → cond b ps [] ≡ []
 if_none true ps e = e
@@ -63,7 +63,7 @@ unfolding name_repeated reserved_member enum_value no_type wrong_base
 all_sound t i d k = record {
   name_repeated_is = unless_none (is_roots d) _ (members_none t d.members k (member_repeats d) argument_repeats (λ m e s. s.first) (λ e a x s. s.first));
   reserved_member_is = if_none (is_object d || is_interface d) _ (members_none t d.members k member_reserved argument_reserved (λ m e s. s.own) (λ e a x s. s.own));
-  enum_value_is = if_none (is_enum d) _ (values-none t d.members k);
+  enum_value_is = if_none (is_enum d) _ (values_none t d.members k);
   no_type_is = members_none t d.members k (member_type_unknown t) (argument_type_unknown t) (λ m e s. s.base.known) (λ e a x s. s.known);
   wrong_base_is = members_none t d.members k (member_base_wrong t) (argument_base_wrong t) (λ m e s. s.base.right) (λ e a x s. s.input);
 }
@@ -112,12 +112,12 @@ module _ (t : List ℕ) (at n : ℕ) (w : at + n ≤ length t) where
   cell_none e = sym (rw (length_part t at n w, eq-eqb n 0 e) refl)
 
   module _ (z : n ≡ 0 → ⊥) (first : ℕ) (f : first ≡ get_or t at 0) where
-    first-is : get_or (part t at n) 0 0 ≡ first
-    first-is = part_at t at n 0 (omega (arith, z)) ∙ ap (λ (j : ℕ). get_or t j 0) (let e : at + 0 ≡ at = omega arith in e) ∙ sym f
+    first_is : get_or (part t at n) 0 0 ≡ first
+    first_is = part_at t at n 0 (omega (arith, z)) ∙ ap (λ (j : ℕ). get_or t j 0) (let e : at + 0 ≡ at = omega arith in e) ∙ sym f
 
     pub cell_one : n ≡ 1 → first % cells ≡ cell_of (part t at n)
     unfolding cell_of
-    cell_one e = sym (rw (length_part t at n w, ne_eqb n 0 z, eq-eqb n 1 e, first-is) refl)
+    cell_one e = sym (rw (length_part t at n w, ne_eqb n 0 z, eq-eqb n 1 e, first_is) refl)
 
     module _ (o : n ≡ 1 → ⊥) (x y : ℕ) (g : x ≡ get_or t (at + n - 2) 0) (h : y ≡ get_or t (at + n - 1) 0) where
       abbrev ends : ℕ
@@ -126,19 +126,19 @@ module _ (t : List ℕ) (at n : ℕ) (w : at + n ≤ length t) where
       second_is : get_or (part t at n) (n - 2) 0 ≡ x
       second_is = part_at t at n (n - 2) (omega (arith, z, o)) ∙ ap (λ (j : ℕ). get_or t j 0) (let e : at + (n - 2) ≡ at + n - 2 = omega (arith, z, o) in e) ∙ sym g
 
-      last-is : get_or (part t at n) (n - 1) 0 ≡ y
-      last-is = part_at t at n (n - 1) (omega (arith, z)) ∙ ap (λ (j : ℕ). get_or t j 0) (let e : at + (n - 1) ≡ at + n - 1 = omega (arith, z) in e) ∙ sym h
+      last_is : get_or (part t at n) (n - 1) 0 ≡ y
+      last_is = part_at t at n (n - 1) (omega (arith, z)) ∙ ap (λ (j : ℕ). get_or t j 0) (let e : at + (n - 1) ≡ at + n - 1 = omega (arith, z) in e) ∙ sym h
 
       pub cell_short : n < long → ends % cells ≡ cell_of (part t at n)
       unfolding cell_of
-      cell_short l = sym (rw (length_part t at n w, ne_eqb n 0 z, ne_eqb n 1 o, lt-ltb n long l, first-is, second_is, last-is) refl)
+      cell_short l = sym (rw (length_part t at n w, ne_eqb n 0 z, ne_eqb n 1 o, lt-ltb n long l, first_is, second_is, last_is) refl)
 
       pub cell_long : long ≤ n → (v : ℕ) → v ≡ tail_at t (at + n - long) → (ends + v) % cells ≡ cell_of (part t at n)
       unfolding cell_of
-      cell_long l v e = sym (rw (length_part t at n w, ne_eqb n 0 z, ne_eqb n 1 o, le-ltb n long l, first-is, second_is, last-is, sixth-is, by 1 (omega arith), by 2 (omega arith), by 3 (omega arith)) (ap (λ (k : ℕ). (ends + k) % cells) (sym e)))
+      cell_long l v e = sym (rw (length_part t at n w, ne_eqb n 0 z, ne_eqb n 1 o, le-ltb n long l, first_is, second_is, last_is, sixth_is, by 1 (omega arith), by 2 (omega arith), by 3 (omega arith)) (ap (λ (k : ℕ). (ends + k) % cells) (sym e)))
         where
-          sixth-is : get_or (part t at n) (n - 6) 0 ≡ get_or t (at + n - 6) 0
-          sixth-is = part_at t at n (n - 6) (omega arith) ∙ ap (λ (k : ℕ). get_or t k 0) (let r : at + (n - 6) ≡ at + n - 6 = omega arith in r)
+          sixth_is : get_or (part t at n) (n - 6) 0 ≡ get_or t (at + n - 6) 0
+          sixth_is = part_at t at n (n - 6) (omega arith) ∙ ap (λ (k : ℕ). get_or t k 0) (let r : at + (n - 6) ≡ at + n - 6 = omega arith in r)
 
           by : (j : ℕ) → j < 4 → get_or (part t at n) (n - 6 + j) 0 ≡ get_or t (at + n - 6 + j) 0
           by j q = part_at t at n (n - 6 + j) (omega arith) ∙ ap (λ (k : ℕ). get_or t k 0) (let r : at + (n - 6 + j) ≡ at + n - 6 + j = omega arith in r)
@@ -165,19 +165,19 @@ module _ (old : List ℕ) (mark : ℕ) (n : List ℕ) (k : ℕ) (e : k ≡ cell_
 
 -- what is told of a name by its note: no one before has it
 module _ {A : Type 0} (name : A → List ℕ) (xs : List A) (m : ℕ) (n old new : List ℕ) (mark : ℕ) where
-  onward-by : {r : Bool} → Noted old new mark n r → Seen name xs m old mark → Onward name xs m n new mark
-  onward-by k s y (inl e) = k.kept (cell_of y) (s y e)
-  onward-by k s y (inr e) = rw e k.here
+  onward_by : {r : Bool} → Noted old new mark n r → Seen name xs m old mark → Onward name xs m n new mark
+  onward_by k s y (inl e) = k.kept (cell_of y) (s y e)
+  onward_by k s y (inr e) = rw e k.here
 
   pub told_new : {r : Bool} → Noted old new mark n r → r ≡ false → Told name (Before name xs m n ≡ false) xs m n old new mark true
-  told_new k e = record { size = k.size; so = λ s z. go s (Before name xs m n) refl; onward = λ s z. onward-by k s }
+  told_new k e = record { size = k.size; so = λ s z. go s (Before name xs m n) refl; onward = λ s z. onward_by k s }
     where
       go : Seen name xs m old mark → (b : Bool) → Before name xs m n ≡ b → Before name xs m n ≡ false
       go s true q = absurd (k.told e (s n q))
       go s false q = q
 
   pub told_asked : {r b : Bool} → Noted old new mark n r → b ≡ Before name xs m n → Told name (Before name xs m n ≡ false) xs m n old new mark (not b)
-  told_asked {b = b} k e = record { size = k.size; so = λ s z. sym e ∙ not-true b z; onward = λ s z. onward-by k s }
+  told_asked {b = b} k e = record { size = k.size; so = λ s z. sym e ∙ not-true b z; onward = λ s z. onward_by k s }
 
   pub told_refused : (P : Type 0) → length new ≡ cells → Told name P xs m n old new mark false
   told_refused P e = record { size = e; so = λ s z. absurd (false≢true z); onward = λ s z. absurd (false≢true z) }
@@ -191,14 +191,14 @@ module _ {A : Type 0} (name : A → List ℕ) (xs : List A) (m : ℕ) (n old new
 
 -- one of the first m and the next
 module _ {A : Type 0} (p : A → Bool) where
-  any-join : (xs : List A) (x : A) → any_of p (xs ++ x ∷ []) ≡ true → (any_of p xs ≡ true) ⊎ (p x ≡ true)
+  any_join : (xs : List A) (x : A) → any_of p (xs ++ x ∷ []) ≡ true → (any_of p xs ≡ true) ⊎ (p x ≡ true)
   unfolding any_of
-  any-join [] x e = inr (alone (p x) e)
+  any_join [] x e = inr (alone (p x) e)
     where
       alone : (b : Bool) → b || false ≡ true → b ≡ true
       alone true q = refl
       alone false q = q
-  any-join (y ∷ ys) x e = go (p y) e (any-join ys x)
+  any_join (y ∷ ys) x e = go (p y) e (any_join ys x)
     where
       go : (b : Bool) → b || any_of p (ys ++ x ∷ []) ≡ true → (any_of p (ys ++ x ∷ []) ≡ true → (any_of p ys ≡ true) ⊎ (p x ≡ true)) → (b || any_of p ys ≡ true) ⊎ (p x ≡ true)
       go true q f = inl refl
@@ -235,7 +235,7 @@ module _ {A : Type 0} (name : A → List ℕ) (P : ℕ → A → Type 0) where
         within = f.lies.within;
         size = k.size;
         behind = sym (drop-drop 1 m all) ∙ ap (drop 1) here;
-        noted = λ n q. k.onward w.noted e n (named n (any-join (λ x. same (name x) n) (take m all) one (ap (any_of (λ x. same (name x) n)) (sym first_more) ∙ q)));
+        noted = λ n q. k.onward w.noted e n (named n (any_join (λ x. same (name x) n) (take m all) one (ap (any_of (λ x. same (name x) n)) (sym first_more) ∙ q)));
         so = λ q. w.so (subst (EveryFrom P m) (sym f.all_are) (k.so w.noted e, subst (λ (j : ℕ). EveryFrom P j others) (let z : m + 1 ≡ suc m = omega arith in z) q));
       }
         where

@@ -169,43 +169,43 @@ module _ (t : List ℕ) (left i : ℕ) (o : Recording t left i) where
     abbrev rooms : List Room
     rooms = room tag_scalar tag_roots left ∷ []
 
-    split-table : overs_in (overs most_deep) rooms (house_fields i (slice i (length t) t)) ≡ overs_in (overs most_deep) rooms (house_field i k (slice a e t) ∷ house_fields e (slice e (length t) t))
-    split-table = ap (overs_in (overs most_deep) rooms) (pieces_read t i (length t) (le_refl (length t)) h k a e q)
+    split_table : overs_in (overs most_deep) rooms (house_fields i (slice i (length t) t)) ≡ overs_in (overs most_deep) rooms (house_field i k (slice a e t) ∷ house_fields e (slice e (length t) t))
+    split_table = ap (overs_in (overs most_deep) rooms) (pieces_read t i (length t) (le_refl (length t)) h k a e q)
 
-    content-table : slice (i + 3) e t ≡ slice a e t
-    content-table = let l = field_lies t i (length t) k a e o.order q in rw l.begins
+    content_table : slice (i + 3) e t ≡ slice a e t
+    content_table = let l = field_lies t i (length t) k a e o.order q in rw l.begins
 
-    full-table : (b : Bool) → ltb left n ≡ b → any_of (is_over k) rooms ≡ b
+    full_table : (b : Bool) → ltb left n ≡ b → any_of (is_over k) rooms ≡ b
     unfolding any_of
-    full-table b f = go (between tag_scalar tag_roots k) ∙ rw (← p) f
+    full_table b f = go (between tag_scalar tag_roots k) ∙ rw (← p) f
       where
         go : (x : Bool) → x && eqb left 0 || false ≡ ltb left (cond x 1 0)
         go true = or_false (eqb left 0) ∙ sym (under_one left)
         go false = sym (under_none left)
 
-    less-table : ◌≡◌ {A = List Room} (map (less_room k) rooms) (room tag_scalar tag_roots (left - n) ∷ [])
-    less-table = rw p (go (between tag_scalar tag_roots k))
+    less_table : ◌≡◌ {A = List Room} (map (less_room k) rooms) (room tag_scalar tag_roots (left - n) ∷ [])
+    less_table = rw p (go (between tag_scalar tag_roots k))
       where
         go : (x : Bool) → ◌≡◌ {A = List Room} (room tag_scalar tag_roots (cond x (pred left) left) ∷ []) (room tag_scalar tag_roots (left - cond x 1 0) ∷ [])
         go true = rw (pred_is left)
         go false = rw (less_none left)
 
     pub recording_over : left < n → Over i ≡ told_over (counts_offset t)
-    recording_over l = ap told_over (sym (over_here (overs most_deep) rooms i k (slice a e t) (house_fields e (slice e (length t) t)) (full-table true (lt-ltb left n l))) ∙ sym (ap head? split-table) ∙ o.rest)
+    recording_over l = ap told_over (sym (over_here (overs most_deep) rooms i k (slice a e t) (house_fields e (slice e (length t) t)) (full_table true (lt-ltb left n l))) ∙ sym (ap head? split_table) ∙ o.rest)
 
     module _ (l : n ≤ left) where
       pub recording_inside : (x : Counted) (v : ℕ) → x ≡ told_over (head? (overs most_deep i k (slice (i + 3) e t))) → x ≡ Over v → x ≡ told_over (counts_offset t)
       recording_inside x v g z =
-          let y : head? (overs most_deep i k (slice a e t)) ≡ some v = rw content-table at (told_over_is (head? (overs most_deep i k (slice (i + 3) e t))) v (sym g ∙ z)) in
-          z ∙ ap told_over (sym (over_inside (overs most_deep) rooms i k (slice a e t) (house_fields e (slice e (length t) t)) v (full-table false (le-ltb left n l)) y) ∙ sym (ap head? split-table) ∙ o.rest)
+          let y : head? (overs most_deep i k (slice a e t)) ≡ some v = rw content_table at (told_over_is (head? (overs most_deep i k (slice (i + 3) e t))) v (sym g ∙ z)) in
+          z ∙ ap told_over (sym (over_inside (overs most_deep) rooms i k (slice a e t) (house_fields e (slice e (length t) t)) v (full_table false (le-ltb left n l)) y) ∙ sym (ap head? split_table) ∙ o.rest)
 
       pub recording_on : (x : Counted) → x ≡ told_over (head? (overs most_deep i k (slice (i + 3) e t))) → x ≡ Within → Recording t (left - n) e
       recording_on x g z =
-          let y : overs most_deep i k (slice a e t) ≡ [] = head_nil (overs most_deep i k (slice a e t)) (rw content-table at (told_within (head? (overs most_deep i k (slice (i + 3) e t))) (sym g ∙ z))) in
+          let y : overs most_deep i k (slice a e t) ≡ [] = head_nil (overs most_deep i k (slice a e t)) (rw content_table at (told_within (head? (overs most_deep i k (slice (i + 3) e t))) (sym g ∙ z))) in
           let f = field_lies t i (length t) k a e o.order q in
           record {
             rest =
-                ap (λ (rs : List Room). head? (overs_in (overs most_deep) rs (house_fields e (slice e (length t) t)))) (sym less-table)
-                ∙ sym (ap head? (split-table ∙ over_on (overs most_deep) rooms i k (slice a e t) (house_fields e (slice e (length t) t)) (full-table false (le-ltb left n l)) y)) ∙ o.rest;
+                ap (λ (rs : List Room). head? (overs_in (overs most_deep) rs (house_fields e (slice e (length t) t)))) (sym less_table)
+                ∙ sym (ap head? (split_table ∙ over_on (overs most_deep) rooms i k (slice a e t) (house_fields e (slice e (length t) t)) (full_table false (le-ltb left n l)) y)) ∙ o.rest;
             order = f.within;
           }

@@ -50,11 +50,11 @@ module _ (inner : Offsets) (rooms : List Room) (at tag : ℕ) (s : List ℕ) (ps
   not_over : any_of (is_over tag) rooms ≡ false
   not_over = only_none (any_of (is_over tag) rooms) at (no_left here (inner at tag s ++ behind) split)
 
-  inner-fits : inner at tag s ≡ []
-  inner-fits = no_left (inner at tag s) behind (no_right here (inner at tag s ++ behind) split)
+  inner_fits : inner at tag s ≡ []
+  inner_fits = no_left (inner at tag s) behind (no_right here (inner at tag s ++ behind) split)
 
-  rest-fits : overs_in inner (map (less_room tag) rooms) ps ≡ []
-  rest-fits = no_right (inner at tag s) behind (no_right here (inner at tag s ++ behind) split)
+  rest_fits : overs_in inner (map (less_room tag) rooms) ps ≡ []
+  rest_fits = no_right (inner at tag s) behind (no_right here (inner at tag s ++ behind) split)
 
 cut_fits : (inner : Offsets) (rooms : List Room) (at : ℕ) (ps : List HouseField) → overs_in inner rooms (cut at ∷ ps) ≡ [] → overs_in inner rooms ps ≡ []
 unfolding overs_in
@@ -98,12 +98,12 @@ text_marks : (d : ℕ) (rooms : List Room) (ps : List HouseField) → overs_in (
 unfolding text_of marks_in
 text_marks d rooms [] e = omega arith
 text_marks d rooms (cut at ∷ ps) e = text_marks d rooms ps (cut_fits (overs (suc d)) rooms at ps e)
-text_marks d rooms (house_field at tag s ∷ ps) e = go (eqb tag tag_reference) refl (text_marks d (map (less_room tag) rooms) ps (rest-fits (overs (suc d)) rooms at tag s ps e))
+text_marks d rooms (house_field at tag s ∷ ps) e = go (eqb tag tag_reference) refl (text_marks d (map (less_room tag) rooms) ps (rest_fits (overs (suc d)) rooms at tag s ps e))
   where
     go : (b : Bool) → eqb tag tag_reference ≡ b → marks_in (text_of tag_reference ps) ≤ most_wrappers → marks_in (cond b s (text_of tag_reference ps)) ≤ most_wrappers
     go true q ih =
         let k : tag ≡ tag_reference = eqb-true tag tag_reference q in
-        let f : overs (suc d) at tag_reference s ≡ [] = ap (λ (x : ℕ). overs (suc d) at x s) (sym k) ∙ inner-fits (overs (suc d)) rooms at tag s ps e in
+        let f : overs (suc d) at tag_reference s ≡ [] = ap (λ (x : ℕ). overs (suc d) at x s) (sym k) ∙ inner_fits (overs (suc d)) rooms at tag s ps e in
         over_none most_wrappers (at + 3) s (ap head? (sym (reference_overs d at s) ∙ f))
     go false q ih = ih
 
@@ -115,12 +115,12 @@ unfolding gather all_of
 arguments_slim d rooms [] e = refl
 arguments_slim d rooms (cut at ∷ ps) e = arguments_slim d rooms ps (cut_fits (overs (suc (suc d))) rooms at ps e)
 arguments_slim d rooms (house_field at tag s ∷ ps) e =
-    go (eqb tag tag_argument) refl (arguments_slim d (map (less_room tag) rooms) ps (rest-fits (overs (suc (suc d))) rooms at tag s ps e))
+    go (eqb tag tag_argument) refl (arguments_slim d (map (less_room tag) rooms) ps (rest_fits (overs (suc (suc d))) rooms at tag s ps e))
   where
     go : (b : Bool) → eqb tag tag_argument ≡ b → all_of slim_argument (gather argument_of ps) ≡ true → all_of slim_argument (only_if b (argument_in at s) ++ gather argument_of ps) ≡ true
     go true q ih =
         let k : tag ≡ tag_argument = eqb-true tag tag_argument q in
-        let f : overs (suc (suc d)) at tag_argument s ≡ [] = ap (λ (x : ℕ). overs (suc (suc d)) at x s) (sym k) ∙ inner-fits (overs (suc (suc d))) rooms at tag s ps e in
+        let f : overs (suc (suc d)) at tag_argument s ≡ [] = ap (λ (x : ℕ). overs (suc (suc d)) at x s) (sym k) ∙ inner_fits (overs (suc (suc d))) rooms at tag s ps e in
         rw (type_slim d (room_in tag_argument) (house_fields_in at s) (sym (argument_overs (suc d) at s) ∙ f)) ih
     go false q ih = ih
 
@@ -130,10 +130,10 @@ members_slim d rooms [] e = refl
 members_slim d rooms (cut at ∷ ps) e = members_slim d rooms ps (cut_fits (overs (suc (suc (suc d)))) rooms at ps e)
 members_slim d rooms (house_field at tag s ∷ ps) e =
     go (eqb tag tag_field) refl (eqb tag tag_argument) refl (leb tag_union_member tag)
-    (members_slim d (map (less_room tag) rooms) ps (rest-fits (overs (suc (suc (suc d)))) rooms at tag s ps e))
+    (members_slim d (map (less_room tag) rooms) ps (rest_fits (overs (suc (suc (suc d)))) rooms at tag s ps e))
   where
     fits : overs (suc (suc (suc d))) at tag s ≡ []
-    fits = inner-fits (overs (suc (suc (suc d)))) rooms at tag s ps e
+    fits = inner_fits (overs (suc (suc (suc d)))) rooms at tag s ps e
 
     go : (b : Bool) → eqb tag tag_field ≡ b → (c : Bool) → eqb tag tag_argument ≡ c → (u : Bool) → all_of slim_member (gather member_of ps) ≡ true
         → all_of slim_member (cond b (field_in at s ∷ []) (cond c (input_in at s ∷ []) (only_if u (name_only tag s))) ++ gather member_of ps) ≡ true
@@ -150,27 +150,27 @@ members_slim d rooms (house_field at tag s ∷ ps) e =
 
 -- The records of a table with right framing: 1 to 8.
 module _ (roots : Bool) (at tag : ℕ) (s : List ℕ) (ps : List HouseField) (e : table_wrongs roots (house_field at tag s ∷ ps) ≡ []) where
-  wrongs-split : cond (record_in_place roots tag) (wrongs most_deep at tag s) (at ∷ []) ++ table_wrongs (roots && not (eqb tag tag_roots)) ps ≡ []
+  wrongs_split : cond (record_in_place roots tag) (wrongs most_deep at tag s) (at ∷ []) ++ table_wrongs (roots && not (eqb tag tag_roots)) ps ≡ []
   unfolding table_wrongs
-  wrongs-split = e
+  wrongs_split = e
 
-  record-in : (record_in_place roots tag ≡ true) × (wrongs most_deep at tag s ≡ [])
-  record-in = go (record_in_place roots tag) refl (no_left (cond (record_in_place roots tag) (wrongs most_deep at tag s) (at ∷ [])) (table_wrongs (roots && not (eqb tag tag_roots)) ps) wrongs-split)
+  record_in : (record_in_place roots tag ≡ true) × (wrongs most_deep at tag s ≡ [])
+  record_in = go (record_in_place roots tag) refl (no_left (cond (record_in_place roots tag) (wrongs most_deep at tag s) (at ∷ [])) (table_wrongs (roots && not (eqb tag tag_roots)) ps) wrongs_split)
     where
       go : (b : Bool) → record_in_place roots tag ≡ b → cond b (wrongs most_deep at tag s) (at ∷ []) ≡ [] → (record_in_place roots tag ≡ true) × (wrongs most_deep at tag s ≡ [])
       go true q f = (q, f)
       go false q f = let k : length (at ∷ []) ≡ 0 = ap length f in absurd (omega arith)
 
-  record-tag : (tag_scalar ≤ tag) × (tag ≤ tag_roots)
-  record-tag = go (leb tag_scalar tag) refl (leb tag tag_roots) refl record-in.0
+  record_tag : (tag_scalar ≤ tag) × (tag ≤ tag_roots)
+  record_tag = go (leb tag_scalar tag) refl (leb tag tag_roots) refl record_in.0
     where
       go : (b : Bool) → leb tag_scalar tag ≡ b → (c : Bool) → leb tag tag_roots ≡ c → b && c && (not (eqb tag tag_roots) || roots) ≡ true → (tag_scalar ≤ tag) × (tag ≤ tag_roots)
       go true p true q h = (leb-true tag_scalar tag p, leb-true tag tag_roots q)
       go true p false q h = absurd (false≢true h)
       go false p c q h = absurd (false≢true h)
 
-  others-right : table_wrongs (roots && not (eqb tag tag_roots)) ps ≡ []
-  others-right = no_right (cond (record_in_place roots tag) (wrongs most_deep at tag s) (at ∷ [])) (table_wrongs (roots && not (eqb tag tag_roots)) ps) wrongs-split
+  others_right : table_wrongs (roots && not (eqb tag tag_roots)) ps ≡ []
+  others_right = no_right (cond (record_in_place roots tag) (wrongs most_deep at tag s) (at ∷ [])) (table_wrongs (roots && not (eqb tag tag_roots)) ps) wrongs_split
 
 no_cut : {A : Type 0} (roots : Bool) (at : ℕ) (ps : List HouseField) → table_wrongs roots (cut at ∷ ps) ≡ [] → A
 unfolding table_wrongs
@@ -181,10 +181,10 @@ unfolding gather all_of definition_of
 definitions_slim roots rooms [] w e = refl
 definitions_slim roots rooms (cut at ∷ ps) w e = no_cut roots at ps w
 definitions_slim roots rooms (house_field at tag s ∷ ps) w e =
-    let k = record-tag roots at tag s ps w in
-    let f : overs_in (overs 3) (room_in tag) (house_fields_in at s) ≡ [] = sym (record_overs 3 at tag s k.0 k.1) ∙ inner-fits (overs most_deep) rooms at tag s ps e in
+    let k = record_tag roots at tag s ps w in
+    let f : overs_in (overs 3) (room_in tag) (house_fields_in at s) ≡ [] = sym (record_overs 3 at tag s k.0 k.1) ∙ inner_fits (overs most_deep) rooms at tag s ps e in
     rw (members_slim 0 (room_in tag) (house_fields_in at s) f)
-    (definitions_slim (roots && not (eqb tag tag_roots)) (map (less_room tag) rooms) ps (others-right roots at tag s ps w) (rest-fits (overs most_deep) rooms at tag s ps e))
+    (definitions_slim (roots && not (eqb tag tag_roots)) (map (less_room tag) rooms) ps (others_right roots at tag s ps w) (rest_fits (overs most_deep) rooms at tag s ps e))
 
 -- How many records.
 one_room : (tag n : ℕ) → tag_scalar ≤ tag → tag ≤ tag_roots → any_of (is_over tag) (room tag_scalar tag_roots n ∷ []) ≡ false → (n ≡ 0 → ⊥) × (map (less_room tag) (room tag_scalar tag_roots n ∷ []) ≡ room tag_scalar tag_roots (pred n) ∷ [])
@@ -199,10 +199,10 @@ unfolding gather definition_of
 definitions_few inner roots n [] w e = omega arith
 definitions_few inner roots n (cut at ∷ ps) w e = no_cut roots at ps w
 definitions_few inner roots n (house_field at tag s ∷ ps) w e =
-    let k = record-tag roots at tag s ps w in
+    let k = record_tag roots at tag s ps w in
     let r = one_room tag n k.0 k.1 (not_over inner (room tag_scalar tag_roots n ∷ []) at tag s ps e) in
-    let f : overs_in inner (room tag_scalar tag_roots (pred n) ∷ []) ps ≡ [] = ap (λ (x : List Room). overs_in inner x ps) (sym r.1) ∙ rest-fits inner (room tag_scalar tag_roots n ∷ []) at tag s ps e in
-    let i = definitions_few inner (roots && not (eqb tag tag_roots)) (pred n) ps (others-right roots at tag s ps w) f in
+    let f : overs_in inner (room tag_scalar tag_roots (pred n) ∷ []) ps ≡ [] = ap (λ (x : List Room). overs_in inner x ps) (sym r.1) ∙ rest_fits inner (room tag_scalar tag_roots n ∷ []) at tag s ps e in
+    let i = definitions_few inner (roots && not (eqb tag tag_roots)) (pred n) ps (others_right roots at tag s ps w) f in
     less n r.0 i
   where
     less : (m : ℕ) → (m ≡ 0 → ⊥) → length (gather definition_of ps) ≤ pred m → suc (length (gather definition_of ps)) ≤ m
@@ -246,19 +246,19 @@ right_tag d at tag s e = go (leb tag tag_subscription_root) refl
         absurd (omega arith)
 
 module _ (d : ℕ) (slots : List Slot) (at tag : ℕ) (s : List ℕ) (ps : List HouseField) (e : in_order (wrongs (suc d)) slots (house_field at tag s ∷ ps) ≡ []) where
-  order-split : cond (in_place tag slots) (wrongs (suc d) at tag s) (at ∷ []) ++ in_order (wrongs (suc d)) (open_behind tag slots) ps ≡ []
+  order_split : cond (in_place tag slots) (wrongs (suc d) at tag s) (at ∷ []) ++ in_order (wrongs (suc d)) (open_behind tag slots) ps ≡ []
   unfolding in_order
-  order-split = e
+  order_split = e
 
-  order-tag : tag ≤ tag_subscription_root
-  order-tag = go (in_place tag slots) (no_left (cond (in_place tag slots) (wrongs (suc d) at tag s) (at ∷ [])) (in_order (wrongs (suc d)) (open_behind tag slots) ps) order-split)
+  order_tag : tag ≤ tag_subscription_root
+  order_tag = go (in_place tag slots) (no_left (cond (in_place tag slots) (wrongs (suc d) at tag s) (at ∷ [])) (in_order (wrongs (suc d)) (open_behind tag slots) ps) order_split)
     where
       go : (b : Bool) → cond b (wrongs (suc d) at tag s) (at ∷ []) ≡ [] → tag ≤ tag_subscription_root
       go true f = right_tag d at tag s f
       go false f = let k : length (at ∷ []) ≡ 0 = ap length f in absurd (omega arith)
 
-  order-rest : in_order (wrongs (suc d)) (open_behind tag slots) ps ≡ []
-  order-rest = no_right (cond (in_place tag slots) (wrongs (suc d) at tag s) (at ∷ [])) (in_order (wrongs (suc d)) (open_behind tag slots) ps) order-split
+  order_rest : in_order (wrongs (suc d)) (open_behind tag slots) ps ≡ []
+  order_rest = no_right (cond (in_place tag slots) (wrongs (suc d) at tag s) (at ∷ [])) (in_order (wrongs (suc d)) (open_behind tag slots) ps) order_split
 
 no_cut_inside : {A : Type 0} (inner : Offsets) (slots : List Slot) (at : ℕ) (ps : List HouseField) → in_order inner slots (cut at ∷ ps) ≡ [] → A
 unfolding in_order
@@ -308,14 +308,14 @@ members_few d inner slots m n [] w e = omega arith
 members_few d inner slots m n (cut at ∷ ps) w e = no_cut_inside (wrongs (suc d)) slots at ps w
 members_few d inner slots m n (house_field at tag s ∷ ps) w e =
     go (is_counted tag) refl n (λ c. room_left tag m n (not_over inner (two_rooms m n) at tag s ps e) c)
-    (members_few d inner (open_behind tag slots) (cond (is_implements tag) (pred m) m) (cond (is_counted tag) (pred n) n) ps (order-rest d slots at tag s ps w)
-    (rest-fits inner (two_rooms m n) at tag s ps e))
+    (members_few d inner (open_behind tag slots) (cond (is_implements tag) (pred m) m) (cond (is_counted tag) (pred n) n) ps (order_rest d slots at tag s ps w)
+    (rest_fits inner (two_rooms m n) at tag s ps e))
   where
     low : is_counted tag ≡ false → tag < tag_field
     low c = go' (leb tag_field tag) refl
       where
         go' : (b : Bool) → leb tag_field tag ≡ b → tag < tag_field
-        go' true q = absurd (false≢true (sym c ∙ rw (q, le-leb tag tag_subscription_root (order-tag d slots at tag s ps w))))
+        go' true q = absurd (false≢true (sym c ∙ rw (q, le-leb tag tag_subscription_root (order_tag d slots at tag s ps w))))
         go' false q = leb-false tag_field tag q
 
     go : (b : Bool) → is_counted tag ≡ b → (k : ℕ) → (is_counted tag ≡ true → k ≡ 0 → ⊥) → length (gather member_of ps) ≤ cond b (pred k) k → length (member_of (house_field at tag s) ++ gather member_of ps) ≤ k
@@ -358,12 +358,12 @@ unfolding gather all_of definition_of
 definitions_members roots rooms [] w e = refl
 definitions_members roots rooms (cut at ∷ ps) w e = no_cut roots at ps w
 definitions_members roots rooms (house_field at tag s ∷ ps) w e =
-    let k = record-tag roots at tag s ps w in
-    let o : ordered 3 at tag s = record_order 3 at tag s k.0 k.1 (record-in roots at tag s ps w).1 in
-    let f : overs_in (overs 3) (room_in tag) (house_fields_in at s) ≡ [] = sym (record_overs 3 at tag s k.0 k.1) ∙ inner-fits (overs most_deep) rooms at tag s ps e in
+    let k = record_tag roots at tag s ps w in
+    let o : ordered 3 at tag s = record_order 3 at tag s k.0 k.1 (record_in roots at tag s ps w).1 in
+    let f : overs_in (overs 3) (room_in tag) (house_fields_in at s) ≡ [] = sym (record_overs 3 at tag s k.0 k.1) ∙ inner_fits (overs most_deep) rooms at tag s ps e in
     let g : overs_in (overs 3) (two_rooms most_implemented most_members) (house_fields_in at s) ≡ [] = ap (λ (x : List Room). overs_in (overs 3) x (house_fields_in at s)) (sym (record_room tag k.1)) ∙ f in
     rw (le-leb (length (gather member_of (house_fields_in at s))) most_members (members_few 2 (overs 3) (slots_of (content_of tag)) most_implemented most_members (house_fields_in at s) o g))
-    (definitions_members (roots && not (eqb tag tag_roots)) (map (less_room tag) rooms) ps (others-right roots at tag s ps w) (rest-fits (overs most_deep) rooms at tag s ps e))
+    (definitions_members (roots && not (eqb tag tag_roots)) (map (less_room tag) rooms) ps (others_right roots at tag s ps w) (rest_fits (overs most_deep) rooms at tag s ps e))
 
 -- The sizes of a table.
 module _ (t : List ℕ) (f : framing_offset t ≡ none) (c : counts_offset t ≡ none) where

@@ -47,11 +47,11 @@ module _ (t book : List ℕ) (b : Booked t book) (n : List ℕ) where
   directive_first = ap (first_at (keyed 7 7 n)) b.keys ∙ first_at_map (keyed 7 7 n) (directive_named n) key_of (directive_keyed n) (table_of t)
 
   module _ {k : ℕ} (e : k ≡ first_at (type_named n) (table_of t)) where
-    definition-meant : is_built_in n ≡ false → k < count_in book → meaning (table_of t) n ≡ definition k
-    definition-meant q l = meaning_first (table_of t) n ∙ rw (q, ← e, lt-ltb k (length (table_of t)) (omega (arith, b.count)))
+    definition_meant : is_built_in n ≡ false → k < count_in book → meaning (table_of t) n ≡ definition k
+    definition_meant q l = meaning_first (table_of t) n ∙ rw (q, ← e, lt-ltb k (length (table_of t)) (omega (arith, b.count)))
 
     pub means_definition : is_built_in n ≡ false → k < count_in book → Defined k ≡ spoken (meaning (table_of t) n)
-    means_definition q l = sym (ap spoken (definition-meant q l))
+    means_definition q l = sym (ap spoken (definition_meant q l))
 
     pub means_nothing : is_built_in n ≡ false → count_in book ≤ k → Nothing ≡ spoken (meaning (table_of t) n)
     means_nothing q l =
@@ -93,7 +93,7 @@ module _ (t book : List ℕ) (b : Booked t book) (n : List ℕ) where
 
   pub number_first : {i : ℕ} → is_built_in n ≡ false → i ≡ first_at (type_named n) (table_of t) → NumberMeant t book n i
   number_first q e = record {
-    number = definition-meant e q;
+    number = definition_meant e q;
     is = λ l. meant_first (table_of t) n ∙ rw (q, ← e);
     none = λ l. let k = tag_nothing_is e q l in omega (arith, k);
   }

@@ -73,19 +73,19 @@ module _ (t book : List ℕ) (b : Booked t book) where
   number_room i l = omega (arith, b.indexed.held.most)
 
   module _ (n : List ℕ) (i : ℕ) (m : NumberMeant t book n i) where
-    entry-tag : i < count_in book → (meant (table_of t) n).tag ≡ kind_in book i
-    entry-tag l = ap (λ (d : Definition). d.tag) (m.is l ∙ (b.entered i l).is) ∙ sym (kind_entry book i l)
+    entry_tag : i < count_in book → (meant (table_of t) n).tag ≡ kind_in book i
+    entry_tag l = ap (λ (d : Definition). d.tag) (m.is l ∙ (b.entered i l).is) ∙ sym (kind_entry book i l)
 
     -- the tag of what is meant is this kind, if this is that of no scalar and not 0
     pub number_tag : (k : ℕ) → kind_in book i ≡ k → (k ≡ tag_nothing → ⊥) → (meant (table_of t) n).tag ≡ k
-    number_tag k e f = entry-tag (kind_below book i k e f) ∙ e
+    number_tag k e f = entry_tag (kind_below book i k e f) ∙ e
 
     pub number_other : (k : ℕ) → (kind_in book i ≡ k → ⊥) → tag_scalar < k → (meant (table_of t) n).tag ≡ k → ⊥
     number_other k f h e = go (leb (count_in book) i) refl
       where
         go : (b : Bool) → leb (count_in book) i ≡ b → ⊥
         go true q = let u = m.none (leb-true (count_in book) i q) in omega (arith, u, e)
-        go false q = f (sym (entry-tag (leb-false (count_in book) i q)) ∙ e)
+        go false q = f (sym (entry_tag (leb-false (count_in book) i q)) ∙ e)
 
     pub number_implements : i < count_in book → implemented_in t (start_in book i) (end_in book i) ≡ (meant (table_of t) n).implements
     number_implements l = sym (ap (λ (d : Definition). d.implements) (m.is l ∙ (b.entered i l).is))

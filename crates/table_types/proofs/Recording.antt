@@ -149,14 +149,14 @@ nothing_left : {A : Type 0} (xs : List A) (i : ℕ) → i ≤ length xs → drop
 nothing_left xs i h e = let k : length (drop i xs) ≡ 0 = ap length e in omega (arith, k, length-drop i xs)
 
 module _ (t book : List ℕ) (at i : ℕ) (r : Recording t book at i) where
-  recorded-at : i ≡ length (table_of t) → Recorded t book i
-  recorded-at e = record { cells = r.cells; count_is = e; entered = r.entered }
+  recorded_at : i ≡ length (table_of t) → Recorded t book i
+  recorded_at e = record { cells = r.cells; count_is = e; entered = r.entered }
 
   pub recording_end : length t ≤ at → Recorded t book i
-  recording_end l = recorded-at (nothing_left (table_of t) i r.count (r.rest ∙ gather_none definition_of definition_cut t at (length t) (omega arith) l))
+  recording_end l = recorded_at (nothing_left (table_of t) i r.count (r.rest ∙ gather_none definition_of definition_cut t at (length t) (omega arith) l))
 
   pub recording_torn : at < length t → field_at t at (length t) ≡ Cut → Recorded t book i
-  recording_torn l q = recorded-at (nothing_left (table_of t) i r.count (r.rest ∙ gather_torn definition_of definition_cut t at (length t) (omega arith) l q))
+  recording_torn l q = recorded_at (nothing_left (table_of t) i r.count (r.rest ∙ gather_torn definition_of definition_cut t at (length t) (omega arith) l q))
 
   module _ (l : at < length t) (tag start stop : ℕ) (q : field_at t at (length t) ≡ Field tag start stop) where
     abbrev d : Definition
@@ -227,22 +227,22 @@ module _ (t book : List ℕ) (n : ℕ) (r : Recorded t book n) (few : length (ta
     end = get_or-set_other book cell_count (cell_end + j) n 0 (λ z. omega arith);
   }
 
-  counted-entered : (j : ℕ) → j < n → Entered t counted j (definition_on t j)
-  counted-entered j l = entered_same t book counted j (definition_on t j) (counted_same j (omega (arith, r.count_is))) (r.entered j l)
+  counted_entered : (j : ℕ) → j < n → Entered t counted j (definition_on t j)
+  counted_entered j l = entered_same t book counted j (definition_on t j) (counted_same j (omega (arith, r.count_is))) (r.entered j l)
 
   pub counted_held : Held t counted
   counted_held = record {
     cells = length-set book cell_count n ∙ r.cells;
     most = omega (arith, counted_is, r.count_is);
-    within = λ j l. (counted-entered j (omega (arith, counted_is))).name_within;
+    within = λ j l. (counted_entered j (omega (arith, counted_is))).name_within;
   }
 
   module _ (linked : List ℕ) (k : Linked t counted linked) where
-    count-linked : count_in linked ≡ n
-    count-linked = count_kept t counted linked k.kept ∙ counted_is
+    count_linked : count_in linked ≡ n
+    count_linked = count_kept t counted linked k.kept ∙ counted_is
 
-    linked-same : (j : ℕ) → j < room → SameEntry counted linked j
-    linked-same j l = record {
+    linked_same : (j : ℕ) → j < room → SameEntry counted linked j
+    linked_same j l = record {
       kind = k.kept.entries j (omega arith);
       name = k.kept.entries (cell_name + j) (omega arith);
       size = k.kept.entries (cell_size + j) (omega arith);
@@ -250,27 +250,27 @@ module _ (t book : List ℕ) (n : ℕ) (r : Recorded t book n) (few : length (ta
       end = k.kept.entries (cell_end + j) (omega arith);
     }
 
-    linked-entered : (j : ℕ) → j < n → Entered t linked j (definition_on t j)
-    linked-entered j l = entered_same t counted linked j (definition_on t j) (linked-same j (omega (arith, r.count_is))) (counted-entered j l)
+    linked_entered : (j : ℕ) → j < n → Entered t linked j (definition_on t j)
+    linked_entered j l = entered_same t counted linked j (definition_on t j) (linked_same j (omega (arith, r.count_is))) (counted_entered j l)
 
     one_key : (j : ℕ) → j < n → key_at t linked j ≡ key_of (definition_on t j)
     one_key j l =
-        let e = linked-entered j l in
+        let e = linked_entered j l in
         let u : get_or linked j 0 ≡ (definition_on t j).tag = sym (ap (λ (x : Definition). x.tag) e.is) in
         rw (e.name, u)
 
-    linked-keys : keys_of t linked ≡ map key_of (table_of t)
-    linked-keys =
-        ext_get_or no_key (keys_of t linked) (map key_of (table_of t)) (keys_count t linked ∙ count-linked ∙ r.count_is ∙ sym (length-map (table_of t) key_of))
+    linked_keys : keys_of t linked ≡ map key_of (table_of t)
+    linked_keys =
+        ext_get_or no_key (keys_of t linked) (map key_of (table_of t)) (keys_count t linked ∙ count_linked ∙ r.count_is ∙ sym (length-map (table_of t) key_of))
         (λ j l.
-        let m : j < n = omega (arith, keys_count t linked, count-linked) in
-        keys_at t linked j (omega (arith, count-linked)) ∙ one_key j m ∙ sym (map_keys (table_of t) j))
+        let m : j < n = omega (arith, keys_count t linked, count_linked) in
+        keys_at t linked j (omega (arith, count_linked)) ∙ one_key j m ∙ sym (map_keys (table_of t) j))
 
     pub booked_is : length t ≤ most_table → Booked t linked
     booked_is s = record {
       short = s;
-      count = count-linked ∙ r.count_is;
-      entered = λ i l. linked-entered i (omega (arith, count-linked));
-      keys = linked-keys;
+      count = count_linked ∙ r.count_is;
+      entered = λ i l. linked_entered i (omega (arith, count_linked));
+      keys = linked_keys;
       indexed = k.indexed;
     }

@@ -35,15 +35,15 @@ rows_filled cells rows n e h =
 
 -- `parse`: a text read through, cleared behind its rows
 module _ (s rows rows₁ : List ℕ) (r : Read) (d : Cursor) (e : length rows ≡ rows_size) (h : Ended Document s rows rows₁ r) (q : r ≡ Done d) where
-  ended-done : Ended Document s rows rows₁ (Done d)
-  ended-done = subst (λ (z : Read). Ended Document s rows rows₁ z) q h
+  ended_done : Ended Document s rows rows₁ (Done d)
+  ended_done = subst (λ (z : Read). Ended Document s rows rows₁ z) q h
 
   pub done_room : row_size * d.rows ≤ rows_size
-  done_room = let f = ended-done in let w = whole_room s rows f.0 e f.1 in omega (arith, f.3)
+  done_room = let f = ended_done in let w = whole_room s rows f.0 e f.1 in omega (arith, f.3)
 
   pub done_filled : (rows' : List ℕ) → rows' ≡ cleared (row_size * d.rows) rows₁ → Filled Document s rows rows' (Done d)
   done_filled rows' z =
-      let f = ended-done in
+      let f = ended_done in
       (f.0, f.1, z ∙ ap₂ (λ (n : ℕ) (x : List ℕ). cleared (row_size * n) x) (sym f.3) (sym f.2), f.3)
 
 -- `parse`: a text refused, all cleared

@@ -39,8 +39,8 @@ module _ (document rows report rows₁ rows' report' : List ℕ) (h : report_siz
   size : length (take rows_size rows) ≡ rows_size
   size = length-take-le {A = ℕ} rows_size rows w
 
-  whole-done : (d : Cursor) → Filled Document document (take rows_size rows) rows₁ (Done d) → report' ≡ filled report_size (accepted ∷ d.rows ∷ []) report → Parsed document rows report rows' report' accepted
-  whole-done d g p =
+  whole_done : (d : Cursor) → Filled Document document (take rows_size rows) rows₁ (Done d) → report' ≡ filled report_size (accepted ∷ d.rows ∷ []) report → Parsed document rows report rows' report' accepted
+  whole_done d g p =
       let m = g.0 in
       parsed_whole document rows report rows' report' (take rows_size rows) m h w l size g.1
       (e ∙ ap (λ (x : List ℕ). x ++ drop rows_size rows) g.2 ∙ rows_filled m.cells rows (row_size * m.rows) (whole_size document (take rows_size rows) m size g.1) (whole_room document (take rows_size rows) m size g.1))
@@ -48,7 +48,7 @@ module _ (document rows report rows₁ rows' report' : List ℕ) (h : report_siz
 
   pub parsed_told : (r : Read) (n : ℕ) → Filled Document document (take rows_size rows) rows₁ r → Told r report report' n → Parsed document rows report rows' report' n
   unfolding Told
-  parsed_told (Done d) n g t = subst (λ (y : ℕ). Parsed document rows report rows' report' y) (sym t.0) (whole-done d g t.1)
+  parsed_told (Done d) n g t = subst (λ (y : ℕ). Parsed document rows report rows' report' y) (sym t.0) (whole_done d g t.1)
   parsed_told (Refused z) n g t =
       subst (λ (y : ℕ). Parsed document rows report rows' report' y) (sym t.0)
       (parsed_halt document rows report rows' report' (take rows_size rows) z h w l g.0 (e ∙ ap (λ (y : List ℕ). y ++ drop rows_size rows) g.1) t.1)

@@ -40,8 +40,8 @@ module _ (s : List ℕ) (c : Cursor) (h : c.stop ≤ length s) (l : Looks s c) (
   here τ = go (st cells n o c.stop left q) τ (from s c.stop)
 
   -- no argument but at a name
-  entry-lacks : (σ : Stack) → (c.kind ≡ kind_of n_other → ⊥) → here (entry_stack 6 false ++ σ) ≡ halt (NoGoing c.start)
-  entry-lacks σ e =
+  entry_lacks : (σ : Stack) → (c.kind ≡ kind_of n_other → ⊥) → here (entry_stack 6 false ++ σ) ≡ halt (NoGoing c.start)
+  entry_lacks σ e =
       let t = from s c.stop in
       let τ : Stack = tm (the colon) ∷ nt Value ∷ act end ∷ σ in
       row_opens cells n o c.stop left q (act named ∷ nt Name ∷ τ) t 6 0
@@ -53,13 +53,13 @@ module _ (s : List ℕ) (c : Cursor) (h : c.stop ≤ length s) (l : Looks s c) (
   one_argument σ e = first s c h l cells n o left q σ Argument (Memᴰ.head refl) n_other e tt
 
   -- the first argument, or none
-  first-argument : (σ : Stack) → here (nt Argument+ ∷ σ) ≡ here (entry_stack 6 false ++ (nt Argument* ∷ σ))
+  first_argument : (σ : Stack) → here (nt Argument+ ∷ σ) ≡ here (entry_stack 6 false ++ (nt Argument* ∷ σ))
   unfolding factored language choose refuses refuses_end
-  first-argument σ = by_name (same c.kind (kind_of n_other))
+  first_argument σ = by_name (same c.kind (kind_of n_other))
     where
       by_name : (c.kind ≡ kind_of n_other) ⊎ (c.kind ≡ kind_of n_other → ⊥) → here (nt Argument+ ∷ σ) ≡ here (entry_stack 6 false ++ (nt Argument* ∷ σ))
       by_name (inl e) = first s c h l cells n o left q σ Argument+ (Memᴰ.head refl) n_other e tt ∙ one_argument (nt Argument* ∷ σ) e
-      by_name (inr e) = refuse s c h l cells n o left q σ Argument+ (λ (y : ℕ). not (is (kind_of n_other) y)) (not_is (kind_of n_other) c.kind e) tt tt ∙ sym (entry-lacks (nt Argument* ∷ σ) e)
+      by_name (inr e) = refuse s c h l cells n o left q σ Argument+ (λ (y : ℕ). not (is (kind_of n_other) y)) (not_is (kind_of n_other) c.kind e) tt tt ∙ sym (entry_lacks (nt Argument* ∷ σ) e)
 
   -- one more, where they do not end
   next_argument : (σ : Stack) → (c.kind ≡ kind_of paren_r → ⊥) → here (nt Argument* ∷ tm (the paren_r) ∷ σ) ≡ here (entry_stack 6 false ++ (nt Argument* ∷ tm (the paren_r) ∷ σ))
@@ -72,7 +72,7 @@ module _ (s : List ℕ) (c : Cursor) (h : c.stop ≤ length s) (l : Looks s c) (
       by_name (inr e) =
           null s c h l cells n o left q (tm (the paren_r) ∷ σ) Argument* (Memᴰ.head refl) tt refl (λ (y : ℕ). not (is (kind_of n_other) y)) (not_is (kind_of n_other) c.kind e) tt
           ∙ lacks s c h l cells n o left q σ (the paren_r) (λ (y : ℕ). not (is (kind_of paren_r) y)) (not_is (kind_of paren_r) c.kind z) tt
-          ∙ sym (entry-lacks (nt Argument* ∷ tm (the paren_r) ∷ σ) e)
+          ∙ sym (entry_lacks (nt Argument* ∷ tm (the paren_r) ∷ σ) e)
 
   -- the parenthesis that opens them
   opens : (σ : Stack) → c.kind ≡ kind_of paren_l → here (nt Arguments? ∷ σ) ≡ here (tm (the paren_l) ∷ nt Argument+ ∷ tm (the paren_r) ∷ σ)
@@ -81,10 +81,10 @@ module _ (s : List ℕ) (c : Cursor) (h : c.stop ≤ length s) (l : Looks s c) (
       first s c h l cells n o left q σ Arguments? (Memᴰ.tail (Memᴰ.head refl)) paren_l e tt ∙ first s c h l cells n o left q σ Arguments (Memᴰ.head refl) paren_l e tt
 
   -- and the one that closes them
-  closes-with : (σ : Stack) → c.kind ≡ kind_of paren_r → n ≤ most_rows → over_counts q ≡ false →
+  closes_with : (σ : Stack) → c.kind ≡ kind_of paren_r → n ≤ most_rows → over_counts q ≡ false →
       here (nt Argument* ∷ tm (the paren_r) ∷ σ) ≡ go (st cells n o c.end (suc left) q) σ (from s c.end)
   unfolding factored language choose
-  closes-with σ e m f =
+  closes_with σ e m f =
       null s c h l cells n o left q (tm (the paren_r) ∷ σ) Argument* (Memᴰ.head refl) tt refl (is (kind_of paren_r)) (rw e tt) tt ∙ closing s c h l cells n o left q σ (the paren_r) paren_r e tt tt m f
 
   -- no arguments
@@ -111,15 +111,15 @@ module _ (s rows : List ℕ) (c : Cursor) (parent left : ℕ) (a : Ready s rows 
         opens s c a.within a.looks rows c.rows o left q σ e
         ∙ too_deep s c a.within a.looks rows c.rows o left q (nt Argument+ ∷ tm (the paren_r) ∷ σ) (the paren_l) paren_l e tt tt z
 
-    opened-at : (left ≡ 0 → ⊥) → (σ : Stack) (o : List ℕ) (q : Counts) → over_counts q ≡ false →
+    opened_at : (left ≡ 0 → ⊥) → (σ : Stack) (o : List ℕ) (q : Counts) → over_counts q ≡ false →
         at s rows c o left q (nt Arguments? ∷ σ) ≡ go (st rows c.rows o c.end (left - 1) q) (nt Argument+ ∷ tm (the paren_r) ∷ σ) (from s c.end)
-    opened-at z σ o q f =
+    opened_at z σ o q f =
         opens s c a.within a.looks rows c.rows o left q σ e
         ∙ opening s c a.within a.looks rows c.rows o left q (nt Argument+ ∷ tm (the paren_r) ∷ σ) (the paren_l) paren_l e tt tt (left - 1) (omega arith) a.few f
 
     pub bad_said : (left ≡ 0 → ⊥) → (r : Read) → r ≡ moved_to c.end c.rows (head_of (from s c.end)) → (x : Refusal) → r ≡ Refused x → Halts s rows c parent left arguments_stack x
     bad_said z r m x y σ o q p f =
-        opened-at z σ o q f ∙ moved_halts s c.end c.rows r x m y (st rows c.rows o c.end (left - 1) q) (nt Argument+ ∷ tm (the paren_r) ∷ σ)
+        opened_at z σ o q f ∙ moved_halts s c.end c.rows r x m y (st rows c.rows o c.end (left - 1) q) (nt Argument+ ∷ tm (the paren_r) ∷ σ)
 
     -- the loop: at each turn an argument is to be read
     pub turn_first : (left ≡ 0 → ⊥) → (d : Cursor) (r : Read) → r ≡ moved_to c.end c.rows (head_of (from s c.end)) → r ≡ Done d →
@@ -135,9 +135,9 @@ module _ (s rows : List ℕ) (c : Cursor) (parent left : ℕ) (a : Ready s rows 
           on = omega (arith, x.stop);
           goes =
               λ σ o q p f.
-              opened-at z σ o q f
+              opened_at z σ o q f
               ∙ next_at s c d c.rows x rows o (left - 1) q (nt Argument+ ∷ tm (the paren_r) ∷ σ)
-              ∙ first-argument s d x.within x.looks rows d.rows o (left - 1) q (tm (the paren_r) ∷ σ);
+              ∙ first_argument s d x.within x.looks rows d.rows o (left - 1) q (tm (the paren_r) ∷ σ);
         }
 
 -- one turn, from its cursor d on: α was to be read where the loop began
@@ -179,7 +179,7 @@ module _ (s rows rows₁ rows₂ : List ℕ) (c d b : Cursor) (parent left : ℕ
       at s rows c o left q (nt Arguments? ∷ σ) ≡ go (st rows₂ b.rows o b.end left q) σ (from s b.end)
   end_at σ o q p f =
       read_at s rows rows₁ c d parent left left arguments_stack i rows₂ r v b e σ o q p f
-      ∙ closes-with s b read.within read.looks rows₂ b.rows o (left - 1) q σ k read.few f
+      ∙ closes_with s b read.within read.looks rows₂ b.rows o (left - 1) q σ k read.few f
       ∙ ap (λ (m : ℕ). go (st rows₂ b.rows o b.end m q) σ (from s b.end)) (omega arith)
 
   pub turn_ends : (t : Read) → t ≡ moved_to b.end b.rows (head_of (from s b.end)) → Said 0 s rows rows₂ c parent left arguments_stack t

@@ -31,17 +31,17 @@ use Rattle.text_arguments.proofs.Words.{is_on, on_is, word_first, word_taken}
 
 -- at its `on`; its row is n
 module _ (s rows : List ℕ) (c : Cursor) (parent left : ℕ) (a : Ready s rows c parent) (e : AtOn s c) where
-  past-on : (σ : Stack) (o : List ℕ) (q : Counts) → over_counts q ≡ false →
+  past_on : (σ : Stack) (o : List ℕ) (q : Counts) → over_counts q ≡ false →
       at s rows c o left q (nt TypeCondition ∷ σ) ≡ go (st rows c.rows o c.end left q) (act row ∷ act (kind 9 0) ∷ nt NamedType ∷ act end ∷ σ) (from s c.end)
   unfolding factored language
-  past-on σ o q f =
+  past_on σ o q f =
       word_first s c a.within a.looks e.0 rows c.rows o left q σ TypeCondition (Memᴰ.head refl) is_on (on_is s c e) tt
       ∙ word_taken s c a.within a.looks e.0 rows c.rows o left q (act row ∷ act (kind 9 0) ∷ nt NamedType ∷ act end ∷ σ) (the n_on) is_on (on_is s c e) tt a.few f
 
   module _ (r : Read) (m : r ≡ moved_to c.end c.rows (head_of (from s c.end))) where
     pub condition_bad : (x : Refusal) → r ≡ Refused x → Halts s rows c parent left condition_stack x
     condition_bad x y σ o q p f =
-        past-on σ o q f ∙ moved_halts s c.end c.rows r x m y (st rows c.rows o c.end left q) (act row ∷ act (kind 9 0) ∷ nt NamedType ∷ act end ∷ σ)
+        past_on σ o q f ∙ moved_halts s c.end c.rows r x m y (st rows c.rows o c.end left q) (act row ∷ act (kind 9 0) ∷ nt NamedType ∷ act end ∷ σ)
 
     module _ (name : Cursor) (y : r ≡ Done name) where
       pub condition_name : Next s c name c.rows
@@ -50,17 +50,17 @@ module _ (s rows : List ℕ) (c : Cursor) (parent left : ℕ) (a : Ready s rows 
       abbrev begun : List ℕ
       begun = put rows name.rows 9 name.start 0 parent 0 0 0
 
-      to-name : (σ : Stack) (o : List ℕ) (q : Counts) → top o ≡ parent → over_counts q ≡ false →
+      to_name : (σ : Stack) (o : List ℕ) (q : Counts) → top o ≡ parent → over_counts q ≡ false →
           at s rows c o left q (nt TypeCondition ∷ σ) ≡ go (st begun (name.rows + 1) (name.rows ∷ o) name.stop left q) (nt NamedType ∷ act end ∷ σ) (from s name.stop)
-      to-name σ o q p f =
-          past-on σ o q f
+      to_name σ o q p f =
+          past_on σ o q f
           ∙ next_at s c name c.rows condition_name rows o left q (act row ∷ act (kind 9 0) ∷ nt NamedType ∷ act end ∷ σ)
           ∙ opened_row s name condition_name.looks rows name.rows o parent left q (nt NamedType ∷ act end ∷ σ) 9 0 p
 
       pub condition_nameless : (name.kind ≡ kind_of n_other → ⊥) → Halts s rows c parent left condition_stack (NoGoing name.start)
       unfolding factored language choose refuses refuses_end
       condition_nameless k σ o q p f =
-          to-name σ o q p f
+          to_name σ o q p f
           ∙ refuse s name condition_name.within condition_name.looks begun (name.rows + 1) (name.rows ∷ o) left q (act end ∷ σ) NamedType (λ (x : ℕ). not (is (kind_of n_other) x)) (not_is (kind_of n_other) name.kind k) tt tt
 
       module _ (k : name.kind ≡ kind_of n_other) where
@@ -71,7 +71,7 @@ module _ (s rows : List ℕ) (c : Cursor) (parent left : ℕ) (a : Ready s rows 
             at s rows c o left q (nt TypeCondition ∷ σ) ≡ go (st told (name.rows + 1) (name.rows ∷ o) name.stop left q) (nt Name ∷ act end ∷ σ) (from s name.stop)
         unfolding factored language
         told_at σ o q p f =
-            to-name σ o q p f
+            to_name σ o q p f
             ∙ first s name condition_name.within condition_name.looks begun (name.rows + 1) (name.rows ∷ o) left q (act end ∷ σ) NamedType (Memᴰ.head refl) n_other k tt
             ∙ named_row s name condition_name.looks rows (name.rows + 1) o left q (nt Name ∷ act end ∷ σ) name.rows 9 name.start 0 parent 0 0 0
 
@@ -84,9 +84,9 @@ module _ (s rows : List ℕ) (c : Cursor) (parent left : ℕ) (a : Ready s rows 
 
         -- with its row written
         module _ (z : c.rows ≡ most_rows → ⊥) (rows₁ : List ℕ) (w : rows₁ ≡ put rows c.rows 9 name.start name.end parent name.start (name.end - name.start) 0) where
-          past-name : (σ : Stack) (o : List ℕ) (q : Counts) → top o ≡ parent → over_counts q ≡ false →
+          past_name : (σ : Stack) (o : List ℕ) (q : Counts) → top o ≡ parent → over_counts q ≡ false →
               at s rows c o left q (nt TypeCondition ∷ σ) ≡ go (st rows₁ (c.rows + 1) o name.end left q) σ (from s name.end)
-          past-name σ o q p f =
+          past_name σ o q p f =
               told_at σ o q p f
               ∙ name_taken s name condition_name.within condition_name.looks told (name.rows + 1) (name.rows ∷ o) left q (act end ∷ σ) k (omega (arith, condition_name.rows, z, a.few)) f
               ∙ row_ends rows (name.rows + 1) o name.end left q σ (from s name.end) name.rows 9 name.start 0 parent name.start (name.end - name.start) 0
@@ -102,6 +102,6 @@ module _ (s rows : List ℕ) (c : Cursor) (parent left : ℕ) (a : Ready s rows 
               b'.2
               (omega (arith, z, a.few))
               (omega (arith, has_bytes s c a.within a.looks n_other e.0, condition_name.stop))
-              past-name
+              past_name
               t
               m'

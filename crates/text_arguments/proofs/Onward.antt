@@ -73,11 +73,11 @@ module _ (s : List ℕ) (c : Cursor) (h : c.stop ≤ length s) (l : Looks s c) (
 
 -- a number is another, or not
 pub same : (x y : ℕ) → (x ≡ y) ⊎ (x ≡ y → ⊥)
-same x y = by-test (eqb x y) refl
+same x y = by_test (eqb x y) refl
   where
-    by-test : (b : Bool) → eqb x y ≡ b → (x ≡ y) ⊎ (x ≡ y → ⊥)
-    by-test true e = inl (eqb-true x y e)
-    by-test false e = inr (eqb-false x y e)
+    by_test : (b : Bool) → eqb x y ≡ b → (x ≡ y) ⊎ (x ≡ y → ⊥)
+    by_test true e = inl (eqb-true x y e)
+    by_test false e = inr (eqb-false x y e)
 
 -- what a reader said, where its answer is known
 pub said_went : (gain : ℕ) (s rows rows' : List ℕ) (c d : Cursor) (parent left : ℕ) (α : Stack) (r : Read) → Said gain s rows rows' c parent left α r → r ≡ Done d → Went gain s rows rows' c d parent left α

@@ -32,29 +32,29 @@ sets_change l i (x ∷ xs) v w ys =
 
 -- a number of a row
 module _ (cells : List ℕ) (n k a e p m z x : ℕ) where
-  put-kind : (w : ℕ) → set (put cells n k a e p m z x) (7 * n) w ≡ put cells n w a e p m z x
-  put-kind w = ap (λ (j : ℕ). set (put cells n k a e p m z x) j w) (sym (add-zero (7 * n))) ∙ sets_change cells (7 * n) [] k w (a ∷ e ∷ p ∷ m ∷ z ∷ x ∷ [])
+  put_kind : (w : ℕ) → set (put cells n k a e p m z x) (7 * n) w ≡ put cells n w a e p m z x
+  put_kind w = ap (λ (j : ℕ). set (put cells n k a e p m z x) j w) (sym (add-zero (7 * n))) ∙ sets_change cells (7 * n) [] k w (a ∷ e ∷ p ∷ m ∷ z ∷ x ∷ [])
 
   pub put_stop : (w : ℕ) → set (put cells n k a e p m z x) (7 * n + 2) w ≡ put cells n k a w p m z x
   put_stop w = sets_change cells (7 * n) (k ∷ a ∷ []) e w (p ∷ m ∷ z ∷ x ∷ [])
 
-  put-name : (w : ℕ) → set (put cells n k a e p m z x) (7 * n + 4) w ≡ put cells n k a e p w z x
-  put-name w = sets_change cells (7 * n) (k ∷ a ∷ e ∷ p ∷ []) m w (z ∷ x ∷ [])
+  put_name : (w : ℕ) → set (put cells n k a e p m z x) (7 * n + 4) w ≡ put cells n k a e p w z x
+  put_name w = sets_change cells (7 * n) (k ∷ a ∷ e ∷ p ∷ []) m w (z ∷ x ∷ [])
 
   put_size : (w : ℕ) → set (put cells n k a e p m z x) (7 * n + 5) w ≡ put cells n k a e p m w x
   put_size w = sets_change cells (7 * n) (k ∷ a ∷ e ∷ p ∷ m ∷ []) z w (x ∷ [])
 
-  put-extra : (w : ℕ) → set (put cells n k a e p m z x) (7 * n + 6) w ≡ put cells n k a e p m z w
-  put-extra w = sets_change cells (7 * n) (k ∷ a ∷ e ∷ p ∷ m ∷ z ∷ []) x w []
+  put_extra : (w : ℕ) → set (put cells n k a e p m z x) (7 * n + 6) w ≡ put cells n k a e p m z w
+  put_extra w = sets_change cells (7 * n) (k ∷ a ∷ e ∷ p ∷ m ∷ z ∷ []) x w []
 
   -- the extra of a row that is there
-  get-extra : 7 * n + 7 ≤ length cells → get_or (put cells n k a e p m z x) (7 * n + 6) 0 ≡ x
-  get-extra h =
-      ap (λ (l : List ℕ). get_or l (7 * n + 6) 0) (sets-snoc)
+  get_extra : 7 * n + 7 ≤ length cells → get_or (put cells n k a e p m z x) (7 * n + 6) 0 ≡ x
+  get_extra h =
+      ap (λ (l : List ℕ). get_or l (7 * n + 6) 0) (sets_snoc)
       ∙ get_or-set_same (sets cells (7 * n) (k ∷ a ∷ e ∷ p ∷ m ∷ z ∷ [])) (7 * n + 6) x 0 (lt-length-sets cells (7 * n) (k ∷ a ∷ e ∷ p ∷ m ∷ z ∷ []) (omega arith))
     where
-      sets-snoc : put cells n k a e p m z x ≡ set (sets cells (7 * n) (k ∷ a ∷ e ∷ p ∷ m ∷ z ∷ [])) (7 * n + 6) x
-      sets-snoc = simp towards_suc
+      sets_snoc : put cells n k a e p m z x ≡ set (sets cells (7 * n) (k ∷ a ∷ e ∷ p ∷ m ∷ z ∷ [])) (7 * n + 6) x
+      sets_snoc = simp towards_suc
 
 pub put_length : (cells : List ℕ) (n k a e p m z x : ℕ) → length (put cells n k a e p m z x) ≡ length cells
 put_length cells n k a e p m z x = length-sets cells (7 * n) (k ∷ a ∷ e ∷ p ∷ m ∷ z ∷ x ∷ [])
@@ -70,19 +70,19 @@ module _ (cells : List ℕ) (n : ℕ) (o : List ℕ) (stop left : ℕ) (q : Coun
     pub kind_told : (w y : ℕ) → go (st (put cells r k a e p m z x) n (r ∷ o) stop left q) (act (kind w y) ∷ σ) t ≡ go (st (put cells r w a e p m z y) n (r ∷ o) stop left (kinded w q)) σ t
     kind_told w y =
         go_act (st (put cells r k a e p m z x) n (r ∷ o) stop left q) (kind w y) σ t
-        ∙ ap (λ (l : List ℕ). go (st l n (r ∷ o) stop left (kinded w q)) σ t) (ap (λ (l : List ℕ). set l (7 * r + 6) y) (put-kind cells r k a e p m z x w) ∙ put-extra cells r w a e p m z x y)
+        ∙ ap (λ (l : List ℕ). go (st l n (r ∷ o) stop left (kinded w q)) σ t) (ap (λ (l : List ℕ). set l (7 * r + 6) y) (put_kind cells r k a e p m z x w) ∙ put_extra cells r w a e p m z x y)
 
     -- its name is the next token
     pub name_told : go (st (put cells r k a e p m z x) n (r ∷ o) stop left q) (act named ∷ σ) t ≡ go (st (put cells r k a e p (start_in t) (stop_in t - start_in t) x) n (r ∷ o) stop left q) σ t
     name_told =
         go_act (st (put cells r k a e p m z x) n (r ∷ o) stop left q) named σ t
-        ∙ ap (λ (l : List ℕ). go (st l n (r ∷ o) stop left q) σ t) (ap (λ (l : List ℕ). set l (7 * r + 5) (stop_in t - start_in t)) (put-name cells r k a e p m z x (start_in t)) ∙ put_size cells r k a e p (start_in t) z x (stop_in t - start_in t))
+        ∙ ap (λ (l : List ℕ). go (st l n (r ∷ o) stop left q) σ t) (ap (λ (l : List ℕ). set l (7 * r + 5) (stop_in t - start_in t)) (put_name cells r k a e p m z x (start_in t)) ∙ put_size cells r k a e p (start_in t) z x (stop_in t - start_in t))
 
     -- one more wrapper
     pub wrap_told : (w : ℕ) → 7 * r + 7 ≤ length cells → go (st (put cells r k a e p m z x) n (r ∷ o) stop left q) (act (wrap w) ∷ σ) t ≡ go (st (put cells r k a e p m z (x * 4 + w)) n (r ∷ o) stop left q) σ t
     wrap_told w h =
         go_act (st (put cells r k a e p m z x) n (r ∷ o) stop left q) (wrap w) σ t
-        ∙ ap (λ (l : List ℕ). go (st l n (r ∷ o) stop left q) σ t) (ap (λ (y : ℕ). set (put cells r k a e p m z x) (7 * r + 6) (y * 4 + w)) (get-extra cells r k a e p m z x h) ∙ put-extra cells r k a e p m z x (x * 4 + w))
+        ∙ ap (λ (l : List ℕ). go (st l n (r ∷ o) stop left q) σ t) (ap (λ (y : ℕ). set (put cells r k a e p m z x) (7 * r + 6) (y * 4 + w)) (get_extra cells r k a e p m z x h) ∙ put_extra cells r k a e p m z x (x * 4 + w))
 
     -- it ends with the last token, and nothing was written behind it
     pub row_ends : go (st (put cells r k a e p m z x) n (r ∷ o) stop left q) (act end ∷ σ) t ≡ go (st (put cells r k a stop p m z x) n o stop left q) σ t

@@ -181,35 +181,35 @@ module _ (s : List ℕ) (c : Cursor) (h : c.stop ≤ length s) (l : Looks s c) (
 
   -- a terminal that is there, where the sizes are kept: a plain token, one that opens a level, one that closes it
   module _ (σ : Stack) (w : Terminal) (x : Class) (e : c.kind ≡ kind_of x) (t : T (all (λ k. implies (is (kind_of x) (kind_of k)) (hits w k)) all_c)) where
-    take-with : (b d : Bool) → T (all (λ k. implies (is (kind_of x) (kind_of k)) (same_bool (opens_level k) b && same_bool (closes_level k) d)) all_c) →
+    take_with : (b d : Bool) → T (all (λ k. implies (is (kind_of x) (kind_of k)) (same_bool (opens_level k) b && same_bool (closes_level k) d)) all_c) →
         here (tm w ∷ σ) ≡ deep b d left c.start (λ m. many (ltb most_rows n) (TooManyRows c.start) (many (over_counts q) (TooMany c.start) (go (st cells n o c.end m q) σ (from s c.end))))
     unfolding go step
-    take-with b d u =
+    take_with b d u =
         let f = front_token s c h l (λ z. let y : ⊥ = omega (arith, kind_some x) in y) in
         let v : T (same_bool (opens_level f.0) b && same_bool (closes_level f.0) d) = by_kind (λ k. same_bool (opens_level k) b && same_bool (closes_level k) d) (is (kind_of x)) u f.0 (kind_of x) (f.1 ∙ e) (is_t (kind_of x)) in
         rw (f.2, T→eq (hits w f.0) (by_kind (hits w) (is (kind_of x)) t f.0 (kind_of x) (f.1 ∙ e) (is_t (kind_of x))), bool_is (opens_level f.0) b (and_l (same_bool (opens_level f.0) b) (same_bool (closes_level f.0) d) v), bool_is (closes_level f.0) d (and_r (same_bool (opens_level f.0) b) (same_bool (closes_level f.0) d) v)) refl
 
     pub plain : T (all (λ k. implies (is (kind_of x) (kind_of k)) (same_bool (opens_level k) false && same_bool (closes_level k) false)) all_c) → n ≤ most_rows → over_counts q ≡ false → here (tm w ∷ σ) ≡ go (st cells n o c.end left q) σ (from s c.end)
-    plain u r k = take-with false false u ∙ rw (le-ltb most_rows n r, k) refl
+    plain u r k = take_with false false u ∙ rw (le-ltb most_rows n r, k) refl
 
     pub opening : T (all (λ k. implies (is (kind_of x) (kind_of k)) (same_bool (opens_level k) true && same_bool (closes_level k) false)) all_c) → (m : ℕ) → left ≡ suc m → n ≤ most_rows → over_counts q ≡ false → here (tm w ∷ σ) ≡ go (st cells n o c.end m q) σ (from s c.end)
-    opening u m v r k = take-with true false u ∙ rw (v, le-ltb most_rows n r, k) refl
+    opening u m v r k = take_with true false u ∙ rw (v, le-ltb most_rows n r, k) refl
 
     pub closing : T (all (λ k. implies (is (kind_of x) (kind_of k)) (same_bool (opens_level k) false && same_bool (closes_level k) true)) all_c) → n ≤ most_rows → over_counts q ≡ false → here (tm w ∷ σ) ≡ go (st cells n o c.end (suc left) q) σ (from s c.end)
-    closing u r k = take-with false true u ∙ rw (le-ltb most_rows n r, k) refl
+    closing u r k = take_with false true u ∙ rw (le-ltb most_rows n r, k) refl
 
     -- where a size is not kept
     pub too_deep : T (all (λ k. implies (is (kind_of x) (kind_of k)) (same_bool (opens_level k) true && same_bool (closes_level k) false)) all_c) → left ≡ 0 → here (tm w ∷ σ) ≡ halt (TooDeep c.start)
-    too_deep u v = take-with true false u ∙ rw v refl
+    too_deep u v = take_with true false u ∙ rw v refl
 
     pub too_many_rows : T (all (λ k. implies (is (kind_of x) (kind_of k)) (same_bool (opens_level k) false && same_bool (closes_level k) false)) all_c) → most_rows < n → here (tm w ∷ σ) ≡ halt (TooManyRows c.start)
-    too_many_rows u r = take-with false false u ∙ rw (lt-ltb most_rows n r) refl
+    too_many_rows u r = take_with false false u ∙ rw (lt-ltb most_rows n r) refl
 
     pub too_many_rows_open : T (all (λ k. implies (is (kind_of x) (kind_of k)) (same_bool (opens_level k) true && same_bool (closes_level k) false)) all_c) → (m : ℕ) → left ≡ suc m → most_rows < n → here (tm w ∷ σ) ≡ halt (TooManyRows c.start)
-    too_many_rows_open u m v r = take-with true false u ∙ rw (v, lt-ltb most_rows n r) refl
+    too_many_rows_open u m v r = take_with true false u ∙ rw (v, lt-ltb most_rows n r) refl
 
     pub too_many : T (all (λ k. implies (is (kind_of x) (kind_of k)) (same_bool (opens_level k) false && same_bool (closes_level k) false)) all_c) → n ≤ most_rows → over_counts q ≡ true → here (tm w ∷ σ) ≡ halt (TooMany c.start)
-    too_many u r k = take-with false false u ∙ rw (le-ltb most_rows n r, k) refl
+    too_many u r k = take_with false false u ∙ rw (le-ltb most_rows n r, k) refl
 
     pub too_many_open : T (all (λ k. implies (is (kind_of x) (kind_of k)) (same_bool (opens_level k) true && same_bool (closes_level k) false)) all_c) → (m : ℕ) → left ≡ suc m → n ≤ most_rows → over_counts q ≡ true → here (tm w ∷ σ) ≡ halt (TooMany c.start)
-    too_many_open u m v r k = take-with true false u ∙ rw (v, le-ltb most_rows n r, k) refl
+    too_many_open u m v r k = take_with true false u ∙ rw (v, le-ltb most_rows n r, k) refl

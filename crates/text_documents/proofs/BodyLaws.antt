@@ -92,14 +92,14 @@ module _ (s rows : List ℕ) (c : Cursor) (n : ℕ) (g : Ready s rows c n) where
       null s c g.within g.looks rows c.rows o most_levels q (body_stack ++ σ) VariableDefinitions? {α = []} (Memᴰ.head refl) tt refl (λ y. not (is (kind_of paren_l) y)) (not_is (kind_of paren_l) c.kind h) tt ∙ w σ o q t f tt
 
   module _ (h : c.kind ≡ kind_of paren_l) where
-    rest-first : (σ : Stack) (o : List ℕ) (q : Counts) → at s rows c o most_levels q (rest_stack ++ σ) ≡ at s rows c o most_levels q (nt VariableDefinitions ∷ (body_stack ++ σ))
+    rest_first : (σ : Stack) (o : List ℕ) (q : Counts) → at s rows c o most_levels q (rest_stack ++ σ) ≡ at s rows c o most_levels q (nt VariableDefinitions ∷ (body_stack ++ σ))
     unfolding factored language
-    rest-first σ o q = first s c g.within g.looks rows c.rows o most_levels q (body_stack ++ σ) VariableDefinitions? {α = nt VariableDefinitions ∷ []} (Memᴰ.tail (Memᴰ.head refl)) paren_l h tt
+    rest_first σ o q = first s c g.within g.looks rows c.rows o most_levels q (body_stack ++ σ) VariableDefinitions? {α = nt VariableDefinitions ∷ []} (Memᴰ.tail (Memᴰ.head refl)) paren_l h tt
 
     pub rest_stop : (rows₁ rows' : List ℕ) (r : Read) → CountedSaid 1 s rows rows₁ c n most_levels (nt VariableDefinitions ∷ []) stays (variables_are 0) same_fragments r → (x : Refusal) → r ≡ Refused x →
         CountedSaid 1 s rows rows' c n most_levels rest_stack pop (variables_are 0) same_fragments r
     rest_stop rows₁ rows' r w x e =
-        rw e (λ σ o q t f m. rest-first σ o q ∙ counted_halts 1 s rows rows₁ c n most_levels (nt VariableDefinitions ∷ []) r stays (variables_are 0) same_fragments w x e (body_stack ++ σ) o q t f m)
+        rw e (λ σ o q t f m. rest_first σ o q ∙ counted_halts 1 s rows rows₁ c n most_levels (nt VariableDefinitions ∷ []) r stays (variables_are 0) same_fragments w x e (body_stack ++ σ) o q t f m)
 
     pub rest_says : (rows₁ : List ℕ) (a : Cursor) → Counted 1 s rows rows₁ c a n most_levels (nt VariableDefinitions ∷ []) stays (variables_are 0) same_fragments → (rows' : List ℕ) (r : Read) →
         CountedSaid 1 s rows₁ rows' a n most_levels body_stack pop any_counts same_counts r → CountedSaid 1 s rows rows' c n most_levels rest_stack pop (variables_are 0) same_fragments r
@@ -113,6 +113,6 @@ module _ (s rows : List ℕ) (c : Cursor) (n : ℕ) (g : Ready s rows c n) where
           goes = λ σ o q t f m.
               let y = w.goes (body_stack ++ σ) o q t f m in
               let z = u.goes σ o y.0 t y.1 tt in
-              (z.0, z.1, ap (λ (p : Counts). p.fragments) z.2 ∙ y.2, rest-first σ o q ∙ y.3 ∙ z.3);
+              (z.0, z.1, ap (λ (p : Counts). p.fragments) z.2 ∙ y.2, rest_first σ o q ∙ y.3 ∙ z.3);
         }
-    rest_says rows₁ a w rows' (Refused x) u = λ σ o q t f m. (let y = w.goes (body_stack ++ σ) o q t f m in rest-first σ o q ∙ y.3 ∙ u σ o y.0 t y.1 tt)
+    rest_says rows₁ a w rows' (Refused x) u = λ σ o q t f m. (let y = w.goes (body_stack ++ σ) o q t f m in rest_first σ o q ∙ y.3 ∙ u σ o y.0 t y.1 tt)

@@ -112,15 +112,15 @@ module _ (s rows : List ℕ) (short : length s ≤ most_text) (size : length row
   pub begin_ready : Ready s rows c₀ no_parent
   begin_ready = next_ready s rows 0 0 c₀ short size (omega arith) (omega arith) next no_parent (omega arith)
 
-  start-at : (p : Part) → go (start rows) (nt p ∷ []) (from s 0) ≡ at s rows c₀ [] most_levels no_counts (nt p ∷ [])
-  start-at p = rw (next.stop, next.rows) refl
+  start_at : (p : Part) → go (start rows) (nt p ∷ []) (from s 0) ≡ at s rows c₀ [] most_levels no_counts (nt p ∷ [])
+  start_at p = rw (next.stop, next.rows) refl
 
   pub defined_none : Defined s rows rows c₀ c₀ 0
   defined_none =
       record { size = size; within = begin_ready.within; few = begin_ready.few; looks = begin_ready.looks; on = omega arith; counts = no_counts; fine = refl; told = refl; goes = refl }
 
-  document-at : go (start rows) (nt Document ∷ []) (from s 0) ≡ at s rows c₀ [] most_levels no_counts more_stack
-  document-at = start-at Document ∙ document_more (st rows c₀.rows [] c₀.stop most_levels no_counts) (from s c₀.stop)
+  document_at : go (start rows) (nt Document ∷ []) (from s 0) ≡ at s rows c₀ [] most_levels no_counts more_stack
+  document_at = start_at Document ∙ document_more (st rows c₀.rows [] c₀.stop most_levels no_counts) (from s c₀.stop)
 
   module _ (rows₁ : List ℕ) (c : Cursor) (fragments : ℕ) (w : Defined s rows rows₁ c₀ c fragments) where
     pub defined_ready : Ready s rows₁ c no_parent
@@ -131,14 +131,14 @@ module _ (s rows : List ℕ) (short : length s ≤ most_text) (size : length row
 
     pub defined_stop : (rows₂ rows' : List ℕ) (u : Read) → Told rows₂ u → (x : Refusal) → u ≡ Refused x → Ended Document s rows rows' u
     defined_stop rows₂ rows' u z x i =
-        rw i (document-at ∙ w.goes
+        rw i (document_at ∙ w.goes
         ∙ counted_halts 1 s rows₁ rows₂ c no_parent most_levels one_definition u stays (fragments_are fragments) (fragments_become (fragments_after s c fragments)) z x i (nt Definition* ∷ []) [] w.counts refl w.fine w.told)
 
     module _ (rows₂ : List ℕ) (d : Cursor) (z : Counted 1 s rows₁ rows₂ c d no_parent most_levels one_definition stays (fragments_are fragments) (fragments_become (fragments_after s c fragments))) where
       pub defined_all : d.kind ≡ 0 → Ended Document s rows rows₂ (Done d)
       defined_all k =
           let v = z.goes (nt Definition* ∷ []) [] w.counts refl w.fine w.told in
-          (st rows₂ d.rows [] d.stop most_levels v.0, document-at ∙ w.goes ∙ v.3 ∙ ends v.0 (front s d z.within z.looks), refl, refl)
+          (st rows₂ d.rows [] d.stop most_levels v.0, document_at ∙ w.goes ∙ v.3 ∙ ends v.0 (front s d z.within z.looks), refl, refl)
         where
           ends : (q : Counts) → Front s d → at s rows₂ d [] most_levels q (nt Definition* ∷ []) ≡ whole (st rows₂ d.rows [] d.stop most_levels q)
           ends q (the_end a b i j) = rw b (star_ends (st rows₂ d.rows [] d.stop most_levels q) d.start)
@@ -164,13 +164,13 @@ module _ (s rows : List ℕ) (short : length s ≤ most_text) (size : length row
   pub text_none : (rows' : List ℕ) → (c₀.kind ≡ kind_of brace_l → ⊥) → (u : Read) → u ≡ no_going_of c₀ → Ended VariablesText s rows rows' u
   unfolding factored language choose refuses refuses_end
   text_none rows' h u i =
-      rw i (start-at VariablesText ∙ refuse s c₀ begin_ready.within begin_ready.looks rows c₀.rows [] most_levels no_counts [] VariablesText (λ y. not (is (kind_of brace_l) y)) (not_is (kind_of brace_l) c₀.kind h) tt tt)
+      rw i (start_at VariablesText ∙ refuse s c₀ begin_ready.within begin_ready.looks rows c₀.rows [] most_levels no_counts [] VariablesText (λ y. not (is (kind_of brace_l) y)) (not_is (kind_of brace_l) c₀.kind h) tt tt)
 
   module _ (h : c₀.kind ≡ kind_of brace_l) where
     text_at : go (start rows) (nt VariablesText ∷ []) (from s 0) ≡ at s rows c₀ [] most_levels no_counts (value_stack true)
     unfolding factored language
     text_at =
-        start-at VariablesText
+        start_at VariablesText
         ∙ first s c₀ begin_ready.within begin_ready.looks rows c₀.rows [] most_levels no_counts [] VariablesText {α = act row ∷ act (kind kind_object 0) ∷ nt ConstObjectValue ∷ act end ∷ []} (Memᴰ.head refl) brace_l h tt
         ∙ sym (first s c₀ begin_ready.within begin_ready.looks rows c₀.rows [] most_levels no_counts [] ConstValue {α = act row ∷ act (kind kind_object 0) ∷ nt ConstObjectValue ∷ act end ∷ []}
         (Memᴰ.tail (Memᴰ.tail (Memᴰ.tail (Memᴰ.tail (Memᴰ.tail (Memᴰ.tail (Memᴰ.tail (Memᴰ.tail (Memᴰ.head refl))))))))) brace_l h tt)
@@ -179,17 +179,17 @@ module _ (s rows : List ℕ) (short : length s ≤ most_text) (size : length row
     text_stop rows₁ rows' u w x i = rw i (text_at ∙ said_halts 1 s rows rows₁ c₀ no_parent most_levels (value_stack true) u w x i [] [] no_counts refl refl)
 
     module _ (rows₁ : List ℕ) (d : Cursor) (w : Went 1 s rows rows₁ c₀ d no_parent most_levels (value_stack true)) where
-      text-ends : go (start rows) (nt VariablesText ∷ []) (from s 0) ≡ at s rows₁ d [] most_levels no_counts []
-      text-ends = text_at ∙ w.goes [] [] no_counts refl refl
+      text_ends : go (start rows) (nt VariablesText ∷ []) (from s 0) ≡ at s rows₁ d [] most_levels no_counts []
+      text_ends = text_at ∙ w.goes [] [] no_counts refl refl
 
       pub text_more : (rows' : List ℕ) → (d.kind ≡ 0 → ⊥) → (u : Read) → u ≡ no_going_of d → Ended VariablesText s rows rows' u
       text_more rows' k u i =
           let f = front_token s d w.within w.looks k in
-          rw i (text-ends ∙ rw f.2 (empty_halts (st rows₁ d.rows [] d.stop most_levels no_counts) (token_of f.0 d.start d.end) (from s d.end)))
+          rw i (text_ends ∙ rw f.2 (empty_halts (st rows₁ d.rows [] d.stop most_levels no_counts) (token_of f.0 d.start d.end) (from s d.end)))
 
       pub text_all : d.kind ≡ 0 → Ended VariablesText s rows rows₁ (Done d)
       unfolding go step
-      text_all k = (st rows₁ d.rows [] d.stop most_levels no_counts, text-ends ∙ ends (front s d w.within w.looks), refl, refl)
+      text_all k = (st rows₁ d.rows [] d.stop most_levels no_counts, text_ends ∙ ends (front s d w.within w.looks), refl, refl)
         where
           ends : Front s d → at s rows₁ d [] most_levels no_counts [] ≡ whole (st rows₁ d.rows [] d.stop most_levels no_counts)
           ends (the_end a b i j) = rw b refl

@@ -76,9 +76,9 @@ module _ (s : List ℕ) (c : Cursor) (h : c.stop ≤ length s) (l : Looks s c) (
       ∙ rw (le-ltb most_rows c.rows k, f) refl)
 
   -- what is no fragment's name is refused
-  name-refused : names_fragment s c ≡ false → (σ : Stack) → at s rows c o left q (nt FragmentName ∷ σ) ≡ halt (NoGoing c.start)
+  name_refused : names_fragment s c ≡ false → (σ : Stack) → at s rows c o left q (nt FragmentName ∷ σ) ≡ halt (NoGoing c.start)
   unfolding factored language choose refuses refuses_end
-  name-refused e σ = by (eqb c.kind 0) refl
+  name_refused e σ = by (eqb c.kind 0) refl
     where
       by : (b : Bool) → eqb c.kind 0 ≡ b → at s rows c o left q (nt FragmentName ∷ σ) ≡ halt (NoGoing c.start)
       by true i = refuse s c h l rows c.rows o left q σ FragmentName (is 0) (true-T (is 0 c.kind) i) tt tt
@@ -121,17 +121,17 @@ module _ (s rows : List ℕ) (c : Cursor) (n : ℕ) (g : Ready s rows c n) (h : 
     pub condition_ready : Ready s rows d n
     condition_ready = next_ready s rows c.end c.rows d g.short g.size begins.2 g.few next n g.below
 
-    condition-at : (σ : Stack) (o : List ℕ) (q : Counts) → over_counts q ≡ false → at s rows c o most_levels q (name_stack ++ σ) ≡ at s rows d o most_levels q (nt TypeCondition ∷ (body_stack ++ σ))
-    condition-at σ o q f = name_taken s c g.within g.looks rows o most_levels q h g.few f (nt TypeCondition ∷ (body_stack ++ σ)) ∙ rw (next.stop, next.rows) refl
+    condition_at : (σ : Stack) (o : List ℕ) (q : Counts) → over_counts q ≡ false → at s rows c o most_levels q (name_stack ++ σ) ≡ at s rows d o most_levels q (nt TypeCondition ∷ (body_stack ++ σ))
+    condition_at σ o q f = name_taken s c g.within g.looks rows o most_levels q h g.few f (nt TypeCondition ∷ (body_stack ++ σ)) ∙ rw (next.stop, next.rows) refl
 
     pub from_name_none : (rows' : List ℕ) → (d.kind ≡ kind_of n_other → ⊥) → (u : Read) → u ≡ no_going_of d → CountedSaid 1 s rows rows' c n most_levels name_stack pop any_counts same_counts u
-    from_name_none rows' k u z = rw z (λ σ o q t f m. condition-at σ o q f ∙ condition_none s d condition_ready.within condition_ready.looks rows o most_levels q k (body_stack ++ σ))
+    from_name_none rows' k u z = rw z (λ σ o q t f m. condition_at σ o q f ∙ condition_none s d condition_ready.within condition_ready.looks rows o most_levels q k (body_stack ++ σ))
 
     pub from_name_other : (rows' : List ℕ) → names_fragment s d ≡ true → (u : Read) → u ≡ no_going_of d → CountedSaid 1 s rows rows' c n most_levels name_stack pop any_counts same_counts u
-    from_name_other rows' k u z = rw z (λ σ o q t f m. condition-at σ o q f ∙ condition_other s d condition_ready.within condition_ready.looks rows o most_levels q k (body_stack ++ σ))
+    from_name_other rows' k u z = rw z (λ σ o q t f m. condition_at σ o q f ∙ condition_other s d condition_ready.within condition_ready.looks rows o most_levels q k (body_stack ++ σ))
 
     pub from_name_stop : (rows₁ rows' : List ℕ) (u : Read) → Said 1 s rows rows₁ d n most_levels condition_stack u → (x : Refusal) → u ≡ Refused x → CountedSaid 1 s rows rows' c n most_levels name_stack pop any_counts same_counts u
-    from_name_stop rows₁ rows' u w x z = rw z (λ σ o q t f m. condition-at σ o q f ∙ said_halts 1 s rows rows₁ d n most_levels condition_stack u w x z (body_stack ++ σ) o q t f)
+    from_name_stop rows₁ rows' u w x z = rw z (λ σ o q t f m. condition_at σ o q f ∙ said_halts 1 s rows rows₁ d n most_levels condition_stack u w x z (body_stack ++ σ) o q t f)
 
     pub from_name_says : (rows₁ : List ℕ) (b : Cursor) → Went 1 s rows rows₁ d b n most_levels condition_stack → (rows' : List ℕ) (u : Read) → CountedSaid 1 s rows₁ rows' b n most_levels body_stack pop any_counts same_counts u →
         CountedSaid 1 s rows rows' c n most_levels name_stack pop any_counts same_counts u
@@ -142,9 +142,9 @@ module _ (s rows : List ℕ) (c : Cursor) (n : ℕ) (g : Ready s rows c n) (h : 
           few = u.few;
           looks = u.looks;
           on = omega (arith, next.stop, begins, w.on, u.on);
-          goes = λ σ o q t f m. (let z = u.goes σ o q t f tt in (z.0, z.1, z.2, condition-at σ o q f ∙ w.goes (body_stack ++ σ) o q t f ∙ z.3));
+          goes = λ σ o q t f m. (let z = u.goes σ o q t f tt in (z.0, z.1, z.2, condition_at σ o q f ∙ w.goes (body_stack ++ σ) o q t f ∙ z.3));
         }
-    from_name_says rows₁ b w rows' (Refused x) u = λ σ o q t f m. condition-at σ o q f ∙ w.goes (body_stack ++ σ) o q t f ∙ u σ o q t f tt
+    from_name_says rows₁ b w rows' (Refused x) u = λ σ o q t f m. condition_at σ o q f ∙ w.goes (body_stack ++ σ) o q t f ∙ u σ o q t f tt
 
 -- FROM ITS WORD ON
 fragment_text : (s : List ℕ) (c : Cursor) → c.stop ≤ length s → Looks s c → AtFragment s c → from s c.stop ≡ token (token_of n_fragment c.start c.end) (from s c.end)
@@ -164,9 +164,9 @@ module _ (s rows : List ℕ) (c : Cursor) (before : ℕ) (g : Ready s rows c no_
   abbrev first-cells : List ℕ
   first-cells = put rows c.rows kind_fragment c.start 0 no_parent 0 0 0
 
-  fragment-row : (σ : Stack) (o : List ℕ) (q : Counts) → top o ≡ no_parent →
+  fragment_row : (σ : Stack) (o : List ℕ) (q : Counts) → top o ≡ no_parent →
       at s rows c o most_levels q (one_definition ++ σ) ≡ go (st first-cells (c.rows + 1) (c.rows ∷ o) c.stop most_levels (kinded kind_fragment q)) (tm (the n_fragment) ∷ act named ∷ (name_stack ++ σ)) (from s c.stop)
-  fragment-row σ o q t =
+  fragment_row σ o q t =
       rw (fragment_text s c g.within g.looks h) (fragment_first (st rows c.rows o c.stop most_levels q) σ c.start c.end (from s c.end)
       ∙ row_opens rows c.rows o c.stop most_levels q (tm (the n_fragment) ∷ act named ∷ (name_stack ++ σ)) (token (token_of n_fragment c.start c.end) (from s c.end)) kind_fragment 0
       ∙ rw t refl)
@@ -174,7 +174,7 @@ module _ (s rows : List ℕ) (c : Cursor) (before : ℕ) (g : Ready s rows c no_
   pub fragment_full : c.rows ≡ most_rows → CountedHalts s rows c no_parent most_levels one_definition (fragments_are before) (TooManyRows c.start)
   fragment_full k σ o q t f m =
       let i : most_rows < c.rows + 1 = omega arith in
-      fragment-row σ o q t
+      fragment_row σ o q t
       ∙ rw (fragment_text s c g.within g.looks h)
       (class_take n_fragment c.start c.end (from s c.end) first-cells (c.rows + 1) (c.rows ∷ o) c.stop most_levels (kinded kind_fragment q) (act named ∷ (name_stack ++ σ)) (the n_fragment) tt tt tt
       ∙ rw (lt-ltb most_rows (c.rows + 1) i) refl)
@@ -184,7 +184,7 @@ module _ (s rows : List ℕ) (c : Cursor) (before : ℕ) (g : Ready s rows c no_
     fragment_many k σ o q t f m =
         let i : c.rows + 1 ≤ most_rows = omega (arith, g.few, room) in
         let j : most_fragments ≤ q.fragments = omega arith in
-        fragment-row σ o q t
+        fragment_row σ o q t
         ∙ rw (fragment_text s c g.within g.looks h)
         (class_take n_fragment c.start c.end (from s c.end) first-cells (c.rows + 1) (c.rows ∷ o) c.stop most_levels (kinded kind_fragment q) (act named ∷ (name_stack ++ σ)) (the n_fragment) tt tt tt
         ∙ rw (le-ltb most_rows (c.rows + 1) i, fragment_over q j) refl)
@@ -193,11 +193,11 @@ module _ (s rows : List ℕ) (c : Cursor) (before : ℕ) (g : Ready s rows c no_
       one_more : (q : Counts) → over_counts q ≡ false → fragments_are before q → over_counts (kinded kind_fragment q) ≡ false
       one_more q f m = let p = fine_parts q f in fragment_fine q f (omega (arith, p.0, less))
 
-      fragment-past : (σ : Stack) (o : List ℕ) (q : Counts) → top o ≡ no_parent → over_counts q ≡ false → fragments_are before q →
+      fragment_past : (σ : Stack) (o : List ℕ) (q : Counts) → top o ≡ no_parent → over_counts q ≡ false → fragments_are before q →
           at s rows c o most_levels q (one_definition ++ σ) ≡ go (st first-cells (c.rows + 1) (c.rows ∷ o) c.end most_levels (kinded kind_fragment q)) (act named ∷ (name_stack ++ σ)) (from s c.end)
-      fragment-past σ o q t f m =
+      fragment_past σ o q t f m =
           let i : c.rows + 1 ≤ most_rows = omega (arith, g.few, room) in
-          fragment-row σ o q t
+          fragment_row σ o q t
           ∙ rw (fragment_text s c g.within g.looks h)
           (class_take n_fragment c.start c.end (from s c.end) first-cells (c.rows + 1) (c.rows ∷ o) c.stop most_levels (kinded kind_fragment q) (act named ∷ (name_stack ++ σ)) (the n_fragment) tt tt tt
           ∙ rw (le-ltb most_rows (c.rows + 1) i, one_more q f m) refl)
@@ -205,7 +205,7 @@ module _ (s rows : List ℕ) (c : Cursor) (before : ℕ) (g : Ready s rows c no_
       module _ (r : Read) (e : r ≡ moved_to c.end (c.rows + 1) (head_of (from s c.end))) where
         pub fragment_bad : (rows' : List ℕ) (x : Refusal) → r ≡ Refused x → CountedSaid 1 s rows rows' c no_parent most_levels one_definition stays (fragments_are before) (fragments_become (before + 1)) r
         fragment_bad rows' x y =
-            rw y (λ σ o q t f m. fragment-past σ o q t f m ∙ moved_halts s c.end (c.rows + 1) r x e y (st first-cells (c.rows + 1) (c.rows ∷ o) c.end most_levels (kinded kind_fragment q)) (act named ∷ (name_stack ++ σ)))
+            rw y (λ σ o q t f m. fragment_past σ o q t f m ∙ moved_halts s c.end (c.rows + 1) r x e y (st first-cells (c.rows + 1) (c.rows ∷ o) c.end most_levels (kinded kind_fragment q)) (act named ∷ (name_stack ++ σ)))
 
         module _ (d : Cursor) (y : r ≡ Done d) where
           abbrev named-cells : List ℕ
@@ -214,11 +214,11 @@ module _ (s rows : List ℕ) (c : Cursor) (before : ℕ) (g : Ready s rows c no_
           word_next : Next s c.end (c.rows + 1) d
           word_next = next_of s c.end (c.rows + 1) r d e y
 
-          word-begins : (c.stop ≤ c.start) × (c.start < c.end) × (c.end ≤ length s)
-          word-begins = ahead s c g.within g.looks (λ z. let x : ⊥ = omega (arith, h.0) in x)
+          word_begins : (c.stop ≤ c.start) × (c.start < c.end) × (c.end ≤ length s)
+          word_begins = ahead s c g.within g.looks (λ z. let x : ⊥ = omega (arith, h.0) in x)
 
           name_within : d.stop ≤ length s
-          name_within = omega (arith, word_next.stop, word-begins.2)
+          name_within = omega (arith, word_next.stop, word_begins.2)
 
           pub fragment_ends : (d.start ≤ d.end) × (d.end ≤ length s)
           fragment_ends = end_within s d name_within word_next.looks
@@ -226,19 +226,19 @@ module _ (s rows : List ℕ) (c : Cursor) (before : ℕ) (g : Ready s rows c no_
           name_at : (σ : Stack) (o : List ℕ) (q : Counts) → top o ≡ no_parent → over_counts q ≡ false → fragments_are before q →
               at s rows c o most_levels q (one_definition ++ σ) ≡ at s named-cells d (c.rows ∷ o) most_levels (kinded kind_fragment q) (name_stack ++ σ)
           name_at σ o q t f m =
-              fragment-past σ o q t f m
+              fragment_past σ o q t f m
               ∙ rw (sym word_next.stop, sym word_next.rows)
               (name_told rows d.rows o d.stop most_levels (kinded kind_fragment q) (name_stack ++ σ) (from s d.stop) c.rows kind_fragment c.start 0 no_parent 0 0 0
               ∙ rw (start_in_is s d word_next.looks, stop_in_is s d word_next.looks) refl)
 
           pub fragment_nameless : (rows' : List ℕ) → names_fragment s d ≡ false → (u : Read) → u ≡ no_going_of d → CountedSaid 1 s rows rows' c no_parent most_levels one_definition stays (fragments_are before) (fragments_become (before + 1)) u
           fragment_nameless rows' k u z =
-              rw z (λ σ o q t f m. name_at σ o q t f m ∙ name-refused s d name_within word_next.looks named-cells (c.rows ∷ o) most_levels (kinded kind_fragment q) k (nt TypeCondition ∷ (body_stack ++ σ)))
+              rw z (λ σ o q t f m. name_at σ o q t f m ∙ name_refused s d name_within word_next.looks named-cells (c.rows ∷ o) most_levels (kinded kind_fragment q) k (nt TypeCondition ∷ (body_stack ++ σ)))
 
           module _ (rows₁ : List ℕ) (z : rows₁ ≡ named-cells) where
             pub fragment_ready : names_fragment s d ≡ true → Ready s rows₁ d c.rows × (c.rows < most_rows) × (names_fragment s d ≡ true)
             fragment_ready k = (
-              next_ready s rows₁ c.end (c.rows + 1) d g.short (ap length z ∙ put_length rows c.rows kind_fragment c.start 0 no_parent d.start (d.end - d.start) 0 ∙ g.size) word-begins.2 (omega (arith, g.few, room)) word_next c.rows g.few,
+              next_ready s rows₁ c.end (c.rows + 1) d g.short (ap length z ∙ put_length rows c.rows kind_fragment c.start 0 no_parent d.start (d.end - d.start) 0 ∙ g.size) word_begins.2 (omega (arith, g.few, room)) word_next c.rows g.few,
               omega (arith, g.few, room),
               k,
             )
@@ -250,7 +250,7 @@ module _ (s rows : List ℕ) (c : Cursor) (before : ℕ) (g : Ready s rows c no_
                   within = w.within;
                   few = w.few;
                   looks = w.looks;
-                  on = omega (arith, w.on, word_next.stop, word-begins);
+                  on = omega (arith, w.on, word_next.stop, word_begins);
                   goes = λ σ o q t f m.
                       let v = w.goes σ (c.rows ∷ o) (kinded kind_fragment q) refl (one_more q f m) tt in
                       (v.0, v.1, ap (λ (p : Counts). p.fragments) v.2 ∙ ap (λ (i : ℕ). i + 1) m, name_at σ o q t f m ∙ rw (sym z) v.3);

@@ -84,10 +84,10 @@ module _ (s rows : List ℕ) (c : Cursor) (extra : ℕ) (g : Ready s rows c no_p
   abbrev first-cells : List ℕ
   first-cells = put rows c.rows kind_operation c.start 0 no_parent 0 0 extra
 
-  operation-row : (σ : Stack) (o : List ℕ) (q : Counts) → top o ≡ no_parent →
+  operation_row : (σ : Stack) (o : List ℕ) (q : Counts) → top o ≡ no_parent →
       at s rows c o most_levels q (one_definition ++ σ)
       ≡ go (st first-cells (c.rows + 1) (c.rows ∷ o) c.stop most_levels (kinded kind_operation q)) (tm (the (type_class extra)) ∷ nt OperationName? ∷ (rest_stack ++ σ)) (from s c.stop)
-  operation-row σ o q t =
+  operation_row σ o q t =
       rw (type_text s c extra g.within g.looks h) (operation_first extra h.2 (st rows c.rows o c.stop most_levels q) σ c.start c.end (from s c.end)
       ∙ row_opens rows c.rows o c.stop most_levels q (tm (the (type_class extra)) ∷ nt OperationName? ∷ (rest_stack ++ σ)) (token (token_of (type_class extra) c.start c.end) (from s c.end)) kind_operation extra
       ∙ rw t refl)
@@ -96,27 +96,27 @@ module _ (s rows : List ℕ) (c : Cursor) (extra : ℕ) (g : Ready s rows c no_p
   operation_full k σ o q t f m =
       let y = type_hits extra in
       let i : most_rows < c.rows + 1 = omega arith in
-      operation-row σ o q t
+      operation_row σ o q t
       ∙ rw (type_text s c extra g.within g.looks h)
       (class_take (type_class extra) c.start c.end (from s c.end) first-cells (c.rows + 1) (c.rows ∷ o) c.stop most_levels (kinded kind_operation q) (nt OperationName? ∷ (rest_stack ++ σ)) (the (type_class extra)) y.0 y.1 y.2
       ∙ rw (lt-ltb most_rows (c.rows + 1) i) refl)
 
   module _ (room : c.rows ≡ most_rows → ⊥) where
-    operation-past : (σ : Stack) (o : List ℕ) (q : Counts) → top o ≡ no_parent → over_counts q ≡ false →
+    operation_past : (σ : Stack) (o : List ℕ) (q : Counts) → top o ≡ no_parent → over_counts q ≡ false →
         at s rows c o most_levels q (one_definition ++ σ) ≡ go (st first-cells (c.rows + 1) (c.rows ∷ o) c.end most_levels (kinded kind_operation q)) (nt OperationName? ∷ (rest_stack ++ σ)) (from s c.end)
-    operation-past σ o q t f =
+    operation_past σ o q t f =
         let y = type_hits extra in
         let i : c.rows + 1 ≤ most_rows = omega (arith, g.few, room) in
-        operation-row σ o q t
+        operation_row σ o q t
         ∙ rw (type_text s c extra g.within g.looks h)
         (class_take (type_class extra) c.start c.end (from s c.end) first-cells (c.rows + 1) (c.rows ∷ o) c.stop most_levels (kinded kind_operation q) (nt OperationName? ∷ (rest_stack ++ σ)) (the (type_class extra)) y.0 y.1 y.2
         ∙ rw (le-ltb most_rows (c.rows + 1) i, operation_fine q f) refl)
 
     -- the rest is read, where the machine is at it
-    operation-says : (rows₁ : List ℕ) (d : Cursor) → c.stop ≤ d.stop →
+    operation_says : (rows₁ : List ℕ) (d : Cursor) → c.stop ≤ d.stop →
         ((σ : Stack) (o : List ℕ) (q : Counts) → top o ≡ no_parent → over_counts q ≡ false → at s rows c o most_levels q (one_definition ++ σ) ≡ at s rows₁ d (c.rows ∷ o) most_levels (kinded kind_operation q) (rest_stack ++ σ)) →
         (rows' : List ℕ) (r : Read) → CountedSaid 1 s rows₁ rows' d c.rows most_levels rest_stack pop (variables_are 0) same_fragments r → CountedSaid 1 s rows rows' c no_parent most_levels one_definition stays any_counts same_fragments r
-    operation-says rows₁ d l y rows' (Done b) w =
+    operation_says rows₁ d l y rows' (Done b) w =
         record {
           size = w.size;
           within = w.within;
@@ -125,12 +125,12 @@ module _ (s rows : List ℕ) (c : Cursor) (extra : ℕ) (g : Ready s rows c no_p
           on = omega (arith, w.on);
           goes = λ σ o q t f m. (let z = w.goes σ (c.rows ∷ o) (kinded kind_operation q) refl (operation_fine q f) refl in (z.0, z.1, z.2, y σ o q t f ∙ z.3));
         }
-    operation-says rows₁ d l y rows' (Refused x) w = λ σ o q t f m. y σ o q t f ∙ w σ (c.rows ∷ o) (kinded kind_operation q) refl (operation_fine q f) refl
+    operation_says rows₁ d l y rows' (Refused x) w = λ σ o q t f m. y σ o q t f ∙ w σ (c.rows ∷ o) (kinded kind_operation q) refl (operation_fine q f) refl
 
     module _ (r : Read) (e : r ≡ moved_to c.end (c.rows + 1) (head_of (from s c.end))) where
       pub operation_bad : (rows' : List ℕ) (x : Refusal) → r ≡ Refused x → CountedSaid 1 s rows rows' c no_parent most_levels one_definition stays any_counts same_fragments r
       operation_bad rows' x y =
-          rw y (λ σ o q t f m. operation-past σ o q t f ∙ moved_halts s c.end (c.rows + 1) r x e y (st first-cells (c.rows + 1) (c.rows ∷ o) c.end most_levels (kinded kind_operation q)) (nt OperationName? ∷ (rest_stack ++ σ)))
+          rw y (λ σ o q t f m. operation_past σ o q t f ∙ moved_halts s c.end (c.rows + 1) r x e y (st first-cells (c.rows + 1) (c.rows ∷ o) c.end most_levels (kinded kind_operation q)) (nt OperationName? ∷ (rest_stack ++ σ)))
 
       module _ (d : Cursor) (y : r ≡ Done d) where
         next : Next s c.end (c.rows + 1) d
@@ -156,8 +156,8 @@ module _ (s rows : List ℕ) (c : Cursor) (extra : ℕ) (g : Ready s rows c no_p
             CountedSaid 1 s rows rows' c no_parent most_levels one_definition stays any_counts same_fragments u
         unfolding factored language choose
         unnamed_says k rows₁ z rows' u w =
-            operation-says rows₁ d (omega (arith, next.stop, begins))
-            (λ σ o q t f. operation-past σ o q t f
+            operation_says rows₁ d (omega (arith, next.stop, begins))
+            (λ σ o q t f. operation_past σ o q t f
             ∙ rw (sym next.stop, sym next.rows) (null s d name_within next.looks first-cells d.rows (c.rows ∷ o) most_levels (kinded kind_operation q) (rest_stack ++ σ) OperationName? {α = []} (Memᴰ.head refl) tt refl (λ y. not (is (kind_of n_other) y)) (not_is (kind_of n_other) d.kind k) tt ∙ rw z refl))
             rows' u w
 
@@ -169,7 +169,7 @@ module _ (s rows : List ℕ) (c : Cursor) (extra : ℕ) (g : Ready s rows c no_p
               at s rows c o most_levels q (one_definition ++ σ) ≡ go (st named-cells (c.rows + 1) (c.rows ∷ o) d.end most_levels (kinded kind_operation q)) (rest_stack ++ σ) (from s d.end)
           unfolding factored language
           named_past σ o q t f =
-              operation-past σ o q t f
+              operation_past σ o q t f
               ∙ rw (sym next.stop, sym next.rows)
               (first s d name_within next.looks first-cells d.rows (c.rows ∷ o) most_levels (kinded kind_operation q) (rest_stack ++ σ) OperationName? {α = act named ∷ nt Name ∷ []} (Memᴰ.tail (Memᴰ.head refl)) n_other k tt
               ∙ name_told rows d.rows o d.stop most_levels (kinded kind_operation q) (nt Name ∷ (rest_stack ++ σ)) (from s d.stop) c.rows kind_operation c.start 0 no_parent 0 0 extra
@@ -183,20 +183,20 @@ module _ (s rows : List ℕ) (c : Cursor) (extra : ℕ) (g : Ready s rows c no_p
                 rw z (λ σ o q t f m. named_past σ o q t f ∙ moved_halts s d.end (c.rows + 1) v x i z (st named-cells (c.rows + 1) (c.rows ∷ o) d.end most_levels (kinded kind_operation q)) (rest_stack ++ σ))
 
             module _ (b : Cursor) (j : v ≡ Done b) where
-              next-2 : Next s d.end (c.rows + 1) b
-              next-2 = next_of s d.end (c.rows + 1) v b i j
+              next_2 : Next s d.end (c.rows + 1) b
+              next_2 = next_of s d.end (c.rows + 1) v b i j
 
               pub named_ready : (rows₁ : List ℕ) → rows₁ ≡ named-cells → Ready s rows₁ b c.rows × (c.rows < most_rows)
               named_ready rows₁ z = (
-                next_ready s rows₁ d.end (c.rows + 1) b g.short (ap length z ∙ put_length rows c.rows kind_operation c.start 0 no_parent d.start (d.end - d.start) extra ∙ g.size) name_ends.1 (omega (arith, g.few, room)) next-2 c.rows g.few,
+                next_ready s rows₁ d.end (c.rows + 1) b g.short (ap length z ∙ put_length rows c.rows kind_operation c.start 0 no_parent d.start (d.end - d.start) extra ∙ g.size) name_ends.1 (omega (arith, g.few, room)) next_2 c.rows g.few,
                 omega (arith, g.few, room),
               )
 
               pub named_says : (rows₁ : List ℕ) → rows₁ ≡ named-cells → (rows' : List ℕ) (u : Read) → CountedSaid 1 s rows₁ rows' b c.rows most_levels rest_stack pop (variables_are 0) same_fragments u →
                   CountedSaid 1 s rows rows' c no_parent most_levels one_definition stays any_counts same_fragments u
               named_says rows₁ z rows' u w =
-                  operation-says rows₁ b (let p = ahead s d name_within next.looks (λ z. let x : ⊥ = omega (arith, k) in x) in omega (arith, next.stop, next-2.stop, begins, p))
-                  (λ σ o q t f. named_past σ o q t f ∙ rw (next-2.stop, next-2.rows, z) refl) rows' u w
+                  operation_says rows₁ b (let p = ahead s d name_within next.looks (λ z. let x : ⊥ = omega (arith, k) in x) in omega (arith, next.stop, next_2.stop, begins, p))
+                  (λ σ o q t f. named_past σ o q t f ∙ rw (next_2.stop, next_2.rows, z) refl) rows' u w
 
 -- A SELECTION SET ALONE
 module _ (s rows : List ℕ) (c : Cursor) (g : Ready s rows c no_parent) (h : c.kind ≡ kind_of brace_l) where
@@ -224,13 +224,13 @@ module _ (s rows : List ℕ) (c : Cursor) (g : Ready s rows c no_parent) (h : c.
       ∙ too_many_rows_open s counted g.within g.looks short-cells (c.rows + 1) (c.rows ∷ o) most_levels (kinded kind_operation q) (nt Selection+ ∷ tm (the brace_r) ∷ act end ∷ σ) (the brace_l) brace_l h tt tt 31 refl (omega arith)
 
   module _ (rows₁ : List ℕ) (z : rows₁ ≡ short-cells) where
-    short-at : (σ : Stack) (o : List ℕ) (q : Counts) → top o ≡ no_parent → at s rows c o most_levels q (one_definition ++ σ) ≡ at s rows₁ counted (c.rows ∷ o) most_levels (kinded kind_operation q) (nt SelectionSet ∷ act end ∷ σ)
-    short-at σ o q t = short_row σ o q t ∙ rw z refl
+    short_at : (σ : Stack) (o : List ℕ) (q : Counts) → top o ≡ no_parent → at s rows c o most_levels q (one_definition ++ σ) ≡ at s rows₁ counted (c.rows ∷ o) most_levels (kinded kind_operation q) (nt SelectionSet ∷ act end ∷ σ)
+    short_at σ o q t = short_row σ o q t ∙ rw z refl
 
     pub short_stop : (rows₂ rows' : List ℕ) (r : Read) → Said 1 s rows₁ rows₂ counted c.rows most_levels selection_set_stack r → (x : Refusal) → r ≡ Refused x →
         CountedSaid 1 s rows rows' c no_parent most_levels one_definition stays any_counts same_fragments r
     short_stop rows₂ rows' r w x e =
-        rw e (λ σ o q t f m. short-at σ o q t ∙ said_halts 1 s rows₁ rows₂ counted c.rows most_levels selection_set_stack r w x e (act end ∷ σ) (c.rows ∷ o) (kinded kind_operation q) refl (operation_fine q f))
+        rw e (λ σ o q t f m. short_at σ o q t ∙ said_halts 1 s rows₁ rows₂ counted c.rows most_levels selection_set_stack r w x e (act end ∷ σ) (c.rows ∷ o) (kinded kind_operation q) refl (operation_fine q f))
 
     pub short_done : (rows₂ rows' : List ℕ) (d : Cursor) → Went 1 s rows₁ rows₂ counted d c.rows most_levels selection_set_stack → rows' ≡ set rows₂ (7 * c.rows + 2) d.stop →
         Counted 1 s rows rows' c d no_parent most_levels one_definition stays any_counts same_fragments
@@ -245,7 +245,7 @@ module _ (s rows : List ℕ) (c : Cursor) (g : Ready s rows c no_parent) (h : c.
             kinded kind_operation q,
             operation_fine q f,
             refl,
-            short-at σ o q t ∙ w.goes (act end ∷ σ) (c.rows ∷ o) (kinded kind_operation q) refl (operation_fine q f)
+            short_at σ o q t ∙ w.goes (act end ∷ σ) (c.rows ∷ o) (kinded kind_operation q) refl (operation_fine q f)
                 ∙ ends_row rows₂ d.rows o d.stop most_levels (kinded kind_operation q) σ (from s d.stop) c.rows
                 ∙ rw e refl,
           );

@@ -45,33 +45,33 @@ module _ (s : List ℕ) (w : Wrapped) {most : ℕ} (ready : Marked s w most) whe
       }
 
   -- the machine at a `!`: its mark is counted, and it is looked at
-  bang-first : w.at.kind ≡ kind_of bang → (cells : List ℕ) (n a p m z : ℕ) (o : List ℕ) (left : ℕ) (q : Counts) (σ : Stack) →
+  bang_first : w.at.kind ≡ kind_of bang → (cells : List ℕ) (n a p m z : ℕ) (o : List ℕ) (left : ℕ) (q : Counts) (σ : Stack) →
       inside s w cells n a p m z o left q (nt Bang? ∷ σ)
       ≡ go (st (put cells n kind_type_reference a 0 p m z w.extra) w.at.rows (n ∷ o) w.at.stop left (wrapped_by (w.marks + 1) q)) (tm (the bang) ∷ act (wrap wrap_non_null) ∷ σ) (from s w.at.stop)
   unfolding factored language
-  bang-first h cells n a p m z o left q σ =
+  bang_first h cells n a p m z o left q σ =
       first s w.at ready.seen.within ready.seen.looks (put cells n kind_type_reference a 0 p m z w.extra) w.at.rows (n ∷ o) left (wrapped_by w.marks q)
       σ Bang? {α = act wrapper ∷ tm (the bang) ∷ act (wrap wrap_non_null) ∷ []} (Memᴰ.tail (Memᴰ.head refl)) bang h tt
       ∙ wrapper_counted (put cells n kind_type_reference a 0 p m z w.extra) w.at.rows (n ∷ o) w.at.stop left (wrapped_by w.marks q) (tm (the bang) ∷ act (wrap wrap_non_null) ∷ σ) (from s w.at.stop)
 
   pub bang_many : w.at.kind ≡ kind_of bang → most_wrappers ≤ w.marks → WrapHalts s w bang_stack (TooMany w.at.start)
   bang_many h k cells n a p m z o left q σ l f =
-      bang-first h cells n a p m z o left q σ
+      bang_first h cells n a p m z o left q σ
       ∙ too_many s w.at ready.seen.within ready.seen.looks (put cells n kind_type_reference a 0 p m z w.extra) w.at.rows (n ∷ o) left (wrapped_by (w.marks + 1) q)
       (act (wrap wrap_non_null) ∷ σ) (the bang) bang h tt tt ready.seen.few (wrapped_over q (w.marks + 1) f (omega arith))
 
-  bang-past : w.at.kind ≡ kind_of bang → w.marks < most_wrappers → (cells : List ℕ) (n a p m z : ℕ) (o : List ℕ) (left : ℕ) (q : Counts) (σ : Stack) → over_counts q ≡ false →
+  bang_past : w.at.kind ≡ kind_of bang → w.marks < most_wrappers → (cells : List ℕ) (n a p m z : ℕ) (o : List ℕ) (left : ℕ) (q : Counts) (σ : Stack) → over_counts q ≡ false →
       inside s w cells n a p m z o left q (nt Bang? ∷ σ)
       ≡ go (st (put cells n kind_type_reference a 0 p m z w.extra) w.at.rows (n ∷ o) w.at.end left (wrapped_by (w.marks + 1) q)) (act (wrap wrap_non_null) ∷ σ) (from s w.at.end)
-  bang-past h k cells n a p m z o left q σ f =
-      bang-first h cells n a p m z o left q σ
+  bang_past h k cells n a p m z o left q σ f =
+      bang_first h cells n a p m z o left q σ
       ∙ plain s w.at ready.seen.within ready.seen.looks (put cells n kind_type_reference a 0 p m z w.extra) w.at.rows (n ∷ o) left (wrapped_by (w.marks + 1) q)
       (act (wrap wrap_non_null) ∷ σ) (the bang) bang h tt tt ready.seen.few (wrapped_fine q (w.marks + 1) f (omega arith))
 
   module _ (h : w.at.kind ≡ kind_of bang) (k : w.marks < most_wrappers) (r : Read) (e : r ≡ moved_to w.at.end w.at.rows (head_of (from s w.at.end))) where
     pub bang_bad : (x : Refusal) → r ≡ Refused x → WrapHalts s w bang_stack x
     bang_bad x y cells n a p m z o left q σ l f =
-        bang-past h k cells n a p m z o left q σ f
+        bang_past h k cells n a p m z o left q σ f
         ∙ moved_halts s w.at.end w.at.rows r x e y (st (put cells n kind_type_reference a 0 p m z w.extra) w.at.rows (n ∷ o) w.at.end left (wrapped_by (w.marks + 1) q)) (act (wrap wrap_non_null) ∷ σ)
 
     pub bang_done : (d : Cursor) → r ≡ Done d → Wraps s w (record { at = d; extra = w.extra * 4 + wrap_non_null; marks = w.marks + 1 }) bang_stack 0
@@ -86,7 +86,7 @@ module _ (s : List ℕ) (w : Wrapped) {most : ℕ} (ready : Marked s w most) whe
           marks = omega arith;
           small = λ j l. let g : 0 + j + (w.marks + 1) ≡ suc (j + w.marks) = omega arith in rw g (omega arith);
           goes = λ cells n a p m z o left q σ l f.
-              bang-past h k cells n a p m z o left q σ f
+              bang_past h k cells n a p m z o left q σ f
               ∙ wrap_told cells w.at.rows o w.at.end left (wrapped_by (w.marks + 1) q) σ (from s w.at.end) n kind_type_reference a 0 p m z w.extra wrap_non_null l
               ∙ rw (v.stop, v.rows, zero-add left) refl;
         }

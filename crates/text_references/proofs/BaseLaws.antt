@@ -66,15 +66,15 @@ module _ (s : List ℕ) (c : Cursor) (marks : ℕ) (g : Seen s c) (h : c.kind �
           let b = ahead s c g.within g.looks (λ z. let x : ⊥ = omega arith in x) in
           record { seen = record { short = g.short; within = omega arith; few = omega (arith, g.few); looks = v.looks }; marks = k; small = omega arith }
 
-      named-goes : (cells : List ℕ) (n a p : ℕ) (o : List ℕ) (left : ℕ) (q : Counts) (σ : Stack) → over_counts q ≡ false →
+      named_goes : (cells : List ℕ) (n a p : ℕ) (o : List ℕ) (left : ℕ) (q : Counts) (σ : Stack) → over_counts q ≡ false →
           unnamed s c marks cells n a p o left q σ ≡ inside s bare cells n a p c.start (c.end - c.start) o left q (bang_stack ++ (closers marks ++ σ))
-      named-goes cells n a p o left q σ f =
+      named_goes cells n a p o left q σ f =
           let v = next_of s c.end c.rows r d e y in
           named_past cells n a p o left q σ f ∙ rw (v.stop, v.rows) refl
 
       pub named_stop : (t : TypeRead) (x : Refusal) → Says s bare bang_stack 0 t → t ≡ Untyped x → Named s c marks t
       named_stop t x b z = rw z (λ cells n a p o left q σ l f.
-          named-goes cells n a p o left q σ f
+          named_goes cells n a p o left q σ f
           ∙ subst (λ (t : TypeRead). Says s bare bang_stack 0 t) z b cells n a p c.start (c.end - c.start) o left q (closers marks ++ σ) l f)
 
       module _ (t : TypeRead) (w : Wrapped) (b : Says s bare bang_stack 0 t) (z : t ≡ Typed w) where
@@ -98,12 +98,12 @@ module _ (s : List ℕ) (c : Cursor) (marks : ℕ) (g : Seen s c) (h : c.kind �
               on = omega (arith, x.on, banged.on);
               marked = x.marks;
               goes = λ cells n a p o left q σ l f.
-                  named-goes cells n a p o left q σ f
+                  named_goes cells n a p o left q σ f
                   ∙ banged.goes cells n a p c.start (c.end - c.start) o left q (closers marks ++ σ) l f
                   ∙ x.goes cells n a p c.start (c.end - c.start) o (0 + left) q σ l f
                   ∙ rw (zero-add left) refl;
             }
         named_says (Untyped x) y' = λ cells n a p o left q σ l f.
-            named-goes cells n a p o left q σ f
+            named_goes cells n a p o left q σ f
             ∙ banged.goes cells n a p c.start (c.end - c.start) o left q (closers marks ++ σ) l f
             ∙ y' cells n a p c.start (c.end - c.start) o (0 + left) q σ l f

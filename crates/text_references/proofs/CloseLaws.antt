@@ -36,17 +36,17 @@ module _ (s : List ℕ) (w : Wrapped) (ready : Marked s w most_before) where
       (act (wrap wrap_list) ∷ nt Bang? ∷ σ) (the bracket_r) (λ y. not (is (kind_of bracket_r) y)) (not_is (kind_of bracket_r) w.at.kind h) tt
 
   module _ (h : w.at.kind ≡ kind_of bracket_r) where
-    close-past : (cells : List ℕ) (n a p m z : ℕ) (o : List ℕ) (left : ℕ) (q : Counts) (σ : Stack) → over_counts q ≡ false →
+    close_past : (cells : List ℕ) (n a p m z : ℕ) (o : List ℕ) (left : ℕ) (q : Counts) (σ : Stack) → over_counts q ≡ false →
         inside s w cells n a p m z o left q (closers 1 ++ σ)
         ≡ go (st (put cells n kind_type_reference a 0 p m z w.extra) w.at.rows (n ∷ o) w.at.end (suc left) (wrapped_by w.marks q)) (act (wrap wrap_list) ∷ nt Bang? ∷ σ) (from s w.at.end)
-    close-past cells n a p m z o left q σ f =
+    close_past cells n a p m z o left q σ f =
         closing s w.at ready.seen.within ready.seen.looks (put cells n kind_type_reference a 0 p m z w.extra) w.at.rows (n ∷ o) left (wrapped_by w.marks q)
         (act (wrap wrap_list) ∷ nt Bang? ∷ σ) (the bracket_r) bracket_r h tt tt ready.seen.few (wrapped_fine q w.marks f ready.marks)
 
     module _ (r : Read) (e : r ≡ moved_to w.at.end w.at.rows (head_of (from s w.at.end))) where
       pub close_bad : (x : Refusal) → r ≡ Refused x → WrapHalts s w (closers 1) x
       close_bad x y cells n a p m z o left q σ l f =
-          close-past cells n a p m z o left q σ f
+          close_past cells n a p m z o left q σ f
           ∙ moved_halts s w.at.end w.at.rows r x e y (st (put cells n kind_type_reference a 0 p m z w.extra) w.at.rows (n ∷ o) w.at.end (suc left) (wrapped_by w.marks q)) (act (wrap wrap_list) ∷ nt Bang? ∷ σ)
 
       module _ (d : Cursor) (y : r ≡ Done d) where
@@ -59,11 +59,11 @@ module _ (s : List ℕ) (w : Wrapped) (ready : Marked s w most_before) where
             let b = ahead s w.at ready.seen.within ready.seen.looks (λ z. let x : ⊥ = omega arith in x) in
             record { seen = record { short = ready.seen.short; within = omega arith; few = omega (arith, ready.seen.few); looks = v.looks }; marks = ready.marks; small = omega (arith, ready.small) }
 
-        close-goes : (cells : List ℕ) (n a p m z : ℕ) (o : List ℕ) (left : ℕ) (q : Counts) (σ : Stack) → 7 * n + 7 ≤ length cells → over_counts q ≡ false →
+        close_goes : (cells : List ℕ) (n a p m z : ℕ) (o : List ℕ) (left : ℕ) (q : Counts) (σ : Stack) → 7 * n + 7 ≤ length cells → over_counts q ≡ false →
             inside s w cells n a p m z o left q (closers 1 ++ σ) ≡ inside s behind cells n a p m z o (suc left) q (bang_stack ++ σ)
-        close-goes cells n a p m z o left q σ l f =
+        close_goes cells n a p m z o left q σ l f =
             let v = next_of s w.at.end w.at.rows r d e y in
-            close-past cells n a p m z o left q σ f
+            close_past cells n a p m z o left q σ f
             ∙ wrap_told cells w.at.rows o w.at.end (suc left) (wrapped_by w.marks q) (nt Bang? ∷ σ) (from s w.at.end) n kind_type_reference a 0 p m z w.extra wrap_list l
             ∙ rw (v.stop, v.rows) refl
 
@@ -82,10 +82,10 @@ module _ (s : List ℕ) (w : Wrapped) (ready : Marked s w most_before) where
                   let k : 0 + suc j + u.marks ≡ 1 + j + u.marks = omega arith in
                   rw k at (g.small (suc j) (rw i (omega arith)));
               goes = λ cells n a p m z o left q σ l f.
-                  close-goes cells n a p m z o left q σ l f ∙ g.goes cells n a p m z o (suc left) q σ l f
+                  close_goes cells n a p m z o left q σ l f ∙ g.goes cells n a p m z o (suc left) q σ l f
                   ∙ (let i : 0 + suc left ≡ 1 + left = omega arith in ap (λ (x : ℕ). inside s u cells n a p m z o x q σ) i);
             }
-        close_says (Untyped x) g = λ cells n a p m z o left q σ l f. close-goes cells n a p m z o left q σ l f ∙ g cells n a p m z o (suc left) q σ l f
+        close_says (Untyped x) g = λ cells n a p m z o left q σ l f. close_goes cells n a p m z o left q σ l f ∙ g cells n a p m z o (suc left) q σ l f
 
 -- MORE BRACKETS
 closers_add : (i k : ℕ) → closers (i + k) ≡ closers i ++ closers k

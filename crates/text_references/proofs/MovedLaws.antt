@@ -25,14 +25,14 @@ pub record Next (s : List ℕ) (e n : ℕ) (d : Cursor) : Type 0 where
   pub looks : Looks s d
 
 pub next_of : (s : List ℕ) (e n : ℕ) (r : Read) (d : Cursor) → r ≡ moved_to e n (head_of (from s e)) → r ≡ Done d → Next s e n d
-next_of s e n r d p q = by-head (head_of (from s e)) refl
+next_of s e n r d p q = by_head (head_of (from s e)) refl
   where
-    by-head : (h : TokenRead) → head_of (from s e) ≡ h → Next s e n d
-    by-head (Token k a b) z =
+    by_head : (h : TokenRead) → head_of (from s e) ≡ h → Next s e n d
+    by_head (Token k a b) z =
         let y : Done d ≡ Done (record { kind = k; start = a; end = b; stop = e; rows = n }) = sym q ∙ p ∙ ap (moved_to e n) z in
         let x : d ≡ record { kind = k; start = a; end = b; stop = e; rows = n } = cc in
         subst (λ (c : Cursor). Next s e n c) (sym x) (record { stop = refl; rows = refl; looks = z })
-    by-head (Bad o) z =
+    by_head (Bad o) z =
         let y : Done d ≡ Refused (NoToken o) = sym q ∙ p ∙ ap (moved_to e n) z in
         let x : ◌≡◌ {A = ℕ} 0 1 = cc in
         let w : ⊥ = omega arith in
@@ -41,12 +41,12 @@ next_of s e n r d p q = by-head (head_of (from s e)) refl
 -- bytes that start no token: the machine halts there
 pub moved_halts : (s : List ℕ) (e n : ℕ) (r : Read) (x : Refusal) → r ≡ moved_to e n (head_of (from s e)) → r ≡ Refused x → (S : State) (σ : Stack) → go S σ (from s e) ≡ halt x
 unfolding go
-moved_halts s e n r x p q S σ = by-text (from s e) (sym q ∙ p)
+moved_halts s e n r x p q S σ = by_text (from s e) (sym q ∙ p)
   where
-    by-text : (t : Text) → Refused x ≡ moved_to e n (head_of t) → go S σ t ≡ halt x
-    by-text (at_end m) z = let y : ◌≡◌ {A = ℕ} 0 1 = cc in let w : ⊥ = omega arith in absurd w
-    by-text (token k t) z = let y : ◌≡◌ {A = ℕ} 0 1 = cc in let w : ⊥ = omega arith in absurd w
-    by-text (bad o) z = let y : NoToken o ≡ x = cc in ap halt y
+    by_text : (t : Text) → Refused x ≡ moved_to e n (head_of t) → go S σ t ≡ halt x
+    by_text (at_end m) z = let y : ◌≡◌ {A = ℕ} 0 1 = cc in let w : ⊥ = omega arith in absurd w
+    by_text (token k t) z = let y : ◌≡◌ {A = ℕ} 0 1 = cc in let w : ⊥ = omega arith in absurd w
+    by_text (bad o) z = let y : NoToken o ≡ x = cc in ap halt y
 
 -- a token takes a byte at least, and lies in the text
 pub ahead : (s : List ℕ) (c : Cursor) → c.stop ≤ length s → Looks s c → (c.kind ≡ 0 → ⊥) → (c.stop ≤ c.start) × (c.start < c.end) × (c.end ≤ length s)
@@ -66,17 +66,17 @@ end_within s c h l = by_front (front s c h l)
 
 -- the ends of the token looked at
 pub start_in_is : (s : List ℕ) (c : Cursor) → Looks s c → start_in (from s c.stop) ≡ c.start
-start_in_is s c l = by-text (from s c.stop) l
+start_in_is s c l = by_text (from s c.stop) l
   where
-    by-text : (t : Text) → head_of t ≡ Token c.kind c.start c.end → start_in t ≡ c.start
-    by-text (at_end m) z = cc
-    by-text (bad o) z = let y : ◌≡◌ {A = ℕ} 0 1 = cc in let w : ⊥ = omega arith in absurd w
-    by-text (token k t) z = cc
+    by_text : (t : Text) → head_of t ≡ Token c.kind c.start c.end → start_in t ≡ c.start
+    by_text (at_end m) z = cc
+    by_text (bad o) z = let y : ◌≡◌ {A = ℕ} 0 1 = cc in let w : ⊥ = omega arith in absurd w
+    by_text (token k t) z = cc
 
 pub stop_in_is : (s : List ℕ) (c : Cursor) → Looks s c → stop_in (from s c.stop) ≡ c.end
-stop_in_is s c l = by-text (from s c.stop) l
+stop_in_is s c l = by_text (from s c.stop) l
   where
-    by-text : (t : Text) → head_of t ≡ Token c.kind c.start c.end → stop_in t ≡ c.end
-    by-text (at_end m) z = cc
-    by-text (bad o) z = let y : ◌≡◌ {A = ℕ} 0 1 = cc in let w : ⊥ = omega arith in absurd w
-    by-text (token k t) z = cc
+    by_text : (t : Text) → head_of t ≡ Token c.kind c.start c.end → stop_in t ≡ c.end
+    by_text (at_end m) z = cc
+    by_text (bad o) z = let y : ◌≡◌ {A = ℕ} 0 1 = cc in let w : ⊥ = omega arith in absurd w
+    by_text (token k t) z = cc

@@ -86,10 +86,10 @@ module _ (s : List ℕ) (c : Cursor) (left n : ℕ) (d : Cursor) (marks : ℕ) (
         (left - marks - 1) (omega arith) g.seen.few (wrapped_over q (marks + 1) f (omega arith))
 
     module _ (l : marks < left) (k : marks < most_wrappers) (r : Read) (e : r ≡ moved_to d.end n (head_of (from s d.end))) where
-      opened-past : (cells o : List ℕ) (q : Counts) (σ : Stack) → over_counts q ≡ false →
+      opened_past : (cells o : List ℕ) (q : Counts) (σ : Stack) → over_counts q ≡ false →
           at s cells c o left (wrapped_by 0 q) (nt TypeRef ∷ σ)
           ≡ go (st cells d.rows o d.end (left - (marks + 1)) (wrapped_by (marks + 1) q)) (nt TypeRef ∷ tm (the bracket_r) ∷ act (wrap wrap_list) ∷ nt Bang? ∷ (closers marks ++ σ)) (from s d.end)
-      opened-past cells o q σ f =
+      opened_past cells o q σ f =
           g.goes cells o q σ f
           ∙ open_first s d g.seen.within g.seen.looks h cells o (left - marks) marks q (closers marks ++ σ)
           ∙ opening s d g.seen.within g.seen.looks cells d.rows o (left - marks) (wrapped_by (marks + 1) q) (nt TypeRef ∷ tm (the bracket_r) ∷ act (wrap wrap_list) ∷ nt Bang? ∷ (closers marks ++ σ)) (the bracket_l) bracket_l h tt tt
@@ -97,7 +97,7 @@ module _ (s : List ℕ) (c : Cursor) (left n : ℕ) (d : Cursor) (marks : ℕ) (
 
       pub opened_bad : (x : Refusal) → r ≡ Refused x → OpenHalts s c left x
       opened_bad x y cells o q σ f =
-          opened-past cells o q σ f
+          opened_past cells o q σ f
           ∙ moved_halts s d.end n r x e y (st cells d.rows o d.end (left - (marks + 1)) (wrapped_by (marks + 1) q)) (nt TypeRef ∷ tm (the bracket_r) ∷ act (wrap wrap_list) ∷ nt Bang? ∷ (closers marks ++ σ))
 
       pub opened_more : (b : Cursor) → r ≡ Done b → Opening s c left n b (marks + 1)
@@ -111,5 +111,5 @@ module _ (s : List ℕ) (c : Cursor) (left n : ℕ) (d : Cursor) (marks : ℕ) (
             on = omega (arith, g.on, g.seen.within);
             few = omega arith;
             levels = omega arith;
-            goes = λ cells o q σ f. opened-past cells o q σ f ∙ rw (v.stop, v.rows, g.rows, add-one marks) refl;
+            goes = λ cells o q σ f. opened_past cells o q σ f ∙ rw (v.stop, v.rows, g.rows, add-one marks) refl;
           }

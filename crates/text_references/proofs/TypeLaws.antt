@@ -69,27 +69,27 @@ module _ (s rows : List ℕ) (c : Cursor) (parent left : ℕ) (g : Ready s rows 
   abbrev pub begun : Cursor
   begun = record { kind = c.kind; start = c.start; end = c.end; stop = c.stop; rows = c.rows + 1 }
 
-  type-begins : (σ : Stack) (o : List ℕ) (q : Counts) → top o ≡ parent →
+  type_begins : (σ : Stack) (o : List ℕ) (q : Counts) → top o ≡ parent →
       at s rows c o left (wrapped_by 0 q) (type_stack ++ σ)
       ≡ at s (put rows c.rows kind_type_reference c.start 0 parent 0 0 0) begun (c.rows ∷ o) left (wrapped_by 0 q) (nt TypeRef ∷ act end ∷ σ)
-  type-begins σ o q e =
+  type_begins σ o q e =
       row_opens rows c.rows o c.stop left (wrapped_by 0 q) (nt TypeRef ∷ act end ∷ σ) (from s c.stop) kind_type_reference 0 ∙ rw (start_in_is s c g.looks, e) refl
 
   pub type_none : (rows' : List ℕ) → (c.kind ≡ kind_of n_other → ⊥) → (c.kind ≡ kind_of bracket_l → ⊥) → (r : Read) → r ≡ no_going_of c → TypeSaid s rows rows' c parent left r
   type_none rows' h k r e =
-      rw e (λ σ o q t f. type-begins σ o q t ∙ ref_refused s begun g.within g.looks h k (put rows c.rows kind_type_reference c.start 0 parent 0 0 0) (c.rows ∷ o) left (wrapped_by 0 q) (act end ∷ σ))
+      rw e (λ σ o q t f. type_begins σ o q t ∙ ref_refused s begun g.within g.looks h k (put rows c.rows kind_type_reference c.start 0 parent 0 0 0) (c.rows ∷ o) left (wrapped_by 0 q) (act end ∷ σ))
 
   pub type_deep : (rows' : List ℕ) → c.kind ≡ kind_of bracket_l → left ≡ 0 → TypeSaid s rows rows' c parent left (Refused (TooDeep c.start))
   type_deep rows' h k σ o q t f =
-      type-begins σ o q t ∙ open_deep s begun g.within g.looks h (put rows c.rows kind_type_reference c.start 0 parent 0 0 0) (c.rows ∷ o) left 0 q (act end ∷ σ) k
+      type_begins σ o q t ∙ open_deep s begun g.within g.looks h (put rows c.rows kind_type_reference c.start 0 parent 0 0 0) (c.rows ∷ o) left 0 q (act end ∷ σ) k
 
   pub type_full : (rows' : List ℕ) → (c.kind ≡ kind_of n_other) ⊎ ((c.kind ≡ kind_of bracket_l) × (0 < left)) → c.rows ≡ most_rows → TypeSaid s rows rows' c parent left (Refused (TooManyRows c.start))
   type_full rows' (inl h) k σ o q t f =
-      type-begins σ o q t
+      type_begins σ o q t
       ∙ name_first s begun g.within g.looks h rows c.rows c.start parent o left 0 q (act end ∷ σ)
       ∙ too_many_rows s begun g.within g.looks (put rows c.rows kind_type_reference c.start 0 parent c.start (c.end - c.start) 0) (c.rows + 1) (c.rows ∷ o) left (wrapped_by 0 q) (nt Bang? ∷ act end ∷ σ) any_name n_other h tt tt (omega arith)
   type_full rows' (inr h) k σ o q t f =
-      type-begins σ o q t
+      type_begins σ o q t
       ∙ open_first s begun g.within g.looks h.0 (put rows c.rows kind_type_reference c.start 0 parent 0 0 0) (c.rows ∷ o) left 0 q (act end ∷ σ)
       ∙ too_many_rows_open s begun g.within g.looks (put rows c.rows kind_type_reference c.start 0 parent 0 0 0) (c.rows + 1) (c.rows ∷ o) left (wrapped_by (0 + 1) q)
       (nt TypeRef ∷ tm (the bracket_r) ∷ act (wrap wrap_list) ∷ nt Bang? ∷ act end ∷ σ) (the bracket_l) bracket_l h.0 tt tt (left - 1) (omega (arith, h.1)) (omega arith)
@@ -97,7 +97,7 @@ module _ (s rows : List ℕ) (c : Cursor) (parent left : ℕ) (g : Ready s rows 
   module _ (room : c.rows ≡ most_rows → ⊥) where
     pub type_stop : (rows' : List ℕ) (t : TypeRead) (x : Refusal) → Opens s begun left t → t ≡ Untyped x → TypeSaid s rows rows' c parent left (Refused x)
     type_stop rows' t x b e σ o q z f =
-        type-begins σ o q z ∙ subst (λ (t : TypeRead). Opens s begun left t) e b (put rows c.rows kind_type_reference c.start 0 parent 0 0 0) (c.rows ∷ o) q (act end ∷ σ) f
+        type_begins σ o q z ∙ subst (λ (t : TypeRead). Opens s begun left t) e b (put rows c.rows kind_type_reference c.start 0 parent 0 0 0) (c.rows ∷ o) q (act end ∷ σ) f
 
     module _ (t : TypeRead) (w : Wrapped) (b : Opens s begun left t) (e : t ≡ Typed w) where
       opened : Opened s begun left w
@@ -117,12 +117,12 @@ module _ (s rows : List ℕ) (c : Cursor) (parent left : ℕ) (g : Ready s rows 
             wrappers = u.wrappers;
             wrapped = u.wrapped;
             goes = λ σ o q z f.
-                type-begins σ o q z
+                type_begins σ o q z
                 ∙ opened.goes (put rows c.rows kind_type_reference c.start 0 parent 0 0 0) (c.rows ∷ o) q (act end ∷ σ) f
                 ∙ u.goes o (left - w.marks) q σ f
                 ∙ (let y : w.marks + (left - w.marks) ≡ left = omega (arith, opened.levels) in ap (λ (l : ℕ). at s rows' d o l (wrapped_by u.wrappers q) σ) y);
           }
       type_says rows' (Refused x) u = λ σ o q z f.
-          type-begins σ o q z
+          type_begins σ o q z
           ∙ opened.goes (put rows c.rows kind_type_reference c.start 0 parent 0 0 0) (c.rows ∷ o) q (act end ∷ σ) f
           ∙ u o (left - w.marks) q σ f

@@ -134,35 +134,35 @@ module _ (f : Bool) (next d stop : ℕ) (rs : List Row) (os : List ℕ) (l : sto
   abbrev more : List Row
   more = rs ++ (new ∷ [])
 
-  old-at : (i : ℕ) → i < length rs → at more i ≡ at rs i
-  old-at i b = get_or-append rs (new ∷ []) no_row i b
+  old_at : (i : ℕ) → i < length rs → at more i ≡ at rs i
+  old_at i b = get_or-append rs (new ∷ []) no_row i b
 
   -- what holds of the rows so far and of the new one
   each : (Q : ℕ → Row → Type 0) → ((i : ℕ) → i < length rs → Q i (at rs i)) → Q (length rs) new → (i : ℕ) → i < length more → Q i (at more i)
   each Q o n i b = go (dec_lt i (length rs))
     where
       go : Dec (i < length rs) → Q i (at more i)
-      go (yes u) = subst (Q i) (sym (old-at i u)) (o i u)
+      go (yes u) = subst (Q i) (sym (old_at i u)) (o i u)
       go (no u) =
           let e : length rs ≡ i = omega (arith, length-append rs (new ∷ [])) in
           subst (λ (j : ℕ). Q j (at more j)) e (subst (Q (length rs)) (sym (get_or-append_seam rs new [] no_row)) n)
 
-  before-next : (a : ℕ) → Before f next stop a → a ≤ next
-  before-next a (inl u) = omega arith
-  before-next a (inr u) = let q = u.1 in omega arith
+  before_next : (a : ℕ) → Before f next stop a → a ≤ next
+  before_next a (inl u) = omega arith
+  before_next a (inr u) = let q = u.1 in omega arith
 
   before_more : (a : ℕ) → Before f next stop a → Before true next stop a
   before_more a (inl u) = inl u
   before_more a (inr u) = inr (tt, u.1)
 
-  shut-more : (i : ℕ) (r : Row) → Open i os ⊎ (r.start < r.end) → Open i (length rs ∷ os) ⊎ (r.start < r.end)
-  shut-more i r (inl u) = inl (inr u)
-  shut-more i r (inr u) = inr u
+  shut_more : (i : ℕ) (r : Row) → Open i os ⊎ (r.start < r.end) → Open i (length rs ∷ os) ⊎ (r.start < r.end)
+  shut_more i r (inl u) = inl (inr u)
+  shut_more i r (inr u) = inr u
 
   within_more : (i p e : ℕ) → i < length rs → Within rs os i p e → Within more (length rs ∷ os) i p e
   within_more i p e b (inl u) = inl u
   within_more i p e b (inr (u, inl w)) = inr (u, inl (inr w))
-  within_more i p e b (inr (u, inr w)) = inr (u, inr (rw (old-at p (omega arith)) w))
+  within_more i p e b (inr (u, inr w)) = inr (u, inr (rw (old_at p (omega arith)) w))
 
   within_new : (os : List ℕ) → Chain rs os → Within more (length rs ∷ os) (length rs) (top os) 0
   within_new [] c = inl refl
@@ -173,10 +173,10 @@ module _ (f : Bool) (next d stop : ℕ) (rs : List Row) (os : List ℕ) (l : sto
     level = ap suc h.level;
     chain = (omega (arith, length-append rs (new ∷ [])), ap (λ (x : Row). x.parent) (get_or-append_seam rs new [] no_row), chain_append rs new os h.chain);
     ordered = λ i j a b. each (λ j r. (i : ℕ) → i < j → (at more i).start ≤ r.start)
-        (λ j u i a. rw (old-at i (omega arith)) (h.ordered i j a u)) (λ i a. rw (old-at i a) (before-next (at rs i).start (h.before i a))) j b i a;
+        (λ j u i a. rw (old_at i (omega arith)) (h.ordered i j a u)) (λ i a. rw (old_at i a) (before_next (at rs i).start (h.before i a))) j b i a;
     before = each (λ i r. Before true next stop r.start) (λ i b. before_more (at rs i).start (h.before i b)) (inr (tt, refl));
     low = each (λ i r. r.end ≤ stop) h.low (omega arith);
-    shut = each (λ i r. Open i (length rs ∷ os) ⊎ (r.start < r.end)) (λ i b. shut-more i (at rs i) (h.shut i b)) (inl (inl refl));
+    shut = each (λ i r. Open i (length rs ∷ os) ⊎ (r.start < r.end)) (λ i b. shut_more i (at rs i) (h.shut i b)) (inl (inl refl));
     within = each (λ i r. Within more (length rs ∷ os) i r.parent r.end) (λ i b. within_more i (at rs i).parent (at rs i).end b (h.within i b)) (within_new os h.chain);
   }
 
@@ -194,74 +194,74 @@ module _ (next d stop : ℕ) (rs : List Row) (o : ℕ) (os : List ℕ) (h : Held
   parents : (i : ℕ) → (at then' i).parent ≡ (at rs i).parent
   parents i = seen_same (λ r. r.parent) (stopping stop) (λ r. refl) o i rs
 
-  stops-now : (at then' o).end ≡ stop
-  stops-now = ap (λ (r : Row). r.end) (change_at (stopping stop) o rs h.chain.0)
+  stops_now : (at then' o).end ≡ stop
+  stops_now = ap (λ (r : Row). r.end) (change_at (stopping stop) o rs h.chain.0)
 
-  stops-else : (i : ℕ) → (i ≡ o → ⊥) → (at then' i).end ≡ (at rs i).end
-  stops-else i n = ap (λ (r : Row). r.end) (change_off (stopping stop) o i rs n)
+  stops_else : (i : ℕ) → (i ≡ o → ⊥) → (at then' i).end ≡ (at rs i).end
+  stops_else i n = ap (λ (r : Row). r.end) (change_off (stopping stop) o i rs n)
 
-  low-then : (i : ℕ) → i < length rs → (at then' i).end ≤ stop
-  low-then i b = go (ℕ_discrete i o)
+  low_then : (i : ℕ) → i < length rs → (at then' i).end ≤ stop
+  low_then i b = go (ℕ_discrete i o)
     where
       go : Dec (i ≡ o) → (at then' i).end ≤ stop
-      go (yes e) = subst (λ (j : ℕ). (at then' j).end ≤ stop) (sym e) (omega (arith, stops-now))
-      go (no n) = rw (stops-else i n) (h.low i b)
+      go (yes e) = subst (λ (j : ℕ). (at then' j).end ≤ stop) (sym e) (omega (arith, stops_now))
+      go (no n) = rw (stops_else i n) (h.low i b)
 
   still_open : (i : ℕ) → (i ≡ o → ⊥) → Open i (o ∷ os) → Open i os
   still_open i n (inl e) = absurd (n e)
   still_open i n (inr u) = u
 
-  shut-then : (i : ℕ) → i < length rs → Open i os ⊎ ((at then' i).start < (at then' i).end)
-  shut-then i b = go (ℕ_discrete i o)
+  shut_then : (i : ℕ) → i < length rs → Open i os ⊎ ((at then' i).start < (at then' i).end)
+  shut_then i b = go (ℕ_discrete i o)
     where
       now : Before false next stop (at rs o).start → (at then' o).start < (at then' o).end
-      now (inl u) = omega (arith, starts o, stops-now)
+      now (inl u) = omega (arith, starts o, stops_now)
       now (inr u) = absurd u.0
 
       else' : (i ≡ o → ⊥) → Open i (o ∷ os) ⊎ ((at rs i).start < (at rs i).end) → Open i os ⊎ ((at then' i).start < (at then' i).end)
       else' n (inl u) = inl (still_open i n u)
-      else' n (inr u) = inr (omega (arith, starts i, stops-else i n))
+      else' n (inr u) = inr (omega (arith, starts i, stops_else i n))
 
       go : Dec (i ≡ o) → Open i os ⊎ ((at then' i).start < (at then' i).end)
       go (yes e) = inr (subst (λ (j : ℕ). (at then' j).start < (at then' j).end) (sym e) (now (h.before o h.chain.0)))
       go (no n) = else' n (h.shut i b)
 
   -- the parent of the row that ends is the next open one
-  within-now : (os : List ℕ) (p e : ℕ) → p ≡ top os → Within rs (o ∷ os) o p e → Within then' os o p stop
-  within-now os p e q (inl u) = inl u
-  within-now [] p e q (inr u) = inl q
-  within-now (x ∷ os) p e q (inr u) = inr (u.0, inl (inl q))
+  within_now : (os : List ℕ) (p e : ℕ) → p ≡ top os → Within rs (o ∷ os) o p e → Within then' os o p stop
+  within_now os p e q (inl u) = inl u
+  within_now [] p e q (inr u) = inl q
+  within_now (x ∷ os) p e q (inr u) = inr (u.0, inl (inl q))
 
-  within-else : (i p e : ℕ) → e ≤ stop → Within rs (o ∷ os) i p e → Within then' os i p e
-  within-else i p e l (inl u) = inl u
-  within-else i p e l (inr (u, w)) = inr (u, go (ℕ_discrete p o) w)
+  within_else : (i p e : ℕ) → e ≤ stop → Within rs (o ∷ os) i p e → Within then' os i p e
+  within_else i p e l (inl u) = inl u
+  within_else i p e l (inr (u, w)) = inr (u, go (ℕ_discrete p o) w)
     where
       go : Dec (p ≡ o) → Open p (o ∷ os) ⊎ (e ≤ (at rs p).end) → Open p os ⊎ (e ≤ (at then' p).end)
-      go (yes q) x = inr (subst (λ (j : ℕ). e ≤ (at then' j).end) (sym q) (omega (arith, stops-now)))
+      go (yes q) x = inr (subst (λ (j : ℕ). e ≤ (at then' j).end) (sym q) (omega (arith, stops_now)))
       go (no n) (inl x) = inl (still_open p n x)
-      go (no n) (inr x) = inr (rw (stops-else p n) x)
+      go (no n) (inr x) = inr (rw (stops_else p n) x)
 
-  within-then : (i : ℕ) → i < length rs → Within then' os i (at rs i).parent (at then' i).end
-  within-then i b = go (ℕ_discrete i o)
+  within_then : (i : ℕ) → i < length rs → Within then' os i (at rs i).parent (at then' i).end
+  within_then i b = go (ℕ_discrete i o)
     where
       go : Dec (i ≡ o) → Within then' os i (at rs i).parent (at then' i).end
       go (yes e) =
           subst (λ (j : ℕ). Within then' os j (at rs j).parent (at then' j).end) (sym e)
-          (rw stops-now (within-now os (at rs o).parent (at rs o).end h.chain.1 (h.within o h.chain.0)))
-      go (no n) = rw (stops-else i n) (within-else i (at rs i).parent (at rs i).end (h.low i b) (h.within i b))
+          (rw stops_now (within_now os (at rs o).parent (at rs o).end h.chain.1 (h.within o h.chain.0)))
+      go (no n) = rw (stops_else i n) (within_else i (at rs i).parent (at rs i).end (h.low i b) (h.within i b))
 
-  held-pop : Held false next d stop then' os
-  held-pop = record {
+  held_pop : Held false next d stop then' os
+  held_pop = record {
     level = let e = h.level in omega arith;
     chain = chain_change (stopping stop) (λ r. refl) o rs os h.chain.2;
     ordered = λ i j a b. rw (starts i, starts j) (h.ordered i j a (there j b));
     before = λ i b. rw (starts i) (h.before i (there i b));
-    low = λ i b. low-then i (there i b);
-    shut = λ i b. shut-then i (there i b);
-    within = λ i b. rw (parents i) (within-then i (there i b));
+    low = λ i b. low_then i (there i b);
+    shut = λ i b. shut_then i (there i b);
+    within = λ i b. rw (parents i) (within_then i (there i b));
   }
 
 pub held_end : (f : Bool) (next d stop : ℕ) (rs : List Row) (os : List ℕ) → T (not f) → Held f next (suc d) stop rs os → Held false next d stop (change (stopping stop) (top os) rs) (pop os)
 held_end true next d stop rs os n h = absurd n
 held_end false next d stop rs [] n h = let e = h.level in let z : ⊥ = omega arith in absurd z
-held_end false next d stop rs (o ∷ os) n h = held-pop next d stop rs o os h
+held_end false next d stop rs (o ∷ os) n h = held_pop next d stop rs o os h

@@ -74,34 +74,34 @@ fits_same g e ss f q h = subst (λ (x : ℕ). T (fits g e ss f x)) q h
 
 module _ (g : Bool) (e : ℕ) (z : Bool) (y c : ℕ) where
   -- symbols where c rows more are open, and others behind them
-  fits-append : (α ss : Syms) (f : Bool) (a : ℕ) → T (fits g e α f a) → T (fits z y ss g (c + e)) → T (fits z y (α ++ ss) f (c + a))
-  fits-append [] ss f a h k = let q = eqb→eq a e (and_l (eqb a e) (implies f g) h) in fits_same z y ss f (omega arith) (go f g (and_r (eqb a e) (implies f g) h) k)
+  fits_append : (α ss : Syms) (f : Bool) (a : ℕ) → T (fits g e α f a) → T (fits z y ss g (c + e)) → T (fits z y (α ++ ss) f (c + a))
+  fits_append [] ss f a h k = let q = eqb→eq a e (and_l (eqb a e) (implies f g) h) in fits_same z y ss f (omega arith) (go f g (and_r (eqb a e) (implies f g) h) k)
     where
       go : (f g : Bool) → T (implies f g) → T (fits z y ss g (c + e)) → T (fits z y ss f (c + e))
       go true true i k = k
       go true false i k = absurd i
       go false true i k = fits_less z y ss (c + e) k
       go false false i k = k
-  fits-append (nt n ∷ α) ss f a h k =
+  fits_append (nt n ∷ α) ss f a h k =
       and_i (is_usual n) (fits z y (α ++ ss) (f && can_be_none n) (c + a + gain n)) (and_l (is_usual n) (fits g e α (f && can_be_none n) (a + gain n)) h)
       (fits_same z y (α ++ ss) (f && can_be_none n) (let q : c + (a + gain n) ≡ c + a + gain n = omega arith in q)
-      (fits-append α ss (f && can_be_none n) (a + gain n) (and_r (is_usual n) (fits g e α (f && can_be_none n) (a + gain n)) h) k))
-  fits-append (tm p ∷ α) ss f a h k = fits-append α ss false a h k
-  fits-append (act row ∷ α) ss f a h k = fits_same z y (α ++ ss) true (let q : c + suc a ≡ suc (c + a) = omega arith in q) (fits-append α ss true (suc a) h k)
-  fits-append (act (kind i x) ∷ α) ss f a h k = fits-append α ss f a h k
-  fits-append (act named ∷ α) ss f a h k = fits-append α ss f a h k
-  fits-append (act wrapper ∷ α) ss f a h k = fits-append α ss f a h k
-  fits-append (act (wrap w) ∷ α) ss f a h k = fits-append α ss f a h k
-  fits-append (act end ∷ α) ss f zero h k = absurd h
-  fits-append (act end ∷ α) ss f (suc a) h k =
+      (fits_append α ss (f && can_be_none n) (a + gain n) (and_r (is_usual n) (fits g e α (f && can_be_none n) (a + gain n)) h) k))
+  fits_append (tm p ∷ α) ss f a h k = fits_append α ss false a h k
+  fits_append (act row ∷ α) ss f a h k = fits_same z y (α ++ ss) true (let q : c + suc a ≡ suc (c + a) = omega arith in q) (fits_append α ss true (suc a) h k)
+  fits_append (act (kind i x) ∷ α) ss f a h k = fits_append α ss f a h k
+  fits_append (act named ∷ α) ss f a h k = fits_append α ss f a h k
+  fits_append (act wrapper ∷ α) ss f a h k = fits_append α ss f a h k
+  fits_append (act (wrap w) ∷ α) ss f a h k = fits_append α ss f a h k
+  fits_append (act end ∷ α) ss f zero h k = absurd h
+  fits_append (act end ∷ α) ss f (suc a) h k =
       fits_same z y (act end ∷ (α ++ ss)) f (let q : suc (c + a) ≡ c + suc a = omega arith in q)
-      (and_i (not f) (fits z y (α ++ ss) false (c + a)) (and_l (not f) (fits g e α false a) h) (fits-append α ss false a (and_r (not f) (fits g e α false a) h) k))
+      (and_i (not f) (fits z y (α ++ ss) false (c + a)) (and_l (not f) (fits g e α false a) h) (fits_append α ss false a (and_r (not f) (fits g e α false a) h) k))
 
 -- a part's production in its place
 fits_by : (n : Part) (α ss : Syms) (f : Bool) (d : ℕ) → Memᴰ α (language n) → T (fits false 0 (nt n ∷ ss) f d) → T (fits false 0 (α ++ ss) f d)
 fits_by n α ss f d m h =
     fits_same false 0 (α ++ ss) f (let q : d + 0 ≡ d = omega arith in q)
-    (fits-append (f && can_be_none n) (gain n) false 0 d α ss f 0
+    (fits_append (f && can_be_none n) (gain n) false 0 d α ss f 0
     (all_mem (λ β. fits (f && can_be_none n) (gain n) β f 0) (implies_out (is_usual n) _ (all_at (part_tested f) all_n (num_n n) (tested f) (at_n n)) (and_l (is_usual n) later h)) m)
     (and_r (is_usual n) later h))
   where
@@ -141,12 +141,12 @@ derives_nested (marks {a = end} {ss} v) f (suc d) h = (and_l (not f) (fits false
 pub part_nested : (n : Part) → (n ≡ Document) ⊎ (n ≡ VariablesText) → {es : Evs} → Derives language hits (nt n ∷ []) es → Nested es false 0
 part_nested n c v = derives_nested v false 0 (go c)
   where
-    fitsPart : Part → Type 0
-    fitsPart m = T (fits false 0 (nt m ∷ []) false 0)
+    fits_part : Part → Type 0
+    fits_part m = T (fits false 0 (nt m ∷ []) false 0)
 
-    go : (n ≡ Document) ⊎ (n ≡ VariablesText) → fitsPart n
-    go (inl e) = subst fitsPart (let q : Document ≡ n = cc in q) tt
-    go (inr e) = subst fitsPart (let q : VariablesText ≡ n = cc in q) tt
+    go : (n ≡ Document) ⊎ (n ≡ VariablesText) → fits_part n
+    go (inl e) = subst fits_part (let q : Document ≡ n = cc in q) tt
+    go (inr e) = subst fits_part (let q : VariablesText ≡ n = cc in q) tt
 
 -- a row that has begun takes a token
 pub nested_token : (es : Evs) (d : ℕ) → Nested es true d → 0 < length (toks es)

@@ -36,19 +36,19 @@ unfolding escaped_size
 escape_none s i l = sym (ap (λ bs. with_one (escaped_size bs)) (drop_of_length-le s l))
 
 module _ (s : List ℕ) (i : ℕ) (h : i + 1 < length s) where
-  escape-at : escaped_size (drop (i + 1) s) ≡ cond (hits_byte escaped (get_or s (i + 1) 0)) 1 (cond (hits_byte u (get_or s (i + 1) 0)) (sized four_hex (drop (i + 2) s)) 0)
+  escape_at : escaped_size (drop (i + 1) s) ≡ cond (hits_byte escaped (get_or s (i + 1) 0)) 1 (cond (hits_byte u (get_or s (i + 1) 0)) (sized four_hex (drop (i + 2) s)) 0)
   unfolding escaped_size
-  escape-at = ap escaped_size (after_front s i 1 (i + 2) h refl)
+  escape_at = ap escaped_size (after_front s i 1 (i + 2) h refl)
 
   pub escape_u : (r : Bool) → get_or s (i + 1) 0 ≡ 117 → fits four_hex (drop (i + 2) s) ≡ r → cond r 6 0 ≡ with_one (escaped_size (drop (i + 1) s))
-  escape_u r e q = sym (ap with_one escape-at ∙ rw (e, q) (go r))
+  escape_u r e q = sym (ap with_one escape_at ∙ rw (e, q) (go r))
     where
       go : (x : Bool) → with_one (cond x 5 0) ≡ cond x 6 0
       go true = refl
       go false = refl
 
   pub escape_other : (r : Bool) → (get_or s (i + 1) 0 ≡ 117 → ⊥) → get_or s (i + 1) 0 < 256 → hits_byte escaped (get_or s (i + 1) 0) ≡ r → cond r 2 0 ≡ with_one (escaped_size (drop (i + 1) s))
-  escape_other r e k q = sym (ap with_one escape-at ∙ rw (q, bytes_agree (hits_byte u) (λ b. eqb b 117) 0 256 tt (get_or s (i + 1) 0) zero-le k, ne_eqb (get_or s (i + 1) 0) 117 e) (go r))
+  escape_other r e k q = sym (ap with_one escape_at ∙ rw (q, bytes_agree (hits_byte u) (λ b. eqb b 117) 0 256 tt (get_or s (i + 1) 0) zero-le k, ne_eqb (get_or s (i + 1) 0) 117 e) (go r))
     where
       go : (x : Bool) → with_one (cond x 1 0) ≡ cond x 2 0
       go true = refl

@@ -26,13 +26,13 @@ use Rattle.text_scan.proofs.CharacterScan.{is_true, is_false, not_true, scan_com
 
 -- a repetition r of the part n
 module _ (r n : Lex) (stop : Memᴰ [] (lex_factored r)) (go_on : Memᴰ (nt n ∷ nt r ∷ []) (lex_factored r)) (firsts : (b : ℕ) → lexer.first r b ≡ lexer.first n b) (σ : Stack) where
-  star-off : (b : ℕ) (bs : List ℕ) → choose lexer r none ≡ some [] → lexer.first n b ≡ false → scan lexer (nt r ∷ σ) (b ∷ bs) ≡ scan lexer σ (b ∷ bs)
-  star-off b bs e q =
+  star_off : (b : ℕ) (bs : List ℕ) → choose lexer r none ≡ some [] → lexer.first n b ≡ false → scan lexer (nt r ∷ σ) (b ∷ bs) ≡ scan lexer σ (b ∷ bs)
+  star_off b bs e q =
       scan_same (nt r ∷ σ) σ b bs (step_by fits_l r (some b) σ (choose_null fits_l r b stop tt (is_false (lexer.first r b) (firsts b ∙ q)))) (step_by fits_l r none σ e)
 
-  star-on : (b : ℕ) (bs : List ℕ) (size : ℕ) → scan lexer (nt n ∷ nt r ∷ σ) [] ≡ none → seen (scan lexer (nt n ∷ nt r ∷ σ) (b ∷ bs)) ≡ after size (nt r ∷ σ) (b ∷ bs) → lexer.first n b ≡ true →
+  star_on : (b : ℕ) (bs : List ℕ) (size : ℕ) → scan lexer (nt n ∷ nt r ∷ σ) [] ≡ none → seen (scan lexer (nt n ∷ nt r ∷ σ) (b ∷ bs)) ≡ after size (nt r ∷ σ) (b ∷ bs) → lexer.first n b ≡ true →
       seen (scan lexer (nt r ∷ σ) (b ∷ bs)) ≡ or_that (after size (nt r ∷ σ) (b ∷ bs)) (seen (scan lexer (nt r ∷ σ) []))
-  star-on b bs size e h q =
+  star_on b bs size e h q =
       scan_or (nt r ∷ σ) (nt n ∷ nt r ∷ σ) b bs
       (step_by fits_l r (some b) σ (choose_first fits_l r b go_on (or_l (lexer.first n b) (lexer.null n && (lexer.first r b || (lexer.null r && false))) (is_true (lexer.first n b) q)))) e ∙
       ap (λ o. or_that o (seen (scan lexer (nt r ∷ σ) []))) h
@@ -59,13 +59,13 @@ only a b t = go (or_cases (leb a b && leb b a) false (and_r (ltb b 256) ((leb a 
 string_on : (b : ℕ) (bs : List ℕ) → lexer.first StringCharacter b ≡ true → seen (scan lexer in_string (b ∷ bs)) ≡ after (part_size (b ∷ bs)) in_string (b ∷ bs)
 unfolding scan step enter choose lexical lex_factored
 string_on b bs q =
-    star-on StringCharacter* StringCharacter (Memᴰ.head refl) (Memᴰ.tail (Memᴰ.head refl)) (λ c. refl) (tm quote ∷ act (is string) ∷ []) b bs (part_size (b ∷ bs)) refl
+    star_on StringCharacter* StringCharacter (Memᴰ.head refl) (Memᴰ.tail (Memᴰ.head refl)) (λ c. refl) (tm quote ∷ act (is string) ∷ []) b bs (part_size (b ∷ bs)) refl
     (scan_string_character in_string (b ∷ bs)) q ∙
     or_none (after (part_size (b ∷ bs)) in_string (b ∷ bs))
 
 string_off : (b : ℕ) (bs : List ℕ) → lexer.first StringCharacter b ≡ false → scan lexer in_string (b ∷ bs) ≡ scan lexer (tm quote ∷ act (is string) ∷ []) (b ∷ bs)
 unfolding choose lexical lex_factored
-string_off b bs q = star-off StringCharacter* StringCharacter (Memᴰ.head refl) (Memᴰ.tail (Memᴰ.head refl)) (λ c. refl) (tm quote ∷ act (is string) ∷ []) b bs refl q
+string_off b bs q = star_off StringCharacter* StringCharacter (Memᴰ.head refl) (Memᴰ.tail (Memᴰ.head refl)) (λ c. refl) (tm quote ∷ act (is string) ∷ []) b bs refl q
 
 pub string_end : seen (scan lexer in_string []) ≡ none
 unfolding scan step enter choose lexical lex_factored
@@ -94,10 +94,10 @@ string_stop b bs e h = go (lexer.first StringCharacter b) refl
   where
     go : (x : Bool) → lexer.first StringCharacter b ≡ x → seen (scan lexer in_string (b ∷ bs)) ≡ none
     go true q = string_on b bs q ∙ ap (λ (k : ℕ). after k in_string (b ∷ bs)) e
-    go false q = ap seen (string_off b bs q) ∙ rw (not-quote) refl
+    go false q = ap seen (string_off b bs q) ∙ rw (not_quote) refl
       where
-        not-quote : hits_byte quote b ≡ false
-        not-quote = not_true (hits_byte quote b) (λ t. h (only 34 b t))
+        not_quote : hits_byte quote b ≡ false
+        not_quote = not_true (hits_byte quote b) (λ t. h (only 34 b t))
 
 -- a comment: a character of it, or it ends
 comment_over : (bs : List ℕ) → seen (scan lexer (act comment ∷ []) bs) ≡ some (0, comment)
@@ -112,13 +112,13 @@ comment_end = refl
 comment_on : (b : ℕ) (bs : List ℕ) → lexer.first CommentCharacter b ≡ true → seen (scan lexer in_comment (b ∷ bs)) ≡ or_that (after (character_size (b ∷ bs)) in_comment (b ∷ bs)) (some (0, comment))
 unfolding scan step enter choose lexical lex_factored
 comment_on b bs q =
-    star-on CommentCharacter* CommentCharacter (Memᴰ.head refl) (Memᴰ.tail (Memᴰ.head refl)) (λ c. refl) (act comment ∷ []) b bs (character_size (b ∷ bs)) refl
+    star_on CommentCharacter* CommentCharacter (Memᴰ.head refl) (Memᴰ.tail (Memᴰ.head refl)) (λ c. refl) (act comment ∷ []) b bs (character_size (b ∷ bs)) refl
     (scan_comment_character in_comment (b ∷ bs)) q
 
 comment_off : (b : ℕ) (bs : List ℕ) → lexer.first CommentCharacter b ≡ false → seen (scan lexer in_comment (b ∷ bs)) ≡ some (0, comment)
 unfolding choose lexical lex_factored
 comment_off b bs q =
-    ap seen (star-off CommentCharacter* CommentCharacter (Memᴰ.head refl) (Memᴰ.tail (Memᴰ.head refl)) (λ c. refl) (act comment ∷ []) b bs refl q) ∙
+    ap seen (star_off CommentCharacter* CommentCharacter (Memᴰ.head refl) (Memᴰ.tail (Memᴰ.head refl)) (λ c. refl) (act comment ∷ []) b bs refl q) ∙
     comment_over (b ∷ bs)
 
 -- a comment is read in any case
@@ -147,13 +147,13 @@ or_grown (suc n) (some m) p h = go (grow n (some m)) (grown n)
     go none k = absurd k
     go (some k) t = refl
 
-    more-some : (o : Seen) → IsSome o → IsSome (more o)
-    more-some none k = k
-    more-some (some k) t = tt
+    more_some : (o : Seen) → IsSome o → IsSome (more o)
+    more_some none k = k
+    more_some (some k) t = tt
 
     grown : (k : ℕ) → IsSome (grow k (some m))
     grown zero = tt
-    grown (suc k) = more-some (grow k (some m)) (grown k)
+    grown (suc k) = more_some (grow k (some m)) (grown k)
 
 pub comment_more : (bs : List ℕ) (n : ℕ) → character_size bs ≡ suc n → seen (scan lexer in_comment bs) ≡ grow (suc n) (seen (scan lexer in_comment (drop (suc n) bs)))
 unfolding character_size

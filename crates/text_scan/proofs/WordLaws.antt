@@ -87,14 +87,14 @@ off w v n e h = same_long w v (λ d. h (sym e ∙ d))
 
 -- the name from `start` to `end`: one word of its length, or two
 module _ (s : List ℕ) (start end : ℕ) (h : (start ≤ end) × (end ≤ length s)) where
-  length-word : (n : ℕ) → end - start ≡ n → length (take n (drop start s)) ≡ n
-  length-word n e = length-take-le n (drop start s) (let l : n ≤ length s - start = omega (arith, h.0, h.1) in rw (length-drop start s) l)
+  length_word : (n : ℕ) → end - start ≡ n → length (take n (drop start s)) ≡ n
+  length_word n e = length-take-le n (drop start s) (let l : n ≤ length s - start = omega (arith, h.0, h.1) in rw (length-drop start s) l)
 
   pub word_2 : end - start ≡ 2 → (r : Bool) → same (take 2 (drop start s)) a_on ≡ r → cond r 5 0 ≡ word_of (take (end - start) (drop start s))
   unfolding word_of
   word_2 e r q =
       let w : List ℕ = take 2 (drop start s) in
-      let l = length-word 2 e in
+      let l = length_word 2 e in
       rw (e, off w a_query 2 l (λ z. omega arith), off w a_mutation 2 l (λ z. omega arith), off w a_subscription 2 l (λ z. omega arith), off w a_fragment 2 l (λ z. omega arith), off w a_true 2 l (λ z. omega arith), off w a_false 2 l (λ z. omega arith), off w a_null 2 l (λ z. omega arith), q) (go r)
     where
       go : (b : Bool) → cond b 5 0 ≡ word_by false false false false b false false false
@@ -105,7 +105,7 @@ module _ (s : List ℕ) (start end : ℕ) (h : (start ≤ end) × (end ≤ lengt
   unfolding word_of
   word_12 e r q =
       let w : List ℕ = take 12 (drop start s) in
-      let l = length-word 12 e in
+      let l = length_word 12 e in
       rw (e, off w a_query 12 l (λ z. omega arith), off w a_mutation 12 l (λ z. omega arith), off w a_fragment 12 l (λ z. omega arith), off w a_on 12 l (λ z. omega arith), off w a_true 12 l (λ z. omega arith), off w a_false 12 l (λ z. omega arith), off w a_null 12 l (λ z. omega arith), q) (go r)
     where
       go : (b : Bool) → cond b 3 0 ≡ word_by false false b false false false false false
@@ -117,7 +117,7 @@ module _ (s : List ℕ) (start end : ℕ) (h : (start ≤ end) × (end ≤ lengt
   unfolding word_of
   word_4 e r p q k =
       let w : List ℕ = take 4 (drop start s) in
-      let l = length-word 4 e in
+      let l = length_word 4 e in
       rw (e, off w a_query 4 l (λ z. omega arith), off w a_mutation 4 l (λ z. omega arith), off w a_subscription 4 l (λ z. omega arith), off w a_fragment 4 l (λ z. omega arith), off w a_on 4 l (λ z. omega arith), off w a_false 4 l (λ z. omega arith), q, k) (go r p)
     where
       go : (a b : Bool) → cond a 6 (cond b 8 0) ≡ word_by false false false false false a false b
@@ -130,7 +130,7 @@ module _ (s : List ℕ) (start end : ℕ) (h : (start ≤ end) × (end ≤ lengt
   unfolding word_of
   word_5 e r p q k =
       let w : List ℕ = take 5 (drop start s) in
-      let l = length-word 5 e in
+      let l = length_word 5 e in
       rw (e, off w a_mutation 5 l (λ z. omega arith), off w a_subscription 5 l (λ z. omega arith), off w a_fragment 5 l (λ z. omega arith), off w a_on 5 l (λ z. omega arith), off w a_true 5 l (λ z. omega arith), off w a_null 5 l (λ z. omega arith), q, k) (go r p)
     where
       go : (a b : Bool) → cond a 1 (cond b 7 0) ≡ word_by a false false false false false b false
@@ -143,7 +143,7 @@ module _ (s : List ℕ) (start end : ℕ) (h : (start ≤ end) × (end ≤ lengt
   unfolding word_of
   word_8 e r p q k =
       let w : List ℕ = take 8 (drop start s) in
-      let l = length-word 8 e in
+      let l = length_word 8 e in
       rw (e, off w a_query 8 l (λ z. omega arith), off w a_subscription 8 l (λ z. omega arith), off w a_on 8 l (λ z. omega arith), off w a_true 8 l (λ z. omega arith), off w a_false 8 l (λ z. omega arith), off w a_null 8 l (λ z. omega arith), q, k) (go r p)
     where
       go : (a b : Bool) → cond a 2 (cond b 4 0) ≡ word_by false a false b false false false false
@@ -156,5 +156,5 @@ module _ (s : List ℕ) (start end : ℕ) (h : (start ≤ end) × (end ≤ lengt
   unfolding word_of
   word_none a b c d e =
       let w : List ℕ = take (end - start) (drop start s) in
-      let l = length-word (end - start) refl in
+      let l = length_word (end - start) refl in
       rw (off w a_query (end - start) l c, off w a_mutation (end - start) l d, off w a_subscription (end - start) l e, off w a_fragment (end - start) l d, off w a_on (end - start) l a, off w a_true (end - start) l b, off w a_false (end - start) l c, off w a_null (end - start) l b)

@@ -71,10 +71,10 @@ module _ (s rows : List ℕ) (c : Cursor) (parent left n start : ℕ) (a : Ready
   abbrev named_again : Stack → Stack
   named_again σ = act named ∷ nt Name ∷ nt Arguments? ∷ nt Directives? ∷ σ
 
-  past-colon : (m z : ℕ) (σ : Stack) (o : List ℕ) (q : Counts) → over_counts q ≡ false →
+  past_colon : (m z : ℕ) (σ : Stack) (o : List ℕ) (q : Counts) → over_counts q ≡ false →
       at s (field_begun rows n start parent m z) c (n ∷ o) left q (alias_stack ++ σ) ≡ go (st (field_begun rows n start parent m z) (n + 1) (n ∷ o) c.end left q) (named_again σ) (from s c.end)
   unfolding factored language
-  past-colon m z σ o q f =
+  past_colon m z σ o q f =
       first s c a.within a.looks (field_begun rows n start parent m z) c.rows (n ∷ o) left q (nt Arguments? ∷ nt Directives? ∷ σ) AliasRest (Memᴰ.tail (Memᴰ.head refl)) colon e tt
       ∙ plain s c a.within a.looks (field_begun rows n start parent m z) c.rows (n ∷ o) left q (named_again σ) (the colon) colon e tt tt a.few f
       ∙ ap (λ (u : ℕ). go (st (field_begun rows n start parent m z) u (n ∷ o) c.end left q) (named_again σ) (from s c.end)) k
@@ -82,30 +82,30 @@ module _ (s rows : List ℕ) (c : Cursor) (parent left n start : ℕ) (a : Ready
   module _ (r : Read) (w : r ≡ moved_to c.end (n + 1) (head_of (from s c.end))) where
     pub alias_bad : (rows' : List ℕ) (x : Refusal) → r ≡ Refused x → AliasSaid s rows rows' c parent left n start (Refused x)
     alias_bad rows' x y m z σ o q p f =
-        past-colon m z σ o q f ∙ moved_halts s c.end (n + 1) r x w y (st (field_begun rows n start parent m z) (n + 1) (n ∷ o) c.end left q) (named_again σ)
+        past_colon m z σ o q f ∙ moved_halts s c.end (n + 1) r x w y (st (field_begun rows n start parent m z) (n + 1) (n ∷ o) c.end left q) (named_again σ)
 
     module _ (name : Cursor) (y : r ≡ Done name) where
       pub alias_name : Next s c name (n + 1)
       alias_name = next s c name (n + 1) a.within a.looks r w y
 
-      to-name : (m z : ℕ) (σ : Stack) (o : List ℕ) (q : Counts) → over_counts q ≡ false →
+      to_name : (m z : ℕ) (σ : Stack) (o : List ℕ) (q : Counts) → over_counts q ≡ false →
           at s (field_begun rows n start parent m z) c (n ∷ o) left q (alias_stack ++ σ)
           ≡ at s (field_begun rows n start parent name.start (name.end - name.start)) name (n ∷ o) left q (nt Name ∷ nt Arguments? ∷ nt Directives? ∷ σ)
-      to-name m z σ o q f =
-          past-colon m z σ o q f
+      to_name m z σ o q f =
+          past_colon m z σ o q f
           ∙ next_at s c name (n + 1) alias_name (field_begun rows n start parent m z) (n ∷ o) left q (named_again σ)
           ∙ named_row s name alias_name.looks rows name.rows o left q (nt Name ∷ nt Arguments? ∷ nt Directives? ∷ σ) n 3 start 0 parent m z 0
 
       pub alias_nameless : (name.kind ≡ kind_of n_other → ⊥) → (rows' : List ℕ) → AliasSaid s rows rows' c parent left n start (Refused (NoGoing name.start))
       alias_nameless i rows' m z σ o q p f =
-          to-name m z σ o q f ∙ name_lacks s name alias_name.within alias_name.looks _ name.rows (n ∷ o) left q (nt Arguments? ∷ nt Directives? ∷ σ) i
+          to_name m z σ o q f ∙ name_lacks s name alias_name.within alias_name.looks _ name.rows (n ∷ o) left q (nt Arguments? ∷ nt Directives? ∷ σ) i
 
       -- with its row written
       module _ (i : name.kind ≡ kind_of n_other) (rows₁ : List ℕ) (j : rows₁ ≡ field_begun rows n start parent name.start (name.end - name.start)) where
-        past-name : (m z : ℕ) (σ : Stack) (o : List ℕ) (q : Counts) → over_counts q ≡ false →
+        past_name : (m z : ℕ) (σ : Stack) (o : List ℕ) (q : Counts) → over_counts q ≡ false →
             at s (field_begun rows n start parent m z) c (n ∷ o) left q (alias_stack ++ σ) ≡ go (st rows₁ (n + 1) (n ∷ o) name.end left q) (field_rest_stack ++ σ) (from s name.end)
-        past-name m z σ o q f =
-            to-name m z σ o q f
+        past_name m z σ o q f =
+            to_name m z σ o q f
             ∙ name_taken s name alias_name.within alias_name.looks (field_begun rows n start parent name.start (name.end - name.start)) name.rows (n ∷ o) left q (field_rest_stack ++ σ) i
             (omega (arith, alias_name.rows, a.few, k)) f
             ∙ ap (λ (u : ℕ). go (st (field_begun rows n start parent name.start (name.end - name.start)) u (n ∷ o) name.end left q) (field_rest_stack ++ σ) (from s name.end)) alias_name.rows
@@ -114,7 +114,7 @@ module _ (s rows : List ℕ) (c : Cursor) (parent left n start : ℕ) (a : Ready
         module _ (t : Read) (w' : t ≡ moved_to name.end (n + 1) (head_of (from s name.end))) where
           pub alias_bad_behind : (rows' : List ℕ) (x : Refusal) → t ≡ Refused x → AliasSaid s rows rows' c parent left n start (Refused x)
           alias_bad_behind rows' x y' m z σ o q p f =
-              past-name m z σ o q f ∙ moved_halts s name.end (n + 1) t x w' y' (st rows₁ (n + 1) (n ∷ o) name.end left q) (field_rest_stack ++ σ)
+              past_name m z σ o q f ∙ moved_halts s name.end (n + 1) t x w' y' (st rows₁ (n + 1) (n ∷ o) name.end left q) (field_rest_stack ++ σ)
 
           module _ (b : Cursor) (y' : t ≡ Done b) where
             behind : Next s name b (n + 1)
@@ -131,12 +131,12 @@ module _ (s rows : List ℕ) (c : Cursor) (parent left n start : ℕ) (a : Ready
                   below = a.below;
                 }
 
-            to-rest : (m z : ℕ) (σ : Stack) (o : List ℕ) (q : Counts) → over_counts q ≡ false →
+            to_rest : (m z : ℕ) (σ : Stack) (o : List ℕ) (q : Counts) → over_counts q ≡ false →
                 at s (field_begun rows n start parent m z) c (n ∷ o) left q (alias_stack ++ σ) ≡ at s rows₁ b (n ∷ o) left q (field_rest_stack ++ σ)
-            to-rest m z σ o q f = past-name m z σ o q f ∙ next_at s name b (n + 1) behind rows₁ (n ∷ o) left q (field_rest_stack ++ σ)
+            to_rest m z σ o q f = past_name m z σ o q f ∙ next_at s name b (n + 1) behind rows₁ (n ∷ o) left q (field_rest_stack ++ σ)
 
             pub alias_said : (rows₂ : List ℕ) (u : Read) → Said 0 s rows₁ rows₂ b n left field_rest_stack u → AliasSaid s rows rows₂ c parent left n start u
-            alias_said rows₂ (Refused x) v m z = λ σ o q p f. to-rest m z σ o q f ∙ v σ (n ∷ o) q refl f
+            alias_said rows₂ (Refused x) v m z = λ σ o q p f. to_rest m z σ o q f ∙ v σ (n ∷ o) q refl f
             alias_said rows₂ (Done d) v m z =
                 let l = lies s c a.within a.looks in
                 let l' = lies s name alias_name.within alias_name.looks in
@@ -146,7 +146,7 @@ module _ (s rows : List ℕ) (c : Cursor) (parent left n start : ℕ) (a : Ready
                   few = v.few;
                   looks = v.looks;
                   on = omega (arith, has_bytes s c a.within a.looks colon e, alias_name.stop, behind.stop, v.on);
-                  goes = λ σ o q p f. to-rest m z σ o q f ∙ v.goes σ (n ∷ o) q refl f;
+                  goes = λ σ o q p f. to_rest m z σ o q f ∙ v.goes σ (n ∷ o) q refl f;
                 }
 
 -- THE HEAD OF A FIELD, at its first name
@@ -184,26 +184,26 @@ module _ (s rows : List ℕ) (c : Cursor) (parent left : ℕ) (a : Ready s rows 
           past_first σ o q p f ∙ moved_halts s c.end (c.rows + 1) r x w y (st begun (c.rows + 1) (c.rows ∷ o) c.end left q) (alias_stack ++ (field_end_stack ++ σ))
 
       module _ (b : Cursor) (y : r ≡ Done b) where
-        head-next : Next s c b (c.rows + 1)
-        head-next = next s c b (c.rows + 1) a.within a.looks r w y
+        head_next : Next s c b (c.rows + 1)
+        head_next = next s c b (c.rows + 1) a.within a.looks r w y
 
         pub head_rows : b.rows ≡ c.rows + 1
-        head_rows = head-next.rows
+        head_rows = head_next.rows
 
         pub head_ready : (rows₁ : List ℕ) → length rows₁ ≡ rows_size → Ready s rows₁ b c.rows
         head_ready rows₁ i =
-            record { short = a.short; size = i; within = head-next.within; few = omega (arith, head-next.rows, head_room); looks = head-next.looks; below = a.few }
+            record { short = a.short; size = i; within = head_next.within; few = omega (arith, head_next.rows, head_room); looks = head_next.looks; below = a.few }
 
         pub head_size : (rows₁ : List ℕ) → rows₁ ≡ begun → length rows₁ ≡ rows_size
         head_size rows₁ j = ap length j ∙ put_length rows c.rows 3 c.start 0 parent c.start (c.end - c.start) 0 ∙ a.size
 
-        to-second : (σ : Stack) (o : List ℕ) (q : Counts) → top o ≡ parent → over_counts q ≡ false →
+        to_second : (σ : Stack) (o : List ℕ) (q : Counts) → top o ≡ parent → over_counts q ≡ false →
             at s rows c o left q (nt Field ∷ σ) ≡ at s begun b (c.rows ∷ o) left q (alias_stack ++ (field_end_stack ++ σ))
-        to-second σ o q p f = past_first σ o q p f ∙ next_at s c b (c.rows + 1) head-next begun (c.rows ∷ o) left q (alias_stack ++ (field_end_stack ++ σ))
+        to_second σ o q p f = past_first σ o q p f ∙ next_at s c b (c.rows + 1) head_next begun (c.rows ∷ o) left q (alias_stack ++ (field_end_stack ++ σ))
 
         -- with an alias
         pub head_aliased : (rows₂ : List ℕ) (u : Read) → AliasSaid s rows rows₂ b parent left c.rows c.start u → HeadSaid s rows rows₂ c parent left u
-        head_aliased rows₂ (Refused x) v = λ σ o q p f. to-second σ o q p f ∙ v c.start (c.end - c.start) (field_end_stack ++ σ) o q refl f
+        head_aliased rows₂ (Refused x) v = λ σ o q p f. to_second σ o q p f ∙ v c.start (c.end - c.start) (field_end_stack ++ σ) o q refl f
         head_aliased rows₂ (Done d) v =
             let g = v c.start (c.end - c.start) in
             let l = lies s c a.within a.looks in (
@@ -213,23 +213,23 @@ module _ (s rows : List ℕ) (c : Cursor) (parent left : ℕ) (a : Ready s rows 
                 within = g.within;
                 few = g.few;
                 looks = g.looks;
-                on = omega (arith, head-next.stop, g.on);
-                goes = λ σ o q p f. to-second σ o q p f ∙ g.goes (field_end_stack ++ σ) o q refl f;
+                on = omega (arith, head_next.stop, g.on);
+                goes = λ σ o q p f. to_second σ o q p f ∙ g.goes (field_end_stack ++ σ) o q refl f;
               },
             )
 
         -- without
-        no-alias : (b.kind ≡ kind_of colon → ⊥) → (σ : Stack) (o : List ℕ) (q : Counts) → top o ≡ parent → over_counts q ≡ false →
+        no_alias : (b.kind ≡ kind_of colon → ⊥) → (σ : Stack) (o : List ℕ) (q : Counts) → top o ≡ parent → over_counts q ≡ false →
             at s rows c o left q (nt Field ∷ σ) ≡ at s begun b (c.rows ∷ o) left q (field_rest_stack ++ (field_end_stack ++ σ))
         unfolding factored language choose
-        no-alias i σ o q p f =
-            to-second σ o q p f
-            ∙ null s b head-next.within head-next.looks begun b.rows (c.rows ∷ o) left q (field_rest_stack ++ (field_end_stack ++ σ)) AliasRest (Memᴰ.head refl) tt refl (λ (u : ℕ). not (is (kind_of colon) u))
+        no_alias i σ o q p f =
+            to_second σ o q p f
+            ∙ null s b head_next.within head_next.looks begun b.rows (c.rows ∷ o) left q (field_rest_stack ++ (field_end_stack ++ σ)) AliasRest (Memᴰ.head refl) tt refl (λ (u : ℕ). not (is (kind_of colon) u))
             (not_is (kind_of colon) b.kind i) tt
 
         pub head_plain : (b.kind ≡ kind_of colon → ⊥) → (rows₁ : List ℕ) → rows₁ ≡ begun → (rows₂ : List ℕ) (u : Read) → Said 0 s rows₁ rows₂ b c.rows left field_rest_stack u → HeadSaid s rows rows₂ c parent left u
         head_plain i rows₁ j rows₂ (Refused x) v =
-            λ σ o q p f. no-alias i σ o q p f ∙ ap (λ (t : List ℕ). at s t b (c.rows ∷ o) left q (field_rest_stack ++ (field_end_stack ++ σ))) (sym j) ∙ v (field_end_stack ++ σ) (c.rows ∷ o) q refl f
+            λ σ o q p f. no_alias i σ o q p f ∙ ap (λ (t : List ℕ). at s t b (c.rows ∷ o) left q (field_rest_stack ++ (field_end_stack ++ σ))) (sym j) ∙ v (field_end_stack ++ σ) (c.rows ∷ o) q refl f
         head_plain i rows₁ j rows₂ (Done d) v =
             let l = lies s c a.within a.looks in (
               head_room,
@@ -238,10 +238,10 @@ module _ (s rows : List ℕ) (c : Cursor) (parent left : ℕ) (a : Ready s rows 
                 within = v.within;
                 few = v.few;
                 looks = v.looks;
-                on = omega (arith, has_bytes s c a.within a.looks n_other e, head-next.stop, v.on);
+                on = omega (arith, has_bytes s c a.within a.looks n_other e, head_next.stop, v.on);
                 goes =
                     λ σ o q p f.
-                    no-alias i σ o q p f
+                    no_alias i σ o q p f
                     ∙ ap (λ (t : List ℕ). at s t b (c.rows ∷ o) left q (field_rest_stack ++ (field_end_stack ++ σ))) (sym j)
                     ∙ v.goes (field_end_stack ++ σ) (c.rows ∷ o) q refl f;
               },

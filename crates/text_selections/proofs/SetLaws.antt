@@ -44,44 +44,44 @@ module _ (s : List ℕ) (c : Cursor) (h : c.stop ≤ length s) (l : Looks s c) (
   no_selection σ e f = refuse s c h l cells n o left q σ Selection (λ (y : ℕ). not (is (kind_of n_other) y) && not (is (kind_of spread) y)) (not_two (kind_of n_other) (kind_of spread) c.kind e f) tt tt
 
   -- the first selection, or none
-  first-selection : (σ : Stack) → here (nt Selection+ ∷ σ) ≡ here (nt Selection ∷ nt Selection* ∷ σ)
+  first_selection : (σ : Stack) → here (nt Selection+ ∷ σ) ≡ here (nt Selection ∷ nt Selection* ∷ σ)
   unfolding factored language choose refuses refuses_end
-  first-selection σ = by_name (same c.kind (kind_of n_other))
+  first_selection σ = by_name (same c.kind (kind_of n_other))
     where
-      by-dots : (c.kind ≡ kind_of n_other → ⊥) → (c.kind ≡ kind_of spread) ⊎ (c.kind ≡ kind_of spread → ⊥) → here (nt Selection+ ∷ σ) ≡ here (nt Selection ∷ nt Selection* ∷ σ)
-      by-dots e (inl f) = first s c h l cells n o left q σ Selection+ (Memᴰ.head refl) spread f tt
-      by-dots e (inr f) =
+      by_dots : (c.kind ≡ kind_of n_other → ⊥) → (c.kind ≡ kind_of spread) ⊎ (c.kind ≡ kind_of spread → ⊥) → here (nt Selection+ ∷ σ) ≡ here (nt Selection ∷ nt Selection* ∷ σ)
+      by_dots e (inl f) = first s c h l cells n o left q σ Selection+ (Memᴰ.head refl) spread f tt
+      by_dots e (inr f) =
           refuse s c h l cells n o left q σ Selection+ (λ (y : ℕ). not (is (kind_of n_other) y) && not (is (kind_of spread) y)) (not_two (kind_of n_other) (kind_of spread) c.kind e f) tt tt ∙ sym (no_selection (nt Selection* ∷ σ) e f)
 
       by_name : (c.kind ≡ kind_of n_other) ⊎ (c.kind ≡ kind_of n_other → ⊥) → here (nt Selection+ ∷ σ) ≡ here (nt Selection ∷ nt Selection* ∷ σ)
       by_name (inl e) = first s c h l cells n o left q σ Selection+ (Memᴰ.head refl) n_other e tt
-      by_name (inr e) = by-dots e (same c.kind (kind_of spread))
+      by_name (inr e) = by_dots e (same c.kind (kind_of spread))
 
   -- one more, where the set does not end
-  next-selection : (σ : Stack) → (c.kind ≡ kind_of brace_r → ⊥) → here (nt Selection* ∷ tm (the brace_r) ∷ σ) ≡ here (nt Selection ∷ nt Selection* ∷ tm (the brace_r) ∷ σ)
+  next_selection : (σ : Stack) → (c.kind ≡ kind_of brace_r → ⊥) → here (nt Selection* ∷ tm (the brace_r) ∷ σ) ≡ here (nt Selection ∷ nt Selection* ∷ tm (the brace_r) ∷ σ)
   unfolding factored language choose
-  next-selection σ z = by_name (same c.kind (kind_of n_other))
+  next_selection σ z = by_name (same c.kind (kind_of n_other))
     where
-      by-dots : (c.kind ≡ kind_of n_other → ⊥) → (c.kind ≡ kind_of spread) ⊎ (c.kind ≡ kind_of spread → ⊥) → here (nt Selection* ∷ tm (the brace_r) ∷ σ) ≡ here (nt Selection ∷ nt Selection* ∷ tm (the brace_r) ∷ σ)
-      by-dots e (inl f) = first s c h l cells n o left q (tm (the brace_r) ∷ σ) Selection* (Memᴰ.tail (Memᴰ.head refl)) spread f tt
-      by-dots e (inr f) =
+      by_dots : (c.kind ≡ kind_of n_other → ⊥) → (c.kind ≡ kind_of spread) ⊎ (c.kind ≡ kind_of spread → ⊥) → here (nt Selection* ∷ tm (the brace_r) ∷ σ) ≡ here (nt Selection ∷ nt Selection* ∷ tm (the brace_r) ∷ σ)
+      by_dots e (inl f) = first s c h l cells n o left q (tm (the brace_r) ∷ σ) Selection* (Memᴰ.tail (Memᴰ.head refl)) spread f tt
+      by_dots e (inr f) =
           null s c h l cells n o left q (tm (the brace_r) ∷ σ) Selection* (Memᴰ.head refl) tt refl (λ (y : ℕ). not (is (kind_of n_other) y) && not (is (kind_of spread) y)) (not_two (kind_of n_other) (kind_of spread) c.kind e f) tt
           ∙ lacks s c h l cells n o left q σ (the brace_r) (λ (y : ℕ). not (is (kind_of brace_r) y)) (not_is (kind_of brace_r) c.kind z) tt
           ∙ sym (no_selection (nt Selection* ∷ tm (the brace_r) ∷ σ) e f)
 
       by_name : (c.kind ≡ kind_of n_other) ⊎ (c.kind ≡ kind_of n_other → ⊥) → here (nt Selection* ∷ tm (the brace_r) ∷ σ) ≡ here (nt Selection ∷ nt Selection* ∷ tm (the brace_r) ∷ σ)
       by_name (inl e) = first s c h l cells n o left q (tm (the brace_r) ∷ σ) Selection* (Memᴰ.tail (Memᴰ.head refl)) n_other e tt
-      by_name (inr e) = by-dots e (same c.kind (kind_of spread))
+      by_name (inr e) = by_dots e (same c.kind (kind_of spread))
 
   -- the brace that opens a set, and the one that closes it
   opens : (σ : Stack) → c.kind ≡ kind_of brace_l → here (nt SelectionSet ∷ σ) ≡ here (tm (the brace_l) ∷ nt Selection+ ∷ tm (the brace_r) ∷ σ)
   unfolding factored language
   opens σ e = first s c h l cells n o left q σ SelectionSet (Memᴰ.head refl) brace_l e tt
 
-  closes-with : (σ : Stack) → c.kind ≡ kind_of brace_r → n ≤ most_rows → over_counts q ≡ false →
+  closes_with : (σ : Stack) → c.kind ≡ kind_of brace_r → n ≤ most_rows → over_counts q ≡ false →
       here (nt Selection* ∷ tm (the brace_r) ∷ σ) ≡ go (st cells n o c.end (suc left) q) σ (from s c.end)
   unfolding factored language choose
-  closes-with σ e m f =
+  closes_with σ e m f =
       null s c h l cells n o left q (tm (the brace_r) ∷ σ) Selection* (Memᴰ.head refl) tt refl (is (kind_of brace_r)) (rw e tt) tt ∙ closing s c h l cells n o left q σ (the brace_r) brace_r e tt tt m f
 
   pub no_set : (σ : Stack) → (c.kind ≡ kind_of brace_l → ⊥) → here (nt SelectionSet ∷ σ) ≡ halt (NoGoing c.start)
@@ -102,15 +102,15 @@ module _ (s rows : List ℕ) (c : Cursor) (parent left : ℕ) (a : Ready s rows 
         opens s c a.within a.looks rows c.rows o left q σ e
         ∙ too_deep s c a.within a.looks rows c.rows o left q (nt Selection+ ∷ tm (the brace_r) ∷ σ) (the brace_l) brace_l e tt tt z
 
-    opened-at : (left ≡ 0 → ⊥) → (σ : Stack) (o : List ℕ) (q : Counts) → over_counts q ≡ false →
+    opened_at : (left ≡ 0 → ⊥) → (σ : Stack) (o : List ℕ) (q : Counts) → over_counts q ≡ false →
         at s rows c o left q (nt SelectionSet ∷ σ) ≡ go (st rows c.rows o c.end (left - 1) q) (nt Selection+ ∷ tm (the brace_r) ∷ σ) (from s c.end)
-    opened-at z σ o q f =
+    opened_at z σ o q f =
         opens s c a.within a.looks rows c.rows o left q σ e
         ∙ opening s c a.within a.looks rows c.rows o left q (nt Selection+ ∷ tm (the brace_r) ∷ σ) (the brace_l) brace_l e tt tt (left - 1) (omega arith) a.few f
 
     pub set_bad : (left ≡ 0 → ⊥) → (r : Read) → r ≡ moved_to c.end c.rows (head_of (from s c.end)) → (x : Refusal) → r ≡ Refused x → Halts s rows c parent left selection_set_stack x
     set_bad z r m x y σ o q p f =
-        opened-at z σ o q f ∙ moved_halts s c.end c.rows r x m y (st rows c.rows o c.end (left - 1) q) (nt Selection+ ∷ tm (the brace_r) ∷ σ)
+        opened_at z σ o q f ∙ moved_halts s c.end c.rows r x m y (st rows c.rows o c.end (left - 1) q) (nt Selection+ ∷ tm (the brace_r) ∷ σ)
 
     -- the loop: at each turn a selection is to be read
     pub turn_first : (left ≡ 0 → ⊥) → (d : Cursor) (r : Read) → r ≡ moved_to c.end c.rows (head_of (from s c.end)) → r ≡ Done d →
@@ -126,9 +126,9 @@ module _ (s rows : List ℕ) (c : Cursor) (parent left : ℕ) (a : Ready s rows 
           on = omega (arith, x.stop, has_bytes s c a.within a.looks brace_l e);
           goes =
               λ σ o q p f.
-              opened-at z σ o q f
+              opened_at z σ o q f
               ∙ next_at s c d c.rows x rows o (left - 1) q (nt Selection+ ∷ tm (the brace_r) ∷ σ)
-              ∙ first-selection s d x.within x.looks rows d.rows o (left - 1) q (tm (the brace_r) ∷ σ);
+              ∙ first_selection s d x.within x.looks rows d.rows o (left - 1) q (tm (the brace_r) ∷ σ);
         }
 
 -- one turn, from its cursor d on: α was to be read where the loop began
@@ -157,7 +157,7 @@ module _ (gain : ℕ) (s rows rows₁ : List ℕ) (c d : Cursor) (parent left₀
             few = turn_read.few;
             looks = turn_read.looks;
             on = omega (arith, i.on, turn_read.on);
-            goes = λ σ o q p f. read_at σ o q p f ∙ next-selection s b turn_read.within turn_read.looks rows₂ b.rows o (left - 1) q σ z;
+            goes = λ σ o q p f. read_at σ o q p f ∙ next_selection s b turn_read.within turn_read.looks rows₂ b.rows o (left - 1) q σ z;
           }
 
 -- it ends, behind b
@@ -169,7 +169,7 @@ module _ (s rows rows₁ rows₂ : List ℕ) (c d b : Cursor) (parent left : ℕ
       at s rows c o left q (nt SelectionSet ∷ σ) ≡ go (st rows₂ b.rows o b.end left q) σ (from s b.end)
   end_at σ o q p f =
       read_at 1 s rows rows₁ c d parent left left selection_set_stack i rows₂ r v b e σ o q p f
-      ∙ closes-with s b read.within read.looks rows₂ b.rows o (left - 1) q σ k read.few f
+      ∙ closes_with s b read.within read.looks rows₂ b.rows o (left - 1) q σ k read.few f
       ∙ ap (λ (m : ℕ). go (st rows₂ b.rows o b.end m q) σ (from s b.end)) (omega arith)
 
   pub turn_ends : (t : Read) → t ≡ moved_to b.end b.rows (head_of (from s b.end)) → Said 1 s rows rows₂ c parent left selection_set_stack t

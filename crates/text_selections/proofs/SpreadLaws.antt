@@ -47,11 +47,11 @@ names s c e =
     (eqb→eq c.kind (kind_of n_other) (and_l a b t), λ w. subst (λ (x : Bool). T (not x)) (eq-eqb (word_of (bytes_at s c)) 5 w) (and_r a b t))
 
 pub names_not : (s : List ℕ) (c : Cursor) → names_fragment s c ≡ false → c.kind ≡ kind_of n_other → AtOn s c
-names_not s c e k = by-test (eqb (word_of (bytes_at s c)) 5) refl
+names_not s c e k = by_test (eqb (word_of (bytes_at s c)) 5) refl
   where
-    by-test : (b : Bool) → eqb (word_of (bytes_at s c)) 5 ≡ b → AtOn s c
-    by-test true g = (k, eqb-true (word_of (bytes_at s c)) 5 g)
-    by-test false g = let z : true ≡ false = rw (eq-eqb c.kind (kind_of n_other) k, g) at e in absurd (subst T z tt)
+    by_test : (b : Bool) → eqb (word_of (bytes_at s c)) 5 ≡ b → AtOn s c
+    by_test true g = (k, eqb-true (word_of (bytes_at s c)) 5 g)
+    by_test false g = let z : true ≡ false = rw (eq-eqb c.kind (kind_of n_other) k, g) at e in absurd (subst T z tt)
 
 pub names_when : (s : List ℕ) (c : Cursor) → c.kind ≡ kind_of n_other → (w : ℕ) → w ≡ word_of (bytes_at s c) → not (eqb w 5) ≡ names_fragment s c
 names_when s c e w f = rw (eq-eqb c.kind (kind_of n_other) e, f) refl
@@ -64,10 +64,10 @@ module _ (s rows : List ℕ) (c : Cursor) (parent left n start : ℕ) (a : Ready
   abbrev told : List ℕ
   told = put rows n 4 start 0 parent c.start (c.end - c.start) 0
 
-  past-name : (σ : Stack) (o : List ℕ) (q : Counts) → over_counts q ≡ false →
+  past_name : (σ : Stack) (o : List ℕ) (q : Counts) → over_counts q ≡ false →
       at s (spread_begun rows n start parent) c (n ∷ o) left q (spread_stack ++ σ) ≡ go (st told c.rows (n ∷ o) c.end left q) (nt Directives? ∷ act end ∷ σ) (from s c.end)
   unfolding factored language
-  past-name σ o q f =
+  past_name σ o q f =
       let i = names s c e in
       word_first s c a.within a.looks i.0 (spread_begun rows n start parent) c.rows (n ∷ o) left q σ SpreadRest (Memᴰ.head refl) is_no_on (no_on_is s c i.1) tt
       ∙ kind_told rows c.rows o c.stop left q (act named ∷ nt FragmentName ∷ nt Directives? ∷ act end ∷ σ) (from s c.stop) n 0 start 0 parent 0 0 0 4 0
@@ -77,12 +77,12 @@ module _ (s rows : List ℕ) (c : Cursor) (parent left n start : ℕ) (a : Ready
 
   -- with its row written
   module _ (rows₁ : List ℕ) (j : rows₁ ≡ told) (r : Read) (w : r ≡ moved_to c.end c.rows (head_of (from s c.end))) where
-    row-past : (σ : Stack) (o : List ℕ) (q : Counts) → over_counts q ≡ false →
+    row_past : (σ : Stack) (o : List ℕ) (q : Counts) → over_counts q ≡ false →
         at s (spread_begun rows n start parent) c (n ∷ o) left q (spread_stack ++ σ) ≡ go (st rows₁ c.rows (n ∷ o) c.end left q) (nt Directives? ∷ act end ∷ σ) (from s c.end)
-    row-past σ o q f = past-name σ o q f ∙ ap (λ (u : List ℕ). go (st u c.rows (n ∷ o) c.end left q) (nt Directives? ∷ act end ∷ σ) (from s c.end)) (sym j)
+    row_past σ o q f = past_name σ o q f ∙ ap (λ (u : List ℕ). go (st u c.rows (n ∷ o) c.end left q) (nt Directives? ∷ act end ∷ σ) (from s c.end)) (sym j)
 
     pub named_bad : (x : Refusal) → r ≡ Refused x → (rows' : List ℕ) → Passes 1 s (spread_begun rows n start parent) rows' c n left (opened n) shut spread_stack [] (Refused x)
-    named_bad x y rows' σ o q p f = row-past σ o q f ∙ moved_halts s c.end c.rows r x w y (st rows₁ c.rows (n ∷ o) c.end left q) (nt Directives? ∷ act end ∷ σ)
+    named_bad x y rows' σ o q p f = row_past σ o q f ∙ moved_halts s c.end c.rows r x w y (st rows₁ c.rows (n ∷ o) c.end left q) (nt Directives? ∷ act end ∷ σ)
 
     module _ (b : Cursor) (y : r ≡ Done b) where
       behind : Next s c b c.rows
@@ -99,12 +99,12 @@ module _ (s rows : List ℕ) (c : Cursor) (parent left n start : ℕ) (a : Ready
             below = a.below;
           }
 
-      to-directives : (σ : Stack) (o : List ℕ) (q : Counts) → over_counts q ≡ false → at s (spread_begun rows n start parent) c (n ∷ o) left q (spread_stack ++ σ) ≡ at s rows₁ b (n ∷ o) left q (nt Directives? ∷ act end ∷ σ)
-      to-directives σ o q f = row-past σ o q f ∙ next_at s c b c.rows behind rows₁ (n ∷ o) left q (nt Directives? ∷ act end ∷ σ)
+      to_directives : (σ : Stack) (o : List ℕ) (q : Counts) → over_counts q ≡ false → at s (spread_begun rows n start parent) c (n ∷ o) left q (spread_stack ++ σ) ≡ at s rows₁ b (n ∷ o) left q (nt Directives? ∷ act end ∷ σ)
+      to_directives σ o q f = row_past σ o q f ∙ next_at s c b c.rows behind rows₁ (n ∷ o) left q (nt Directives? ∷ act end ∷ σ)
 
       module _ (rows₂ : List ℕ) (t : Read) (v : Said 0 s rows₁ rows₂ b n left directives_stack t) where
         pub named_stops : (x : Refusal) → t ≡ Refused x → (rows' : List ℕ) → Passes 1 s (spread_begun rows n start parent) rows' c n left (opened n) shut spread_stack [] (Refused x)
-        named_stops x i rows' σ o q p f = to-directives σ o q f ∙ said_halts 0 s rows₁ rows₂ b n left directives_stack t x v i (act end ∷ σ) (n ∷ o) q refl f
+        named_stops x i rows' σ o q p f = to_directives σ o q f ∙ said_halts 0 s rows₁ rows₂ b n left directives_stack t x v i (act end ∷ σ) (n ∷ o) q refl f
 
         module _ (d : Cursor) (i : t ≡ Done d) where
           pub named_read : Went 0 s rows₁ rows₂ b d n left directives_stack
@@ -121,7 +121,7 @@ module _ (s rows : List ℕ) (c : Cursor) (parent left n start : ℕ) (a : Ready
                 on = omega (arith, has_bytes s c a.within a.looks n_other (names s c e).0, behind.stop, named_read.on);
                 goes =
                     λ σ o q p f.
-                    to-directives σ o q f
+                    to_directives σ o q f
                     ∙ named_read.goes (act end ∷ σ) (n ∷ o) q refl f
                     ∙ ends_row rows₂ d.rows o d.stop left q σ (from s d.stop) n
                     ∙ ap (λ (u : List ℕ). at s u d o left q σ) (sym h);
@@ -148,9 +148,9 @@ module _ (s rows : List ℕ) (c : Cursor) (parent left n start : ℕ) (a : Ready
   kinded-at σ = nt TypeCondition? ∷ nt Directives? ∷ body_stack ++ σ
 
   -- its kind is told
-  told-as : (σ : Stack) (o : List ℕ) (q : Counts) →
+  told_as : (σ : Stack) (o : List ℕ) (q : Counts) →
       go (st (spread_begun rows n start parent) c.rows (n ∷ o) c.stop left q) (act (kind 5 0) ∷ kinded-at σ) (from s c.stop) ≡ at s rows₁ c (n ∷ o) left q (kinded-at σ)
-  told-as σ o q =
+  told_as σ o q =
       kind_told rows c.rows o c.stop left q (kinded-at σ) (from s c.stop) n 0 start 0 parent 0 0 0 5 0
       ∙ ap (λ (u : List ℕ). at s u c (n ∷ o) left q (kinded-at σ)) (sym j)
 
@@ -159,35 +159,35 @@ module _ (s rows : List ℕ) (c : Cursor) (parent left n start : ℕ) (a : Ready
     pub inline_on : AtOn s c
     inline_on = names_not s c e k
 
-    to-condition : (σ : Stack) (o : List ℕ) (q : Counts) →
+    to_condition : (σ : Stack) (o : List ℕ) (q : Counts) →
         at s (spread_begun rows n start parent) c (n ∷ o) left q (spread_stack ++ σ) ≡ at s rows₁ c (n ∷ o) left q (nt TypeCondition ∷ nt Directives? ∷ body_stack ++ σ)
     unfolding factored language
-    to-condition σ o q =
+    to_condition σ o q =
         word_first s c a.within a.looks k (spread_begun rows n start parent) c.rows (n ∷ o) left q σ SpreadRest (Memᴰ.tail (Memᴰ.head refl)) is_on (on_is s c inline_on) tt
-        ∙ told-as σ o q
+        ∙ told_as σ o q
         ∙ word_first s c a.within a.looks k rows₁ c.rows (n ∷ o) left q (nt Directives? ∷ body_stack ++ σ) TypeCondition? (Memᴰ.tail (Memᴰ.head refl)) is_on (on_is s c inline_on) tt
 
     module _ (rows₂ : List ℕ) (r : Read) (v : Said 1 s rows₁ rows₂ c n left condition_stack r) where
       pub inline_stops : (x : Refusal) → r ≡ Refused x → (rows' : List ℕ) → Passes 0 s (spread_begun rows n start parent) rows' c n left (opened n) (opened n) spread_stack body_stack (Refused x)
-      inline_stops x i rows' σ o q p f = to-condition σ o q ∙ said_halts 1 s rows₁ rows₂ c n left condition_stack r x v i (nt Directives? ∷ body_stack ++ σ) (n ∷ o) q refl f
+      inline_stops x i rows' σ o q p f = to_condition σ o q ∙ said_halts 1 s rows₁ rows₂ c n left condition_stack r x v i (nt Directives? ∷ body_stack ++ σ) (n ∷ o) q refl f
 
       module _ (d : Cursor) (i : r ≡ Done d) where
-        inline-read : Went 1 s rows₁ rows₂ c d n left condition_stack
-        inline-read = said_went 1 s rows₁ rows₂ c d n left condition_stack r v i
+        inline_read : Went 1 s rows₁ rows₂ c d n left condition_stack
+        inline_read = said_went 1 s rows₁ rows₂ c d n left condition_stack r v i
 
         pub inline_ready_behind : Ready s rows₂ d n
-        inline_ready_behind = let g = inline-read in record { short = a.short; size = g.size; within = g.within; few = g.few; looks = g.looks; below = a.below }
+        inline_ready_behind = let g = inline_read in record { short = a.short; size = g.size; within = g.within; few = g.few; looks = g.looks; below = a.below }
 
         pub inline_said : (rows₃ : List ℕ) (t : Read) → Said 0 s rows₂ rows₃ d n left directives_stack t → Passes 0 s (spread_begun rows n start parent) rows₃ c n left (opened n) (opened n) spread_stack body_stack t
-        inline_said rows₃ (Refused x) u = λ σ o q p f. to-condition σ o q ∙ inline-read.goes (nt Directives? ∷ body_stack ++ σ) (n ∷ o) q refl f ∙ u (body_stack ++ σ) (n ∷ o) q refl f
+        inline_said rows₃ (Refused x) u = λ σ o q p f. to_condition σ o q ∙ inline_read.goes (nt Directives? ∷ body_stack ++ σ) (n ∷ o) q refl f ∙ u (body_stack ++ σ) (n ∷ o) q refl f
         inline_said rows₃ (Done b) u =
             record {
               size = u.size;
               within = u.within;
               few = u.few;
               looks = u.looks;
-              on = omega (arith, inline-read.on, u.on);
-              goes = λ σ o q p f. to-condition σ o q ∙ inline-read.goes (nt Directives? ∷ body_stack ++ σ) (n ∷ o) q refl f ∙ u.goes (body_stack ++ σ) (n ∷ o) q refl f;
+              on = omega (arith, inline_read.on, u.on);
+              goes = λ σ o q p f. to_condition σ o q ∙ inline_read.goes (nt Directives? ∷ body_stack ++ σ) (n ∷ o) q refl f ∙ u.goes (body_stack ++ σ) (n ∷ o) q refl f;
             }
 
         pub inline_undirected : (d.kind ≡ kind_of at_sign → ⊥) → Passed 0 s (spread_begun rows n start parent) rows₂ c d n left left (opened n) (opened n) spread_stack body_stack
@@ -195,20 +195,20 @@ module _ (s rows : List ℕ) (c : Cursor) (parent left n start : ℕ) (a : Ready
 
   -- without
   module _ (k : c.kind ≡ kind_of n_other → ⊥) where
-    no-condition : (σ : Stack) (o : List ℕ) (q : Counts) → at s rows₁ c (n ∷ o) left q (kinded-at σ) ≡ at s rows₁ c (n ∷ o) left q (nt Directives? ∷ body_stack ++ σ)
+    no_condition : (σ : Stack) (o : List ℕ) (q : Counts) → at s rows₁ c (n ∷ o) left q (kinded-at σ) ≡ at s rows₁ c (n ∷ o) left q (nt Directives? ∷ body_stack ++ σ)
     unfolding factored language choose
-    no-condition σ o q =
+    no_condition σ o q =
         null s c a.within a.looks rows₁ c.rows (n ∷ o) left q (nt Directives? ∷ body_stack ++ σ) TypeCondition? (Memᴰ.head refl) tt refl (λ (u : ℕ). not (is (kind_of n_other) u)) (not_is (kind_of n_other) c.kind k) tt
 
-    to-directives' : (σ : Stack) (o : List ℕ) (q : Counts) → at s (spread_begun rows n start parent) c (n ∷ o) left q (spread_stack ++ σ) ≡ at s rows₁ c (n ∷ o) left q (nt Directives? ∷ body_stack ++ σ)
+    to_directives' : (σ : Stack) (o : List ℕ) (q : Counts) → at s (spread_begun rows n start parent) c (n ∷ o) left q (spread_stack ++ σ) ≡ at s rows₁ c (n ∷ o) left q (nt Directives? ∷ body_stack ++ σ)
     unfolding factored language choose refuses refuses_end
-    to-directives' σ o q = by_sign (same c.kind (kind_of at_sign))
+    to_directives' σ o q = by_sign (same c.kind (kind_of at_sign))
       where
         -- neither may begin anything: both refuse
-        by-brace : (c.kind ≡ kind_of at_sign → ⊥) → (c.kind ≡ kind_of brace_l) ⊎ (c.kind ≡ kind_of brace_l → ⊥) → at s (spread_begun rows n start parent) c (n ∷ o) left q (spread_stack ++ σ) ≡ at s rows₁ c (n ∷ o) left q (nt Directives? ∷ body_stack ++ σ)
-        by-brace f (inl g) =
-            first s c a.within a.looks (spread_begun rows n start parent) c.rows (n ∷ o) left q σ SpreadRest (Memᴰ.tail (Memᴰ.head refl)) brace_l g tt ∙ told-as σ o q ∙ no-condition σ o q
-        by-brace f (inr g) =
+        by_brace : (c.kind ≡ kind_of at_sign → ⊥) → (c.kind ≡ kind_of brace_l) ⊎ (c.kind ≡ kind_of brace_l → ⊥) → at s (spread_begun rows n start parent) c (n ∷ o) left q (spread_stack ++ σ) ≡ at s rows₁ c (n ∷ o) left q (nt Directives? ∷ body_stack ++ σ)
+        by_brace f (inl g) =
+            first s c a.within a.looks (spread_begun rows n start parent) c.rows (n ∷ o) left q σ SpreadRest (Memᴰ.tail (Memᴰ.head refl)) brace_l g tt ∙ told_as σ o q ∙ no_condition σ o q
+        by_brace f (inr g) =
             refuse s c a.within a.looks (spread_begun rows n start parent) c.rows (n ∷ o) left q σ SpreadRest (λ (u : ℕ). not (is (kind_of n_other) u) && (not (is (kind_of at_sign) u) && not (is (kind_of brace_l) u)))
             (and_i (not (is (kind_of n_other) c.kind)) (not (is (kind_of at_sign) c.kind) && not (is (kind_of brace_l) c.kind)) (not_is (kind_of n_other) c.kind k) (not_two (kind_of at_sign) (kind_of brace_l) c.kind f g)) tt tt
             ∙ sym (no_set s c a.within a.looks rows₁ c.rows (n ∷ o) left q (act end ∷ σ) g)
@@ -216,11 +216,11 @@ module _ (s rows : List ℕ) (c : Cursor) (parent left n start : ℕ) (a : Ready
 
         by_sign : (c.kind ≡ kind_of at_sign) ⊎ (c.kind ≡ kind_of at_sign → ⊥) → at s (spread_begun rows n start parent) c (n ∷ o) left q (spread_stack ++ σ) ≡ at s rows₁ c (n ∷ o) left q (nt Directives? ∷ body_stack ++ σ)
         by_sign (inl f) =
-            first s c a.within a.looks (spread_begun rows n start parent) c.rows (n ∷ o) left q σ SpreadRest (Memᴰ.tail (Memᴰ.head refl)) at_sign f tt ∙ told-as σ o q ∙ no-condition σ o q
-        by_sign (inr f) = by-brace f (same c.kind (kind_of brace_l))
+            first s c a.within a.looks (spread_begun rows n start parent) c.rows (n ∷ o) left q σ SpreadRest (Memᴰ.tail (Memᴰ.head refl)) at_sign f tt ∙ told_as σ o q ∙ no_condition σ o q
+        by_sign (inr f) = by_brace f (same c.kind (kind_of brace_l))
 
     pub inline_plain : (rows₂ : List ℕ) (t : Read) → Said 0 s rows₁ rows₂ c n left directives_stack t → Passes 0 s (spread_begun rows n start parent) rows₂ c n left (opened n) (opened n) spread_stack body_stack t
-    inline_plain rows₂ (Refused x) u = λ σ o q p f. to-directives' σ o q ∙ u (body_stack ++ σ) (n ∷ o) q refl f
+    inline_plain rows₂ (Refused x) u = λ σ o q p f. to_directives' σ o q ∙ u (body_stack ++ σ) (n ∷ o) q refl f
     inline_plain rows₂ (Done b) u =
         record {
           size = u.size;
@@ -228,7 +228,7 @@ module _ (s rows : List ℕ) (c : Cursor) (parent left n start : ℕ) (a : Ready
           few = u.few;
           looks = u.looks;
           on = u.on;
-          goes = λ σ o q p f. to-directives' σ o q ∙ u.goes (body_stack ++ σ) (n ∷ o) q refl f;
+          goes = λ σ o q p f. to_directives' σ o q ∙ u.goes (body_stack ++ σ) (n ∷ o) q refl f;
         }
 
     pub inline_bare : (c.kind ≡ kind_of at_sign → ⊥) → Passed 0 s (spread_begun rows n start parent) rows₁ c c n left left (opened n) (opened n) spread_stack body_stack
@@ -255,13 +255,13 @@ module _ (s rows : List ℕ) (c : Cursor) (parent left : ℕ) (a : Ready s rows 
     pub spread_room : c.rows < most_rows
     spread_room = omega (arith, a.few, z)
 
-    past-dots : (σ : Stack) (o : List ℕ) (q : Counts) → top o ≡ parent → over_counts q ≡ false →
+    past_dots : (σ : Stack) (o : List ℕ) (q : Counts) → top o ≡ parent → over_counts q ≡ false →
         at s rows c o left q (nt Selection ∷ σ) ≡ go (st begun (c.rows + 1) (c.rows ∷ o) c.end left q) (nt SpreadRest ∷ σ) (from s c.end)
-    past-dots σ o q p f = begins σ o q p ∙ plain s c a.within a.looks begun (c.rows + 1) (c.rows ∷ o) left q (nt SpreadRest ∷ σ) (the spread) spread e tt tt (omega (arith, spread_room)) f
+    past_dots σ o q p f = begins σ o q p ∙ plain s c a.within a.looks begun (c.rows + 1) (c.rows ∷ o) left q (nt SpreadRest ∷ σ) (the spread) spread e tt tt (omega (arith, spread_room)) f
 
     module _ (r : Read) (w : r ≡ moved_to c.end (c.rows + 1) (head_of (from s c.end))) where
       pub spread_bad : (x : Refusal) → r ≡ Refused x → Halts s rows c parent left selection_stack x
-      spread_bad x y σ o q p f = past-dots σ o q p f ∙ moved_halts s c.end (c.rows + 1) r x w y (st begun (c.rows + 1) (c.rows ∷ o) c.end left q) (nt SpreadRest ∷ σ)
+      spread_bad x y σ o q p f = past_dots σ o q p f ∙ moved_halts s c.end (c.rows + 1) r x w y (st begun (c.rows + 1) (c.rows ∷ o) c.end left q) (nt SpreadRest ∷ σ)
 
       module _ (b : Cursor) (y : r ≡ Done b) where
         spread_next : Next s c b (c.rows + 1)
@@ -276,11 +276,11 @@ module _ (s rows : List ℕ) (c : Cursor) (parent left : ℕ) (a : Ready s rows 
         pub spread_ready : Ready s rows b c.rows
         spread_ready = record { short = a.short; size = a.size; within = spread_next.within; few = omega (arith, spread_next.rows, spread_room); looks = spread_next.looks; below = a.few }
 
-        to-rest : (σ : Stack) (o : List ℕ) (q : Counts) → top o ≡ parent → over_counts q ≡ false → at s rows c o left q (nt Selection ∷ σ) ≡ at s begun b (c.rows ∷ o) left q (nt SpreadRest ∷ σ)
-        to-rest σ o q p f = past-dots σ o q p f ∙ next_at s c b (c.rows + 1) spread_next begun (c.rows ∷ o) left q (nt SpreadRest ∷ σ)
+        to_rest : (σ : Stack) (o : List ℕ) (q : Counts) → top o ≡ parent → over_counts q ≡ false → at s rows c o left q (nt Selection ∷ σ) ≡ at s begun b (c.rows ∷ o) left q (nt SpreadRest ∷ σ)
+        to_rest σ o q p f = past_dots σ o q p f ∙ next_at s c b (c.rows + 1) spread_next begun (c.rows ∷ o) left q (nt SpreadRest ∷ σ)
 
         pub spread_named : (rows₁ : List ℕ) (t : Read) → Passes 1 s begun rows₁ b c.rows left (opened c.rows) shut spread_stack [] t → Said 1 s rows rows₁ c parent left selection_stack t
-        spread_named rows₁ (Refused x) v = λ σ o q p f. to-rest σ o q p f ∙ v σ o q refl f
+        spread_named rows₁ (Refused x) v = λ σ o q p f. to_rest σ o q p f ∙ v σ o q refl f
         spread_named rows₁ (Done d) v =
             let l = lies s c a.within a.looks in
             record {
@@ -289,22 +289,22 @@ module _ (s rows : List ℕ) (c : Cursor) (parent left : ℕ) (a : Ready s rows 
               few = v.few;
               looks = v.looks;
               on = omega (arith, spread_next.stop, v.on);
-              goes = λ σ o q p f. to-rest σ o q p f ∙ v.goes σ o q refl f;
+              goes = λ σ o q p f. to_rest σ o q p f ∙ v.goes σ o q refl f;
             }
 
         module _ (rows₁ : List ℕ) (t : Read) (v : Passes 0 s begun rows₁ b c.rows left (opened c.rows) (opened c.rows) spread_stack body_stack t) where
           pub spread_stops : (x : Refusal) → t ≡ Refused x → Halts s rows c parent left selection_stack x
-          spread_stops x i σ o q p f = to-rest σ o q p f ∙ passes_halts 0 s begun rows₁ b c.rows left (opened c.rows) (opened c.rows) spread_stack body_stack t v x i σ o q refl f
+          spread_stops x i σ o q p f = to_rest σ o q p f ∙ passes_halts 0 s begun rows₁ b c.rows left (opened c.rows) (opened c.rows) spread_stack body_stack t v x i σ o q refl f
 
           module _ (d : Cursor) (i : t ≡ Done d) where
-            spread-head : Passed 0 s begun rows₁ b d c.rows left left (opened c.rows) (opened c.rows) spread_stack body_stack
-            spread-head = passes_went 0 s begun rows₁ b c.rows left (opened c.rows) (opened c.rows) spread_stack body_stack t v d i
+            spread_head : Passed 0 s begun rows₁ b d c.rows left left (opened c.rows) (opened c.rows) spread_stack body_stack
+            spread_head = passes_went 0 s begun rows₁ b c.rows left (opened c.rows) (opened c.rows) spread_stack body_stack t v d i
 
             pub spread_set_ready : Ready s rows₁ d c.rows
-            spread_set_ready = let g = spread-head in record { short = a.short; size = g.size; within = g.within; few = g.few; looks = g.looks; below = a.few }
+            spread_set_ready = let g = spread_head in record { short = a.short; size = g.size; within = g.within; few = g.few; looks = g.looks; below = a.few }
 
             pub spread_set : (rows₂ : List ℕ) (u : Read) → Passes 1 s rows₁ rows₂ d c.rows left (opened c.rows) shut body_stack [] u → Said 1 s rows rows₂ c parent left selection_stack u
-            spread_set rows₂ (Refused x) g = λ σ o q p f. to-rest σ o q p f ∙ spread-head.goes σ o q refl f ∙ g σ o q refl f
+            spread_set rows₂ (Refused x) g = λ σ o q p f. to_rest σ o q p f ∙ spread_head.goes σ o q refl f ∙ g σ o q refl f
             spread_set rows₂ (Done h) g =
                 let l = lies s c a.within a.looks in
                 record {
@@ -312,6 +312,6 @@ module _ (s rows : List ℕ) (c : Cursor) (parent left : ℕ) (a : Ready s rows 
                   within = g.within;
                   few = g.few;
                   looks = g.looks;
-                  on = omega (arith, spread_next.stop, spread-head.on, g.on);
-                  goes = λ σ o q p f. to-rest σ o q p f ∙ spread-head.goes σ o q refl f ∙ g.goes σ o q refl f;
+                  on = omega (arith, spread_next.stop, spread_head.on, g.on);
+                  goes = λ σ o q p f. to_rest σ o q p f ∙ spread_head.goes σ o q refl f ∙ g.goes σ o q refl f;
                 }

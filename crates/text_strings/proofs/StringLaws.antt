@@ -37,12 +37,12 @@ grow_some (suc n) k w = rw (grow_some n k w, suc-add n k)
 
 -- what is read over a run of characters
 module _ (f : List ℕ → ℕ) (σ : Stack) (law : (bs : List ℕ) (n : ℕ) → f bs ≡ suc n → seen (scan lexer σ bs) ≡ grow (suc n) (seen (scan lexer σ (drop (suc n) bs)))) (s : List ℕ) (from : ℕ) where
-  run-scan : {i : ℕ} → Runs f s from i → (from ≤ i) × (seen (scan lexer σ (drop from s)) ≡ grow (i - from) (seen (scan lexer σ (drop i s))))
-  run-scan {i} (none_yet e) =
+  run_scan : {i : ℕ} → Runs f s from i → (from ≤ i) × (seen (scan lexer σ (drop from s)) ≡ grow (i - from) (seen (scan lexer σ (drop i s))))
+  run_scan {i} (none_yet e) =
       let n : i - from ≡ 0 = omega arith in
       (omega arith, rw (n, e))
-  run-scan {i} (one_more {i = k} r n e q) =
-      let h = run-scan r in
+  run_scan {i} (one_more {i = k} r n e q) =
+      let h = run_scan r in
       let m : i - from ≡ (k - from) + suc n = omega (arith, h.0) in (
         omega (arith, h.0),
         h.1 ∙ ap (grow (k - from)) (law (drop k s) n e ∙ ap (λ l. grow (suc n) (seen (scan lexer σ l))) (drop-drop (suc n) k s ∙ ap (λ (x : ℕ). drop x s) q)) ∙
@@ -77,58 +77,58 @@ piece_comment bs = scan_took (nt Piece ∷ []) in_comment 35 bs refl ∙ or_none
 -- the string at `at`, whose characters end at e
 module _ (s : List ℕ) (at e : ℕ) (h : at < length s) (q : get_or s at 0 ≡ 34) (d : Ended part_size s (at + 1) e) where
   runs_to : (at + 1 ≤ e) × (seen (scan lexer in_string (drop (at + 1) s)) ≡ grow (e - (at + 1)) (seen (scan lexer in_string (drop e s))))
-  runs_to = run-scan part_size in_string string_more s (at + 1) d.runs
+  runs_to = run_scan part_size in_string string_more s (at + 1) d.runs
 
-  token-string : token_here at (drop at s) ≡ token_seen at (more (grow (e - (at + 1)) (seen (scan lexer in_string (drop e s)))))
+  token_string : token_here at (drop at s) ≡ token_seen at (more (grow (e - (at + 1)) (seen (scan lexer in_string (drop e s)))))
   unfolding token_here
-  token-string =
+  token_string =
       rw (front s at h, q)
       (token_seen_is at (piece_at (34 ∷ drop (at + 1) s)) ∙ ap (token_seen at) (piece_string (drop (at + 1) s)) ∙ ap (λ o. token_seen at (more o)) runs_to.1)
 
   pub string_found : e < length s → get_or s e 0 ≡ 34 → Token 4 at (e + 1) ≡ token_here at (drop at s)
   string_found l z =
-      sym (token-string ∙
+      sym (token_string ∙
       ap (λ o. token_seen at (more (grow (e - (at + 1)) o))) (ap (λ l. seen (scan lexer in_string l)) (front s e l ∙ ap (λ (b : ℕ). b ∷ drop (e + 1) s) z) ∙ string_quote (drop (e + 1) s)) ∙
       ap (λ o. token_seen at (more o)) (grow_some (e - (at + 1)) 1 (is string)) ∙
       ap (λ (n : ℕ). Token 4 at n) (let k = runs_to.0 in omega arith))
 
-  none-grows : (n : ℕ) → grow n none ≡ none
-  none-grows zero = refl
-  none-grows (suc n) = ap more (none-grows n)
+  none_grows : (n : ℕ) → grow n none ≡ none
+  none_grows zero = refl
+  none_grows (suc n) = ap more (none_grows n)
 
-  bad-string : seen (scan lexer in_string (drop e s)) ≡ none → Bad at ≡ token_here at (drop at s)
-  bad-string z = sym (token-string ∙ ap (λ o. token_seen at (more (grow (e - (at + 1)) o))) z ∙ ap (λ o. token_seen at (more o)) (none-grows (e - (at + 1))))
+  bad_string : seen (scan lexer in_string (drop e s)) ≡ none → Bad at ≡ token_here at (drop at s)
+  bad_string z = sym (token_string ∙ ap (λ o. token_seen at (more (grow (e - (at + 1)) o))) z ∙ ap (λ o. token_seen at (more o)) (none_grows (e - (at + 1))))
 
   pub string_other : e < length s → (get_or s e 0 ≡ 34 → ⊥) → Bad at ≡ token_here at (drop at s)
-  string_other l z = bad-string (ap (λ l. seen (scan lexer in_string l)) (front s e l) ∙ string_stop (get_or s e 0) (drop (e + 1) s) (sym (ap part_size (front s e l)) ∙ d.stops) z)
+  string_other l z = bad_string (ap (λ l. seen (scan lexer in_string l)) (front s e l) ∙ string_stop (get_or s e 0) (drop (e + 1) s) (sym (ap part_size (front s e l)) ∙ d.stops) z)
 
   pub string_unended : length s ≤ e → Bad at ≡ token_here at (drop at s)
-  string_unended l = bad-string (ap (λ l. seen (scan lexer in_string l)) (drop_of_length-le s l) ∙ string_end)
+  string_unended l = bad_string (ap (λ l. seen (scan lexer in_string l)) (drop_of_length-le s l) ∙ string_end)
 
 -- the comment at i, whose characters end at e
 module _ (s : List ℕ) (i e : ℕ) (h : i < length s) (q : get_or s i 0 ≡ 35) (d : Ended character_size s (i + 1) e) where
-  comment-to : (i + 1 ≤ e) × (seen (scan lexer in_comment (drop (i + 1) s)) ≡ grow (e - (i + 1)) (seen (scan lexer in_comment (drop e s))))
-  comment-to = run-scan character_size in_comment comment_more s (i + 1) d.runs
+  comment_to : (i + 1 ≤ e) × (seen (scan lexer in_comment (drop (i + 1) s)) ≡ grow (e - (i + 1)) (seen (scan lexer in_comment (drop e s))))
+  comment_to = run_scan character_size in_comment comment_more s (i + 1) d.runs
 
-  comment-size : ignored_here (drop i s) ≡ cond (line_end (drop e s)) (e - i) 0
+  comment_size : ignored_here (drop i s) ≡ cond (line_end (drop e s)) (e - i) 0
   unfolding ignored_here
-  comment-size =
-      let k = comment-to.0 in
+  comment_size =
+      let k = comment_to.0 in
       let n : suc (e - (i + 1) + 0) ≡ e - i = omega arith in
       let m : i + (e - i) ≡ e = omega arith in
       ap (λ l. ignored_of (drop i s) (piece_at l)) (front s i h ∙ ap (λ (b : ℕ). b ∷ drop (i + 1) s) q) ∙
       ignored_seen_is (drop i s) (piece_at (35 ∷ drop (i + 1) s)) ∙
-      ap (ignored_seen (drop i s)) (piece_comment (drop (i + 1) s) ∙ ap more (comment-to.1 ∙ ap (grow (e - (i + 1))) (comment_stop (drop e s) d.stops) ∙ grow_some (e - (i + 1)) 0 comment)) ∙
+      ap (ignored_seen (drop i s)) (piece_comment (drop (i + 1) s) ∙ ap more (comment_to.1 ∙ ap (grow (e - (i + 1))) (comment_stop (drop e s) d.stops) ∙ grow_some (e - (i + 1)) 0 comment)) ∙
       rw (n, drop-drop (e - i) i s, m) refl
 
   pub comment_whole : length s ≤ e → e - i ≡ ignored_here (drop i s)
-  comment_whole l = sym (comment-size ∙ rw (drop_of_length-le s l) refl)
+  comment_whole l = sym (comment_size ∙ rw (drop_of_length-le s l) refl)
 
   pub comment_lf : e < length s → get_or s e 0 ≡ 10 → e - i ≡ ignored_here (drop i s)
-  comment_lf l z = sym (comment-size ∙ rw (front s e l, z) refl)
+  comment_lf l z = sym (comment_size ∙ rw (front s e l, z) refl)
 
   pub comment_cr : e < length s → get_or s e 0 ≡ 13 → e - i ≡ ignored_here (drop i s)
-  comment_cr l z = sym (comment-size ∙ rw (front s e l, z) refl)
+  comment_cr l z = sym (comment_size ∙ rw (front s e l, z) refl)
 
   pub comment_bad : e < length s → (get_or s e 0 ≡ 10 → ⊥) → (get_or s e 0 ≡ 13 → ⊥) → 0 ≡ ignored_here (drop i s)
-  comment_bad l y z = sym (comment-size ∙ rw (front s e l, ne_eqb (get_or s e 0) 10 y, ne_eqb (get_or s e 0) 13 z) refl)
+  comment_bad l y z = sym (comment_size ∙ rw (front s e l, ne_eqb (get_or s e 0) 10 y, ne_eqb (get_or s e 0) 13 z) refl)

@@ -80,14 +80,14 @@ named (suc f) s p h = go (dec_lt p (length s)) (λ (q : ℕ) (l : length s ≤ q
     line true n i = i
     line false n i = tt
 
-    by-what : (w : What) (n : ℕ) → T (plain w) → Named s (from s (p + n)) → Named s (shown w p n (drop p s) (from s (p + n)))
-    by-what (is c) n t i = λ z. rw (add-sub_cancel_left p n) (plain_name c (take n (drop p s)) t (sym (classed_kind c (take n (drop p s))) ∙ z))
-    by-what ignored n t i = i
-    by-what comment n t i = line (line_end (drop n (drop p s))) n i
+    by_what : (w : What) (n : ℕ) → T (plain w) → Named s (from s (p + n)) → Named s (shown w p n (drop p s) (from s (p + n)))
+    by_what (is c) n t i = λ z. rw (add-sub_cancel_left p n) (plain_name c (take n (drop p s)) t (sym (classed_kind c (take n (drop p s))) ∙ z))
+    by_what ignored n t i = i
+    by_what comment n t i = line (line_end (drop n (drop p s))) n i
 
     pick : (o : Option (Match ℕ What)) → scan lexer (nt Piece ∷ []) (drop p s) ≡ o → ((q : ℕ) → length s ≤ q + f → Named s (from s q)) → Named s (found (λ n. from s (p + n)) p (drop p s) o)
     pick none e below = tt
-    pick (some m) e below = by-what (what_of m.events) m.size (plain_piece (drop p s) m e) (below (p + m.size) (omega (arith, piece_byte (drop p s) m e)))
+    pick (some m) e below = by_what (what_of m.events) m.size (plain_piece (drop p s) m e) (below (p + m.size) (omega (arith, piece_byte (drop p s) m e)))
 
     go : Dec (p < length s) → ((q : ℕ) → length s ≤ q + f → Named s (from s q)) → Named s (from s p)
     go (yes l) below = rw (unroll s p l) (pick (piece_at (drop p s)) (piece_is (drop p s)) below)

@@ -28,14 +28,14 @@ ignored_within bs = go (piece_at bs) (piece_is bs)
     line true n h = h
     line false n h = omega arith
 
-    by-what : (w : What) (n : ℕ) → n ≤ length bs → as_ignored w n bs ≤ length bs
-    by-what (is c) n h = omega arith
-    by-what ignored n h = h
-    by-what comment n h = line (line_end (drop n bs)) n h
+    by_what : (w : What) (n : ℕ) → n ≤ length bs → as_ignored w n bs ≤ length bs
+    by_what (is c) n h = omega arith
+    by_what ignored n h = h
+    by_what comment n h = line (line_end (drop n bs)) n h
 
     go : (o : Option (Match ℕ What)) → scan lexer (nt Piece ∷ []) bs ≡ o → ignored_of bs o ≤ length bs
     go none e = omega arith
-    go (some m) e = by-what (what_of m.events) m.size (piece_within bs m e)
+    go (some m) e = by_what (what_of m.events) m.size (piece_within bs m e)
 
 -- an ignored piece ends within the text
 pub ignored_in : (s : List ℕ) (i : ℕ) → i ≤ length s → i + ignored_here (drop i s) ≤ length s
@@ -46,14 +46,14 @@ token_kept : (at : ℕ) (bs : List ℕ) (k a e : ℕ) → token_here at bs ≡ T
 unfolding ignored_here token_here
 token_kept at bs k a e q = go (piece_at bs) q
   where
-    by-what : (w : What) (n : ℕ) → as_token w at n ≡ Token k a e → as_ignored w n bs ≡ 0
-    by-what (is c) n z = refl
-    by-what ignored n z = let x : ◌≡◌ {A = ℕ} 0 1 = cc in let y : ⊥ = omega arith in absurd y
-    by-what comment n z = let x : ◌≡◌ {A = ℕ} 0 1 = cc in let y : ⊥ = omega arith in absurd y
+    by_what : (w : What) (n : ℕ) → as_token w at n ≡ Token k a e → as_ignored w n bs ≡ 0
+    by_what (is c) n z = refl
+    by_what ignored n z = let x : ◌≡◌ {A = ℕ} 0 1 = cc in let y : ⊥ = omega arith in absurd y
+    by_what comment n z = let x : ◌≡◌ {A = ℕ} 0 1 = cc in let y : ⊥ = omega arith in absurd y
 
     go : (o : Option (Match ℕ What)) → token_of at o ≡ Token k a e → ignored_of bs o ≡ 0
     go none z = refl
-    go (some m) z = by-what (what_of m.events) m.size z
+    go (some m) z = by_what (what_of m.events) m.size z
 
 module _ (s : List ℕ) (p : ℕ) where
   pub here_end : length s ≤ p → Token 0 p p ≡ head_of (from s p)
@@ -68,14 +68,14 @@ module _ (s : List ℕ) (p : ℕ) where
       line true n l e = let y : ⊥ = omega arith in absurd y
       line false n l e = refl
 
-      by-what : (w : What) (n : ℕ) → 0 < n → as_ignored w n (drop p s) ≡ 0 → as_token w p n ≡ head_of (shown w p n (drop p s) (from s (p + n)))
-      by-what (is c) n l e = ap (λ (k : ℕ). Token k p (p + n)) (sym (classed_kind c (take n (drop p s))))
-      by-what ignored n l e = let y : ⊥ = omega arith in absurd y
-      by-what comment n l e = line (line_end (drop n (drop p s))) n l e
+      by_what : (w : What) (n : ℕ) → 0 < n → as_ignored w n (drop p s) ≡ 0 → as_token w p n ≡ head_of (shown w p n (drop p s) (from s (p + n)))
+      by_what (is c) n l e = ap (λ (k : ℕ). Token k p (p + n)) (sym (classed_kind c (take n (drop p s))))
+      by_what ignored n l e = let y : ⊥ = omega arith in absurd y
+      by_what comment n l e = line (line_end (drop n (drop p s))) n l e
 
       go : (o : Option (Match ℕ What)) → scan lexer (nt Piece ∷ []) (drop p s) ≡ o → ignored_of (drop p s) o ≡ 0 → token_of p o ≡ head_of (found (λ n. from s (p + n)) p (drop p s) o)
       go none q e = refl
-      go (some m) q e = by-what (what_of m.events) m.size (piece_byte (drop p s) m q) e
+      go (some m) q e = by_what (what_of m.events) m.size (piece_byte (drop p s) m q) e
 
   pub here_found : (k a e : ℕ) → p < length s → Token k a e ≡ token_here p (drop p s) → Token k a e ≡ head_of (from s p)
   here_found k a e h q = q ∙ here_token h (token_kept p (drop p s) k a e (sym q))

@@ -106,47 +106,47 @@ rest_is : (bs : List ℕ) (n : ℕ) → fraction_size bs ≡ n → rest_size bs 
 rest_is bs n q = rw q
 
 module _ (b : ℕ) (bs : List ℕ) where
-  fraction-is : (t : Bool) → hits_byte dot b ≡ t → (d : Bool) → starts_with digit bs ≡ d → fraction_size (b ∷ bs) ≡ cond t (cond d (1 + run_of digit bs) 0) 0
+  fraction_is : (t : Bool) → hits_byte dot b ≡ t → (d : Bool) → starts_with digit bs ≡ d → fraction_size (b ∷ bs) ≡ cond t (cond d (1 + run_of digit bs) 0) 0
   unfolding fraction_size
-  fraction-is t q d h = rw (q, h)
+  fraction_is t q d h = rw (q, h)
 
-  exponent-is : (t : Bool) → hits_byte e b ≡ t → (d : Bool) → starts_with digit (drop (sign_size bs) bs) ≡ d →
+  exponent_is : (t : Bool) → hits_byte e b ≡ t → (d : Bool) → starts_with digit (drop (sign_size bs) bs) ≡ d →
       exponent_size (b ∷ bs) ≡ cond t (cond d (1 + sign_size bs + run_of digit (drop (sign_size bs) bs)) 0) 0
   unfolding exponent_size
-  exponent-is t q d h = rw (q, h)
+  exponent_is t q d h = rw (q, h)
 
   -- a dot with digits behind it
-  rest-fraction : hits_byte dot b ≡ true → starts_with digit bs ≡ true → Read Rest (b ∷ bs) (rest_size (b ∷ bs)) (rest_what (rest_size (b ∷ bs)))
-  rest-fraction q h =
-      let k : fraction_size (b ∷ bs) ≡ suc (run_of digit bs) = fraction-is true q true h ∙ (omega arith) in
+  rest_fraction : hits_byte dot b ≡ true → starts_with digit bs ≡ true → Read Rest (b ∷ bs) (rest_size (b ∷ bs)) (rest_what (rest_size (b ∷ bs)))
+  rest_fraction q h =
+      let k : fraction_size (b ∷ bs) ≡ suc (run_of digit bs) = fraction_is true q true h ∙ (omega arith) in
       rest_float (b ∷ bs) (run_of digit bs + exponent_size (drop (run_of digit bs) bs)) (rest_size (b ∷ bs)) (sym (rest_is (b ∷ bs) (suc (run_of digit bs)) k ∙ omega arith))
       (read_take (rw (hit_one 46 b q) rest_dot) (plus_read Exponent? bs (exponent_size (drop (run_of digit bs) bs)) (is float) h (exponent_read (drop (run_of digit bs) bs))))
 
   -- a dot without
-  rest-dotted : hits_byte dot b ≡ true → starts_with digit bs ≡ false → Read Rest (b ∷ bs) (rest_size (b ∷ bs)) (rest_what (rest_size (b ∷ bs)))
-  rest-dotted q h =
+  rest_dotted : hits_byte dot b ≡ true → starts_with digit bs ≡ false → Read Rest (b ∷ bs) (rest_size (b ∷ bs)) (rest_what (rest_size (b ∷ bs)))
+  rest_dotted q h =
       let d : b ≡ 46 = hit_one 46 b q in
       let n : hits_byte e b ≡ false = rw d in
-      rest_int (b ∷ bs) (rest_size (b ∷ bs)) (sym (rest_is (b ∷ bs) 0 (fraction-is true q false h) ∙ omega (arith, exponent-is false n (starts_with digit (drop (sign_size bs) bs)) refl)))
+      rest_int (b ∷ bs) (rest_size (b ∷ bs)) (sym (rest_is (b ∷ bs) 0 (fraction_is true q false h) ∙ omega (arith, exponent_is false n (starts_with digit (drop (sign_size bs) bs)) refl)))
       (read_back end_rest (rw d rest_dot) (plus_none Exponent? bs h))
 
   -- an E with digits behind it
-  rest-exponent : hits_byte dot b ≡ false → hits_byte e b ≡ true → starts_with digit (drop (sign_size bs) bs) ≡ true → Read Rest (b ∷ bs) (rest_size (b ∷ bs)) (rest_what (rest_size (b ∷ bs)))
-  rest-exponent q n h =
+  rest_exponent : hits_byte dot b ≡ false → hits_byte e b ≡ true → starts_with digit (drop (sign_size bs) bs) ≡ true → Read Rest (b ∷ bs) (rest_size (b ∷ bs)) (rest_what (rest_size (b ∷ bs)))
+  rest_exponent q n h =
       rest_float (b ∷ bs) (sign_size bs + (run_of digit (drop (sign_size bs) bs) + 0)) (rest_size (b ∷ bs))
-      (sym (rest_is (b ∷ bs) 0 (fraction-is false q (starts_with digit bs) refl) ∙ omega (arith, exponent-is true n true h)))
+      (sym (rest_is (b ∷ bs) 0 (fraction_is false q (starts_with digit bs) refl) ∙ omega (arith, exponent_is true n true h)))
       (read_take (rest_e b n) (expo_yes bs h))
 
   -- an E without
-  rest-e-bare : hits_byte dot b ≡ false → hits_byte e b ≡ true → starts_with digit (drop (sign_size bs) bs) ≡ false → Read Rest (b ∷ bs) (rest_size (b ∷ bs)) (rest_what (rest_size (b ∷ bs)))
-  rest-e-bare q n h =
-      rest_int (b ∷ bs) (rest_size (b ∷ bs)) (sym (rest_is (b ∷ bs) 0 (fraction-is false q (starts_with digit bs) refl) ∙ omega (arith, exponent-is true n false h)))
+  rest_e_bare : hits_byte dot b ≡ false → hits_byte e b ≡ true → starts_with digit (drop (sign_size bs) bs) ≡ false → Read Rest (b ∷ bs) (rest_size (b ∷ bs)) (rest_what (rest_size (b ∷ bs)))
+  rest_e_bare q n h =
+      rest_int (b ∷ bs) (rest_size (b ∷ bs)) (sym (rest_is (b ∷ bs) 0 (fraction_is false q (starts_with digit bs) refl) ∙ omega (arith, exponent_is true n false h)))
       (read_back end_rest (rest_e b n) (expo_no bs h))
 
   -- neither
   rest_over : hits_byte dot b ≡ false → hits_byte e b ≡ false → Read Rest (b ∷ bs) (rest_size (b ∷ bs)) (rest_what (rest_size (b ∷ bs)))
   rest_over q n =
-      rest_int (b ∷ bs) (rest_size (b ∷ bs)) (sym (rest_is (b ∷ bs) 0 (fraction-is false q (starts_with digit bs) refl) ∙ omega (arith, exponent-is false n (starts_with digit (drop (sign_size bs) bs)) refl)))
+      rest_int (b ∷ bs) (rest_size (b ∷ bs)) (sym (rest_is (b ∷ bs) 0 (fraction_is false q (starts_with digit bs) refl) ∙ omega (arith, exponent_is false n (starts_with digit (drop (sign_size bs) bs)) refl)))
       (read_stop end_rest (rest_none b q n))
 
 rest_read : (bs : List ℕ) → Read Rest bs (rest_size bs) (rest_what (rest_size bs))
@@ -156,10 +156,10 @@ rest_read (b ∷ bs) = go (hits_byte dot b) refl (starts_with digit bs) refl (hi
   where
     go : (t : Bool) → hits_byte dot b ≡ t → (d : Bool) → starts_with digit bs ≡ d → (x : Bool) → hits_byte e b ≡ x → (y : Bool) → starts_with digit (drop (sign_size bs) bs) ≡ y →
         Read Rest (b ∷ bs) (rest_size (b ∷ bs)) (rest_what (rest_size (b ∷ bs)))
-    go true q true h x n y k = rest-fraction b bs q h
-    go true q false h x n y k = rest-dotted b bs q h
-    go false q d h true n true k = rest-exponent b bs q n k
-    go false q d h true n false k = rest-e-bare b bs q n k
+    go true q true h x n y k = rest_fraction b bs q h
+    go true q false h x n y k = rest_dotted b bs q h
+    go false q d h true n true k = rest_exponent b bs q n k
+    go false q d h true n false k = rest_e_bare b bs q n k
     go false q d h false n y k = rest_over b bs q n
 
 -- an integer part: a zero alone, or another digit and those behind it
@@ -249,9 +249,9 @@ module _ (s : List ℕ) (at d : ℕ) (h : at < length s) where
       rw (front s at h, z.0) (read_size (omega (arith, z.1)) (read_take minus (subst (λ (k : ℕ). Read Signed (drop k s) (number_size (drop d s)) (number_what (drop d s))) z.1 (whole_read wholes_signed (drop d s) q))))
   number_read n q m (inr z) = read_size (omega (arith, z.1)) (subst (λ (k : ℕ). Read (nt Piece ∷ []) (drop k s) (number_size (drop d s)) (number_what (drop d s))) z.1 (whole_read wholes_piece (drop d s) q))
 
-  behind-low : Behind s at d → at ≤ d
-  behind-low (inl z) = omega (arith, z.1)
-  behind-low (inr z) = omega (arith, z.1)
+  behind_low : Behind s at d → at ≤ d
+  behind_low (inl z) = omega (arith, z.1)
+  behind_low (inr z) = omega (arith, z.1)
 
   -- no digit: no number, and nothing else that is a token
   pub number_bad : get_or s at 0 < 256 → hits_byte letter (get_or s at 0) ≡ false → is_punctuator (get_or s at 0) ≡ false → (get_or s at 0 ≡ 34 → ⊥) → (get_or s at 0 ≡ 46 → ⊥) →
@@ -270,17 +270,17 @@ module _ (s : List ℕ) (at d : ℕ) (h : at < length s) where
     rest_at : k ≡ w + rest_size (drop w s)
     rest_at = rw (drop-drop (fraction_size (drop w s)) w s, ← F) (omega arith)
 
-    size-at : k ≡ d + number_size (drop d s)
-    size-at = rw behind (omega (arith, rest_at))
+    size_at : k ≡ d + number_size (drop d s)
+    size_at = rw behind (omega (arith, rest_at))
 
-    token-at : (c : Class) → number_what (drop d s) ≡ is c → starts_with digit (drop d s) ≡ true → Behind s at d → Token (kind_of c) at k ≡ token_here at (drop at s)
-    token-at c e q z =
-        let l : at + (k - at) ≡ k = omega (arith, behind-low z, size-at) in
-        let r = read_token (drop at s) (number_read (k - at) q (l ∙ size-at) z) at in
+    token_at : (c : Class) → number_what (drop d s) ≡ is c → starts_with digit (drop d s) ≡ true → Behind s at d → Token (kind_of c) at k ≡ token_here at (drop at s)
+    token_at c e q z =
+        let l : at + (k - at) ≡ k = omega (arith, behind_low z, size_at) in
+        let r = read_token (drop at s) (number_read (k - at) q (l ∙ size_at) z) at in
         sym (r ∙ ap (λ (v : What). as_token v at (k - at)) e ∙ ap (λ (i : ℕ). Token (kind_of c) at i) l)
 
     pub number_int : starts_with digit (drop d s) ≡ true → Behind s at d → k ≡ w → Token 2 at k ≡ token_here at (drop at s)
-    number_int q z e = token-at int (rw (behind, eq-eqb (rest_size (drop w s)) 0 (omega (arith, rest_at)))) q z
+    number_int q z e = token_at int (rw (behind, eq-eqb (rest_size (drop w s)) 0 (omega (arith, rest_at)))) q z
 
     pub number_float : starts_with digit (drop d s) ≡ true → Behind s at d → (k ≡ w → ⊥) → Token 3 at k ≡ token_here at (drop at s)
-    number_float q z e = token-at float (rw (behind, ne_eqb (rest_size (drop w s)) 0 (λ n. e (rest_at ∙ omega arith)))) q z
+    number_float q z e = token_at float (rw (behind, ne_eqb (rest_size (drop w s)) 0 (λ n. e (rest_at ∙ omega arith)))) q z

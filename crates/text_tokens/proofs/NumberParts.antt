@@ -43,24 +43,24 @@ module _ (s : List ℕ) where
       go (yes l) = l
       go (no l) = let z : ◌≡◌ {A = ℕ} 0 1 = cc (starts_end p s i (omega arith)) in let y : ⊥ = omega arith in absurd y
 
-  digits-yes : (n j : ℕ) → starts_with digit (drop j s) ≡ true → with_digits n (drop j s) ≡ n + (1 + run_of digit (drop (j + 1) s))
-  digits-yes n j h =
+  digits_yes : (n j : ℕ) → starts_with digit (drop j s) ≡ true → with_digits n (drop j s) ≡ n + (1 + run_of digit (drop (j + 1) s))
+  digits_yes n j h =
       let l = starts_in digit j h in
       rw (h, front s j l, run_yes digit (get_or s j 0) (drop (j + 1) s) (sym (starts_at digit s j l) ∙ h))
 
-  digits-no : (n j : ℕ) → starts_with digit (drop j s) ≡ false → with_digits n (drop j s) ≡ 0
-  digits-no n j h = rw h
+  digits_no : (n j : ℕ) → starts_with digit (drop j s) ≡ false → with_digits n (drop j s) ≡ 0
+  digits_no n j h = rw h
 
   module _ (i : ℕ) where
     pub fraction_yes : i < length s → get_or s i 0 ≡ 46 → starts_with digit (drop (i + 1) s) ≡ true → i + 2 + run_of digit (drop (i + 2) s) ≡ i + fraction_size (drop i s)
     unfolding fraction_size
     fraction_yes h q d =
         let k : i + 1 + 1 ≡ i + 2 = omega arith in
-        rw (front s i h, q, digits-yes 1 (i + 1) d, k) (omega arith)
+        rw (front s i h, q, digits_yes 1 (i + 1) d, k) (omega arith)
 
     pub fraction_bare : i < length s → get_or s i 0 ≡ 46 → starts_with digit (drop (i + 1) s) ≡ false → i ≡ i + fraction_size (drop i s)
     unfolding fraction_size
-    fraction_bare h q d = rw (front s i h, q, digits-no 1 (i + 1) d) (omega arith)
+    fraction_bare h q d = rw (front s i h, q, digits_no 1 (i + 1) d) (omega arith)
 
     pub fraction_none : i < length s → (get_or s i 0 ≡ 46 → ⊥) → i ≡ i + fraction_size (drop i s)
     unfolding fraction_size
@@ -96,19 +96,19 @@ module _ (s : List ℕ) where
 
     -- an E, and d the place behind the sign
     module _ (d : ℕ) (h : i < length s) (is-e : (get_or s i 0 ≡ 69) ⊎ (get_or s i 0 ≡ 101)) (at : d ≡ i + 1 + sign_size (drop (i + 1) s)) where
-      hits-e : (get_or s i 0 ≡ 69) ⊎ (get_or s i 0 ≡ 101) → hits_byte e (get_or s i 0) ≡ true
-      hits-e (inl q) = rw q
-      hits-e (inr q) = rw q
+      hits_e : (get_or s i 0 ≡ 69) ⊎ (get_or s i 0 ≡ 101) → hits_byte e (get_or s i 0) ≡ true
+      hits_e (inl q) = rw q
+      hits_e (inr q) = rw q
 
-      exponent-is : exponent_size (drop i s) ≡ with_digits (1 + sign_size (drop (i + 1) s)) (drop d s)
+      exponent_is : exponent_size (drop i s) ≡ with_digits (1 + sign_size (drop (i + 1) s)) (drop d s)
       unfolding exponent_size
-      exponent-is = rw (front s i h, hits-e is-e, drop-drop (sign_size (drop (i + 1) s)) (i + 1) s, ← at)
+      exponent_is = rw (front s i h, hits_e is-e, drop-drop (sign_size (drop (i + 1) s)) (i + 1) s, ← at)
 
       pub exponent_yes : starts_with digit (drop d s) ≡ true → d + 1 + run_of digit (drop (d + 1) s) ≡ i + exponent_size (drop i s)
-      exponent_yes q = rw (exponent-is, digits-yes (1 + sign_size (drop (i + 1) s)) d q) (omega arith)
+      exponent_yes q = rw (exponent_is, digits_yes (1 + sign_size (drop (i + 1) s)) d q) (omega arith)
 
       pub exponent_bare : starts_with digit (drop d s) ≡ false → i ≡ i + exponent_size (drop i s)
-      exponent_bare q = rw (exponent-is, digits-no (1 + sign_size (drop (i + 1) s)) d q) (omega arith)
+      exponent_bare q = rw (exponent_is, digits_no (1 + sign_size (drop (i + 1) s)) d q) (omega arith)
 
     pub whole_zero : i < length s → get_or s i 0 ≡ 48 → i + 1 ≡ i + whole_size (drop i s)
     unfolding whole_size

@@ -20,11 +20,11 @@ use Rattle.text_tokens.specs.Packed.{places, two_places, no_kind, Fits, packed_o
 
 -- the three parts of a packed number
 module _ (k a e : ℕ) (ha : a < places) (he : e < places) where
-  part-kind : (k * two_places + a * places + e) / two_places ≡ k
-  part-kind = omega arith
+  part_kind : (k * two_places + a * places + e) / two_places ≡ k
+  part_kind = omega arith
 
-  part-start : (k * two_places + a * places + e) / places % places ≡ a
-  part-start = omega arith
+  part_start : (k * two_places + a * places + e) / places % places ≡ a
+  part_start = omega arith
 
   part_end : (k * two_places + a * places + e) % places ≡ e
   part_end = omega arith
@@ -40,7 +40,7 @@ unpacked_bad n o p q = rw (p, q)
 
 unpacked_packed : (t : TokenRead) → Fits t → unpacked_of (packed_of t) ≡ t
 unpacked_packed (Token k a e) f =
-    unpacked_token (k * two_places + a * places + e) k a e (part-kind k a e f.1 f.2) (part-start k a e f.1 f.2) (part_end k a e f.1 f.2) f.0
+    unpacked_token (k * two_places + a * places + e) k a e (part_kind k a e f.1 f.2) (part_start k a e f.1 f.2) (part_end k a e f.1 f.2) f.0
 unpacked_packed (Bad o) f = unpacked_bad (no_kind * two_places + o * places) o (omega arith) (omega arith)
 
 -- the parts of an answer that fits

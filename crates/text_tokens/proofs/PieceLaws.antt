@@ -95,24 +95,24 @@ module _ (v u : ℕ) (w : What) where
   abbrev Second : Stack
   Second = tm (one u) ∷ act w ∷ []
 
-  two-yes : (bs : List ℕ) → hits_byte (one v) v ≡ true → hits_byte (one u) u ≡ true → Read Two (v ∷ u ∷ bs) 2 w
-  two-yes bs h k = read_take (taken v (one v) Second h) (read_take (taken u (one u) (act w ∷ []) k) (read_mark w bs))
+  two_yes : (bs : List ℕ) → hits_byte (one v) v ≡ true → hits_byte (one u) u ≡ true → Read Two (v ∷ u ∷ bs) 2 w
+  two_yes bs h k = read_take (taken v (one v) Second h) (read_take (taken u (one u) (act w ∷ []) k) (read_mark w bs))
 
-  two-first : (b : ℕ) (bs : List ℕ) → (b ≡ v → ⊥) → Nothing Two (b ∷ bs)
-  two-first b bs h = nothing_refused (missed b (one v) Second (miss_one v b h)) (end_tm (one v) Second)
+  two_first : (b : ℕ) (bs : List ℕ) → (b ≡ v → ⊥) → Nothing Two (b ∷ bs)
+  two_first b bs h = nothing_refused (missed b (one v) Second (miss_one v b h)) (end_tm (one v) Second)
 
-  two-second : (b : ℕ) (bs : List ℕ) → hits_byte (one v) v ≡ true → (b ≡ u → ⊥) → Nothing Two (v ∷ b ∷ bs)
-  two-second b bs k h =
+  two_second : (b : ℕ) (bs : List ℕ) → hits_byte (one v) v ≡ true → (b ≡ u → ⊥) → Nothing Two (v ∷ b ∷ bs)
+  two_second b bs k h =
       nothing_take (taken v (one v) Second k) (end_tm (one v) Second) (nothing_refused (missed b (one u) (act w ∷ []) (miss_one u b h)) (end_tm (one u) (act w ∷ [])))
 
-  two-short : (bs : List ℕ) → length bs < 2 → Nothing Two bs
-  two-short [] h = nothing_end (end_tm (one v) Second)
-  two-short (b ∷ []) h = go (hits_byte (one v) b) refl
+  two_short : (bs : List ℕ) → length bs < 2 → Nothing Two bs
+  two_short [] h = nothing_end (end_tm (one v) Second)
+  two_short (b ∷ []) h = go (hits_byte (one v) b) refl
     where
       go : (t : Bool) → hits_byte (one v) b ≡ t → Nothing Two (b ∷ [])
       go true q = nothing_take (taken b (one v) Second q) (end_tm (one v) Second) (nothing_end (end_tm (one u) (act w ∷ [])))
       go false q = nothing_refused (missed b (one v) Second q) (end_tm (one v) Second)
-  two-short (b ∷ c ∷ bs) h = let z : ⊥ = omega arith in absurd z
+  two_short (b ∷ c ∷ bs) h = let z : ⊥ = omega arith in absurd z
 
 -- three dots, and no fewer
 dots : step lexer (nt Piece ∷ []) (some 46) ≡ took (tok 46 ∷ []) (Two 46 46 (is spread))
@@ -145,35 +145,35 @@ module _ (s : List ℕ) (i : ℕ) (h : i < length s) where
   short l = simp length-drop (omega arith)
 
   pub spread_short : get_or s i 0 ≡ 46 → length s - i < 3 → Bad i ≡ token_here i (drop i s)
-  spread_short q l = sym (rw (from_at 46 q) (nothing_token (46 ∷ drop (i + 1) s) (nothing_take dots end_piece (two-short 46 46 (is spread) (drop (i + 1) s) (short l))) i))
+  spread_short q l = sym (rw (from_at 46 q) (nothing_token (46 ∷ drop (i + 1) s) (nothing_take dots end_piece (two_short 46 46 (is spread) (drop (i + 1) s) (short l))) i))
 
   pub spread_yes : get_or s i 0 ≡ 46 → 3 ≤ length s - i → At 1 ≡ 46 → At 2 ≡ 46 → Token 5 i (i + 3) ≡ token_here i (drop i s)
-  spread_yes q l a b = sym (rw (from_at 46 q, next_at (omega arith), third_at (omega arith), a, b) (read_token _ (read_take dots (two-yes 46 46 (is spread) (drop (i + 2 + 1) s) refl refl)) i))
+  spread_yes q l a b = sym (rw (from_at 46 q, next_at (omega arith), third_at (omega arith), a, b) (read_token _ (read_take dots (two_yes 46 46 (is spread) (drop (i + 2 + 1) s) refl refl)) i))
 
   pub spread_third : get_or s i 0 ≡ 46 → 3 ≤ length s - i → At 1 ≡ 46 → (At 2 ≡ 46 → ⊥) → Bad i ≡ token_here i (drop i s)
-  spread_third q l a b = sym (rw (from_at 46 q, next_at (omega arith), third_at (omega arith), a) (nothing_token _ (nothing_take dots end_piece (two-second 46 46 (is spread) (At 2) (drop (i + 2 + 1) s) refl b)) i))
+  spread_third q l a b = sym (rw (from_at 46 q, next_at (omega arith), third_at (omega arith), a) (nothing_token _ (nothing_take dots end_piece (two_second 46 46 (is spread) (At 2) (drop (i + 2 + 1) s) refl b)) i))
 
   pub spread_second : get_or s i 0 ≡ 46 → 3 ≤ length s - i → (At 1 ≡ 46 → ⊥) → Bad i ≡ token_here i (drop i s)
-  spread_second q l a = sym (rw (from_at 46 q, next_at (omega arith)) (nothing_token _ (nothing_take dots end_piece (two-first 46 46 (is spread) (At 1) (drop (i + 1 + 1) s) a)) i))
+  spread_second q l a = sym (rw (from_at 46 q, next_at (omega arith)) (nothing_token _ (nothing_take dots end_piece (two_first 46 46 (is spread) (At 1) (drop (i + 1 + 1) s) a)) i))
 
   pub order_short : get_or s i 0 ≡ 239 → length s - i < 3 → 0 ≡ ignored_here (drop i s)
-  order_short q l = sym (rw (from_at 239 q) (nothing_ignored _ (nothing_take order end_piece (two-short 187 191 ignored (drop (i + 1) s) (short l)))))
+  order_short q l = sym (rw (from_at 239 q) (nothing_ignored _ (nothing_take order end_piece (two_short 187 191 ignored (drop (i + 1) s) (short l)))))
 
   pub order_second : get_or s i 0 ≡ 239 → 3 ≤ length s - i → (At 1 ≡ 187 → ⊥) → 0 ≡ ignored_here (drop i s)
-  order_second q l a = sym (rw (from_at 239 q, next_at (omega arith)) (nothing_ignored _ (nothing_take order end_piece (two-first 187 191 ignored (At 1) (drop (i + 1 + 1) s) a))))
+  order_second q l a = sym (rw (from_at 239 q, next_at (omega arith)) (nothing_ignored _ (nothing_take order end_piece (two_first 187 191 ignored (At 1) (drop (i + 1 + 1) s) a))))
 
-  order-yes : get_or s i 0 ≡ 239 → 3 ≤ length s - i → At 1 ≡ 187 → At 2 ≡ 191 → 3 ≡ ignored_here (drop i s)
-  order-yes q l a b = sym (rw (from_at 239 q, next_at (omega arith), third_at (omega arith), a, b) (read_ignored _ (read_take order (two-yes 187 191 ignored (drop (i + 2 + 1) s) refl refl))))
+  order_yes : get_or s i 0 ≡ 239 → 3 ≤ length s - i → At 1 ≡ 187 → At 2 ≡ 191 → 3 ≡ ignored_here (drop i s)
+  order_yes q l a b = sym (rw (from_at 239 q, next_at (omega arith), third_at (omega arith), a, b) (read_ignored _ (read_take order (two_yes 187 191 ignored (drop (i + 2 + 1) s) refl refl))))
 
-  order-no : get_or s i 0 ≡ 239 → 3 ≤ length s - i → At 1 ≡ 187 → (At 2 ≡ 191 → ⊥) → 0 ≡ ignored_here (drop i s)
-  order-no q l a b = sym (rw (from_at 239 q, next_at (omega arith), third_at (omega arith), a) (nothing_ignored _ (nothing_take order end_piece (two-second 187 191 ignored (At 2) (drop (i + 2 + 1) s) refl b))))
+  order_no : get_or s i 0 ≡ 239 → 3 ≤ length s - i → At 1 ≡ 187 → (At 2 ≡ 191 → ⊥) → 0 ≡ ignored_here (drop i s)
+  order_no q l a b = sym (rw (from_at 239 q, next_at (omega arith), third_at (omega arith), a) (nothing_ignored _ (nothing_take order end_piece (two_second 187 191 ignored (At 2) (drop (i + 2 + 1) s) refl b))))
 
   pub order_third : get_or s i 0 ≡ 239 → 3 ≤ length s - i → At 1 ≡ 187 → cond (eqb (At 2) 191) 3 0 ≡ ignored_here (drop i s)
   order_third q l a = go (eqb (At 2) 191) refl
     where
       go : (t : Bool) → eqb (At 2) 191 ≡ t → cond t 3 0 ≡ ignored_here (drop i s)
-      go true e = order-yes q l a (eqb-true (At 2) 191 e)
-      go false e = order-no q l a (eqb-false (At 2) 191 e)
+      go true e = order_yes q l a (eqb-true (At 2) 191 e)
+      go false e = order_no q l a (eqb-false (At 2) 191 e)
 
   -- a blank, and any other byte that begins nothing that is ignored
   pub blank_at : is_blank (get_or s i 0) ≡ true → ignored_here (drop i s) ≡ 1

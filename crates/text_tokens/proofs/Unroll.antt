@@ -51,11 +51,11 @@ from_skip s p n h e z = unroll s p h ∙ go (piece_at (drop p s)) e
     line true k e = ap (λ (j : ℕ). from s (p + j)) e
     line false k e = absurd (z (sym e))
 
-    by-what : (w : What) (k : ℕ) → as_ignored w k (drop p s) ≡ n → shown w p k (drop p s) (from s (p + k)) ≡ from s (p + n)
-    by-what (is c) k e = absurd (z (sym e))
-    by-what ignored k e = ap (λ (j : ℕ). from s (p + j)) e
-    by-what comment k e = line (line_end (drop k (drop p s))) k e
+    by_what : (w : What) (k : ℕ) → as_ignored w k (drop p s) ≡ n → shown w p k (drop p s) (from s (p + k)) ≡ from s (p + n)
+    by_what (is c) k e = absurd (z (sym e))
+    by_what ignored k e = ap (λ (j : ℕ). from s (p + j)) e
+    by_what comment k e = line (line_end (drop k (drop p s))) k e
 
     go : (o : Option (Match ℕ What)) → ignored_of (drop p s) o ≡ n → found (λ k. from s (p + k)) p (drop p s) o ≡ from s (p + n)
     go none e = absurd (z (sym e))
-    go (some m) e = by-what (what_of m.events) m.size e
+    go (some m) e = by_what (what_of m.events) m.size e

@@ -59,29 +59,29 @@ module _ (good : What → Bool) where
   good_s (tm p ∷ ss) = good_s ss
   good_s (act w ∷ ss) = good w
 
-  good-silent : (xs ys : Stack) → T (silent_s xs) → T (good_s ys) → T (good_s (xs ++ ys))
-  good-silent [] ys h k = k
-  good-silent (nt n ∷ xs) ys h k = go (silent n) h (λ (t : T (silent_s xs)). good-silent xs ys t k)
+  good_silent : (xs ys : Stack) → T (silent_s xs) → T (good_s ys) → T (good_s (xs ++ ys))
+  good_silent [] ys h k = k
+  good_silent (nt n ∷ xs) ys h k = go (silent n) h (λ (t : T (silent_s xs)). good_silent xs ys t k)
     where
       go : (b : Bool) → T (b && silent_s xs) → (T (silent_s xs) → T (good_s (xs ++ ys))) → T (orS b (good_s (xs ++ ys)) (numbers n))
       go true t f = f t
       go false t f = absurd t
-  good-silent (tm p ∷ xs) ys h k = good-silent xs ys h k
-  good-silent (act w ∷ xs) ys h k = absurd h
+  good_silent (tm p ∷ xs) ys h k = good_silent xs ys h k
+  good_silent (act w ∷ xs) ys h k = absurd h
 
-  good-append : (xs ys : Stack) → T (good_s xs) → T (good_s (xs ++ ys))
-  good-append [] ys h = absurd h
-  good-append (nt n ∷ xs) ys h = go (silent n) h (λ (t : T (good_s xs)). good-append xs ys t)
+  good_append : (xs ys : Stack) → T (good_s xs) → T (good_s (xs ++ ys))
+  good_append [] ys h = absurd h
+  good_append (nt n ∷ xs) ys h = go (silent n) h (λ (t : T (good_s xs)). good_append xs ys t)
     where
       go : (b : Bool) → T (orS b (good_s xs) (numbers n)) → (T (good_s xs) → T (good_s (xs ++ ys))) → T (orS b (good_s (xs ++ ys)) (numbers n))
       go true t f = f t
       go false t f = t
-  good-append (tm p ∷ xs) ys h = good-append xs ys h
-  good-append (act w ∷ xs) ys h = h
+  good_append (tm p ∷ xs) ys h = good_append xs ys h
+  good_append (act w ∷ xs) ys h = h
 
-  numbers-prods : (n : Lex) → T (numbers n) → T (all good_s (lex_factored n))
+  numbers_prods : (n : Lex) → T (numbers n) → T (all good_s (lex_factored n))
   unfolding lex_factored lexical
-  numbers-prods n h = subst (λ (m : Lex). T (all good_s (lex_factored m))) rest (and_i (good (is int)) (good (is float) && (good (is float) && true)) i (and_i (good (is float)) (good (is float) && true) f (and_i (good (is float)) true f tt)))
+  numbers_prods n h = subst (λ (m : Lex). T (all good_s (lex_factored m))) rest (and_i (good (is int)) (good (is float) && (good (is float) && true)) i (and_i (good (is float)) (good (is float) && true) f (and_i (good (is float)) true f tt)))
     where
       both : T (good (is int) && good (is float))
       both = and_r (same_l NumberRest n) (good (is int) && good (is float)) h
@@ -95,18 +95,18 @@ module _ (good : What → Bool) where
       rest : NumberRest ≡ n
       rest = let q : num_l NumberRest ≡ num_l n = eqb→eq (num_l NumberRest) (num_l n) (and_l (same_l NumberRest n) (good (is int) && good (is float)) h) in cc (at_l NumberRest, at_l n)
 
-  good-derives : {σ : Stack} {es : List (Ev ℕ What)} → Derives lex_factored hits_byte σ es → T (good_s σ) → T (good (what_of es))
-  good-derives done h = absurd h
-  good-derives (take t d) h = good-derives d h
-  good-derives (note d) h = h
-  good-derives (by {n} {α} {ss} m d) h = good-derives d (go (silent n) (silent_prods n) h)
+  good_derives : {σ : Stack} {es : List (Ev ℕ What)} → Derives lex_factored hits_byte σ es → T (good_s σ) → T (good (what_of es))
+  good_derives done h = absurd h
+  good_derives (take t d) h = good_derives d h
+  good_derives (note d) h = h
+  good_derives (by {n} {α} {ss} m d) h = good_derives d (go (silent n) (silent_prods n) h)
     where
       go : (b : Bool) → T (implies b (all silent_s (lex_factored n))) → T (orS b (good_s ss) (numbers n)) → T (good_s (α ++ ss))
-      go true q t = good-silent α ss (all_mem silent_s q m) t
-      go false q t = good-append α ss (all_mem good_s (numbers-prods n t) m)
+      go true q t = good_silent α ss (all_mem silent_s q m) t
+      go false q t = good_append α ss (all_mem good_s (numbers_prods n t) m)
 
   scan_good : (bs : List ℕ) (σ : Stack) → Kept lexer follow_l σ → T (good_s σ) → (m : Match ℕ What) → scan lexer σ bs ≡ some m → T (good (what_of m.events))
-  scan_good bs σ k h m q = good-derives b.0 h
+  scan_good bs σ k h m q = good_derives b.0 h
     where
       b : Best fits_l σ bs (some m)
       b = subst (λ (o : Option (Match ℕ What)). Best fits_l σ bs o) q (best fits_l bs σ k)
@@ -123,21 +123,21 @@ module _ (good : What → Bool) where
   goodStep refused = true
   goodStep spent = false
 
-  bare-what : (es fs : List (Ev ℕ What)) → T (bare es) → what_of (es ++ fs) ≡ what_of fs
-  bare-what [] fs h = refl
-  bare-what (tok c ∷ es) fs h = bare-what es fs h
-  bare-what (mark w ∷ es) fs h = absurd h
+  bare_what : (es fs : List (Ev ℕ What)) → T (bare es) → what_of (es ++ fs) ≡ what_of fs
+  bare_what [] fs h = refl
+  bare_what (tok c ∷ es) fs h = bare_what es fs h
+  bare_what (mark w ∷ es) fs h = absurd h
 
-  piece-good : (b : ℕ) (bs : List ℕ) → T (goodStep (step lexer (nt Piece ∷ []) (some b))) → (m : Match ℕ What) → scan lexer (nt Piece ∷ []) (b ∷ bs) ≡ some m → T (good (what_of m.events))
+  piece_good : (b : ℕ) (bs : List ℕ) → T (goodStep (step lexer (nt Piece ∷ []) (some b))) → (m : Match ℕ What) → scan lexer (nt Piece ∷ []) (b ∷ bs) ≡ some m → T (good (what_of m.events))
   unfolding scan
-  piece-good b bs h m q = go (step lexer (nt Piece ∷ []) (some b)) refl h (rw end_piece at q)
+  piece_good b bs h m q = go (step lexer (nt Piece ∷ []) (some b)) refl h (rw end_piece at q)
     where
       deep : (es : List (Ev ℕ What)) (σ : Stack) → T (bare es) → ((m : Match ℕ What) → scan lexer σ bs ≡ some m → T (good (what_of m.events))) →
           (o : Option (Match ℕ What)) → scan lexer σ bs ≡ o → longer lexer es o none ≡ some m → T (good (what_of m.events))
       deep es σ t f none e z = absurd (none≢some z)
       deep es σ t f (some k) e z =
           let w : es ++ k.events ≡ m.events = cc in
-          subst (λ (fs : List (Ev ℕ What)). T (good (what_of fs))) w (rw (bare-what es k.events t) (f k e))
+          subst (λ (fs : List (Ev ℕ What)). T (good (what_of fs))) w (rw (bare_what es k.events t) (f k e))
 
       go : (s : Step Lex Set ℕ What) → step lexer (nt Piece ∷ []) (some b) ≡ s → T (goodStep s) → further lexer (λ σ'. scan lexer σ' bs) s none ≡ some m → T (good (what_of m.events))
       go (took es σ) e t z = deep es σ (and_l (bare es) (good_s σ) t) (scan_good bs σ (kept_step fits_l (nt Piece ∷ []) b (λ u k. absurd k, tt) e) (and_r (bare es) (good_s σ) t)) (scan lexer σ bs) refl z
@@ -153,28 +153,28 @@ pub not_token : (b at : ℕ) (bs : List ℕ) → T (goodStep no_token (step lexe
 unfolding token_here piece_at
 not_token b at bs h = go (scan lexer (nt Piece ∷ []) (b ∷ bs)) refl
   where
-    by-what : (w : What) (n : ℕ) → T (no_token w) → as_token w at n ≡ Bad at
-    by-what (is c) n t = absurd t
-    by-what ignored n t = refl
-    by-what comment n t = refl
+    by_what : (w : What) (n : ℕ) → T (no_token w) → as_token w at n ≡ Bad at
+    by_what (is c) n t = absurd t
+    by_what ignored n t = refl
+    by_what comment n t = refl
 
     go : (o : Option (Match ℕ What)) → scan lexer (nt Piece ∷ []) (b ∷ bs) ≡ o → token_of at o ≡ Bad at
     go none e = refl
-    go (some m) e = by-what (what_of m.events) m.size (piece-good no_token b bs h m e)
+    go (some m) e = by_what (what_of m.events) m.size (piece_good no_token b bs h m e)
 
 -- nothing ignored begins so
 pub not_ignored : (b : ℕ) (bs : List ℕ) → T (goodStep is_token (step lexer (nt Piece ∷ []) (some b))) → ignored_here (b ∷ bs) ≡ 0
 unfolding ignored_here piece_at
 not_ignored b bs h = go (scan lexer (nt Piece ∷ []) (b ∷ bs)) refl
   where
-    by-what : (w : What) (n : ℕ) → T (is_token w) → as_ignored w n (b ∷ bs) ≡ 0
-    by-what (is c) n t = refl
-    by-what ignored n t = absurd t
-    by-what comment n t = absurd t
+    by_what : (w : What) (n : ℕ) → T (is_token w) → as_ignored w n (b ∷ bs) ≡ 0
+    by_what (is c) n t = refl
+    by_what ignored n t = absurd t
+    by_what comment n t = absurd t
 
     go : (o : Option (Match ℕ What)) → scan lexer (nt Piece ∷ []) (b ∷ bs) ≡ o → ignored_of (b ∷ bs) o ≡ 0
     go none e = refl
-    go (some m) e = by-what (what_of m.events) m.size (piece-good is_token b bs h m e)
+    go (some m) e = by_what (what_of m.events) m.size (piece_good is_token b bs h m e)
 
 -- of the 256 bytes: those that begin neither a token nor a number
 abbrev begins_token : ℕ → Bool

@@ -58,15 +58,15 @@ module _ (s rows : List ℕ) (c : Cursor) (parent : ℕ) (ready : Ready s rows c
       ∙ refuse s c ready.within ready.looks opened (c.rows + 1) (c.rows ∷ o) left q (tm (the colon) ∷ nt (value_part b) ∷ act end ∷ σ) Name (λ x. not (is (kind_of n_other) x)) (not_is (kind_of n_other) c.kind n) tt tt
 
   module _ (e : c.kind ≡ kind_of n_other) where
-    named-goes : (left : ℕ) (b : Bool) (σ : Stack) (o : List ℕ) (q : Counts) → top o ≡ parent →
+    named_goes : (left : ℕ) (b : Bool) (σ : Stack) (o : List ℕ) (q : Counts) → top o ≡ parent →
         at s rows c o left q (entry_stack K b ++ σ) ≡ go (st opened (c.rows + 1) (c.rows ∷ o) c.stop left q) (tm any_name ∷ tm (the colon) ∷ nt (value_part b) ∷ act end ∷ σ) (from s c.stop)
-    named-goes left b σ o q h =
+    named_goes left b σ o q h =
         begins left b σ o q h
         ∙ first s c ready.within ready.looks opened (c.rows + 1) (c.rows ∷ o) left q (tm (the colon) ∷ nt (value_part b) ∷ act end ∷ σ) Name name_in_is n_other e tt
 
     pub entry_full : c.rows ≡ most_rows → (left : ℕ) (b : Bool) → Halts s rows c parent left (entry_stack K b) (TooManyRows c.start)
     entry_full n left b σ o q h f =
-        named-goes left b σ o q h
+        named_goes left b σ o q h
         ∙ too_many_rows s c ready.within ready.looks opened (c.rows + 1) (c.rows ∷ o) left q (tm (the colon) ∷ nt (value_part b) ∷ act end ∷ σ) any_name n_other e tt tt (omega arith)
 
     module _ (room : c.rows ≢ most_rows) where
@@ -74,14 +74,14 @@ module _ (s rows : List ℕ) (c : Cursor) (parent : ℕ) (ready : Ready s rows c
       few = omega (arith, ready.few)
 
       -- past the name
-      name-goes : (left : ℕ) (b : Bool) (σ : Stack) (o : List ℕ) (q : Counts) → top o ≡ parent → over_counts q ≡ false →
+      name_goes : (left : ℕ) (b : Bool) (σ : Stack) (o : List ℕ) (q : Counts) → top o ≡ parent → over_counts q ≡ false →
           at s rows c o left q (entry_stack K b ++ σ) ≡ go (st opened (c.rows + 1) (c.rows ∷ o) c.end left q) (tm (the colon) ∷ nt (value_part b) ∷ act end ∷ σ) (from s c.end)
-      name-goes left b σ o q h f =
-          named-goes left b σ o q h
+      name_goes left b σ o q h f =
+          named_goes left b σ o q h
           ∙ plain s c ready.within ready.looks opened (c.rows + 1) (c.rows ∷ o) left q (tm (the colon) ∷ nt (value_part b) ∷ act end ∷ σ) any_name n_other e tt tt (omega (arith, few)) f
 
       pub entry_bad : (rows' : List ℕ) (r : Read) (x : Refusal) → r ≡ past s c (c.rows + 1) → r ≡ Refused x → SaidNamed s rows rows' c parent K r
-      entry_bad rows' r x q w = rw w (λ left b σ o y h f. name-goes left b σ o y h f ∙ moved_halts s c.end (c.rows + 1) r x q w (st opened (c.rows + 1) (c.rows ∷ o) c.end left y) (tm (the colon) ∷ nt (value_part b) ∷ act end ∷ σ))
+      entry_bad rows' r x q w = rw w (λ left b σ o y h f. name_goes left b σ o y h f ∙ moved_halts s c.end (c.rows + 1) r x q w (st opened (c.rows + 1) (c.rows ∷ o) c.end left y) (tm (the colon) ∷ nt (value_part b) ∷ act end ∷ σ))
 
       -- at the token that must be the colon
       module _ (r : Read) (d : Cursor) (q : r ≡ past s c (c.rows + 1)) (w : r ≡ Done d) where
@@ -94,20 +94,20 @@ module _ (s rows : List ℕ) (c : Cursor) (parent : ℕ) (ready : Ready s rows c
         pub colon_lies : (d.stop ≤ d.start) × (d.start ≤ d.end) × (d.end ≤ length s)
         colon_lies = token_lies s d.stop d.kind d.start d.end within m.looks
 
-        at-colon : (left : ℕ) (b : Bool) (σ : Stack) (o : List ℕ) (y : Counts) → top o ≡ parent → over_counts y ≡ false →
+        at_colon : (left : ℕ) (b : Bool) (σ : Stack) (o : List ℕ) (y : Counts) → top o ≡ parent → over_counts y ≡ false →
             at s rows c o left y (entry_stack K b ++ σ) ≡ go (st opened (c.rows + 1) (c.rows ∷ o) d.stop left y) (tm (the colon) ∷ nt (value_part b) ∷ act end ∷ σ) (from s d.stop)
-        at-colon left b σ o y h f = name-goes left b σ o y h f ∙ rw m.stop refl
+        at_colon left b σ o y h f = name_goes left b σ o y h f ∙ rw m.stop refl
 
         pub entry_no_colon : d.kind ≢ kind_of colon → (left : ℕ) (b : Bool) → Halts s rows c parent left (entry_stack K b) (NoGoing d.start)
         entry_no_colon n left b σ o y h f =
-            at-colon left b σ o y h f
+            at_colon left b σ o y h f
             ∙ lacks s d within m.looks opened (c.rows + 1) (c.rows ∷ o) left y (nt (value_part b) ∷ act end ∷ σ) (the colon) (λ x. not (is (kind_of colon) x)) (not_is (kind_of colon) d.kind n) tt
 
         module _ (k : d.kind ≡ kind_of colon) where
-          colon-goes : (left : ℕ) (b : Bool) (σ : Stack) (o : List ℕ) (y : Counts) → top o ≡ parent → over_counts y ≡ false →
+          colon_goes : (left : ℕ) (b : Bool) (σ : Stack) (o : List ℕ) (y : Counts) → top o ≡ parent → over_counts y ≡ false →
               at s rows c o left y (entry_stack K b ++ σ) ≡ go (st opened (c.rows + 1) (c.rows ∷ o) d.end left y) (nt (value_part b) ∷ act end ∷ σ) (from s d.end)
-          colon-goes left b σ o y h f =
-              at-colon left b σ o y h f
+          colon_goes left b σ o y h f =
+              at_colon left b σ o y h f
               ∙ plain s d within m.looks opened (c.rows + 1) (c.rows ∷ o) left y (nt (value_part b) ∷ act end ∷ σ) (the colon) colon k tt tt (omega (arith, few)) f
 
           -- at the value
@@ -121,9 +121,9 @@ module _ (s rows : List ℕ) (c : Cursor) (parent : ℕ) (ready : Ready s rows c
                 few = rw v.rows (omega (arith, few));
                 looks = v.looks;
                 on = omega (arith, v.stop, colon_lies, m.stop, ready_lies s rows c parent ready);
-                goes = λ left b σ o y h f. colon-goes left b σ o y h f ∙ rw (v.stop, v.rows, p) refl;
+                goes = λ left b σ o y h f. colon_goes left b σ o y h f ∙ rw (v.stop, v.rows, p) refl;
               }
-          entry_named rows' p (Refused x) u = λ left b σ o y h f. colon-goes left b σ o y h f ∙ moved_halts s d.end (c.rows + 1) (Refused x) x u refl (st opened (c.rows + 1) (c.rows ∷ o) d.end left y) (nt (value_part b) ∷ act end ∷ σ)
+          entry_named rows' p (Refused x) u = λ left b σ o y h f. colon_goes left b σ o y h f ∙ moved_halts s d.end (c.rows + 1) (Refused x) x u refl (st opened (c.rows + 1) (c.rows ∷ o) d.end left y) (nt (value_part b) ∷ act end ∷ σ)
 
 -- AN ENTRY, where its name and colon were read
 module _ (s rows : List ℕ) (c : Cursor) (parent left K : ℕ) (b : Bool) (rows₁ : List ℕ) (r : Read) (said : SaidNamed s rows rows₁ c parent K r) where
@@ -145,15 +145,15 @@ module _ (s rows : List ℕ) (c : Cursor) (parent left K : ℕ) (b : Bool) (rows
           step a σ o y h f = entry_begun.goes left b σ o y h f ∙ a (act end ∷ σ) (c.rows ∷ o) y refl f
 
       module _ (d : Cursor) (j : z ≡ Done d) where
-        value-went : Went 1 s rows₁ rows₂ g d c.rows left (nt (value_part b) ∷ [])
-        value-went = subst (Said 1 s rows₁ rows₂ g c.rows left (nt (value_part b) ∷ [])) j of-value
+        value_went : Went 1 s rows₁ rows₂ g d c.rows left (nt (value_part b) ∷ [])
+        value_went = subst (Said 1 s rows₁ rows₂ g c.rows left (nt (value_part b) ∷ [])) j of-value
 
         pub entry_size : length rows₂ ≡ rows_size
-        entry_size = value-went.size
+        entry_size = value_went.size
 
         pub entry_went : (rows' : List ℕ) → rows' ≡ set rows₂ (7 * c.rows + 2) d.stop → Went 1 s rows rows' c d parent left (entry_stack K b)
         entry_went rows' n =
-            let a = value-went in
+            let a = value_went in
             record {
               size = rw n (length-set rows₂ (7 * c.rows + 2) d.stop ∙ a.size);
               within = a.within;
@@ -169,8 +169,8 @@ module _ (field : Part) (K : ℕ) (counted : EntryKind K) (b : Bool) (mem : Mem�
     (refuses-it : T (all (λ k. implies (not (is (kind_of n_other) (kind_of k))) (refuses field k)) all_c))
     (refuses-end : T (refuses_end field))
     (s rows : List ℕ) (c : Cursor) (parent : ℕ) (ready : Ready s rows c parent) (left : ℕ) where
-  entry-is : (σ : Stack) (o : List ℕ) (q : Counts) → top o ≡ parent → over_counts q ≡ false → at s rows c o left q (nt field ∷ σ) ≡ at s rows c o left q (entry_stack K b ++ σ)
-  entry-is σ o q h f = cases (eqb c.kind (kind_of n_other)) refl
+  entry_is : (σ : Stack) (o : List ℕ) (q : Counts) → top o ≡ parent → over_counts q ≡ false → at s rows c o left q (nt field ∷ σ) ≡ at s rows c o left q (entry_stack K b ++ σ)
+  entry_is σ o q h f = cases (eqb c.kind (kind_of n_other)) refl
     where
       cases : (x : Bool) → eqb c.kind (kind_of n_other) ≡ x → at s rows c o left q (nt field ∷ σ) ≡ at s rows c o left q (entry_stack K b ++ σ)
       cases true e = first s c ready.within ready.looks rows c.rows o left q σ field mem n_other (eqb-true c.kind (kind_of n_other) e) begins-it
@@ -181,9 +181,9 @@ module _ (field : Part) (K : ℕ) (counted : EntryKind K) (b : Bool) (mem : Mem�
 module _ (s rows : List ℕ) (c : Cursor) (parent : ℕ) (ready : Ready s rows c parent) (left : ℕ) where
   pub argument_is : (σ : Stack) (o : List ℕ) (q : Counts) → top o ≡ parent → over_counts q ≡ false → at s rows c o left q (nt Argument ∷ σ) ≡ at s rows c o left q (entry_stack kind_argument false ++ σ)
   unfolding refuses refuses_end choose factored language
-  argument_is = entry-is Argument kind_argument (inl refl) false (Memᴰ.head refl) tt tt tt s rows c parent ready left
+  argument_is = entry_is Argument kind_argument (inl refl) false (Memᴰ.head refl) tt tt tt s rows c parent ready left
 
   pub field_is : (b : Bool) (σ : Stack) (o : List ℕ) (q : Counts) → top o ≡ parent → over_counts q ≡ false → at s rows c o left q (nt (field_part b) ∷ σ) ≡ at s rows c o left q (entry_stack kind_object_field b ++ σ)
   unfolding refuses refuses_end choose factored language
-  field_is true = entry-is (field_part true) kind_object_field (inr refl) true (Memᴰ.head refl) tt tt tt s rows c parent ready left
-  field_is false = entry-is (field_part false) kind_object_field (inr refl) false (Memᴰ.head refl) tt tt tt s rows c parent ready left
+  field_is true = entry_is (field_part true) kind_object_field (inr refl) true (Memᴰ.head refl) tt tt tt s rows c parent ready left
+  field_is false = entry_is (field_part false) kind_object_field (inr refl) false (Memᴰ.head refl) tt tt tt s rows c parent ready left

@@ -77,9 +77,9 @@ module _ (s rows : List ℕ) (c : Cursor) (parent : ℕ) (ready : Ready s rows c
       (goes : c.rows < most_rows → (σ : Stack) (o : List ℕ) (left : ℕ) (q : Counts) → top o ≡ parent → over_counts q ≡ false →
       at s rows c o left q (nt p ∷ σ) ≡ go (st (put rows c.rows K c.start c.end parent m z x) (c.rows + 1) o c.end left q) σ (from s c.end))
       (halts : c.rows ≡ most_rows → (σ : Stack) (o : List ℕ) (left : ℕ) (q : Counts) → top o ≡ parent → over_counts q ≡ false → at s rows c o left q (nt p ∷ σ) ≡ halt (TooManyRows c.start)) where
-    leaf-said : (left : ℕ) (rows' : List ℕ) (r : Read) → Leaf s rows rows' c parent K m z x r → Said 1 s rows rows' c parent left (nt p ∷ []) r
-    leaf-said left rows' r (full e q) = rw q (λ σ o y h f. halts e σ o left y h f)
-    leaf-said left rows' r (wrote e u q) =
+    leaf_said : (left : ℕ) (rows' : List ℕ) (r : Read) → Leaf s rows rows' c parent K m z x r → Said 1 s rows rows' c parent left (nt p ∷ []) r
+    leaf_said left rows' r (full e q) = rw q (λ σ o y h f. halts e σ o left y h f)
+    leaf_said left rows' r (wrote e u q) =
         moved_said 1 s rows rows' c parent left (nt p ∷ []) c.end (c.rows + 1)
         (rw u (put_length rows c.rows K c.start c.end parent m z x ∙ ready.size)) lies.1 (omega arith) (omega (arith, lies.0))
         (λ σ o y h f. rw u (goes e σ o left y h f)) r q
@@ -94,7 +94,7 @@ module _ (s rows : List ℕ) (c : Cursor) (parent : ℕ) (ready : Ready s rows c
 
     pub literal_said : (left : ℕ) (rows' : List ℕ) (r : Read) → Leaf s rows rows' c parent K 0 0 x r → Said 1 s rows rows' c parent left (nt p ∷ []) r
     literal_said left rows' r =
-        leaf-said K 0 0 x
+        leaf_said K 0 0 x
         (λ u σ o left q e f.
         begins σ o left q e
         ∙ class_plain (put rows c.rows K c.start 0 parent 0 0 x) (c.rows + 1) (c.rows ∷ o) c.stop left q (act end ∷ σ) k c.start c.end (from s c.end) w hit (omega arith) f
@@ -105,9 +105,9 @@ module _ (s rows : List ℕ) (c : Cursor) (parent : ℕ) (ready : Ready s rows c
         left rows' r
 
   module _ (mem : Memᴰ enumeral (factored p)) (hit : T (plain_hit name_but_literal k)) where
-    enum-begins : (σ : Stack) (o : List ℕ) (left : ℕ) (q : Counts) → top o ≡ parent →
+    enum_begins : (σ : Stack) (o : List ℕ) (left : ℕ) (q : Counts) → top o ≡ parent →
         at s rows c o left q (nt p ∷ σ) ≡ go (st (put rows c.rows kind_enum c.start 0 parent c.start (c.end - c.start) 0) (c.rows + 1) (c.rows ∷ o) c.stop left q) (tm name_but_literal ∷ act end ∷ σ) (token (token_of k c.start c.end) (from s c.end))
-    enum-begins σ o left q e =
+    enum_begins σ o left q e =
         rw l (class_first rows c.rows o c.stop left q σ k c.start c.end (from s c.end) p mem (named_first k hit))
         ∙ row_opens rows c.rows o c.stop left q (act named ∷ nt EnumValue ∷ act end ∷ σ) (token (token_of k c.start c.end) (from s c.end)) kind_enum 0
         ∙ rw e (name_told rows (c.rows + 1) o c.stop left q (nt EnumValue ∷ act end ∷ σ) (token (token_of k c.start c.end) (from s c.end)) c.rows kind_enum c.start 0 parent 0 0 0)
@@ -116,13 +116,13 @@ module _ (s rows : List ℕ) (c : Cursor) (parent : ℕ) (ready : Ready s rows c
 
     pub enum_said : (left : ℕ) (rows' : List ℕ) (r : Read) → Leaf s rows rows' c parent kind_enum c.start (c.end - c.start) 0 r → Said 1 s rows rows' c parent left (nt p ∷ []) r
     enum_said left rows' r =
-        leaf-said kind_enum c.start (c.end - c.start) 0
+        leaf_said kind_enum c.start (c.end - c.start) 0
         (λ u σ o left q e f.
-        enum-begins σ o left q e
+        enum_begins σ o left q e
         ∙ class_plain (put rows c.rows kind_enum c.start 0 parent c.start (c.end - c.start) 0) (c.rows + 1) (c.rows ∷ o) c.stop left q (act end ∷ σ) k c.start c.end (from s c.end) name_but_literal hit (omega arith) f
         ∙ row_ends rows (c.rows + 1) o c.end left q σ (from s c.end) c.rows kind_enum c.start 0 parent c.start (c.end - c.start) 0)
         (λ u σ o left q e f.
-        enum-begins σ o left q e
+        enum_begins σ o left q e
         ∙ class_rows (put rows c.rows kind_enum c.start 0 parent c.start (c.end - c.start) 0) (c.rows + 1) (c.rows ∷ o) c.stop left q (act end ∷ σ) k c.start c.end (from s c.end) name_but_literal hit (omega arith))
         left rows' r
 
@@ -167,19 +167,19 @@ module _ (s rows rows' : List ℕ) (c : Cursor) (parent : ℕ) (ready : Ready s 
   -- a kind of token that is a literal
   module _ (x K : ℕ) (w : Terminal) (mem : (b : Bool) → Memᴰ (literal K 0 w) (factored (value_part b))) (same : (q : Counts) → kinded K q ≡ q) (e : c.kind ≡ suc x)
       (t : T (all (λ k. implies (is (suc x) (kind_of k)) (plain_hit w k)) all_c)) where
-    token-said : Leaf s rows rows' c parent K 0 0 0 r → SaidScalar s rows rows' c parent r
-    token-said h left b =
+    token_said : Leaf s rows rows' c parent K 0 0 0 r → SaidScalar s rows rows' c parent r
+    token_said h left b =
         let f = front_token s c ready.within ready.looks (λ z. let y : ⊥ = omega arith in y) in
         literal_said s rows c parent ready f.0 f.2 (value_part b) K 0 w (mem b) same (by_kind (plain_hit w) (is (suc x)) t f.0 (suc x) (f.1 ∙ e) (is_t (suc x))) left rows' r h
 
   pub int_said : c.kind ≡ kind_of int → Leaf s rows rows' c parent kind_integer 0 0 0 r → SaidScalar s rows rows' c parent r
-  int_said e = token-said 1 kind_integer (the int) int_in (λ q. refl) e tt
+  int_said e = token_said 1 kind_integer (the int) int_in (λ q. refl) e tt
 
   pub float_said : c.kind ≡ kind_of float → Leaf s rows rows' c parent kind_float 0 0 0 r → SaidScalar s rows rows' c parent r
-  float_said e = token-said 2 kind_float (the float) float_in (λ q. refl) e tt
+  float_said e = token_said 2 kind_float (the float) float_in (λ q. refl) e tt
 
   pub string_said : c.kind ≡ kind_of string → Leaf s rows rows' c parent kind_string 0 0 0 r → SaidScalar s rows rows' c parent r
-  string_said e = token-said 3 kind_string (the string) string_in (λ q. refl) e tt
+  string_said e = token_said 3 kind_string (the string) string_in (λ q. refl) e tt
 
   -- a name
   module _ (e : c.kind ≡ kind_of n_other) where
@@ -189,26 +189,26 @@ module _ (s rows rows' : List ℕ) (c : Cursor) (parent : ℕ) (ready : Ready s 
     looks : LooksAt s c class
     looks = head_name s c.stop c.start c.end ready.within (ready.looks ∙ ap (λ (x : ℕ). Token x c.start c.end) e)
 
-    class-kind : kind_of class ≡ 1
-    class-kind = let z : Token (kind_of class) c.start c.end ≡ Token c.kind c.start c.end = ap head_of (sym looks) ∙ ready.looks in let y : kind_of class ≡ c.kind = cc in y ∙ e
+    class_kind : kind_of class ≡ 1
+    class_kind = let z : Token (kind_of class) c.start c.end ≡ Token c.kind c.start c.end = ap head_of (sym looks) ∙ ready.looks in let y : kind_of class ≡ c.kind = cc in y ∙ e
 
     -- one of the words that are values
     module _ (x K X : ℕ) (w : Terminal) (mem : (b : Bool) → Memᴰ (literal K X w) (factored (value_part b))) (same : (q : Counts) → kinded K q ≡ q)
         (t : T (all (λ k. implies (is x (word_number k)) (plain_hit w k)) all_c)) where
-      word-said : word_of (take (c.end - c.start) (drop c.start s)) ≡ x → Leaf s rows rows' c parent K 0 0 X r → SaidScalar s rows rows' c parent r
+      word_said : word_of (take (c.end - c.start) (drop c.start s)) ≡ x → Leaf s rows rows' c parent K 0 0 X r → SaidScalar s rows rows' c parent r
       unfolding word_of
-      word-said v h left b =
+      word_said v h left b =
           literal_said s rows c parent ready class looks (value_part b) K X w (mem b) same
           (implies_out (is x (word_number class)) (plain_hit w class) (all_at (λ k. implies (is x (word_number k)) (plain_hit w k)) all_c (num_c class) t (at_c class)) (rw v (is_t x))) left rows' r h
 
     pub true_said : word_of (take (c.end - c.start) (drop c.start s)) ≡ word_number n_true → Leaf s rows rows' c parent kind_boolean 0 0 extra_true r → SaidScalar s rows rows' c parent r
-    true_said = word-said (word_number n_true) kind_boolean extra_true (the n_true) true_in (λ q. refl) tt
+    true_said = word_said (word_number n_true) kind_boolean extra_true (the n_true) true_in (λ q. refl) tt
 
     pub false_said : word_of (take (c.end - c.start) (drop c.start s)) ≡ word_number n_false → Leaf s rows rows' c parent kind_boolean 0 0 extra_false r → SaidScalar s rows rows' c parent r
-    false_said = word-said (word_number n_false) kind_boolean extra_false (the n_false) false_in (λ q. refl) tt
+    false_said = word_said (word_number n_false) kind_boolean extra_false (the n_false) false_in (λ q. refl) tt
 
     pub null_said : word_of (take (c.end - c.start) (drop c.start s)) ≡ word_number n_null → Leaf s rows rows' c parent kind_null 0 0 0 r → SaidScalar s rows rows' c parent r
-    null_said = word-said (word_number n_null) kind_null 0 (the n_null) null_in (λ q. refl) tt
+    null_said = word_said (word_number n_null) kind_null 0 (the n_null) null_in (λ q. refl) tt
 
     -- any other name
     pub name_said : word_of (take (c.end - c.start) (drop c.start s)) ≢ word_number n_true → word_of (take (c.end - c.start) (drop c.start s)) ≢ word_number n_false → word_of (take (c.end - c.start) (drop c.start s)) ≢ word_number n_null →
@@ -217,7 +217,7 @@ module _ (s rows rows' : List ℕ) (c : Cursor) (parent : ℕ) (ready : Ready s 
     name_said n6 n7 n8 h left b =
         enum_said s rows c parent ready class looks (value_part b) (name_in_is b)
         (implies_out (enumeral_test class) (plain_hit name_but_literal class) (all_at (λ k. implies (enumeral_test k) (plain_hit name_but_literal k)) all_c (num_c class) tt (at_c class))
-        (rw (class-kind, ne_eqb (word_number class) 6 n6, ne_eqb (word_number class) 7 n7, ne_eqb (word_number class) 8 n8) tt)) left rows' r h
+        (rw (class_kind, ne_eqb (word_number class) 6 n6, ne_eqb (word_number class) 7 n7, ne_eqb (word_number class) 8 n8) tt)) left rows' r h
 
   -- a token with which no value begins
   pub no_value : c.kind ≢ kind_of n_other → c.kind ≢ kind_of int → c.kind ≢ kind_of float → c.kind ≢ kind_of string → c.kind ≢ kind_of dollar → c.kind ≢ kind_of bracket_l → c.kind ≢ kind_of brace_l →

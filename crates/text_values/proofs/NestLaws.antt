@@ -78,9 +78,9 @@ module _ {p : Part} {K : ℕ} {A B : Class} {inner item star : Part} (N : Nest p
 
   -- past the opening mark
   module _ (z : left ≢ 0) (few : c.rows < most_rows) where
-    opens-goes : (σ : Stack) (o : List ℕ) (q : Counts) → top o ≡ parent → over_counts q ≡ false →
+    opens_goes : (σ : Stack) (o : List ℕ) (q : Counts) → top o ≡ parent → over_counts q ≡ false →
         at s rows c o left q (nt p ∷ σ) ≡ go (st opened (c.rows + 1) (c.rows ∷ o) c.end (left - 1) q) (nt star ∷ tm (the B) ∷ act end ∷ σ) (from s c.end)
-    opens-goes σ o q h f =
+    opens_goes σ o q h f =
         begins σ o q h
         ∙ opening s c ready.within ready.looks opened (c.rows + 1) (c.rows ∷ o) left q (nt star ∷ tm (the B) ∷ act end ∷ σ) (the A) A e N.opening_hit N.opening_opens (left - 1) (omega arith) (omega (arith, few)) f
 
@@ -93,7 +93,7 @@ module _ {p : Part} {K : ℕ} {A B : Class} {inner item star : Part} (N : Nest p
       begins σ o y h
       ∙ too_many_rows_open s c ready.within ready.looks opened (c.rows + 1) (c.rows ∷ o) left y (nt star ∷ tm (the B) ∷ act end ∷ σ) (the A) A e N.opening_hit N.opening_opens (left - 1) (omega arith) (omega arith))
   nest_refused rows₀ rows' r v (entered z n u q) w = rw w (λ σ o y h f.
-      opens-goes z n σ o y h f ∙ moved_halts s c.end (c.rows + 1) r v q w (st opened (c.rows + 1) (c.rows ∷ o) c.end (left - 1) y) (nt star ∷ tm (the B) ∷ act end ∷ σ))
+      opens_goes z n σ o y h f ∙ moved_halts s c.end (c.rows + 1) r v q w (st opened (c.rows + 1) (c.rows ∷ o) c.end (left - 1) y) (nt star ∷ tm (the B) ∷ act end ∷ σ))
 
   -- or it goes on behind the mark
   module _ (rows₀ : List ℕ) (r : Read) (d₀ : Cursor) (h₀ : Open s rows rows₀ c parent left K r) (w : r ≡ Done d₀) where
@@ -133,13 +133,13 @@ module _ {p : Part} {K : ℕ} {A B : Class} {inner item star : Part} (N : Nest p
 
     module _ (rows₁ : List ℕ) (d : Cursor) (i : InNest s rows₀ rows₁ d₀ d c.rows (left - 1) star B) where
       reached : (σ : Stack) (o : List ℕ) (y : Counts) → top o ≡ parent → over_counts y ≡ false → at s rows c o left y (nt p ∷ σ) ≡ at s rows₁ d (c.rows ∷ o) (left - 1) y (nt star ∷ tm (the B) ∷ act end ∷ σ)
-      reached σ o y h f = opens-goes z few σ o y h f ∙ rw (sym m.stop, sym m.rows, sym u) refl ∙ i.so_far (act end ∷ σ) (c.rows ∷ o) y refl f
+      reached σ o y h f = opens_goes z few σ o y h f ∙ rw (sym m.stop, sym m.rows, sym u) refl ∙ i.so_far (act end ∷ σ) (c.rows ∷ o) y refl f
 
       -- at the closing mark
       module _ (k : d.kind ≡ kind_of B) where
-        closes-goes : (rows' : List ℕ) → rows' ≡ set rows₁ (7 * c.rows + 2) d.end → (σ : Stack) (o : List ℕ) (q : Counts) → top o ≡ parent → over_counts q ≡ false →
+        closes_goes : (rows' : List ℕ) → rows' ≡ set rows₁ (7 * c.rows + 2) d.end → (σ : Stack) (o : List ℕ) (q : Counts) → top o ≡ parent → over_counts q ≡ false →
             at s rows c o left q (nt p ∷ σ) ≡ go (st rows' d.rows o d.end left q) σ (from s d.end)
-        closes-goes rows' v σ o q h f =
+        closes_goes rows' v σ o q h f =
             reached σ o q h f
             ∙ null s d i.within i.looks rows₁ d.rows (c.rows ∷ o) (left - 1) q (tm (the B) ∷ act end ∷ σ) star N.none_in tt N.none_end (is (kind_of B)) (rw (eq-eqb d.kind (kind_of B) k) tt) N.closing_none
             ∙ closing s d i.within i.looks rows₁ d.rows (c.rows ∷ o) (left - 1) q (act end ∷ σ) (the B) B k N.closing_hit N.closing_closes i.few f
@@ -154,7 +154,7 @@ module _ {p : Part} {K : ℕ} {A B : Class} {inner item star : Part} (N : Nest p
         nest_closes rows' r' v =
             moved_said 1 s rows rows' c parent left (nt p ∷ []) d.end d.rows
             (rw v.ended (length-set rows₁ (7 * c.rows + 2) d.end ∙ i.size)) lies.2 i.few (omega (arith, lies, i.since, m.stop, onward))
-            (λ σ o q h f. closes-goes rows' v.ended σ o q h f) r' v.moved
+            (λ σ o q h f. closes_goes rows' v.ended σ o q h f) r' v.moved
           where
             lies : (d.stop ≤ d.start) × (d.start ≤ d.end) × (d.end ≤ length s)
             lies = token_lies s d.stop d.kind d.start d.end i.within i.looks
@@ -164,8 +164,8 @@ module _ {p : Part} {K : ℕ} {A B : Class} {inner item star : Part} (N : Nest p
 
       -- at another token: an item is read, as α
       module _ (k : d.kind ≢ kind_of B) (α : Stack) (same : (σ : Stack) (o : List ℕ) (q : Counts) → top o ≡ c.rows → over_counts q ≡ false → at s rows₁ d o (left - 1) q (nt item ∷ σ) ≡ at s rows₁ d o (left - 1) q (α ++ σ)) where
-        item-goes : (σ : Stack) (o : List ℕ) (q : Counts) → top o ≡ c.rows → over_counts q ≡ false → at s rows₁ d o (left - 1) q (nt star ∷ tm (the B) ∷ σ) ≡ at s rows₁ d o (left - 1) q (α ++ (nt star ∷ tm (the B) ∷ σ))
-        item-goes σ o q h f =
+        item_goes : (σ : Stack) (o : List ℕ) (q : Counts) → top o ≡ c.rows → over_counts q ≡ false → at s rows₁ d o (left - 1) q (nt star ∷ tm (the B) ∷ σ) ≡ at s rows₁ d o (left - 1) q (α ++ (nt star ∷ tm (the B) ∷ σ))
+        item_goes σ o q h f =
             run_more item star (the B) N.more_in N.none_in s d i.within i.looks (λ x. not (is (kind_of B) x)) (not_is (kind_of B) d.kind k) N.item_first N.none_end N.no_item_end (st rows₁ d.rows o d.stop (left - 1) q) σ
             ∙ same (nt star ∷ tm (the B) ∷ σ) o q h f
 
@@ -180,7 +180,7 @@ module _ {p : Part} {K : ℕ} {A B : Class} {inner item star : Part} (N : Nest p
                   few = a.few;
                   looks = a.looks;
                   since = omega (arith, a.on, i.since);
-                  so_far = λ σ o q h l. i.so_far σ o q h l ∙ item-goes σ o q h l ∙ a.goes (nt star ∷ tm (the B) ∷ σ) o q h l;
+                  so_far = λ σ o q h l. i.so_far σ o q h l ∙ item_goes σ o q h l ∙ a.goes (nt star ∷ tm (the B) ∷ σ) o q h l;
                 }
 
         pub nest_less : (rows₂ : List ℕ) (t : Read) (f : Cursor) → Said 1 s rows₁ rows₂ d c.rows (left - 1) α t → t ≡ Done f → length s - f.stop < length s - d.stop
@@ -193,4 +193,4 @@ module _ {p : Part} {K : ℕ} {A B : Class} {inner item star : Part} (N : Nest p
         nest_stops rows₂ rows' t x v g = rw g (step (subst (Said 1 s rows₁ rows₂ d c.rows (left - 1) α) g v))
           where
             step : Halts s rows₁ d c.rows (left - 1) α x → Halts s rows c parent left (nt p ∷ []) x
-            step a σ o q h f = reached σ o q h f ∙ item-goes (act end ∷ σ) (c.rows ∷ o) q refl f ∙ a (nt star ∷ tm (the B) ∷ act end ∷ σ) (c.rows ∷ o) q refl f
+            step a σ o q h f = reached σ o q h f ∙ item_goes (act end ∷ σ) (c.rows ∷ o) q refl f ∙ a (nt star ∷ tm (the B) ∷ act end ∷ σ) (c.rows ∷ o) q refl f

@@ -60,14 +60,14 @@ module _ (s rows rows' : List ℕ) (c : Cursor) (parent : ℕ) (ready : Ready s 
     few = omega (arith, ready.few)
 
     -- past the `$`
-    dollar-goes : (σ : Stack) (o : List ℕ) (left : ℕ) (q : Counts) → top o ≡ parent → over_counts q ≡ false →
+    dollar_goes : (σ : Stack) (o : List ℕ) (left : ℕ) (q : Counts) → top o ≡ parent → over_counts q ≡ false →
         at s rows c o left q (nt Value ∷ σ) ≡ go (st opened (c.rows + 1) (c.rows ∷ o) c.end left q) (act named ∷ nt Name ∷ act end ∷ σ) (from s c.end)
-    dollar-goes σ o left q p f =
+    dollar_goes σ o left q p f =
         opens σ o left q p
         ∙ plain s c ready.within ready.looks opened (c.rows + 1) (c.rows ∷ o) left q (act named ∷ nt Name ∷ act end ∷ σ) (the dollar) dollar e tt tt (omega (arith, few)) f
 
     pub variable_bad : (r : Read) (x : Refusal) → r ≡ past s c (c.rows + 1) → r ≡ Refused x → SaidVariable s rows rows c parent r
-    variable_bad r x q p left = rw p (λ σ o y h f. dollar-goes σ o left y h f ∙ moved_halts s c.end (c.rows + 1) r x q p (st opened (c.rows + 1) (c.rows ∷ o) c.end left y) (act named ∷ nt Name ∷ act end ∷ σ))
+    variable_bad r x q p left = rw p (λ σ o y h f. dollar_goes σ o left y h f ∙ moved_halts s c.end (c.rows + 1) r x q p (st opened (c.rows + 1) (c.rows ∷ o) c.end left y) (act named ∷ nt Name ∷ act end ∷ σ))
 
     -- at the token that must be its name
     module _ (r : Read) (d : Cursor) (q : r ≡ past s c (c.rows + 1)) (p : r ≡ Done d) where
@@ -87,10 +87,10 @@ module _ (s rows rows' : List ℕ) (c : Cursor) (parent : ℕ) (ready : Ready s 
       pub name_lies : (d.stop ≤ d.start) × (d.start ≤ d.end) × (d.end ≤ length s)
       name_lies = token_lies s d.stop d.kind d.start d.end name_within m.looks
 
-      name-opens : (σ : Stack) (o : List ℕ) (left : ℕ) (y : Counts) → top o ≡ parent → over_counts y ≡ false →
+      name_opens : (σ : Stack) (o : List ℕ) (left : ℕ) (y : Counts) → top o ≡ parent → over_counts y ≡ false →
           at s rows c o left y (nt Value ∷ σ) ≡ go (st (put rows c.rows kind_variable c.start 0 parent d.start (d.end - d.start) 0) (c.rows + 1) (c.rows ∷ o) d.stop left y) (nt Name ∷ act end ∷ σ) (from s d.stop)
-      name-opens σ o left y h f =
-          dollar-goes σ o left y h f
+      name_opens σ o left y h f =
+          dollar_goes σ o left y h f
           ∙ ap (λ (i : ℕ). go (st opened (c.rows + 1) (c.rows ∷ o) i left y) (act named ∷ nt Name ∷ act end ∷ σ) (from s i)) (sym m.stop)
           ∙ name_told rows (c.rows + 1) o d.stop left y (nt Name ∷ act end ∷ σ) (from s d.stop) c.rows kind_variable c.start 0 parent 0 0 0
           ∙ rw (start_in_is s d m.looks, stop_in_is s d m.looks) refl
@@ -98,7 +98,7 @@ module _ (s rows rows' : List ℕ) (c : Cursor) (parent : ℕ) (ready : Ready s 
       pub variable_no_name : d.kind ≢ kind_of n_other → SaidVariable s rows rows c parent (no_going_of d)
       unfolding refuses refuses_end choose factored language
       variable_no_name n left = λ σ o y h f.
-          name-opens σ o left y h f
+          name_opens σ o left y h f
           ∙ refuse s d name_within m.looks (put rows c.rows kind_variable c.start 0 parent d.start (d.end - d.start) 0) (c.rows + 1) (c.rows ∷ o) left y (act end ∷ σ) Name (λ x. not (is (kind_of n_other) x)) (not_is (kind_of n_other) d.kind n) tt tt
 
       -- with its name
@@ -110,7 +110,7 @@ module _ (s rows rows' : List ℕ) (c : Cursor) (parent : ℕ) (ready : Ready s 
           moved_said 1 s rows rows' c parent left (nt Value ∷ []) d.end (c.rows + 1)
           (rw u (put_length rows c.rows kind_variable c.start d.end parent d.start (d.end - d.start) 0 ∙ ready.size)) name_lies.2 (omega (arith, few)) (omega (arith, lies.0, name_lies, m.stop))
           (λ σ o y h f.
-          name-opens σ o left y h f
+          name_opens σ o left y h f
           ∙ first s d name_within m.looks (put rows c.rows kind_variable c.start 0 parent d.start (d.end - d.start) 0) (c.rows + 1) (c.rows ∷ o) left y (act end ∷ σ) Name name_in_is n_other n tt
           ∙ plain s d name_within m.looks (put rows c.rows kind_variable c.start 0 parent d.start (d.end - d.start) 0) (c.rows + 1) (c.rows ∷ o) left y (act end ∷ σ) any_name n_other n tt tt (omega (arith, few)) f
           ∙ row_ends rows (c.rows + 1) o d.end left y σ (from s d.end) c.rows kind_variable c.start 0 parent d.start (d.end - d.start) 0

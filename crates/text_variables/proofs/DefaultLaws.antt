@@ -40,16 +40,16 @@ module _ (s rows : List ℕ) (c : Cursor) (parent left : ℕ) (g : Ready s rows 
       }
 
   module _ (h : c.kind ≡ kind_of equals) where
-    default-past : (σ : Stack) (o : List ℕ) (q : Counts) → over_counts q ≡ false → at s rows c o left q (default_stack ++ σ) ≡ go (st rows c.rows o c.end left q) (nt ConstValue ∷ σ) (from s c.end)
+    default_past : (σ : Stack) (o : List ℕ) (q : Counts) → over_counts q ≡ false → at s rows c o left q (default_stack ++ σ) ≡ go (st rows c.rows o c.end left q) (nt ConstValue ∷ σ) (from s c.end)
     unfolding factored language
-    default-past σ o q f =
+    default_past σ o q f =
         first s c g.within g.looks rows c.rows o left q σ DefaultValue? {α = nt DefaultValue ∷ []} (Memᴰ.tail (Memᴰ.head refl)) equals h tt
         ∙ first s c g.within g.looks rows c.rows o left q σ DefaultValue {α = tm (the equals) ∷ nt ConstValue ∷ []} (Memᴰ.head refl) equals h tt
         ∙ plain s c g.within g.looks rows c.rows o left q (nt ConstValue ∷ σ) (the equals) equals h tt tt g.few f
 
     module _ (r : Read) (e : r ≡ moved_to c.end c.rows (head_of (from s c.end))) where
       pub default_bad : (rows' : List ℕ) (x : Refusal) → r ≡ Refused x → Said 0 s rows rows' c parent left default_stack r
-      default_bad rows' x y = rw y (λ σ o q t f. default-past σ o q f ∙ moved_halts s c.end c.rows r x e y (st rows c.rows o c.end left q) (nt ConstValue ∷ σ))
+      default_bad rows' x y = rw y (λ σ o q t f. default_past σ o q f ∙ moved_halts s c.end c.rows r x e y (st rows c.rows o c.end left q) (nt ConstValue ∷ σ))
 
       module _ (d : Cursor) (y : r ≡ Done d) where
         pub default_ready : Ready s rows d parent
@@ -57,8 +57,8 @@ module _ (s rows : List ℕ) (c : Cursor) (parent left : ℕ) (g : Ready s rows 
             let b = ahead s c g.within g.looks (λ z. let x : ⊥ = omega arith in x) in
             next_ready s rows c.end c.rows d g.short g.size b.2 g.few (next_of s c.end c.rows r d e y) parent g.below
 
-        default-goes : (σ : Stack) (o : List ℕ) (q : Counts) → over_counts q ≡ false → at s rows c o left q (default_stack ++ σ) ≡ at s rows d o left q (value_stack true ++ σ)
-        default-goes σ o q f = let v = next_of s c.end c.rows r d e y in default-past σ o q f ∙ rw (v.stop, v.rows) refl
+        default_goes : (σ : Stack) (o : List ℕ) (q : Counts) → over_counts q ≡ false → at s rows c o left q (default_stack ++ σ) ≡ at s rows d o left q (value_stack true ++ σ)
+        default_goes σ o q f = let v = next_of s c.end c.rows r d e y in default_past σ o q f ∙ rw (v.stop, v.rows) refl
 
         pub default_says : (rows' : List ℕ) (t : Read) → Said 1 s rows rows' d parent left (value_stack true) t → Said 0 s rows rows' c parent left default_stack t
         default_says rows' (Done b) w =
@@ -70,6 +70,6 @@ module _ (s rows : List ℕ) (c : Cursor) (parent left : ℕ) (g : Ready s rows 
               few = w.few;
               looks = w.looks;
               on = omega (arith, w.on);
-              goes = λ σ o q t f. default-goes σ o q f ∙ w.goes σ o q t f;
+              goes = λ σ o q t f. default_goes σ o q f ∙ w.goes σ o q t f;
             }
-        default_says rows' (Refused x) w = λ σ o q t f. default-goes σ o q f ∙ w σ o q t f
+        default_says rows' (Refused x) w = λ σ o q t f. default_goes σ o q f ∙ w σ o q t f

@@ -30,9 +30,9 @@ use Rattle.text_variables.proofs.CountedLaws.{variable_fine}
 
 module _ (s rows : List ℕ) (c : Cursor) (parent : ℕ) (g : Ready s rows c parent) (h : c.kind ≡ kind_of dollar) (room : c.rows < most_rows) where
   -- at the dollar
-  dollar-past : (left : ℕ) (σ : Stack) (o : List ℕ) (q : Counts) → top o ≡ parent → over_counts q ≡ false → one_variable_more q →
+  dollar_past : (left : ℕ) (σ : Stack) (o : List ℕ) (q : Counts) → top o ≡ parent → over_counts q ≡ false → one_variable_more q →
       at s rows c o left q (head_stack ++ σ) ≡ go (st (put rows c.rows kind_variable_definition c.start 0 parent 0 0 0) (c.rows + 1) (c.rows ∷ o) c.end left (kinded kind_variable_definition q)) (act named ∷ nt Name ∷ tm (the colon) ∷ σ) (from s c.end)
-  dollar-past left σ o q t f k =
+  dollar_past left σ o q t f k =
       row_opens rows c.rows o c.stop left q (tm (the dollar) ∷ act named ∷ nt Name ∷ tm (the colon) ∷ σ) (from s c.stop) kind_variable_definition 0
       ∙ rw (start_in_is s c g.looks, t)
       (plain s c g.within g.looks (put rows c.rows kind_variable_definition c.start 0 parent 0 0 0) (c.rows + 1) (c.rows ∷ o) left (kinded kind_variable_definition q) (act named ∷ nt Name ∷ tm (the colon) ∷ σ) (the dollar) dollar h tt tt (omega arith) (variable_fine q f k))
@@ -40,7 +40,7 @@ module _ (s rows : List ℕ) (c : Cursor) (parent : ℕ) (g : Ready s rows c par
   module _ (r : Read) (e : r ≡ moved_to c.end (c.rows + 1) (head_of (from s c.end))) where
     pub head_bad : (rows' : List ℕ) (x : Refusal) → r ≡ Refused x → (left : ℕ) → CountedSaid 1 s rows rows' c parent left head_stack (opens c.rows) one_variable_more variable_begun r
     head_bad rows' x y left =
-        rw y (λ σ o q t f k. dollar-past left σ o q t f k
+        rw y (λ σ o q t f k. dollar_past left σ o q t f k
         ∙ moved_halts s c.end (c.rows + 1) r x e y (st (put rows c.rows kind_variable_definition c.start 0 parent 0 0 0) (c.rows + 1) (c.rows ∷ o) c.end left (kinded kind_variable_definition q)) (act named ∷ nt Name ∷ tm (the colon) ∷ σ))
 
     module _ (d : Cursor) (y : r ≡ Done d) where
@@ -64,7 +64,7 @@ module _ (s rows : List ℕ) (c : Cursor) (parent : ℕ) (g : Ready s rows c par
       name_at : (left : ℕ) (σ : Stack) (o : List ℕ) (q : Counts) → top o ≡ parent → over_counts q ≡ false → one_variable_more q →
           at s rows c o left q (head_stack ++ σ) ≡ at s cells d (c.rows ∷ o) left (kinded kind_variable_definition q) (nt Name ∷ tm (the colon) ∷ σ)
       name_at left σ o q t f k =
-          dollar-past left σ o q t f k
+          dollar_past left σ o q t f k
           ∙ (let n = next in
           rw (sym n.stop)
           (name_told rows (c.rows + 1) o d.stop left (kinded kind_variable_definition q) (nt Name ∷ tm (the colon) ∷ σ) (from s d.stop) c.rows kind_variable_definition c.start 0 parent 0 0 0
@@ -77,10 +77,10 @@ module _ (s rows : List ℕ) (c : Cursor) (parent : ℕ) (g : Ready s rows c par
           ∙ refuse s d name_within next.looks cells d.rows (c.rows ∷ o) left (kinded kind_variable_definition q) (tm (the colon) ∷ σ) Name (λ y. not (is (kind_of n_other) y)) (not_is (kind_of n_other) d.kind k) tt tt)
 
       module _ (k : d.kind ≡ kind_of n_other) where
-        name-past : (left : ℕ) (σ : Stack) (o : List ℕ) (q : Counts) → top o ≡ parent → over_counts q ≡ false → one_variable_more q →
+        name_past : (left : ℕ) (σ : Stack) (o : List ℕ) (q : Counts) → top o ≡ parent → over_counts q ≡ false → one_variable_more q →
             at s rows c o left q (head_stack ++ σ) ≡ go (st cells (c.rows + 1) (c.rows ∷ o) d.end left (kinded kind_variable_definition q)) (tm (the colon) ∷ σ) (from s d.end)
         unfolding factored language
-        name-past left σ o q t f m =
+        name_past left σ o q t f m =
             name_at left σ o q t f m
             ∙ first s d name_within next.looks cells d.rows (c.rows ∷ o) left (kinded kind_variable_definition q) (tm (the colon) ∷ σ) Name {α = tm any_name ∷ []} (Memᴰ.head refl) n_other k tt
             ∙ plain s d name_within next.looks cells d.rows (c.rows ∷ o) left (kinded kind_variable_definition q) (tm (the colon) ∷ σ) any_name n_other k tt tt (omega (arith, next.rows)) (variable_fine q f m)
@@ -89,50 +89,50 @@ module _ (s rows : List ℕ) (c : Cursor) (parent : ℕ) (g : Ready s rows c par
         module _ (u : Read) (i : u ≡ moved_to d.end (c.rows + 1) (head_of (from s d.end))) where
           pub head_bad_2 : (rows' : List ℕ) (x : Refusal) → u ≡ Refused x → (left : ℕ) → CountedSaid 1 s rows rows' c parent left head_stack (opens c.rows) one_variable_more variable_begun u
           head_bad_2 rows' x z left =
-              rw z (λ σ o q t f m. name-past left σ o q t f m ∙ moved_halts s d.end (c.rows + 1) u x i z (st cells (c.rows + 1) (c.rows ∷ o) d.end left (kinded kind_variable_definition q)) (tm (the colon) ∷ σ))
+              rw z (λ σ o q t f m. name_past left σ o q t f m ∙ moved_halts s d.end (c.rows + 1) u x i z (st cells (c.rows + 1) (c.rows ∷ o) d.end left (kinded kind_variable_definition q)) (tm (the colon) ∷ σ))
 
           module _ (b : Cursor) (z : u ≡ Done b) where
-            next-2 : Next s d.end (c.rows + 1) b
-            next-2 = next_of s d.end (c.rows + 1) u b i z
+            next_2 : Next s d.end (c.rows + 1) b
+            next_2 = next_of s d.end (c.rows + 1) u b i z
 
             pub colon_within : b.stop ≤ length s
-            colon_within = omega (arith, next-2.stop, name_ends)
+            colon_within = omega (arith, next_2.stop, name_ends)
 
             pub colon_end : b.end ≤ length s
-            colon_end = (end_within s b colon_within next-2.looks).1
+            colon_end = (end_within s b colon_within next_2.looks).1
 
-            colon-at : (left : ℕ) (σ : Stack) (o : List ℕ) (q : Counts) → top o ≡ parent → over_counts q ≡ false → one_variable_more q →
+            colon_at : (left : ℕ) (σ : Stack) (o : List ℕ) (q : Counts) → top o ≡ parent → over_counts q ≡ false → one_variable_more q →
                 at s rows c o left q (head_stack ++ σ) ≡ at s cells b (c.rows ∷ o) left (kinded kind_variable_definition q) (tm (the colon) ∷ σ)
-            colon-at left σ o q t f m = let n = next-2 in name-past left σ o q t f m ∙ rw (n.stop, n.rows) refl
+            colon_at left σ o q t f m = let n = next_2 in name_past left σ o q t f m ∙ rw (n.stop, n.rows) refl
 
             pub head_colonless : (rows' : List ℕ) → (b.kind ≡ kind_of colon → ⊥) → (t : Read) → t ≡ no_going_of b → (left : ℕ) → CountedSaid 1 s rows rows' c parent left head_stack (opens c.rows) one_variable_more variable_begun t
             head_colonless rows' j t a left =
-                rw a (λ σ o q t f m. colon-at left σ o q t f m
-                ∙ lacks s b colon_within next-2.looks cells b.rows (c.rows ∷ o) left (kinded kind_variable_definition q) σ (the colon) (λ y. not (is (kind_of colon) y)) (not_is (kind_of colon) b.kind j) tt)
+                rw a (λ σ o q t f m. colon_at left σ o q t f m
+                ∙ lacks s b colon_within next_2.looks cells b.rows (c.rows ∷ o) left (kinded kind_variable_definition q) σ (the colon) (λ y. not (is (kind_of colon) y)) (not_is (kind_of colon) b.kind j) tt)
 
             module _ (j : b.kind ≡ kind_of colon) where
-              colon-past : (left : ℕ) (σ : Stack) (o : List ℕ) (q : Counts) → top o ≡ parent → over_counts q ≡ false → one_variable_more q →
+              colon_past : (left : ℕ) (σ : Stack) (o : List ℕ) (q : Counts) → top o ≡ parent → over_counts q ≡ false → one_variable_more q →
                   at s rows c o left q (head_stack ++ σ) ≡ go (st cells (c.rows + 1) (c.rows ∷ o) b.end left (kinded kind_variable_definition q)) σ (from s b.end)
-              colon-past left σ o q t f m =
-                  colon-at left σ o q t f m
-                  ∙ plain s b colon_within next-2.looks cells b.rows (c.rows ∷ o) left (kinded kind_variable_definition q) σ (the colon) colon j tt tt (omega (arith, next-2.rows)) (variable_fine q f m)
-                  ∙ rw next-2.rows refl
+              colon_past left σ o q t f m =
+                  colon_at left σ o q t f m
+                  ∙ plain s b colon_within next_2.looks cells b.rows (c.rows ∷ o) left (kinded kind_variable_definition q) σ (the colon) colon j tt tt (omega (arith, next_2.rows)) (variable_fine q f m)
+                  ∙ rw next_2.rows refl
 
               pub head_says : (rows' : List ℕ) → rows' ≡ cells → (a : Read) → a ≡ moved_to b.end (c.rows + 1) (head_of (from s b.end)) → (left : ℕ) →
                   CountedSaid 1 s rows rows' c parent left head_stack (opens c.rows) one_variable_more variable_begun a
-              head_says rows' w (Refused x) v left = λ σ o q t f m. colon-past left σ o q t f m ∙ moved_halts s b.end (c.rows + 1) (Refused x) x v refl (st cells (c.rows + 1) (c.rows ∷ o) b.end left (kinded kind_variable_definition q)) σ
+              head_says rows' w (Refused x) v left = λ σ o q t f m. colon_past left σ o q t f m ∙ moved_halts s b.end (c.rows + 1) (Refused x) x v refl (st cells (c.rows + 1) (c.rows ∷ o) b.end left (kinded kind_variable_definition q)) σ
               head_says rows' w (Done a) v left =
                   let n = next_of s b.end (c.rows + 1) (Done a) a v refl in
                   let l = ahead s c g.within g.looks (λ z. let x : ⊥ = omega arith in x) in
                   let l' = name_ends in
                   let l'' = colon_end in
                   let k' = ahead s d name_within next.looks (λ z. let x : ⊥ = omega (arith, k) in x) in
-                  let k'' = ahead s b colon_within next-2.looks (λ z. let x : ⊥ = omega (arith, j) in x) in
+                  let k'' = ahead s b colon_within next_2.looks (λ z. let x : ⊥ = omega (arith, j) in x) in
                   record {
                     size = ap length w ∙ put_length rows c.rows kind_variable_definition c.start 0 parent d.start (d.end - d.start) 0 ∙ g.size;
                     within = omega (arith, n.stop);
                     few = omega (arith, n.rows);
                     looks = n.looks;
-                    on = omega (arith, n.stop, next.stop, next-2.stop);
-                    goes = λ σ o q t f m. (kinded kind_variable_definition q, variable_fine q f m, refl, colon-past left σ o q t f m ∙ rw (w, n.stop, n.rows) refl);
+                    on = omega (arith, n.stop, next.stop, next_2.stop);
+                    goes = λ σ o q t f m. (kinded kind_variable_definition q, variable_fine q f m, refl, colon_past left σ o q t f m ∙ rw (w, n.stop, n.rows) refl);
                   }

@@ -44,29 +44,29 @@ module _ (s rows : List ℕ) (c : Cursor) (parent left before : ℕ) (g : Ready 
   variable_none rows' h r e = rw e (λ σ o q t f k. refuse s c g.within g.looks rows c.rows o left q σ VariableDefinition (λ y. not (is (kind_of dollar) y)) (not_is (kind_of dollar) c.kind h) tt tt)
 
   module _ (h : c.kind ≡ kind_of dollar) where
-    variable-first : (σ : Stack) (o : List ℕ) (q : Counts) → at s rows c o left q (definition_stack ++ σ) ≡ at s rows c o left q (head_stack ++ (type_stack ++ default_end σ))
+    variable_first : (σ : Stack) (o : List ℕ) (q : Counts) → at s rows c o left q (definition_stack ++ σ) ≡ at s rows c o left q (head_stack ++ (type_stack ++ default_end σ))
     unfolding factored language
-    variable-first σ o q = first s c g.within g.looks rows c.rows o left q σ VariableDefinition {α = head_stack ++ (type_stack ++ default_end [])} (Memᴰ.head refl) dollar h tt
+    variable_first σ o q = first s c g.within g.looks rows c.rows o left q σ VariableDefinition {α = head_stack ++ (type_stack ++ default_end [])} (Memᴰ.head refl) dollar h tt
 
-    variable-row : (σ : Stack) (o : List ℕ) (q : Counts) → top o ≡ parent →
+    variable_row : (σ : Stack) (o : List ℕ) (q : Counts) → top o ≡ parent →
         at s rows c o left q (definition_stack ++ σ)
         ≡ go (st (put rows c.rows kind_variable_definition c.start 0 parent 0 0 0) (c.rows + 1) (c.rows ∷ o) c.stop left (kinded kind_variable_definition q))
         (tm (the dollar) ∷ act named ∷ nt Name ∷ tm (the colon) ∷ (type_stack ++ default_end σ)) (from s c.stop)
-    variable-row σ o q t =
-        variable-first σ o q
+    variable_row σ o q t =
+        variable_first σ o q
         ∙ row_opens rows c.rows o c.stop left q (tm (the dollar) ∷ act named ∷ nt Name ∷ tm (the colon) ∷ (type_stack ++ default_end σ)) (from s c.stop) kind_variable_definition 0
         ∙ rw (start_in_is s c g.looks, t) refl
 
     pub variable_full : c.rows ≡ most_rows → CountedHalts s rows c parent left definition_stack (variables_are before) (TooManyRows c.start)
     variable_full k σ o q t f m =
-        variable-row σ o q t
+        variable_row σ o q t
         ∙ too_many_rows s c g.within g.looks (put rows c.rows kind_variable_definition c.start 0 parent 0 0 0) (c.rows + 1) (c.rows ∷ o) left (kinded kind_variable_definition q)
         (act named ∷ nt Name ∷ tm (the colon) ∷ (type_stack ++ default_end σ)) (the dollar) dollar h tt tt (omega arith)
 
     module _ (room : c.rows ≡ most_rows → ⊥) where
       pub variable_many : before ≡ most_variables → CountedHalts s rows c parent left definition_stack (variables_are before) (TooMany c.start)
       variable_many k σ o q t f m =
-          variable-row σ o q t
+          variable_row σ o q t
           ∙ too_many s c g.within g.looks (put rows c.rows kind_variable_definition c.start 0 parent 0 0 0) (c.rows + 1) (c.rows ∷ o) left (kinded kind_variable_definition q)
           (act named ∷ nt Name ∷ tm (the colon) ∷ (type_stack ++ default_end σ)) (the dollar) dollar h tt tt (omega (arith, g.few, room)) (variable_over q f (omega arith))
 
@@ -77,7 +77,7 @@ module _ (s rows : List ℕ) (c : Cursor) (parent left before : ℕ) (g : Ready 
         pub variable_stop : (rows₁ rows' : List ℕ) (r : Read) → CountedSaid 1 s rows rows₁ c parent left head_stack (opens c.rows) one_variable_more variable_begun r → (x : Refusal) → r ≡ Refused x →
             CountedSaid 1 s rows rows' c parent left definition_stack stays (variables_are before) (variables_become (before + 1)) r
         variable_stop rows₁ rows' r w x e =
-            rw e (λ σ o q t f m. variable-first σ o q
+            rw e (λ σ o q t f m. variable_first σ o q
             ∙ counted_halts 1 s rows rows₁ c parent left head_stack r (opens c.rows) one_variable_more variable_begun w x e (type_stack ++ default_end σ) o q t f (one_more q f m))
 
         module _ (rows₁ : List ℕ) (a : Cursor) (w : Counted 1 s rows rows₁ c a parent left head_stack (opens c.rows) one_variable_more variable_begun) where
@@ -86,7 +86,7 @@ module _ (s rows : List ℕ) (c : Cursor) (parent left before : ℕ) (g : Ready 
               at s rows c o left q (definition_stack ++ σ) ≡ at s rows₁ a (c.rows ∷ o) left (wrapped_by 0 (kinded kind_variable_definition q)) (type_stack ++ default_end σ)
           headed σ o q t f m =
               let y = w.goes (type_stack ++ default_end σ) o q t f (one_more q f m) in
-              variable-first σ o q ∙ y.3 ∙ ap (λ (q' : Counts). at s rows₁ a (c.rows ∷ o) left q' (type_stack ++ default_end σ)) y.2
+              variable_first σ o q ∙ y.3 ∙ ap (λ (q' : Counts). at s rows₁ a (c.rows ∷ o) left q' (type_stack ++ default_end σ)) y.2
 
           pub variable_stop_2 : (rows₂ rows' : List ℕ) (r : Read) → TypeSaid s rows₁ rows₂ a c.rows left r → (x : Refusal) → r ≡ Refused x →
               CountedSaid 1 s rows rows' c parent left definition_stack stays (variables_are before) (variables_become (before + 1)) r
@@ -99,14 +99,14 @@ module _ (s rows : List ℕ) (c : Cursor) (parent left before : ℕ) (g : Ready 
                 at s rows c o left q (definition_stack ++ σ) ≡ at s rows₂ b (c.rows ∷ o) left (wrapped_by u.wrappers (kinded kind_variable_definition q)) (default_end σ)
             typed σ o q t f m = headed σ o q t f m ∙ u.goes (default_end σ) (c.rows ∷ o) (kinded kind_variable_definition q) refl (variable_fine q f (one_more q f m))
 
-            typed-fine : (q : Counts) → over_counts q ≡ false → variables_are before q → over_counts (wrapped_by u.wrappers (kinded kind_variable_definition q)) ≡ false
-            typed-fine q f m = wrapped_fine (kinded kind_variable_definition q) u.wrappers (variable_fine q f (one_more q f m)) u.wrapped
+            typed_fine : (q : Counts) → over_counts q ≡ false → variables_are before q → over_counts (wrapped_by u.wrappers (kinded kind_variable_definition q)) ≡ false
+            typed_fine q f m = wrapped_fine (kinded kind_variable_definition q) u.wrappers (variable_fine q f (one_more q f m)) u.wrapped
 
             pub variable_stop_3 : (rows₃ rows' : List ℕ) (r : Read) → Said 0 s rows₂ rows₃ b c.rows left (nt DefaultValue? ∷ []) r → (x : Refusal) → r ≡ Refused x →
                 CountedSaid 1 s rows rows' c parent left definition_stack stays (variables_are before) (variables_become (before + 1)) r
             variable_stop_3 rows₃ rows' r v x e =
                 rw e (λ σ o q t f m. typed σ o q t f m
-                ∙ said_halts 0 s rows₂ rows₃ b c.rows left (nt DefaultValue? ∷ []) r v x e (act end ∷ σ) (c.rows ∷ o) (wrapped_by u.wrappers (kinded kind_variable_definition q)) refl (typed-fine q f m))
+                ∙ said_halts 0 s rows₂ rows₃ b c.rows left (nt DefaultValue? ∷ []) r v x e (act end ∷ σ) (c.rows ∷ o) (wrapped_by u.wrappers (kinded kind_variable_definition q)) refl (typed_fine q f m))
 
             pub variable_done : (rows₃ rows' : List ℕ) (r : Read) → Said 0 s rows₂ rows₃ b c.rows left (nt DefaultValue? ∷ []) r → (d : Cursor) → r ≡ Done d → rows' ≡ set rows₃ (7 * c.rows + 2) d.stop →
                 Counted 1 s rows rows' c d parent left definition_stack stays (variables_are before) (variables_become (before + 1))
@@ -120,10 +120,10 @@ module _ (s rows : List ℕ) (c : Cursor) (parent left before : ℕ) (g : Ready 
                   on = omega (arith, y.on, u.on, w.on);
                   goes = λ σ o q t f m. (
                     wrapped_by u.wrappers (kinded kind_variable_definition q),
-                    typed-fine q f m,
+                    typed_fine q f m,
                     (refl, ap (λ (n : ℕ). n + 1) m),
                     typed σ o q t f m
-                        ∙ y.goes (act end ∷ σ) (c.rows ∷ o) (wrapped_by u.wrappers (kinded kind_variable_definition q)) refl (typed-fine q f m)
+                        ∙ y.goes (act end ∷ σ) (c.rows ∷ o) (wrapped_by u.wrappers (kinded kind_variable_definition q)) refl (typed_fine q f m)
                         ∙ ends_row rows₃ d.rows o d.stop left (wrapped_by u.wrappers (kinded kind_variable_definition q)) σ (from s d.stop) c.rows
                         ∙ rw z refl,
                   );

@@ -85,15 +85,15 @@ module _ (s rows : List ℕ) (c : Cursor) (parent left : ℕ) (g : Ready s rows 
       ∙ too_deep s c g.within g.looks rows c.rows o left q (nt VariableDefinition+ ∷ tm (the paren_r) ∷ σ) (the paren_l) paren_l h tt tt k
 
   module _ (k : left ≡ 0 → ⊥) where
-    list-past : (σ : Stack) (o : List ℕ) (q : Counts) → over_counts q ≡ false → at s rows c o left q (list_stack ++ σ) ≡ go (st rows c.rows o c.end (left - 1) q) (nt VariableDefinition+ ∷ tm (the paren_r) ∷ σ) (from s c.end)
+    list_past : (σ : Stack) (o : List ℕ) (q : Counts) → over_counts q ≡ false → at s rows c o left q (list_stack ++ σ) ≡ go (st rows c.rows o c.end (left - 1) q) (nt VariableDefinition+ ∷ tm (the paren_r) ∷ σ) (from s c.end)
     unfolding factored language
-    list-past σ o q f =
+    list_past σ o q f =
         first s c g.within g.looks rows c.rows o left q σ VariableDefinitions {α = tm (the paren_l) ∷ nt VariableDefinition+ ∷ tm (the paren_r) ∷ []} (Memᴰ.head refl) paren_l h tt
         ∙ opening s c g.within g.looks rows c.rows o left q (nt VariableDefinition+ ∷ tm (the paren_r) ∷ σ) (the paren_l) paren_l h tt tt (left - 1) (omega (arith, k)) g.few f
 
     module _ (r : Read) (e : r ≡ moved_to c.end c.rows (head_of (from s c.end))) where
       pub list_bad : (rows' : List ℕ) (x : Refusal) → r ≡ Refused x → CountedSaid 1 s rows rows' c parent left list_stack stays (variables_are 0) same_fragments r
-      list_bad rows' x y = rw y (λ σ o q t f m. list-past σ o q f ∙ moved_halts s c.end c.rows r x e y (st rows c.rows o c.end (left - 1) q) (nt VariableDefinition+ ∷ tm (the paren_r) ∷ σ))
+      list_bad rows' x y = rw y (λ σ o q t f m. list_past σ o q f ∙ moved_halts s c.end c.rows r x e y (st rows c.rows o c.end (left - 1) q) (nt VariableDefinition+ ∷ tm (the paren_r) ∷ σ))
 
       module _ (d₀ : Cursor) (y : r ≡ Done d₀) where
         pub list_ready : Ready s rows d₀ parent
@@ -101,10 +101,10 @@ module _ (s rows : List ℕ) (c : Cursor) (parent left : ℕ) (g : Ready s rows 
             let b = ahead s c g.within g.looks (λ z. let x : ⊥ = omega arith in x) in
             next_ready s rows c.end c.rows d₀ g.short g.size b.2 g.few (next_of s c.end c.rows r d₀ e y) parent g.below
 
-        list-begins : (σ : Stack) (o : List ℕ) (q : Counts) → over_counts q ≡ false → at s rows c o left q (list_stack ++ σ) ≡ at s rows d₀ o (left - 1) q (more_stack σ)
-        list-begins σ o q f =
+        list_begins : (σ : Stack) (o : List ℕ) (q : Counts) → over_counts q ≡ false → at s rows c o left q (list_stack ++ σ) ≡ at s rows d₀ o (left - 1) q (more_stack σ)
+        list_begins σ o q f =
             let v = next_of s c.end c.rows r d₀ e y in
-            list-past σ o q f ∙ rw (sym v.stop, sym v.rows) (plus_more s d₀ list_ready.within v.looks rows o (left - 1) q σ)
+            list_past σ o q f ∙ rw (sym v.stop, sym v.rows) (plus_more s d₀ list_ready.within v.looks rows o (left - 1) q σ)
 
         module _ (rows₁ : List ℕ) (d : Cursor) (i : ℕ) (w : Turns s rows rows₁ d₀ d parent (left - 1) i) where
           pub turn_ready : Ready s rows₁ d parent
@@ -115,7 +115,7 @@ module _ (s rows : List ℕ) (c : Cursor) (parent left : ℕ) (g : Ready s rows 
           turn_stop rows₂ rows' u z x j =
               rw j (λ σ o q t f m.
               let a = w.goes σ o q t f m in
-              list-begins σ o q f ∙ a.3
+              list_begins σ o q f ∙ a.3
               ∙ counted_halts 1 s rows₁ rows₂ d parent (left - 1) (nt VariableDefinition ∷ []) u stays (variables_are i) (variables_become (i + 1)) z x j (nt VariableDefinition* ∷ tm (the paren_r) ∷ σ) o a.0 t a.1 a.2.1)
 
           module _ (rows₂ : List ℕ) (b : Cursor) (z : Counted 1 s rows₁ rows₂ d b parent (left - 1) (nt VariableDefinition ∷ []) stays (variables_are i) (variables_become (i + 1))) where
@@ -146,7 +146,7 @@ module _ (s rows : List ℕ) (c : Cursor) (parent left : ℕ) (g : Ready s rows 
                     y.0,
                     y.1,
                     y.2.0 ∙ a.2.0,
-                    list-begins σ o q f ∙ a.3 ∙ y.3
+                    list_begins σ o q f ∙ a.3 ∙ y.3
                         ∙ null s b z.within z.looks rows₂ b.rows o (left - 1) y.0 (tm (the paren_r) ∷ σ) VariableDefinition* {α = []} (Memᴰ.head refl) tt refl (is (kind_of paren_r)) (rw j tt) tt
                         ∙ closing s b z.within z.looks rows₂ b.rows o (left - 1) y.0 σ (the paren_r) paren_r j tt tt z.few y.1
                         ∙ (let p : suc (left - 1) ≡ left = omega (arith, k) in ap (λ (l : ℕ). go (st rows₂ b.rows o b.end l y.0) σ (from s b.end)) p),

@@ -122,17 +122,17 @@ module _ {table document name : List ℕ} {rs : List Row} {op : ℕ} (o : Opened
   variables_end (unread k s) = text_refused o k s
   variables_end (done {vs = vs} k s) = variables_coerced o k s (variables_have (kinds_in table) (given_in (read variables vs)) (variable_dues (read document rs) op))
 
-  arguments-end : {row : ℕ} {e : Ending} → FieldEnd table (read document rs) op row variables e → ArgumentsEnd table document name variables row e
-  arguments-end (unreached f) = no_field_reached o f
-  arguments-end (reached f (unread k s)) = variables_unread o f k s
-  arguments-end {row} (reached f (done {vs = vs} k s)) =
+  arguments_end : {row : ℕ} {e : Ending} → FieldEnd table (read document rs) op row variables e → ArgumentsEnd table document name variables row e
+  arguments_end (unreached f) = no_field_reached o f
+  arguments_end (reached f (unread k s)) = variables_unread o f k s
+  arguments_end {row} (reached f (done {vs = vs} k s)) =
       arguments_coerced o f k s
       (arguments_have (kinds_in table) (given_in (read variables vs)) (variable_dues (read document rs) op) (placed input_document (read document rs) row) (arguments_at input_document (read document rs) row)
       (argument_dues (field_at (table_of table) (read document rs) row)))
 
   pub open_end : (call : Call) (e : Ending) → OpenEnd table (read document rs) op call variables e → EndFor call table document name variables e
   open_end Variables e h = variables_end h
-  open_end (Arguments row) e h = arguments-end h
+  open_end (Arguments row) e h = arguments_end h
 
 module _ (table document name variables rows book : List ℕ) where
   pub ready_standing : {n op : ℕ} → Ready table document name rows book n op → Standing table book document rows n op

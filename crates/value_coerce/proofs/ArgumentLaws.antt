@@ -18,12 +18,12 @@ use Rattle.value_entries.specs.Entered.{dues_by}
 use Rattle.value_coerce.specs.Coercing.{slim_due}
 
 module _ (kinds : Name → Kind) (i : At) (gs : List Given) where
-  lacks-same : (xs : List Argument) → due_fields (λ d rest. orDefault kinds i d d.default rest) gs (map due_argument xs) ≡ due_fields (missing_due i) gs (map due_argument xs)
-  lacks-same [] = refl
-  lacks-same (x ∷ xs) = ap (λ (r : Out Pairs). due_field (missing_due i (due_argument x) r) (due_argument x) (entry_of x.name gs) r) (lacks-same xs)
+  lacks_same : (xs : List Argument) → due_fields (λ d rest. orDefault kinds i d d.default rest) gs (map due_argument xs) ≡ due_fields (missing_due i) gs (map due_argument xs)
+  lacks_same [] = refl
+  lacks_same (x ∷ xs) = ap (λ (r : Out Pairs). due_field (missing_due i (due_argument x) r) (due_argument x) (entry_of x.name gs) r) (lacks_same xs)
 
   pub arguments_same : (hs : List Head) (xs : List Argument) → in_object (λ d rest. orDefault kinds i d d.default rest) hs gs (map due_argument xs) ≡ in_object (missing_due i) hs gs (map due_argument xs)
-  arguments_same hs xs = ap (λ (o : Out Pairs). unless (repeated_entry [] hs) reason_repeated (unless (unknown_entry (map due_argument xs) hs) reason_unknown (and_then o (λ (ps : Pairs). Got (Fields ps))))) (lacks-same xs)
+  arguments_same hs xs = ap (λ (o : Out Pairs). unless (repeated_entry [] hs) reason_repeated (unless (unknown_entry (map due_argument xs) hs) reason_unknown (and_then o (λ (ps : Pairs). Got (Fields ps))))) (lacks_same xs)
 
 -- what the arguments in a content make due
 gathered : (xs : List Argument) → gather (λ a. due_argument a ∷ []) xs ≡ map due_argument xs

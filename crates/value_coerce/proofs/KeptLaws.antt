@@ -88,35 +88,35 @@ module _ (x i f s b d o : Out Tree) (e : List Name → Out Tree) (n : List Due �
   table_filled x' i' f' s' b' d' o' e' n' (Input ds) = n' ds
 
 module _ (kinds : Name → Kind) (vars : Vars) where
-  list-filled : (o : Out Trees) → filled (and_then o (λ ts. Got (Many ts))) ≡ true
-  list-filled (Got ts) = refl
-  list-filled (No i w) = refl
+  list_filled : (o : Out Trees) → filled (and_then o (λ ts. Got (Many ts))) ≡ true
+  list_filled (Got ts) = refl
+  list_filled (No i w) = refl
 
-  one-filled : (o : Out Tree) → filled (and_then o (λ t. Got (Many (also t no_more)))) ≡ true
-  one-filled (Got t) = refl
-  one-filled (No i w) = refl
+  one_filled : (o : Out Tree) → filled (and_then o (λ t. Got (Many (also t no_more)))) ≡ true
+  one_filled (Got t) = refl
+  one_filled (No i w) = refl
 
-  single-filled : (f : Kind → Out Tree) → ((k : Kind) → filled (f k) ≡ true) → (r : Ref) → filled (single kinds vars f r) ≡ true
-  single-filled f g (named n) = g (kinds n)
-  single-filled f g (list_of r) = one-filled (single kinds vars f r)
-  single-filled f g (non_null r) = single-filled f g r
+  single_filled : (f : Kind → Out Tree) → ((k : Kind) → filled (f k) ≡ true) → (r : Ref) → filled (single kinds vars f r) ≡ true
+  single_filled f g (named n) = g (kinds n)
+  single_filled f g (list_of r) = one_filled (single kinds vars f r)
+  single_filled f g (non_null r) = single_filled f g r
 
-  several-filled : (i : At) (items : Ref → Out Trees) (r : Ref) → filled (several kinds vars i items r) ≡ true
-  several-filled i items (named n) = refl
-  several-filled i items (list_of r) = list-filled (items r)
-  several-filled i items (non_null r) = several-filled i items r
+  several_filled : (i : At) (items : Ref → Out Trees) (r : Ref) → filled (several kinds vars i items r) ≡ true
+  several_filled i items (named n) = refl
+  several_filled i items (list_of r) = list_filled (items r)
+  several_filled i items (non_null r) = several_filled i items r
 
-  plain-filled : (v : Value) (r : Ref) → plain_value v ≡ true → filled (coerce kinds vars v r) ≡ true
+  plain_filled : (v : Value) (r : Ref) → plain_value v ≡ true → filled (coerce kinds vars v r) ≡ true
   unfolding coerce
-  plain-filled (variable i n) r e = absurd (let z : ◌≡◌ {A = ℕ} 0 1 = cc in omega arith)
-  plain-filled (integer i s) r e = single-filled (integer_at i s) (table_filled _ _ _ _ _ _ _ _ _ refl (range_filled i Bits (int_of s) (λ x. refl)) (range_filled i Decimal (float_content true s) (λ x. refl)) refl refl refl refl (λ ms. refl) (λ ds. refl)) r
-  plain-filled (float i s) r e = single-filled (float_at i s) (table_filled _ _ _ _ _ _ _ _ _ refl refl (range_filled i Decimal (float_content false s) (λ x. refl)) refl refl refl refl (λ ms. refl) (λ ds. refl)) r
-  plain-filled (string i s cs) r e = single-filled (string_at i s cs) (table_filled _ _ _ _ _ _ _ _ _ refl refl refl (text_filled i cs) refl (text_filled i cs) refl (λ ms. refl) (λ ds. refl)) r
-  plain-filled (boolean i b) r e = single-filled (boolean_at i b) (table_filled _ _ _ _ _ _ _ _ _ refl refl refl refl refl refl refl (λ ms. refl) (λ ds. refl)) r
-  plain-filled (null i) r e = absurd (let z : ◌≡◌ {A = ℕ} 0 1 = cc in omega arith)
-  plain-filled (enum i n) r e = single-filled (enum_at i n) (table_filled _ _ _ _ _ _ _ _ _ refl refl refl refl refl refl refl (λ ms. member_filled i n ms) (λ ds. refl)) r
-  plain-filled (list i vs) r e = several-filled i (λ q. coerce_all kinds vars vs q) r
-  plain-filled (object i es) r e = single-filled (object_at i (in_object (missing_due i) (heads es) (givens kinds vars es))) (table_filled _ _ _ _ _ _ _ _ _ refl refl refl refl refl refl refl (λ ms. refl) (λ ds. object_filled (missing_due i) (heads es) (givens kinds vars es) ds)) r
+  plain_filled (variable i n) r e = absurd (let z : ◌≡◌ {A = ℕ} 0 1 = cc in omega arith)
+  plain_filled (integer i s) r e = single_filled (integer_at i s) (table_filled _ _ _ _ _ _ _ _ _ refl (range_filled i Bits (int_of s) (λ x. refl)) (range_filled i Decimal (float_content true s) (λ x. refl)) refl refl refl refl (λ ms. refl) (λ ds. refl)) r
+  plain_filled (float i s) r e = single_filled (float_at i s) (table_filled _ _ _ _ _ _ _ _ _ refl refl (range_filled i Decimal (float_content false s) (λ x. refl)) refl refl refl refl (λ ms. refl) (λ ds. refl)) r
+  plain_filled (string i s cs) r e = single_filled (string_at i s cs) (table_filled _ _ _ _ _ _ _ _ _ refl refl refl (text_filled i cs) refl (text_filled i cs) refl (λ ms. refl) (λ ds. refl)) r
+  plain_filled (boolean i b) r e = single_filled (boolean_at i b) (table_filled _ _ _ _ _ _ _ _ _ refl refl refl refl refl refl refl (λ ms. refl) (λ ds. refl)) r
+  plain_filled (null i) r e = absurd (let z : ◌≡◌ {A = ℕ} 0 1 = cc in omega arith)
+  plain_filled (enum i n) r e = single_filled (enum_at i n) (table_filled _ _ _ _ _ _ _ _ _ refl refl refl refl refl refl refl (λ ms. member_filled i n ms) (λ ds. refl)) r
+  plain_filled (list i vs) r e = several_filled i (λ q. coerce_all kinds vars vs q) r
+  plain_filled (object i es) r e = single_filled (object_at i (in_object (missing_due i) (heads es) (givens kinds vars es))) (table_filled _ _ _ _ _ _ _ _ _ refl refl refl refl refl refl refl (λ ms. refl) (λ ds. object_filled (missing_due i) (heads es) (givens kinds vars es) ds)) r
 
 -- ---- a variable's place
 
@@ -147,26 +147,26 @@ module _ (t : List ℕ) (vars : Vars) (text there : ℕ) (d : Doc) (n row i limi
   level : valueOfRow there d row ≡ valueBy there d (value_at there d 32) row
   level = at_level there d 33 row (λ (e : 33 ≡ 0). omega (arith, e))
 
-  is-null : (kind_of d row ≡ kind_null) ⊎ (kind_of d row ≡ kind_variable) → tree ≡ Null
+  is_null : (kind_of d row ≡ kind_null) ⊎ (kind_of d row ≡ kind_variable) → tree ≡ Null
   unfolding coerce
-  is-null (inl e) = null_is (placed there d row) ref tree (sym (ap (λ (v : Value). constant (kinds_in t) v ref) (level ∙ value_null there d (value_at there d 32) row e)) ∙ k.is)
-  is-null (inr e) = null_is (placed there d row) ref tree (sym (ap (λ (v : Value). constant (kinds_in t) v ref) (level ∙ value_variable there d (value_at there d 32) row e)) ∙ k.is)
+  is_null (inl e) = null_is (placed there d row) ref tree (sym (ap (λ (v : Value). constant (kinds_in t) v ref) (level ∙ value_null there d (value_at there d 32) row e)) ∙ k.is)
+  is_null (inr e) = null_is (placed there d row) ref tree (sym (ap (λ (v : Value). constant (kinds_in t) v ref) (level ∙ value_variable there d (value_at there d 32) row e)) ∙ k.is)
 
   pub kept_null : (kind_of d row ≡ kind_null) ⊎ (kind_of d row ≡ kind_variable) → Told text limit (null_at (placed_at text i) r) from p p' c → Goal
-  kept_null e f = subst (λ (x : Tree). Told text limit (stood t vars text i r (some x)) from p p' c) (sym (is-null e)) f
+  kept_null e f = subst (λ (x : Tree). Told text limit (stood t vars text i r (some x)) from p p' c) (sym (is_null e)) f
 
   module _ (q : (kind_of d row ≡ kind_null) ⊎ (kind_of d row ≡ kind_variable) → ⊥) where
-    is-filled : filled (Got tree) ≡ true
-    is-filled = ap filled (sym k.is) ∙ plain-filled (kinds_in t) (λ m. none) (valueOfRow there d row) ref (ap plain_value level ∙ row_plain there d (value_at there d 32) row (λ (e : kind_of d row ≡ kind_variable). q (inr e)) (λ (e : kind_of d row ≡ kind_null). q (inl e)))
+    is_filled : filled (Got tree) ≡ true
+    is_filled = ap filled (sym k.is) ∙ plain_filled (kinds_in t) (λ m. none) (valueOfRow there d row) ref (ap plain_value level ∙ row_plain there d (value_at there d 32) row (λ (e : kind_of d row ≡ kind_variable). q (inr e)) (λ (e : kind_of d row ≡ kind_null). q (inl e)))
 
-    by-tree : Told text limit (Got tree) from p p' c → Goal
-    by-tree g = subst (λ (o : Out Tree). Told text limit o from p p' c) (sym (stood_is t vars text i r tree is-filled)) g
+    by_tree : Told text limit (Got tree) from p p' c → Goal
+    by_tree g = subst (λ (o : Out Tree). Told text limit o from p p' c) (sym (stood_is t vars text i r tree is_filled)) g
 
     pub kept_value : Told there limit (coerce (kinds_in t) (λ m. none) (valueOfRow there d row) ref) from p p' c → Goal
-    kept_value g = by-tree (subst (λ (o : Out Tree). Told there limit o from p p' c) k.is g)
+    kept_value g = by_tree (subst (λ (o : Out Tree). Told there limit o from p p' c) k.is g)
 
     pub kept_full : limit < from → from ≤ limit + 1 → c ≡ UpTo from → Goal
-    kept_full l m e = by-tree (from, e, (full (length (encode tree)), λ h. absurd (omega (arith, h, l))))
+    kept_full l m e = by_tree (from, e, (full (length (encode tree)), λ h. absurd (omega (arith, h, l))))
       where
         full : (x : ℕ) → from ≡ place_of limit (from + x)
         full x = let z : limit < from + x = omega arith in let y : from ≡ limit + 1 = omega arith in y ∙ rw (lt-leb (from + x) limit z) refl

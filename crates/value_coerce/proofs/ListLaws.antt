@@ -6,7 +6,7 @@ use native.Mathlib.Omega.{arith}
 use Rattle.paper_table.specs.References.{Ref}
 use Rattle.paper_query.specs.Constructs.{Doc, parent_of}
 use Rattle.paper_values.specs.ValueNumbers.{tag_list}
-use Rattle.paper_values.specs.Values.{Name, Value, null, Values, no-values, item, Tree, Many, Trees, no_more, also, Out, Got, No, and_then}
+use Rattle.paper_values.specs.Values.{Name, Value, null, Values, no_values, item, Tree, Many, Trees, no_more, also, Out, Got, No, and_then}
 use Rattle.paper_values.specs.Kinds.{Kind}
 use Rattle.paper_values.specs.Computed.{coerce, coerce_all}
 use Rattle.paper_values.specs.Encoding.{encode, encode_all}
@@ -61,8 +61,8 @@ module _ (text : ℕ) (d : Doc) (read : ℕ → Value) (n h b c : ℕ) (e : c �
   found : Next d h text read (n - b) b c
   found = subst (λ (x : ℕ). Next d h text read (n - b) b x) (sym e) (child_next d h text read (n - b) b)
 
-  items-skip : itemsFrom text d read h (n - b) b ≡ itemsFrom text d read h (n - c) c
-  items-skip =
+  items_skip : itemsFrom text d read h (n - b) b ≡ itemsFrom text d read h (n - c) c
+  items_skip =
       let l : b ≤ c = found.least in let m : c ≤ b + (n - b) = found.most in
       let z : b + (n - b) - c ≡ n - c = omega (arith, l, m) in
       found.same_items ∙ ap (λ (m : ℕ). itemsFrom text d read h m c) z
@@ -79,7 +79,7 @@ module _ (t : List ℕ) (vars : Vars) (text : ℕ) (d : Doc) (n k h : ℕ) (r : 
     pub rest : items_at t vars text d n k h (h + 1) r ≡ and_then (items_at t vars text d n k h c r) (λ (ts : Trees). Got (join_trees done ts))
 
   skip : (b c : ℕ) → c ≡ child_at d h (n - b) b → items_at t vars text d n k h b r ≡ items_at t vars text d n k h c r
-  skip b c e = ap (λ (vs : Values). coerce_all (kinds_in t) vars vs r) (items-skip text d (value_at text d k) n h b c e)
+  skip b c e = ap (λ (vs : Values). coerce_all (kinds_in t) vars vs r) (items_skip text d (value_at text d k) n h b c e)
 
   pub list_start : (at c : ℕ) → at ≡ place_of limit (from + 3) → c ≡ child_at d h (n - (h + 1)) (h + 1) → Listed p₀ at c
   list_start at c a e = record {

@@ -160,8 +160,8 @@ module _ (t : List ℕ) (vars : Vars) (text : ℕ) (d : Doc) (n k kind h : ℕ) 
       turned : fieldsFrom a ≡ and_then (stepped t vars text d n k kind h δ) (λ (ps : Pairs). and_then (fieldsFrom stop) (λ (qs : Pairs). Got (join_pairs ps qs)))
       turned = ap (due_fields (missing_due (placed_at text h)) (givens_at t vars text d n k kind h)) e ∙ fields_first (placed_at text h) (givens_at t vars text d n k kind h) δ (dues stop)
 
-      by-step : (o : Out Pairs) → stepped t vars text d n k kind h δ ≡ o → fieldsFrom start ≡ and_then (and_then o (λ (ps : Pairs). and_then (fieldsFrom stop) (λ (qs : Pairs). Got (join_pairs ps qs)))) (λ (ps : Pairs). Got (join_pairs g.done ps))
-      by-step o q = g.rest ∙ ap (λ (y : Out Pairs). and_then y (λ (ps : Pairs). Got (join_pairs g.done ps))) (turned ∙ ap (λ (y : Out Pairs). and_then y (λ (ps : Pairs). and_then (fieldsFrom stop) (λ (qs : Pairs). Got (join_pairs ps qs)))) q)
+      by_step : (o : Out Pairs) → stepped t vars text d n k kind h δ ≡ o → fieldsFrom start ≡ and_then (and_then o (λ (ps : Pairs). and_then (fieldsFrom stop) (λ (qs : Pairs). Got (join_pairs ps qs)))) (λ (ps : Pairs). Got (join_pairs g.done ps))
+      by_step o q = g.rest ∙ ap (λ (y : Out Pairs). and_then y (λ (ps : Pairs). Got (join_pairs g.done ps))) (turned ∙ ap (λ (y : Out Pairs). and_then y (λ (ps : Pairs). and_then (fieldsFrom stop) (λ (qs : Pairs). Got (join_pairs ps qs)))) q)
 
       pub fields_step : (p' : List ℕ) (x : Coerced) (next : ℕ) → ToldPairs text limit (stepped t vars text d n k kind h δ) at p p' x → x ≡ UpTo next → Fielded p' next stop
       fields_step p' x next w u =
@@ -170,14 +170,14 @@ module _ (t : List ℕ) (vars : Vars) (text : ℕ) (d : Doc) (n k kind h : ℕ) 
             done = join_pairs g.done z.0;
             put = put_as limit (encode_pairs g.done ++ encode_pairs z.0) (encode_pairs (join_pairs g.done z.0)) (place_of limit (from + 3)) p₀ p' next (sym (encode_join g.done z.0))
                 (put_then limit (encode_pairs g.done) (encode_pairs z.0) (place_of limit (from + 3)) at next p₀ p p' g.put z.2);
-            rest = by-step (Got z.0) z.1 ∙ join_more g.done z.0 (fieldsFrom stop);
+            rest = by_step (Got z.0) z.1 ∙ join_more g.done z.0 (fieldsFrom stop);
           }
 
       pub fields_stop : (p' : List ℕ) (x : Coerced) (row why : ℕ) → ToldPairs text limit (stepped t vars text d n k kind h δ) at p p' x → x ≡ Refused row why →
           Told text limit (and_then (fieldsFrom start) (λ (ps : Pairs). Got (Fields ps))) from p₀ p' x
       fields_stop p' x row why w u =
           let z = pairs_no text limit at p p' x (stepped t vars text d n k kind h δ) row why w u in
-          subst (λ (o : Out Pairs). Told text limit (and_then o (λ (ps : Pairs). Got (Fields ps))) from p₀ p' x) (sym (by-step (No z.0 z.1) z.2)) (z.3, z.4)
+          subst (λ (o : Out Pairs). Told text limit (and_then o (λ (ps : Pairs). Got (Fields ps))) from p₀ p' x) (sym (by_step (No z.0 z.1) z.2)) (z.3, z.4)
 
     pub fields_end : (p' : List ℕ) (e : ℕ) → dues a ≡ [] → Closed limit from tag_input at p p' e → Told text limit (and_then (fieldsFrom start) (λ (ps : Pairs). Got (Fields ps))) from p₀ p' (UpTo e)
     fields_end p' e q m =

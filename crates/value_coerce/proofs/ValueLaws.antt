@@ -51,17 +51,17 @@ alone_plain (list i vs) e = refl
 alone_plain (object i es) e = refl
 
 module _ (kinds : Name → Kind) (vars : Vars) where
-  at-non-null : (v : Value) (r : Ref) → plain_value v ≡ true → coerce kinds vars v (non_null r) ≡ coerce kinds vars v r
+  at_non_null : (v : Value) (r : Ref) → plain_value v ≡ true → coerce kinds vars v (non_null r) ≡ coerce kinds vars v r
   unfolding coerce
-  at-non-null (variable i n) r e = absurd (let z : ◌≡◌ {A = ℕ} 0 1 = cc in omega arith)
-  at-non-null (integer i s) r e = refl
-  at-non-null (float i s) r e = refl
-  at-non-null (string i s cs) r e = refl
-  at-non-null (boolean i b) r e = refl
-  at-non-null (null i) r e = absurd (let z : ◌≡◌ {A = ℕ} 0 1 = cc in omega arith)
-  at-non-null (enum i n) r e = refl
-  at-non-null (list i vs) r e = refl
-  at-non-null (object i es) r e = refl
+  at_non_null (variable i n) r e = absurd (let z : ◌≡◌ {A = ℕ} 0 1 = cc in omega arith)
+  at_non_null (integer i s) r e = refl
+  at_non_null (float i s) r e = refl
+  at_non_null (string i s cs) r e = refl
+  at_non_null (boolean i b) r e = refl
+  at_non_null (null i) r e = absurd (let z : ◌≡◌ {A = ℕ} 0 1 = cc in omega arith)
+  at_non_null (enum i n) r e = refl
+  at_non_null (list i vs) r e = refl
+  at_non_null (object i es) r e = refl
 
   at_one : (v : Value) (r : Ref) → alone v ≡ true → coerce kinds vars v (list_of r) ≡ and_then (coerce kinds vars v r) (λ x. Got (Many (also x no_more)))
   unfolding coerce
@@ -77,16 +77,16 @@ module _ (kinds : Name → Kind) (vars : Vars) where
 
 module _ (kinds : Name → Kind) (vars : Vars) (v : Value) where
   -- Non-Null outside says nothing of what is not null
-  plain-nullable : plain_value v ≡ true → (r : Ref) → coerce kinds vars v r ≡ coerce kinds vars v (nullable_of r)
-  plain-nullable e (named n) = refl
-  plain-nullable e (list_of r) = refl
-  plain-nullable e (non_null r) = at-non-null kinds vars v r e ∙ plain-nullable e r
+  plain_nullable : plain_value v ≡ true → (r : Ref) → coerce kinds vars v r ≡ coerce kinds vars v (nullable_of r)
+  plain_nullable e (named n) = refl
+  plain_nullable e (list_of r) = refl
+  plain_nullable e (non_null r) = at_non_null kinds vars v r e ∙ plain_nullable e r
 
   -- what is no list, at a type: the value at its base, in as many lists of one as the type has
-  single-ones : alone v ≡ true → (r : Ref) → coerce kinds vars v r ≡ ones (lists_of r) (coerce kinds vars v (named (base_of r)))
-  single-ones e (named n) = refl
-  single-ones e (list_of r) = at_one kinds vars v r e ∙ ap (λ (o : Out Tree). and_then o (λ x. Got (Many (also x no_more)))) (single-ones e r)
-  single-ones e (non_null r) = at-non-null kinds vars v r (alone_plain v e) ∙ single-ones e r
+  single_ones : alone v ≡ true → (r : Ref) → coerce kinds vars v r ≡ ones (lists_of r) (coerce kinds vars v (named (base_of r)))
+  single_ones e (named n) = refl
+  single_ones e (list_of r) = at_one kinds vars v r e ∙ ap (λ (o : Out Tree). and_then o (λ x. Got (Many (also x no_more)))) (single_ones e r)
+  single_ones e (non_null r) = at_non_null kinds vars v r (alone_plain v e) ∙ single_ones e r
 
 no_list_at : (kinds : Name → Kind) (vars : Vars) (i : At) (vs : Values) (m : Name) → coerce kinds vars (list i vs) (named m) ≡ No i reason_kind
 unfolding coerce
@@ -107,9 +107,9 @@ module _ (text : ℕ) (d : Doc) (read : ℕ → Value) (i : ℕ) where
       (pick plain_value (eqb (kind_of d i) kind_integer) _ _ refl (pick plain_value (eqb (kind_of d i) kind_float) _ _ refl (pick plain_value (eqb (kind_of d i) kind_string) _ _ refl
       (pick plain_value (eqb (kind_of d i) kind_boolean) _ _ refl (pick plain_value (eqb (kind_of d i) kind_enum) _ _ refl (pick plain_value (eqb (kind_of d i) kind_list) _ _ refl refl))))))
 
-  row-alone : (kind_of d i ≡ kind_variable → ⊥) → (kind_of d i ≡ kind_null → ⊥) → (kind_of d i ≡ kind_list → ⊥) → alone (valueBy text d read i) ≡ true
+  row_alone : (kind_of d i ≡ kind_variable → ⊥) → (kind_of d i ≡ kind_null → ⊥) → (kind_of d i ≡ kind_list → ⊥) → alone (valueBy text d read i) ≡ true
   unfolding valueBy
-  row-alone a b c = rw (ne_eqb (kind_of d i) kind_variable a, ne_eqb (kind_of d i) kind_null b, ne_eqb (kind_of d i) kind_list c)
+  row_alone a b c = rw (ne_eqb (kind_of d i) kind_variable a, ne_eqb (kind_of d i) kind_null b, ne_eqb (kind_of d i) kind_list c)
       (pick alone (eqb (kind_of d i) kind_integer) _ _ refl (pick alone (eqb (kind_of d i) kind_float) _ _ refl (pick alone (eqb (kind_of d i) kind_string) _ _ refl
       (pick alone (eqb (kind_of d i) kind_boolean) _ _ refl (pick alone (eqb (kind_of d i) kind_enum) _ _ refl refl)))))
 
@@ -156,26 +156,26 @@ module _ (t book : List ℕ) (vars : Vars) (text : ℕ) (d : Doc) (k i sort numb
     pub told_kind : (u : ℕ) → pack_of (nullable_of r) ≡ u → (u % 4 ≡ 2 → ⊥) → (u % 4 ≡ 1 → ⊥) → kind_of d i ≡ kind_list → c ≡ Refused i reason_kind → Goal
     told_kind u e a b l x =
         let z : nullable_of r ≡ named (base_of (nullable_of r)) = pack_named (nullable_of r) (λ (y : pack_of (nullable_of r) % 4 ≡ 2). a (ap (λ (v : ℕ). v % 4) (sym e) ∙ y)) (λ (y : pack_of (nullable_of r) % 4 ≡ 1). b (ap (λ (v : ℕ). v % 4) (sym e) ∙ y)) in
-        by_out (No (placed_at text i) reason_kind) (plain-nullable (kinds_in t) vars (value_at text d k i) is_plain r ∙ ap (λ (s : Ref). coerced t vars text d k i s) z
+        by_out (No (placed_at text i) reason_kind) (plain_nullable (kinds_in t) vars (value_at text d k i) is_plain r ∙ ap (λ (s : Ref). coerced t vars text d k i s) z
         ∙ ap (λ (v : Value). coerce (kinds_in t) vars v (named (base_of (nullable_of r)))) (at_level text d k i q ∙ value_list text d (value_at text d (k - 1)) i l)
         ∙ no_list_at (kinds_in t) vars (placed text d i) (itemsFrom text d (value_at text d (k - 1)) i (count d - (i + 1)) (i + 1)) (base_of (nullable_of r))) (refl, x)
 
     -- a value of another kind is a list of one at each depth
     pub told_single : (kind_of d i ≡ kind_list → ⊥) → (m : ℕ) → m ≡ lists_of r → Told text limit (ones m (coerced t vars text d k i (named (base_of r)))) from p p' c → Goal
     told_single nl m e f =
-        by_out (ones m (coerced t vars text d k i (named (base_of r)))) (single-ones (kinds_in t) vars (value_at text d k i) (ap alone (at_level text d k i q) ∙ row-alone text d (value_at text d (k - 1)) i nv nn nl) r
+        by_out (ones m (coerced t vars text d k i (named (base_of r)))) (single_ones (kinds_in t) vars (value_at text d k i) (ap alone (at_level text d k i q) ∙ row_alone text d (value_at text d (k - 1)) i nv nn nl) r
         ∙ ap (λ (x : ℕ). ones x (coerced t vars text d k i (named (base_of r)))) (sym e)) f
 
     pub told_list : (n u : ℕ) → count d ≡ n → pack_of (nullable_of r) ≡ u → u % 4 ≡ 1 → kind_of d i ≡ kind_list → ((s : Ref) → DueIs t book s sort number (u / 4) → Told text limit (listed t vars text d n (k - 1) i s) from p p' c) → Goal
     told_list n u m e y l f =
         let z = pack_list (nullable_of r) (ap (λ (x : ℕ). x % 4) e ∙ y) in
-        by_out (listed t vars text d n (k - 1) i z.0) (plain-nullable (kinds_in t) vars (value_at text d k i) is_plain r ∙ ap (λ (s : Ref). coerced t vars text d k i s) z.1
+        by_out (listed t vars text d n (k - 1) i z.0) (plain_nullable (kinds_in t) vars (value_at text d k i) is_plain r ∙ ap (λ (s : Ref). coerced t vars text d k i s) z.1
         ∙ ap (λ (v : Value). coerce (kinds_in t) vars v (list_of z.0)) (at_level text d k i q ∙ value_list text d (value_at text d (k - 1)) i l ∙ ap (λ (x : ℕ). list (placed text d i) (itemsFrom text d (value_at text d (k - 1)) i (x - (i + 1)) (i + 1))) m)
         ∙ list_at (kinds_in t) vars (placed text d i) (itemsFrom text d (value_at text d (k - 1)) i (n - (i + 1)) (i + 1)) z.0) (f z.0 (same_base t book r z.0 sort number w (u / 4) (z.3 ∙ base_nullable r) (z.2 ∙ ap (λ (x : ℕ). x / 4) e) δ))
 
     module _ (a : w % 4 ≡ 2 → ⊥) (b : w % 4 ≡ 1 → ⊥) where
-      is-named : r ≡ named (base_of r)
-      is-named = pack_named r (λ (e : pack_of r % 4 ≡ 2). a (ap (λ (x : ℕ). x % 4) (sym δ.packs) ∙ e)) (λ (e : pack_of r % 4 ≡ 1). b (ap (λ (x : ℕ). x % 4) (sym δ.packs) ∙ e))
+      is_named : r ≡ named (base_of r)
+      is_named = pack_named r (λ (e : pack_of r % 4 ≡ 2). a (ap (λ (x : ℕ). x % 4) (sym δ.packs) ∙ e)) (λ (e : pack_of r % 4 ≡ 1). b (ap (λ (x : ℕ). x % 4) (sym δ.packs) ∙ e))
 
       pub told_object : (n : ℕ) (ds : List Due) → count d ≡ n → takes_fields (kind_of d i) sort ≡ true → ds ≡ dues_of (definition_on t number).members → Told text limit (objected t vars text d n (k - 1) kind_object_field i ds) from p p' c → Goal
       told_object n ds m e are f =
@@ -183,7 +183,7 @@ module _ (t book : List ℕ) (vars : Vars) (text : ℕ) (d : Doc) (k i sort numb
           let s : sort ≡ 8 = eqb-true sort 8 (first (eqb sort 8) (is_object_kind (kind_of d i)) e) in
           let h : 7 ≤ sort = omega (arith, s) in
           let g : kinds_in t (base_of r) ≡ Input ds = δ.sorted.held h ∙ sort_input (definition_on t number) (sym (ap sort_of (δ.sorted.held h)) ∙ δ.sorted.sort_is ∙ s) ∙ ap Input (sym are) in
-          by_out (objected t vars text d n (k - 1) kind_object_field i ds) (ap (λ (s : Ref). coerced t vars text d k i s) is-named
+          by_out (objected t vars text d n (k - 1) kind_object_field i ds) (ap (λ (s : Ref). coerced t vars text d k i s) is_named
           ∙ ap (λ (v : Value). coerce (kinds_in t) vars v (named (base_of r))) (at_level text d k i q ∙ value_object text d (value_at text d (k - 1)) i o ∙ ap (λ (x : ℕ). object (placed text d i) (entriesFrom text d (value_at text d (k - 1)) kind_object_field i (x - (i + 1)) (i + 1))) m)
           ∙ object_at_is (kinds_in t) vars (placed text d i) (entriesFrom text d (value_at text d (k - 1)) kind_object_field i (n - (i + 1)) (i + 1)) (base_of r) ds g) f
         where
@@ -197,7 +197,7 @@ module _ (t book : List ℕ) (vars : Vars) (text : ℕ) (d : Doc) (k i sort numb
 
       pub told_leaf : (l : Wrote) → c ≡ told i l → ((vars : Vars) (text : ℕ) (read : ℕ → Value) (m : Name) → Sorted t book m sort number → Told text limit (coerce (kinds_in t) vars (valueBy text d read i) (named m)) from p p' (told i l)) → Goal
       told_leaf l e f =
-          by_out (coerce (kinds_in t) vars (valueBy text d (value_at text d (k - 1)) i) (named (base_of r))) (ap (λ (s : Ref). coerced t vars text d k i s) is-named ∙ ap (λ (v : Value). coerce (kinds_in t) vars v (named (base_of r))) (at_level text d k i q))
+          by_out (coerce (kinds_in t) vars (valueBy text d (value_at text d (k - 1)) i) (named (base_of r))) (ap (λ (s : Ref). coerced t vars text d k i s) is_named ∙ ap (λ (v : Value). coerce (kinds_in t) vars v (named (base_of r))) (at_level text d k i q))
           (subst (λ (x : Coerced). Told text limit (coerce (kinds_in t) vars (valueBy text d (value_at text d (k - 1)) i) (named (base_of r))) from p p' x) (sym e) (f vars text (value_at text d (k - 1)) (base_of r) δ.sorted))
 
 -- ---- what the calls ask

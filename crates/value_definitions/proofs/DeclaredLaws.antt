@@ -96,9 +96,9 @@ module _ (s rows : List ℕ) (n v i : ℕ) (e : i ≡ first_at (is_declared v) (
   abbrev there : Row
   there = row_in rows n i
 
-  declared-row : declared_ref (doc_of s rows n) v ≡ ref_of_wrappers most_wrappers (spelt (doc_of s rows n) there) there.extra
+  declared_row : declared_ref (doc_of s rows n) v ≡ ref_of_wrappers most_wrappers (spelt (doc_of s rows n) there) there.extra
   unfolding declared
-  declared-row = go (dec_lt i n)
+  declared_row = go (dec_lt i n)
     where
       first : next_with (is_declared v) (rows_in rows n) 0 ≡ i
       first = next_all (is_declared v) (rows_in rows n) ∙ sym e
@@ -117,7 +117,7 @@ module _ (s rows : List ℕ) (n v i : ℕ) (e : i ≡ first_at (is_declared v) (
       let p = taken_packs Document tt s rows n k i in
       let d = spelt (doc_of s rows n) there in
       let m : part s at size ≡ d = ap (λ (x : ℕ). part s x size) a ∙ ap (part s there.name_start) z in (
-        rw declared-row
+        rw declared_row
             (record { sorted = subst (λ (x : List ℕ). Sorted t book x sort number) (m ∙ sym (base_back d there.extra p)) h; packs = packs_back d there.extra p ∙ sym q }),
         record { there = h.there; few = subst (λ (x : ℕ). x < pack_limit) (sym q) (few_back d there.extra p) },
       )

@@ -32,15 +32,15 @@ end_told e z old new n q a b = subst (λ (y : Ended). (n ≡ end_number y) × (n
 -- ---- the whole
 
 module _ (e : Ended) (value report value' report' : List ℕ) (l : length value ≡ most_coerced) (at : ℕ) (w : at ≡ written_of e) where
-  by-test : (b : Bool) → leb (written_of e) most_coerced ≡ b → (n : ℕ) → Leaves (cond b (yields (take (written_of e) value)) (ends (end_number e) (end_shown e))) value report value' report' n →
+  by_test : (b : Bool) → leb (written_of e) most_coerced ≡ b → (n : ℕ) → Leaves (cond b (yields (take (written_of e) value)) (ends (end_number e) (end_shown e))) value report value' report' n →
       Leaves (ending_of e value) value report value' report' n
-  by-test b q n h = subst (λ (z : Bool). Leaves (cond z (yields (take (written_of e) value)) (ends (end_number e) (end_shown e))) value report value' report' n) (sym q) h
+  by_test b q n h = subst (λ (z : Bool). Leaves (cond z (yields (take (written_of e) value)) (ends (end_number e) (end_shown e))) value report value' report' n) (sym q) h
 
   pub leaves_value : at ≤ most_coerced → value' ≡ cleared at value → report' ≡ filled report_size (accepted ∷ at ∷ []) report → Leaves (ending_of e value) value report value' report' accepted
   leaves_value h v r =
       let t : length (take (written_of e) value) ≡ at = length-take-le (written_of e) value (omega (arith, l, h, w)) ∙ sym w in
-      by-test true (le-leb (written_of e) most_coerced (omega (arith, w, h))) accepted
+      by_test true (le-leb (written_of e) most_coerced (omega (arith, w, h))) accepted
       (refl, v ∙ ap (λ (k : ℕ). cleared k value) w ∙ cleared_filled value (written_of e) l (omega (arith, w, h)), r ∙ ap (λ (k : ℕ). filled report_size (accepted ∷ k ∷ []) report) (sym t))
 
   pub leaves_refusal : (n : ℕ) → most_coerced < at → value' ≡ cleared 0 value → (n ≡ end_number e) × (report' ≡ filled report_size (end_number e ∷ end_shown e) report) → Leaves (ending_of e value) value report value' report' n
-  leaves_refusal n h v r = by-test false (lt-leb (written_of e) most_coerced (omega (arith, w, h))) n (r.0, v ∙ cleared_filled value 0 l (omega arith), r.1)
+  leaves_refusal n h v r = by_test false (lt-leb (written_of e) most_coerced (omega (arith, w, h))) n (r.0, v ∙ cleared_filled value 0 l (omega arith), r.1)

@@ -27,17 +27,17 @@ use Rattle.value_entries.proofs.EntryLaws.{seen_later, seen_step, seen_start, re
 
 -- over rows that are not right below h
 module _ (d : Doc) (h n : ℕ) where
-  child-skip : (c f : ℕ) → c + f ≤ n → ((j : ℕ) → c ≤ j → j < c + f → parent_of d j ≡ h → ⊥) → child_at d h (n - c) c ≡ child_at d h (n - (c + f)) (c + f)
-  child-skip c zero l g = let z : c + 0 ≡ c = omega arith in rw z refl
-  child-skip c (suc f) l g =
+  child_skip : (c f : ℕ) → c + f ≤ n → ((j : ℕ) → c ≤ j → j < c + f → parent_of d j ≡ h → ⊥) → child_at d h (n - c) c ≡ child_at d h (n - (c + f)) (c + f)
+  child_skip c zero l g = let z : c + 0 ≡ c = omega arith in rw z refl
+  child_skip c (suc f) l g =
       let z : c + suc f ≡ c + f + 1 = omega arith in
-      child-skip c f (omega arith) (λ j i m. g j i (omega arith)) ∙ child_on d h n (c + f) (omega arith) (g (c + f) (omega arith) (omega arith)) ∙ ap (λ (x : ℕ). child_at d h (n - x) x) (sym z)
+      child_skip c f (omega arith) (λ j i m. g j i (omega arith)) ∙ child_on d h n (c + f) (omega arith) (g (c + f) (omega arith) (omega arith)) ∙ ap (λ (x : ℕ). child_at d h (n - x) x) (sym z)
 
-  child-to : (c r : ℕ) → c ≤ r → r ≤ n → ((j : ℕ) → c ≤ j → j < r → parent_of d j ≡ h → ⊥) → child_at d h (n - c) c ≡ child_at d h (n - r) r
-  child-to c r l m g = let z : c + (r - c) ≡ r = omega arith in child-skip c (r - c) (omega arith) (λ j i u. g j i (omega arith)) ∙ ap (λ (x : ℕ). child_at d h (n - x) x) z
+  child_to : (c r : ℕ) → c ≤ r → r ≤ n → ((j : ℕ) → c ≤ j → j < r → parent_of d j ≡ h → ⊥) → child_at d h (n - c) c ≡ child_at d h (n - r) r
+  child_to c r l m g = let z : c + (r - c) ≡ r = omega arith in child_skip c (r - c) (omega arith) (λ j i u. g j i (omega arith)) ∙ ap (λ (x : ℕ). child_at d h (n - x) x) z
 
-  child-none : (c : ℕ) → c ≤ n → ((j : ℕ) → c ≤ j → j < n → parent_of d j ≡ h → ⊥) → n ≡ child_at d h (n - c) c
-  child-none c l g = child_end d h n n (omega arith) ∙ sym (child-to c n l (omega arith) g)
+  child_none : (c : ℕ) → c ≤ n → ((j : ℕ) → c ≤ j → j < n → parent_of d j ≡ h → ⊥) → n ≡ child_at d h (n - c) c
+  child_none c l g = child_end d h n n (omega arith) ∙ sym (child_to c n l (omega arith) g)
 
 module _ (s rows : List ℕ) (n : ℕ) (past : List ℕ) (w : Treed s rows n past) (h : ℕ) (low : h < n) where
   parented : Parented (rows_in rows n)
@@ -60,7 +60,7 @@ module _ (s rows : List ℕ) (n : ℕ) (past : List ℕ) (w : Treed s rows n pas
       (ap (parent_of (doc_of s rows n)) (add-one h) ∙ past_first (rows_in rows n) h parented inside (omega arith))
 
   pub first_none : past_of (rows_in rows n) h ≤ h + 1 → n ≡ child_at (doc_of s rows n) h (n - (h + 1)) (h + 1)
-  first_none l = child-none (doc_of s rows n) h n (h + 1) (omega arith) (λ j i m. beyond j m (omega arith))
+  first_none l = child_none (doc_of s rows n) h n (h + 1) (omega arith) (λ j i m. beyond j m (omega arith))
 
   module _ (c : ℕ) (some : c < n) (child : (row_in rows n c).parent ≡ h) where
     behind : h < c
@@ -76,10 +76,10 @@ module _ (s rows : List ℕ) (n : ℕ) (past : List ℕ) (w : Treed s rows n pas
         let here : c < past_of (rows_in rows n) h = past_child (rows_in rows n) h w.nested few c (omega (arith, rows_count rows n)) behind child in
         let most : past_of (rows_in rows n) c < n = omega (arith, past_most (rows_in rows n) h inside, rows_count rows n) in
         child_here (doc_of s rows n) h n (past_of (rows_in rows n) c) most (past_hop (rows_in rows n) h w.nested few c inside behind here child l)
-        ∙ sym (child-to (doc_of s rows n) h n (c + 1) (past_of (rows_in rows n) c) (omega (arith, past_after (rows_in rows n) c)) (omega (arith, most)) within)
+        ∙ sym (child_to (doc_of s rows n) h n (c + 1) (past_of (rows_in rows n) c) (omega (arith, past_after (rows_in rows n) c)) (omega (arith, most)) within)
 
     pub next_none : past_of (rows_in rows n) h ≤ past_of (rows_in rows n) c → n ≡ child_at (doc_of s rows n) h (n - (c + 1)) (c + 1)
-    next_none l = child-none (doc_of s rows n) h n (c + 1) (omega arith) (λ j i m. go j i m (dec_lt j (past_of (rows_in rows n) c)))
+    next_none l = child_none (doc_of s rows n) h n (c + 1) (omega arith) (λ j i m. go j i m (dec_lt j (past_of (rows_in rows n) c)))
       where
         go : (j : ℕ) → c + 1 ≤ j → j < n → Dec (j < past_of (rows_in rows n) c) → parent_of (doc_of s rows n) j ≡ h → ⊥
         go j i m (yes u) = within j i u
@@ -110,19 +110,19 @@ module _ (d : Doc) (h n c r : ℕ) (e : r ≡ child_at d h (n - (c + 1)) (c + 1)
   hop f g = passed d h f (n - (c + 1)) (c + 1) (λ j l i. g j (omega arith) (omega arith)) ∙ ap f (sym e)
 
   module _ (k : ℕ) (l : h ≤ c) where
-    seen-hop : (x : Name) → any_of (same x) (names_before d k h (c + 1 - (h + 1))) ≡ any_of (same x) (names_before d k h (r - (h + 1)))
-    seen-hop x = hop (λ (j : ℕ). any_of (same x) (names_before d k h (j - (h + 1)))) (λ j i m q. sym (seen_step d k h x j (omega arith) ∙ rw (no_entry d k h j (same x (name_of d j)) q) refl))
+    seen_hop : (x : Name) → any_of (same x) (names_before d k h (c + 1 - (h + 1))) ≡ any_of (same x) (names_before d k h (r - (h + 1)))
+    seen_hop x = hop (λ (j : ℕ). any_of (same x) (names_before d k h (j - (h + 1)))) (λ j i m q. sym (seen_step d k h x j (omega arith) ∙ rw (no_entry d k h j (same x (name_of d j)) q) refl))
 
     pub seen_next : (x : Name) → h < c → is_entry d k h c && same x (name_of d c) ≡ false → any_of (same x) (names_before d k h (c - (h + 1))) ≡ false → any_of (same x) (names_before d k h (r - (h + 1))) ≡ false
-    seen_next x i f g = sym (seen-hop x) ∙ seen_step d k h x c i ∙ rw (f, g) refl
+    seen_next x i f g = sym (seen_hop x) ∙ seen_step d k h x c i ∙ rw (f, g) refl
 
     module _ (text : ℕ) (read : ℕ → Value) where
-      repeated-hop : repeated_entry (names_before d k h (c + 1 - (h + 1))) (heads (entriesFrom text d read k h (n - (c + 1)) (c + 1))) ≡ repeated_entry (names_before d k h (r - (h + 1))) (heads (entriesFrom text d read k h (n - r) r))
-      repeated-hop = hop (λ (j : ℕ). repeated_entry (names_before d k h (j - (h + 1))) (heads (entriesFrom text d read k h (n - j) j))) (λ j i m q. repeated_on d k h text read n j (omega arith) m (no_entry d k h j (any_of (same (name_of d j)) (names_before d k h (j - (h + 1)))) q))
+      repeated_hop : repeated_entry (names_before d k h (c + 1 - (h + 1))) (heads (entriesFrom text d read k h (n - (c + 1)) (c + 1))) ≡ repeated_entry (names_before d k h (r - (h + 1))) (heads (entriesFrom text d read k h (n - r) r))
+      repeated_hop = hop (λ (j : ℕ). repeated_entry (names_before d k h (j - (h + 1))) (heads (entriesFrom text d read k h (n - j) j))) (λ j i m q. repeated_on d k h text read n j (omega arith) m (no_entry d k h j (any_of (same (name_of d j)) (names_before d k h (j - (h + 1)))) q))
 
       pub repeated_next : h < c → c < n → is_entry d k h c && any_of (same (name_of d c)) (names_before d k h (c - (h + 1))) ≡ false →
           repeated_entry (names_before d k h (c - (h + 1))) (heads (entriesFrom text d read k h (n - c) c)) ≡ repeated_entry (names_before d k h (r - (h + 1))) (heads (entriesFrom text d read k h (n - r) r))
-      repeated_next i m f = repeated_on d k h text read n c i m f ∙ repeated-hop
+      repeated_next i m f = repeated_on d k h text read n c i m f ∙ repeated_hop
 
       pub unknown_hop : (ds : List Due) → unknown_entry ds (heads (entriesFrom text d read k h (n - (c + 1)) (c + 1))) ≡ unknown_entry ds (heads (entriesFrom text d read k h (n - r) r))
       unknown_hop ds = hop (λ (j : ℕ). unknown_entry ds (heads (entriesFrom text d read k h (n - j) j))) (λ j i m q. unknown_on d k h text read ds (any_of (due_named (name_of d j)) ds) j refl n m (no_entry d k h j (not (any_of (due_named (name_of d j)) ds)) q))
@@ -140,10 +140,10 @@ module _ (d : Doc) (h n c r : ℕ) (e : r ≡ child_at d h (n - (c + 1)) (c + 1)
 -- from row h itself
 module _ (d : Doc) (k h n r : ℕ) (e : r ≡ child_at d h (n - (h + 1)) (h + 1)) where
   pub seen_first : (x : Name) → any_of (same x) (names_before d k h (r - (h + 1))) ≡ false
-  seen_first x = sym (seen-hop d h n h r e k (omega arith) x) ∙ seen_start d k h x
+  seen_first x = sym (seen_hop d h n h r e k (omega arith) x) ∙ seen_start d k h x
 
   pub repeated_first : (text : ℕ) (read : ℕ → Value) → repeated_entry [] (heads (entriesFrom text d read k h (n - (h + 1)) (h + 1))) ≡ repeated_entry (names_before d k h (r - (h + 1))) (heads (entriesFrom text d read k h (n - r) r))
-  repeated_first text read = repeated_start d k h text read n ∙ repeated-hop d h n h r e k (omega arith) text read
+  repeated_first text read = repeated_start d k h text read n ∙ repeated_hop d h n h r e k (omega arith) text read
 
 -- whether a name is seen before row c, from whether it is before row j
 module _ (d : Doc) (k h : ℕ) (x : Name) (j c : ℕ) where

@@ -26,25 +26,25 @@ one_less n c l = omega arith
 
 module _ (d : Doc) (k h : ℕ) where
   -- the names before, one row more
-  names-step : (x : Name) (m : ℕ) → any_of (same x) (names_before d k h (suc m)) ≡ (is_entry d k h (h + 1 + m) && same x (name_of d (h + 1 + m))) || any_of (same x) (names_before d k h m)
+  names_step : (x : Name) (m : ℕ) → any_of (same x) (names_before d k h (suc m)) ≡ (is_entry d k h (h + 1 + m) && same x (name_of d (h + 1 + m))) || any_of (same x) (names_before d k h m)
   unfolding any_of names_before
-  names-step x m = go (is_entry d k h (h + 1 + m))
+  names_step x m = go (is_entry d k h (h + 1 + m))
     where
       go : (b : Bool) → any_of (same x) (cond b (name_of d (h + 1 + m) ∷ names_before d k h m) (names_before d k h m)) ≡ (b && same x (name_of d (h + 1 + m))) || any_of (same x) (names_before d k h m)
       go true = refl
       go false = refl
 
   -- a name that is seen stays seen
-  names-later : (x : Name) (m i : ℕ) → any_of (same x) (names_before d k h m) ≡ true → any_of (same x) (names_before d k h (i + m)) ≡ true
-  names-later x m zero e = let z : 0 + m ≡ m = omega arith in rw z e
-  names-later x m (suc i) e =
+  names_later : (x : Name) (m i : ℕ) → any_of (same x) (names_before d k h m) ≡ true → any_of (same x) (names_before d k h (i + m)) ≡ true
+  names_later x m zero e = let z : 0 + m ≡ m = omega arith in rw z e
+  names_later x m (suc i) e =
       let z : suc i + m ≡ suc (i + m) = omega arith in
-      rw z (names-step x (i + m) ∙ or_true (is_entry d k h (h + 1 + (i + m)) && same x (name_of d (h + 1 + (i + m)))) (any_of (same x) (names_before d k h (i + m))) (names-later x m i e))
+      rw z (names_step x (i + m) ∙ or_true (is_entry d k h (h + 1 + (i + m)) && same x (name_of d (h + 1 + (i + m)))) (any_of (same x) (names_before d k h (i + m))) (names_later x m i e))
 
   pub seen_later : (x : Name) (j c : ℕ) → j ≤ c → any_of (same x) (names_before d k h (j - (h + 1))) ≡ true → any_of (same x) (names_before d k h (c - (h + 1))) ≡ true
   seen_later x j c l e =
       let z : c - (h + 1) ≡ c - (h + 1) - (j - (h + 1)) + (j - (h + 1)) = omega arith in
-      ap (λ (m : ℕ). any_of (same x) (names_before d k h m)) z ∙ names-later x (j - (h + 1)) (c - (h + 1) - (j - (h + 1))) e
+      ap (λ (m : ℕ). any_of (same x) (names_before d k h m)) z ∙ names_later x (j - (h + 1)) (c - (h + 1) - (j - (h + 1))) e
 
   -- one row more
   pub seen_step : (x : Name) (j : ℕ) → h < j →
@@ -52,7 +52,7 @@ module _ (d : Doc) (k h : ℕ) where
   seen_step x j l =
       let z : j + 1 - (h + 1) ≡ suc (j - (h + 1)) = omega arith in
       let y : h + 1 + (j - (h + 1)) ≡ j = omega arith in
-      ap (λ (m : ℕ). any_of (same x) (names_before d k h m)) z ∙ names-step x (j - (h + 1))
+      ap (λ (m : ℕ). any_of (same x) (names_before d k h m)) z ∙ names_step x (j - (h + 1))
       ∙ ap (λ (c : ℕ). (is_entry d k h c && same x (name_of d c)) || any_of (same x) (names_before d k h (j - (h + 1)))) y
 
   pub seen_start : (x : Name) → any_of (same x) (names_before d k h (h + 1 - (h + 1))) ≡ false
@@ -60,10 +60,10 @@ module _ (d : Doc) (k h : ℕ) where
   seen_start x = let z : h + 1 - (h + 1) ≡ 0 = omega arith in rw z refl
 
   module _ (text : ℕ) (read : ℕ → Value) where
-    entries-step : (m c : ℕ) (b : Bool) → is_entry d k h c ≡ b →
+    entries_step : (m c : ℕ) (b : Bool) → is_entry d k h c ≡ b →
         heads (entriesFrom text d read k h (suc m) c) ≡ cond b ((placed text d c, name_of d c) ∷ heads (entriesFrom text d read k h m (c + 1))) (heads (entriesFrom text d read k h m (c + 1)))
     unfolding entriesFrom
-    entries-step m c b e = go (is_entry d k h c) b e
+    entries_step m c b e = go (is_entry d k h c) b e
       where
         go : (a b : Bool) → a ≡ b → heads (cond a (entry (placed text d c) (name_of d c) (read (c + 1)) (entriesFrom text d read k h m (c + 1))) (entriesFrom text d read k h m (c + 1)))
             ≡ cond b ((placed text d c, name_of d c) ∷ heads (entriesFrom text d read k h m (c + 1))) (heads (entriesFrom text d read k h m (c + 1)))
@@ -90,12 +90,12 @@ module _ (d : Doc) (k h : ℕ) where
             repeated_entry (names_before d k h (c - (h + 1))) (heads (entriesFrom text d read k h (n - c) c)) ≡ repeated_entry (names_before d k h (c + 1 - (h + 1))) (heads (entriesFrom text d read k h (n - (c + 1)) (c + 1)))
         go true q f =
             ap (λ (m : ℕ). repeated_entry (names_before d k h (c - (h + 1))) (heads (entriesFrom text d read k h m c))) (one_less n c i)
-            ∙ ap (repeated_entry (names_before d k h (c - (h + 1)))) (entries-step (n - (c + 1)) c true q)
+            ∙ ap (repeated_entry (names_before d k h (c - (h + 1)))) (entries_step (n - (c + 1)) c true q)
             ∙ ap (λ (b : Bool). cond b (some (placed text d c)) (repeated_entry (name_of d c ∷ names_before d k h (c - (h + 1))) (heads (entriesFrom text d read k h (n - (c + 1)) (c + 1))))) f
             ∙ ap (λ (x : List Name). repeated_entry x (heads (entriesFrom text d read k h (n - (c + 1)) (c + 1)))) (sym (names_more c true l q))
         go false q f =
             ap (λ (m : ℕ). repeated_entry (names_before d k h (c - (h + 1))) (heads (entriesFrom text d read k h m c))) (one_less n c i)
-            ∙ ap (repeated_entry (names_before d k h (c - (h + 1)))) (entries-step (n - (c + 1)) c false q)
+            ∙ ap (repeated_entry (names_before d k h (c - (h + 1)))) (entries_step (n - (c + 1)) c false q)
             ∙ ap (λ (x : List Name). repeated_entry x (heads (entriesFrom text d read k h (n - (c + 1)) (c + 1)))) (sym (names_more c false l q))
 
     pub repeated_here : (n c : ℕ) → c < n → is_entry d k h c && any_of (same (name_of d c)) (names_before d k h (c - (h + 1))) ≡ true →
@@ -106,7 +106,7 @@ module _ (d : Doc) (k h : ℕ) where
             repeated_entry (names_before d k h (c - (h + 1))) (heads (entriesFrom text d read k h (n - c) c)) ≡ some (placed text d c)
         go true q f =
             ap (λ (m : ℕ). repeated_entry (names_before d k h (c - (h + 1))) (heads (entriesFrom text d read k h m c))) (one_less n c i)
-            ∙ ap (repeated_entry (names_before d k h (c - (h + 1)))) (entries-step (n - (c + 1)) c true q)
+            ∙ ap (repeated_entry (names_before d k h (c - (h + 1)))) (entries_step (n - (c + 1)) c true q)
             ∙ ap (λ (b : Bool). cond b (some (placed text d c)) (repeated_entry (name_of d c ∷ names_before d k h (c - (h + 1))) (heads (entriesFrom text d read k h (n - (c + 1)) (c + 1))))) f
         go false q f = absurd (let z : ◌≡◌ {A = ℕ} 0 1 = cc in omega arith)
 
@@ -127,10 +127,10 @@ module _ (d : Doc) (k h : ℕ) where
               unknown_entry ds (heads (entriesFrom text d read k h (n - c) c)) ≡ unknown_entry ds (heads (entriesFrom text d read k h (n - (c + 1)) (c + 1)))
           go true q true y g =
               ap (λ (m : ℕ). unknown_entry ds (heads (entriesFrom text d read k h m c))) (one_less n c i)
-              ∙ ap (unknown_entry ds) (entries-step (n - (c + 1)) c true q)
+              ∙ ap (unknown_entry ds) (entries_step (n - (c + 1)) c true q)
               ∙ ap (λ (b : Bool). cond b (unknown_entry ds (heads (entriesFrom text d read k h (n - (c + 1)) (c + 1)))) (some (placed text d c))) y
           go true q false y g = absurd (let z : ◌≡◌ {A = ℕ} 0 1 = cc in omega arith)
-          go false q x y g = ap (λ (m : ℕ). unknown_entry ds (heads (entriesFrom text d read k h m c))) (one_less n c i) ∙ ap (unknown_entry ds) (entries-step (n - (c + 1)) c false q)
+          go false q x y g = ap (λ (m : ℕ). unknown_entry ds (heads (entriesFrom text d read k h m c))) (one_less n c i) ∙ ap (unknown_entry ds) (entries_step (n - (c + 1)) c false q)
 
       pub unknown_here : (n : ℕ) → c < n → is_entry d k h c && not known ≡ true → unknown_entry ds (heads (entriesFrom text d read k h (n - c) c)) ≡ some (placed text d c)
       unknown_here n i f = go (is_entry d k h c) refl known e f
@@ -140,7 +140,7 @@ module _ (d : Doc) (k h : ℕ) where
           go true q true y g = absurd (let z : ◌≡◌ {A = ℕ} 0 1 = cc in omega arith)
           go true q false y g =
               ap (λ (m : ℕ). unknown_entry ds (heads (entriesFrom text d read k h m c))) (one_less n c i)
-              ∙ ap (unknown_entry ds) (entries-step (n - (c + 1)) c true q)
+              ∙ ap (unknown_entry ds) (entries_step (n - (c + 1)) c true q)
               ∙ ap (λ (b : Bool). cond b (unknown_entry ds (heads (entriesFrom text d read k h (n - (c + 1)) (c + 1)))) (some (placed text d c))) y
           go false q x y g = absurd (let z : ◌≡◌ {A = ℕ} 0 1 = cc in omega arith)
 
@@ -215,9 +215,9 @@ module _ (d : Doc) (h : ℕ) where
     pub below : r < c + m → parent_of d r ≡ h
     pub same_items : itemsFrom text d read h m c ≡ itemsFrom text d read h (c + m - r) r
 
-  items-on : (text : ℕ) (read : ℕ → Value) (n j : ℕ) → j < n → (parent_of d j ≡ h → ⊥) → itemsFrom text d read h (n - j) j ≡ itemsFrom text d read h (n - (j + 1)) (j + 1)
+  items_on : (text : ℕ) (read : ℕ → Value) (n j : ℕ) → j < n → (parent_of d j ≡ h → ⊥) → itemsFrom text d read h (n - j) j ≡ itemsFrom text d read h (n - (j + 1)) (j + 1)
   unfolding itemsFrom
-  items-on text read n j i e = ap (λ (m : ℕ). itemsFrom text d read h m j) (one_less n j i) ∙ rw (ne_eqb (parent_of d j) h e) refl
+  items_on text read n j i e = ap (λ (m : ℕ). itemsFrom text d read h m j) (one_less n j i) ∙ rw (ne_eqb (parent_of d j) h e) refl
 
   pub child_next : (text : ℕ) (read : ℕ → Value) (m c : ℕ) → Next text read m c (child_at d h m c)
   child_next text read m c =
@@ -227,7 +227,7 @@ module _ (d : Doc) (h : ℕ) where
         least = p.least;
         most = p.most;
         below = p.below;
-        same_items = ap (λ (x : ℕ). itemsFrom text d read h x c) z ∙ passed (λ (j : ℕ). itemsFrom text d read h (c + m - j) j) m c (λ j l i. items-on text read (c + m) j i);
+        same_items = ap (λ (x : ℕ). itemsFrom text d read h x c) z ∙ passed (λ (j : ℕ). itemsFrom text d read h (c + m - j) j) m c (λ j l i. items_on text read (c + m) j i);
       }
 
 -- the entry of a name among those that are given

@@ -11,7 +11,7 @@ use borrow.Author.Tests.{eq-eqb, ne_eqb, eqb-true, eqb-false, leb-true}
 use Rattle.paper_table.specs.TableNumbers.{tag_object, tag_interface, tag_union, tag_field}
 use Rattle.paper_table.specs.Lists.{all_of, find}
 use Rattle.paper_table.specs.Types.{Member, Definition, table_of, is_object, is_interface, blank_definition, tag_nothing, name_only, type_in as type_of, member_named}
-use Rattle.paper_table.specs.Rule7NoType.{is_field}
+use Rattle.paper_table.specs.Rule7NoType.{is_field_is}
 use Rattle.paper_table.proofs.ListsLaws.{find_some}
 use Rattle.paper_query.proofs.EnclosingLaws.{Composite}
 use Rattle.paper_query.specs.Enclosing.{FieldIs, typename, member, missing, unknown, definition_at, composite_of, field_of, is_typename, or_missing, field_named, selections_type}
@@ -64,18 +64,18 @@ module _ (t book : List ℕ) (b : Booked t book) where
       union_lacks u = rw (eq-eqb (definition_at (table_of t) k).tag tag_union (tag_is ∙ u)) none_missing
 
       module _ (u : get_or book k 0 ≡ tag_union → ⊥) (start end : ℕ) (p : start ≡ start_in book k) (q : end ≡ end_in book k) where
-        members-are : (definition_at (table_of t) k).members ≡ members_in t start end
-        members-are = rw (p, q) (ap (λ (d : Definition). d.members) (b.entered k below).is)
+        members_are : (definition_at (table_of t) k).members ≡ members_in t start end
+        members_are = rw (p, q) (ap (λ (d : Definition). d.members) (b.entered k below).is)
 
-        field-sought : field_of (table_of t) k n ≡ find (member_named n) (members_in t start end)
+        field_sought : field_of (table_of t) k n ≡ find (member_named n) (members_in t start end)
         unfolding field_of
-        field-sought = rw (ne_eqb (definition_at (table_of t) k).tag tag_union (λ z. u (sym tag_is ∙ z))) (ap (find (member_named n)) members-are)
+        field_sought = rw (ne_eqb (definition_at (table_of t) k).tag tag_union (λ z. u (sym tag_is ∙ z))) (ap (find (member_named n)) members_are)
 
         pub field_lacks : find (member_named n) (members_in t start end) ≡ none → Contains t (or_missing (field_of (table_of t) k n)) 0 0
-        field_lacks e = rw (field-sought ∙ e) none_missing
+        field_lacks e = rw (field_sought ∙ e) none_missing
 
-        has-fields : is_object (definition_at (table_of t) k) || is_interface (definition_at (table_of t) k) ≡ true
-        has-fields = go (leb tag_object (definition_at (table_of t) k).tag) refl (leb (definition_at (table_of t) k).tag tag_union) refl o
+        has_fields : is_object (definition_at (table_of t) k) || is_interface (definition_at (table_of t) k) ≡ true
+        has_fields = go (leb tag_object (definition_at (table_of t) k).tag) refl (leb (definition_at (table_of t) k).tag tag_union) refl o
           where
             x : ℕ
             x = (definition_at (table_of t) k).tag
@@ -95,15 +95,15 @@ module _ (t book : List ℕ) (b : Booked t book) where
           bounds = record { order = s.lies.order; within = omega (arith, s.lies.within, q, (b.entered k below).within); most = b.short };
           ends = λ z. absurd (omega (arith, s.lies.begins));
           none = λ z. absurd (omega (arith, s.lies.begins));
-          is = λ h. ap or_missing (field-sought ∙ s.is) ∙ ap (λ (x : ℕ). member (member_from t x from to)) is_field_is;
+          is = λ h. ap or_missing (field_sought ∙ s.is) ∙ ap (λ (x : ℕ). member (member_from t x from to)) is_field_is;
         }
           where
             is_field_is : tag ≡ tag_field
             is_field_is =
                 let a : fields_only (definition_at (table_of t) k) ≡ true = all_at fields_only (blank_definition tag_nothing) (table_of t) f k (omega (arith, below, b.count)) in
-                let m : all_of is_field (members_in t start end) ≡ true = sym (ap (all_of is_field) members-are) ∙ (rw has-fields at a) in
+                let m : all_of is_field_is (members_in t start end) ≡ true = sym (ap (all_of is_field_is) members_are) ∙ (rw has_fields at a) in
                 let z = find_some (member_named n) (members_in t start end) (member_from t tag from to) (name_only tag_nothing []) s.is in
-                let y : is_field (member_from t tag from to) ≡ true = subst (λ (e : Member). is_field e ≡ true) z.2 (all_at is_field (name_only tag_nothing []) (members_in t start end) m z.0 z.1) in
+                let y : is_field_is (member_from t tag from to) ≡ true = subst (λ (e : Member). is_field_is e ≡ true) z.2 (all_at is_field_is (name_only tag_nothing []) (members_in t start end) m z.0 z.1) in
                 sym (member_tag t tag from to) ∙ eqb-true (member_from t tag from to).tag tag_field y
 
   -- what a field is in the type above

@@ -42,25 +42,25 @@ module _ (t : List ℕ) (s : Slim (table_of t)) where
       go (yes h) = all_at slim_definition (table_of t) k (blank_definition tag_nothing) h s
       go (no h) = ap slim_definition (get_or-eq_default (table_of t) (blank_definition tag_nothing) (omega arith))
 
-  found-slim : (k : ℕ) (n : List ℕ) (m : Member) → field_of (table_of t) k n ≡ some m → slim_member m ≡ true
+  found_slim : (k : ℕ) (n : List ℕ) (m : Member) → field_of (table_of t) k n ≡ some m → slim_member m ≡ true
   unfolding field_of
-  found-slim k n m e = go (is_union (definition_at (table_of t) k)) e
+  found_slim k n m e = go (is_union (definition_at (table_of t) k)) e
     where
       go : (b : Bool) → cond b none (find (member_named n) (definition_at (table_of t) k).members) ≡ some m → slim_member m ≡ true
       go true q = let z : ◌≡◌ {A = Option Member} none (some m) = q in let y : true ≡ false = cc in absurd (true≢false y)
       go false q = all_found slim_member (member_named n) (definition_at (table_of t) k).members m q (slim_at k)
 
-  missing-slim : (o : Option Member) (m : Member) → ((x : Member) → o ≡ some x → slim_member x ≡ true) → or_missing o ≡ member m → slim_member m ≡ true
-  missing-slim none m f e = let z : ◌≡◌ {A = FieldIs} missing (member m) = e in let y : true ≡ false = cc in absurd (true≢false y)
-  missing-slim (some x) m f e = let z : x ≡ m = cc in rw (← z) (f x refl)
+  missing_slim : (o : Option Member) (m : Member) → ((x : Member) → o ≡ some x → slim_member x ≡ true) → or_missing o ≡ member m → slim_member m ≡ true
+  missing_slim none m f e = let z : ◌≡◌ {A = FieldIs} missing (member m) = e in let y : true ≡ false = cc in absurd (true≢false y)
+  missing_slim (some x) m f e = let z : x ≡ m = cc in rw (← z) (f x refl)
 
-  member-slim : (above : Option ℕ) (n : List ℕ) (m : Member) → field_named (table_of t) above n ≡ member m → slim_member m ≡ true
-  member-slim none n m e = let z : ◌≡◌ {A = FieldIs} unknown (member m) = e in let y : true ≡ false = cc in absurd (true≢false y)
-  member-slim (some k) n m e = go (is_typename n) e
+  member_slim : (above : Option ℕ) (n : List ℕ) (m : Member) → field_named (table_of t) above n ≡ member m → slim_member m ≡ true
+  member_slim none n m e = let z : ◌≡◌ {A = FieldIs} unknown (member m) = e in let y : true ≡ false = cc in absurd (true≢false y)
+  member_slim (some k) n m e = go (is_typename n) e
     where
       go : (b : Bool) → cond b typename (or_missing (field_of (table_of t) k n)) ≡ member m → slim_member m ≡ true
       go true q = let z : ◌≡◌ {A = FieldIs} typename (member m) = q in let y : true ≡ false = cc in absurd (true≢false y)
-      go false q = missing-slim (field_of (table_of t) k n) m (λ x. found-slim k n x) q
+      go false q = missing_slim (field_of (table_of t) k n) m (λ x. found_slim k n x) q
 
 -- what is no member has no arguments
 no_dues : (f : FieldIs) → ((m : Member) → f ≡ member m → ⊥) → argument_dues f ≡ []
@@ -80,7 +80,7 @@ contains_holds t k d i zero end c = record {
 contains_holds t k d i (suc x) end c = record {
   bounds = c.bounds;
   dues = each_due (arguments_in t (suc x) end) ∙ ap argument_dues (sym is);
-  slim = slim_arguments (field_from t (suc x) end) (member-slim t k.slim (enclosing (table_of t) d i) (name_of d i) (field_from t (suc x) end) is);
+  slim = slim_arguments (field_from t (suc x) end) (member_slim t k.slim (enclosing (table_of t) d i) (name_of d i) (field_from t (suc x) end) is);
 }
   where
     is : field_at (table_of t) d i ≡ member (field_from t (suc x) end)

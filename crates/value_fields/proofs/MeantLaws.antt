@@ -23,10 +23,10 @@ clash op e = let z : ◌≡◌ {A = ℕ} 0 1 = cc in absurd (omega arith)
 
 -- the first of the numbers of rows that pass
 module _ (p : Row → Bool) where
-  passing-first : (rs : List Row) (j op : ℕ) (more : List ℕ) → each_from j (λ i r. only_if (p r) i) rs ≡ op ∷ more → (k : ℕ) × (op ≡ j + k) × (p (get_or rs k no_row) ≡ true)
+  passing_first : (rs : List Row) (j op : ℕ) (more : List ℕ) → each_from j (λ i r. only_if (p r) i) rs ≡ op ∷ more → (k : ℕ) × (op ≡ j + k) × (p (get_or rs k no_row) ≡ true)
   unfolding each_from
-  passing-first [] j op more e = let k : 0 ≡ suc (length more) = ap length e in absurd (omega arith)
-  passing-first (r ∷ rs) j op more e = go (p r) refl e (λ f. passing-first rs (suc j) op more f)
+  passing_first [] j op more e = let k : 0 ≡ suc (length more) = ap length e in absurd (omega arith)
+  passing_first (r ∷ rs) j op more e = go (p r) refl e (λ f. passing_first rs (suc j) op more f)
     where
       go : (b : Bool) → p r ≡ b → only_if b j ++ each_from (suc j) (λ i r. only_if (p r) i) rs ≡ op ∷ more
           → (each_from (suc j) (λ i r. only_if (p r) i) rs ≡ op ∷ more → (k : ℕ) × (op ≡ suc j + k) × (p (get_or rs k no_row) ≡ true))
@@ -34,20 +34,20 @@ module _ (p : Row → Bool) where
       go true q f ih = let z : j ≡ op = cc in (0, omega arith, q)
       go false q f ih = let x = ih f in (suc x.0, omega (arith, x.1), x.2)
 
-  only-passes : (rs : List Row) (op : ℕ) → only_one (each_from 0 (λ i r. only_if (p r) i) rs) ≡ some op → p (get_or rs op no_row) ≡ true
-  only-passes rs op e = go (each_from 0 (λ i r. only_if (p r) i) rs) refl e
+  only_passes : (rs : List Row) (op : ℕ) → only_one (each_from 0 (λ i r. only_if (p r) i) rs) ≡ some op → p (get_or rs op no_row) ≡ true
+  only_passes rs op e = go (each_from 0 (λ i r. only_if (p r) i) rs) refl e
     where
       go : (xs : List ℕ) → each_from 0 (λ i r. only_if (p r) i) rs ≡ xs → only_one xs ≡ some op → p (get_or rs op no_row) ≡ true
       go [] q f = clash op f
       go (i ∷ []) q f =
-          let x = passing-first rs 0 i [] q in
+          let x = passing_first rs 0 i [] q in
           let z : i ≡ op = cc in
           let k : x.0 ≡ op = omega (arith, x.1, z) in
           subst (λ (m : ℕ). p (get_or rs m no_row) ≡ true) k x.2
       go (i ∷ j ∷ more) q f = clash op f
 
-  below-passes : (rs : List Row) (op : ℕ) → if_below (length rs) (first_at p rs) ≡ some op → p (get_or rs op no_row) ≡ true
-  below-passes rs op e = go (ltb (first_at p rs) (length rs)) refl e
+  below_passes : (rs : List Row) (op : ℕ) → if_below (length rs) (first_at p rs) ≡ some op → p (get_or rs op no_row) ≡ true
+  below_passes rs op e = go (ltb (first_at p rs) (length rs)) refl e
     where
       go : (b : Bool) → ltb (first_at p rs) (length rs) ≡ b → cond b (some (first_at p rs)) none ≡ some op → p (get_or rs op no_row) ≡ true
       go true q f =
@@ -59,10 +59,10 @@ module _ (p : Row → Bool) where
 
 pub meant_operation : (d : Doc) (name : List ℕ) (op : ℕ) → operation_meant d name ≡ some op → kind_of d op ≡ kind_operation
 unfolding numbers_where
-meant_operation d [] op e = eqb-true (kind_of d op) kind_operation (only-passes (is kind_operation) d.rows op e)
+meant_operation d [] op e = eqb-true (kind_of d op) kind_operation (only_passes (is kind_operation) d.rows op e)
 meant_operation d (b ∷ bs) op e =
     eqb-true (kind_of d op) kind_operation
-    (and_left (is kind_operation (row_of d op)) (called d (b ∷ bs) (row_of d op)) (below-passes (λ r. is kind_operation r && called d (b ∷ bs) r) d.rows op e))
+    (and_left (is kind_operation (row_of d op)) (called d (b ∷ bs) (row_of d op)) (below_passes (λ r. is kind_operation r && called d (b ∷ bs) r) d.rows op e))
 
 -- so of an operation that is opened
 pub opened_operation : {table document name : List ℕ} {rs : List Row} {op : ℕ} → Opened table document name (opens rs op) → kind_of (read document rs) op ≡ kind_operation

@@ -9,7 +9,7 @@ use lib.Dec.{eqb}
 use borrow.Author.Tests.{eqb-true, eqb-false, eq-eqb, ne_eqb}
 use Rattle.paper.specs.Numbers.{kind_variable}
 use Rattle.paper_query.specs.Constructs.{Doc, kind_of, name_of}
-use Rattle.paper_values.specs.Values.{Name, Value, Entries, no-entries, Due, Tree}
+use Rattle.paper_values.specs.Values.{Name, Value, Entries, no_entries, Due, Tree}
 use Rattle.paper_values.specs.Kinds.{Kind}
 use Rattle.paper_values.specs.Coercion.{heads, repeated_entry, unknown_entry, gone, leftOut}
 use Rattle.paper_values.specs.Computed.{entry_of}
@@ -89,7 +89,7 @@ module _ (s held : List ℕ) (many : ℕ) (d : Doc) (n k kind h : ℕ) (x : Name
 
 -- ---- below a row that is not there
 
-none_below : (text : ℕ) (d : Doc) (read : ℕ → Value) (kind h n : ℕ) → n ≤ h → entriesFrom text d read kind h (n - (h + 1)) (h + 1) ≡ no-entries
+none_below : (text : ℕ) (d : Doc) (read : ℕ → Value) (kind h n : ℕ) → n ≤ h → entriesFrom text d read kind h (n - (h + 1)) (h + 1) ≡ no_entries
 unfolding entriesFrom
 none_below text d read kind h n l = let z : n - (h + 1) ≡ 0 = omega arith in rw z refl
 

@@ -37,13 +37,13 @@ module _ (s held : List ℕ) (x : Name) where
 -- ---- what is held
 
 module _ (t book s rows : List ℕ) (n : ℕ) (s1 rows1 : List ℕ) (n1 : ℕ) (held : List ℕ) where
-  holds-least : (j many : ℕ) (ps : Pairs) → Holds t book s rows n s1 rows1 n1 held j many ps → j ≤ many
-  holds-least j many no_pairs h = omega (arith, h)
-  holds-least j many (pair x y ps) h = let z : j + 1 ≤ many = holds-least (j + 1) many ps h.1 in omega (arith, z)
+  holds_least : (j many : ℕ) (ps : Pairs) → Holds t book s rows n s1 rows1 n1 held j many ps → j ≤ many
+  holds_least j many no_pairs h = omega (arith, h)
+  holds_least j many (pair x y ps) h = let z : j + 1 ≤ many = holds_least (j + 1) many ps h.1 in omega (arith, z)
 
-  holds-names : (j many : ℕ) (ps : Pairs) → Holds t book s rows n s1 rows1 n1 held j many ps → (i : ℕ) → j ≤ i → i < many → cell held i 0 + cell held i 1 ≤ length s
-  holds-names j many no_pairs h i a b = absurd (omega (arith, h, a, b))
-  holds-names j many (pair x y ps) h i a b = go (dec_lt j i) (λ m. holds-names (j + 1) many ps h.1 i m b)
+  holds_names : (j many : ℕ) (ps : Pairs) → Holds t book s rows n s1 rows1 n1 held j many ps → (i : ℕ) → j ≤ i → i < many → cell held i 0 + cell held i 1 ≤ length s
+  holds_names j many no_pairs h i a b = absurd (omega (arith, h, a, b))
+  holds_names j many (pair x y ps) h i a b = go (dec_lt j i) (λ m. holds_names (j + 1) many ps h.1 i m b)
     where
       go : Dec (j < i) → (j + 1 ≤ i → cell held i 0 + cell held i 1 ≤ length s) → cell held i 0 + cell held i 1 ≤ length s
       go (yes l) f = f (omega arith)
@@ -58,7 +58,7 @@ module _ (t book s rows : List ℕ) (n : ℕ) (s1 rows1 : List ℕ) (n1 : ℕ) (
   unfolding held_from
   looks no_pairs x zero j many e h = record { some_is = λ l. absurd (omega (arith, l, e)); none_is = λ l. refl }
   looks no_pairs x (suc m) j many e h = absurd (omega (arith, e, h))
-  looks (pair y tree ps) x zero j many e h = absurd (let z : j + 1 ≤ many = holds-least (j + 1) many ps h.1 in omega (arith, z, e))
+  looks (pair y tree ps) x zero j many e h = absurd (let z : j + 1 ≤ many = holds_least (j + 1) many ps h.1 in omega (arith, z, e))
   looks (pair y tree ps) x (suc m) j many e h = go (same x (part s (cell held j 0) (cell held j 1))) (ap (same x) (sym h.0.named)) (looks ps x m (j + 1) many (omega (arith, e)) h.1)
     where
       go : (b : Bool) → same x y ≡ b → Looked ps x many (held_from s held x m (j + 1)) → Looked (pair y tree ps) x many (cond b j (held_from s held x m (j + 1)))
@@ -83,7 +83,7 @@ module _ (t book s rows : List ℕ) (n : ℕ) (s1 rows1 : List ℕ) (n1 : ℕ) (
         go (no l) = let z : many ≤ r = omega arith in ap is_none ((looked x r refl).none_is z) ∙ sym (le-leb many r z)
 
   pub names : (past1 : List ℕ) (many : ℕ) → Holding t book s rows n s1 rows1 n1 past1 held many → Names s held many
-  names past1 many h = record { size = h.size; within = λ j l. holds-names 0 many h.pairs h.holds j (omega arith) l }
+  names past1 many h = record { size = h.size; within = λ j l. holds_names 0 many h.pairs h.holds j (omega arith) l }
 
 -- what was read of variable r
 module _ (t book s rows : List ℕ) (n : ℕ) (s1 rows1 : List ℕ) (n1 : ℕ) (held : List ℕ) (r : ℕ) (name : Name) (tree : Tree) where

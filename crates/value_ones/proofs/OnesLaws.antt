@@ -27,8 +27,8 @@ module _ (limit from : ℕ) where
   pub head_first : from ≤ limit + 1 → headAt 0 ≡ from
   head_first h = sym (put_none limit from [] h).0
 
-  head-next : (j : ℕ) → headAt (j + 1) ≡ place_of limit (headAt j + 3)
-  head-next j = let z : from + 3 * (j + 1) ≡ from + 3 * j + 3 = omega arith in ap (place_of limit) z ∙ sym (place_add limit (from + 3 * j) 3)
+  head_next : (j : ℕ) → headAt (j + 1) ≡ place_of limit (headAt j + 3)
+  head_next j = let z : from + 3 * (j + 1) ≡ from + 3 * j + 3 = omega arith in ap (place_of limit) z ∙ sym (place_add limit (from + 3 * j) 3)
 
   module _ (text : ℕ) (p : List ℕ) where
     -- a list of one around what was told
@@ -44,7 +44,7 @@ module _ (limit from : ℕ) where
     ones_more o m j at e d d' h l g c =
         let z : m - (j - 1) ≡ suc (m - j) = omega arith in let y : j ≡ j - 1 + 1 = omega arith in
         subst (λ (x : ℕ). Told text limit (ones x o) (headAt (j - 1)) p d' (UpTo e)) (sym z)
-        (one_more (ones (m - j) o) (headAt j) at (headAt (j - 1)) e d d' (ap headAt y ∙ head-next (j - 1)) g c)
+        (one_more (ones (m - j) o) (headAt j) at (headAt (j - 1)) e d d' (ap headAt y ∙ head_next (j - 1)) g c)
 
   pub head_behind : (j at : ℕ) (d : List ℕ) → 0 < j → limit ≤ most_limit → at ≤ limit + 1 → (at ≤ limit → from + 3 * j ≤ at) → length d ≡ limit → Behind limit (headAt (j - 1)) at d
   head_behind j at d h a b f s = record {
@@ -58,14 +58,14 @@ module _ (limit from : ℕ) where
 
 module _ (text limit from m : ℕ) (o : Out Tree) (p d : List ℕ) (x : Coerced) (first : ℕ) (f : first ≡ place_of limit (from + 3 * m)) (g : Told text limit o first p d x) where
   -- a refusal inside is one of the whole
-  ones-no : (m : ℕ) (i : At) (w : ℕ) → ones m (No i w) ≡ No i w
-  ones-no zero i w = refl
-  ones-no (suc m) i w = ap (λ (o : Out Tree). and_then o (λ x. Got (Many (also x no_more)))) (ones-no m i w)
+  ones_no : (m : ℕ) (i : At) (w : ℕ) → ones m (No i w) ≡ No i w
+  ones_no zero i w = refl
+  ones_no (suc m) i w = ap (λ (o : Out Tree). and_then o (λ x. Got (Many (also x no_more)))) (ones_no m i w)
 
   pub ones_stop : (row why : ℕ) → x ≡ Refused row why → Told text limit (ones m o) from p d x
   ones_stop row why u =
       let z = told_no text limit first p d x o row why g u in
-      subst (λ (y : Out Tree). Told text limit y from p d x) (sym (ap (ones m) z.2 ∙ ones-no m z.0 z.1)) (z.3, z.4)
+      subst (λ (y : Out Tree). Told text limit y from p d x) (sym (ap (ones m) z.2 ∙ ones_no m z.0 z.1)) (z.3, z.4)
 
   pub ones_told : (at : ℕ) → x ≡ UpTo at → Told text limit o (place_of limit (from + 3 * m)) p d (UpTo at)
   ones_told at u = subst (λ (y : ℕ). Told text limit o y p d (UpTo at)) f (subst (λ (y : Coerced). Told text limit o first p d y) u g)

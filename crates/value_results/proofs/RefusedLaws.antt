@@ -29,8 +29,8 @@ use Rattle.value_results.specs.Results.{coerced_variables}
 -- ---- rows
 
 module _ (d : Doc) (m : ℕ) (few : count d ≤ m) where
-  default-placed : (k : ℕ) → PlacedIf (UpTo m) (value_if d (if_below (count d) k))
-  default-placed k = go (ltb k (count d)) refl
+  default_placed : (k : ℕ) → PlacedIf (UpTo m) (value_if d (if_below (count d) k))
+  default_placed k = go (ltb k (count d)) refl
     where
       go : (b : Bool) → ltb k (count d) ≡ b → PlacedIf (UpTo m) (value_if d (cond b (some k) none))
       go true e = value_placed input_document d m few (suc most_levels) k (omega (arith, ltb-true k (count d) e))
@@ -39,35 +39,35 @@ module _ (d : Doc) (m : ℕ) (few : count d ≤ m) where
   abbrev due : ℕ → At × Due
   due v = (placed input_document d v, due_variable d v)
 
-  dues-from : (p : Row → Bool) (rs : List Row) (j : ℕ) → j + length rs ≤ m → PlacedDues (UpTo m) (map due (each_from j (λ i r. only_if (p r) i) rs))
+  dues_from : (p : Row → Bool) (rs : List Row) (j : ℕ) → j + length rs ≤ m → PlacedDues (UpTo m) (map due (each_from j (λ i r. only_if (p r) i) rs))
   unfolding each_from
-  dues-from p [] j h = tt
-  dues-from p (r ∷ rs) j h = go (p r) (dues-from p rs (suc j) (omega arith))
+  dues_from p [] j h = tt
+  dues_from p (r ∷ rs) j h = go (p r) (dues_from p rs (suc j) (omega arith))
     where
       go : (b : Bool) → PlacedDues (UpTo m) (map due (each_from (suc j) (λ i r. only_if (p r) i) rs)) → PlacedDues (UpTo m) (map due (only_if b j ++ each_from (suc j) (λ i r. only_if (p r) i) rs))
-      go true w = (omega arith, default-placed _, w)
+      go true w = (omega arith, default_placed _, w)
       go false w = w
 
-  dues-placed : (op : ℕ) → PlacedDues (UpTo m) (variable_dues d op)
+  dues_placed : (op : ℕ) → PlacedDues (UpTo m) (variable_dues d op)
   unfolding numbers_where
-  dues-placed op = dues-from (λ r. is kind_variable_definition r && below op r) d.rows 0 (omega arith)
+  dues_placed op = dues_from (λ r. is kind_variable_definition r && below op r) d.rows 0 (omega arith)
 
-  given-placed : PlacedEntries (UpTo m) (given_in d)
-  given-placed =
+  given_placed : PlacedEntries (UpTo m) (given_in d)
+  given_placed =
       entries_placed input_variables d m few (valueOfRow input_variables d) (λ i q. value_placed input_variables d m few (suc most_levels) i q) kind_object_field 0 (count d - 1) 1 (λ z. omega (arith, z, few))
 
-  arguments-placed : (i : ℕ) → PlacedEntries (UpTo m) (arguments_at input_document d i)
-  arguments-placed i =
+  arguments_placed : (i : ℕ) → PlacedEntries (UpTo m) (arguments_at input_document d i)
+  arguments_placed i =
       entries_placed input_document d m few (valueOfRow input_document d) (λ i q. value_placed input_document d m few (suc most_levels) i q) kind_argument i (count d - (i + 1)) (i + 1) (λ z. omega (arith, z, few))
 
 -- the row of a variable that is refused
 pub variables_rows : (t : List ℕ) (d : Doc) (op : ℕ) (d1 : Doc) → count d ≤ most_rows → count d1 ≤ most_rows → Kept (UpTo most_rows) (coerced_variables t d op d1)
-variables_rows t d op d1 l l1 = variables_kept (UpTo most_rows) (kinds_in t) (given_in d1) (given-placed d1 most_rows l1) (variable_dues d op) (dues-placed d most_rows l op)
+variables_rows t d op d1 l l1 = variables_kept (UpTo most_rows) (kinds_in t) (given_in d1) (given_placed d1 most_rows l1) (variable_dues d op) (dues_placed d most_rows l op)
 
 -- the row of an argument that is refused
 pub arguments_rows : (t : List ℕ) (d : Doc) (row : ℕ) (ps : Pairs) (ds : List Due) → count d ≤ most_rows → row ≤ count d →
     Kept (UpTo most_rows) (in_object (missing_due (placed input_document d row)) (heads (arguments_at input_document d row)) (givens (kinds_in t) (value_in ps) (arguments_at input_document d row)) ds)
-arguments_rows t d row ps ds l h = object_kept (UpTo most_rows) (kinds_in t) (value_in ps) (placed input_document d row) (omega arith) (arguments_at input_document d row) (arguments-placed d most_rows l row) ds
+arguments_rows t d row ps ds l h = object_kept (UpTo most_rows) (kinds_in t) (value_in ps) (placed input_document d row) (omega arith) (arguments_at input_document d row) (arguments_placed d most_rows l row) ds
 
 -- ---- how many
 
@@ -94,22 +94,22 @@ most_if true i rest k h = tt
 most_if false i rest k h = most_more k rest h
 
 module _ (kinds : Name → Kind) where
-  most-default : (i : At) (d : Due) (m : Option Value) (rest : Out Pairs) (k : ℕ) → AtMost k rest → AtMost (suc k) (orDefault kinds i d m rest)
-  most-default i d none rest k h = most_if (is_non_null d.type) i rest k h
-  most-default i d (some v) rest k h = most_first d.name (constant kinds v d.type) rest k h
+  most_default : (i : At) (d : Due) (m : Option Value) (rest : Out Pairs) (k : ℕ) → AtMost k rest → AtMost (suc k) (orDefault kinds i d m rest)
+  most_default i d none rest k h = most_if (is_non_null d.type) i rest k h
+  most_default i d (some v) rest k h = most_first d.name (constant kinds v d.type) rest k h
 
-  most-field : (i : At) (d : Due) (m : Option (Ref → Out Tree)) (rest : Out Pairs) (k : ℕ) → AtMost k rest → AtMost (suc k) (due_field (orDefault kinds i d d.default rest) d m rest)
-  most-field i d none rest k h = most-default i d d.default rest k h
-  most-field i d (some f) rest k h = most_first d.name (f d.type) rest k h
+  most_field : (i : At) (d : Due) (m : Option (Ref → Out Tree)) (rest : Out Pairs) (k : ℕ) → AtMost k rest → AtMost (suc k) (due_field (orDefault kinds i d d.default rest) d m rest)
+  most_field i d none rest k h = most_default i d d.default rest k h
+  most_field i d (some f) rest k h = most_first d.name (f d.type) rest k h
 
-  most-variables : (gs : List Given) (vs : List (At × Due)) → AtMost (length vs) (variablesFrom kinds gs vs)
+  most_variables : (gs : List Given) (vs : List (At × Due)) → AtMost (length vs) (variablesFrom kinds gs vs)
   unfolding pair_count
-  most-variables gs [] = omega arith
-  most-variables gs (v ∷ vs) = most-field v.0 v.1 (entry_of v.1.name gs) (variablesFrom kinds gs vs) (length vs) (most-variables gs vs)
+  most_variables gs [] = omega arith
+  most_variables gs (v ∷ vs) = most_field v.0 v.1 (entry_of v.1.name gs) (variablesFrom kinds gs vs) (length vs) (most_variables gs vs)
 
-  most-unless : (m : Option At) (w k : ℕ) (o : Out Pairs) → AtMost k o → AtMost k (unless m w o)
-  most-unless none w k o h = h
-  most-unless (some i) w k o h = tt
+  most_unless : (m : Option At) (w k : ℕ) (o : Out Pairs) → AtMost k o → AtMost k (unless m w o)
+  most_unless none w k o h = h
+  most_unless (some i) w k o h = tt
 
 dues_count : {A : Type 0} (f : ℕ → A) (xs : List ℕ) → length (map f xs) ≡ length xs
 dues_count f [] = refl
@@ -117,7 +117,7 @@ dues_count f (x ∷ xs) = let z = dues_count f xs in omega arith
 
 variables_most : (t : List ℕ) (d : Doc) (op : ℕ) (d1 : Doc) → AtMost (length (variable_dues d op)) (coerced_variables t d op d1)
 variables_most t d op d1 =
-    most-unless (kinds_in t) (repeated_entry [] (heads (given_in d1))) reason_repeated (length (variable_dues d op)) _ (most-variables (kinds_in t) (givens (kinds_in t) (λ n. none) (given_in d1)) (variable_dues d op))
+    most_unless (kinds_in t) (repeated_entry [] (heads (given_in d1))) reason_repeated (length (variable_dues d op)) _ (most_variables (kinds_in t) (givens (kinds_in t) (λ n. none) (given_in d1)) (variable_dues d op))
 
 held_count : (t book s rows : List ℕ) (n : ℕ) (s1 rows1 : List ℕ) (n1 : ℕ) (held : List ℕ) (j many : ℕ) (ps : Pairs) → Holds t book s rows n s1 rows1 n1 held j many ps → j + pair_count ps ≡ many
 unfolding pair_count

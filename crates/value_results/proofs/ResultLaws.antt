@@ -165,8 +165,8 @@ module _ (t s rows : List ℕ) (n row start end : ℕ) (f : FieldServes t (doc_o
   object ps = objected t (value_in ps) input_document d n 33 kind_argument row (dues_by kind_argument t start end)
 
   -- what the arguments' definitions make due
-  dues-are : argument_dues (field_at (table_of t) d row) ≡ map due_argument (arguments_in t start end)
-  dues-are = sym f.holds.dues ∙ dues_arguments t start end
+  dues_are : argument_dues (field_at (table_of t) d row) ≡ map due_argument (arguments_in t start end)
+  dues_are = sym f.holds.dues ∙ dues_arguments t start end
 
   pub dues_slim : all_of slim_due (dues_by kind_argument t start end) ≡ true
   dues_slim = rw (dues_arguments t start end) (slim_arguments (arguments_in t start end) f.holds.slim)
@@ -174,7 +174,7 @@ module _ (t s rows : List ℕ) (n row start end : ℕ) (f : FieldServes t (doc_o
   -- as an input object of their definitions
   pub argued_is : (ps : Pairs) → argued t d row ps ≡ object ps
   argued_is ps =
-      ap (in_object (λ δ rest. orDefault (kinds_in t) (placed input_document d row) δ δ.default rest) (heads (arguments_at input_document d row)) (givens (kinds_in t) (value_in ps) (arguments_at input_document d row))) dues-are
+      ap (in_object (λ δ rest. orDefault (kinds_in t) (placed input_document d row) δ δ.default rest) (heads (arguments_at input_document d row)) (givens (kinds_in t) (value_in ps) (arguments_at input_document d row))) dues_are
       ∙ arguments_same (kinds_in t) (placed input_document d row) (givens (kinds_in t) (value_in ps) (arguments_at input_document d row)) (heads (arguments_at input_document d row)) (arguments_in t start end)
       ∙ ap (in_object (missing_due (placed input_document d row)) (heads (arguments_at input_document d row)) (givens (kinds_in t) (value_in ps) (arguments_at input_document d row))) (sym (dues_arguments t start end))
       ∙ ap (λ (k : ℕ). objected t (value_in ps) input_document d k 33 kind_argument row (dues_by kind_argument t start end)) (rows_count rows n)

@@ -199,16 +199,16 @@ abbrev leq : Phase → Phase → Bool
 leq φ settled = is_settled φ
 leq φ fresh = false
 leq φ bare = false
-leq φ waiting = is_settled φ || isWaiting φ
+leq φ waiting = is_settled φ || is_waiting φ
   where
-    isWaiting : Phase → Bool
-    isWaiting settled = false
-    isWaiting fresh = false
-    isWaiting bare = false
-    isWaiting waiting = true
-    isWaiting wrong = false
-    isWaiting (literal k) = false
-    isWaiting (spelt k) = false
+    is_waiting : Phase → Bool
+    is_waiting settled = false
+    is_waiting fresh = false
+    is_waiting bare = false
+    is_waiting waiting = true
+    is_waiting wrong = false
+    is_waiting (literal k) = false
+    is_waiting (spelt k) = false
 leq φ wrong = true
 leq φ (literal k) = false
 leq φ (spelt k) = false

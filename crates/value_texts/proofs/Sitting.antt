@@ -60,8 +60,8 @@ parent_change f g (suc k) zero (r ∷ rs) = refl
 parent_change f g (suc k) (suc i) (r ∷ rs) = parent_change f g k i rs
 
 module _ (f : Row → Row) (g : (r : Row) → (f r).parent ≡ r.parent) (k v : ℕ) (end' rows : List Row) (os : List ℕ) where
-  kid-change : Kid v rows end' → Kid v (change f k rows) end'
-  kid-change h j l u e = h j l (omega (arith, change_length f k rows)) (sym (parent_change f g k j rows) ∙ e)
+  kid_change : Kid v rows end' → Kid v (change f k rows) end'
+  kid_change h j l u e = h j l (omega (arith, change_length f k rows)) (sym (parent_change f g k j rows) ∙ e)
 
   pub sits_change : (φ : Stage) → Sits φ v end' rows os → Sits φ v end' (change f k rows) os
   sits_change opened h = (change_length f k rows ∙ h.0, h.1)
@@ -69,9 +69,9 @@ module _ (f : Row → Row) (g : (r : Row) → (f r).parent ≡ r.parent) (k v : 
   sits_change typed h = (change_length f k rows ∙ h.0, h.1, h.2)
   sits_change ready h = (change_length f k rows ∙ h.0, h.1, h.2)
   sits_change given h = (change_length f k rows ∙ h.0, h.1, h.2, h.3)
-  sits_change (deep j) h = (omega (arith, change_length f k rows, h.0), h.1, h.2, kid-change h.3)
-  sits_change filled h = (omega (arith, change_length f k rows, h.0), h.1, h.2, kid-change h.3)
-  sits_change gone h = (omega (arith, change_length f k rows, h.0), h.1, h.2, kid-change h.3)
+  sits_change (deep j) h = (omega (arith, change_length f k rows, h.0), h.1, h.2, kid_change h.3)
+  sits_change filled h = (omega (arith, change_length f k rows, h.0), h.1, h.2, kid_change h.3)
+  sits_change gone h = (omega (arith, change_length f k rows, h.0), h.1, h.2, kid_change h.3)
   sits_change wrong h = h
 
 over_top : (v : ℕ) (os : List ℕ) → Over v 0 os → top os ≡ v
@@ -122,38 +122,38 @@ module _ (ss : Syms) (v : ℕ) (small : v < no_parent) (end' rows : List Row) (o
   Later j x = (i : ℕ) → i < length (change (of_kind j x) (top os) rows) → ((at (change (of_kind j x) (top os) rows) i).kind ≡ 0 → ⊥) →
       (i < length end') × ((at end' i).kind ≡ (at (change (of_kind j x) (top os) rows) i).kind) × ((at end' i).parent ≡ (at (change (of_kind j x) (top os) rows) i).parent)
 
-  kinded-top : (j x i : ℕ) → top os ≡ i → i < length rows → (at (change (of_kind j x) (top os) rows) i).kind ≡ j
-  kinded-top j x i e l = subst (λ (k : ℕ). (at (change (of_kind j x) (top os) rows) k).kind ≡ j) e (ap (λ (r : Row). r.kind) (change_here (of_kind j x) (top os) rows (omega arith)))
+  kinded_top : (j x i : ℕ) → top os ≡ i → i < length rows → (at (change (of_kind j x) (top os) rows) i).kind ≡ j
+  kinded_top j x i e l = subst (λ (k : ℕ). (at (change (of_kind j x) (top os) rows) k).kind ≡ j) e (ap (λ (r : Row). r.kind) (change_here (of_kind j x) (top os) rows (omega arith)))
 
-  typing-kind : (j x : ℕ) (c : Bool) → eqb j kind_type_reference ≡ c → T (is_gone (run ss (cond c typed wrong))) → Later j x → Sits typing v end' rows os → Sits (cond c typed wrong) v end' (change (of_kind j x) (top os) rows) os
-  typing-kind j x false e t l h = absurd (not_gone ss t)
-  typing-kind j x true e t l h =
+  typing_kind : (j x : ℕ) (c : Bool) → eqb j kind_type_reference ≡ c → T (is_gone (run ss (cond c typed wrong))) → Later j x → Sits typing v end' rows os → Sits (cond c typed wrong) v end' (change (of_kind j x) (top os) rows) os
+  typing_kind j x false e t l h = absurd (not_gone ss t)
+  typing_kind j x true e t l h =
       let z = eqb→eq j kind_type_reference (subst T (sym e) tt) in
       let n = h.0 in
       let size = change_length (of_kind j x) (top os) rows in
-      let k = kinded-top j x (v + 1) h.2 (omega arith) in
+      let k = kinded_top j x (v + 1) h.2 (omega arith) in
       let q = l (v + 1) (omega arith) (λ u. absurd (omega arith)) in
       (omega arith, h.1, (q.0, q.1 ∙ k ∙ z, q.2 ∙ parent_change (of_kind j x) (λ r. refl) (top os) (v + 1) rows ∙ h.3))
 
-  given-kind : (j x : ℕ) (c : Bool) → (leb kind_variable j && leb j kind_object) ≡ c → T (is_gone (run ss (cond c (deep 0) wrong))) → Later j x → Sits given v end' rows os → Sits (cond c (deep 0) wrong) v end' (change (of_kind j x) (top os) rows) os
-  given-kind j x false e t l h = absurd (not_gone ss t)
-  given-kind j x true e t l h =
+  given_kind : (j x : ℕ) (c : Bool) → (leb kind_variable j && leb j kind_object) ≡ c → T (is_gone (run ss (cond c (deep 0) wrong))) → Later j x → Sits given v end' rows os → Sits (cond c (deep 0) wrong) v end' (change (of_kind j x) (top os) rows) os
+  given_kind j x false e t l h = absurd (not_gone ss t)
+  given_kind j x true e t l h =
       let n = h.0 in
       let size = change_length (of_kind j x) (top os) rows in
-      let k = kinded-top j x (v + 2) h.3 (omega arith) in
-      let q = l (v + 2) (omega arith) (λ u. not-zero (sym k ∙ u)) in
+      let k = kinded_top j x (v + 2) h.3 (omega arith) in
+      let q = l (v + 2) (omega arith) (λ u. not_zero (sym k ∙ u)) in
       let value : T (is_value (at end' (v + 2))) = subst (λ (i : ℕ). T (leb kind_variable i && leb i kind_object)) (sym (q.1 ∙ k)) (subst T (sym e) tt) in
       (omega arith, h.1, h.2, λ i a b p. (omega arith, value))
     where
-      not-zero : j ≡ 0 → ⊥
-      not-zero u = subst T (ap (λ (i : ℕ). leb kind_variable i && leb i kind_object) u) (subst T (sym e) tt)
+      not_zero : j ≡ 0 → ⊥
+      not_zero u = subst T (ap (λ (i : ℕ). leb kind_variable i && leb i kind_object) u) (subst T (sym e) tt)
 
   pub step_kind : (j x : ℕ) (φ : Stage) → T (is_gone (run ss (of_mark (kind j x) φ))) → Later j x → Sits φ v end' rows os → Sits (of_mark (kind j x) φ) v end' (change (of_kind j x) (top os) rows) os
   step_kind j x opened t l h = absurd (not_gone ss t)
-  step_kind j x typing t l h = typing-kind j x (eqb j kind_type_reference) refl t l h
+  step_kind j x typing t l h = typing_kind j x (eqb j kind_type_reference) refl t l h
   step_kind j x typed t l h = absurd (not_gone ss t)
   step_kind j x ready t l h = absurd (not_gone ss t)
-  step_kind j x given t l h = given-kind j x (leb kind_variable j && leb j kind_object) refl t l h
+  step_kind j x given t l h = given_kind j x (leb kind_variable j && leb j kind_object) refl t l h
   step_kind j x (deep k) t l h = sits_change (of_kind j x) (λ r. refl) (top os) v end' rows os (deep k) h
   step_kind j x filled t l h = absurd (not_gone ss t)
   step_kind j x gone t l h = sits_change (of_kind j x) (λ r. refl) (top os) v end' rows os gone h
@@ -193,28 +193,28 @@ module _ (ss : Syms) (v : ℕ) (small : v < no_parent) (end' rows : List Row) (o
   step_wrap w gone t h = h
   step_wrap w wrong t h = absurd h
 
-  over-pop : (k : ℕ) (os : List ℕ) → Over v (suc k) os → Over v k (pop os)
-  over-pop k [] h = absurd h
-  over-pop k (o ∷ os) h = h.1
+  over_pop : (k : ℕ) (os : List ℕ) → Over v (suc k) os → Over v k (pop os)
+  over_pop k [] h = absurd h
+  over_pop k (o ∷ os) h = h.1
 
-  over-out : (os : List ℕ) → Over v 0 os → NotIn v (pop os)
-  over-out [] h = absurd h
-  over-out (o ∷ os) h = h.1
+  over_out : (os : List ℕ) → Over v 0 os → NotIn v (pop os)
+  over_out [] h = absurd h
+  over_out (o ∷ os) h = h.1
 
-  out-pop : (os : List ℕ) → NotIn v os → NotIn v (pop os)
-  out-pop [] h = tt
-  out-pop (o ∷ os) h = h.1
+  out_pop : (os : List ℕ) → NotIn v os → NotIn v (pop os)
+  out_pop [] h = tt
+  out_pop (o ∷ os) h = h.1
 
   pub step_end : (φ : Stage) → T (is_gone (run ss (of_mark end φ))) → Sits φ v end' rows os → Sits (of_mark end φ) v end' rows (pop os)
   step_end opened t h = absurd (not_gone ss t)
   step_end typing t h = absurd (not_gone ss t)
-  step_end typed t h = (h.0, over-pop 0 os h.1, h.2)
-  step_end ready t h = let e = h.0 in (omega arith, over-out os h.1, h.2, λ j l u p. absurd (omega arith))
+  step_end typed t h = (h.0, over_pop 0 os h.1, h.2)
+  step_end ready t h = let e = h.0 in (omega arith, over_out os h.1, h.2, λ j l u p. absurd (omega arith))
   step_end given t h = absurd (not_gone ss t)
-  step_end (deep zero) t h = (h.0, over-pop 0 os h.1, h.2, h.3)
-  step_end (deep (suc k)) t h = (h.0, over-pop (suc k) os h.1, h.2, h.3)
-  step_end filled t h = let e = h.0 in (omega arith, over-out os h.1, h.2, h.3)
-  step_end gone t h = (h.0, out-pop os h.1, h.2, h.3)
+  step_end (deep zero) t h = (h.0, over_pop 0 os h.1, h.2, h.3)
+  step_end (deep (suc k)) t h = (h.0, over_pop (suc k) os h.1, h.2, h.3)
+  step_end filled t h = let e = h.0 in (omega arith, over_out os h.1, h.2, h.3)
+  step_end gone t h = (h.0, out_pop os h.1, h.2, h.3)
   step_end wrong t h = absurd h
 
   pub step_token : (φ : Stage) → T (is_gone (run ss (of_token φ))) → Sits φ v end' rows os → Sits (of_token φ) v end' rows os

@@ -58,18 +58,18 @@ grows_change : (f : Row → Row) (k stop : ℕ) (os : List ℕ) (b : Book) → (
     → Grows b (record { rows = change f k b.rows; open' = os; stop = stop })
 grows_change f k stop os b p q = record {
   more = let e = change_length f k b.rows in omega arith;
-  parents = λ i h. go-parent i h (ℕ_discrete i k);
-  kinds = λ i h z. go-kind i h z (ℕ_discrete i k);
+  parents = λ i h. go_parent i h (ℕ_discrete i k);
+  kinds = λ i h z. go_kind i h z (ℕ_discrete i k);
 }
   where
-    go-parent : (i : ℕ) → i < length b.rows → Dec (i ≡ k) → (at (change f k b.rows) i).parent ≡ (at b.rows i).parent
-    go-parent i h (yes e) = rw e (ap (λ (r : Row). r.parent) (change_here f k b.rows (omega (arith, e, h))) ∙ p (at b.rows k))
-    go-parent i h (no n) = ap (λ (r : Row). r.parent) (change_else f k i b.rows n)
+    go_parent : (i : ℕ) → i < length b.rows → Dec (i ≡ k) → (at (change f k b.rows) i).parent ≡ (at b.rows i).parent
+    go_parent i h (yes e) = rw e (ap (λ (r : Row). r.parent) (change_here f k b.rows (omega (arith, e, h))) ∙ p (at b.rows k))
+    go_parent i h (no n) = ap (λ (r : Row). r.parent) (change_else f k i b.rows n)
 
-    go-kind : (i : ℕ) → i < length b.rows → ((at b.rows i).kind ≡ 0 → ⊥) → Dec (i ≡ k) → (at (change f k b.rows) i).kind ≡ (at b.rows i).kind
-    go-kind i h z (yes e) =
+    go_kind : (i : ℕ) → i < length b.rows → ((at b.rows i).kind ≡ 0 → ⊥) → Dec (i ≡ k) → (at (change f k b.rows) i).kind ≡ (at b.rows i).kind
+    go_kind i h z (yes e) =
         rw e (ap (λ (r : Row). r.kind) (change_here f k b.rows (omega (arith, e, h))) ∙ q (subst (λ (j : ℕ). (at b.rows j).kind ≡ 0 → ⊥) e z))
-    go-kind i h z (no n) = ap (λ (r : Row). r.kind) (change_else f k i b.rows n)
+    go_kind i h z (no n) = ap (λ (r : Row). r.kind) (change_else f k i b.rows n)
 
 grows_row : (r : Row) (os : List ℕ) (stop : ℕ) (b : Book) → Grows b (record { rows = b.rows ++ (r ∷ []); open' = os; stop = stop })
 grows_row r os stop b = record {
@@ -99,9 +99,9 @@ module _ (l : ℕ) (Good : Tok → Type 0) where
   Rise a [] = a ≤ l
   Rise a (k ∷ ts) = (a ≤ k.start) × (k.start ≤ k.stop) × Good k × Rise k.stop ts
 
-  rise-within : (a : ℕ) (ts : List Tok) → Rise a ts → a ≤ l
-  rise-within a [] h = h
-  rise-within a (k ∷ ts) h = omega (arith, h.0, h.1, rise-within k.stop ts h.3)
+  rise_within : (a : ℕ) (ts : List Tok) → Rise a ts → a ≤ l
+  rise_within a [] h = h
+  rise_within a (k ∷ ts) h = omega (arith, h.0, h.1, rise_within k.stop ts h.3)
 
   -- the token that a number's or string's row is
   abbrev pub Spelt : Row → Type 0
@@ -142,31 +142,31 @@ module _ (l : ℕ) (Good : Tok → Type 0) where
     pub last : T (is_new φ) → suc (top b.open') ≡ length b.rows
 
   -- rows changed in what is not asked
-  held-core : (rows rows' : List Row) → ((i : ℕ) → core (at rows' i) ≡ core (at rows i)) → (stop : ℕ) (ks : List ℕ) → AllHeld rows stop ks → AllHeld rows' stop ks
-  held-core rows rows' e stop [] h = tt
-  held-core rows rows' e stop (k ∷ ks) h = (subst (Held stop) (sym (e k)) h.0, held-core rows rows' e stop ks h.1)
+  held_core : (rows rows' : List Row) → ((i : ℕ) → core (at rows' i) ≡ core (at rows i)) → (stop : ℕ) (ks : List ℕ) → AllHeld rows stop ks → AllHeld rows' stop ks
+  held_core rows rows' e stop [] h = tt
+  held_core rows rows' e stop (k ∷ ks) h = (subst (Held stop) (sym (e k)) h.0, held_core rows rows' e stop ks h.1)
 
-  inner-core : (φ : Phase) (r r' : Row) → core r' ≡ core r → (ts : List Tok) (stop : ℕ) → Inner φ r ts stop → Inner φ r' ts stop
-  inner-core settled r r' e ts stop h = subst (Held stop) (sym e) h
-  inner-core fresh r r' e ts stop h = subst (λ (x : Row). (x.kind ≡ 0) × (x.start ≡ start_of ts)) (sym e) h
-  inner-core bare r r' e ts stop h = subst (λ (x : Row). (x.kind ≡ 0) × (x.start ≤ stop)) (sym e) h
-  inner-core waiting r r' e ts stop h = subst (λ (x : Row). (T (is_literal x.kind) → ⊥) × (x.start ≡ start_of ts)) (sym e) h
-  inner-core wrong r r' e ts stop h = h
-  inner-core (literal k) r r' e ts stop h = subst (λ (x : Row). (x.kind ≡ k) × (x.start ≡ start_of ts)) (sym e) h
-  inner-core (spelt k) r r' e ts stop h =
+  inner_core : (φ : Phase) (r r' : Row) → core r' ≡ core r → (ts : List Tok) (stop : ℕ) → Inner φ r ts stop → Inner φ r' ts stop
+  inner_core settled r r' e ts stop h = subst (Held stop) (sym e) h
+  inner_core fresh r r' e ts stop h = subst (λ (x : Row). (x.kind ≡ 0) × (x.start ≡ start_of ts)) (sym e) h
+  inner_core bare r r' e ts stop h = subst (λ (x : Row). (x.kind ≡ 0) × (x.start ≤ stop)) (sym e) h
+  inner_core waiting r r' e ts stop h = subst (λ (x : Row). (T (is_literal x.kind) → ⊥) × (x.start ≡ start_of ts)) (sym e) h
+  inner_core wrong r r' e ts stop h = h
+  inner_core (literal k) r r' e ts stop h = subst (λ (x : Row). (x.kind ≡ k) × (x.start ≡ start_of ts)) (sym e) h
+  inner_core (spelt k) r r' e ts stop h =
       subst (λ (x : Row). (x.kind ≡ k) × ((t : Tok) × Good t × (t.class ≡ literal_class k) × (t.start ≡ x.start) × (t.stop ≡ stop)) × (x.start ≤ stop)) (sym e) h
 
-  opens-core : (φ : Phase) (rows rows' : List Row) → ((i : ℕ) → core (at rows' i) ≡ core (at rows i)) → (ts : List Tok) (stop : ℕ) (os : List ℕ) → Opens φ rows ts stop os → Opens φ rows' ts stop os
-  opens-core φ rows rows' e ts stop [] h = h
-  opens-core φ rows rows' e ts stop (k ∷ ks) h = (inner-core φ (at rows k) (at rows' k) (e k) ts stop h.0, held-core rows rows' e stop ks h.1)
+  opens_core : (φ : Phase) (rows rows' : List Row) → ((i : ℕ) → core (at rows' i) ≡ core (at rows i)) → (ts : List Tok) (stop : ℕ) (os : List ℕ) → Opens φ rows ts stop os → Opens φ rows' ts stop os
+  opens_core φ rows rows' e ts stop [] h = h
+  opens_core φ rows rows' e ts stop (k ∷ ks) h = (inner_core φ (at rows k) (at rows' k) (e k) ts stop h.0, held_core rows rows' e stop ks h.1)
 
-  stands-core : (φ : Phase) (d : ℕ) (ts : List Tok) (b : Book) (f : Row → Row) → ((r : Row) → core (f r) ≡ core r) → (k : ℕ) → Stands φ d ts b
+  stands_core : (φ : Phase) (d : ℕ) (ts : List Tok) (b : Book) (f : Row → Row) → ((r : Row) → core (f r) ≡ core r) → (k : ℕ) → Stands φ d ts b
       → Stands φ d ts (record { rows = change f k b.rows; open' = b.open'; stop = b.stop })
-  stands-core φ d ts b f g k h = record {
+  stands_core φ d ts b f g k h = record {
     rise = h.rise;
     down = subst (λ (n : ℕ). Down n b.open') (sym size) h.down;
     whole = λ i u. same i (h.whole i (omega (arith, size)));
-    opens = opens-core φ b.rows (change f k b.rows) (λ i. core_change f g k i b.rows) ts b.stop b.open' h.opens;
+    opens = opens_core φ b.rows (change f k b.rows) (λ i. core_change f g k i b.rows) ts b.stop b.open' h.opens;
     level = h.level;
     last = λ t. h.last t ∙ sym size;
   }
@@ -179,11 +179,11 @@ module _ (l : ℕ) (Good : Tok → Type 0) where
       same i (inr w) = inr (subst Whole (sym (core_change f g k i b.rows)) w)
 
   -- open rows but the innermost, where that is changed, where a row is put behind them, and where a token is taken
-  held-change : (f : Row → Row) (k : ℕ) (rows : List Row) (stop j : ℕ) (ks : List ℕ) → j ≤ k → Down j ks → AllHeld rows stop ks → AllHeld (change f k rows) stop ks
-  held-change f k rows stop j [] u d h = tt
-  held-change f k rows stop j (i ∷ ks) u d h =
+  held_change : (f : Row → Row) (k : ℕ) (rows : List Row) (stop j : ℕ) (ks : List ℕ) → j ≤ k → Down j ks → AllHeld rows stop ks → AllHeld (change f k rows) stop ks
+  held_change f k rows stop j [] u d h = tt
+  held_change f k rows stop j (i ∷ ks) u d h =
       let low = d.0 in
-      (subst (Held stop) (sym (change_else f k i rows (λ e. absurd (omega arith)))) h.0, held-change f k rows stop i ks (omega arith) d.1 h.1)
+      (subst (Held stop) (sym (change_else f k i rows (λ e. absurd (omega arith)))) h.0, held_change f k rows stop i ks (omega arith) d.1 h.1)
 
   held_row : (r : Row) (rows : List Row) (stop j : ℕ) (ks : List ℕ) → j ≤ length rows → Down j ks → AllHeld rows stop ks → AllHeld (rows ++ (r ∷ [])) stop ks
   held_row r rows stop j [] u d h = tt
@@ -191,22 +191,22 @@ module _ (l : ℕ) (Good : Tok → Type 0) where
       let low = d.0 in
       (subst (Held stop) (sym (get_or-append rows (r ∷ []) no_row i (omega arith))) h.0, held_row r rows stop i ks (omega arith) d.1 h.1)
 
-  held-later : (rows : List Row) (stop later : ℕ) (ks : List ℕ) → stop ≤ later → AllHeld rows stop ks → AllHeld rows later ks
-  held-later rows stop later [] u h = tt
-  held-later rows stop later (k ∷ ks) u h = let a = h.0.0 in ((omega arith, h.0.1), held-later rows stop later ks u h.1)
+  held_later : (rows : List Row) (stop later : ℕ) (ks : List ℕ) → stop ≤ later → AllHeld rows stop ks → AllHeld rows later ks
+  held_later rows stop later [] u h = tt
+  held_later rows stop later (k ∷ ks) u h = let a = h.0.0 in ((omega arith, h.0.1), held_later rows stop later ks u h.1)
 
   -- where the innermost row is changed
-  whole-change : (f : Row → Row) (k : ℕ) (ks : List ℕ) (rows : List Row) (i : ℕ) → Among i (k ∷ ks) ⊎ Whole (at rows i) → Among i (k ∷ ks) ⊎ Whole (at (change f k rows) i)
-  whole-change f k ks rows i (inl a) = inl a
-  whole-change f k ks rows i (inr w) = go (ℕ_discrete i k)
+  whole_change : (f : Row → Row) (k : ℕ) (ks : List ℕ) (rows : List Row) (i : ℕ) → Among i (k ∷ ks) ⊎ Whole (at rows i) → Among i (k ∷ ks) ⊎ Whole (at (change f k rows) i)
+  whole_change f k ks rows i (inl a) = inl a
+  whole_change f k ks rows i (inr w) = go (ℕ_discrete i k)
     where
       go : Dec (i ≡ k) → Among i (k ∷ ks) ⊎ Whole (at (change f k rows) i)
       go (yes e) = inl (inl e)
       go (no n) = inr (subst Whole (sym (change_else f k i rows n)) w)
 
   -- and is closed
-  whole-close : (f : Row → Row) (k : ℕ) (ks : List ℕ) (rows : List Row) (i : ℕ) → Whole (at (change f k rows) k) → Among i (k ∷ ks) ⊎ Whole (at rows i) → Among i ks ⊎ Whole (at (change f k rows) i)
-  whole-close f k ks rows i v o = go (ℕ_discrete i k) o
+  whole_close : (f : Row → Row) (k : ℕ) (ks : List ℕ) (rows : List Row) (i : ℕ) → Whole (at (change f k rows) k) → Among i (k ∷ ks) ⊎ Whole (at rows i) → Among i ks ⊎ Whole (at (change f k rows) i)
+  whole_close f k ks rows i v o = go (ℕ_discrete i k) o
     where
       go : Dec (i ≡ k) → Among i (k ∷ ks) ⊎ Whole (at rows i) → Among i ks ⊎ Whole (at (change f k rows) i)
       go (yes e) o = inr (subst (λ (j : ℕ). Whole (at (change f k rows) j)) (sym e) v)
@@ -215,13 +215,13 @@ module _ (l : ℕ) (Good : Tok → Type 0) where
       go (no n) (inr w) = inr (subst Whole (sym (change_else f k i rows n)) w)
 
   -- the innermost row, changed to another phase
-  inner-changed : (φ ψ : Phase) (f : Row → Row) (k d : ℕ) (ks : List ℕ) (ts : List Tok) (rows : List Row) (stop : ℕ) → (T (is_new ψ) → ⊥) → ((r : Row) → Inner φ r ts stop → Inner ψ (f r) ts stop)
+  inner_changed : (φ ψ : Phase) (f : Row → Row) (k d : ℕ) (ks : List ℕ) (ts : List Tok) (rows : List Row) (stop : ℕ) → (T (is_new ψ) → ⊥) → ((r : Row) → Inner φ r ts stop → Inner ψ (f r) ts stop)
       → Stands φ d ts (record { rows = rows; open' = k ∷ ks; stop = stop }) → Stands ψ d ts (record { rows = change f k rows; open' = k ∷ ks; stop = stop })
-  inner-changed φ ψ f k d ks ts rows stop u g h = record {
+  inner_changed φ ψ f k d ks ts rows stop u g h = record {
     rise = h.rise;
     down = (omega (arith, size, h.down.0), h.down.1);
-    whole = λ i v. whole-change f k ks rows i (h.whole i (omega (arith, size)));
-    opens = (subst (λ (r : Row). Inner ψ r ts stop) (sym (change_here f k rows h.down.0)) (g (at rows k) h.opens.0), held-change f k rows stop k ks (omega arith) h.down.1 h.opens.1);
+    whole = λ i v. whole_change f k ks rows i (h.whole i (omega (arith, size)));
+    opens = (subst (λ (r : Row). Inner ψ r ts stop) (sym (change_here f k rows h.down.0)) (g (at rows k) h.opens.0), held_change f k rows stop k ks (omega arith) h.down.1 h.opens.1);
     level = h.level;
     last = λ t. absurd (u t);
   }
@@ -230,12 +230,12 @@ module _ (l : ℕ) (Good : Tok → Type 0) where
       size = change_length f k rows
 
   -- and closed
-  inner-closed : (φ : Phase) (k d : ℕ) (ks : List ℕ) (ts : List Tok) (rows : List Row) (stop : ℕ) → ((r : Row) → Inner φ r ts stop → stop ≤ l → Whole (stopping stop r))
+  inner_closed : (φ : Phase) (k d : ℕ) (ks : List ℕ) (ts : List Tok) (rows : List Row) (stop : ℕ) → ((r : Row) → Inner φ r ts stop → stop ≤ l → Whole (stopping stop r))
       → Stands φ (suc d) ts (record { rows = rows; open' = k ∷ ks; stop = stop }) → Stands settled d ts (record { rows = change (stopping stop) k rows; open' = ks; stop = stop })
-  inner-closed φ k d ks ts rows stop g h = record {
+  inner_closed φ k d ks ts rows stop g h = record {
     rise = h.rise;
     down = under ks h.down.1 (omega (arith, size, h.down.0));
-    whole = λ i u. whole-close (stopping stop) k ks rows i whole-now (h.whole i (omega (arith, size)));
+    whole = λ i u. whole_close (stopping stop) k ks rows i whole_now (h.whole i (omega (arith, size)));
     opens = outer ks h.down.1 h.opens.1;
     level = let e = h.level in omega arith;
     last = λ t. absurd t;
@@ -244,8 +244,8 @@ module _ (l : ℕ) (Good : Tok → Type 0) where
       size : length (change (stopping stop) k rows) ≡ length rows
       size = change_length (stopping stop) k rows
 
-      whole-now : Whole (at (change (stopping stop) k rows) k)
-      whole-now = subst Whole (sym (change_here (stopping stop) k rows h.down.0)) (g (at rows k) h.opens.0 (rise-within stop ts h.rise))
+      whole_now : Whole (at (change (stopping stop) k rows) k)
+      whole_now = subst Whole (sym (change_here (stopping stop) k rows h.down.0)) (g (at rows k) h.opens.0 (rise_within stop ts h.rise))
 
       under : (ks : List ℕ) → Down k ks → k ≤ length (change (stopping stop) k rows) → Down (length (change (stopping stop) k rows)) ks
       under [] d u = tt
@@ -253,11 +253,11 @@ module _ (l : ℕ) (Good : Tok → Type 0) where
 
       outer : (ks : List ℕ) → Down k ks → AllHeld rows stop ks → Opens settled (change (stopping stop) k rows) ts stop ks
       outer [] d a = tt
-      outer (j ∷ ks) d a = held-change (stopping stop) k rows stop k (j ∷ ks) (omega arith) d a
+      outer (j ∷ ks) d a = held_change (stopping stop) k rows stop k (j ∷ ks) (omega arith) d a
 
-  settled-held : (rows : List Row) (ts : List Tok) (stop : ℕ) (os : List ℕ) → Opens settled rows ts stop os → AllHeld rows stop os
-  settled-held rows ts stop [] h = tt
-  settled-held rows ts stop (k ∷ ks) h = h
+  settled_held : (rows : List Row) (ts : List Tok) (stop : ℕ) (os : List ℕ) → Opens settled rows ts stop os → AllHeld rows stop os
+  settled_held rows ts stop [] h = tt
+  settled_held rows ts stop (k ∷ ks) h = h
 
   abbrev On : Phase → ℕ → List Tok → List Row → List ℕ → ℕ → Type 0
   On φ d ts rows os stop = Stands φ d ts (record { rows = rows; open' = os; stop = stop })
@@ -270,7 +270,7 @@ module _ (l : ℕ) (Good : Tok → Type 0) where
     whole = λ i u. go i u (dec_lt i (length rows));
     opens = (
       subst (λ (r : Row). Inner fresh r ts stop) (sym (get_or-append_seam rows new [] no_row)) (refl, refl),
-      held_row new rows stop (length rows) os (omega arith) h.down (settled-held rows ts stop os h.opens),
+      held_row new rows stop (length rows) os (omega arith) h.down (settled_held rows ts stop os h.opens),
     );
     level = let e = h.level in omega arith;
     last = λ t. sym size;
@@ -304,8 +304,8 @@ module _ (l : ℕ) (Good : Tok → Type 0) where
     abbrev Kinded : ℕ → ℕ → Phase → Type 0
     Kinded k x ψ = On ψ d ts (change (of_kind k x) (top os) rows) os stop × ((at rows (top os)).kind ≡ 0)
 
-    fresh-kind : (k x : ℕ) (c : Bool) → is_literal k ≡ c → On fresh d ts rows os stop → Kinded k x (cond c (literal k) waiting)
-    fresh-kind k x c e h = go os h
+    fresh_kind : (k x : ℕ) (c : Bool) → is_literal k ≡ c → On fresh d ts rows os stop → Kinded k x (cond c (literal k) waiting)
+    fresh_kind k x c e h = go os h
       where
         old : (c : Bool) → T (is_new (cond c (literal k) waiting)) → ⊥
         old true t = t
@@ -317,30 +317,30 @@ module _ (l : ℕ) (Good : Tok → Type 0) where
 
         go : (os : List ℕ) → On fresh d ts rows os stop → On (cond c (literal k) waiting) d ts (change (of_kind k x) (top os) rows) os stop × ((at rows (top os)).kind ≡ 0)
         go [] h = absurd h.opens
-        go (j ∷ ks) h = (inner-changed fresh (cond c (literal k) waiting) (of_kind k x) j d ks ts rows stop (old c) (new c e) h, h.opens.0.0)
+        go (j ∷ ks) h = (inner_changed fresh (cond c (literal k) waiting) (of_kind k x) j d ks ts rows stop (old c) (new c e) h, h.opens.0.0)
 
-    bare-kind : (k x : ℕ) (c : Bool) → is_literal k ≡ c → T (is_settled (run ss (cond c wrong settled))) → On bare d ts rows os stop → Kinded k x (cond c wrong settled)
-    bare-kind k x true e t h = absurd (not_wrong ss t)
-    bare-kind k x false e t h = go os h
+    bare_kind : (k x : ℕ) (c : Bool) → is_literal k ≡ c → T (is_settled (run ss (cond c wrong settled))) → On bare d ts rows os stop → Kinded k x (cond c wrong settled)
+    bare_kind k x true e t h = absurd (not_wrong ss t)
+    bare_kind k x false e t h = go os h
       where
         go : (os : List ℕ) → On bare d ts rows os stop → On settled d ts (change (of_kind k x) (top os) rows) os stop × ((at rows (top os)).kind ≡ 0)
         go [] h = absurd h.opens
-        go (j ∷ ks) h = (inner-changed bare settled (of_kind k x) j d ks ts rows stop (λ t. t) (λ r i. (i.1, λ t. subst T e t)) h, h.opens.0.0)
+        go (j ∷ ks) h = (inner_changed bare settled (of_kind k x) j d ks ts rows stop (λ t. t) (λ r i. (i.1, λ t. subst T e t)) h, h.opens.0.0)
 
     step_kind : (k x : ℕ) (φ : Phase) → T (is_settled (run ss (of_mark (kind k x) φ))) → On φ d ts rows os stop → Kinded k x (of_mark (kind k x) φ)
     step_kind k x settled t h = absurd (not_wrong ss t)
-    step_kind k x fresh t h = fresh-kind k x (is_literal k) refl h
-    step_kind k x bare t h = bare-kind k x (is_literal k) refl t h
+    step_kind k x fresh t h = fresh_kind k x (is_literal k) refl h
+    step_kind k x bare t h = bare_kind k x (is_literal k) refl t h
     step_kind k x waiting t h = absurd (not_wrong ss t)
     step_kind k x wrong t h = absurd (not_wrong ss t)
     step_kind k x (literal j) t h = absurd (not_wrong ss t)
     step_kind k x (spelt j) t h = absurd (not_wrong ss t)
 
     step_named : (φ : Phase) → T (is_settled (run ss (of_mark named φ))) → On φ d ts rows os stop → On (of_mark named φ) d ts (change (with_name (start_of ts) (stop_of ts)) (top os) rows) os stop
-    step_named settled t h = stands-core settled d ts (record { rows = rows; open' = os; stop = stop }) (with_name (start_of ts) (stop_of ts)) (λ r. refl) (top os) h
+    step_named settled t h = stands_core settled d ts (record { rows = rows; open' = os; stop = stop }) (with_name (start_of ts) (stop_of ts)) (λ r. refl) (top os) h
     step_named fresh t h = absurd (not_wrong ss t)
     step_named bare t h = absurd (not_wrong ss t)
-    step_named waiting t h = stands-core waiting d ts (record { rows = rows; open' = os; stop = stop }) (with_name (start_of ts) (stop_of ts)) (λ r. refl) (top os) h
+    step_named waiting t h = stands_core waiting d ts (record { rows = rows; open' = os; stop = stop }) (with_name (start_of ts) (stop_of ts)) (λ r. refl) (top os) h
     step_named wrong t h = absurd (not_wrong ss t)
     step_named (literal k) t h = absurd (not_wrong ss t)
     step_named (spelt k) t h = absurd (not_wrong ss t)
@@ -355,7 +355,7 @@ module _ (l : ℕ) (Good : Tok → Type 0) where
     step_wrapper (spelt k) t h = absurd (not_wrong ss t)
 
     step_wrap : (w : ℕ) (φ : Phase) → T (is_settled (run ss (of_mark (wrap w) φ))) → On φ d ts rows os stop → On (of_mark (wrap w) φ) d ts (change (wrapped w) (top os) rows) os stop
-    step_wrap w settled t h = stands-core settled d ts (record { rows = rows; open' = os; stop = stop }) (wrapped w) (λ r. refl) (top os) h
+    step_wrap w settled t h = stands_core settled d ts (record { rows = rows; open' = os; stop = stop }) (wrapped w) (λ r. refl) (top os) h
     step_wrap w fresh t h = absurd (not_wrong ss t)
     step_wrap w bare t h = absurd (not_wrong ss t)
     step_wrap w waiting t h = absurd (not_wrong ss t)
@@ -364,22 +364,22 @@ module _ (l : ℕ) (Good : Tok → Type 0) where
     step_wrap w (spelt k) t h = absurd (not_wrong ss t)
 
     -- a row ends
-    closes-row : (φ : Phase) → ((r : Row) → Inner φ r ts stop → stop ≤ l → Whole (stopping stop r)) → On φ (suc d) ts rows os stop → On settled d ts (change (stopping stop) (top os) rows) (pop os) stop
-    closes-row φ g h = go os h
+    closes_row : (φ : Phase) → ((r : Row) → Inner φ r ts stop → stop ≤ l → Whole (stopping stop r)) → On φ (suc d) ts rows os stop → On settled d ts (change (stopping stop) (top os) rows) (pop os) stop
+    closes_row φ g h = go os h
       where
         go : (os : List ℕ) → On φ (suc d) ts rows os stop → On settled d ts (change (stopping stop) (top os) rows) (pop os) stop
         go [] h = let e = h.level in absurd (omega arith)
-        go (j ∷ ks) h = inner-closed φ j d ks ts rows stop g h
+        go (j ∷ ks) h = inner_closed φ j d ks ts rows stop g h
 
     step_end : (φ : Phase) → T (is_settled (run ss (of_mark end φ))) → On φ (suc d) ts rows os stop → On (of_mark end φ) d ts (change (stopping stop) (top os) rows) (pop os) stop
-    step_end settled t h = closes-row settled (λ r i u. (i.0, u, λ t. absurd (i.1 t))) h
+    step_end settled t h = closes_row settled (λ r i u. (i.0, u, λ t. absurd (i.1 t))) h
     step_end fresh t h = absurd (not_wrong ss t)
     step_end bare t h = absurd (not_wrong ss t)
     step_end waiting t h = absurd (not_wrong ss t)
     step_end wrong t h = absurd (not_wrong ss t)
     step_end (literal k) t h = absurd (not_wrong ss t)
     step_end (spelt k) t h =
-        closes-row (spelt k) (λ r i u. (i.2, u, λ t. (i.1.0, i.1.1, i.1.2 ∙ ap literal_class (sym i.0), i.1.3, i.1.4))) h
+        closes_row (spelt k) (λ r i u. (i.2, u, λ t. (i.1.0, i.1.1, i.1.2 ∙ ap literal_class (sym i.0), i.1.3, i.1.4))) h
 
   -- a token that a terminal hits is of the class that it asks for
   the_class : (c d : Class) (p : Terminal) → T (is_the c p) → T (hits p d) → c ≡ d
@@ -388,52 +388,52 @@ module _ (l : ℕ) (Good : Tok → Type 0) where
   the_class c d name_but_on t h = absurd t
   the_class c d name_but_literal t h = absurd t
 
-  inner-token : (ss : Syms) (p : Terminal) (φ : Phase) (r : Row) (k : Tok) (ts : List Tok) (stop : ℕ) → stop ≤ k.start → k.start ≤ k.stop → Good k → T (hits p k.class) → T (is_settled (run ss (of_token p φ)))
+  inner_token : (ss : Syms) (p : Terminal) (φ : Phase) (r : Row) (k : Tok) (ts : List Tok) (stop : ℕ) → stop ≤ k.start → k.start ≤ k.stop → Good k → T (hits p k.class) → T (is_settled (run ss (of_token p φ)))
       → Inner φ r (k ∷ ts) stop → Inner (of_token p φ) r ts k.stop
-  inner-token ss p settled r k ts stop a b g h t i = let q = i.0 in (omega arith, i.1)
-  inner-token ss p fresh r k ts stop a b g h t i = let q = i.1 in (i.0, omega arith)
-  inner-token ss p bare r k ts stop a b g h t i = absurd (not_wrong ss t)
-  inner-token ss p waiting r k ts stop a b g h t i = let q = i.1 in (omega arith, i.0)
-  inner-token ss p wrong r k ts stop a b g h t i = absurd i
-  inner-token ss p (literal j) r k ts stop a b g h t i = go (is_the (literal_class j) p) refl t
+  inner_token ss p settled r k ts stop a b g h t i = let q = i.0 in (omega arith, i.1)
+  inner_token ss p fresh r k ts stop a b g h t i = let q = i.1 in (i.0, omega arith)
+  inner_token ss p bare r k ts stop a b g h t i = absurd (not_wrong ss t)
+  inner_token ss p waiting r k ts stop a b g h t i = let q = i.1 in (omega arith, i.0)
+  inner_token ss p wrong r k ts stop a b g h t i = absurd i
+  inner_token ss p (literal j) r k ts stop a b g h t i = go (is_the (literal_class j) p) refl t
     where
       go : (c : Bool) → is_the (literal_class j) p ≡ c → T (is_settled (run ss (cond c (spelt j) wrong))) → Inner (cond c (spelt j) wrong) r ts k.stop
       go true e t = let q = i.1 in (i.0, (k, g, sym (the_class (literal_class j) k.class p (subst T (sym e) tt) h), sym q, refl), omega arith)
       go false e t = absurd (not_wrong ss t)
-  inner-token ss p (spelt j) r k ts stop a b g h t i = absurd (not_wrong ss t)
+  inner_token ss p (spelt j) r k ts stop a b g h t i = absurd (not_wrong ss t)
 
-  settled-token : (p : Terminal) (φ : Phase) → T (is_settled φ) → T (is_settled (of_token p φ))
-  settled-token p settled t = tt
-  settled-token p fresh t = absurd t
-  settled-token p bare t = absurd t
-  settled-token p waiting t = absurd t
-  settled-token p wrong t = absurd t
-  settled-token p (literal k) t = absurd t
-  settled-token p (spelt k) t = absurd t
+  settled_token : (p : Terminal) (φ : Phase) → T (is_settled φ) → T (is_settled (of_token p φ))
+  settled_token p settled t = tt
+  settled_token p fresh t = absurd t
+  settled_token p bare t = absurd t
+  settled_token p waiting t = absurd t
+  settled_token p wrong t = absurd t
+  settled_token p (literal k) t = absurd t
+  settled_token p (spelt k) t = absurd t
 
   -- what is new behind a token was new before it
-  new-token : (p : Terminal) (φ : Phase) → T (is_new (of_token p φ)) → T (is_new φ)
-  new-token p settled t = t
-  new-token p fresh t = tt
-  new-token p bare t = absurd t
-  new-token p waiting t = absurd t
-  new-token p wrong t = absurd t
-  new-token p (literal k) t = go (is_the (literal_class k) p) t
+  new_token : (p : Terminal) (φ : Phase) → T (is_new (of_token p φ)) → T (is_new φ)
+  new_token p settled t = t
+  new_token p fresh t = tt
+  new_token p bare t = absurd t
+  new_token p waiting t = absurd t
+  new_token p wrong t = absurd t
+  new_token p (literal k) t = go (is_the (literal_class k) p) t
     where
       go : (c : Bool) → T (is_new (cond c (spelt k) wrong)) → ⊥
       go true t = t
       go false t = t
-  new-token p (spelt k) t = absurd t
+  new_token p (spelt k) t = absurd t
 
   step_token : (ss : Syms) (p : Terminal) (φ : Phase) (d : ℕ) (k : Tok) (ts : List Tok) (rows : List Row) (os : List ℕ) (stop : ℕ) → T (hits p k.class) → T (is_settled (run ss (of_token p φ)))
       → On φ d (k ∷ ts) rows os stop → On (of_token p φ) d ts rows os k.stop
-  step_token ss p φ d k ts rows os stop h t s = record { rise = s.rise.3; down = s.down; whole = s.whole; opens = go os s.opens; level = s.level; last = λ u. s.last (new-token p φ u) }
+  step_token ss p φ d k ts rows os stop h t s = record { rise = s.rise.3; down = s.down; whole = s.whole; opens = go os s.opens; level = s.level; last = λ u. s.last (new_token p φ u) }
     where
       go : (os : List ℕ) → Opens φ rows (k ∷ ts) stop os → Opens (of_token p φ) rows ts k.stop os
-      go [] o = settled-token p φ o
+      go [] o = settled_token p φ o
       go (j ∷ ks) o = (
-        inner-token ss p φ (at rows j) k ts stop s.rise.0 s.rise.1 s.rise.2 h t o.0,
-        held-later rows stop k.stop ks (omega (arith, s.rise.0, s.rise.1)) o.1,
+        inner_token ss p φ (at rows j) k ts stop s.rise.0 s.rise.1 s.rise.2 h t o.0,
+        held_later rows stop k.stop ks (omega (arith, s.rise.0, s.rise.1)) o.1,
       )
 
   -- the whole text

@@ -63,15 +63,15 @@ literal_no_name k = go (eqb k 21) (eqb k 22)
     go false false t = t
 
 module _ (p : Part) (a : T (is_alone p)) (s rows : List ℕ) (n : ℕ) (t : Taken p s rows n) where
-  whole-at : (i : ℕ) → i < n → Whole (length s) (Lies s) (row_at rows i)
-  whole-at i h =
+  whole_at : (i : ℕ) → i < n → Whole (length s) (Lies s) (row_at rows i)
+  whole_at i h =
       subst (Whole (length s) (Lies s)) (sym (row_is p s rows n t i) ∙ row_at_is rows n i h)
       (said_whole p a s _ t.list (tokens_are s) t.said i (omega (arith, t.count)))
 
   -- the bytes of a number's or string's row are a token of that class
   pub taken_token : (i : ℕ) → i < n → T (is_literal (cell rows i 0)) → (bs : List ℕ) × Longest bs (bytes_of s (cell rows i 1) (cell rows i 2)) (is (literal_class (cell rows i 0)))
   taken_token i h l =
-      let w = (whole-at i h).2 l in
+      let w = (whole_at i h).2 l in
       let q = lies_piece s w.0 (literal_class (cell rows i 0)) (literal_no_name (cell rows i 0)) w.1 w.2 in
       (q.0, subst (λ (z : List ℕ). Longest q.0 z (is (literal_class (cell rows i 0)))) (ap (λ (x : ℕ). bytes_of s x w.0.stop) w.3 ∙ ap (bytes_of s (cell rows i 1)) w.4) q.1)
 
@@ -81,9 +81,9 @@ module _ (p : Part) (a : T (is_alone p)) (s rows : List ℕ) (n : ℕ) (t : Take
       let q = taken_token i h (subst (λ (k : ℕ). T (is_literal k)) (sym e) tt) in
       longest_string (subst (λ (k : ℕ). Longest q.0 (bytes_of s (cell rows i 1) (cell rows i 2)) (is (literal_class k))) e q.1)
 
-  string-long : (i : ℕ) → i < n → cell rows i 0 ≡ kind_string → cell rows i 1 + 2 ≤ cell rows i 2
-  string-long i h e =
-      let w = (whole-at i h).2 (subst (λ (k : ℕ). T (is_literal k)) (sym e) tt) in
+  string_long : (i : ℕ) → i < n → cell rows i 0 ≡ kind_string → cell rows i 1 + 2 ≤ cell rows i 2
+  string_long i h e =
+      let w = (whole_at i h).2 (subst (λ (k : ℕ). T (is_literal k)) (sym e) tt) in
       let b = string_size (bytes_of s (cell rows i 1) (cell rows i 2)) (taken_string i h e) in
       let z : length (bytes_of s (cell rows i 1) (cell rows i 2)) + cell rows i 1 ≡ cell rows i 2
       = subst (λ (x : ℕ). length (bytes_of s x (cell rows i 2)) + x ≡ cell rows i 2) w.3 (subst (λ (y : ℕ). length (bytes_of s w.0.start y) + w.0.start ≡ y) w.4 w.1.size) in
@@ -94,9 +94,9 @@ module _ (p : Part) (a : T (is_alone p)) (s rows : List ℕ) (n : ℕ) (t : Take
   taken_spanned = record {
     short = t.rowed.short;
     sized = rowed_sized t.rowed;
-    order = λ i h. (whole-at i h).0;
-    within = λ i h. (whole-at i h).1;
-    quotes = string-long;
+    order = λ i h. (whole_at i h).0;
+    within = λ i h. (whole_at i h).1;
+    quotes = string_long;
   }
 
 -- the first row of a variables text

@@ -59,17 +59,17 @@ module _ (s : List ℕ) where
         size = let z = ap length q in omega arith;
       }
 
-  tokens-rise : {at : ℕ} {bs : List ℕ} {t : Text} (a : ℕ) → a ≤ at → Stands at bs → Tokens at bs t → Rise (length s) (Lies s) a (tokens_of t)
+  tokens_rise : {at : ℕ} {bs : List ℕ} {t : Text} (a : ℕ) → a ≤ at → Stands at bs → Tokens at bs t → Rise (length s) (Lies s) a (tokens_of t)
   unfolding tokens_of
-  tokens-rise a u h ends = omega (arith, h.within)
-  tokens-rise a u h (starts_none n) = omega (arith, h.within)
-  tokens-rise {at} {bs} a u h (skips p g r) = tokens-rise a (omega arith) (stands_later at bs p _ g h) r
-  tokens-rise {at} {bs} a u h (comments p g e r) = tokens-rise a (omega arith) (stands_later at bs p _ g h) r
-  tokens-rise a u h (bad_comment p g e) = omega (arith, h.within)
-  tokens-rise {at} {bs} a u h (tokens p c g r) = (u, omega arith, token_lies at bs p c g h, tokens-rise (at + length p) (omega arith) (stands_later at bs p (is c) g h) r)
+  tokens_rise a u h ends = omega (arith, h.within)
+  tokens_rise a u h (starts_none n) = omega (arith, h.within)
+  tokens_rise {at} {bs} a u h (skips p g r) = tokens_rise a (omega arith) (stands_later at bs p _ g h) r
+  tokens_rise {at} {bs} a u h (comments p g e r) = tokens_rise a (omega arith) (stands_later at bs p _ g h) r
+  tokens_rise a u h (bad_comment p g e) = omega (arith, h.within)
+  tokens_rise {at} {bs} a u h (tokens p c g r) = (u, omega arith, token_lies at bs p c g h, tokens_rise (at + length p) (omega arith) (stands_later at bs p (is c) g h) r)
 
   pub text_rises : {t : Text} → Tokens 0 s t → Rise (length s) (Lies s) 0 (tokens_of t)
-  text_rises k = tokens-rise 0 (omega arith) (record { is = refl; within = omega arith }) k
+  text_rises k = tokens_rise 0 (omega arith) (record { is = refl; within = omega arith }) k
 
 -- a token of a number's or string's class is a piece of that class
 or_name : (b : Bool) (x y : Class) → T (is_name_class x) → T (is_name_class y) → T (is_name_class (or_else b x y))

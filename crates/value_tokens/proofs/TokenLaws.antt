@@ -292,8 +292,8 @@ module _ (t book : List ℕ) (d : Doc) (i sort number limit from : ℕ) (p p' : 
               let hi : kind_of d i ≤ kind_list = ltb-false kind_list (kind_of d i) v in
               absurd (no_high (kind_of d i) (no_low (kind_of d i) lo nv a b c) hi nb nn ne e)
 
-      no-input : is_object_kind (kind_of d i) ≡ true → sort_of (kind_of_type (table_of t) name) ≡ 8 → ⊥
-      no-input o e = let y : takes_fields (kind_of d i) sort ≡ true = rw (eq-eqb sort 8 (sym s.sort_is ∙ e), o) refl in absurd (let z : ◌≡◌ {A = ℕ} 0 1 = cc in omega arith)
+      no_input : is_object_kind (kind_of d i) ≡ true → sort_of (kind_of_type (table_of t) name) ≡ 8 → ⊥
+      no_input o e = let y : takes_fields (kind_of d i) sort ≡ true = rw (eq-eqb sort 8 (sym s.sort_is ∙ e), o) refl in absurd (let z : ◌≡◌ {A = ℕ} 0 1 = cc in omega arith)
 
       go : (a : Bool) → eqb (kind_of d i) kind_integer ≡ a → (b : Bool) → eqb (kind_of d i) kind_float ≡ b → (c : Bool) → eqb (kind_of d i) kind_string ≡ c → (e : Bool) → eqb (kind_of d i) kind_list ≡ e → Is
       go true u b v c w e x =
@@ -311,6 +311,6 @@ module _ (t book : List ℕ) (d : Doc) (i sort number limit from : ℕ) (p p' : 
       go false u false v false w false x =
           let o : is_object_kind (kind_of d i) ≡ true = objects (eqb-false (kind_of d i) kind_integer u) (eqb-false (kind_of d i) kind_float v) (eqb-false (kind_of d i) kind_string w) (eqb-false (kind_of d i) kind_list x) in
           from_value (object (placed text d i) (entriesFrom text d read kind_object_field i (count d - (i + 1)) (i + 1))) (value_object text d read i o)
-          (subst (Here (placed text d i)) (sym (object_other (placed text d i) _ (kind_of_type (table_of t) name) (no-input o))) refl)
-          (subst (λ (y : Out Tree). Leaf limit y from p p' r) (sym (object_other (placed text d i) _ (kind_of_type (table_of t) name) (no-input o)))
+          (subst (Here (placed text d i)) (sym (object_other (placed text d i) _ (kind_of_type (table_of t) name) (no_input o))) refl)
+          (subst (λ (y : Out Tree). Leaf limit y from p p' r) (sym (object_other (placed text d i) _ (kind_of_type (table_of t) name) (no_input o)))
           (k.other (eqb-false (kind_of d i) kind_integer u) (eqb-false (kind_of d i) kind_float v) (eqb-false (kind_of d i) kind_string w)))

@@ -84,21 +84,21 @@ small_is : (k : ℕ) → k ≤ most_rows → small k ≡ k
 small_is k h = rw (le-leb k most_rows h) refl
 
 module _ (t book : List ℕ) (b : Booked t book) (ref : Ref) (sort number wrappers : ℕ) (is : DueIs t book ref sort number wrappers) (fits : Fits book sort number wrappers) where
-  few-number : 7 ≤ sort → small number ≡ number
-  few-number h = let m = fits.there h in let r = b.indexed.held.most in small_is number (omega (arith, m, r))
+  few_number : 7 ≤ sort → small number ≡ number
+  few_number h = let m = fits.there h in let r = b.indexed.held.most in small_is number (omega (arith, m, r))
 
   pub small_due : DueIs t book ref sort (small number) wrappers
   small_due = record {
     sorted = record {
       sort_is = is.sorted.sort_is;
-      held = λ h. is.sorted.held h ∙ ap (λ (k : ℕ). kind_of_definition (definition_on t k)) (sym (few-number h));
-      there = λ h. subst (λ (k : ℕ). k < count_in book) (sym (few-number h)) (is.sorted.there h);
+      held = λ h. is.sorted.held h ∙ ap (λ (k : ℕ). kind_of_definition (definition_on t k)) (sym (few_number h));
+      there = λ h. subst (λ (k : ℕ). k < count_in book) (sym (few_number h)) (is.sorted.there h);
     };
     packs = is.packs;
   }
 
   pub small_fits : Fits book sort (small number) wrappers
-  small_fits = record { there = λ h. subst (λ (k : ℕ). k < count_in book) (sym (few-number h)) (fits.there h); few = fits.few }
+  small_fits = record { there = λ h. subst (λ (k : ℕ). k < count_in book) (sym (few_number h)) (fits.there h); few = fits.few }
 
 module _ (held held' : List ℕ) (many a b c d e f g : ℕ) (q : held' ≡ sets held (row_size * many) (a ∷ b ∷ c ∷ d ∷ e ∷ f ∷ g ∷ [])) (r : row_size * (many + 1) ≤ length held) where
   pub keep_same : Same many held held'

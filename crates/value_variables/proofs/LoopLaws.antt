@@ -57,12 +57,12 @@ module _ (t book s rows : List ℕ) (n : ℕ) (s1 rows1 : List ℕ) (n1 limit ma
   pub told_done : (o : Out Pairs) (e m : ℕ) → Told t book s rows n s1 rows1 n1 limit o many from p p' held' r → r ≡ Done e m →
       (ps : Pairs) × (o ≡ Got ps) × Put limit (encode_pairs ps) from p p' e × Holds t book s rows n s1 rows1 n1 held' many m ps
   told_done (Got ps) e m g u =
-      let x : g.0 ≡ e = at-is g.0 g.1 g.2 in
+      let x : g.0 ≡ e = at_is g.0 g.1 g.2 in
       let y : g.1 ≡ m = many_is g.0 g.1 g.2 in
       (ps, refl, subst (λ (z : ℕ). Put limit (encode_pairs ps) from p p' z) x g.3, subst (λ (z : ℕ). Holds t book s rows n s1 rows1 n1 held' many z ps) y g.4)
     where
-      at-is : (a b : ℕ) → r ≡ Done a b → a ≡ e
-      at-is a b q = cc
+      at_is : (a b : ℕ) → r ≡ Done a b → a ≡ e
+      at_is a b q = cc
 
       many_is : (a b : ℕ) → r ≡ Done a b → b ≡ m
       many_is a b q = cc

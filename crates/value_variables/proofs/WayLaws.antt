@@ -102,14 +102,14 @@ module _ (t book s rows : List ℕ) (n : ℕ) (past s1 rows1 : List ℕ) (n1 : �
   given_is = ap (λ (k : ℕ). givens (kinds_in t) no_variables (entriesFrom input_variables d1 (valueOfRow input_variables d1) kind_object_field 0 (k - 1) 1)) (sym (rows_count rows1 n1))
 
   module _ (r : ℕ) (g : Gives s1 held 0 d1 n1 33 kind_object_field 0 (part s name size) r) where
-    entry-some : r < n1 → entry_of (name_of d v) (givens_in t d1) ≡ some (λ q. coerced t no_variables input_variables d1 33 (r + 1) q)
-    entry-some h =
+    entry_some : r < n1 → entry_of (name_of d v) (givens_in t d1) ≡ some (λ q. coerced t no_variables input_variables d1 33 (r + 1) q)
+    entry_some h =
         subst (λ (gs : List Given). entry_of (name_of d v) gs ≡ some (λ q. coerced t no_variables input_variables d1 33 (r + 1) q)) given_is
         (subst (λ (x : Name). entry_of x (givens_at t no_variables input_variables d1 n1 33 kind_object_field 0) ≡ some (λ q. coerced t no_variables input_variables d1 33 (r + 1) q)) spelt
         (g.some_is h t no_variables input_variables (nobody s1 held)))
 
-    entry-none : n1 ≤ r → entry_of (name_of d v) (givens_in t d1) ≡ none
-    entry-none h =
+    entry_none : n1 ≤ r → entry_of (name_of d v) (givens_in t d1) ≡ none
+    entry_none h =
         subst (λ (gs : List Given). entry_of (name_of d v) gs ≡ none) given_is
         (subst (λ (x : Name). entry_of x (givens_at t no_variables input_variables d1 n1 33 kind_object_field 0) ≡ none) spelt
         (g.none_is h t no_variables input_variables (nobody s1 held)))
@@ -134,7 +134,7 @@ module _ (t book s rows : List ℕ) (n : ℕ) (past s1 rows1 : List ℕ) (n1 : �
         ToldPairs input_variables limit (pair_first (part s name size) (constant (kinds_in t) (valueOfRow input_variables d1 (r + 1)) ref) (Got no_pairs)) from p p' c → Goal held' (told input_variables (many + 1) c)
     way_given held' c h k w =
         whole held' (told input_variables (many + 1) c) (pair_first (name_of d v) (constant (kinds_in t) (valueOfRow input_variables d1 (r + 1)) ref) (Got no_pairs))
-        (only_given t (givens_in t d1) var (λ q. coerced t no_variables input_variables d1 33 (r + 1) q) (entry-some h)) (same_here held' input_variables (r + 1) k)
+        (only_given t (givens_in t d1) var (λ q. coerced t no_variables input_variables d1 33 (r + 1) q) (entry_some h)) (same_here held' input_variables (r + 1) k)
         (told_first t book s rows n s1 rows1 n1 limit many from input_variables p p' held' c (name_of d v) (constant (kinds_in t) (valueOfRow input_variables d1 (r + 1)) ref)
         (λ tree e. held_here held' input_variables (r + 1) k tree (λ z. absurd (omega (arith, z))) (λ z. record { there = omega (arith, h); is = e }))
         (subst (λ (x : Name). ToldPairs input_variables limit (pair_first x (constant (kinds_in t) (valueOfRow input_variables d1 (r + 1)) ref) (Got no_pairs)) from p p' c) spelt w))
@@ -143,7 +143,7 @@ module _ (t book s rows : List ℕ) (n : ℕ) (past s1 rows1 : List ℕ) (n1 : �
         ToldPairs input_document limit (pair_first (part s name size) (constant (kinds_in t) (valueOfRow input_document d i) ref) (Got no_pairs)) from p p' c → Goal held' (told input_document (many + 1) c)
     way_default held' c i h e k w =
         whole held' (told input_document (many + 1) c) (pair_first (name_of d v) (constant (kinds_in t) (valueOfRow input_document d i) ref) (Got no_pairs))
-        (only_default t (givens_in t d1) var (valueOfRow input_document d i) (entry-none h) (ap (value_if d) e)) (same_here held' input_document i k)
+        (only_default t (givens_in t d1) var (valueOfRow input_document d i) (entry_none h) (ap (value_if d) e)) (same_here held' input_document i k)
         (told_first t book s rows n s1 rows1 n1 limit many from input_document p p' held' c (name_of d v) (constant (kinds_in t) (valueOfRow input_document d i) ref)
         (λ tree q. held_here held' input_document i k tree (λ z. record { there = (let l = default_there s rows n v i e in omega (arith, l)); is = q }) (λ z. absurd (z refl)))
         (subst (λ (x : Name). ToldPairs input_document limit (pair_first x (constant (kinds_in t) (valueOfRow input_document d i) ref) (Got no_pairs)) from p p' c) spelt w))
@@ -151,5 +151,5 @@ module _ (t book s rows : List ℕ) (n : ℕ) (past s1 rows1 : List ℕ) (n1 : �
     pub way_nothing : (c : Coerced) → n1 ≤ r → default_row d v ≡ none → ToldPairs input_document limit (missing_due (placed input_document d v) (due_variable d v) (Got no_pairs)) from p p' c → Goal held (told input_document many c)
     way_nothing c h e w =
         whole held (told input_document many c) (missing_due (placed input_document d v) (due_variable d v) (Got no_pairs))
-        (only_nothing t (givens_in t d1) var (entry-none h) (ap (value_if d) e)) (record { size = refl; cells = λ j k x y. refl })
+        (only_nothing t (givens_in t d1) var (entry_none h) (ap (value_if d) e)) (record { size = refl; cells = λ j k x y. refl })
         (told_missing t book s rows n s1 rows1 n1 limit many from input_document p p' held c (placed input_document d v) (due_variable d v) w)

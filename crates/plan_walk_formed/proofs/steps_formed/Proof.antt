@@ -31,12 +31,12 @@ step-formed-requires c κs =
 loop-again : tie.Need-loop-preserved invariant-loop decreases-loop
 loop-again c =
     let l = c.before.before.before.loop in
-    (omega (arith, l.invariant.0), steps_more _ _ _ _ l.i l.invariant.1 (decided_yes _ _ c.before.step-formed.ensures c.if1.true))
+    (omega (arith, l.invariant.0), steps_more _ _ _ _ l.i l.invariant.1 (decided_yes _ _ c.before.step_formed.ensures c.if1.true))
 
 returns : tie.Need-returns invariant-loop decreases-loop
 returns c =
     let l = c.before.before.before.loop in
-    λ f. decided_no _ _ c.before.step-formed.ensures c.if1.false (f l.i l.invariant.0 c.before.before.loop-test.true)
+    λ f. decided_no _ _ c.before.step_formed.ensures c.if1.false (f l.i l.invariant.0 c.before.before.loop-test.true)
 
 returns-2 : tie.Need-returns-2 invariant-loop decreases-loop
 returns-2 c =

@@ -7,7 +7,7 @@ returns : tie.Need-returns
 returns c = argument_first c.before.before.before.before.before.before.before.before.before.before.requires.4 c.before.by_name_twice.ensures c.if1.true
 
 returns-2 : tie.Need-returns-2
-returns-2 c = argument_last c.before.before.before.before.before.before.before.before.before.before.before.before.requires.4 c.before.before.before.by_name_twice.ensures c.before.before.if1.false _ c.before.argument-unknown.ensures c.rule-if.ensures
+returns-2 c = argument_last c.before.before.before.before.before.before.before.before.before.before.before.before.requires.4 c.before.before.before.by_name_twice.ensures c.before.before.if1.false _ c.before.argument_unknown.ensures c.rule-if.ensures
 
 pub argument-rule-spec : {M : Type 1} → statement M
 argument-rule-spec =

@@ -27,7 +27,7 @@ is-named-requires c κs =
     (name_stands _ _ _ _ _ _ _ c.before.loop.invariant c.loop-test.true p.0.most, p.1, c.before.before.wide.ensures ∙ c.before.before.before.key_of.ensures)
 
 returns : tie.Need-returns invariant-loop decreases-loop
-returns c = looking_here _ _ _ _ _ _ _ c.before.before.before.loop.invariant c.before.before.loop-test.true c.before.before.before.before.before.before.before.before.before.before.requires.0.most c.before.is-named.ensures c.if1.true
+returns c = looking_here _ _ _ _ _ _ _ c.before.before.before.loop.invariant c.before.before.loop-test.true c.before.before.before.before.before.before.before.before.before.before.requires.0.most c.before.is_named.ensures c.if1.true
 
 cell-of-requires : tie.Need-cell-of-requires invariant-loop decreases-loop
 cell-of-requires c κs = let p = c.before.before.before.before.before.before.before.before.before.before.requires in (roomy_less p.0.most (omega (arith, c.before.before.loop-test.true)), omega arith)
@@ -36,7 +36,7 @@ loop-less : tie.Need-loop-smaller invariant-loop decreases-loop
 loop-less c = let n = looking_less _ _ _ _ _ _ _ c.before.before.before.before.loop.invariant c.before.before.before.loop-test.true in omega (arith, n.0, n.1, c.cell-of.ensures)
 
 loop-again : tie.Need-loop-preserved invariant-loop decreases-loop
-loop-again c = rw c.cell-of.ensures (looking_on _ _ _ _ _ _ _ c.before.before.before.before.loop.invariant c.before.before.before.loop-test.true c.before.before.is-named.ensures c.before.if1.false)
+loop-again c = rw c.cell-of.ensures (looking_on _ _ _ _ _ _ _ c.before.before.before.before.loop.invariant c.before.before.before.loop-test.true c.before.before.is_named.ensures c.before.if1.false)
 
 returns-2 : tie.Need-returns-2 invariant-loop decreases-loop
 returns-2 c = looking_end _ _ _ _ _ _ _ c.before.loop.invariant c.loop-test.false

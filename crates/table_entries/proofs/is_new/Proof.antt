@@ -8,12 +8,12 @@ find-requires : tie.Need-find-requires
 find-requires c κs =
     let a = c.before.before.before.before.before.args in
     let h = c.before.before.before.before.before.requires in
-    (here_stands a.t.now a.book.now a.es.now a.from a.e h, rw (c.before.name_at.ensures, c.size-at.ensures) h.is.named.within)
+    (here_stands a.t.now a.book.now a.es.now a.from a.e h, rw (c.before.name_at.ensures, c.size_at.ensures) h.is.named.within)
 
 returns : tie.Need-returns
 returns c =
     let a = c.before.before.before.before.before.before.args in
-    new_is a.t.now a.book.now a.es.now a.from a.e _ _ _ c.before.before.name_at.ensures c.before.size-at.ensures c.find.ensures
+    new_is a.t.now a.book.now a.es.now a.from a.e _ _ _ c.before.before.name_at.ensures c.before.size_at.ensures c.find.ensures
 
 pub is-new-spec : {M : Type 1} → statement M
 is-new-spec =

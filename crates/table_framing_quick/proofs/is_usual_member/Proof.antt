@@ -12,7 +12,7 @@ returns-2 : tie.Need-returns-2
 returns-2 c = λ e. rw c.before.if2.true (c.is-usual-argument.ensures e 1)
 
 returns-3 : tie.Need-returns-3
-returns-3 c = λ e. fine_name c.before.before.before.before.before.before.args.at c.before.before.before.before.before.before.args.k _ _ (c.before.before.is-named.ensures c.before.if3.true) c.is_name.ensures e
+returns-3 c = λ e. fine_name c.before.before.before.before.before.before.args.at c.before.before.before.before.before.before.args.k _ _ (c.before.before.is_named.ensures c.before.if3.true) c.is_name.ensures e
 
 returns-4 : tie.Need-returns-4
 returns-4 c = λ e. absurd (false≢true e)

@@ -43,7 +43,7 @@ is-named-requires c κs =
 returns-2 : tie.Need-returns-2 invariant-loop decreases-loop
 returns-2 c =
     let a = c.before.before.before.before.before.before.before.before.before.args in
-    find_found (argument_named (part a.s.now a.at a.n)) a.from a.end c.before.before.before.before.before.before.loop.i (arguments_in a.t.now a.from a.end) (arguments_in a.t.now c.before.before.before.before.before.before.loop.i a.end) c.before.before.before.before.before.before.loop.invariant _ _ _ _ (found (c.before.before.before)) (sym c.before.is-named.ensures ∙ c.if1.true)
+    find_found (argument_named (part a.s.now a.at a.n)) a.from a.end c.before.before.before.before.before.before.loop.i (arguments_in a.t.now a.from a.end) (arguments_in a.t.now c.before.before.before.before.before.before.loop.i a.end) c.before.before.before.before.before.before.loop.invariant _ _ _ _ (found (c.before.before.before)) (sym c.before.is_named.ensures ∙ c.if1.true)
 
 loop-less : tie.Need-loop-smaller invariant-loop decreases-loop
 loop-less c =
@@ -53,7 +53,7 @@ loop-less c =
 loop-again : tie.Need-loop-preserved invariant-loop decreases-loop
 loop-again c =
     let a = c.before.before.before.before.before.before.before.before.before.args in
-    find_more (argument_named (part a.s.now a.at a.n)) a.from a.end c.before.before.before.before.before.before.loop.i (arguments_in a.t.now a.from a.end) (arguments_in a.t.now c.before.before.before.before.before.before.loop.i a.end) c.before.before.before.before.before.before.loop.invariant _ _ _ _ (found (c.before.before.before)) (sym c.before.is-named.ensures ∙ c.if1.false)
+    find_more (argument_named (part a.s.now a.at a.n)) a.from a.end c.before.before.before.before.before.before.loop.i (arguments_in a.t.now a.from a.end) (arguments_in a.t.now c.before.before.before.before.before.before.loop.i a.end) c.before.before.before.before.before.before.loop.invariant _ _ _ _ (found (c.before.before.before)) (sym c.before.is_named.ensures ∙ c.if1.false)
 
 pub find-argument-spec : {M : Type 1} → statement M
 find-argument-spec =

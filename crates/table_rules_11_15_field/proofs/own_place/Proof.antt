@@ -23,29 +23,29 @@ arguments-from-requires-2 c κs = c.before.before.before.before.before.requires.
 first-wrong-requires : tie.Need-first-wrong-requires
 first-wrong-requires c κs =
     let p = c.before.before.before.before.before.before.before.requires in
-    let f = c.before.before.arguments-from.ensures in
+    let f = c.before.before.arguments_from.ensures in
     let g = c.before.arguments-from2.ensures in
     (from_bounds g p.2, from_bounds f p.1, from_slim g p.4, from_slim f p.3)
 
 returns-3 : tie.Need-returns-3
 returns-3 c =
     let a = c.before.before.before.before.before.before.before.before.args in
-    asked_by a.rule a.member a.part (arguments_in a.t.now c.before.before.arguments-from2.result a.stop) (arguments_in a.t.now c.before.before.before.arguments-from.result a.end)
-    c.first-wrong.ensures c.before.before.arguments-from2.ensures.are c.before.before.before.arguments-from.ensures.are
+    asked_by a.rule a.member a.part (arguments_in a.t.now c.before.before.arguments-from2.result a.stop) (arguments_in a.t.now c.before.before.before.arguments_from.result a.end)
+    c.first-wrong.ensures c.before.before.arguments-from2.ensures.are c.before.before.before.arguments_from.ensures.are
     (own_extra a.rule (table_of a.t.now) a.member a.part (member_from a.t.now a.tag a.start a.end) (member_from a.t.now a.own-tag a.from a.stop) c.before.before.before.before.before.if1.false c.before.before.before.before.if2.false c.before.if3.true)
 
 first-wrong-requires-2 : tie.Need-first-wrong-requires-2
 first-wrong-requires-2 c κs =
     let p = c.before.before.before.before.before.before.before.requires in
-    let f = c.before.before.arguments-from.ensures in
+    let f = c.before.before.arguments_from.ensures in
     let g = c.before.arguments-from2.ensures in
     (from_bounds f p.1, from_bounds g p.2, from_slim f p.3, from_slim g p.4)
 
 returns-4 : tie.Need-returns-4
 returns-4 c =
     let a = c.before.before.before.before.before.before.before.before.args in
-    asked_by a.rule a.member a.part (arguments_in a.t.now c.before.before.before.arguments-from.result a.end) (arguments_in a.t.now c.before.before.arguments-from2.result a.stop)
-    c.first-wrong2.ensures c.before.before.before.arguments-from.ensures.are c.before.before.arguments-from2.ensures.are
+    asked_by a.rule a.member a.part (arguments_in a.t.now c.before.before.before.arguments_from.result a.end) (arguments_in a.t.now c.before.before.arguments-from2.result a.stop)
+    c.first-wrong2.ensures c.before.before.before.arguments_from.ensures.are c.before.before.arguments-from2.ensures.are
     (own_other a.rule (table_of a.t.now) a.member a.part (member_from a.t.now a.tag a.start a.end) (member_from a.t.now a.own-tag a.from a.stop) c.before.before.before.before.before.if1.false c.before.before.before.before.if2.false c.before.if3.false)
 
 pub own-place-spec : {M : Type 1} → statement M

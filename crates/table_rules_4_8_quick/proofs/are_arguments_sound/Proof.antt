@@ -27,7 +27,7 @@ found c =
     subst (NextArgument c.before.before.before.before.before.before.before.before.args.t.now c.before.before.before.loop.i c.before.before.before.before.before.before.before.before.args.end) c.from.given.1 c.before.before.next_argument.ensures
 
 loop-holds : tie.Need-loop-init invariant-loop decreases-loop
-loop-holds c = sounding_start argument_name _ _ _ _ _ _ c.arguments-from.ensures.order c.before.before.before.before.requires.2
+loop-holds c = sounding_start argument_name _ _ _ _ _ _ c.arguments_from.ensures.order c.before.before.before.before.requires.2
 
 next-argument-requires : tie.Need-next-argument-requires invariant-loop decreases-loop
 next-argument-requires c κs = later c.before.before.before.before.before.requires.1 c.loop.invariant.within
@@ -35,15 +35,15 @@ next-argument-requires c κs = later c.before.before.before.before.before.requir
 returns : tie.Need-returns invariant-loop decreases-loop
 returns c =
     let a = c.before.before.before.before.before.before.before.before.args in
-    let first = c.before.before.before.before.arguments-from.result in
+    let first = c.before.before.before.before.arguments_from.result in
     let k = sounding_none argument_name (ArgumentSound (table_of a.t.now) (arguments_in a.t.now first a.end)) _ a.mark first a.end c.before.before.before.loop.i c.before.before.before.loop.a (arguments_in a.t.now first a.end) (arguments_in a.t.now c.before.before.before.loop.i a.end) c.before.before.before.loop.invariant (subst (NextArgument a.t.now c.before.before.before.loop.i a.end) c.enum_told.given.1 c.before.before.next_argument.ensures) in
-    (c.before.before.before.loop.invariant.size, λ z. subst (λ (xs : List Argument). EveryFrom (ArgumentSound (table_of a.t.now) xs) 0 xs) c.before.before.before.before.arguments-from.ensures.are k)
+    (c.before.before.before.loop.invariant.size, λ z. subst (λ (xs : List Argument). EveryFrom (ArgumentSound (table_of a.t.now) xs) 0 xs) c.before.before.before.before.arguments_from.ensures.are k)
 
 is-argument-sound-requires : tie.Need-is-argument-sound-requires invariant-loop decreases-loop
 is-argument-sound-requires c κs =
     let p = c.before.before.before.before.before.before.before.before.before.before.requires in
     let f = found (c.before.before) in
-    (p.0, later p.1 c.before.before.before.before.before.before.arguments-from.ensures.order, narrow p.1 f.lies.order f.lies.within, c.before.before.before.before.before.loop.invariant.size)
+    (p.0, later p.1 c.before.before.before.before.before.before.arguments_from.ensures.order, narrow p.1 f.lies.order f.lies.within, c.before.before.before.before.before.loop.invariant.size)
 
 returns-2 : tie.Need-returns-2 invariant-loop decreases-loop
 returns-2 c = (c.before.before.before.is-argument-sound.ensures.size, λ z. absurd (false≢true z))
@@ -59,7 +59,7 @@ loop-less c =
 loop-again : tie.Need-loop-preserved invariant-loop decreases-loop
 loop-again c =
     let a = c.before.before.before.before.before.before.before.before.before.before.before.before.before.before.args in
-    let first = c.before.before.before.before.before.before.before.before.before.before.arguments-from.result in
+    let first = c.before.before.before.before.before.before.before.before.before.before.arguments_from.result in
     sounding_on argument_name (ArgumentSound (table_of a.t.now) (arguments_in a.t.now first a.end)) _ a.mark first a.end c.before.before.before.before.before.before.before.before.before.loop.i c.before.before.before.before.before.before.before.before.before.loop.a (arguments_in a.t.now first a.end) (arguments_in a.t.now c.before.before.before.before.before.before.before.before.before.loop.i a.end) c.before.before.before.before.before.before.before.before.before.loop.invariant _ _ _ _ (found (c.before.before.before.before.before.before)) _ c.before.before.before.is-argument-sound.ensures (not-false _ c.if1.false)
 
 pub are-arguments-sound-spec : {M : Type 1} → statement M

@@ -450,10 +450,10 @@ put-kept-same-length : (t : ℕ) → put-kept-lts.Need-same-length (put-kept-cal
 put-kept-same-length t c = search rules
 
 put-kept-returns : (t : ℕ) → put-kept-lts.Need-returns (put-kept-calls t) (put-kept-at t) put_kept.Post
-put-kept-returns t c = let a = c.before.before.before.before.before.before.before.before.before.before.before.before.before.args in λ vars text there r ref tree e δ kept. kept_null a.t.now vars text there (doc_of a.s.now a.rows.now a.n) a.n a.row a.i a.limit a.from r ref tree a.out.now _ c.before.before.put-nothing.result kept (subst (λ (b : Bool). Decides b (((row_in a.rows.now a.n a.row).kind ≡ kind_null) ⊎ ((row_in a.rows.now a.n a.row).kind ≡ kind_variable))) c.before.before.before.before.if1.true c.before.before.before.before.before.is-null.ensures) (c.before.before.put-nothing.ensures text r e)
+put-kept-returns t c = let a = c.before.before.before.before.before.before.before.before.before.before.before.before.before.args in λ vars text there r ref tree e δ kept. kept_null a.t.now vars text there (doc_of a.s.now a.rows.now a.n) a.n a.row a.i a.limit a.from r ref tree a.out.now _ c.before.before.put-nothing.result kept (subst (λ (b : Bool). Decides b (((row_in a.rows.now a.n a.row).kind ≡ kind_null) ⊎ ((row_in a.rows.now a.n a.row).kind ≡ kind_variable))) c.before.before.before.before.if1.true c.before.before.before.before.before.is_null.ensures) (c.before.before.put-nothing.ensures text r e)
 
 put-kept-returns-2 : (t : ℕ) → put-kept-lts.Need-returns-2 (put-kept-calls t) (put-kept-at t) put_kept.Post
-put-kept-returns-2 t c = let a = c.before.before.before.before.before.before.before.before.before.before.args in λ vars text there r ref tree e δ kept. kept_full a.t.now vars text there (doc_of a.s.now a.rows.now a.n) a.n a.row a.i a.limit a.from r ref tree a.out.now _ (UpTo a.from) kept (subst (λ (b : Bool). Decides b (((row_in a.rows.now a.n a.row).kind ≡ kind_null) ⊎ ((row_in a.rows.now a.n a.row).kind ≡ kind_variable))) c.before.if1.false c.before.before.is-null.ensures) c.if2.true c.before.before.before.before.before.before.before.before.before.before.requires.1.3.place refl
+put-kept-returns-2 t c = let a = c.before.before.before.before.before.before.before.before.before.before.args in λ vars text there r ref tree e δ kept. kept_full a.t.now vars text there (doc_of a.s.now a.rows.now a.n) a.n a.row a.i a.limit a.from r ref tree a.out.now _ (UpTo a.from) kept (subst (λ (b : Bool). Decides b (((row_in a.rows.now a.n a.row).kind ≡ kind_null) ⊎ ((row_in a.rows.now a.n a.row).kind ≡ kind_variable))) c.before.if1.false c.before.before.is_null.ensures) c.if2.true c.before.before.before.before.before.before.before.before.before.before.requires.1.3.place refl
 
 put-kept-value-requires : (t : ℕ) → put-kept-lts.Need-value-requires (put-kept-calls t) (put-kept-at t) put_kept.Post
 put-kept-value-requires t c κs = let a = c.before.before.before.before.before.before.before.before.before.before.before.args in (omega (arith, c.before.before.before.before.before.before.before.before.before.before.before.requires.0), (c.before.before.before.before.before.before.before.before.before.before.before.requires.1.0, c.before.before.before.before.before.before.before.before.before.before.before.requires.1.1, c.before.before.before.before.before.before.before.before.before.before.before.requires.1.2, c.before.before.before.before.before.before.before.before.before.before.before.requires.1.3, c.before.before.before.before.before.before.before.before.before.before.before.requires.1.4, record { ready = c.before.before.before.before.before.before.before.before.before.before.before.requires.1.0; size = omega arith; pairs = no_pairs; holds = refl }))
@@ -462,7 +462,7 @@ put-kept-same-length-2 : (t : ℕ) → put-kept-lts.Need-same-length-2 (put-kept
 put-kept-same-length-2 t c = search rules
 
 put-kept-returns-3 : (t : ℕ) → put-kept-lts.Need-returns-3 (put-kept-calls t) (put-kept-at t) put_kept.Post
-put-kept-returns-3 t c = let a = c.before.before.before.before.before.before.before.before.before.before.before.before.before.before.args in λ vars text there r ref tree e δ kept. kept_value a.t.now vars text there (doc_of a.s.now a.rows.now a.n) a.n a.row a.i a.limit a.from r ref tree a.out.now _ c.before.before.value.result kept (subst (λ (b : Bool). Decides b (((row_in a.rows.now a.n a.row).kind ≡ kind_null) ⊎ ((row_in a.rows.now a.n a.row).kind ≡ kind_variable))) c.before.before.before.before.before.if1.false c.before.before.before.before.before.before.is-null.ensures) (c.before.before.value.ensures there ref no_pairs δ refl)
+put-kept-returns-3 t c = let a = c.before.before.before.before.before.before.before.before.before.before.before.before.before.before.args in λ vars text there r ref tree e δ kept. kept_value a.t.now vars text there (doc_of a.s.now a.rows.now a.n) a.n a.row a.i a.limit a.from r ref tree a.out.now _ c.before.before.value.result kept (subst (λ (b : Bool). Decides b (((row_in a.rows.now a.n a.row).kind ≡ kind_null) ⊎ ((row_in a.rows.now a.n a.row).kind ≡ kind_variable))) c.before.before.before.before.before.if1.false c.before.before.before.before.before.before.is_null.ensures) (c.before.before.value.ensures there ref no_pairs δ refl)
 
 single-lists-in-requires : (t : ℕ) → single-lts.Need-lists-in-requires (single-calls t) (single-at t) single.Post
 single-lists-in-requires t c κs = c.before.before.before.before.before.before.before.before.before.before.requires.1.2.few

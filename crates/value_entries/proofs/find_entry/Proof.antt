@@ -30,7 +30,7 @@ is-named-requires c κs = (c.before.before.before.before.before.before.before.re
 returns : tie.Need-returns invariant-loop decreases-loop
 returns c =
     let a = c.before.before.before.before.before.before.before.before.before.args in let d = doc_of a.s.now a.rows.now a.n in let j = c.before.before.before.loop.c in
-    entry_here d a.kind a.h (part a.t.now a.at a.l) a.n j c.before.before.loop-test.true (sym c.before.is-named.ensures ∙ c.if1.true) ∙ sym c.before.before.before.loop.invariant.1
+    entry_here d a.kind a.h (part a.t.now a.at a.l) a.n j c.before.before.loop-test.true (sym c.before.is_named.ensures ∙ c.if1.true) ∙ sym c.before.before.before.loop.invariant.1
 
 next-child-requires : tie.Need-next-child-requires invariant-loop decreases-loop
 next-child-requires c κs = (c.before.before.before.before.before.before.before.before.before.requires.0, c.before.before.before.before.before.before.before.before.before.requires.1, c.before.before.loop-test.true, c.before.before.before.loop.invariant.0.below c.before.before.loop-test.true)
@@ -43,7 +43,7 @@ loop-less c =
 loop-again : tie.Need-loop-preserved invariant-loop decreases-loop
 loop-again c =
     let a = c.before.before.before.before.before.before.before.before.before.before.args in let d = doc_of a.s.now a.rows.now a.n in let j = c.before.before.before.before.loop.c in
-    (stands d a.h a.n j _ c.next-child.ensures (omega (arith, c.before.before.before.before.loop.invariant.0.behind)) c.before.before.before.loop-test.true, c.before.before.before.before.loop.invariant.1 ∙ entry_next d a.h a.n j _ c.next-child.ensures a.kind (omega (arith, c.before.before.before.before.loop.invariant.0.behind)) (part a.t.now a.at a.l) c.before.before.before.loop-test.true (sym c.before.before.is-named.ensures ∙ c.before.if1.false))
+    (stands d a.h a.n j _ c.next-child.ensures (omega (arith, c.before.before.before.before.loop.invariant.0.behind)) c.before.before.before.loop-test.true, c.before.before.before.before.loop.invariant.1 ∙ entry_next d a.h a.n j _ c.next-child.ensures a.kind (omega (arith, c.before.before.before.before.loop.invariant.0.behind)) (part a.t.now a.at a.l) c.before.before.before.loop-test.true (sym c.before.before.is_named.ensures ∙ c.before.if1.false))
 
 returns-2 : tie.Need-returns-2 invariant-loop decreases-loop
 returns-2 c =
