@@ -7,14 +7,14 @@ use mathlib.Core.List.{List, [], ◌∷◌}
 use Prim.Native.Nat.{ℕ, zero, suc, ◌<◌}
 use native.Mathlib.Decide.{dec_lt}
 use native.Mathlib.Omega.{arith}
-use lib.ListN.{length, get_or-eq_default}
+use lib.ListN.{get_or-eq_default}
 use lib.Dec.{eqb, lit<}
 use borrow.Author.Tests.{eqb-true}
 use Rattle.paper.proofs.Bools.{and_left as and_first, and_right as and_second}
 use Rattle.paper.specs.Numbers.{kind_field}
 use Rattle.paper.specs.Language.{Document, language}
 use Rattle.paper.specs.Lexical.{lexical}
-use Rattle.paper.specs.Rows.{Row, book, rows_of}
+use Rattle.paper.specs.Rows.{book, rows_of}
 use Rattle.paper.specs.Reading.{tokens_of}
 use Rattle.paper.proofs.Machine.{enter, choose, step, run}
 use Rattle.paper.proofs.Longest.{scan}

@@ -1,14 +1,11 @@
 -- 01's document D and table T: examples (8), (9) and (10), computed from the definitions; the readings' small plans.
 use mathlib.Core.Path.{◌≡◌, refl}
 use mathlib.Core.Bool.{Bool, true, false}
-use mathlib.Core.Option.{none, some}
-use mathlib.Core.List.{List, [], ◌∷◌, ◌++◌, map}
+use mathlib.Core.List.{List, [], ◌∷◌, map}
 use Prim.Native.Nat.{ℕ}
-use lib.ListN.{length}
-use lib.Dec.{eqb}
 use Rattle.paper.specs.Language.{Document, language}
 use Rattle.paper.specs.Lexical.{lexical}
-use Rattle.paper.specs.Rows.{Row, book, rows_of}
+use Rattle.paper.specs.Rows.{book, rows_of}
 use Rattle.paper.specs.Reading.{tokens_of}
 use Rattle.paper.proofs.Machine.{enter, choose, step, run}
 use Rattle.paper.proofs.Longest.{scan}
@@ -29,7 +26,7 @@ use Rattle.paper_plan.specs.PlanNumbers.{step_numbers}
 use Rattle.paper_plan.specs.Keys.{name_front, key_number}
 use Rattle.paper_plan.specs.Applies.{applies}
 use Rattle.paper_plan.specs.Collecting.{Pair}
-use Rattle.paper_plan.specs.Planning.{if_true, unless_true, unless_applies, if_met, leave, list, plan, program, firsts, Plan, walk, blocks, walk_answer}
+use Rattle.paper_plan.specs.Planning.{unless_applies, if_met, leave, list, plan, program, firsts, Plan, walk, blocks, walk_answer}
 use Rattle.paper_query.specs.Constructs.{numbers_where}
 use Rattle.paper_plan.specs.Selecting.{rows_where, if_of, block_in, plan_for}
 

@@ -29,7 +29,7 @@ use Rattle.paper_query.proofs.WorkedRules.{table_s, document}
 use Rattle.paper_plan.specs.Keys.{name_front, keyed, key_number}
 use Rattle.paper_plan.specs.Applies.{applies}
 use Rattle.paper_plan.specs.Collecting.{Sort, field, spread, inline, View, elem, Pair, pairs}
-use Rattle.paper_plan.specs.Planning.{Test, Step, leave, list, skip_tests, include_tests, dropped, guarded, unless_dropped, sortTests, tests, content, plan, program, firsts, Plan, State, block_of, walk, blocks, grouped, walk_answer}
+use Rattle.paper_plan.specs.Planning.{Test, Step, list, skip_tests, include_tests, dropped, guarded, unless_dropped, sortTests, tests, content, plan, program, firsts, Plan, State, block_of, walk, blocks, grouped, walk_answer}
 use Rattle.paper_plan.specs.Selecting.{Name, set_of, rows_where, if_of, by_numbers, plan_for}
 use Rattle.paper_plan.proofs.ExamplesPlans.{walked}
 

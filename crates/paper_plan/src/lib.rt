@@ -1,5 +1,6 @@
 // The numbers that document 01 fixes for plans and walks, as the code writes them. No function.
 // `specs` has what document 01 says of them; `specs/PlanNumbers.antt`, `PlanCalls.antt` and `WalkNumbers.antt` have the same numbers under the same names, for contracts.
+#![tactic(auto)]
 
 // how many numbers a plan has; the most of its blocks and steps
 pub const PLAN_SIZE: usize = 14338;

@@ -1,26 +1,20 @@
 -- One thing only may gw_check answer and leave in its buffers: its checks come one after another, and each that fails fixes all.
-use mathlib.Core.Path.{◌≡◌, sym, ap, ◌∙◌, subst}
+use mathlib.Core.Path.{◌≡◌, sym, ap, ◌∙◌}
 use mathlib.Core.List.{List, [], ◌∷◌}
 use Prim.Native.Nat.{ℕ, ◌≤◌, ◌<◌}
 use native.Mathlib.Omega.{arith}
 use lib.ListN.{length}
 use Rattle.paper.specs.Numbers.{report_size, rows_size, most_text, input_document, accepted}
-use Rattle.paper.specs.Language.{Document}
-use Rattle.paper.specs.Tokens.{Text, Tokens}
-use Rattle.paper.specs.Rows.{Row, flat}
+use Rattle.paper.specs.Rows.{flat}
 use Rattle.paper.specs.Refusals.{number_of}
-use Rattle.paper.specs.Reading.{Answer, rows_are, refuses, TextAnswer}
 use Rattle.paper.specs.Calls.{filled, tells}
-use Rattle.paper.specs.declared.Refusal.{Refusal}
 use Rattle.paper.specs.declared.Refusal.TheVariants.{Buffer, OverLength}
 use Rattle.paper_table.specs.TableNumbers.{most_table, input_table}
-use Rattle.paper_table.specs.Types.{table_of}
 use Rattle.paper_table.specs.Judging.{judge, table_number}
 use Rattle.paper_table.specs.TableCalls.{tells_table}
 use Rattle.paper_table.specs.declared.TableAnswer.TheVariants.{Accepted}
 use Rattle.paper_query.specs.QueryNumbers.{refuse_query}
-use Rattle.paper_query.specs.QueryRules.{Judged}
-use Rattle.paper_query.specs.DocumentCalls.{read, CheckedDocument, short_report, short_rows, long_document, long_table, refuses_table, refuses_text, breaks_rule, accepts}
+use Rattle.paper_query.specs.DocumentCalls.{CheckedDocument, short_report, short_rows, long_document, long_table, refuses_table, refuses_text, breaks_rule, accepts}
 use Rattle.paper_query.specs.declared.QueryAnswer.TheVariants.{Fits, Breaks}
 use Rattle.paper_query.proofs.InOrder.{Left, left, One, Checks, failed, later, checks_one}
 use Rattle.paper_query.proofs.ReadOne.{Reading, refused, judged, Comes, ends, goes, comes_one}

@@ -28,7 +28,7 @@ use Rattle.paper_query.specs.Rule10Undefined.{defines}
 use Rattle.paper_query.specs.Rule11VariableType.{declared, declared_by, differ}
 use Rattle.paper_query.specs.QueryRules.{Broken, circle, undefined, other_type}
 use Rattle.paper_query.specs.DocumentCalls.{read}
-use Rattle.paper_query.proofs.WorkedRules.{table_s, document}
+use Rattle.paper_query.proofs.WorkedRules.{table_s}
 
 -- reading 61: the fragments of rows 5 and 8 spread each other; that of row 2 only leads there
 abbrev circled : Doc

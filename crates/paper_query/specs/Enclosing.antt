@@ -1,16 +1,16 @@
 -- The type that encloses a construct, what a field is in it, and where both are known.
 -- States: 01, "Query rules": "field not of the enclosing type; `__typename` is of every one"; "Rules needing a type are judged where it is known".
 -- Assumes nothing.
-use Rattle.std.specs.Prelude.{Bool, true, false, cond, List, ℕ, zero, suc, ◌+◌, get_or, eqb}
+use Rattle.std.specs.Prelude.{Bool, false, cond, List, ℕ, zero, suc, ◌+◌, get_or, eqb}
 use Rattle.std.proofs.Math.Option.{Option, none, some}
 use Rattle.paper.specs.Numbers.{kind_operation, kind_fragment, kind_field, kind_inline, kind_type_reference}
 use Rattle.paper.specs.Tokens.{same}
 use Rattle.paper.specs.Rows.{Row}
 use Rattle.paper_table.specs.TableNumbers.{tag_query_root}
 use Rattle.paper_table.specs.Lists.{bytes, find}
-use Rattle.paper_table.specs.References.{Ref, base_of}
+use Rattle.paper_table.specs.References.{base_of}
 use Rattle.paper_table.specs.Types.{Argument, Member, Definition, Table, Meaning, built_in, no_meaning, definition, meaning, blank_definition, tag_nothing, is_union, roots_of, member_named, argument_named, is_composite}
-use Rattle.paper_query.specs.Constructs.{Doc, is, below, spelt, row_of, kind_of, parent_of, extra_of, name_of}
+use Rattle.paper_query.specs.Constructs.{Doc, is, below, spelt, row_of, parent_of, extra_of, name_of}
 
 abbrev pub then : {A B : Type 0} → Option A → (A → Option B) → Option B
 then none f = none

@@ -2,7 +2,7 @@
 -- States: 01, "Sizes and refusals", the paragraph "Order", from 7 to 12: table 7, 8, 9, document 3 to 6 and 8, 10, 12. Refusals 1 and 2 come before, by each call's buffers.
 -- Row 12: "no operation of that name, or an empty name and not exactly one operation" (READINGS 19).
 -- Assumes nothing.
-use Rattle.std.specs.Prelude.{◌≡◌, Bool, cond, ◌&&◌, List, [], ◌∷◌, ℕ, length, ltb}
+use Rattle.std.specs.Prelude.{◌≡◌, cond, ◌&&◌, List, [], ◌∷◌, ℕ, ltb}
 use Rattle.std.proofs.Math.Option.{Option, none, some}
 use Rattle.paper.specs.Numbers.{kind_operation}
 use Rattle.paper.specs.Language.{Document}

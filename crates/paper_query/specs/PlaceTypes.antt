@@ -2,14 +2,14 @@
 -- States: 01, "Query rules": "a variable whose declared type .. differs from its place's, outermost Non-Null taken off both"; "(its place is Boolean)";
 -- "Coercion": "A non-list to a list of one at each depth", so an object in a list's place is read as its item.
 -- Assumes nothing.
-use Rattle.std.specs.Prelude.{Bool, cond, not, ◌&&◌, List, ℕ, zero, suc, ◌+◌, ◌*◌, ◌/◌, ◌%◌, eqb}
+use Rattle.std.specs.Prelude.{Bool, cond, ◌&&◌, List, ℕ, zero, suc, ◌+◌, ◌*◌, ◌/◌, ◌%◌, eqb}
 use Rattle.std.proofs.Math.Option.{Option, none, some}
 use Rattle.paper.specs.Numbers.{kind_field, kind_argument, kind_directive, kind_object_field, kind_list, wrap_list, wrap_non_null}
 use Rattle.paper.specs.Tokens.{same}
 use Rattle.paper.specs.Rows.{Row}
 use Rattle.paper_table.specs.Lists.{bytes, find}
 use Rattle.paper_table.specs.References.{Ref, named, list_of, non_null, base_of}
-use Rattle.paper_table.specs.Types.{Argument, Member, Table, meant, is_input_object, member_named}
+use Rattle.paper_table.specs.Types.{Table, meant, is_input_object, member_named}
 use Rattle.paper_query.specs.Constructs.{Doc, is, is_value, row_of, parent_of, name_of, spelt}
 use Rattle.paper_query.specs.Enclosing.{then, field_at, argument_called}
 

@@ -1,9 +1,8 @@
 -- 11 variable definition whose type isn't an input type; or a variable whose declared type, in an operation that reaches it,
 -- differs from its place's, outermost Non-Null taken off both. (Judged where the place's type is known; a declared type that names no type differs.)
-use Rattle.std.specs.Prelude.{Bool, true, false, not, ◌&&◌, cond, ◌≡◌, List, ℕ, T}
+use Rattle.std.specs.Prelude.{Bool, false, not, ◌&&◌, cond, List, ℕ, T}
 use Rattle.std.proofs.Math.Option.{Option, none, some}
 use Rattle.paper.specs.Numbers.{kind_operation, kind_variable, kind_variable_definition, kind_type_reference}
-use Rattle.paper.specs.Rows.{Row}
 use Rattle.paper_table.specs.Lists.{find, first_at}
 use Rattle.paper_table.specs.Types.{Table, Definition, meant, is_unknown, is_composite}
 use Rattle.paper_query.specs.Constructs.{Doc, is, below, row_of, name_of}

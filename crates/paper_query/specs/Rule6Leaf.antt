@@ -1,9 +1,9 @@
 -- 6 leaf with selections, or other type without. (A leaf is a scalar or an enum; `__typename` is one.)
-use Rattle.std.specs.Prelude.{Bool, true, false, not, ◌&&◌, ◌||◌, ℕ}
+use Rattle.std.specs.Prelude.{Bool, true, false, not, ◌&&◌, ℕ}
 use Rattle.paper.specs.Numbers.{kind_field}
 use Rattle.paper_table.specs.Lists.{any_of}
 use Rattle.paper_table.specs.References.{base_of}
-use Rattle.paper_table.specs.Types.{Table, Definition, meant, is_composite}
+use Rattle.paper_table.specs.Types.{Table, meant, is_composite}
 use Rattle.paper_query.specs.Constructs.{Doc, is, is_selection, below, row_of}
 use Rattle.paper_query.specs.Enclosing.{FieldIs, typename, member, missing, unknown, field_at}
 

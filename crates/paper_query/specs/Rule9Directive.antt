@@ -1,8 +1,7 @@
 -- 9 directive other than skip or include, placed elsewhere than on a selection, repeated there, or not with one argument only,
 -- an `if` that is a boolean or a variable. (Always the directive's row.)
-use Rattle.std.specs.Prelude.{Bool, true, false, not, ◌&&◌, ◌||◌, ℕ, suc, List, [], ◌∷◌}
+use Rattle.std.specs.Prelude.{Bool, false, not, ◌&&◌, ◌||◌, ℕ, List, [], ◌∷◌}
 use Rattle.paper.specs.Numbers.{kind_argument, kind_directive, kind_variable, kind_boolean}
-use Rattle.paper.specs.Rows.{Row}
 use Rattle.paper.specs.Tokens.{same}
 use Rattle.paper_table.specs.Lists.{bytes, any_of, each, only_if, earlier}
 use Rattle.paper_table.specs.Types.{built_in_directives}

@@ -1,5 +1,6 @@
 // The numbers that document 01 fixes for the query rules, as the code writes them, and the answer to a document. No function.
 // `specs/QueryNumbers.antt` has the same numbers under the same names, for contracts.
+#![tactic(auto)]
 
 // the column "No."
 pub const REFUSE_QUERY: u32 = 10;

@@ -1,18 +1,14 @@
 -- The tables of the language's grammar pass the tests, so the theory holds of it.
-use mathlib.Core.Path.{◌≡◌, refl, sym, ap, ◌∙◌}
-use mathlib.Core.Bool.{Bool, true, false, ◌&&◌}
-use mathlib.Core.List.{List, [], ◌∷◌, ◌++◌}
+use mathlib.Core.Bool.{Bool}
+use mathlib.Core.List.{List, [], ◌∷◌}
 use mathlib.Core.Logic.{inl}
-use mathlib.Core.Option.{Option, none, some}
-use Prim.Native.Nat.{ℕ}
-use lib.Dec.{T, eqb→eq, eqb_refl}
-use lib.ListN.{get_elem?}
-use Rattle.paper.specs.Grammar.{Sym, nt, tm, act, Ev, tok, mark, Derives, toks}
-use Rattle.paper.proofs.Machine.{Tables, Answer, accepted, stopped, run, choose, enter, step}
+use lib.Dec.{T, eqb_refl}
+use Rattle.paper.specs.Grammar.{nt, Ev, Derives}
+use Rattle.paper.proofs.Machine.{run, choose, enter, step}
 use Rattle.paper.specs.Language.{Class, Terminal, hits, the, any_name, name_but_on, name_but_literal, num_c, one_of, n_other, Mark, Part, language}
 use Rattle.paper.proofs.Tables.{graphql, factored, followers, all_n, all_c, num_n, at_n, at_c, sample}
-use Rattle.paper_theory.proofs.Theory.{Fit, Kept, run_sound, run_complete, unique, run_stopped, Stops, Fits}
-use Rattle.paper_theory.proofs.Test.{Tested, fit, words_of, all}
+use Rattle.paper_theory.proofs.Theory.{Fit}
+use Rattle.paper_theory.proofs.Test.{Tested, fit, words_of}
 
 abbrev pub follow : Part → Class → Bool
 follow n t = one_of (followers n) t

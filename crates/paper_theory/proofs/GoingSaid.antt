@@ -218,6 +218,7 @@ end_least m σ n f = (short f, least)
   where
     least : (r : Refusal) → Flaw m σ (at_end n) r → NoLater (NoGoing n) r
     least r (short g) = inr (refl, le_refl 4)
+    least _ (stray {at = at} x5) = elim x5 [ ]
 
 end_judged : (m : Sums) (σ : Stack) (n : ℕ) (s : State) → Steady m.levels σ → Judged m σ (at_end n) s (ended s n (step graphql σ none))
 unfolding tokens_of
@@ -237,6 +238,7 @@ end_judged m σ n s snd = by_step (step graphql σ none) refl (step_sound fits �
       where
         clean : (r : Refusal) → Flaw m σ (at_end n) r → ⊥
         clean r (short g) = g fs q
+        clean _ (stray {at = at} x7) = elim x7 [ ]
     by_step refuses-it q h = λ rise. end_least m σ n (λ gs p. refused≢emptied (sym q ∙ p))
     by_step spent q h = λ rise. end_least m σ n (λ gs p. spent≢emptied (sym q ∙ p))
 

@@ -1,22 +1,21 @@
 -- The lexical tables pass the tests.
 use mathlib.Core.Path.{◌≡◌, refl, sym, ap, ◌∙◌}
-use mathlib.Core.Bool.{Bool, true, false, ◌&&◌}
+use mathlib.Core.Bool.{Bool}
 use mathlib.Core.Logic.{◌⊎◌, inl, inr}
-use mathlib.Core.List.{List, [], ◌∷◌, ◌++◌}
-use mathlib.Core.Option.{Option, none, some}
+use mathlib.Core.List.{List, [], ◌∷◌}
+use mathlib.Core.Option.{some}
 use Prim.Native.Nat.{ℕ, zero, suc, ◌+◌, ◌<◌, ◌≤◌}
 use native.Mathlib.Nat.{zero-add, suc-add, add-suc, add-zero, not-suc-le-zero, le_of_suc-le-suc}
 use native.Mathlib.Decide.{dec_lt}
 use native.Mathlib.Omega.{arith}
 use borrow.Author.Tests.{le-ltb}
-use lib.Dec.{T}
 use lib.ListN.{get_elem?}
-use Rattle.paper.specs.Grammar.{Sym, nt, Ev, Derives}
+use Rattle.paper.specs.Grammar.{nt, Ev, Derives}
 use Rattle.paper.proofs.Machine.{run, choose, enter, step}
 use Rattle.paper_theory.proofs.Theory.{Fit}
 use Rattle.paper_theory.proofs.Test.{Tested, Far, fit, words_of}
-use Rattle.paper.specs.Lexical.{Lex, Set, What, lexical, hits_byte, in_set}
-use Rattle.paper.proofs.LexTables.{lex_factored, lexer, all_l, num_l, at_l, followers_l, firsts_l, sample_l}
+use Rattle.paper.specs.Lexical.{Lex, What, lexical, hits_byte}
+use Rattle.paper.proofs.LexTables.{lex_factored, lexer, all_l, num_l, at_l, followers_l, sample_l}
 
 abbrev pub follow_l : Lex → ℕ → Bool
 follow_l n b = hits_byte (followers_l n) b

@@ -1,11 +1,11 @@
 -- The draft's lexical grammar and the left-factored one: the same texts, with the same marks.
-use mathlib.Core.Path.{◌≡◌, refl, sym, ap, ◌∙◌, subst}
+use mathlib.Core.Path.{◌≡◌, refl, sym, subst}
 use mathlib.Core.Logic.{◌⊎◌, inl, inr}
 use mathlib.Core.Bool.{Bool, true, false}
 use mathlib.Core.List.{List, [], ◌∷◌, ◌++◌, Memᴰ}
 use Prim.Native.Nat.{ℕ}
 use lib.Dec.{T, eqb→eq}
-use Rattle.paper.specs.Grammar.{Sym, nt, tm, act, Ev, tok, mark, Derives, done, take, note, by}
+use Rattle.paper.specs.Grammar.{Sym, nt, tm, act, Ev, Derives, by}
 use Rattle.paper.specs.Language.{int, float}
 use Rattle.paper.specs.Lexical.{Lex, Set, What, is, lexical, hits_byte, quote, zero, non_zero}
 use Rattle.paper.proofs.LexTables.{lex_factored, changed_l, look, or_that, same_l, num_l, at_l, Rules}
@@ -26,7 +26,7 @@ abbrev AdmitsAll : (Lex → Rules) → Lex → Rules → Type 0
 AdmitsAll q n [] = Unit {0}
 AdmitsAll q n (α ∷ rs) = Admits q n α × AdmitsAll q n rs
 
-admit : (q : Lex → Rules) (n : Lex) {rs : Rules} {α : Syms} → AdmitsAll q n rs → Memᴰ α rs → Admits q n α
+admit : (q : Lex → Rules) (n : Lex) {α : Syms} {rs : Rules} → AdmitsAll q n rs → Memᴰ α rs → Admits q n α
 admit q n h (Memᴰ.head e) σ es d = h.0 σ es (subst (λ z. Derives q hits_byte (z ++ σ) es) e d)
 admit q n h (Memᴰ.tail m) σ es d = admit q n h.1 m σ es d
 

@@ -26,7 +26,7 @@ abbrev AdmitsAll : (Part → Rules) → Part → Rules → Type 0
 AdmitsAll q n [] = Unit {0}
 AdmitsAll q n (α ∷ rs) = Admits q n α × AdmitsAll q n rs
 
-admit : (q : Part → Rules) (n : Part) {rs : Rules} {α : Syms} → AdmitsAll q n rs → Memᴰ α rs → Admits q n α
+admit : (q : Part → Rules) (n : Part) {α : Syms} {rs : Rules} → AdmitsAll q n rs → Memᴰ α rs → Admits q n α
 admit q n h (Memᴰ.head e) σ es d = h.0 σ es (subst (λ z. Derives q hits (z ++ σ) es) e d)
 admit q n h (Memᴰ.tail m) σ es d = admit q n h.1 m σ es d
 

@@ -1,7 +1,7 @@
 -- One test of a grammar's tables, computed, and the lemma that turns it into what the theory asks.
-use mathlib.Core.Path.{◌≡◌, refl, sym, ap, ◌∙◌, subst}
-use mathlib.Core.Bool.{Bool, true, false, ◌&&◌, ◌||◌, not}
-use mathlib.Core.List.{List, [], ◌∷◌, ◌++◌, Memᴰ}
+use mathlib.Core.Path.{◌≡◌, refl, sym, subst}
+use mathlib.Core.Bool.{Bool, true, false, ◌&&◌, not}
+use mathlib.Core.List.{List, [], ◌∷◌, Memᴰ}
 use mathlib.Core.Option.{Option, none, some}
 use Prim.Native.Nat.{ℕ, zero, suc}
 use lib.Dec.{T}
@@ -10,7 +10,7 @@ use Rattle.paper.specs.Grammar.{Sym, nt, tm, act, Ev, Derives}
 use mathlib.Core.Logic.{◌⊎◌, inl, inr}
 use Rattle.paper.proofs.Machine.{Tables, Step, Answer, accepted, stopped, fst, nul, pick, choose, over, onward, enter, run}
 use Rattle.paper.proofs.Bools.{and_l, and_r}
-use Rattle.paper_theory.proofs.Theory.{none≢some, at_most_one, alive, Follows, Fit, run_sound, accepted≢stopped}
+use Rattle.paper_theory.proofs.Theory.{none≢some, at_most_one, alive, Follows, Fit, run_sound}
 
 abbrev pub all : {X : Type 0} → (X → Bool) → List X → Bool
 all p [] = true
@@ -24,7 +24,7 @@ pub implies_out : (a b : Bool) → T (implies a b) → T a → T b
 implies_out true b h t = h
 implies_out false b h t = absurd t
 
-pub all_mem : {X : Type 0} (p : X → Bool) {xs : List X} {x : X} → T (all p xs) → Memᴰ x xs → T (p x)
+pub all_mem : {X : Type 0} (p : X → Bool) {x : X} {xs : List X} → T (all p xs) → Memᴰ x xs → T (p x)
 all_mem p h (Memᴰ.head {x = y} {xs = ys} e) = subst (λ z. T (p z)) (sym e) (and_l (p y) (all p ys) h)
 all_mem p h (Memᴰ.tail {x = y} {xs = ys} m) = all_mem p (and_r (p y) (all p ys) h) m
 

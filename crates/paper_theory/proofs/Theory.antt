@@ -38,7 +38,7 @@ not_out true s u = s
 not_out false s u = u
 
 module _ {X : Type 0} (p : X → Bool) where
-  nobody_out : {xs : List X} {x : X} → T (nobody p xs) → Memᴰ x xs → T (p x) → ⊥
+  nobody_out : {x : X} {xs : List X} → T (nobody p xs) → Memᴰ x xs → T (p x) → ⊥
   nobody_out h (Memᴰ.head {x = y} {xs = ys} e) t = not_out (p y) (and_l (not (p y)) (nobody p ys) h) (subst (λ z. T (p z)) e t)
   nobody_out h (Memᴰ.tail {x = y} {xs = ys} m) t = nobody_out (and_r (not (p y)) (nobody p ys) h) m t
 
@@ -50,7 +50,7 @@ module _ {X : Type 0} (p : X → Bool) where
   pick_tail true y o f = absurd (f tt)
   pick_tail false y o f = refl
 
-  pub pick_one : {xs : List X} {x : X} → T (at_most_one p xs) → Memᴰ x xs → T (p x) → pick p xs ≡ some x
+  pub pick_one : {x : X} {xs : List X} → T (at_most_one p xs) → Memᴰ x xs → T (p x) → pick p xs ≡ some x
   pick_one {x} h (Memᴰ.head {x = y} {xs = ys} e) t = pick_head (p y) y (pick p ys) (subst (λ z. T (p z)) e t) ∙ ap some (sym e)
   pick_one {x} h (Memᴰ.tail {x = y} {xs = ys} m) t = go (p y) h (λ (h' : T (at_most_one p ys)). pick_one h' m t)
     where

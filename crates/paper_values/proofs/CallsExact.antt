@@ -4,13 +4,12 @@ use mathlib.Core.Path.{◌≡◌, refl, sym, ap, ◌∙◌, subst}
 use mathlib.Core.Bool.{Bool, true, false, cond}
 use mathlib.Core.Option.{Option, none, some}
 use mathlib.Core.List.{List, [], ◌∷◌, map}
-use Prim.Native.Nat.{ℕ}
 use Rattle.paper_table.specs.References.{Ref, is_non_null}
 use Rattle.paper_values.specs.ValueNumbers.{reason_missing, reason_unknown, reason_repeated}
 use Rattle.paper_values.specs.Values.{Name, At, Value, Entries, Due, Tree, Fields, Pairs, no_pairs, pair, Out, Got, No, and_then}
 use Rattle.paper_values.specs.Kinds.{Kind}
 use Rattle.paper_values.specs.Coercion.{heads, repeated_entry, unknown_entry, value_in}
-use Rattle.paper_values.specs.Computed.{entry_of, pair_first, missing_due, due_field, due_fields, unless, in_object, coerce, givens, constant, orDefault, variablesFrom, variables_of, argumentsOf}
+use Rattle.paper_values.specs.Computed.{entry_of, pair_first, due_field, due_fields, unless, in_object, coerce, givens, orDefault, variablesFrom, variables_of, argumentsOf}
 use Rattle.paper_values.specs.CoercionRules.{valueFor, Coerces}
 use Rattle.paper_values.specs.CallRules.{no_variables, InDues, no_dues, given_refused, given_got, default_refused, default_got, due_missing, due_left_out, CoercesVariables, name_repeated_is, in_order, CoercesArguments, variables_refused, argument_repeated, argument_unknown, arguments}
 use Rattle.paper_values.proofs.CoercionExact.{into, found, coerces_is, coerces_has}

@@ -7,7 +7,7 @@ use mathlib.Core.List.{List, [], ◌∷◌}
 use Rattle.paper.specs.Tokens.{same}
 use Rattle.paper_table.specs.References.{Ref, named, list_of, non_null, is_non_null}
 use Rattle.paper_values.specs.ValueNumbers.{reason_kind, reason_missing, reason_null, reason_unknown, reason_repeated}
-use Rattle.paper_values.specs.Values.{Name, At, Value, variable, integer, float, string, boolean, null, enum, list, object, Values, no_values, item, Entries, no_entries, entry, Due, Tree, Null, Bits, Decimal, Text, Truth, Member, Many, Fields, Token, Trees, no_more, also, Pairs, no_pairs, pair, Out, Got, No, and_then}
+use Rattle.paper_values.specs.Values.{Name, At, Value, variable, integer, float, string, boolean, null, enum, list, object, Values, no_values, item, Entries, no_entries, entry, Due, Tree, Null, Bits, Decimal, Text, Truth, Member, Many, Fields, Token, Trees, no_more, also, Pairs, pair, Out, Got, No, and_then}
 use Rattle.paper_values.specs.Kinds.{Kind, Int, Float, String, Boolean, ID, Own, Other, Enum, Input}
 use Rattle.paper_values.specs.Computed.{null_at, object_at, entry_of, missing_due, due_field, due_fields, unless, in_object, single, several, held, coerce, coerce_all, givens}
 use Rattle.paper_values.specs.Coercion.{integer_at, float_at, string_at, boolean_at, enum_at, heads, repeated_entry, unknown_entry, leftOut}

@@ -10,10 +10,10 @@ use Rattle.paper.specs.Tokens.{same}
 use Rattle.paper_table.specs.Lists.{any_of}
 use Rattle.paper_table.specs.References.{Ref, named, list_of, non_null, is_non_null}
 use Rattle.paper_query.specs.Constructs.{Doc, count, kind_of, parent_of, name_of}
-use Rattle.paper_values.specs.Values.{Name, At, Value, variable, integer, float, string, boolean, null, enum, list, object, Values, no_values, item, Entries, no_entries, entry, Due, Tree, Null, Bits, Decimal, Text, Truth, Member, Many, Fields, Token, Trees, Pairs, no_pairs, pair, Out, Got, No, and_then}
+use Rattle.paper_values.specs.Values.{Name, At, Value, variable, integer, float, string, boolean, null, enum, list, object, Values, no_values, item, Entries, no_entries, entry, Due, Tree, Null, Bits, Decimal, Text, Truth, Member, Many, Fields, Token, Trees, Pairs, pair, Out, Got, No, and_then}
 use Rattle.paper_values.specs.Kinds.{Kind, Int, Float, String, Boolean, ID, Own, Other, Enum, Input}
-use Rattle.paper_values.specs.Computed.{null_at, object_at, Given, entry_of, pair_first, missing_due, due_field, due_fields, unless, in_object, single, several, held, coerce, coerce_all, givens, constant, orDefault, variablesFrom, variables_of, argumentsOf}
-use Rattle.paper_values.specs.Coercion.{in_range, text_at, enum_value_at, integer_at, float_at, string_at, boolean_at, enum_at, Head, heads, repeated_entry, unknown_entry, leftOut, value_in}
+use Rattle.paper_values.specs.Computed.{null_at, object_at, Given, entry_of, pair_first, missing_due, due_field, due_fields, unless, in_object, single, several, held, coerce, coerce_all, givens, constant, orDefault, variablesFrom, variables_of}
+use Rattle.paper_values.specs.Coercion.{in_range, text_at, integer_at, float_at, string_at, boolean_at, enum_at, heads, repeated_entry, unknown_entry}
 use Rattle.paper_values.specs.NumberTokens.{int_of, float_content}
 use Rattle.paper_values.specs.RowValues.{placed, itemsFrom, entriesFrom, valueBy, value_at}
 use Rattle.paper.specs.Numbers.{kind_variable, kind_integer, kind_float, kind_string, kind_boolean, kind_null, kind_enum, kind_list, kind_object_field}

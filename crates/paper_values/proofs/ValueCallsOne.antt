@@ -5,11 +5,9 @@ use Prim.Native.Nat.{ℕ, ◌≤◌, ◌<◌}
 use native.Mathlib.Omega.{arith}
 use lib.ListN.{length}
 use Rattle.paper.specs.Numbers.{report_size, most_text, input_document, input_variables, accepted}
-use Rattle.paper.specs.Language.{VariablesText}
-use Rattle.paper.specs.Tokens.{Text, Tokens}
 use Rattle.paper.specs.Rows.{Row}
 use Rattle.paper.specs.Refusals.{number_of, shown_in_text}
-use Rattle.paper.specs.Reading.{rows_are, refuses, TextAnswer}
+use Rattle.paper.specs.Reading.{refuses}
 use Rattle.paper.specs.Calls.{filled, tells}
 use Rattle.paper.specs.declared.Refusal.{Refusal}
 use Rattle.paper.specs.declared.Refusal.TheVariants.{Buffer, OverLength}
@@ -17,7 +15,7 @@ use Rattle.paper_table.specs.TableNumbers.{most_table, input_table}
 use Rattle.paper_table.specs.Types.{table_of}
 use Rattle.paper_query.specs.Enclosing.{field_at}
 use Rattle.paper_query.specs.DocumentCalls.{read}
-use Rattle.paper_query.specs.Opening.{refuse_no_operation, Outcome, stops, opens, Opened}
+use Rattle.paper_query.specs.Opening.{stops, opens, Opened}
 use Rattle.paper_query.proofs.InOrder.{Left, left, One, Checks, failed, later, checks_one}
 use Rattle.paper_query.proofs.ReadOne.{said_same, rows_inj, refuses≢rows}
 use Rattle.paper_query.proofs.OpeningOne.{opened_one}
@@ -27,7 +25,7 @@ use Rattle.paper_values.specs.Kinds.{kind_of_type}
 use Rattle.paper_values.specs.RowValues.{placed, arguments_at}
 use Rattle.paper_values.specs.DocumentDues.{variable_dues, given_in, argument_dues, ReachedField}
 use Rattle.paper_values.specs.CallRules.{CoercesVariables, CoercesArguments}
-use Rattle.paper_values.specs.ValueCalls.{Ending, ends, yields, ended, as_object, VariablesEnd, nothing_opened, text_refused, variables_coerced, ArgumentsEnd, no_operation_opened, no_field_reached, variables_unread, arguments_coerced, ValueLent, ValueShort, Coerced, short_report, short_value, long_document, long_variables, long_table, refused, answered, CoercedVariables, CoercedArguments}
+use Rattle.paper_values.specs.ValueCalls.{Ending, ends, yields, ended, as_object, VariablesEnd, nothing_opened, text_refused, variables_coerced, ArgumentsEnd, no_operation_opened, no_field_reached, variables_unread, arguments_coerced, Coerced, short_report, short_value, long_document, long_variables, long_table, refused, answered, CoercedVariables, CoercedArguments}
 use Rattle.paper_values.proofs.CallsExact.{variables_one, arguments_one}
 
 -- ---- how the call ends

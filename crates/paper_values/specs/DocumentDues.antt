@@ -2,12 +2,11 @@
 -- States: 01, "Coercion": "One call coerces an operation's variables to an object, an entry each in definition order", "Another then coerces one
 -- field's arguments, as an input object of their definitions", "a row that is no field the operation reaches is 12"; "An absent variable takes its default".
 -- Assumes nothing.
-use Rattle.std.specs.Prelude.{Bool, ◌&&◌, List, [], map, ℕ, ◌-◌, T}
+use Rattle.std.specs.Prelude.{◌&&◌, List, [], map, ℕ, ◌-◌, T}
 use Rattle.std.proofs.Math.Option.{Option, none, some}
 use Rattle.paper.specs.Numbers.{kind_field, kind_variable_definition, kind_object_field, input_document, input_variables}
 use Rattle.paper_table.specs.Lists.{first_at}
 use Rattle.paper_table.specs.References.{Ref, named}
-use Rattle.paper_table.specs.Types.{Argument}
 use Rattle.paper_query.specs.Constructs.{Doc, count, row_of, name_of, is, is_value, below, numbers_where}
 use Rattle.paper_query.specs.Enclosing.{FieldIs, typename, member, missing, unknown}
 use Rattle.paper_query.specs.PlaceTypes.{Shape}

@@ -14,7 +14,6 @@ use Rattle.paper.specs.declared.Refusal.{Refusal}
 use Rattle.paper.specs.declared.Refusal.TheVariants.{Buffer, OverLength}
 use Rattle.paper_table.specs.TableNumbers.{most_table, input_table}
 use Rattle.paper_table.specs.Types.{table_of}
-use Rattle.paper_query.specs.Constructs.{Doc}
 use Rattle.paper_query.specs.Enclosing.{field_at}
 use Rattle.paper_query.specs.DocumentCalls.{read}
 use Rattle.paper_query.specs.Opening.{refuse_no_operation, stops, opens, Opened}
