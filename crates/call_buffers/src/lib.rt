@@ -6,7 +6,7 @@ use paper::{INPUT_DOCUMENT, MOST_TEXT, ROWS_SIZE, Refusal};
 use paper_table::{INPUT_TABLE, MOST_TABLE};
 
 // Whether the sizes are kept to, or the first refusal that they ask for.
-#[derive(Drop)]
+#[derive(Clone, Copy)]
 pub enum Sizes {
     Met,
     Unmet(Refusal),

@@ -104,7 +104,7 @@ pub const WRAP_NON_NULL: u32 = 2;
 pub const WRAP_BASE: u32 = 4;
 
 // A refusal with what it shows, the column "Shown".
-#[derive(Drop)]
+#[derive(Clone, Copy)]
 pub enum Refusal {
     // 1: an output buffer is shorter than its fixed size
     Buffer,

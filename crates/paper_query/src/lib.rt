@@ -37,7 +37,7 @@ pub const RULE_NO_ROOT: u32 = 13;
 pub const RULE_ARGUMENT: u32 = 14;
 
 // What is said of a document that was read, against an accepted table.
-#[derive(Drop)]
+#[derive(Clone, Copy)]
 pub enum QueryAnswer {
     Fits,
     Breaks { row: u32, rule: u32 },

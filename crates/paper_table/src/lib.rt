@@ -113,7 +113,7 @@ pub const RULE_ARGUMENT_EXTRA: u32 = 15;
 pub const RULE_ROOT: u32 = 16;
 
 // What is said of a table.
-#[derive(Drop)]
+#[derive(Clone, Copy)]
 pub enum TableAnswer {
     // 0: within its sizes, and no rule is broken
     Accepted,

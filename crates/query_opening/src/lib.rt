@@ -25,14 +25,14 @@ use query_rows::{is_called, kind_of};
 use text_cursor::Read;
 
 // The row of the operation that a name means, if there is one.
-#[derive(Drop)]
+#[derive(Clone, Copy)]
 pub enum Meant {
     Row(usize),
     Nothing,
 }
 
 // What comes of opening an operation: a refusal, or the count of rows and the operation's row.
-#[derive(Drop)]
+#[derive(Clone, Copy)]
 pub enum Start {
     BadTable(TableAnswer),
     BadText(Refusal),

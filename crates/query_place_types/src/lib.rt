@@ -16,7 +16,7 @@ use query_rows::{name_of, size_of};
 use table_entries::NO_ENTRY;
 
 // A place's type: that of an entry, so much more, or 0 where it is not known, or 1 for Boolean; the wrappers that are left of it.
-#[derive(Drop)]
+#[derive(Clone, Copy)]
 pub struct Place {
     pub at: u16,
     pub wrappers: u16,

@@ -13,7 +13,7 @@ use query_types::{NO_TYPE, composite, if_composite};
 use table_members::FieldFound;
 
 // A root: a member of record 8; `Query`, where there is no record 8; or none.
-#[derive(Drop)]
+#[derive(Clone, Copy)]
 pub enum RootFound {
     Written { tag: u8, start: usize, end: usize },
     Query,

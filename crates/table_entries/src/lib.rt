@@ -243,7 +243,7 @@ fn number_of(t: &[u8], book: &[u32], at: usize, n: usize) -> usize
 }
 
 // What a member or argument says of itself: where its name and its base's name lie, its wrappers, from where on its arguments stand.
-#[derive(Drop)]
+#[derive(Clone, Copy)]
 pub struct Header {
     pub name: usize,
     pub size: usize,
@@ -254,7 +254,7 @@ pub struct Header {
 }
 
 // The same of a content that begins with a name and a reference; or it does not.
-#[derive(Drop)]
+#[derive(Clone, Copy)]
 pub enum HeaderFound {
     Found {
         name: usize,

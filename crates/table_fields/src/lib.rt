@@ -9,7 +9,7 @@ ghost use Rattle.table_fields.specs.Wrappers.{bracket_size, wrapper_of, is_marke
 use paper::{WRAP_BASE, WRAP_LIST, WRAP_NON_NULL};
 
 // What stands at a place: a field's tag and the bounds of its content, or bytes that are no whole field.
-#[derive(Drop)]
+#[derive(Clone, Copy)]
 pub enum FieldRead {
     Field { tag: u8, start: usize, end: usize },
     Cut,
@@ -35,7 +35,7 @@ pub fn read_field(t: &[u8], at: usize, end: usize) -> FieldRead
 }
 
 // A part of the table.
-#[derive(Drop)]
+#[derive(Clone, Copy)]
 pub struct Part {
     pub start: usize,
     pub end: usize,
@@ -110,7 +110,7 @@ pub const BYTE_BRACKET_R: u8 = 0x5d;
 
 // A type reference's text: where its name lies, and its wrappers as one number, from outside in, lowest two bits first, 1 list, 2 Non-Null;
 // of more than seven the outer seven. Or the text is none.
-#[derive(Drop)]
+#[derive(Clone, Copy)]
 pub enum RefRead {
     Reference {
         start: usize,

@@ -19,7 +19,7 @@ use table_fields::{FieldRead, is_name, is_reference, read_field};
 
 // What a field's content is: a name, a type reference's text, fields, or there is no such tag.
 // Of fields: the tags of those that are due (the same twice if one is), and from which to which tag the others go.
-#[derive(Drop)]
+#[derive(Clone, Copy)]
 pub enum Holding {
     Name,
     Reference,
@@ -177,7 +177,7 @@ fn is_leaf(t: &[u8], start: usize, end: usize, h: Holding) -> bool
 }
 
 // Whether a part is framed right, or its first wrong offset.
-#[derive(Drop)]
+#[derive(Clone, Copy)]
 pub enum Framed {
     Right,
     Wrong(u32),

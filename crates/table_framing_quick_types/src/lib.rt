@@ -33,7 +33,7 @@ fn is_usual_reference(t: &[u8], start: usize, end: usize) -> bool
 }
 
 // Where the name and the type end that a part begins with, or it begins otherwise.
-#[derive(Drop)]
+#[derive(Clone, Copy)]
 pub enum Typed {
     Ends(usize),
     Unusual,

@@ -15,14 +15,14 @@ use paper_table::{
 use table_fields::{FieldRead, RefRead};
 
 // A field's tag and the bounds of its content; or there is none.
-#[derive(Drop)]
+#[derive(Clone, Copy)]
 pub enum FieldFound {
     Found { tag: u8, start: usize, end: usize },
     Nothing,
 }
 
 // A name's place in the table.
-#[derive(Drop)]
+#[derive(Clone, Copy)]
 pub struct Name {
     pub at: usize,
     pub size: usize,
@@ -30,7 +30,7 @@ pub struct Name {
 
 // A type reference: the place of its name, and its wrappers as one number, from outside in, lowest two bits first, 1 list, 2 Non-Null;
 // of more than seven the outer seven.
-#[derive(Drop)]
+#[derive(Clone, Copy)]
 pub struct TypeRead {
     pub at: usize,
     pub size: usize,

@@ -1,6 +1,6 @@
 // The first place of a definition that breaks a rule, as the functions that look for it answer. No function.
 
-#[derive(Drop)]
+#[derive(Clone, Copy)]
 pub enum PlaceRead {
     // the place in the definition; 65,535 is none
     At {

@@ -15,7 +15,7 @@ use paper_table::{
 use table_fields::{BYTE_BANG, BYTE_BRACKET_L};
 
 // Whether a part is within the sizes, or the offset of the first over one.
-#[derive(Drop)]
+#[derive(Clone, Copy)]
 pub enum Counted {
     Within,
     Over(u32),

@@ -82,7 +82,7 @@ fn is_type_kept(
 }
 
 // An argument's number and the bounds of its content; or there is none.
-#[derive(Drop)]
+#[derive(Clone, Copy)]
 pub enum ArgumentFound {
     Argument {
         number: usize,
@@ -122,7 +122,7 @@ fn argument_in(t: &[u8], from: usize, end: usize, s: &[u8], at: usize, n: usize)
 }
 
 // The number of the own field's argument that has another's name and type.
-#[derive(Drop)]
+#[derive(Clone, Copy)]
 pub enum Matched {
     Argument(u32),
     Nothing,

@@ -18,7 +18,7 @@ use table_fields::FieldRead;
 use table_members::{FieldFound, TypeRead};
 
 // What a name means: a built-in scalar, the type that is the table's definition of a number, or nothing.
-#[derive(Drop)]
+#[derive(Clone, Copy)]
 pub enum Meant {
     BuiltIn,
     Definition(usize),

@@ -10,7 +10,7 @@ use paper::{ROW_SIZE, Refusal};
 use text_scan::TokenRead;
 
 // The token looked at, where the last one taken ended, and how many rows there are.
-#[derive(Drop)]
+#[derive(Clone, Copy)]
 pub struct Cursor {
     pub kind: u32,
     pub start: u32,
@@ -20,7 +20,7 @@ pub struct Cursor {
 }
 
 // What a reader answers: the cursor past what it read, or why it refuses.
-#[derive(Drop)]
+#[derive(Clone, Copy)]
 pub enum Read {
     Done(Cursor),
     Refused(Refusal),

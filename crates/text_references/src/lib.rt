@@ -11,7 +11,7 @@ use text_cursor::{Cursor, Read, no_going, put_row};
 use text_scan::{TOKEN_BANG, TOKEN_BRACKET_CLOSE, TOKEN_BRACKET_OPEN, TOKEN_NAME};
 
 // Where a type reference has been read to: the cursor, its wrappers so far, and how many marks they are.
-#[derive(Drop)]
+#[derive(Clone, Copy)]
 pub struct Wrapped {
     pub at: Cursor,
     pub extra: u32,
@@ -19,7 +19,7 @@ pub struct Wrapped {
 }
 
 // What the readers of a type reference's marks answer.
-#[derive(Drop)]
+#[derive(Clone, Copy)]
 pub enum TypeRead {
     Typed(Wrapped),
     Untyped(Refusal),

@@ -9,7 +9,7 @@ ghost use Rattle.text_scan.specs.Parts.{four_hex, escaped_size, with_one, part_s
 use text_characters::character;
 
 // What stands at a place: a token, or bytes that start none (also a string or a comment with bad text).
-#[derive(Drop)]
+#[derive(Clone, Copy)]
 pub enum TokenRead {
     Token { kind: u32, start: usize, end: usize },
     Bad(usize),

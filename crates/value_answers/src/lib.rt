@@ -26,7 +26,7 @@ use value_results::{Outcome, Task, put_task};
 use value_variables::HELD_ROOM;
 
 // What a call coerces: an operation's variables, or the arguments of the field of a row.
-#[derive(Drop)]
+#[derive(Clone, Copy)]
 enum Call {
     Variables,
     Arguments(u32),

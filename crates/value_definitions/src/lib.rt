@@ -17,7 +17,7 @@ use query_subtrees::past_of;
 use value_kinds::{Due, due_of};
 
 // The row of a definition's default, if it has one.
-#[derive(Drop)]
+#[derive(Clone, Copy)]
 pub enum Default {
     Row(usize),
     Nothing,

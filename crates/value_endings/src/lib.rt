@@ -14,7 +14,7 @@ use paper_values::{MOST_COERCED, REFUSE_TOO_LONG, REFUSE_VALUE};
 use query_opening::Start;
 
 // How a coercing call ends.
-#[derive(Drop)]
+#[derive(Clone, Copy)]
 pub enum Ended {
     NotOpened(Start),
     NotReached,

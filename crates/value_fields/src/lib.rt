@@ -25,14 +25,14 @@ use query_types::NO_TYPE;
 use table_members::FieldFound;
 
 // Where the arguments of a field stand in the table: the content that they are in.
-#[derive(Drop)]
+#[derive(Clone, Copy)]
 pub enum Wanted {
     Field { start: usize, end: usize },
     NotReached,
 }
 
 // A part of the table: a member's content. Of a field that is no member it is empty, and begins at 0.
-#[derive(Drop)]
+#[derive(Clone, Copy)]
 struct Span {
     start: usize,
     end: usize,

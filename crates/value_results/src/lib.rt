@@ -20,7 +20,7 @@ use value_variables::{Variables, coerce_variables};
 use value_writing::{close, place};
 
 // What is to be coerced: an operation's variables, or the arguments of the field of a row, whose definitions are in this content.
-#[derive(Drop)]
+#[derive(Clone, Copy)]
 pub enum Task {
     OfOperation,
     OfField {
@@ -31,7 +31,7 @@ pub enum Task {
 }
 
 // What comes of it: a value up to this place, past the output's end where it is too long, or a refused value.
-#[derive(Drop)]
+#[derive(Clone, Copy)]
 pub enum Outcome {
     UpTo(usize),
     Refused { text: u32, row: u32, why: u32 },

@@ -32,7 +32,7 @@ use value_kinds::{Coerced, Due};
 use value_writing::{close, place, put_field};
 
 // What came of them: up to where their pairs are written and how many have values; or the value that is refused, by text and row, and why.
-#[derive(Drop)]
+#[derive(Clone, Copy)]
 pub enum Variables {
     Done { at: usize, many: usize },
     Refused { text: u32, row: usize, why: u32 },
