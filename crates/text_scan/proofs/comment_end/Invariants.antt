@@ -1,0 +1,14 @@
+-- `comment_end`: at each turn whole characters lie behind, and the text holds them.
+use Prim.Native.Nat.{◌≤◌, ◌-◌}
+use native.Mathlib.Omega.{arith}
+use lib.ListN.{length}
+use Rattle.text_characters.specs.Characters.{character_size}
+use Rattle.text_scan.specs.Parts.{Runs}
+use Rattle.text_scan.proofs.CharacterRuns.{run_none, run_more, run_stop, run_over, no_character, character_fits}
+use Rattle.text_scan.proofs.comment_end.Given as goal
+
+abbrev pub invariant-loop-i : goal.invariant-loop-i
+invariant-loop-i l = Runs character_size l.s l.from l.i × (l.i ≤ length l.s)
+
+abbrev pub decreases-loop-i : goal.decreases-loop-i
+decreases-loop-i l = length l.s - l.i
