@@ -1,0 +1,28 @@
+-- From each byte on the brackets end at one place.
+use borrow.Author.Rules.{rules}
+use mathlib.Core.Path.{◌≡◌, refl, ap, ◌∙◌}
+use mathlib.Core.Bool.{Bool, not}
+use Prim.Native.Nat.{ℕ, ◌+◌, ◌-◌, ◌≤◌}
+use native.Mathlib.Omega.{arith}
+use lib.Seq.{slice}
+use lib.Dec.{eqb}
+use borrow.Author.Tests.{eq-eqb, ne_eqb}
+use Rattle.paper_table.specs.References.{byte_bracket_l}
+use Rattle.table_fields.specs.Wrappers.{bracket_size}
+use Rattle.table_fields.proofs.NameLaws.{run_more, run_stop, run_end}
+use Rattle.table_fields.proofs.brackets_end.Goals as goal
+
+abbrev noBracket : ℕ → Bool
+noBracket b = not (eqb b byte_bracket_l)
+
+pub loop-i-init : goal.loop-i-init
+loop-i-init c = (refl, omega arith, c.requires.order)
+
+pub returns-then-t-i-ne-BYTE_BRACKET_L : goal.returns-then-t-i-ne-BYTE_BRACKET_L
+returns-then-t-i-ne-BYTE_BRACKET_L c = run_stop noBracket c.args.t.now c.loop-i.i c.args.end c.requires.within c.loop-i-test.true (ap not (ne_eqb _ _ c.if-t-i-ne-BYTE_BRACKET_L.true)) ∙ c.loop-i.invariant.0
+
+pub loop-i-preserved : goal.loop-i-preserved
+loop-i-preserved c = (run_more noBracket c.args.t.now c.loop-i.i c.args.end c.requires.within c.loop-i-test.true (ap not (eq-eqb _ _ c.if-t-i-ne-BYTE_BRACKET_L.false)) ∙ c.loop-i.invariant.0, omega arith, omega arith)
+
+pub returns : goal.returns
+returns c = run_end noBracket c.args.t.now c.loop-i.i c.args.end c.requires.within c.loop-i-test.false ∙ c.loop-i.invariant.0
