@@ -1,0 +1,41 @@
+-- Field by field: the tag is seen from each place on, or it is here.
+use Rattle.table_fields.proofs.BoundsLaws.{later}
+use borrow.Author.Rules.{rules}
+use mathlib.Core.Path.{◌≡◌, refl, sym, ◌∙◌}
+use Prim.Native.Nat.{◌-◌, ◌≤◌}
+use native.Mathlib.Omega.{arith}
+use lib.Seq.{slice}
+use Rattle.paper_table.specs.Lists.{any_of}
+use Rattle.paper_table.specs.House.{house_fields, tag_is}
+use Rattle.table_fields.specs.declared.FieldRead.TheVariants.{Field}
+use Rattle.table_fields.specs.Fields.{field_at}
+use Rattle.table_fields.proofs.FieldLaws.{field_lies}
+use Rattle.table_framing.proofs.WrongLaws.{seen_none, seen_torn, seen_here, seen_on}
+use Rattle.table_framing.proofs.has_tag.Goals as goal
+
+pub loop-i-init : goal.loop-i-init
+loop-i-init c = (refl, c.requires.order)
+
+pub read_field-requires : goal.read_field-requires
+read_field-requires c = later c.requires c.loop-i.invariant.1
+
+pub returns-in_default : goal.returns-in_default
+returns-in_default c = seen_torn c.args.t.now c.loop-i.i c.args.end c.args.tag c.requires.within c.loop-i-test.true (sym c.read_field.ensures ∙ c.in_default.is) ∙ c.loop-i.invariant.0
+
+pub returns-then-k-tag : goal.returns-then-k-tag
+returns-then-k-tag c =
+    let read : field_at c.args.t.now c.loop-i.i c.args.end ≡ Field c.in-Field.k c.in-Field.start c.in-Field.to = sym c.read_field.ensures ∙ c.in-Field.is in
+    seen_here c.args.t.now c.loop-i.i c.args.end c.args.tag c.requires.within c.loop-i-test.true _ _ _ read c.if-k-tag.true ∙ c.loop-i.invariant.0
+
+pub loop-i-smaller : goal.loop-i-smaller
+loop-i-smaller c =
+    let read : field_at c.args.t.now c.loop-i.i c.args.end ≡ Field c.in-Field.k c.in-Field.start c.in-Field.to = sym c.read_field.ensures ∙ c.in-Field.is in
+    let l = field_lies c.args.t.now c.loop-i.i c.args.end _ _ _ c.loop-i.invariant.1 read in omega (arith, l.begins, l.order, l.within, c.loop-i-test.true)
+
+pub loop-i-preserved : goal.loop-i-preserved
+loop-i-preserved c =
+    let read : field_at c.args.t.now c.loop-i.i c.args.end ≡ Field c.in-Field.k c.in-Field.start c.in-Field.to = sym c.read_field.ensures ∙ c.in-Field.is in
+    (seen_on c.args.t.now c.loop-i.i c.args.end c.args.tag c.requires.within c.loop-i-test.true _ _ _ read c.if-k-tag.false ∙ c.loop-i.invariant.0, (field_lies c.args.t.now c.loop-i.i c.args.end _ _ _ c.loop-i.invariant.1 read).within)
+
+pub returns : goal.returns
+returns c = seen_none c.args.t.now c.loop-i.i c.args.end c.args.tag c.requires.within c.loop-i-test.false ∙ c.loop-i.invariant.0
