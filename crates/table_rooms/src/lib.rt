@@ -1,4 +1,6 @@
 // The room that a holder's fields or a reference's wrappers have, and which wrapper is the first over it. Nothing is asked of the bytes.
+#![tactic(auto)]
+
 ghost use Rattle.std.specs.Prelude.{◌≡◌};
 ghost use mathlib.Core.List.{head?};
 ghost use Rattle.std.proofs.Math.Seq.{slice};
