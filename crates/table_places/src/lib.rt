@@ -1,4 +1,5 @@
 // The first place of a definition that breaks a rule, as the functions that look for it answer. No function.
+#![tactic(auto)]
 
 #[derive(Clone, Copy)]
 pub enum PlaceRead {

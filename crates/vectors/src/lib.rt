@@ -1,6 +1,8 @@
 // What the programs that run the vectors share: reading a case from standard input, comparing report and rows, telling a line.
 // `tests/vectors/pack.py` writes the cases. A case is its head, its table, its document and the rows that the call must write, as far as it has
 // them. All numbers are of two bytes, the low one first: in the head the lengths of the three in bytes, and the eight numbers of the report.
+#![tactic(auto)]
+
 ghost use Rattle.io.specs.Counts.{IsPrefixLen};
 
 use libc::{STDIN_FILENO, STDOUT_FILENO};

@@ -1,0 +1,17 @@
+-- `value_writing::put_bits` meets its contract: four stores.
+use native.Mathlib.Omega.{arith}
+use native.Mathlib.Numerals.{towards_suc}
+use lib.ListN.{length-set}
+use Rattle.value_writing.proofs.put_bits.Goals as goal
+
+pub bounds-out-at-2 : goal.bounds-out-at-2
+bounds-out-at-2 c = simp length-set (omega arith)
+
+pub bounds-out-at-3 : goal.bounds-out-at-3
+bounds-out-at-3 c = simp length-set (omega arith)
+
+pub bounds-out-at-4 : goal.bounds-out-at-4
+bounds-out-at-4 c = simp length-set (omega arith)
+
+pub returns : goal.returns
+returns c = simp towards_suc
