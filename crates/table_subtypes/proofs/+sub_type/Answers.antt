@@ -1,7 +1,5 @@
 -- Each way out is a law of the test; the wrappers of the first reference fall.
 use mathlib.Core.Path.{sym, ◌∙◌}
-use Prim.Native.Nat.{ℕ, ◌<◌}
-use borrow.Author.Rules.{rules}
 use Rattle.table_subtypes.proofs.SubLaws.{sub_equal, sub_named, sub_named_no, sub_non_null, sub_list, sub_none}
 use Rattle.table_subtypes.proofs.+sub_type.Goals as goal
 
