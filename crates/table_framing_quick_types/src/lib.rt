@@ -1,4 +1,6 @@
 // Is a field or an argument of a table right and within the sizes? In one walk, and a yes is sure: after a no it may still be.
+#![tactic(auto)]
+
 ghost use Rattle.std.specs.Prelude.{◌≡◌, true, ℕ, suc, ◌+◌};
 ghost use Rattle.std.proofs.Math.Seq.{slice};
 ghost use Rattle.paper_table.specs.TableNumbers.{tag_field, tag_argument};

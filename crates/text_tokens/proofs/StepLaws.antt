@@ -1,5 +1,5 @@
 -- The steps of the lexical machine that names and numbers take, told by the byte.
-use mathlib.Core.Path.{◌≡◌, refl, sym, ◌∙◌, subst}
+use mathlib.Core.Path.{◌≡◌, refl, ◌∙◌, subst}
 use mathlib.Core.Bool.{Bool, true, false}
 use mathlib.Core.List.{[], ◌∷◌, Memᴰ}
 use mathlib.Core.Option.{none, some}

@@ -1,4 +1,6 @@
 // Reads one token of a text at a time, by longest match.
+#![tactic(auto)]
+
 ghost use Rattle.std.specs.Prelude.{◌≡◌, ◌+◌, ◌-◌, ◌≤◌, ◌<◌, false, cond, length, take, drop, get_or};
 ghost use Rattle.paper.specs.Lexical.{hits_byte, letter_or_digit, digit};
 ghost use Rattle.paper.specs.Numbers.{most_text};

@@ -2,7 +2,6 @@
 use mathlib.Core.Path.{sym, ◌∙◌}
 use Rattle.paper.specs.Lexical.{digit}
 use Rattle.text_tokens.proofs.RunLaws.{starts_at, starts_end}
-use borrow.Author.Rules.{rules}
 use Rattle.text_tokens.proofs.digit_at.Goals as goal
 
 pub returns-then-i-s : goal.returns-then-i-s

@@ -1,12 +1,8 @@
 -- `text_tokens::digits_end` meets its contract: the run from `from` and the run from i end at one place.
-use mathlib.Core.Path.{◌≡◌, refl, sym, ◌∙◌}
-use Prim.Native.Nat.{◌+◌, ◌-◌}
+use mathlib.Core.Path.{refl, sym, ◌∙◌}
 use native.Mathlib.Omega.{arith}
-use lib.ListN.{length, drop}
 use Rattle.paper.specs.Lexical.{digit}
-use Rattle.text_scan.specs.Run.{run_of}
 use Rattle.text_tokens.proofs.RunLaws.{run_more, run_stop, run_end}
-use borrow.Author.Rules.{rules}
 use Rattle.text_tokens.proofs.digits_end.Goals as goal
 
 pub loop-i-init : goal.loop-i-init

@@ -1,15 +1,11 @@
 -- `text_tokens::first` meets its contract: what the loop has passed over changes nothing, and what stands behind it is told by its first byte.
-use mathlib.Core.Path.{◌≡◌, refl, sym, ap, ◌∙◌}
-use Prim.Native.Nat.{◌-◌, ◌≤◌}
+use mathlib.Core.Path.{refl, sym, ap, ◌∙◌}
 use native.Mathlib.Omega.{arith}
-use lib.ListN.{length}
-use Rattle.paper.proofs.Lexing.{from as tokens_from}
 use Rattle.paper.specs.Tokens.{Text}
 use Rattle.text_scan.specs.Head.{head_of}
 use Rattle.text_tokens.proofs.PieceLaws.{blank_at, name_at, mark_at}
 use Rattle.text_tokens.proofs.HereLaws.{ignored_in, here_end, here_token, here_found}
 use Rattle.text_tokens.proofs.Unroll.{from_skip}
-use borrow.Author.Rules.{rules}
 use Rattle.text_tokens.proofs.first.Goals as goal
 
 pub loop-i-init : goal.loop-i-init
@@ -25,7 +21,7 @@ pub returns-then-starts_name : goal.returns-then-starts_name
 returns-then-starts_name c = here_found _ _ _ _ _ c.loop-i-test.true (name_at _ _ c.loop-i-test.true _ (sym c.starts_name.ensures ∙ c.if-starts_name.true) c.name_end-e.ensures) ∙ ap (λ (t : Text). head_of t) (sym c.loop-i.invariant.1)
 
 pub overflow_cast-result : goal.overflow_cast-result
-overflow_cast-result c = omega (arith, c.shared_slice_known-in-loop-i-1.given c.loop-i.i)
+overflow_cast-result c = omega (arith, c.type_inv.s c.loop-i.i)
 
 pub returns-then-is_punctuator : goal.returns-then-is_punctuator
 returns-then-is_punctuator c = here_found _ _ _ _ _ c.loop-i-test.true (mark_at _ _ c.loop-i-test.true (sym c.is_punctuator.ensures ∙ c.if-is_punctuator.true)) ∙ ap (λ (t : Text). head_of t) (sym c.loop-i.invariant.1)

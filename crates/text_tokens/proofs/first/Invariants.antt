@@ -1,15 +1,8 @@
 -- `text_tokens::first` meets its contract: what the loop has passed over changes nothing, and what stands behind it is told by its first byte.
-use mathlib.Core.Path.{◌≡◌, refl, sym, ap, ◌∙◌}
+use mathlib.Core.Path.{◌≡◌}
 use Prim.Native.Nat.{◌-◌, ◌≤◌}
-use native.Mathlib.Omega.{arith}
 use lib.ListN.{length}
 use Rattle.paper.proofs.Lexing.{from as tokens_from}
-use Rattle.paper.specs.Tokens.{Text}
-use Rattle.text_scan.specs.Head.{head_of}
-use Rattle.text_tokens.proofs.PieceLaws.{blank_at, name_at, mark_at}
-use Rattle.text_tokens.proofs.HereLaws.{ignored_in, here_end, here_token, here_found}
-use Rattle.text_tokens.proofs.Unroll.{from_skip}
-use borrow.Author.Rules.{rules}
 use Rattle.text_tokens.proofs.first.Given as goal
 
 abbrev pub invariant-loop-i : goal.invariant-loop-i

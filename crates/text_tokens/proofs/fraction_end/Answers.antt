@@ -4,7 +4,6 @@ use Prim.Native.Nat.{◌+◌}
 use native.Mathlib.Omega.{arith}
 use Rattle.paper.specs.Lexical.{digit}
 use Rattle.text_tokens.proofs.NumberParts.{starts_in, fraction_yes, fraction_bare, fraction_none, fraction_end}
-use borrow.Author.Rules.{rules}
 use Rattle.text_tokens.proofs.fraction_end.Goals as goal
 
 pub digits_end-requires : goal.digits_end-requires

@@ -3,7 +3,6 @@ use mathlib.Core.Path.{sym, ap, ◌∙◌}
 use mathlib.Core.Bool.{Bool, cond}
 use native.Mathlib.Omega.{arith}
 use Rattle.text_tokens.proofs.PieceLaws.{no_blank}
-use borrow.Author.Rules.{rules}
 use Rattle.text_tokens.proofs.ignored.Goals as goal
 
 pub returns-then-b-eq35 : goal.returns-then-b-eq35
@@ -16,4 +15,4 @@ pub returns-else-is_mark : goal.returns-else-is_mark
 returns-else-is_mark c = ap (λ (t : Bool). cond t 3 0) (sym c.if-is_mark.false) ∙ c.is_mark.ensures
 
 pub returns-else-b : goal.returns-else-b
-returns-else-b c = no_blank _ c.args.i c.requires.0 (omega (arith, c.shared_slice_known-2-1.given c.args.i)) c.requires.1 c.if-b-eq35.false c.if-b.false
+returns-else-b c = no_blank _ c.args.i c.requires.0 (omega (arith, c.type_inv.s c.args.i)) c.requires.1 c.if-b-eq35.false c.if-b.false

@@ -1,6 +1,5 @@
 -- `text_tokens::is_mark` meets its contract.
 use Rattle.text_tokens.proofs.PieceLaws.{order_short, order_second, order_third}
-use borrow.Author.Rules.{rules}
 use Rattle.text_tokens.proofs.is_mark.Goals as goal
 
 pub returns-then-s-i-lt3 : goal.returns-then-s-i-lt3

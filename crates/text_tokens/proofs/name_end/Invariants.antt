@@ -1,12 +1,9 @@
 -- `text_tokens::name_end` meets its contract: the run from `from` and the run from i end at one place.
-use mathlib.Core.Path.{◌≡◌, refl, sym, ◌∙◌}
+use mathlib.Core.Path.{◌≡◌}
 use Prim.Native.Nat.{◌+◌, ◌-◌}
-use native.Mathlib.Omega.{arith}
 use lib.ListN.{length, drop}
 use Rattle.paper.specs.Lexical.{letter_or_digit}
 use Rattle.text_scan.specs.Run.{run_of}
-use Rattle.text_tokens.proofs.RunLaws.{run_more, run_stop, run_end}
-use borrow.Author.Rules.{rules}
 use Rattle.text_tokens.proofs.name_end.Given as goal
 
 abbrev pub invariant-loop-i : goal.invariant-loop-i

@@ -1,6 +1,5 @@
 -- `text_tokens::next` meets its contract: what was packed is unpacked.
 use Rattle.text_tokens.proofs.PackedLaws.{scanned}
-use borrow.Author.Rules.{rules}
 use Rattle.text_tokens.proofs.next.Goals as goal
 
 pub returns : goal.returns

@@ -1,5 +1,4 @@
 -- `text_tokens::other` meets its contract, by the first byte.
-use borrow.Author.Rules.{rules}
 use Rattle.text_tokens.proofs.other.Goals as goal
 
 pub bounds-s-at : goal.bounds-s-at

@@ -1,7 +1,6 @@
 -- `text_tokens::packed` meets its contract: the parts are small, so that no product and no sum wraps.
 use native.Mathlib.Omega.{arith}
 use Rattle.text_tokens.proofs.PackedLaws.{fits_token, fits_bad}
-use borrow.Author.Rules.{rules}
 use Rattle.text_tokens.proofs.packed.Goals as goal
 
 pub overflow_mul-result-in-Token : goal.overflow_mul-result-in-Token

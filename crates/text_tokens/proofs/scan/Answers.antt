@@ -2,7 +2,6 @@
 use mathlib.Core.Path.{ap, ◌∙◌}
 use Rattle.text_tokens.specs.Packed.{packed_of}
 use Rattle.text_tokens.proofs.PackedLaws.{head_fits}
-use borrow.Author.Rules.{rules}
 use Rattle.text_tokens.proofs.scan.Goals as goal
 
 pub packed-requires : goal.packed-requires

@@ -1,6 +1,5 @@
 -- `text_tokens::sign_end` meets its contract.
 use Rattle.text_tokens.proofs.NumberParts.{sign_plus, sign_minus, sign_none, sign_over}
-use borrow.Author.Rules.{rules}
 use Rattle.text_tokens.proofs.sign_end.Goals as goal
 
 pub returns-then-b-eq43 : goal.returns-then-b-eq43

@@ -1,6 +1,5 @@
 -- `text_tokens::spread` meets its contract.
 use Rattle.text_tokens.proofs.PieceLaws.{spread_short, spread_yes, spread_third, spread_second}
-use borrow.Author.Rules.{rules}
 use Rattle.text_tokens.proofs.spread.Goals as goal
 
 pub returns-then-s-at-lt3 : goal.returns-then-s-at-lt3

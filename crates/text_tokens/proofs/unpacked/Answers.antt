@@ -1,5 +1,4 @@
 -- `text_tokens::unpacked` meets its contract.
-use borrow.Author.Rules.{rules}
 use borrow.Author.Tests.{ne_eqb}
 use Rattle.text_tokens.specs.Packed.{unpacked_of}
 use Rattle.text_tokens.proofs.unpacked.Goals as goal

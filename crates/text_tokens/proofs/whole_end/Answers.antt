@@ -1,7 +1,6 @@
 -- `text_tokens::whole_end` meets its contract: a zero stands alone.
 use mathlib.Core.Path.{◌∙◌}
 use Rattle.text_tokens.proofs.NumberParts.{whole_zero, whole_more}
-use borrow.Author.Rules.{rules}
 use Rattle.text_tokens.proofs.whole_end.Goals as goal
 
 pub returns-then-s-i-eq48 : goal.returns-then-s-i-eq48
