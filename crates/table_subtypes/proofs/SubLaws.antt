@@ -1,6 +1,6 @@
 -- The sub_type test on wrappers, one law for each way that it ends or goes on.
 use mathlib.Core.Path.{◌≡◌, refl, sym, ap, ◌∙◌}
-use mathlib.Core.Bool.{Bool, true, false, ◌&&◌, ◌||◌, false≢true}
+use mathlib.Core.Bool.{Bool, true, false, ◌&&◌, ◌||◌}
 use Prim.Native.Nat.{ℕ, ◌%◌, ◌/◌}
 use native.Mathlib.Omega.{arith}
 use lib.Dec.{eqb}

@@ -1,5 +1,4 @@
 -- By the two cases.
-use borrow.Author.Rules.{rules}
 use Rattle.table_subtypes.proofs.equal_refs.Goals as goal
 
 pub returns-then-alike : goal.returns-then-alike
