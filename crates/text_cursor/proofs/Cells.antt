@@ -1,18 +1,18 @@
 -- The marks of a row, on the lent numbers: what the machine writes mark by mark is the row's seven numbers.
 use mathlib.Core.Path.{◌≡◌, refl, sym, ap, ◌∙◌, subst}
 use mathlib.Core.List.{List, [], ◌∷◌, ◌++◌}
-use Prim.Native.Nat.{ℕ, zero, suc, ◌+◌, ◌-◌, ◌*◌, ◌≤◌, ◌<◌}
+use Prim.Native.Nat.{ℕ, suc, ◌+◌, ◌-◌, ◌*◌, ◌≤◌, ◌<◌}
 use native.Mathlib.Nat.{add-zero, add-suc, suc-add, lt_irrefl}
 use native.Mathlib.Numerals.{towards_suc}
 use native.Mathlib.Omega.{arith}
 use lib.ListN.{length, set, get_or}
 use lib.Seq.{sets, set-set, set_comm, get_or-set_same, length-sets, lt-length-sets}
 use Rattle.paper.specs.Grammar.{act}
-use Rattle.paper.specs.Language.{Mark, row, kind, named, wrapper, wrap, end}
+use Rattle.paper.specs.Language.{row, kind, named, wrapper, wrap, end}
 use Rattle.paper.specs.Tokens.{Text}
 use Rattle.paper.specs.Rows.{top}
 use Rattle.paper.specs.Sizes.{Counts, kinded, wrapper_more}
-use Rattle.paper.proofs.Going.{Stack, State, st, Out, go, go_act, start_in, stop_in}
+use Rattle.paper.proofs.Going.{Stack, st, go, go_act, start_in, stop_in}
 
 -- row n of the numbers
 abbrev pub put : List ℕ → ℕ → ℕ → ℕ → ℕ → ℕ → ℕ → ℕ → ℕ → List ℕ

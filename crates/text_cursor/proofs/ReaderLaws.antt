@@ -1,14 +1,14 @@
 -- Laws of the cursor: where its token lies.
 use mathlib.Core.Path.{◌≡◌, refl, sym, ap, ◌∙◌, subst}
 use mathlib.Core.List.{List}
-use Prim.Native.Nat.{ℕ, ◌≤◌, ◌<◌}
+use Prim.Native.Nat.{ℕ, ◌≤◌}
 use native.Mathlib.Omega.{arith}
 use lib.ListN.{length}
 use Rattle.paper.specs.Numbers.{most_text}
-use Rattle.paper.specs.Tokens.{Tok, Text, at_end, bad, token}
+use Rattle.paper.specs.Tokens.{Text, at_end, bad, token}
 use Rattle.paper.proofs.Lexing.{from}
 use Rattle.paper_theory.proofs.FromLaws.{from_token, from_over, from_bad}
-use Rattle.text_scan.specs.Head.{head_of, kind_of}
+use Rattle.text_scan.specs.Head.{head_of}
 use Rattle.text_scan.specs.declared.TokenRead.{TokenRead}
 use Rattle.text_scan.specs.declared.TokenRead.TheVariants.{Token, Bad}
 use Rattle.text_cursor.specs.declared.Read.{Read}

@@ -1,25 +1,23 @@
 -- What the machine does at the token that a cursor looks at. A reader's proof goes by these laws alone: each speaks of a kind of token, by a
 -- class of it, and the tables of the grammar are asked by a test that computes over all classes.
 use mathlib.Core.Path.{◌≡◌, refl, sym, ap, ◌∙◌, subst}
-use mathlib.Core.Bool.{Bool, true, false, not, ◌&&◌, ◌||◌}
-use mathlib.Core.List.{List, [], ◌∷◌, ◌++◌, Memᴰ}
+use mathlib.Core.Bool.{Bool, true, false, not, ◌&&◌}
+use mathlib.Core.List.{List, ◌∷◌, ◌++◌, Memᴰ}
 use mathlib.Core.Option.{Option, none, some}
-use mathlib.Core.Logic.{◌≢◌}
-use Prim.Native.Nat.{ℕ, zero, suc, ◌+◌, ◌-◌, ◌*◌, ◌≤◌, ◌<◌}
+use Prim.Native.Nat.{ℕ, suc, ◌≤◌, ◌<◌}
 use native.Mathlib.Omega.{arith}
-use lib.Dec.{T, eqb, ltb, eqb→eq}
+use lib.Dec.{T, eqb, ltb}
 use lib.ListN.{length}
 use borrow.Author.Tests.{eq-eqb, ne_eqb, le-ltb, lt-ltb}
-use Rattle.paper.specs.Grammar.{Sym, nt, tm, act, Ev, tok, mark}
+use Rattle.paper.specs.Grammar.{nt, tm}
 use Rattle.paper.specs.Numbers.{most_rows}
-use Rattle.paper.specs.Language.{Class, Terminal, hits, Mark, Part}
+use Rattle.paper.specs.Language.{Class, Terminal, hits, Part}
 use Rattle.paper.specs.Tokens.{Tok, Text, at_end, bad, token}
 use Rattle.paper.specs.Sizes.{Counts, opens_level, closes_level, over_counts}
-use Rattle.paper.specs.declared.Refusal.{Refusal}
 use Rattle.paper.specs.declared.Refusal.TheVariants.{NoGoing, TooDeep, TooManyRows, TooMany}
 use Rattle.paper.proofs.Lexing.{from}
-use Rattle.paper_theory.proofs.FromLaws.{from_token, from_over, from_bad}
-use Rattle.paper.proofs.Machine.{fst, nul, choose, step, take_if, Step, took, refused, over as over-stack}
+use Rattle.paper_theory.proofs.FromLaws.{from_token, from_over}
+use Rattle.paper.proofs.Machine.{fst, nul, choose, step}
 use Rattle.paper.proofs.Bools.{T→eq, and_l, and_r, not_eq}
 use Rattle.paper_theory.proofs.Theory.{choose_first, choose_null, step_by, step_none}
 use Rattle.paper_theory.proofs.Test.{all, implies, implies_out, all_at}
@@ -28,7 +26,6 @@ use Rattle.paper.specs.Language.{num_c}
 use Rattle.paper_theory.proofs.Checked.{fits}
 use Rattle.paper.proofs.Going.{Stack, State, st, Out, halt, go, goes, heed, deep, many, marked}
 use Rattle.text_scan.specs.Head.{head_of, kind_of}
-use Rattle.text_scan.specs.declared.TokenRead.{TokenRead}
 use Rattle.text_scan.specs.declared.TokenRead.TheVariants.{Token, Bad}
 use Rattle.text_tokens.proofs.KindLaws.{kind_some}
 use Rattle.text_cursor.specs.declared.Cursor.{Cursor}

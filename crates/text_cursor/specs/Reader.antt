@@ -1,5 +1,5 @@
 -- What a reader asks and answers: an equation of the machine `go`, for every stack behind what it reads.
-use Rattle.std.specs.Prelude.{◌≡◌, false, List, ◌++◌, ℕ, ◌+◌, ◌≤◌, ◌<◌, length}
+use Rattle.std.specs.Prelude.{◌≡◌, false, List, ◌++◌, ℕ, ◌+◌, ◌≤◌, length}
 use Rattle.paper.specs.Numbers.{most_text, most_rows, rows_size}
 use Rattle.paper.specs.Rows.{top}
 use Rattle.paper.specs.Sizes.{Counts, over_counts}
