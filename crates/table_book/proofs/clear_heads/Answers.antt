@@ -1,10 +1,7 @@
 -- Bucket by bucket: those before h are at their end.
-use mathlib.Core.Path.{◌≡◌, refl}
-use Prim.Native.Nat.{◌-◌}
+use mathlib.Core.Path.{refl}
 use native.Mathlib.Omega.{arith}
-use Rattle.table_book.specs.Book.{room, count_in}
-use Rattle.table_book.proofs.Chained.{HeadsTo, heads_none, heads_more, heads_all}
-use borrow.Author.Rules.{rules}
+use Rattle.table_book.proofs.Chained.{heads_none, heads_more, heads_all}
 use Rattle.table_book.proofs.clear_heads.Goals as goal
 
 pub loop-h-init : goal.loop-h-init

@@ -1,10 +1,8 @@
 -- Bucket by bucket: those before h are at their end.
-use mathlib.Core.Path.{◌≡◌, refl}
+use mathlib.Core.Path.{◌≡◌}
 use Prim.Native.Nat.{◌-◌}
-use native.Mathlib.Omega.{arith}
 use Rattle.table_book.specs.Book.{room, count_in}
-use Rattle.table_book.proofs.Chained.{HeadsTo, heads_none, heads_more, heads_all}
-use borrow.Author.Rules.{rules}
+use Rattle.table_book.proofs.Chained.{HeadsTo}
 use Rattle.table_book.proofs.clear_heads.Given as goal
 
 abbrev pub invariant-loop-h : goal.invariant-loop-h

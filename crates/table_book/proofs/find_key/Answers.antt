@@ -1,10 +1,8 @@
 -- Along the chain of the name's bucket: the first from here on is the first of all.
-use borrow.Author.Rules.{rules}
 use mathlib.Core.Path.{sym, ◌∙◌}
-use Prim.Native.Nat.{◌-◌, ◌≤◌, ◌<◌}
+use Prim.Native.Nat.{◌<◌}
 use native.Mathlib.Omega.{arith}
-use Rattle.table_book.specs.Book.{part, keys_of, count_in, seed_in, hash_of}
-use Rattle.table_book.proofs.Chained.{Sought}
+use Rattle.table_book.specs.Book.{part, count_in}
 use Rattle.table_book.proofs.Search.{search_start, search_less, search_more, search_here, search_end}
 use Rattle.table_book.proofs.find_key.Goals as goal
 

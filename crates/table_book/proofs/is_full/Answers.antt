@@ -1,6 +1,4 @@
 -- Nothing is said of the answer; the entries left to count fall.
-use borrow.Author.Rules.{rules}
-use Prim.Native.Nat.{◌<◌}
 use native.Mathlib.Omega.{arith}
 use Rattle.table_book.proofs.is_full.Goals as goal
 

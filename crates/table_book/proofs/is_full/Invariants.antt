@@ -1,7 +1,5 @@
 -- Nothing is said of the answer; the entries left to count fall.
-use borrow.Author.Rules.{rules}
 use Prim.Native.Nat.{◌<◌}
-use native.Mathlib.Omega.{arith}
 use Rattle.table_book.proofs.is_full.Given as goal
 
 abbrev pub invariant-loop-k : goal.invariant-loop-k

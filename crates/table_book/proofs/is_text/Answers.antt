@@ -2,7 +2,6 @@
 use mathlib.Core.Path.{sym, ◌∙◌}
 use Rattle.table_book.specs.Book.{part}
 use Rattle.table_book.proofs.Texts.{same_lengths, length_part}
-use borrow.Author.Rules.{rules}
 use Rattle.table_book.proofs.is_text.Goals as goal
 
 pub returns-then-l-n : goal.returns-then-l-n

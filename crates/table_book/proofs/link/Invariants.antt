@@ -1,10 +1,6 @@
 -- However often it is linked, it is linked.
-use borrow.Author.Rules.{rules}
-use mathlib.Core.Path.{refl, ◌∙◌}
 use Prim.Native.Nat.{◌<◌}
-use native.Mathlib.Omega.{arith}
 use Rattle.table_book.specs.Book.{Linked}
-use Rattle.table_book.proofs.Linking.{linked_on}
 use Rattle.table_book.proofs.link.Given as goal
 
 abbrev pub invariant-loop-crowded : goal.invariant-loop-crowded

@@ -1,11 +1,10 @@
 -- From the last entry to the first: those from j on are linked.
-use borrow.Author.Rules.{rules}
 use mathlib.Core.Path.{sym, ap, ◌∙◌}
-use Prim.Native.Nat.{ℕ, ◌-◌}
+use Prim.Native.Nat.{ℕ}
 use native.Mathlib.Omega.{arith}
 use Rattle.table_book.specs.Book.{part, hash_of}
 use Rattle.table_book.proofs.Keys.{held_kept}
-use Rattle.table_book.proofs.Linking.{Linking, linking_start, linking_room, linking_cells, linking_within, linking_more, linking_end, seed_kept, seed_set, linked_on}
+use Rattle.table_book.proofs.Linking.{linking_start, linking_room, linking_cells, linking_within, linking_more, linking_end, seed_kept, seed_set, linked_on}
 use Rattle.table_book.proofs.link_by.Goals as goal
 
 pub bounds-book-1793 : goal.bounds-book-1793
@@ -27,7 +26,7 @@ pub size_of-requires : goal.size_of-requires
 size_of-requires c = (linking_cells _ _ _ c.loop-j.invariant c.loop-j-test.true ∙ c.loop-j.invariant.held.cells, linking_room _ _ _ c.loop-j.invariant c.loop-j-test.true)
 
 pub hash-h-requires : goal.hash-h-requires
-hash-h-requires c = linking_within _ _ _ c.loop-j.invariant c.loop-j-test.true c.name_of.ensures c.type_size.ensures
+hash-h-requires c = linking_within _ _ _ c.loop-j.invariant c.loop-j-test.true c.name_of.ensures c.size_of.ensures
 
 pub is_full-requires : goal.is_full-requires
 is_full-requires c = (linking_cells _ _ _ c.loop-j.invariant c.loop-j-test.true ∙ c.loop-j.invariant.held.cells, (held_kept _ _ _ c.loop-j.invariant.kept c.loop-j.invariant.held).most, c.hash-h.ensures.1)
@@ -39,7 +38,7 @@ pub loop-j-smaller : goal.loop-j-smaller
 loop-j-smaller c = omega (arith, c.loop-j-test.true)
 
 pub loop-j-preserved : goal.loop-j-preserved
-loop-j-preserved c = linking_more _ _ _ c.loop-j.invariant c.loop-j-test.true c.name_of.ensures c.type_size.ensures (c.hash-h.ensures.0 ∙ ap (λ (x : ℕ). hash_of x (part c.args.t.now c.name_of.result c.type_size.result)) (sym (c.clear_heads.ensures.seed_is ∙ seed_set c.args.book.now c.args.seed c.requires.cells))) c.hash-h.ensures.1 c.put_first.ensures
+loop-j-preserved c = linking_more _ _ _ c.loop-j.invariant c.loop-j-test.true c.name_of.ensures c.size_of.ensures (c.hash-h.ensures.0 ∙ ap (λ (x : ℕ). hash_of x (part c.args.t.now c.name_of.result c.size_of.result)) (sym (c.clear_heads.ensures.seed_is ∙ seed_set c.args.book.now c.args.seed c.requires.cells))) c.hash-h.ensures.1 c.put_first.ensures
 
 pub shape_of-book : goal.shape_of-book
 shape_of-book c = c.loop-j.invariant.kept.cells ∙ c.clear_heads.ensures.kept.cells ∙ (seed_kept c.args.book.now c.args.seed).cells

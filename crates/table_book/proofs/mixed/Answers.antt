@@ -1,10 +1,9 @@
 -- Byte by byte: what is left of the name, hashed from here, gives the whole.
-use borrow.Author.Rules.{rules}
 use mathlib.Core.Path.{◌≡◌, ap, ◌∙◌}
-use Prim.Native.Nat.{ℕ, ◌+◌, ◌-◌, ◌<◌, ◌≤◌}
+use Prim.Native.Nat.{ℕ, ◌+◌, ◌-◌}
 use native.Mathlib.Omega.{arith}
 use lib.ListN.{get_or}
-use Rattle.table_book.specs.Book.{part, hash_limit, hash_from}
+use Rattle.table_book.specs.Book.{part, hash_from}
 use Rattle.table_book.proofs.Texts.{hash_fits, hash_more, hash_end}
 use Rattle.table_book.proofs.mixed.Goals as goal
 

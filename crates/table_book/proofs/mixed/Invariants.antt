@@ -1,11 +1,7 @@
 -- Byte by byte: what is left of the name, hashed from here, gives the whole.
-use borrow.Author.Rules.{rules}
-use mathlib.Core.Path.{◌≡◌, ap, ◌∙◌}
-use Prim.Native.Nat.{ℕ, ◌+◌, ◌-◌, ◌<◌, ◌≤◌}
-use native.Mathlib.Omega.{arith}
-use lib.ListN.{get_or}
+use mathlib.Core.Path.{◌≡◌}
+use Prim.Native.Nat.{◌+◌, ◌-◌, ◌<◌, ◌≤◌}
 use Rattle.table_book.specs.Book.{part, hash_limit, hash_from}
-use Rattle.table_book.proofs.Texts.{hash_fits, hash_more, hash_end}
 use Rattle.table_book.proofs.mixed.Given as goal
 
 abbrev pub invariant-loop-i : goal.invariant-loop-i

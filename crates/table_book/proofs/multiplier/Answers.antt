@@ -1,5 +1,4 @@
 -- One sum, cut down.
-use borrow.Author.Rules.{rules}
 use mathlib.Core.Path.{ap}
 use native.Mathlib.Omega.{arith}
 use Rattle.table_book.specs.Book.{multiplier_of}

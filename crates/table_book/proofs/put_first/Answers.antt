@@ -3,7 +3,6 @@ use native.Mathlib.Omega.{arith}
 use Prim.Native.Nat.{◌+◌}
 use lib.ListN.{get_or, length-set}
 use Rattle.table_book.specs.Book.{cell_next, cell_head}
-use borrow.Author.Rules.{rules}
 use Rattle.table_book.proofs.put_first.Goals as goal
 
 pub bounds-book-h-2 : goal.bounds-book-h-2

@@ -1,11 +1,8 @@
 -- Byte by byte: what is left of both is as alike as the whole.
-use mathlib.Core.Path.{◌≡◌, ◌∙◌}
+use mathlib.Core.Path.{◌≡◌}
 use Prim.Native.Nat.{◌+◌, ◌-◌, ◌≤◌}
-use native.Mathlib.Omega.{arith}
-use borrow.Author.Rules.{rules}
 use Rattle.paper.specs.Tokens.{same}
 use Rattle.table_book.specs.Book.{part}
-use Rattle.table_book.proofs.Texts.{same_more, same_stop, same_end}
 use Rattle.table_book.proofs.same_text.Given as goal
 
 abbrev pub invariant-loop-i : goal.invariant-loop-i

@@ -1,0 +1,18 @@
+-- `text_references::typed` meets its contract: each way out is a law of `TypeLaws`.
+use mathlib.Core.List.{[]}
+use Rattle.text_references.proofs.MovedLaws.{end_within}
+use Rattle.text_references.proofs.TypeLaws.{rest_none, rest_stop, rest_done}
+use borrow.Author.Rules.{rules}
+use Rattle.text_references.proofs.typed.Goals as goal
+
+pub returns-then-name-ne-TOKEN_NAME : goal.returns-then-name-ne-TOKEN_NAME
+returns-then-name-ne-TOKEN_NAME c = rest_none _ _ _ _ _ _ c.requires _ c.if-name-ne-TOKEN_NAME.true c.no_going.result c.no_going.ensures
+
+pub overflow_sub-name : goal.overflow_sub-name
+overflow_sub-name c = (end_within _ c.args.w.at c.requires.seen.within c.requires.seen.looks).0
+
+pub returns-in-Typed : goal.returns-in-Typed
+returns-in-Typed c = rest_done _ _ _ _ _ _ c.requires _ c.base_type-t.result _ c.base_type-t.ensures c.in-Typed.is c.put_row.ensures
+
+pub returns-in-Untyped : goal.returns-in-Untyped
+returns-in-Untyped c = rest_stop _ _ _ _ _ _ c.requires [] c.base_type-t.result _ c.base_type-t.ensures c.in-Untyped.is
