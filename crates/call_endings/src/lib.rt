@@ -1,4 +1,6 @@
 // What a document that was read or judged leaves in the rows and the report.
+#![tactic(auto)]
+
 ghost use Rattle.std.specs.Prelude.{◌≡◌, ◌≤◌, length};
 ghost use Rattle.paper.specs.Numbers.{report_size};
 ghost use Rattle.paper_query.specs.DocumentCalls.{Lent};

@@ -1,4 +1,6 @@
 // Writes the row of one token, begins the row of an opening mark and ends it with the closing one.
+#![tactic(auto)]
+
 ghost use Rattle.std.specs.Prelude.{◌<◌};
 ghost use Rattle.paper.specs.Numbers.{most_rows};
 ghost use Rattle.text_cursor.specs.Reader.{Ready};
