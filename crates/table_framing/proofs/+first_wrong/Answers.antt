@@ -28,13 +28,13 @@ pub is_leaf-requires : goal.is_leaf-requires
 is_leaf-requires t c = c.requires
 
 pub returns-then-is_leaf : goal.returns-then-is_leaf
-returns-then-is_leaf t c = leaf_is c.args.depth c.args.at c.args.tag (slice (c.args.at + 3) c.args.end c.args.t.now) c.content_of-h.result true c.is_IsLeaf.result c.if-depth-eq0.false c.content_of-h.ensures c.in-Fields.keys2 c.is_IsLeaf.ensures c.if-is_leaf.true
+returns-then-is_leaf t c = leaf_is c.args.depth c.args.at c.args.tag (slice (c.args.at + 3) c.args.end c.args.t.now) c.content_of-h.result true c.is_leaf.result c.if-depth-eq0.false c.content_of-h.ensures c.in-Fields.keys2 c.is_leaf.ensures c.if-is_leaf.true
 
 pub overflow_cast-result-in_default : goal.overflow_cast-result-in_default
 overflow_cast-result-in_default t c = omega (arith, c.requires.order, c.requires.within, c.requires.most)
 
 pub returns-in_default : goal.returns-in_default
-returns-in_default t c = leaf_is c.args.depth c.args.at c.args.tag (slice (c.args.at + 3) c.args.end c.args.t.now) c.content_of-h.result false c.is_IsLeaf.result c.if-depth-eq0.false c.content_of-h.ensures c.in-Fields.keys2 c.is_IsLeaf.ensures c.if-is_leaf.false
+returns-in_default t c = leaf_is c.args.depth c.args.at c.args.tag (slice (c.args.at + 3) c.args.end c.args.t.now) c.content_of-h.result false c.is_leaf.result c.if-depth-eq0.false c.content_of-h.ensures c.in-Fields.keys2 c.is_leaf.ensures c.if-is_leaf.false
 
 pub overflow_add-i : goal.overflow_add-i
 overflow_add-i t c = omega (arith, c.requires.order, c.requires.within, c.requires.most)

@@ -28,7 +28,7 @@ pub returns-in-8 : goal.returns-in-8
 returns-in-8 c = rw c.in-8.is holds_roots
 
 pub returns-in-18 : goal.returns-in-18
-returns-in-18 c = rw (c.in-18.is, c.type-inv.ensures) holds_field
+returns-in-18 c = rw (c.in-18.is, c.type_inv.ensures) holds_field
 
 pub returns-in-19 : goal.returns-in-19
 returns-in-19 c = rw (c.in-19.is, c.typed-in-19.ensures) holds_argument
@@ -58,4 +58,4 @@ pub returns-in-25 : goal.returns-in-25
 returns-in-25 c = rw c.in-25.is leaf_subscription_root
 
 pub returns-in_default : goal.returns-in_default
-returns-in_default c = content_none c.args.tag c.in-1.rest.0.0.0.0.0.0.0.0.0.0.0.0.0.0.0.0.0.1 c.in-1.rest.0.0.0.0.0.0.0.0.0.0.0.0.0.0.0.0.1 c.in-1.rest.0.0.0.0.0.0.0.0.0.0.0.0.0.0.0.1 c.in-1.rest.0.0.0.0.0.0.0.0.0.0.0.0.0.0.1 c.in-1.rest.0.0.0.0.0.0.0.0.0.0.0.0.0.1 c.in-1.rest.0.0.0.0.0.0.0.0.0.0.0.0.1 c.in-1.rest.0.0.0.0.0.0.0.0.0.0.0.1 c.in-1.rest.0.0.0.0.0.0.0.0.0.0.1 c.in-1.rest.0.0.0.0.0.0.0.0.0.1 c.in-1.rest.0.0.0.0.0.0.0.0.1 c.in-1.rest.0.0.0.0.0.0.0.1 c.in-1.rest.0.0.0.0.0.0.1 c.in-1.rest.0.0.0.0.0.1 c.in-1.rest.0.0.0.0.1 c.in-1.rest.0.0.0.1 c.in-1.rest.0.0.1 c.in-1.rest.0.1 c.in-1.rest.1
+returns-in_default c = content_none c.args.tag c.in_default.in_default-own.rest.0.0.0.0.0.0.0.0.0.0.0.0.0.0.0.0.0.1 c.in_default.in_default-own.rest.0.0.0.0.0.0.0.0.0.0.0.0.0.0.0.0.1 c.in_default.in_default-own.rest.0.0.0.0.0.0.0.0.0.0.0.0.0.0.0.1 c.in_default.in_default-own.rest.0.0.0.0.0.0.0.0.0.0.0.0.0.0.1 c.in_default.in_default-own.rest.0.0.0.0.0.0.0.0.0.0.0.0.0.1 c.in_default.in_default-own.rest.0.0.0.0.0.0.0.0.0.0.0.0.1 c.in_default.in_default-own.rest.0.0.0.0.0.0.0.0.0.0.0.1 c.in_default.in_default-own.rest.0.0.0.0.0.0.0.0.0.0.1 c.in_default.in_default-own.rest.0.0.0.0.0.0.0.0.0.1 c.in_default.in_default-own.rest.0.0.0.0.0.0.0.0.1 c.in_default.in_default-own.rest.0.0.0.0.0.0.0.1 c.in_default.in_default-own.rest.0.0.0.0.0.0.1 c.in_default.in_default-own.rest.0.0.0.0.0.1 c.in_default.in_default-own.rest.0.0.0.0.1 c.in_default.in_default-own.rest.0.0.0.1 c.in_default.in_default-own.rest.0.0.1 c.in_default.in_default-own.rest.0.1 c.in_default.in_default-own.rest.1
