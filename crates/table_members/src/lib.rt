@@ -1,5 +1,7 @@
 // Walks over the contents of a table: a record's members and the names it implements, a member's name and arguments.
 // Nothing is asked of the bytes; a content is named by where it starts and where it ends.
+#![tactic(auto)]
+
 ghost use Rattle.std.specs.Prelude.{◌≡◌, true, false, ◌+◌, ◌-◌, ◌≤◌, ◌<◌, length};
 ghost use Rattle.std.proofs.Math.Seq.{slice};
 ghost use Rattle.paper.specs.Tokens.{same};

@@ -1,4 +1,6 @@
 // Reads type references, and writes their rows.
+#![tactic(auto)]
+
 ghost use Rattle.std.specs.Prelude.{◌≡◌, ◌≤◌};
 ghost use Rattle.paper.specs.Numbers.{most_wrappers};
 ghost use Rattle.paper.specs.Language.{n_other};

@@ -1,5 +1,4 @@
 -- `text_references::bang_if` meets its contract: each way out is a law of `BangLaws`.
-use borrow.Author.Rules.{rules}
 use Rattle.text_references.proofs.MovedLaws.{end_within}
 use Rattle.text_references.proofs.BangLaws.{bang_none, bang_many, bang_bad, bang_done}
 use Rattle.text_references.proofs.bang_if.Goals as goal

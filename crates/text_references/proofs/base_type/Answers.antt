@@ -1,7 +1,6 @@
 -- `text_references::base_type` meets its contract: each way out is a law of `BaseLaws`.
 use Rattle.text_references.proofs.MovedLaws.{end_within}
 use Rattle.text_references.proofs.BaseLaws.{named_bad, bare_marked, named_stop, named_ready, named_says}
-use borrow.Author.Rules.{rules}
 use Rattle.text_references.proofs.base_type.Goals as goal
 
 pub past-r-requires : goal.past-r-requires

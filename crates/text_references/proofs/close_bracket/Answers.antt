@@ -1,7 +1,6 @@
 -- `text_references::close_bracket` meets its contract: each way out is a law of `CloseLaws`.
 use Rattle.text_references.proofs.MovedLaws.{end_within}
 use Rattle.text_references.proofs.CloseLaws.{close_none, close_bad, close_marked, close_says}
-use borrow.Author.Rules.{rules}
 use Rattle.text_references.proofs.close_bracket.Goals as goal
 
 pub returns-then-c-ne-TOKEN_BRACKET_CLOSE : goal.returns-then-c-ne-TOKEN_BRACKET_CLOSE

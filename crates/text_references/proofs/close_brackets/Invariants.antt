@@ -1,9 +1,6 @@
 -- `text_references::close_brackets` meets its contract: the loop has closed i brackets.
 use Prim.Native.Nat.{◌-◌, ◌≤◌}
-use native.Mathlib.Omega.{arith}
-use borrow.Author.Rules.{rules}
 use Rattle.text_references.specs.Types.{closers, Wraps}
-use Rattle.text_references.proofs.CloseLaws.{none_closed, close_ready, closed_more, closed_stop, closed_all, says_typed, says_untyped}
 use Rattle.text_references.proofs.close_brackets.Given as goal
 
 abbrev pub invariant-loop-i : goal.invariant-loop-i

@@ -1,10 +1,7 @@
 -- `text_references::open_brackets` meets its contract: the loop has opened so many brackets; each counts as a mark, and there are seven at most.
 use Prim.Native.Nat.{◌-◌}
-use native.Mathlib.Omega.{arith}
-use borrow.Author.Rules.{rules}
 use Rattle.paper.specs.Numbers.{most_wrappers}
-use Rattle.text_references.proofs.MovedLaws.{end_within}
-use Rattle.text_references.proofs.OpenLaws.{Opening, none_open, opened_all, opened_deep, opened_many, opened_bad, opened_more}
+use Rattle.text_references.proofs.OpenLaws.{Opening}
 use Rattle.text_references.proofs.open_brackets.Given as goal
 
 abbrev pub invariant-loop-d : goal.invariant-loop-d

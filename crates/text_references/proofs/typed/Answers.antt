@@ -2,7 +2,6 @@
 use mathlib.Core.List.{[]}
 use Rattle.text_references.proofs.MovedLaws.{end_within}
 use Rattle.text_references.proofs.TypeLaws.{rest_none, rest_stop, rest_done}
-use borrow.Author.Rules.{rules}
 use Rattle.text_references.proofs.typed.Goals as goal
 
 pub returns-then-name-ne-TOKEN_NAME : goal.returns-then-name-ne-TOKEN_NAME
