@@ -1,4 +1,6 @@
 // A document's rows, read from the lent numbers. A row that is not there has no kind and no parent.
+#![tactic(auto)]
+
 ghost use Rattle.std.specs.Prelude.{◌≡◌, ◌&&◌, ◌+◌, ◌≤◌, ◌<◌, length, leb};
 ghost use Rattle.paper.specs.Numbers.{kind_field, kind_inline};
 ghost use Rattle.paper.specs.Tokens.{same};

@@ -1,7 +1,6 @@
 -- `value_numbers::is_exact` meets its contract, by the sign.
 use Rattle.value_numbers.proofs.ValueLaws.{exact_none, exact_minus, exact_plain}
 use native.Mathlib.Omega.{arith}
-use borrow.Author.Rules.{rules}
 use Rattle.value_numbers.proofs.is_exact.Goals as goal
 
 pub returns-then-s-eq0 : goal.returns-then-s-eq0

@@ -2,7 +2,6 @@
 use mathlib.Core.Bool.{true, false}
 use Rattle.value_numbers.proofs.FieldLaws.{float_as, float_put}
 use Rattle.value_numbers.specs.declared.Numbered.TheVariants.{UpTo}
-use borrow.Author.Rules.{rules}
 use Rattle.value_numbers.proofs.put_float.Goals as goal
 
 pub returns-then-whole : goal.returns-then-whole

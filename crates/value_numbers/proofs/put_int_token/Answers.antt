@@ -1,6 +1,5 @@
 -- `value_numbers::put_int_token` meets its contract.
 use Rattle.value_numbers.proofs.FieldLaws.{int_beyond, int_put}
-use borrow.Author.Rules.{rules}
 use Rattle.value_numbers.proofs.put_int_token.Goals as goal
 
 pub returns-in_default : goal.returns-in_default

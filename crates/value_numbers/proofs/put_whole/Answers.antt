@@ -2,11 +2,9 @@
 use mathlib.Core.Path.{◌∙◌}
 use mathlib.Core.List.{[], ◌∷◌, ◌++◌}
 use Prim.Native.Nat.{◌+◌}
-use borrow.Author.Tests.{not-true, not-false}
 use Rattle.paper_values.specs.ValueNumbers.{tag_float}
 use Rattle.value_writing.proofs.PlaceLaws.{place_least, put_place, put_then, put_closed, behind_order}
 use Rattle.value_numbers.proofs.FieldLaws.{whole_beyond, whole_put}
-use borrow.Author.Rules.{rules}
 use Rattle.value_numbers.proofs.put_whole.Goals as goal
 
 pub returns-then-not-is_exact : goal.returns-then-not-is_exact
@@ -17,7 +15,7 @@ put_bytes-point-requires c = let a = c.args in record { least = c.requires.least
 
 pub put_bytes-at-requires : goal.put_bytes-at-requires
 put_bytes-at-requires c = let a = c.args in
-    record { least = c.requires.least; place = put_place a.limit a.s.now c.place-first.result a.out.now _ _ c.put_bytes-point.ensures; size = c.put_bytes-point.auto.0 ∙ c.requires.size }
+    record { least = c.requires.least; place = put_place a.limit a.s.now c.place-first.result a.out.now _ _ c.put_bytes-point.ensures; size = c.put_bytes-point.auto.out ∙ c.requires.size }
 
 pub close-requires : goal.close-requires
 close-requires c = let a = c.args in
@@ -27,7 +25,7 @@ close-requires c = let a = c.args in
       least = c.requires.least;
       end = put_place a.limit (a.s.now ++ (0x2e ∷ 0x30 ∷ [])) first a.out.now _ _ p;
       order = behind_order a.limit (a.s.now ++ (0x2e ∷ 0x30 ∷ [])) a.from first _ a.out.now _ c.place-first.ensures p;
-      size = c.put_bytes-at.auto.0 ∙ c.put_bytes-point.auto.0 ∙ c.requires.size;
+      size = c.put_bytes-at.auto.out ∙ c.put_bytes-point.auto.out ∙ c.requires.size;
     }
 
 pub returns : goal.returns

@@ -1,7 +1,6 @@
 -- `value_numbers::read_int` meets its contract. Assumes nothing.
 use Rattle.value_numbers.proofs.ValueLaws.{int_none, minus_over, minus_zero, minus_within, plain_over, plain_within}
 use native.Mathlib.Omega.{arith}
-use borrow.Author.Rules.{rules}
 use Rattle.value_numbers.proofs.read_int.Goals as goal
 
 pub returns-then-s-eq0 : goal.returns-then-s-eq0

@@ -1,10 +1,9 @@
 -- `value_numbers::value_up_to` meets its contract: the value so far, gone on with the value_numbers left, is the value of all.
 -- Assumes nothing.
 use mathlib.Core.Path.{◌≡◌, refl, sym, ap, ◌∙◌}
-use Prim.Native.Nat.{ℕ, ◌+◌, ◌-◌, ◌*◌, ◌≤◌}
+use Prim.Native.Nat.{ℕ, ◌+◌, ◌*◌}
 use native.Mathlib.Omega.{arith}
-use borrow.Author.Rules.{rules}
-use lib.ListN.{length, drop}
+use lib.ListN.{drop}
 use Rattle.paper_values.specs.NumberTokens.{value_from, value_of}
 use Rattle.value_numbers.proofs.ValueLaws.{value_grows, value_step, value_end, capped_over, capped_within}
 use Rattle.value_numbers.proofs.value_up_to.Goals as goal
@@ -26,10 +25,10 @@ returns-then-limit-v c = let a = c.args in let l = c.loop-i in
 
 pub loop-i-preserved : goal.loop-i-preserved
 loop-i-preserved c = let a = c.args in let l = c.loop-i in (
-      ap (λ (d : ℕ). value_from (10 * l.v + d) (drop (l.i + 1) a.s.now)) c.digit.ensures
-          ∙ sym (value_step l.v a.s.now l.i c.loop-i-test.true) ∙ l.invariant.0,
-      c.if-limit-v.false,
-    )
+  ap (λ (d : ℕ). value_from (10 * l.v + d) (drop (l.i + 1) a.s.now)) c.digit.ensures
+      ∙ sym (value_step l.v a.s.now l.i c.loop-i-test.true) ∙ l.invariant.0,
+  c.if-limit-v.false,
+)
 
 pub returns : goal.returns
 returns c = let a = c.args in let l = c.loop-i in

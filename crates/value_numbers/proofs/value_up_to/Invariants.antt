@@ -1,12 +1,9 @@
 -- `value_numbers::value_up_to` meets its contract: the value so far, gone on with the value_numbers left, is the value of all.
 -- Assumes nothing.
-use mathlib.Core.Path.{◌≡◌, refl, sym, ap, ◌∙◌}
-use Prim.Native.Nat.{ℕ, ◌+◌, ◌-◌, ◌*◌, ◌≤◌}
-use native.Mathlib.Omega.{arith}
-use borrow.Author.Rules.{rules}
+use mathlib.Core.Path.{◌≡◌}
+use Prim.Native.Nat.{◌-◌, ◌≤◌}
 use lib.ListN.{length, drop}
 use Rattle.paper_values.specs.NumberTokens.{value_from, value_of}
-use Rattle.value_numbers.proofs.ValueLaws.{value_grows, value_step, value_end, capped_over, capped_within}
 use Rattle.value_numbers.proofs.value_up_to.Given as goal
 
 abbrev pub invariant-loop-i : goal.invariant-loop-i

@@ -38,7 +38,7 @@ loop-i-smaller c = omega (arith, c.loop-i-test.true)
 pub loop-i-preserved : goal.loop-i-preserved
 loop-i-preserved c = let a = c.args in
     let l = c.loop-i in
-    go_on a.limit a.from a.s.now a.out.now l.out l.at l.i l.invariant c.loop-i-test.true _ _ c.character_at-k.result _ _ _ _ _ c.in-Bytes.is c.character_at-k.ensures c.put_few-at.auto.0 c.put_few-at.ensures
+    go_on a.limit a.from a.s.now a.out.now l.out l.at l.i l.invariant c.loop-i-test.true _ _ c.character_at-k.result _ _ _ _ _ c.in-Bytes.is c.character_at-k.ensures c.put_few-at.auto.out c.put_few-at.ensures
 
 pub shape_of-out : goal.shape_of-out
 shape_of-out c = c.loop-i.invariant.size

@@ -11,7 +11,7 @@ pub returns-then-size-eq1 : goal.returns-then-size-eq1
 returns-then-size-eq1 c = let a = c.args in put_as a.limit (a.a ∷ []) _ a.from a.out.now _ _ (few_one a.size a.a a.b a.c c.if-size-eq1.true) c.put_byte-first.ensures
 
 pub put_byte-second-requires : goal.put_byte-second-requires
-put_byte-second-requires c = let a = c.args in record { least = c.requires.least; place = put_place a.limit (a.a ∷ []) a.from a.out.now _ _ c.put_byte-first.ensures; size = c.put_byte-first.auto.0 ∙ c.requires.size }
+put_byte-second-requires c = let a = c.args in record { least = c.requires.least; place = put_place a.limit (a.a ∷ []) a.from a.out.now _ _ c.put_byte-first.ensures; size = c.put_byte-first.auto.out ∙ c.requires.size }
 
 pub returns-then-size-eq2 : goal.returns-then-size-eq2
 returns-then-size-eq2 c = let a = c.args in
@@ -21,7 +21,7 @@ returns-then-size-eq2 c = let a = c.args in
 pub put_byte-requires : goal.put_byte-requires
 put_byte-requires c = let a = c.args in
     let first = c.put_byte-first.result in
-    record { least = c.requires.least; place = place_least a.limit (first + 1) _ c.put_byte-second.ensures.0; size = c.put_byte-second.auto.0 ∙ c.put_byte-first.auto.0 ∙ c.requires.size }
+    record { least = c.requires.least; place = place_least a.limit (first + 1) _ c.put_byte-second.ensures.0; size = c.put_byte-second.auto.out ∙ c.put_byte-first.auto.out ∙ c.requires.size }
 
 pub returns : goal.returns
 returns c = let a = c.args in

@@ -22,7 +22,7 @@ close-requires c = let a = c.args in
       least = c.requires.0.least;
       end = field_least a.limit a.from a.tag a.text.now a.start a.end c.requires.2 c.requires.3 c.place-first.result a.out.now c.place-first.ensures _ c.put_characters-w.result _ c.in-UpTo.is c.put_characters-w.ensures;
       order = field_order a.limit a.from a.tag a.text.now a.start a.end c.requires.2 c.requires.3 c.place-first.result a.out.now c.place-first.ensures _ c.put_characters-w.result _ c.in-UpTo.is c.put_characters-w.ensures;
-      size = c.put_characters-w.auto.0 ∙ c.requires.0.size;
+      size = c.put_characters-w.auto.out ∙ c.requires.0.size;
     }
 
 pub returns : goal.returns
