@@ -1,4 +1,6 @@
 // Links between rows, made once for a document: so that what stands below a row, or has a kind, is found without passing over the others.
+#![tactic(auto)]
+
 ghost use Rattle.std.specs.Prelude.{◌≡◌, ◌≤◌, ◌<◌, length, get_or, set, replicate};
 ghost use Rattle.paper.specs.Numbers.{most_rows};
 ghost use Rattle.query_rows.specs.Rowed.{rows_in, Rowed, Sized, room_of};

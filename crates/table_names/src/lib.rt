@@ -1,5 +1,7 @@
 // Tests of a name that the schema rules share: by its bytes, and by the names before it.
 // Nothing is asked of the table but its sizes.
+#![tactic(auto)]
+
 ghost use Rattle.std.specs.Prelude.{◌≡◌, ◌+◌, ◌≤◌, length, take};
 ghost use Rattle.paper.specs.Tokens.{same};
 ghost use Rattle.paper_table.specs.Lists.{any_of};

@@ -13,7 +13,7 @@ use Rattle.paper_table.specs.TableNumbers.{most_records, most_members, most_impl
 use Rattle.paper_table.specs.Lists.{any_of, all_of, gather, only_if}
 use Rattle.paper_table.specs.References.{Ref, ref_of}
 use Rattle.paper_table.specs.House.{HouseField, house_field, cut, house_fields, house_fields_in, Slot, Content, a_name, a_reference, no_tag, holds, contents, look_up, content_of, Offsets, most_deep, in_place, open_behind, in_order, or_lacking, by_content, wrongs, record_in_place, table_wrongs, framing_offset}
-use Rattle.paper_table.specs.TableSizes.{Room, room, counts_towards, is_over, less_room, room_in_table, room_in, overs_in, wrappers_over, overs_by, overs, counts_offset}
+use Rattle.paper_table.specs.TableSizes.{Room, room, is_over, less_room, room_in_table, room_in, overs_in, wrappers_over, overs_by, overs, counts_offset}
 use Rattle.paper_table.specs.Types.{or_none, type_in, text_of, argument_in, argument_of, field_in, input_in, name_only, member_of, definition_of, table_of}
 use Rattle.paper_table.proofs.ListsLaws.{head_nil}
 use Rattle.paper_table.proofs.Rising.{framing_first, counts_first}

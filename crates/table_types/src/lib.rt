@@ -1,5 +1,7 @@
 // The types of a table: its definitions in a book, what a name means, which objects an interface or union can be, sub-types.
 // Nothing is asked of the table but its sizes.
+#![tactic(auto)]
+
 ghost use Rattle.std.specs.Prelude.{◌≡◌, true, false, ◌+◌, ◌-◌, ◌≤◌, ◌<◌, length, get_or, set};
 ghost use Rattle.paper_table.specs.TableNumbers.{most_table};
 ghost use Rattle.paper_table.specs.Lists.{any_of, first_at, bytes};

@@ -1,6 +1,5 @@
 -- `value_strings::character_at` meets its contract, by what stands at i and behind it.
 use Rattle.value_strings.proofs.ReadLaws.{front_itself, front_end, front_unicode, front_short}
-use borrow.Author.Rules.{rules}
 use Rattle.value_strings.proofs.character_at.Goals as goal
 
 pub returns-then-b-ne92 : goal.returns-then-b-ne92

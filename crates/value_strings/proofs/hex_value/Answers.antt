@@ -1,7 +1,6 @@
 -- `value_strings::hex_value` meets its contract.
 use native.Mathlib.Omega.{arith}
 use Rattle.value_strings.proofs.ReadLaws.{hex_least, hex_digit, hex_upper, hex_lower}
-use borrow.Author.Rules.{rules}
 use Rattle.value_strings.proofs.hex_value.Goals as goal
 
 pub returns-then-b-lt48 : goal.returns-then-b-lt48

@@ -3,7 +3,6 @@ use mathlib.Core.Path.{refl}
 use mathlib.Core.Option.{some}
 use Rattle.paper_values.specs.Characters.{three_bytes, utf8}
 use Rattle.value_strings.proofs.ReadLaws.{utf8_one, utf8_two, utf8_low, utf8_surrogate, utf8_high, utf8_beyond, reads_as}
-use borrow.Author.Rules.{rules}
 use Rattle.value_strings.proofs.in_utf8.Goals as goal
 
 pub returns-then-x-lt128 : goal.returns-then-x-lt128

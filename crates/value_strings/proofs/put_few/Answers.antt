@@ -4,7 +4,6 @@ use mathlib.Core.List.{[], ◌∷◌}
 use Prim.Native.Nat.{◌+◌}
 use Rattle.value_writing.proofs.PlaceLaws.{place_least, put_as, put_place, put_then}
 use Rattle.value_strings.proofs.SpellingTurn.{few_one, few_two, few_three}
-use borrow.Author.Rules.{rules}
 use Rattle.value_strings.proofs.put_few.Goals as goal
 
 pub returns-then-size-eq1 : goal.returns-then-size-eq1

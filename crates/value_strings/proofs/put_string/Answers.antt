@@ -3,14 +3,13 @@ use mathlib.Core.Path.{◌∙◌}
 use Prim.Native.Nat.{◌+◌}
 use Rattle.value_writing.proofs.PlaceLaws.{place_least}
 use Rattle.value_strings.proofs.StringField.{field_refused, field_order, field_least, field_put, inner_short}
-use borrow.Author.Rules.{rules}
 use Rattle.value_strings.proofs.put_string.Goals as goal
 
 pub put_characters-w-requires : goal.put_characters-w-requires
 put_characters-w-requires c = let a = c.args in (
-      record { least = c.requires.0.least; place = place_least a.limit (a.from + 3) c.place-first.result c.place-first.ensures; size = c.requires.0.size },
-      inner_short a.text.now a.start a.end c.requires.1,
-    )
+  record { least = c.requires.0.least; place = place_least a.limit (a.from + 3) c.place-first.result c.place-first.ensures; size = c.requires.0.size },
+  inner_short a.text.now a.start a.end c.requires.1,
+)
 
 pub returns-in_default : goal.returns-in_default
 returns-in_default c = let a = c.args in

@@ -4,7 +4,6 @@ use mathlib.Core.Option.{some}
 use mathlib.Core.List.{[], ◌∷◌}
 use Rattle.paper_values.specs.Characters.{short_escape}
 use Rattle.value_strings.proofs.ReadLaws.{reads_as, escapes_none}
-use borrow.Author.Rules.{rules}
 use Rattle.value_strings.proofs.short_escape.Goals as goal
 
 pub returns-then-b-eq34 : goal.returns-then-b-eq34

@@ -4,7 +4,6 @@ use Prim.Native.Nat.{ℕ, ◌+◌, ◌*◌}
 use lib.ListN.{get_or}
 use Rattle.paper_values.specs.Characters.{hex_value}
 use Rattle.value_strings.proofs.ReadLaws.{unicode_short, unicode_is}
-use borrow.Author.Rules.{rules}
 use Rattle.value_strings.proofs.unicode_escape.Goals as goal
 
 pub returns-then-s-i-lt4 : goal.returns-then-s-i-lt4
