@@ -1,4 +1,4 @@
--- The numbers that a plan leaves in its buffer are well_formed, and a walk of them leaves what the draft's field collection gives.
+-- The numbers that a plan leaves in its buffer are well-formed, and a walk of them leaves what the draft's field collection gives.
 use mathlib.Core.Path.{◌≡◌, refl, sym, ap, ◌∙◌, subst}
 use mathlib.Core.Bool.{true}
 use mathlib.Core.Logic.{◌⊎◌}

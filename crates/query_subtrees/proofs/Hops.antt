@@ -1,6 +1,6 @@
 -- From a row in a subtree over its own subtree: nothing there leaves the first.
-use mathlib.Core.Path.{◌≡◌, refl, sym, ap, ◌∙◌, subst}
-use mathlib.Core.Bool.{Bool, true, false, ◌||◌}
+use mathlib.Core.Path.{◌≡◌, sym, ap, ◌∙◌}
+use mathlib.Core.Bool.{true, false}
 use mathlib.Core.List.{List}
 use Prim.Native.Nat.{ℕ, suc, ◌+◌, ◌-◌, ◌<◌, ◌≤◌}
 use native.Mathlib.Decide.{dec_lt}
@@ -8,12 +8,12 @@ use native.Mathlib.Numerals.{add-one}
 use native.Mathlib.Omega.{arith}
 use lib.ListN.{length, get_or, set, length-set}
 use lib.Seq.{get_or-set_same, get_or-set_other}
-use lib.Dec.{leb, ltb}
-use borrow.Author.Tests.{lt-ltb, le-ltb, le-leb, lt-leb, ltb-true, ltb-false, leb-true, leb-false}
+use lib.Dec.{leb}
+use borrow.Author.Tests.{lt-ltb, le-ltb}
 use Rattle.paper.specs.Numbers.{most_rows, no_parent}
 use Rattle.paper.specs.Rows.{Row}
 use Rattle.paper_query.specs.Constructs.{no_row}
-use Rattle.query_rows.specs.Rowed.{rows_in, row_in, room_of}
+use Rattle.query_rows.specs.Rowed.{rows_in, room_of}
 use Rattle.query_rows.proofs.RowsIn.{rows_count}
 use Rattle.query_rows.proofs.Rooms.{room_enough, room_rows}
 use Rattle.query_links.specs.Links.{next_with}

@@ -1,8 +1,7 @@
 -- The rows of a text stand in preorder, whatever its marks: a row is put behind the innermost open row, and open rows are those around it.
 use mathlib.Core.Path.{◌≡◌, refl, sym, ap, ◌∙◌, subst}
-use mathlib.Core.Logic.{◌⊎◌, inl, inr}
 use mathlib.Core.List.{List, [], ◌∷◌, ◌++◌, map}
-use Prim.Native.Nat.{ℕ, zero, suc, ◌+◌, ◌-◌, ◌<◌, ◌≤◌}
+use Prim.Native.Nat.{ℕ, zero, suc, ◌<◌, ◌≤◌}
 use native.Mathlib.Decide.{dec_lt}
 use native.Mathlib.Omega.{arith}
 use lib.ListN.{length, get_or, length-append, get_or-append}
@@ -13,7 +12,6 @@ use Rattle.paper.specs.Language.{Class, Mark, Part, row, kind, named, wrapper, w
 use Rattle.paper.specs.Tokens.{Tok, Text}
 use Rattle.paper.specs.Rows.{Row, Book, empty_book, change, top, pop, start_of, stop_of, begun, of_kind, with_name, wrapped, stopping, at_mark, taken, rest, book, rows_of}
 use Rattle.paper.specs.Reading.{rows_are, TextAnswer, accepts, tokens_of}
-use Rattle.paper_query.specs.Constructs.{no_row}
 use Rattle.query_rows.specs.Rowed.{rows_in}
 use Rattle.query_rows.proofs.ReadRows.{Taken}
 use Rattle.query_subtrees.specs.Past.{parent_in, Nested}

@@ -1,17 +1,15 @@
 -- What lies between a row and the row past its subtree; children, hop by hop.
-use mathlib.Core.Path.{◌≡◌, refl, sym, ap, ◌∙◌}
-use mathlib.Core.Bool.{Bool, true, false, true≢false, ◌||◌}
+use mathlib.Core.Path.{◌≡◌, sym, ap, ◌∙◌}
+use mathlib.Core.Bool.{true, false, true≢false}
 use mathlib.Core.List.{List}
-use Prim.Native.Nat.{ℕ, zero, suc, ◌-◌, ◌<◌, ◌≤◌}
+use Prim.Native.Nat.{ℕ, zero, suc, ◌<◌, ◌≤◌}
 use native.Mathlib.Decide.{dec_lt}
 use native.Mathlib.Omega.{arith}
 use lib.ListN.{length, get_or}
-use lib.Dec.{leb, ltb}
-use borrow.Author.Tests.{leb-true, leb-false, lt-leb}
+use borrow.Author.Tests.{leb-false, lt-leb}
 use Rattle.paper.specs.Numbers.{most_rows, no_parent}
 use Rattle.paper.specs.Rows.{Row}
 use Rattle.paper_query.specs.Constructs.{no_row}
-use Rattle.query_links.specs.Links.{next_with}
 use Rattle.query_links.proofs.Nexts.{next_least, next_most, next_passes, next_skips}
 use Rattle.query_subtrees.specs.Past.{parent_in, leaves, past_of, Nested, Parented, Under, itself, deeper}
 use Rattle.query_subtrees.proofs.Hops.{leaves_before, leaves_not}

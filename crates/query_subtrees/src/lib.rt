@@ -1,4 +1,6 @@
 // The row past each row's subtree, found once for a document: so that what stands in a row is scanned without the rest, and its children one by one.
+#![tactic(auto)]
+
 ghost use Rattle.std.specs.Prelude.{◌≡◌, ◌+◌, ◌≤◌, ◌<◌, length, get_or};
 ghost use Rattle.query_rows.specs.Rowed.{row_in, rows_in, Sized, room_of};
 ghost use Rattle.query_subtrees.specs.Past.{leaves, past_of, Pasts, PastsFrom};

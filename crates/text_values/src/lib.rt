@@ -1,4 +1,6 @@
 // Reads values, and the entries of arguments and objects, and writes their rows.
+#![tactic(auto)]
+
 ghost use Rattle.std.specs.Prelude.{◌≡◌, ◌≢◌};
 ghost use Rattle.paper.specs.Language.{dollar, bracket_l, brace_l, n_other};
 ghost use Rattle.text_scan.specs.Head.{kind_of};

@@ -1,17 +1,9 @@
 -- value, list, object and entry call each other: the levels left fall where a mark opens, and within a level entry is above value, and value above list and object.
-use mathlib.Core.Path.{refl, ◌∙◌}
-use mathlib.Core.Logic.{inr}
-use Prim.Native.Nat.{ℕ, ◌+◌, ◌-◌, ◌*◌, ◌<◌}
-use native.Mathlib.Omega.{arith}
+use Prim.Native.Nat.{◌+◌, ◌-◌, ◌*◌}
 use lib.ListN.{length}
-use borrow.Author.Rules.{rules}
-use Rattle.paper.specs.Numbers.{kind_object_field}
 use Rattle.paper.specs.Language.{bracket_r, brace_r}
-use Rattle.text_leaves.specs.Stacks.{value_stack, entry_stack}
-use Rattle.text_values.proofs.VariableLaws.{no_variable}
-use Rattle.text_values.proofs.NestLaws.{InNest, in_ready, nest_refused, nest_entered, nest_begins, nest_closes, nest_more, nest_less, nest_stops}
-use Rattle.text_values.proofs.NestParts.{values_part, fields_part, list_nest, object_nest}
-use Rattle.text_values.proofs.EntryLaws.{entry_refused, entry_begun, entry_ready, entry_stops, entry_size, entry_went, field_is}
+use Rattle.text_values.proofs.NestLaws.{InNest}
+use Rattle.text_values.proofs.NestParts.{values_part, fields_part}
 use Rattle.text_values.proofs.+entry_list_object_value.Given as goal
 
 abbrev pub decreases-entry : goal.decreases-entry

@@ -1,7 +1,6 @@
 -- entry_name: each way it ends by its law.
 use Rattle.text_leaves.proofs.MovedLaws.{ready_lies}
 use Rattle.text_values.proofs.EntryLaws.{entry_no_name, entry_full, entry_bad, colon_lies, entry_no_colon, entry_named}
-use borrow.Author.Rules.{rules}
 use Rattle.text_values.proofs.entry_name.Goals as goal
 
 pub returns-then-c-ne-TOKEN_NAME : goal.returns-then-c-ne-TOKEN_NAME

@@ -1,7 +1,6 @@
 -- scalar: each kind of token by its law.
 use mathlib.Core.List.{[]}
 use Rattle.text_values.proofs.LeafLaws.{int_said, float_said, string_said, no_value}
-use borrow.Author.Rules.{rules}
 use Rattle.text_values.proofs.scalar.Goals as goal
 
 pub returns-then-kind-eq-TOKEN_INT : goal.returns-then-kind-eq-TOKEN_INT

@@ -2,7 +2,6 @@
 use mathlib.Core.List.{[]}
 use Rattle.text_leaves.proofs.MovedLaws.{ready_lies}
 use Rattle.text_values.proofs.VariableLaws.{variable_full, variable_bad, variable_no_name, name_lies, variable_said}
-use borrow.Author.Rules.{rules}
 use Rattle.text_values.proofs.variable.Goals as goal
 
 pub returns-then-n-eq-MOST_ROWS : goal.returns-then-n-eq-MOST_ROWS

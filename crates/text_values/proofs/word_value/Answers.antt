@@ -2,7 +2,6 @@
 use mathlib.Core.Path.{sym, ◌∙◌}
 use Rattle.text_leaves.proofs.MovedLaws.{ready_lies}
 use Rattle.text_values.proofs.LeafLaws.{true_said, false_said, null_said, name_said}
-use borrow.Author.Rules.{rules}
 use Rattle.text_values.proofs.word_value.Goals as goal
 
 pub word-w-requires : goal.word-w-requires
