@@ -1,6 +1,6 @@
 -- The plan that lent numbers say, the values that lent variables say, and pairs as numbers.
 -- States: 01, "Plan and walk": "three a step: kind, first, second"; "Steps 1 to 4 hold a variable, record or fragment number, .., and the step to go to; 5 key number and
--- row"; "The variables are 64 lent bytes, 1 for true" (READINGS 96, 105, 106). Numbers that are no well_formed plan say something too; no walk asks for it.
+-- row"; "The variables are 64 lent bytes, 1 for true" (READINGS 96, 105, 106). Numbers that are no well-formed plan say something too; no walk asks for it.
 -- Assumes nothing.
 use Rattle.std.specs.Prelude.{Bool, cond, List, [], ◌∷◌, ℕ, zero, suc, get_or, eqb}
 use Rattle.paper_plan.specs.Collecting.{Pair}

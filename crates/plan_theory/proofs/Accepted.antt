@@ -1,5 +1,5 @@
 -- An accepted document has few rows, each behind its parent, and keeps rules 7 and 8.
-use mathlib.Core.Path.{◌≡◌, refl, sym, ap, ◌∙◌, subst}
+use mathlib.Core.Path.{◌≡◌, refl, subst}
 use mathlib.Core.Logic.{◌⊎◌}
 use mathlib.Core.List.{List, [], ◌∷◌}
 use Prim.Native.Nat.{ℕ, ◌<◌, ◌≤◌}
@@ -10,16 +10,15 @@ use Rattle.paper.specs.Numbers.{most_rows, rows_size, no_parent}
 use Rattle.paper.specs.Language.{Part, Document}
 use Rattle.paper.specs.Tokens.{Text, Tokens}
 use Rattle.paper.specs.Rows.{Row}
-use Rattle.paper.specs.Reading.{Answer, rows_are, refuses, TextAnswer, accepts}
-use Rattle.paper.specs.declared.Refusal.{Refusal}
+use Rattle.paper.specs.Reading.{rows_are, refuses, TextAnswer, accepts}
 use Rattle.paper.proofs.Lexing.{from}
-use Rattle.paper.proofs.Going.{State, Out, start, whole, halt, go}
+use Rattle.paper.proofs.Going.{Out, start, whole, halt, go}
 use Rattle.paper_theory.proofs.TokensLaws.{tokens_from}
 use Rattle.paper_theory.proofs.CallsGoing.{from_rising}
 use Rattle.paper_theory.proofs.GoingSaid.{going_whole, going_halt}
 use Rattle.paper_theory.proofs.SaidOne.{said_one}
 use Rattle.paper_table.specs.Types.{table_of}
-use Rattle.paper_query.specs.Constructs.{Doc, count, parent_of, no_row}
+use Rattle.paper_query.specs.Constructs.{count, parent_of}
 use Rattle.paper_query.specs.DocumentCalls.{read}
 use Rattle.query_rows.proofs.TextRows.{text_rows}
 use Rattle.paper_query.specs.Opening.{AcceptedDocument}

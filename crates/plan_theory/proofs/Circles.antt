@@ -1,30 +1,28 @@
 -- No selection stands behind itself: along inline fragments rows rise, and through a spread its fragment would reach itself.
-use mathlib.Core.Path.{◌≡◌, refl, sym, ap, ◌∙◌, subst}
-use mathlib.Core.Bool.{Bool, true, false, cond, not, ◌&&◌, ◌||◌}
-use mathlib.Core.List.{List, [], ◌∷◌}
+use mathlib.Core.Path.{◌≡◌, refl, sym, subst}
+use mathlib.Core.Bool.{Bool, true, false, cond, not, ◌&&◌}
+use mathlib.Core.List.{List}
 use mathlib.Core.Logic.{◌⊎◌, inl, inr}
-use mathlib.Core.Option.{Option}
-use Prim.Native.Nat.{ℕ, zero, suc, ◌≤◌, ◌<◌}
+use Prim.Native.Nat.{ℕ, suc, ◌≤◌, ◌<◌}
 use native.Mathlib.Omega.{arith}
-use lib.ListN.{length}
 use lib.Dec.{T, eqb, leb}
-use borrow.Author.Tests.{eqb-true, leb-true, lt-leb, ne_eqb}
+use borrow.Author.Tests.{eqb-true, leb-true, ne_eqb}
 use Rattle.paper.proofs.Bools.{and_left as and_l, and_right as and_r, eq→t as holds}
-use Rattle.paper.specs.Numbers.{most_rows, no_parent, kind_operation, kind_fragment, kind_field, kind_spread, kind_inline}
+use Rattle.paper.specs.Numbers.{no_parent, kind_operation, kind_fragment, kind_field, kind_spread, kind_inline}
 use Rattle.paper.specs.Rows.{Row}
 use Rattle.paper_table.specs.Types.{Table}
 use Rattle.paper_query.specs.Constructs.{Doc, count, row_of, parent_of, name_of, is, is_selection, below, fragment_named}
 use Rattle.paper_query.specs.Enclosing.{condition_of}
-use Rattle.paper_query.specs.Reaching.{is_definition, Within, itself, deeper, Spreads, Reaches, here, through as reached}
+use Rattle.paper_query.specs.Reaching.{is_definition, Within, itself, deeper, Reaches, here, through as reached}
 use Rattle.paper_plan.specs.Keys.{key_at}
-use Rattle.paper_plan.specs.Collecting.{Sort, field, spread, inline, View, elem}
+use Rattle.paper_plan.specs.Collecting.{Sort, field, spread, inline, elem}
 use Rattle.paper_query.specs.Constructs.{numbers_where}
 use Rattle.paper_plan.specs.Selecting.{Name, set_of, type_if, sort_of, by_names}
 use Rattle.plan_theory.proofs.Depth.{behind, From, among, through, Acyclic, deep}
 use Rattle.plan_theory.proofs.Same.{clash}
 use Rattle.plan_theory.proofs.Enough.{ends}
 use Rattle.plan_theory.proofs.NumbersOf.{where_kept, where_keeps, where_all}
-use Rattle.plan_theory.proofs.Plannable.{Plannable, in_range, spread_of, no_circle}
+use Rattle.plan_theory.proofs.Plannable.{Plannable, spread_of, no_circle}
 
 -- a selection is no definition
 no_definition : (r : Row) → is_selection r ≡ true → T (not (is_definition r))

@@ -10,7 +10,7 @@ use Rattle.paper_plan.specs.Applies.{applies}
 use Rattle.paper_plan.specs.Collecting.{Grouped}
 use Rattle.paper_plan.specs.Planning.{walk_answer}
 use Rattle.paper_plan.specs.Selecting.{Name, Collects, pairs_of, block_in, plan_for}
-use Rattle.paper_query.specs.Opening.{Opened, opens, opened, AcceptedDocument}
+use Rattle.paper_query.specs.Opening.{AcceptedDocument}
 use Rattle.plan_theory.proofs.Document.{Among, walk_collects, collects_some}
 use Rattle.plan_theory.proofs.Ones.{collects_one}
 use Rattle.plan_theory.proofs.Accepted.{accepted_plannable}

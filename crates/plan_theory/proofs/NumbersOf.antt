@@ -3,14 +3,14 @@ use mathlib.Core.Path.{◌≡◌, refl, sym, ap, ◌∙◌, subst}
 use mathlib.Core.Bool.{Bool, true, false, cond, ◌&&◌, ◌||◌}
 use mathlib.Core.List.{List, [], ◌∷◌, ◌++◌}
 use mathlib.Core.Logic.{◌⊎◌, inl, inr}
-use Prim.Native.Nat.{ℕ, zero, suc, ◌+◌, ◌≤◌, ◌<◌}
+use Prim.Native.Nat.{ℕ, zero, suc, ◌+◌, ◌<◌}
 use native.Mathlib.Nat.{add-zero}
 use native.Mathlib.Omega.{arith}
 use lib.ListN.{length, get_or}
 use lib.Dec.{eqb}
 use borrow.Author.Tests.{eqb-true, eq-eqb}
 use Rattle.paper.specs.Rows.{Row}
-use Rattle.paper_table.specs.Lists.{first_at, gather, each_from, each, only_if}
+use Rattle.paper_table.specs.Lists.{first_at, gather, each_from, only_if}
 use Rattle.paper_query.specs.Constructs.{Doc, count, row_of, no_row}
 use Rattle.paper_plan.specs.Collecting.{elem}
 use Rattle.paper_query.specs.Constructs.{numbers_where}

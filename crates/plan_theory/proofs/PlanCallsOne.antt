@@ -12,7 +12,7 @@ use Rattle.paper.specs.declared.Refusal.TheVariants.{Buffer, OverLength}
 use Rattle.paper_table.specs.TableNumbers.{most_table, input_table}
 use Rattle.paper_table.specs.Types.{table_of}
 use Rattle.paper_query.specs.DocumentCalls.{read}
-use Rattle.paper_query.specs.Opening.{Outcome, stops, opens, Opened}
+use Rattle.paper_query.specs.Opening.{stops, opens, Opened}
 use Rattle.paper_query.proofs.InOrder.{Left, left, One, Checks, failed, later, checks_one}
 use Rattle.paper_query.proofs.OpeningOne.{opened_one}
 use Rattle.paper_plan.specs.Planning.{Plan}

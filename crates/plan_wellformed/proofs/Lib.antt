@@ -1,4 +1,4 @@
--- Plans are well_formed.
+-- Plans are well-formed.
 pub mod RightSteps
 pub mod Standing
 pub mod Firsts

@@ -1,4 +1,4 @@
--- Every plan of an accepted document is well_formed, with any numbers behind its own.
+-- Every plan of an accepted document is well-formed, with any numbers behind its own.
 use mathlib.Core.Path.{◌≡◌, refl, sym, ap, ◌∙◌, subst}
 use mathlib.Core.Bool.{Bool, true, cond}
 use mathlib.Core.List.{List, [], ◌∷◌, ◌++◌, map}

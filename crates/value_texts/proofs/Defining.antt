@@ -27,7 +27,7 @@ use Rattle.value_texts.proofs.Phases.{Syms}
 use Rattle.value_texts.proofs.Spanning.{Grows, Down, Going, going_by, going_token, going_mark, going_left, going_kind}
 use Rattle.value_texts.proofs.TokenSpans.{Lies}
 use Rattle.value_texts.proofs.TextSpans.{is_alone, begins_going}
-use Rattle.value_texts.proofs.Stages.{Stage, of_token, of_mark, run, is_gone, run_append, run_gone, run_by, opened, typing, typed, ready, given, filled, gone, wrong, deep, same}
+use Rattle.value_texts.proofs.Stages.{Stage, of_token, of_mark, run, is_gone, run_append, run_gone, run_by, opened, typing, typed, ready, given, filled, gone, wrong, deep}
 use Rattle.value_texts.proofs.Sitting.{Over, down_out, Kid, Sits, Later, sits_change, step_row, step_kind, step_named, step_wrapper, step_wrap, step_end, step_token}
 
 -- the rows of a definition, in the end

@@ -8,7 +8,7 @@ use lib.Dec.{T, eqb}
 use lib.ListN.{length}
 use Rattle.paper.specs.Grammar.{nt}
 use Rattle.paper.specs.Numbers.{no_parent, kind_string, kind_object}
-use Rattle.paper.specs.Language.{is_name_class, int, float, string, kind, hits, Part, language, VariablesText}
+use Rattle.paper.specs.Language.{is_name_class, int, float, string, hits, Part, language, VariablesText}
 use Rattle.paper.specs.Lexical.{is}
 use Rattle.paper.specs.Tokens.{Text, Longest, Tokens}
 use Rattle.paper.specs.Rows.{Row, empty_book, book, rows_of}

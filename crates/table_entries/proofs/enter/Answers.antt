@@ -1,0 +1,6 @@
+-- The header read, entered.
+use borrow.Author.Rules.{rules}
+use Rattle.table_entries.proofs.enter.Goals as goal
+
+pub returns : goal.returns
+returns c = c.enter_header.ensures _ _ c.read_header-h.ensures.named c.read_header-h.ensures.typed
