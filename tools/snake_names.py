@@ -19,7 +19,7 @@ W = r"[^\s(){}.;,@\"«»\[\]\\`]+"
 TOKEN = re.compile(r"\"(?:[^\"\\\n]|\\.)*\"|«[^»]*»|" + W)
 DECLARED = re.compile(r"(?m)^(?:abbrev )?(?:unfoldable )?(?:pub )?(?:unfoldable )?(?:abbrev )?(" + W + r") :\s")
 INNER = re.compile(r"(?m)^ +(?:pub )?(" + W + r"(?: " + W + r")*) : ")
-SHARED = re.compile(r"(?m)^ +(?:pub )?(" + W + r") :\s")
+SHARED = re.compile(r"(?m)^ +(?:abbrev )?(?:unfoldable )?(?:pub )?(" + W + r") :\s")
 # names that a file uses for something of its own, beside a definition that would be called so
 LOCALS = {"crates/text_arguments/proofs/DirectivesLaws.antt": ["at_sign"], "crates/value_fields/proofs/ContentLaws.antt": ["is_field"]}
 # words of Rattle that look like names of ours

@@ -14,7 +14,7 @@ use Rattle.paper_query.specs.Opening.{AcceptedDocument}
 use Rattle.paper_plan.specs.Collecting.{Sort, field, spread, inline, View}
 use Rattle.paper_plan.specs.Planning.{Step, dropped, guarded, unless_dropped, tests, content, selection, selections, plan, program, firsts, Plan, plan_of}
 use Rattle.paper_plan.specs.Selecting.{by_numbers, set_of, plan_for}
-use Rattle.plan_theory.proofs.Depth.{deepAt, allDeep, deep, deep_all}
+use Rattle.plan_theory.proofs.Depth.{deep_at, all_deep, deep, deep_all}
 use Rattle.plan_theory.proofs.Document.{sets_deep}
 use Rattle.plan_theory.proofs.Accepted.{accepted_plannable}
 
@@ -23,19 +23,19 @@ module _ (d : View ℕ) where
   abbrev Agree : ℕ → (ℕ → List ℕ → List Step) → (ℕ → List ℕ → List Step) → Type 0
   Agree k f g = (at : ℕ) (rs : List ℕ) → deep d k rs ≡ true → f at rs ≡ g at rs
 
-  contents_same : (k : ℕ) (f g : ℕ → List ℕ → List Step) → Agree k f g → (at r : ℕ) (so : Sort ℕ) → deepAt d (deep d k) r so ≡ true → content d f at r so ≡ content d g at r so
+  contents_same : (k : ℕ) (f g : ℕ → List ℕ → List Step) → Agree k f g → (at r : ℕ) (so : Sort ℕ) → deep_at d (deep d k) r so ≡ true → content d f at r so ≡ content d g at r so
   contents_same k f g a at r (field x) h = refl
   contents_same k f g a at r (spread x) h = a at (d.fragment x) h
   contents_same k f g a at r (inline x) h = a at (d.body r) h
 
-  selections_same : (k : ℕ) (f g : ℕ → List ℕ → List Step) → Agree k f g → (at : ℕ) (rs : List ℕ) → allDeep d (deep d k) rs ≡ true → selections d f at rs ≡ selections d g at rs
+  selections_same : (k : ℕ) (f g : ℕ → List ℕ → List Step) → Agree k f g → (at : ℕ) (rs : List ℕ) → all_deep d (deep d k) rs ≡ true → selections d f at rs ≡ selections d g at rs
   selections_same k f g a at [] h = refl
   selections_same k f g a at (r ∷ rs) h =
       let one : selection d f at r ≡ selection d g at r =
       ap (λ (b : List Step). unless_dropped (dropped (d.skip r) (d.include r)) (guarded (tests d r) at b))
-      (contents_same k f g a (at + length (tests d r)) r (d.sort r) (and_left (deepAt d (deep d k) r (d.sort r)) (allDeep d (deep d k) rs) h)) in
+      (contents_same k f g a (at + length (tests d r)) r (d.sort r) (and_left (deep_at d (deep d k) r (d.sort r)) (all_deep d (deep d k) rs) h)) in
       ap (λ (s : List Step). s ++ selections d f (at + length s) rs) one ∙
-      ap (λ (l : List Step). selection d g at r ++ l) (selections_same k f g a (at + length (selection d g at r)) rs (and_right (deepAt d (deep d k) r (d.sort r)) (allDeep d (deep d k) rs) h))
+      ap (λ (l : List Step). selection d g at r ++ l) (selections_same k f g a (at + length (selection d g at r)) rs (and_right (deep_at d (deep d k) r (d.sort r)) (all_deep d (deep d k) rs) h))
 
   -- a higher bound than one that is high enough
   plan_same : (k m : ℕ) → k ≤ m → Agree k (plan d m) (plan d k)

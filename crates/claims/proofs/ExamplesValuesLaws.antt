@@ -21,9 +21,9 @@ use Rattle.paper_values.specs.Characters.{written, characters_from, characters_o
 use Rattle.paper_values.specs.NumberTokens.{value_from, int_of, float_content}
 use Rattle.paper_values.specs.Values.{At, Value, variable, integer, string, null, object, no_entries, entry, Entries, Due, Tree, Null, Bits, Fields, no_pairs, pair, Out, Got, No}
 use Rattle.paper_values.specs.Kinds.{kind_of_type}
-use Rattle.paper_values.specs.Computed.{coerce, argumentsOf}
+use Rattle.paper_values.specs.Computed.{coerce, arguments_of}
 use Rattle.paper_values.specs.Encoding.{encode}
-use Rattle.paper_values.specs.RowValues.{ref_of_wrappers, placed, tokenAt, entriesFrom, value_at, arguments_at}
+use Rattle.paper_values.specs.RowValues.{ref_of_wrappers, placed, token_at, entries_from, value_at, arguments_at}
 use Rattle.paper_values.specs.DocumentDues.{variable_dues, given_in, argument_dues, ReachedField}
 use Rattle.paper_values.specs.CallRules.{CoercesArguments}
 use Rattle.paper_values.specs.ValueCalls.{Ending, ends, yields, ended, ArgumentsEnd, arguments_coerced}
@@ -50,7 +50,7 @@ unfolding first_at find each_from numbers_where declared ref_of_wrappers
 variables_due = refl
 
 none_given : given_in (read none_set none_rows) ≡ no_entries
-unfolding entriesFrom
+unfolding entries_from
 none_given = refl
 
 -- f's argument, and g's
@@ -66,10 +66,10 @@ g_due = refl
 abbrev value : ℕ → ℕ → Value
 value k i = value_at input_document E k i
 
-integer_is : (k i : ℕ) → kind_of E i ≡ kind_integer → value (suc k) i ≡ integer (at i) (tokenAt input_document E i)
+integer_is : (k i : ℕ) → kind_of E i ≡ kind_integer → value (suc k) i ≡ integer (at i) (token_at input_document E i)
 integer_is = value_integer input_document E
 
-arguments_are : (row m c : ℕ) → passing input_document E kind_argument row m c ≡ c ∷ [] → entriesFrom input_document E (value 33) kind_argument row m c ≡ entry (at c) (name_of E c) (value 33 (c + 1)) no_entries
+arguments_are : (row m c : ℕ) → passing input_document E kind_argument row m c ≡ c ∷ [] → entries_from input_document E (value 33) kind_argument row m c ≡ entry (at c) (name_of E c) (value 33 (c + 1)) no_entries
 arguments_are row m c = entries_are input_document E (value 33) kind_argument row m c (c ∷ [])
 
 object_is : (k i : ℕ) (ns : List ℕ) → kind_of E i ≡ kind_object → passing input_document E kind_object_field i (count E - (i + 1)) (i + 1) ≡ ns → value (suc k) i ≡ object (at i) (over input_document E (value k) ns)
@@ -109,7 +109,7 @@ arguments_7 = rw (arguments_are 27 6 28 refl, object_is 32 29 (30 ∷ 32 ∷ [])
 
 -- `gives row es ds`: the field at the row, with the arguments es where ds are due
 abbrev gives : ℕ → Entries → List Due → Out Tree
-gives row es ds = argumentsOf (kind_of_type (table_of table_e)) no_entries var_dues (at row) es ds
+gives row es ds = arguments_of (kind_of_type (table_of table_e)) no_entries var_dues (at row) es ds
 
 -- the call for a row ends so
 abbrev pub Ends : ℕ → Ending → Type 0

@@ -30,7 +30,7 @@ use Rattle.paper_values.specs.NumberTokens.{int_of}
 use Rattle.paper_values.specs.Signed.{number_written, number_held, is_int}
 use Rattle.paper_values.specs.Values.{Name, At, Value, Values, variable, integer, string, null, list, object, Entries, no_entries, entry, Due, Tree, Null, Bits, Fields, Pairs, no_pairs, pair, Out, Got, No}
 use Rattle.paper_values.specs.Kinds.{Kind, Int, kind_of_type}
-use Rattle.paper_values.specs.Computed.{Given, coerce, coerce_all, variablesFrom, variables_of, argumentsOf}
+use Rattle.paper_values.specs.Computed.{Given, coerce, coerce_all, variables_from, variables_of, arguments_of}
 use Rattle.paper_values.specs.Coercion.{Head, heads, repeated_entry, unknown_entry, value_in}
 use Rattle.paper_values.specs.CoercionRules.{plain_value, single_value, as_input, Coerces}
 use Rattle.paper_values.specs.CallRules.{no_variables, CoercesVariables, CoercesArguments}
@@ -136,7 +136,7 @@ pub first_entry_differs : ((es : List Head) → order.repeated_first es ≡ repe
 first_entry_differs = order.first_differs
 
 -- A default is judged only where it is taken.
-pub default_judged_differs : ((gs : List Given) (vs : List (At × Due)) → order.defaults_judged gs vs ≡ variablesFrom order.kinds gs vs) → ⊥
+pub default_judged_differs : ((gs : List Given) (vs : List (At × Due)) → order.defaults_judged gs vs ≡ variables_from order.kinds gs vs) → ⊥
 default_judged_differs = order.judging_differs
 
 -- ---- ONE RESULT OR REFUSAL
@@ -157,7 +157,7 @@ variables_coercion_one = calls-exact.variables_one
 
 -- And a field's arguments.
 pub arguments_coercion_some : (kinds : Name → Kind) (given : Entries) (vs : List (At × Due)) (i : At) (es : Entries) (ds : List Due) →
-    CoercesArguments kinds given vs i es ds (argumentsOf kinds given vs i es ds)
+    CoercesArguments kinds given vs i es ds (arguments_of kinds given vs i es ds)
 arguments_coercion_some = calls-exact.arguments_have
 
 pub arguments_coercion_one : (kinds : Name → Kind) {given : Entries} {vs : List (At × Due)} {i : At} {es : Entries} {ds : List Due} {o p : Out Tree} →
@@ -193,7 +193,7 @@ reason_3_of_a_variable = dues.missing_of_a_variable
 -- value (`arguments_apart`) and no default (`arguments_without_defaults`) stands at the field's place.
 pub reason_3_of_a_field : (kinds : Name → Kind) (given : Entries) (vs : List (At × Due)) (ps : Pairs) → variables_of kinds given vs ≡ Got ps →
     (i : At) (es : Entries) (ds : List Due) → Apart kinds (value_in ps) i es → ApartDefaults i (duly kinds ds i) →
-    (argumentsOf kinds given vs i es ds ≡ No i reason_missing)
+    (arguments_of kinds given vs i es ds ≡ No i reason_missing)
     ↔ ((repeated_entry [] (heads es) ≡ none) × (unknown_entry ds (heads es) ≡ none) × LacksDue kinds (value_in ps) es i (duly kinds ds i))
 reason_3_of_a_field = dues.missing_of_a_field
 
@@ -214,7 +214,7 @@ reason_5_exactly = reasons.unknown_exactly
 
 pub reason_5_of_a_field : (kinds : Name → Kind) (given : Entries) (vs : List (At × Due)) (ps : Pairs) → variables_of kinds given vs ≡ Got ps →
     (i : At) (es : Entries) (ds : List Due) (e : At) → Apart kinds (value_in ps) e es → ApartDefaults e (duly kinds ds i) →
-    (argumentsOf kinds given vs i es ds ≡ No e reason_unknown) ↔ ((repeated_entry [] (heads es) ≡ none) × (unknown_entry ds (heads es) ≡ some e))
+    (arguments_of kinds given vs i es ds ≡ No e reason_unknown) ↔ ((repeated_entry [] (heads es) ≡ none) × (unknown_entry ds (heads es) ≡ some e))
 reason_5_of_a_field = dues.unknown_of_a_field
 
 -- 6, repeated: told at an entry, exactly when it is the first whose name an earlier one has.
@@ -224,7 +224,7 @@ reason_6_exactly = reasons.repeated_exactly
 
 pub reason_6_of_a_field : (kinds : Name → Kind) (given : Entries) (vs : List (At × Due)) (ps : Pairs) → variables_of kinds given vs ≡ Got ps →
     (i : At) (es : Entries) (ds : List Due) (e : At) → Apart kinds (value_in ps) e es → ApartDefaults e (duly kinds ds i) →
-    (argumentsOf kinds given vs i es ds ≡ No e reason_repeated) ↔ (repeated_entry [] (heads es) ≡ some e)
+    (arguments_of kinds given vs i es ds ≡ No e reason_repeated) ↔ (repeated_entry [] (heads es) ≡ some e)
 reason_6_of_a_field = dues.repeated_of_a_field
 
 -- In the outer object of the variables, before all else, so with no word of what is due.

@@ -26,7 +26,7 @@ use Rattle.paper_plan.specs.Selecting.{Name, if_of, IsBlock}
 use Rattle.paper_plan.specs.PlanCalls.{PlanLent, PlanIs, Planned}
 use Rattle.paper_plan.proofs.ExamplesPlans.{D, plan_d, walked}
 use Rattle.paper_plan.proofs.ExamplesBlocks as example-blocks
-use Rattle.paper_plan.proofs.TrapsPlans.{walked_by, markFirst, bodyOnce, own_key}
+use Rattle.paper_plan.proofs.TrapsPlans.{walked_by, mark_first, body_once, own_key}
 use Rattle.paper_plan.proofs.TrapsPlans as traps
 use Rattle.plan_theory.proofs.PlanCallsOne as plan-calls
 use Rattle.gateway.proofs.plan.gw_plan.Statement as gw-plan
@@ -137,11 +137,11 @@ example_8_told = examples.eight_told
 -- ---- WRONG DEFINITIONS OF A PLAN, each with a document on which it differs
 
 -- 01's trap: a spread marked before its skip test lists other pairs.
-pub mark_before_skip_differs : ((s : String) (vars : ℕ → Bool) → walked_by markFirst s vars ≡ walked s vars (0 ∷ [])) → ⊥
+pub mark_before_skip_differs : ((s : String) (vars : ℕ → Bool) → walked_by mark_first s vars ≡ walked s vars (0 ∷ [])) → ⊥
 mark_before_skip_differs = traps.mark_before_skip_differs
 
 -- So does a plan with a fragment's body at its first spread alone.
-pub body_once_differs : ((s : String) (vars : ℕ → Bool) → walked_by bodyOnce s vars ≡ walked s vars (0 ∷ [])) → ⊥
+pub body_once_differs : ((s : String) (vars : ℕ → Bool) → walked_by body_once s vars ≡ walked s vars (0 ∷ [])) → ⊥
 body_once_differs = traps.body_once_differs
 
 -- Keys numbered by the operation's rows only have other numbers.

@@ -65,9 +65,9 @@ es ▹ accepted fs = accepted (es ++ fs)
 es ▹ stopped k = stopped (suc k)
 
 module _ {N P C A : Type 0} (G : Tables N P C A) where
-  abbrev pub takeAt : P → List (Sym N P A) → Option C → Step N P C A
-  takeAt p ss none = refused
-  takeAt p ss (some c) = take_if (G.hits p c) c ss
+  abbrev pub take_at : P → List (Sym N P A) → Option C → Step N P C A
+  take_at p ss none = refused
+  take_at p ss (some c) = take_if (G.hits p c) c ss
 
   -- which tokens can begin a list of symbols, and whether it can derive no token
   abbrev pub fst : List (Sym N P A) → C → Bool
@@ -90,7 +90,7 @@ module _ {N P C A : Type 0} (G : Tables N P C A) where
   -- a step of a stack, given the steps of the nonterminals
   abbrev pub over : (N → Option C → Step N P C A) → List (Sym N P A) → Option C → Step N P C A
   over e [] l = emptied []
-  over e (tm p ∷ ss) l = takeAt p ss l
+  over e (tm p ∷ ss) l = take_at p ss l
   over e (act a ∷ ss) l = (mark a ∷ []) ▸ over e ss l
   over e (nt n ∷ ss) l = and_then (e n l) ss (over e ss l)
 

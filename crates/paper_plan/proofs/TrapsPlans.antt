@@ -29,7 +29,7 @@ use Rattle.paper_query.proofs.WorkedRules.{table_s, document}
 use Rattle.paper_plan.specs.Keys.{name_front, keyed, key_number}
 use Rattle.paper_plan.specs.Applies.{applies}
 use Rattle.paper_plan.specs.Collecting.{Sort, field, spread, inline, View, elem, Pair, pairs}
-use Rattle.paper_plan.specs.Planning.{Test, Step, list, skip_tests, include_tests, dropped, guarded, unless_dropped, sortTests, tests, content, plan, program, firsts, Plan, State, block_of, walk, blocks, grouped, walk_answer}
+use Rattle.paper_plan.specs.Planning.{Test, Step, list, skip_tests, include_tests, dropped, guarded, unless_dropped, sort_tests, tests, content, plan, program, firsts, Plan, State, block_of, walk, blocks, grouped, walk_answer}
 use Rattle.paper_plan.specs.Selecting.{Name, set_of, rows_where, if_of, by_numbers, plan_for}
 use Rattle.paper_plan.proofs.ExamplesPlans.{walked}
 
@@ -45,71 +45,71 @@ walked_by planner s vars =
 -- ---- 1. A fragment marked before its skip test
 
 module _ (d : View ℕ) where
-  abbrev marksFirst : ℕ → List Test
-  marksFirst r = sortTests d (d.sort r) ++ (skip_tests (d.skip r) ++ include_tests (d.include r))
+  abbrev marks_first : ℕ → List Test
+  marks_first r = sort_tests d (d.sort r) ++ (skip_tests (d.skip r) ++ include_tests (d.include r))
 
-  abbrev markedSelection : (ℕ → List ℕ → List Step) → ℕ → ℕ → List Step
-  markedSelection inner at r =
-      let b = content d inner (at + length (marksFirst r)) r (d.sort r) in
-      let s = guarded (marksFirst r) at b in unless_dropped (dropped (d.skip r) (d.include r)) s
+  abbrev marked_selection : (ℕ → List ℕ → List Step) → ℕ → ℕ → List Step
+  marked_selection inner at r =
+      let b = content d inner (at + length (marks_first r)) r (d.sort r) in
+      let s = guarded (marks_first r) at b in unless_dropped (dropped (d.skip r) (d.include r)) s
 
-  abbrev markedSelections : (ℕ → List ℕ → List Step) → ℕ → List ℕ → List Step
-  markedSelections inner at [] = []
-  markedSelections inner at (r ∷ rs) = let s = markedSelection inner at r in s ++ markedSelections inner (at + length s) rs
+  abbrev marked_selections : (ℕ → List ℕ → List Step) → ℕ → List ℕ → List Step
+  marked_selections inner at [] = []
+  marked_selections inner at (r ∷ rs) = let s = marked_selection inner at r in s ++ marked_selections inner (at + length s) rs
 
-  unfoldable pub markFirst : ℕ → ℕ → List ℕ → List Step
-  markFirst zero at rs = []
-  markFirst (suc k) at rs = markedSelections (markFirst k) at rs
+  unfoldable pub mark_first : ℕ → ℕ → List ℕ → List Step
+  mark_first zero at rs = []
+  mark_first (suc k) at rs = marked_selections (mark_first k) at rs
 
 -- the first spread is skipped, so the second one's fields are listed
-pub mark_before_skip_differs : ((s : String) (vars : ℕ → Bool) → walked_by markFirst s vars ≡ walked s vars (0 ∷ [])) → ⊥
-unfolding from text scan step enter choose lexical lex_factored language factored run rows_of book tokens_of any_of all_of first_at find gather each_from is_name marked closed read_name ref_from whole_ref ref_of house_fields_from text_of member_of definition_of table_of built_ins meaning fragment_named composite_of condition_of can_be name_front key_number applies numbers_where rows_where if_of plan program firsts walk blocks markFirst
+pub mark_before_skip_differs : ((s : String) (vars : ℕ → Bool) → walked_by mark_first s vars ≡ walked s vars (0 ∷ [])) → ⊥
+unfolding from text scan step enter choose lexical lex_factored language factored run rows_of book tokens_of any_of all_of first_at find gather each_from is_name marked closed read_name ref_from whole_ref ref_of house_fields_from text_of member_of definition_of table_of built_ins meaning fragment_named composite_of condition_of can_be name_front key_number applies numbers_where rows_where if_of plan program firsts walk blocks mark_first
 mark_before_skip_differs h = let e : ◌≡◌ {A = List Pair} [] ((10, 10) ∷ []) = h "query($v:Boolean){...F @skip(if:$v) ...F} fragment F on Query{a}" (λ v. true) in let z : ◌≡◌ {A = ℕ} 0 1 = cc in omega arith
 
 -- ---- 2. Fresh marks for each merged block
 
 module _ (vars : ℕ → Bool) (applies : ℕ → Bool) where
-  unfoldable pub freshBlocks : Plan → List ℕ → State → State
-  freshBlocks p [] s = s
-  freshBlocks p (b ∷ bs) s = freshBlocks p bs (walk vars applies (block_of p b) (get_or p.first b 0) 0 record { met = []; out = s.out })
+  unfoldable pub fresh_blocks : Plan → List ℕ → State → State
+  fresh_blocks p [] s = s
+  fresh_blocks p (b ∷ bs) s = fresh_blocks p bs (walk vars applies (block_of p b) (get_or p.first b 0) 0 record { met = []; out = s.out })
 
 abbrev pub freshly : String → (ℕ → Bool) → List ℕ → List Pair
 freshly s vars bs =
-    pairs (grouped [] (freshBlocks vars (λ k. applies (table_of table_s) k 0) (plan_for (table_of table_s) (document (bytes s)) 0 (0 ∷ [])) bs record { met = []; out = [] }).out)
+    pairs (grouped [] (fresh_blocks vars (λ k. applies (table_of table_s) k 0) (plan_for (table_of table_s) (document (bytes s)) 0 (0 ∷ [])) bs record { met = []; out = [] }).out)
 
 -- one block twice: the fragment's field is listed once
 pub fresh_marks_differ : ((s : String) (vars : ℕ → Bool) (bs : List ℕ) → freshly s vars bs ≡ walked s vars bs) → ⊥
-unfolding from text scan step enter choose lexical lex_factored language factored run rows_of book tokens_of any_of all_of first_at find gather each_from is_name marked closed read_name ref_from whole_ref ref_of house_fields_from text_of member_of definition_of table_of built_ins meaning fragment_named composite_of condition_of can_be name_front key_number applies numbers_where rows_where if_of plan program firsts walk blocks freshBlocks
+unfolding from text scan step enter choose lexical lex_factored language factored run rows_of book tokens_of any_of all_of first_at find gather each_from is_name marked closed read_name ref_from whole_ref ref_of house_fields_from text_of member_of definition_of table_of built_ins meaning fragment_named composite_of condition_of can_be name_front key_number applies numbers_where rows_where if_of plan program firsts walk blocks fresh_blocks
 fresh_marks_differ h =
     let e : ◌≡◌ {A = List Pair} ((1, 1) ∷ (1, 1) ∷ (5, 5) ∷ (5, 5) ∷ []) ((1, 1) ∷ (1, 1) ∷ (5, 5) ∷ []) = h "{a ...F} fragment F on Query {b}" (λ v. false) (0 ∷ 0 ∷ []) in omega (arith, ap length e)
 
 -- ---- 3. A fragment's selections planned at its first spread alone
 
 module _ (d : View ℕ) where
-  abbrev contentOnce : List ℕ → (ℕ → List ℕ → List Step) → ℕ → ℕ → Sort ℕ → List Step
-  contentOnce seen inner at r (field k) = list k r ∷ []
-  contentOnce seen inner at r (spread f) = cond (elem eqb f seen) [] (inner at (d.fragment f))
-  contentOnce seen inner at r (inline c) = inner at (d.body r)
+  abbrev content_once : List ℕ → (ℕ → List ℕ → List Step) → ℕ → ℕ → Sort ℕ → List Step
+  content_once seen inner at r (field k) = list k r ∷ []
+  content_once seen inner at r (spread f) = cond (elem eqb f seen) [] (inner at (d.fragment f))
+  content_once seen inner at r (inline c) = inner at (d.body r)
 
-  abbrev seenBy : Sort ℕ → List ℕ
-  seenBy (field k) = []
-  seenBy (spread f) = f ∷ []
-  seenBy (inline c) = []
+  abbrev seen_by : Sort ℕ → List ℕ
+  seen_by (field k) = []
+  seen_by (spread f) = f ∷ []
+  seen_by (inline c) = []
 
-  abbrev selectionsOnce : (ℕ → List ℕ → List Step) → List ℕ → ℕ → List ℕ → List Step
-  selectionsOnce inner seen at [] = []
-  selectionsOnce inner seen at (r ∷ rs) =
-      let b = contentOnce seen inner (at + length (tests d r)) r (d.sort r) in
+  abbrev selections_once : (ℕ → List ℕ → List Step) → List ℕ → ℕ → List ℕ → List Step
+  selections_once inner seen at [] = []
+  selections_once inner seen at (r ∷ rs) =
+      let b = content_once seen inner (at + length (tests d r)) r (d.sort r) in
       let s = unless_dropped (dropped (d.skip r) (d.include r)) (guarded (tests d r) at b) in
-      s ++ selectionsOnce inner (seenBy (d.sort r) ++ seen) (at + length s) rs
+      s ++ selections_once inner (seen_by (d.sort r) ++ seen) (at + length s) rs
 
-  unfoldable pub bodyOnce : ℕ → ℕ → List ℕ → List Step
-  bodyOnce zero at rs = []
-  bodyOnce (suc k) at rs = selectionsOnce (bodyOnce k) [] at rs
+  unfoldable pub body_once : ℕ → ℕ → List ℕ → List Step
+  body_once zero at rs = []
+  body_once (suc k) at rs = selections_once (body_once k) [] at rs
 
 -- the first spread is skipped, so the second one's body is walked
-pub body_once_differs : ((s : String) (vars : ℕ → Bool) → walked_by bodyOnce s vars ≡ walked s vars (0 ∷ [])) → ⊥
-unfolding from text scan step enter choose lexical lex_factored language factored run rows_of book tokens_of any_of all_of first_at find gather each_from is_name marked closed read_name ref_from whole_ref ref_of house_fields_from text_of member_of definition_of table_of built_ins meaning fragment_named composite_of condition_of can_be name_front key_number applies numbers_where rows_where if_of plan program firsts walk blocks bodyOnce
+pub body_once_differs : ((s : String) (vars : ℕ → Bool) → walked_by body_once s vars ≡ walked s vars (0 ∷ [])) → ⊥
+unfolding from text scan step enter choose lexical lex_factored language factored run rows_of book tokens_of any_of all_of first_at find gather each_from is_name marked closed read_name ref_from whole_ref ref_of house_fields_from text_of member_of definition_of table_of built_ins meaning fragment_named composite_of condition_of can_be name_front key_number applies numbers_where rows_where if_of plan program firsts walk blocks body_once
 body_once_differs h = let e : ◌≡◌ {A = List Pair} [] ((10, 10) ∷ []) = h "query($v:Boolean){...F @skip(if:$v) ...F} fragment F on Query{a}" (λ v. true) in let z : ◌≡◌ {A = ℕ} 0 1 = cc in omega arith
 
 -- ---- 4. Keys numbered by the operation's rows only

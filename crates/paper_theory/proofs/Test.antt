@@ -39,17 +39,17 @@ ok_t (stopped k) = false
 
 module _ {N P C A : Type 0} (G : Tables N P C A) (follow : N → C → Bool) (all_n : List N) (all_c : List C) where
   -- what may follow a part m that stands before ss in a production of n
-  abbrev pub afterT : N → List (Sym N P A) → C → Bool
-  afterT m ss t = implies (fst G ss t) (follow m t)
+  abbrev pub after_t : N → List (Sym N P A) → C → Bool
+  after_t m ss t = implies (fst G ss t) (follow m t)
 
-  abbrev pub lastT : N → N → List (Sym N P A) → C → Bool
-  lastT n m ss t = implies (nul G ss) (implies (follow n t) (follow m t))
+  abbrev pub last_t : N → N → List (Sym N P A) → C → Bool
+  last_t n m ss t = implies (nul G ss) (implies (follow n t) (follow m t))
 
-  abbrev pub followsT : N → List (Sym N P A) → Bool
-  followsT n [] = true
-  followsT n (tm c ∷ ss) = followsT n ss
-  followsT n (act a ∷ ss) = followsT n ss
-  followsT n (nt m ∷ ss) = all (afterT m ss) all_c && (all (lastT n m ss) all_c && followsT n ss)
+  abbrev pub follows_t : N → List (Sym N P A) → Bool
+  follows_t n [] = true
+  follows_t n (tm c ∷ ss) = follows_t n ss
+  follows_t n (act a ∷ ss) = follows_t n ss
+  follows_t n (nt m ∷ ss) = all (after_t m ss) all_c && (all (last_t n m ss) all_c && follows_t n ss)
 
   -- the tests, of each part: FIRST and NULL are closed under the productions; a token can begin one production at most, and one at most can be
   -- nothing; a part that can be nothing is followed by nothing that can begin it; FOLLOW is closed; no left recursion
@@ -59,7 +59,7 @@ module _ {N P C A : Type 0} (G : Tables N P C A) (follow : N → C → Bool) (al
     pub one_first : T (all (λ n. all (λ t. at_most_one (λ α. fst G α t) (G.prods n)) all_c) all_n)
     pub one_null : T (all (λ n. at_most_one (λ α. nul G α) (G.prods n)) all_n)
     pub apart : T (all (λ n. all (λ t. implies (G.null n) (implies (G.first n t) (not (follow n t)))) all_c) all_n)
-    pub follows : T (all (λ n. all (λ α. followsT n α) (G.prods n)) all_n)
+    pub follows : T (all (λ n. all (λ α. follows_t n α) (G.prods n)) all_n)
     pub deep_end : T (all (λ n. alive (enter G G.depth n none)) all_n)
     pub deep : T (all (λ n. all (λ t. alive (enter G G.depth n (some t))) all_c) all_n)
     pub words : T (all (λ n. ok_t (run G (nt n ∷ []) (sample n))) all_n)
@@ -129,16 +129,16 @@ module _ {N P C A : Type 0} (G : Tables N P C A) (follow : N → C → Bool) (al
     one_far f [] = tt
     one_far f (α ∷ rs) = rw (fst_far f α) (one_far f rs)
 
-    follows_t_out : (n : N) (ss : List (Sym N P A)) → T (followsT n ss) → Follows G follow n ss
+    follows_t_out : (n : N) (ss : List (Sym N P A)) → T (follows_t n ss) → Follows G follow n ss
     follows_t_out n [] h = tt
     follows_t_out n (tm c ∷ ss) h = follows_t_out n ss h
     follows_t_out n (act a ∷ ss) h = follows_t_out n ss h
     follows_t_out n (nt m ∷ ss) h =
-        let h₁ = and_l (all (afterT m ss) all_c) (all (lastT n m ss) all_c && followsT n ss) h in
-        let h₂ = and_r (all (afterT m ss) all_c) (all (lastT n m ss) all_c && followsT n ss) h in (
-          λ t k. implies_out (fst G ss t) (follow m t) (at_class (afterT m ss) h₁ (λ c f. rw (fst_far f ss) tt) t) k,
-          λ t k j. implies_out (follow n t) (follow m t) (implies_out (nul G ss) (implies (follow n t) (follow m t)) (at_class (lastT n m ss) (and_l (all (lastT n m ss) all_c) (followsT n ss) h₂) (λ c f. rw (f.follow_not n) (implies_true (nul G ss))) t) k) j,
-          follows_t_out n ss (and_r (all (lastT n m ss) all_c) (followsT n ss) h₂),
+        let h₁ = and_l (all (after_t m ss) all_c) (all (last_t n m ss) all_c && follows_t n ss) h in
+        let h₂ = and_r (all (after_t m ss) all_c) (all (last_t n m ss) all_c && follows_t n ss) h in (
+          λ t k. implies_out (fst G ss t) (follow m t) (at_class (after_t m ss) h₁ (λ c f. rw (fst_far f ss) tt) t) k,
+          λ t k j. implies_out (follow n t) (follow m t) (implies_out (nul G ss) (implies (follow n t) (follow m t)) (at_class (last_t n m ss) (and_l (all (last_t n m ss) all_c) (follows_t n ss) h₂) (λ c f. rw (f.follow_not n) (implies_true (nul G ss))) t) k) j,
+          follows_t_out n ss (and_r (all (last_t n m ss) all_c) (follows_t n ss) h₂),
         )
 
     pub fit : {sample : N → List C} → Tested sample → Fit G follow
@@ -149,7 +149,7 @@ module _ {N P C A : Type 0} (G : Tables N P C A) (follow : N → C → Bool) (al
       one_first = λ n t. at_class (λ u. at_most_one (λ α. fst G α u) (G.prods n)) (at_part (λ n. all (λ t. at_most_one (λ α. fst G α t) (G.prods n)) all_c) h.one_first n) (λ c f. one_far f (G.prods n)) t;
       one_null = λ n. at_part (λ n. at_most_one (λ α. nul G α) (G.prods n)) h.one_null n;
       apart = λ n t. not_both (G.null n) (G.first n t) (follow n t) (at_class (λ u. implies (G.null n) (implies (G.first n u) (not (follow n u)))) (at_part (λ n. all (λ t. implies (G.null n) (implies (G.first n t) (not (follow n t)))) all_c) h.apart n) (λ c f. rw (f.first_not n) (implies_true (G.null n))) t);
-      follows = λ n {α} m. follows_t_out n α (all_mem (λ β. followsT n β) (at_part (λ n. all (λ α. followsT n α) (G.prods n)) h.follows n) m);
+      follows = λ n {α} m. follows_t_out n α (all_mem (λ β. follows_t n β) (at_part (λ n. all (λ α. follows_t n α) (G.prods n)) h.follows n) m);
       deep = λ n l. deep_at n l;
     }
       where

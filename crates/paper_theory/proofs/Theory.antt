@@ -10,7 +10,7 @@ use native.Mathlib.Omega.{arith}
 use lib.Dec.{T}
 use Rattle.paper.specs.Grammar.{Sym, nt, tm, act, Ev, tok, mark, toks, Derives, done, take, note, by}
 use Rattle.paper.proofs.Machine.{Tables, Step, took, emptied, refused, spent, Answer, accepted, stopped, pick, pick_if, or_else, take_if, ◌▸◌, and_then, ◌▹◌}
-use Rattle.paper.proofs.Machine.{takeAt, fst, nul, choose, over, onward, enter, step, ended, went, run}
+use Rattle.paper.proofs.Machine.{take_at, fst, nul, choose, over, onward, enter, step, ended, went, run}
 use Rattle.paper.proofs.Bools.{and_l, and_r, and_i, or_cases, or_l, or_r, T→eq}
 
 IsSomeOf : {X : Type 0} → Option X → Type 0
@@ -343,7 +343,7 @@ module _ {N P C A : Type 0} {G : Tables N P C A} {follow : N → C → Bool} (F 
   sound_mark l a σ refused h = tt
   sound_mark l a σ spent h = tt
 
-  sound_take : (l : Option C) (p : P) (σ : List (Sym N P A)) → Sound l (tm p ∷ σ) (takeAt G p σ l)
+  sound_take : (l : Option C) (p : P) (σ : List (Sym N P A)) → Sound l (tm p ∷ σ) (take_at G p σ l)
   unfolding toks
   sound_take none p σ = tt
   sound_take (some c) p σ = go (G.hits p c) refl
@@ -401,7 +401,7 @@ module _ {N P C A : Type 0} {G : Tables N P C A} {follow : N → C → Bool} (F 
   took_▸ es refused q = absurd (took≢refused (sym q))
   took_▸ es spent q = absurd (took≢spent (sym q))
 
-  kept_take : (p : P) (l : Option C) (σ ss : List (Sym N P A)) {es : List (Ev C A)} {σ' : List (Sym N P A)} → Kept G follow (σ ++ ss) → takeAt G p σ l ≡ took es σ' → Kept G follow (σ' ++ ss)
+  kept_take : (p : P) (l : Option C) (σ ss : List (Sym N P A)) {es : List (Ev C A)} {σ' : List (Sym N P A)} → Kept G follow (σ ++ ss) → take_at G p σ l ≡ took es σ' → Kept G follow (σ' ++ ss)
   kept_take p none σ ss k q = absurd (took≢refused (sym q))
   kept_take p (some c) σ ss {es} {σ'} k q = go (G.hits p c) q
     where

@@ -10,8 +10,8 @@ use Rattle.paper_values.specs.ValueNumbers.{reason_kind, reason_missing, reason_
 use Rattle.paper_values.specs.Values.{Name, At, Value, variable, integer, float, string, boolean, null, enum, list, object, Values, no_values, item, Entries, no_entries, entry, Due, Tree, Null, Bits, Decimal, Text, Truth, Member, Many, Fields, Token, Trees, no_more, also, Pairs, pair, Out, Got, No, and_then}
 use Rattle.paper_values.specs.Kinds.{Kind, Int, Float, String, Boolean, ID, Own, Other, Enum, Input}
 use Rattle.paper_values.specs.Computed.{null_at, object_at, entry_of, missing_due, due_field, due_fields, unless, in_object, single, several, held, coerce, coerce_all, givens}
-use Rattle.paper_values.specs.Coercion.{integer_at, float_at, string_at, boolean_at, enum_at, heads, repeated_entry, unknown_entry, leftOut}
-use Rattle.paper_values.specs.CoercionRules.{plain_value, single_value, as_input, valueFor, Coerces, null_kept, null_refused, absent_variable, null_variable, held_variable, at_non_null, a_list, list_of_one, no_list, an_integer, a_float, a_string, a_boolean, an_enum, no_object, entry_repeated, entry_unknown, an_object, Items, no_items, item_refused, item_got, InFields, no_fields, required_missing, left_out, field_refused, field_got}
+use Rattle.paper_values.specs.Coercion.{integer_at, float_at, string_at, boolean_at, enum_at, heads, repeated_entry, unknown_entry, left_out}
+use Rattle.paper_values.specs.CoercionRules.{plain_value, single_value, as_input, value_for, Coerces, null_kept, null_refused, absent_variable, null_variable, held_variable, at_non_null, a_list, list_of_one, no_list, an_integer, a_float, a_string, a_boolean, an_enum, no_object, entry_repeated, entry_unknown, an_object, Items, no_items, item_refused, item_got, InFields, no_fields, required_missing, by_left_out, field_refused, field_got}
 
 abbrev Falsity : Bool → Type 0
 Falsity true = ⊥
@@ -92,13 +92,13 @@ module _ (kinds : Name → Kind) (vars : Name → Option Tree) where
   into (some v) = some (λ r. coerce kinds vars v r)
 
   -- the entry that is looked up is the value's
-  pub found : (n : Name) (es : Entries) → entry_of n (givens kinds vars es) ≡ into (valueFor kinds vars n es)
+  pub found : (n : Name) (es : Entries) → entry_of n (givens kinds vars es) ≡ into (value_for kinds vars n es)
   unfolding coerce
   found n no_entries = refl
-  found n (entry i m v es) = go (same n m) (leftOut kinds vars v) (found n es)
+  found n (entry i m v es) = go (same n m) (left_out kinds vars v) (found n es)
     where
-      go : (b c : Bool) → entry_of n (givens kinds vars es) ≡ into (valueFor kinds vars n es)
-          → cond b (cond c none (some (λ r. coerce kinds vars v r))) (entry_of n (givens kinds vars es)) ≡ into (cond b (cond c none (some v)) (valueFor kinds vars n es))
+      go : (b c : Bool) → entry_of n (givens kinds vars es) ≡ into (value_for kinds vars n es)
+          → cond b (cond c none (some (λ r. coerce kinds vars v r))) (entry_of n (givens kinds vars es)) ≡ into (cond b (cond c none (some v)) (value_for kinds vars n es))
       go true true h = refl
       go true false h = refl
       go false c h = h
@@ -126,7 +126,7 @@ module _ (kinds : Name → Kind) (vars : Name → Option Tree) where
       → coerce kinds vars (object i es) (named n) ≡ unless (repeated_entry [] (heads es)) reason_repeated (unless (unknown_entry ds (heads es)) reason_unknown (and_then (due_fields (missing_due i) (givens kinds vars es) ds) (λ ps. Got (Fields ps))))
   of_input i es n ds q = of_object i es n ∙ ap (λ (m : Option (List Due)). tabled m i (in_object (missing_due i) (heads es) (givens kinds vars es))) q
 
-  of_field : (i : At) (es : Entries) (d : Due) (rest : Out Pairs) (m : Option Value) → valueFor kinds vars d.name es ≡ m
+  of_field : (i : At) (es : Entries) (d : Due) (rest : Out Pairs) (m : Option Value) → value_for kinds vars d.name es ≡ m
       → due_field (missing_due i d rest) d (entry_of d.name (givens kinds vars es)) rest ≡ due_field (missing_due i d rest) d (into m) rest
   of_field i es d rest m q = ap (λ (x : Option (Ref → Out Tree)). due_field (missing_due i d rest) d x rest) (found d.name es ∙ ap into q)
 
@@ -170,7 +170,7 @@ module _ (kinds : Name → Kind) (vars : Name → Option Tree) where
     pub fields_is : {i : At} {es : Entries} {ds : List Due} {o : Out Pairs} → InFields kinds vars i es ds o → due_fields (missing_due i) (givens kinds vars es) ds ≡ o
     fields_is no_fields = refl
     fields_is (required_missing {i} {es} {d} {ds} q h) = of_field i es d (due_fields (missing_due i) (givens kinds vars es) ds) none q ∙ ap (λ (b : Bool). cond b (No i reason_missing) (due_fields (missing_due i) (givens kinds vars es) ds)) h
-    fields_is (left_out {i} {es} {d} {ds} {o} q h c) = of_field i es d (due_fields (missing_due i) (givens kinds vars es) ds) none q
+    fields_is (by_left_out {i} {es} {d} {ds} {o} q h c) = of_field i es d (due_fields (missing_due i) (givens kinds vars es) ds) none q
         ∙ ap (λ (b : Bool). cond b (No i reason_missing) (due_fields (missing_due i) (givens kinds vars es) ds)) h ∙ fields_is c
     fields_is (field_refused {i} {es} {d} {ds} {j} {w} v q c) = of_field i es d (due_fields (missing_due i) (givens kinds vars es) ds) (some v) q
         ∙ ap (λ (x : Out Tree). and_then x (λ t. and_then (due_fields (missing_due i) (givens kinds vars es) ds) (λ ps. Got (pair d.name t ps)))) (coerces_is c)
@@ -214,15 +214,15 @@ module _ (kinds : Name → Kind) (vars : Name → Option Tree) where
 
   -- every value that an entry has is coerced
   abbrev Each : Entries → Type 0
-  Each es = (n : Name) (v : Value) → valueFor kinds vars n es ≡ some v → (r : Ref) → Coerces kinds vars v r (coerce kinds vars v r)
+  Each es = (n : Name) (v : Value) → value_for kinds vars n es ≡ some v → (r : Ref) → Coerces kinds vars v r (coerce kinds vars v r)
 
-  has_field : (i : At) (es : Entries) (d : Due) (ds : List Due) (rest : Out Pairs) → Each es → InFields kinds vars i es ds rest → (m : Option Value) → valueFor kinds vars d.name es ≡ m
+  has_field : (i : At) (es : Entries) (d : Due) (ds : List Due) (rest : Out Pairs) → Each es → InFields kinds vars i es ds rest → (m : Option Value) → value_for kinds vars d.name es ≡ m
       → InFields kinds vars i es (d ∷ ds) (due_field (missing_due i d rest) d (into m) rest)
   has_field i es d ds rest h c none q = go (is_non_null d.type) refl
     where
       go : (b : Bool) → is_non_null d.type ≡ b → InFields kinds vars i es (d ∷ ds) (cond b (No i reason_missing) rest)
       go true e = required_missing q e
-      go false e = left_out q e c
+      go false e = by_left_out q e c
   has_field i es d ds rest h c (some v) q = go (coerce kinds vars v d.type) (h d.name v q d.type)
     where
       go : (o : Out Tree) → Coerces kinds vars v d.type o → InFields kinds vars i es (d ∷ ds) (and_then o (λ t. and_then rest (λ ps. Got (pair d.name t ps))))
@@ -232,8 +232,8 @@ module _ (kinds : Name → Kind) (vars : Name → Option Tree) where
   has_fields : (i : At) (es : Entries) → Each es → (ds : List Due) → InFields kinds vars i es ds (due_fields (missing_due i) (givens kinds vars es) ds)
   has_fields i es h [] = no_fields
   has_fields i es h (d ∷ ds) = subst (λ (o : Out Pairs). InFields kinds vars i es (d ∷ ds) o)
-      (sym (of_field i es d (due_fields (missing_due i) (givens kinds vars es) ds) (valueFor kinds vars d.name es) refl))
-      (has_field i es d ds (due_fields (missing_due i) (givens kinds vars es) ds) h (has_fields i es h ds) (valueFor kinds vars d.name es) refl)
+      (sym (of_field i es d (due_fields (missing_due i) (givens kinds vars es) ds) (value_for kinds vars d.name es) refl))
+      (has_field i es d ds (due_fields (missing_due i) (givens kinds vars es) ds) h (has_fields i es h ds) (value_for kinds vars d.name es) refl)
 
   has_input : (i : At) (es : Entries) (n : Name) → Each es → (m : Option (List Due)) → as_input (kinds n) ≡ m
       → Coerces kinds vars (object i es) (named n) (tabled m i (in_object (missing_due i) (heads es) (givens kinds vars es)))
@@ -256,7 +256,7 @@ module _ (kinds : Name → Kind) (vars : Name → Option Tree) where
   has_items v vs r (No i w) c d = item_refused c
 
   has_entry : (m : Name) (w : Value) (es : Entries) → ((r : Ref) → Coerces kinds vars w r (coerce kinds vars w r)) → Each es
-      → (n : Name) (v : Value) (b c : Bool) → cond b (cond c none (some w)) (valueFor kinds vars n es) ≡ some v → (r : Ref) → Coerces kinds vars v r (coerce kinds vars v r)
+      → (n : Name) (v : Value) (b c : Bool) → cond b (cond c none (some w)) (value_for kinds vars n es) ≡ some v → (r : Ref) → Coerces kinds vars v r (coerce kinds vars v r)
   has_entry m w es h t n v true true q r = absurd (subst is_absent q tt)
   has_entry m w es h t n v true false q r = subst (λ (x : Value). Coerces kinds vars x r (coerce kinds vars x r)) (ap (value_or w) q) (h r)
   has_entry m w es h t n v false c q r = t n v q r
@@ -279,6 +279,6 @@ module _ (kinds : Name → Kind) (vars : Name → Option Tree) where
     items_have no_values r = no_items
     items_have (item v vs) r = has_items v vs r (coerce kinds vars v r) (coerces_has v r) (items_have vs r)
 
-    pub entries_have : (es : Entries) (n : Name) (v : Value) → valueFor kinds vars n es ≡ some v → (r : Ref) → Coerces kinds vars v r (coerce kinds vars v r)
+    pub entries_have : (es : Entries) (n : Name) (v : Value) → value_for kinds vars n es ≡ some v → (r : Ref) → Coerces kinds vars v r (coerce kinds vars v r)
     entries_have no_entries n v q r = absurd (subst is_absent q tt)
-    entries_have (entry i m w es) n v q r = has_entry m w es (λ r. coerces_has w r) (λ n v q r. entries_have es n v q r) n v (same n m) (leftOut kinds vars w) q r
+    entries_have (entry i m w es) n v q r = has_entry m w es (λ r. coerces_has w r) (λ n v q r. entries_have es n v q r) n v (same n m) (left_out kinds vars w) q r

@@ -12,10 +12,10 @@ use Rattle.paper_table.specs.References.{Ref, named, list_of, non_null, is_non_n
 use Rattle.paper_query.specs.Constructs.{Doc, count, kind_of, parent_of, name_of}
 use Rattle.paper_values.specs.Values.{Name, At, Value, variable, integer, float, string, boolean, null, enum, list, object, Values, no_values, item, Entries, no_entries, entry, Due, Tree, Null, Bits, Decimal, Text, Truth, Member, Many, Fields, Token, Trees, Pairs, pair, Out, Got, No, and_then}
 use Rattle.paper_values.specs.Kinds.{Kind, Int, Float, String, Boolean, ID, Own, Other, Enum, Input}
-use Rattle.paper_values.specs.Computed.{null_at, object_at, Given, entry_of, pair_first, missing_due, due_field, due_fields, unless, in_object, single, several, held, coerce, coerce_all, givens, constant, orDefault, variablesFrom, variables_of}
+use Rattle.paper_values.specs.Computed.{null_at, object_at, Given, entry_of, pair_first, missing_due, due_field, due_fields, unless, in_object, single, several, held, coerce, coerce_all, givens, constant, or_default, variables_from, variables_of}
 use Rattle.paper_values.specs.Coercion.{in_range, text_at, integer_at, float_at, string_at, boolean_at, enum_at, heads, repeated_entry, unknown_entry}
 use Rattle.paper_values.specs.NumberTokens.{int_of, float_content}
-use Rattle.paper_values.specs.RowValues.{placed, itemsFrom, entriesFrom, valueBy, value_at}
+use Rattle.paper_values.specs.RowValues.{placed, items_from, entries_from, value_by, value_at}
 use Rattle.paper.specs.Numbers.{kind_variable, kind_integer, kind_float, kind_string, kind_boolean, kind_null, kind_enum, kind_list, kind_object_field}
 
 module _ (P : At → Type 0) where
@@ -264,20 +264,20 @@ module _ (P : At → Type 0) where
   PlacedDues (v ∷ vs) = P v.0 × PlacedIf v.1.default × PlacedDues vs
 
   module _ (kinds : Name → Kind) where
-    kept_default : (i : At) (d : Due) (m : Option Value) (rest : Out Pairs) → P i → PlacedIf m → Kept rest → Kept (orDefault kinds i d m rest)
+    kept_default : (i : At) (d : Due) (m : Option Value) (rest : Out Pairs) → P i → PlacedIf m → Kept rest → Kept (or_default kinds i d m rest)
     kept_default i d none rest p h k = kept_missing i d rest p k
     kept_default i d (some v) rest p h k = kept_first d.name (constant kinds v d.type) rest (value_kept kinds (λ n. none) v h d.type) k
 
-    kept_variables : (gs : List Given) → Givens gs → (vs : List (At × Due)) → PlacedDues vs → Kept (variablesFrom kinds gs vs)
+    kept_variables : (gs : List Given) → Givens gs → (vs : List (At × Due)) → PlacedDues vs → Kept (variables_from kinds gs vs)
     kept_variables gs h [] p = tt
     kept_variables gs h (v ∷ vs) p =
-        kept_field (orDefault kinds v.0 v.1 v.1.default (variablesFrom kinds gs vs)) v.1 (entry_of v.1.name gs) (variablesFrom kinds gs vs)
-        (kept_default v.0 v.1 v.1.default (variablesFrom kinds gs vs) p.0 p.1 (kept_variables gs h vs p.2))
+        kept_field (or_default kinds v.0 v.1 v.1.default (variables_from kinds gs vs)) v.1 (entry_of v.1.name gs) (variables_from kinds gs vs)
+        (kept_default v.0 v.1 v.1.default (variables_from kinds gs vs) p.0 p.1 (kept_variables gs h vs p.2))
         (kept_entry v.1.name gs h) (kept_variables gs h vs p.2)
 
     pub variables_kept : (es : Entries) → PlacedEntries es → (vs : List (At × Due)) → PlacedDues vs → Kept (variables_of kinds es vs)
     variables_kept es p vs q =
-        kept_unless (repeated_entry [] (heads es)) 6 (variablesFrom kinds (givens kinds (λ n. none) es) vs) (kept_repeated es [] p)
+        kept_unless (repeated_entry [] (heads es)) 6 (variables_from kinds (givens kinds (λ n. none) es) vs) (kept_repeated es [] p)
         (kept_variables (givens kinds (λ n. none) es) (givens_kept kinds (λ n. none) es p) vs q)
 
     -- an object's entries, or a field's arguments, where these are due
@@ -303,25 +303,25 @@ entries_if m true v w p q = p
 entries_if m false v w p q = q
 
 module _ (text : ℕ) (d : Doc) (m : ℕ) (few : count d ≤ m) where
-  items_placed : (read : ℕ → Value) → ((i : ℕ) → i ≤ m → Placed (UpTo m) (read i)) → (h k c : ℕ) → (0 < k → c + k ≤ m) → PlacedAll (UpTo m) (itemsFrom text d read h k c)
-  unfolding Placed itemsFrom
+  items_placed : (read : ℕ → Value) → ((i : ℕ) → i ≤ m → Placed (UpTo m) (read i)) → (h k c : ℕ) → (0 < k → c + k ≤ m) → PlacedAll (UpTo m) (items_from text d read h k c)
+  unfolding Placed items_from
   items_placed read p h zero c q = tt
   items_placed read p h (suc k) c q =
       let f : c + suc k ≤ m = q (omega arith) in
       let rest = items_placed read p h k (c + 1) (λ z. omega (arith, f)) in
-      items_if m (eqb (parent_of d c) h) (item (read c) (itemsFrom text d read h k (c + 1))) (itemsFrom text d read h k (c + 1)) (p c (omega (arith, f)), rest) rest
+      items_if m (eqb (parent_of d c) h) (item (read c) (items_from text d read h k (c + 1))) (items_from text d read h k (c + 1)) (p c (omega (arith, f)), rest) rest
 
-  pub entries_placed : (read : ℕ → Value) → ((i : ℕ) → i ≤ m → Placed (UpTo m) (read i)) → (kind h k c : ℕ) → (0 < k → c + k ≤ m) → PlacedEntries (UpTo m) (entriesFrom text d read kind h k c)
-  unfolding Placed entriesFrom
+  pub entries_placed : (read : ℕ → Value) → ((i : ℕ) → i ≤ m → Placed (UpTo m) (read i)) → (kind h k c : ℕ) → (0 < k → c + k ≤ m) → PlacedEntries (UpTo m) (entries_from text d read kind h k c)
+  unfolding Placed entries_from
   entries_placed read p kind h zero c q = tt
   entries_placed read p kind h (suc k) c q =
       let f : c + suc k ≤ m = q (omega arith) in
       let rest = entries_placed read p kind h k (c + 1) (λ z. omega (arith, f)) in
-      entries_if m (eqb (parent_of d c) h && eqb (kind_of d c) kind) (entry (placed text d c) (name_of d c) (read (c + 1)) (entriesFrom text d read kind h k (c + 1))) (entriesFrom text d read kind h k (c + 1))
+      entries_if m (eqb (parent_of d c) h && eqb (kind_of d c) kind) (entry (placed text d c) (name_of d c) (read (c + 1)) (entries_from text d read kind h k (c + 1))) (entries_from text d read kind h k (c + 1))
       (omega (arith, f), p (c + 1) (omega (arith, f)), rest) rest
 
-  by_placed : (read : ℕ → Value) → ((i : ℕ) → i ≤ m → Placed (UpTo m) (read i)) → (i : ℕ) → i ≤ m → Placed (UpTo m) (valueBy text d read i)
-  unfolding Placed valueBy
+  by_placed : (read : ℕ → Value) → ((i : ℕ) → i ≤ m → Placed (UpTo m) (read i)) → (i : ℕ) → i ≤ m → Placed (UpTo m) (value_by text d read i)
+  unfolding Placed value_by
   by_placed read p i q =
       value_if m (eqb (kind_of d i) kind_variable) _ _ q
       (value_if m (eqb (kind_of d i) kind_integer) _ _ q

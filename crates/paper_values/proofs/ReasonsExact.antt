@@ -13,7 +13,7 @@ use Rattle.paper_values.specs.Values.{Name, At, Value, variable, integer, float,
 use Rattle.paper_values.specs.Kinds.{Kind, Int, Float, String, Boolean, ID, Own, Other, Enum, Input}
 use Rattle.paper_values.specs.Computed.{null_at, held, coerce, coerce_all}
 use Rattle.paper_values.specs.Coercion.{heads, repeated_entry, unknown_entry}
-use Rattle.paper_values.specs.CoercionRules.{plain_value, single_value, as_input, valueFor, Coerces, at_non_null, list_of_one, no_object, entry_repeated, entry_unknown, an_object, InFields, no_fields, required_missing, left_out, field_refused, field_got}
+use Rattle.paper_values.specs.CoercionRules.{plain_value, single_value, as_input, value_for, Coerces, at_non_null, list_of_one, no_object, entry_repeated, entry_unknown, an_object, InFields, no_fields, required_missing, by_left_out, field_refused, field_got}
 use Rattle.paper_values.proofs.CoercionExact.{coerces_is, coerces_has}
 use Rattle.paper_values.proofs.PlacesLaws.{Kept, Placed, value_kept}
 use Rattle.paper_values.proofs.ReasonTables.{takes, outside, no_member, no_text, place_of, why, true≢false, AtOwn, Cell, wrong_kind, inside, Judged, kind_told, range_told, enum_told, surrogate_told, integer_cell, float_cell, string_cell, boolean_cell, enum_cell}
@@ -22,7 +22,7 @@ use Rattle.paper_values.proofs.ReasonTables.{takes, outside, no_member, no_text,
 
 -- no place inside the values of an object's entries is e
 abbrev pub Apart : (Name → Kind) → (Name → Option Tree) → At → Entries → Type 0
-Apart kinds vars e es = (n : Name) (v : Value) → valueFor kinds vars n es ≡ some v → Placed (λ j. j ≡ e → ⊥) v
+Apart kinds vars e es = (n : Name) (v : Value) → value_for kinds vars n es ≡ some v → Placed (λ j. j ≡ e → ⊥) v
 
 -- nor is the object's own, where the value is one
 abbrev pub ApartInside : (Name → Kind) → (Name → Option Tree) → Value → Type 0
@@ -52,9 +52,9 @@ as_null (some (Token s)) = false
 module _ (kinds : Name → Kind) (vars : Name → Option Tree) where
   -- the first of those due that fails is a Non-Null without an entry: those before it are coerced, or may be left out
   pub data Lacks (es : Entries) : List Due → Type 0 where
-    lacking : {d : Due} {ds : List Due} → valueFor kinds vars d.name es ≡ none → is_non_null d.type ≡ true → Lacks es (d ∷ ds)
-    after_left_out : {d : Due} {ds : List Due} → valueFor kinds vars d.name es ≡ none → is_non_null d.type ≡ false → Lacks es ds → Lacks es (d ∷ ds)
-    after_got : {d : Due} {ds : List Due} {t : Tree} (v : Value) → valueFor kinds vars d.name es ≡ some v → Coerces kinds vars v d.type (Got t) → Lacks es ds → Lacks es (d ∷ ds)
+    lacking : {d : Due} {ds : List Due} → value_for kinds vars d.name es ≡ none → is_non_null d.type ≡ true → Lacks es (d ∷ ds)
+    after_left_out : {d : Due} {ds : List Due} → value_for kinds vars d.name es ≡ none → is_non_null d.type ≡ false → Lacks es ds → Lacks es (d ∷ ds)
+    after_got : {d : Due} {ds : List Due} {t : Tree} (v : Value) → value_for kinds vars d.name es ≡ some v → Coerces kinds vars v d.type (Got t) → Lacks es ds → Lacks es (d ∷ ds)
 
   -- a refusal inside an object, at a place apart from its entries' values, is the object's for a field that is missing
   abbrev Outer : At → At → Entries → List Due → Out Pairs → Type 0
@@ -64,19 +64,19 @@ module _ (kinds : Name → Kind) (vars : Name → Option Tree) where
   pub refused_inside : (e : At) {j : At} {v : Value} {r : Ref} {w : ℕ} → Placed (λ k. k ≡ e → ⊥) v → Coerces kinds vars v r (No j w) → j ≡ e → ⊥
   refused_inside e {v = v} {r} p c = subst (λ (o : Out Tree). Kept (λ k. k ≡ e → ⊥) o) (coerces_is kinds vars c) (value_kept (λ k. k ≡ e → ⊥) kinds vars v p r)
 
-  outer_pair : (e i : At) (es : Entries) (d : Due) (ds : List Due) {t : Tree} (v : Value) (o : Out Pairs) → valueFor kinds vars d.name es ≡ some v → Coerces kinds vars v d.type (Got t)
+  outer_pair : (e i : At) (es : Entries) (d : Due) (ds : List Due) {t : Tree} (v : Value) (o : Out Pairs) → value_for kinds vars d.name es ≡ some v → Coerces kinds vars v d.type (Got t)
       → Outer e i es ds o → Outer e i es (d ∷ ds) (and_then o (λ ps. Got (pair d.name t ps)))
   outer_pair e i es d ds v (Got ps) q c h = tt
   outer_pair e i es d ds v (No j w) q c h = λ z. ((h z).0, (h z).1, after_got v q c (h z).2)
 
-  outer_later : (e i : At) (es : Entries) (d : Due) (ds : List Due) (o : Out Pairs) → valueFor kinds vars d.name es ≡ none → is_non_null d.type ≡ false → Outer e i es ds o → Outer e i es (d ∷ ds) o
+  outer_later : (e i : At) (es : Entries) (d : Due) (ds : List Due) (o : Out Pairs) → value_for kinds vars d.name es ≡ none → is_non_null d.type ≡ false → Outer e i es ds o → Outer e i es (d ∷ ds) o
   outer_later e i es d ds (Got ps) q l h = tt
   outer_later e i es d ds (No j w) q l h = λ z. ((h z).0, (h z).1, after_left_out q l (h z).2)
 
   outer : (e : At) {i : At} {es : Entries} {ds : List Due} {o : Out Pairs} → Apart kinds vars e es → InFields kinds vars i es ds o → Outer e i es ds o
   outer e h no_fields = tt
   outer e h (required_missing q l) = λ z. (refl, refl, lacking q l)
-  outer e h (left_out {i} {es} {d} {ds} {o} q l c) = outer_later e i es d ds o q l (outer e h c)
+  outer e h (by_left_out {i} {es} {d} {ds} {o} q l c) = outer_later e i es d ds o q l (outer e h c)
   outer e h (field_refused {d = d} v q c) = λ z. absurd (refused_inside e (h d.name v q) c z)
   outer e h (field_got {i} {es} {d} {ds} {o = o} v q c f g) = subst (λ (p : Out Pairs). Outer e i es (d ∷ ds) p) g (outer_pair e i es d ds v o q c (outer e h f))
 
@@ -115,7 +115,7 @@ module _ (kinds : Name → Kind) (vars : Name → Option Tree) where
   -- 3, where the object stands; 5 and 6, where an entry stands
   lacks_refused : {es : Entries} {ds : List Due} (i : At) → Lacks es ds → InFields kinds vars i es ds (No i reason_missing)
   lacks_refused i (lacking q l) = required_missing q l
-  lacks_refused i (after_left_out q l h) = left_out q l (lacks_refused i h)
+  lacks_refused i (after_left_out q l h) = by_left_out q l (lacks_refused i h)
   lacks_refused i (after_got v q c h) = field_got v q c (lacks_refused i h) refl
 
   abbrev Missing : Entries → Name → Type 0

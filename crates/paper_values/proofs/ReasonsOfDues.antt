@@ -12,8 +12,8 @@ use Rattle.paper_values.specs.ValueNumbers.{reason_missing, reason_unknown, reas
 use Rattle.paper_values.specs.Values.{Name, At, Value, Entries, Due, Tree, Pairs, pair, Out, Got, No, and_then}
 use Rattle.paper_values.specs.Kinds.{Kind}
 use Rattle.paper_values.specs.Coercion.{heads, repeated_entry, unknown_entry, value_in}
-use Rattle.paper_values.specs.Computed.{variables_of, argumentsOf}
-use Rattle.paper_values.specs.CoercionRules.{valueFor, Coerces}
+use Rattle.paper_values.specs.Computed.{variables_of, arguments_of}
+use Rattle.paper_values.specs.CoercionRules.{value_for, Coerces}
 use Rattle.paper_values.specs.CallRules.{no_variables, InDues, no_dues, given_refused, given_got, default_refused, default_got, due_missing, due_left_out, CoercesVariables, name_repeated_is, in_order, CoercesArguments, variables_refused, argument_repeated, argument_unknown, arguments}
 use Rattle.paper_values.proofs.PlacesLaws.{PlacedIf}
 use Rattle.paper_values.proofs.CallsExact.{duly, variables_is, variables_have, arguments_is, arguments_have}
@@ -31,12 +31,12 @@ why_pairs (No i w) = w
 module _ (kinds : Name → Kind) where
   -- the first of those due that fails has the place i, is Non-Null and has neither an entry nor a default: those before it are coerced, or may be left out
   pub data LacksDue (vars : Name → Option Tree) (es : Entries) (i : At) : List (At × Due) → Type 0 where
-    due_lacking : {d : Due} {ds : List (At × Due)} → valueFor kinds vars d.name es ≡ none → d.default ≡ none → is_non_null d.type ≡ true → LacksDue vars es i ((i, d) ∷ ds)
-    after_given : {j : At} {d : Due} {ds : List (At × Due)} {t : Tree} (v : Value) → valueFor kinds vars d.name es ≡ some v → Coerces kinds vars v d.type (Got t) →
+    due_lacking : {d : Due} {ds : List (At × Due)} → value_for kinds vars d.name es ≡ none → d.default ≡ none → is_non_null d.type ≡ true → LacksDue vars es i ((i, d) ∷ ds)
+    after_given : {j : At} {d : Due} {ds : List (At × Due)} {t : Tree} (v : Value) → value_for kinds vars d.name es ≡ some v → Coerces kinds vars v d.type (Got t) →
         LacksDue vars es i ds → LacksDue vars es i ((j, d) ∷ ds)
-    after_default : {j : At} {d : Due} {ds : List (At × Due)} {t : Tree} (v : Value) → valueFor kinds vars d.name es ≡ none → d.default ≡ some v → Coerces kinds no_variables v d.type (Got t) →
+    after_default : {j : At} {d : Due} {ds : List (At × Due)} {t : Tree} (v : Value) → value_for kinds vars d.name es ≡ none → d.default ≡ some v → Coerces kinds no_variables v d.type (Got t) →
         LacksDue vars es i ds → LacksDue vars es i ((j, d) ∷ ds)
-    after_nothing : {j : At} {d : Due} {ds : List (At × Due)} → valueFor kinds vars d.name es ≡ none → d.default ≡ none → is_non_null d.type ≡ false →
+    after_nothing : {j : At} {d : Due} {ds : List (At × Due)} → value_for kinds vars d.name es ≡ none → d.default ≡ none → is_non_null d.type ≡ false →
         LacksDue vars es i ds → LacksDue vars es i ((j, d) ∷ ds)
 
   -- a refusal at a place apart from values and defaults is one for what is missing
@@ -152,7 +152,7 @@ module _ (kinds : Name → Kind) where
     repeated_in (for_missing q x m) z = absurd (omega (arith, z))
 
     pub missing_of_a_field : (i : At) (es : Entries) (ds : List Due) → Apart kinds (value_in ps) i es → ApartDefaults i (duly kinds ds i) →
-        (argumentsOf kinds given vs i es ds ≡ No i reason_missing)
+        (arguments_of kinds given vs i es ds ≡ No i reason_missing)
         ↔ ((repeated_entry [] (heads es) ≡ none) × (unknown_entry ds (heads es) ≡ none) × LacksDue (value_in ps) es i (duly kinds ds i))
     missing_of_a_field i es ds h a = (
       λ q. missing_in (field_from i reason_missing h a (arguments_have kinds given vs i es ds) q) refl,
@@ -160,14 +160,14 @@ module _ (kinds : Name → Kind) where
     )
 
     pub unknown_of_a_field : (i : At) (es : Entries) (ds : List Due) (e : At) → Apart kinds (value_in ps) e es → ApartDefaults e (duly kinds ds i) →
-        (argumentsOf kinds given vs i es ds ≡ No e reason_unknown) ↔ ((repeated_entry [] (heads es) ≡ none) × (unknown_entry ds (heads es) ≡ some e))
+        (arguments_of kinds given vs i es ds ≡ No e reason_unknown) ↔ ((repeated_entry [] (heads es) ≡ none) × (unknown_entry ds (heads es) ≡ some e))
     unknown_of_a_field i es ds e h a = (
       λ q. unknown_in (field_from e reason_unknown h a (arguments_have kinds given vs i es ds) q) refl,
       λ m. arguments_is kinds {given = given} {vs = vs} {i = i} {es = es} {ds = ds} (to_field (for_unknown m.0 m.1)),
     )
 
     pub repeated_of_a_field : (i : At) (es : Entries) (ds : List Due) (e : At) → Apart kinds (value_in ps) e es → ApartDefaults e (duly kinds ds i) →
-        (argumentsOf kinds given vs i es ds ≡ No e reason_repeated) ↔ (repeated_entry [] (heads es) ≡ some e)
+        (arguments_of kinds given vs i es ds ≡ No e reason_repeated) ↔ (repeated_entry [] (heads es) ≡ some e)
     repeated_of_a_field i es ds e h a = (
       λ q. repeated_in (field_from e reason_repeated h a (arguments_have kinds given vs i es ds) q) refl,
       λ m. arguments_is kinds {given = given} {vs = vs} {i = i} {es = es} {ds = ds} (to_field (for_repeated m)),

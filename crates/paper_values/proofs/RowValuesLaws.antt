@@ -11,29 +11,29 @@ use Rattle.paper_query.specs.Constructs.{Doc, kind_of, parent_of, name_of}
 use Rattle.paper_query.specs.PlaceTypes.{wrappers_of}
 use Rattle.paper_values.specs.Characters.{utf8, unicode_escape, escape, written, characters_from, characters_of}
 use Rattle.paper_values.specs.Values.{Value, integer, string, list, object, no_values, item, no_entries, entry}
-use Rattle.paper_values.specs.RowValues.{ref_of_wrappers, placed, itemsFrom, entriesFrom, valueBy, value_at, arguments_at}
+use Rattle.paper_values.specs.RowValues.{ref_of_wrappers, placed, items_from, entries_from, value_by, value_at, arguments_at}
 use mathlib.Core.Option.{some}
 
 module _ (text : ℕ) (d : Doc) (read : ℕ → Value) (h m c : ℕ) where
-  pub items_more : parent_of d c ≡ h → itemsFrom text d read h (suc m) c ≡ item (read c) (itemsFrom text d read h m (c + 1))
-  unfolding itemsFrom
+  pub items_more : parent_of d c ≡ h → items_from text d read h (suc m) c ≡ item (read c) (items_from text d read h m (c + 1))
+  unfolding items_from
   items_more q = rw (eq-eqb (parent_of d c) h q) refl
 
-  pub items_other : (parent_of d c ≡ h → ⊥) → itemsFrom text d read h (suc m) c ≡ itemsFrom text d read h m (c + 1)
-  unfolding itemsFrom
+  pub items_other : (parent_of d c ≡ h → ⊥) → items_from text d read h (suc m) c ≡ items_from text d read h m (c + 1)
+  unfolding items_from
   items_other q = rw (ne_eqb (parent_of d c) h q) refl
 
   pub entries_more : (k : ℕ) → parent_of d c ≡ h → kind_of d c ≡ k →
-      entriesFrom text d read k h (suc m) c ≡ entry (placed text d c) (name_of d c) (read (c + 1)) (entriesFrom text d read k h m (c + 1))
-  unfolding entriesFrom
+      entries_from text d read k h (suc m) c ≡ entry (placed text d c) (name_of d c) (read (c + 1)) (entries_from text d read k h m (c + 1))
+  unfolding entries_from
   entries_more k q r = rw (eq-eqb (parent_of d c) h q, eq-eqb (kind_of d c) k r) refl
 
-  pub entries_other : (k : ℕ) → (parent_of d c ≡ h → ⊥) → entriesFrom text d read k h (suc m) c ≡ entriesFrom text d read k h m (c + 1)
-  unfolding entriesFrom
+  pub entries_other : (k : ℕ) → (parent_of d c ≡ h → ⊥) → entries_from text d read k h (suc m) c ≡ entries_from text d read k h m (c + 1)
+  unfolding entries_from
   entries_other k q = rw (ne_eqb (parent_of d c) h q) refl
 
-  pub entries_another : (k : ℕ) → parent_of d c ≡ h → (kind_of d c ≡ k → ⊥) → entriesFrom text d read k h (suc m) c ≡ entriesFrom text d read k h m (c + 1)
-  unfolding entriesFrom
+  pub entries_another : (k : ℕ) → parent_of d c ≡ h → (kind_of d c ≡ k → ⊥) → entries_from text d read k h (suc m) c ≡ entries_from text d read k h m (c + 1)
+  unfolding entries_from
   entries_another k q r = rw (eq-eqb (parent_of d c) h q, ne_eqb (kind_of d c) k r) refl
 
 -- how many wrappers a type has
@@ -77,5 +77,5 @@ pub sample_arguments :
     arguments_at 0 sample 1 ≡
     entry (placed 0 sample 2) (bytes "i") (object (placed 0 sample 3) (entry (placed 0 sample 4) (bytes "n") (integer (placed 0 sample 5) (bytes "1")) no_entries))
     (entry (placed 0 sample 6) (bytes "k") (list (placed 0 sample 7) (item (string (placed 0 sample 8) (0x22 ∷ 97 ∷ 0x22 ∷ []) (some (bytes "a"))) no_values)) no_entries)
-unfolding itemsFrom entriesFrom valueBy value_at utf8 unicode_escape escape written characters_from characters_of
+unfolding items_from entries_from value_by value_at utf8 unicode_escape escape written characters_from characters_of
 sample_arguments = refl

@@ -14,9 +14,9 @@ use Rattle.paper_query.specs.Constructs.{Doc, count, kind_of, parent_of, name_of
 use Rattle.paper_query.specs.Enclosing.{FieldIs, typename, member, missing, unknown}
 use Rattle.paper_values.specs.Values.{Name, At, Value, Values, item, Entries, no_entries, entry, Tree}
 use Rattle.paper_values.specs.Kinds.{Kind, due_argument}
-use Rattle.paper_values.specs.Coercion.{leftOut}
-use Rattle.paper_values.specs.CoercionRules.{valueFor}
-use Rattle.paper_values.specs.RowValues.{placed, itemsFrom, entriesFrom, valueBy, value_at, arguments_at}
+use Rattle.paper_values.specs.Coercion.{left_out}
+use Rattle.paper_values.specs.CoercionRules.{value_for}
+use Rattle.paper_values.specs.RowValues.{placed, items_from, entries_from, value_by, value_at, arguments_at}
 use Rattle.paper_values.specs.DocumentDues.{given_in, argument_dues}
 use Rattle.paper_values.proofs.PlacesLaws.{Placed, PlacedAll, PlacedEntries}
 use Rattle.paper_values.proofs.CallsExact.{duly}
@@ -46,29 +46,29 @@ module _ (P : At → Type 0) where
     found_if true false v w m p h q = let e : w ≡ v = cc in subst (Placed P) e p
     found_if false c v w m p h q = h q
 
-    entry_placed : (es : Entries) → PlacedEntries P es → (n : Name) (v : Value) → valueFor kinds vars n es ≡ some v → Placed P v
+    entry_placed : (es : Entries) → PlacedEntries P es → (n : Name) (v : Value) → value_for kinds vars n es ≡ some v → Placed P v
     unfolding Placed
     entry_placed no_entries p n v q = absurd (none≢some q)
-    entry_placed (entry i m w es) p n v q = found_if (same n m) (leftOut kinds vars w) v w (valueFor kinds vars n es) p.1 (λ z. entry_placed es p.2 n v z) q
+    entry_placed (entry i m w es) p n v q = found_if (same n m) (left_out kinds vars w) v w (value_for kinds vars n es) p.1 (λ z. entry_placed es p.2 n v z) q
 
   module _ (text : ℕ) (d : Doc) (i : ℕ) (later : (c : ℕ) → i < c → P (placed text d c)) where
-    items_later : (read : ℕ → Value) → ((c : ℕ) → i < c → Placed P (read c)) → (h k c : ℕ) → i < c → PlacedAll P (itemsFrom text d read h k c)
-    unfolding Placed itemsFrom
+    items_later : (read : ℕ → Value) → ((c : ℕ) → i < c → Placed P (read c)) → (h k c : ℕ) → i < c → PlacedAll P (items_from text d read h k c)
+    unfolding Placed items_from
     items_later read p h zero c l = tt
     items_later read p h (suc k) c l =
         let rest = items_later read p h k (c + 1) (omega arith) in
-        items_if (eqb (parent_of d c) h) (item (read c) (itemsFrom text d read h k (c + 1))) (itemsFrom text d read h k (c + 1)) (p c l, rest) rest
+        items_if (eqb (parent_of d c) h) (item (read c) (items_from text d read h k (c + 1))) (items_from text d read h k (c + 1)) (p c l, rest) rest
 
-    entries_later : (read : ℕ → Value) → ((c : ℕ) → i < c → Placed P (read c)) → (kind h k c : ℕ) → i < c → PlacedEntries P (entriesFrom text d read kind h k c)
-    unfolding Placed entriesFrom
+    entries_later : (read : ℕ → Value) → ((c : ℕ) → i < c → Placed P (read c)) → (kind h k c : ℕ) → i < c → PlacedEntries P (entries_from text d read kind h k c)
+    unfolding Placed entries_from
     entries_later read p kind h zero c l = tt
     entries_later read p kind h (suc k) c l =
         let rest = entries_later read p kind h k (c + 1) (omega arith) in
-        entries_if (eqb (parent_of d c) h && eqb (kind_of d c) kind) (entry (placed text d c) (name_of d c) (read (c + 1)) (entriesFrom text d read kind h k (c + 1))) (entriesFrom text d read kind h k (c + 1))
+        entries_if (eqb (parent_of d c) h && eqb (kind_of d c) kind) (entry (placed text d c) (name_of d c) (read (c + 1)) (entries_from text d read kind h k (c + 1))) (entries_from text d read kind h k (c + 1))
         (later c l, p (c + 1) (omega arith), rest) rest
 
-    by_later : (read : ℕ → Value) → ((c : ℕ) → i < c → Placed P (read c)) → (c : ℕ) → i < c → Placed P (valueBy text d read c)
-    unfolding Placed valueBy
+    by_later : (read : ℕ → Value) → ((c : ℕ) → i < c → Placed P (read c)) → (c : ℕ) → i < c → Placed P (value_by text d read c)
+    unfolding Placed value_by
     by_later read p c l =
         value_if (eqb (kind_of d c) kind_variable) _ _ (later c l)
         (value_if (eqb (kind_of d c) kind_integer) _ _ (later c l)
@@ -94,13 +94,13 @@ module _ (kinds : Name → Kind) (vars : Name → Option Tree) (text : ℕ) (d :
   other_row : (i c : ℕ) → i < c → placed text d c ≡ placed text d i → ⊥
   other_row i c l q = let e = ap (λ (j : At). j.row) q in omega (arith, e)
 
-  entries_apart : (kind k i c n : ℕ) → i < c → Apart kinds vars (placed text d i) (entriesFrom text d (value_at text d k) kind i n c)
+  entries_apart : (kind k i c n : ℕ) → i < c → Apart kinds vars (placed text d i) (entries_from text d (value_at text d k) kind i n c)
   entries_apart kind k i c n l =
       entry_placed (λ j. j ≡ placed text d i → ⊥) kinds vars _
       (entries_later (λ j. j ≡ placed text d i → ⊥) text d i (other_row i) (value_at text d k) (value_later (λ j. j ≡ placed text d i → ⊥) text d i (other_row i) k) kind i n c l)
 
   pub row_apart : (k i : ℕ) → ApartInside kinds vars (value_at text d k i)
-  unfolding value_at valueBy
+  unfolding value_at value_by
   row_apart zero i = tt
   row_apart (suc k) i =
       apart_if (eqb (kind_of d i) kind_variable) _ _ tt

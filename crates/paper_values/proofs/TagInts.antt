@@ -15,8 +15,8 @@ use Rattle.paper_values.specs.NumberTokens.{int_of, float_content}
 use Rattle.paper_values.specs.Signed.{Signed, number_written, number_held}
 use Rattle.paper_values.specs.Values.{Name, At, Value, variable, integer, float, string, boolean, null, enum, list, object, Values, no_values, item, Entries, no_entries, entry, Due, Tree, Null, Bits, Decimal, Text, Truth, Member, Many, Fields, Token, Trees, no_more, also, Pairs, no_pairs, pair, Out, Got, No, and_then}
 use Rattle.paper_values.specs.Kinds.{Kind, Int, Float, String, Boolean, ID, Own, Other, Enum, Input}
-use Rattle.paper_values.specs.Coercion.{in_range, text_at, by_type, integer_at, float_at, string_at, boolean_at, enum_at, leftOut, value_in}
-use Rattle.paper_values.specs.CoercionRules.{plain_value, valueFor, Coerces, null_kept, null_refused, absent_variable, null_variable, held_variable, at_non_null, a_list, list_of_one, no_list, an_integer, a_float, a_string, a_boolean, an_enum, no_object, entry_repeated, entry_unknown, an_object, Items, no_items, item_refused, item_got, InFields, no_fields, required_missing, left_out, field_refused, field_got}
+use Rattle.paper_values.specs.Coercion.{in_range, text_at, by_type, integer_at, float_at, string_at, boolean_at, enum_at, left_out, value_in}
+use Rattle.paper_values.specs.CoercionRules.{plain_value, value_for, Coerces, null_kept, null_refused, absent_variable, null_variable, held_variable, at_non_null, a_list, list_of_one, no_list, an_integer, a_float, a_string, a_boolean, an_enum, no_object, entry_repeated, entry_unknown, an_object, Items, no_items, item_refused, item_got, InFields, no_fields, required_missing, by_left_out, field_refused, field_got}
 use Rattle.paper_values.specs.CallRules.{no_variables, InDues, no_dues, given_refused, given_got, default_refused, default_got, due_missing, due_left_out, CoercesVariables, name_repeated_is, in_order, CoercesArguments, variables_refused, argument_repeated, argument_unknown, arguments}
 use Rattle.paper_values.specs.Computed.{coerce}
 use Rattle.paper_values.specs.Encoding.{encode}
@@ -147,10 +147,10 @@ module _ (Q : List ℕ → Type 0) where
     found_if true false v w m p h q = let e : w ≡ v = cc in subst Tokens e p
     found_if false c v w m p h q = h q
 
-    entry_tokens : (es : Entries) → TokensEntry es → (n : Name) (v : Value) → valueFor kinds vars n es ≡ some v → Tokens v
+    entry_tokens : (es : Entries) → TokensEntry es → (n : Name) (v : Value) → value_for kinds vars n es ≡ some v → Tokens v
     unfolding Tokens
     entry_tokens no_entries p n v q = let z : ◌≡◌ {A = ℕ} 0 1 = cc in absurd (omega (arith, z))
-    entry_tokens (entry i m w es) p n v q = found_if (same n m) (leftOut kinds vars w) v w (valueFor kinds vars n es) p.0 (λ z. entry_tokens es p.1 n v z) q
+    entry_tokens (entry i m w es) p n v q = found_if (same n m) (left_out kinds vars w) v w (value_for kinds vars n es) p.0 (λ z. entry_tokens es p.1 n v z) q
 
 -- ---- the Ints of a result by the rules
 
@@ -284,7 +284,7 @@ module _ (P : ℕ → Type 0) (kinds : Name → Kind) where
       field_ints : {i : At} {es : Entries} {ds : List Due} {o : Out Pairs} → InFields kinds vars i es ds o → TokensEntry Read es → GotPairs o
       field_ints no_fields h = tt
       field_ints (required_missing q l) h = tt
-      field_ints (left_out q l c) h = field_ints c h
+      field_ints (by_left_out q l c) h = field_ints c h
       field_ints (field_refused v q c) h = tt
       field_ints (field_got {es = es} {d} {t = t} {o} v q c f e) h = subst GotPairs e (pair_ints d.name t o (ints c (entry_tokens Read kinds vars es h d.name v q)) (field_ints f h))
 

@@ -16,8 +16,8 @@ use Rattle.paper_table.specs.Types.{built_ins, meaning}
 use Rattle.paper_values.specs.NumberTokens.{value_from, int_of}
 use Rattle.paper_values.specs.Values.{Name, At, Value, variable, integer, boolean, Values, no_values, item, Entries, no_entries, entry, Due, Tree, Null, Bits, Trees, no_more, also, Pairs, no_pairs, pair, Out, Got, No, and_then}
 use Rattle.paper_values.specs.Kinds.{Kind, kind_of_type}
-use Rattle.paper_values.specs.Computed.{Given, missing_due, entry_of, due_field, due_fields, coerce, coerce_all, givens, constant, orDefault, variablesFrom}
-use Rattle.paper_values.specs.Coercion.{Head, repeated_entry, heads, leftOut}
+use Rattle.paper_values.specs.Computed.{Given, missing_due, entry_of, due_field, due_fields, coerce, coerce_all, givens, constant, or_default, variables_from}
+use Rattle.paper_values.specs.Coercion.{Head, repeated_entry, heads, left_out}
 
 abbrev int : Ref
 int = named (bytes "Int")
@@ -99,7 +99,7 @@ least_differs h = let z : ◌≡◌ {A = ℕ} 2 4 = ap row_told (h given dues) i
 -- `coerce_all`, but that an absent variable leaves its item out
 abbrev pub items_left : Values → Ref → Out Trees
 items_left no_values r = Got no_more
-items_left (item v vs) r = cond (leftOut kinds unset v) (items_left vs r) (and_then (coerce kinds unset v r) (λ t. and_then (items_left vs r) (λ ts. Got (also t ts))))
+items_left (item v vs) r = cond (left_out kinds unset v) (items_left vs r) (and_then (coerce kinds unset v r) (λ t. and_then (items_left vs r) (λ ts. Got (also t ts))))
 
 -- `[$v]` at [Int], where $v is absent: null stands there
 abbrev items : Values
@@ -147,12 +147,12 @@ abbrev judged : Ref → Option Value → Out Tree
 judged r none = Got Null
 judged r (some v) = constant kinds v r
 
--- `variablesFrom`, but that a default is judged also where an entry is given
+-- `variables_from`, but that a default is judged also where an entry is given
 abbrev pub defaults_judged : List Given → List (At × Due) → Out Pairs
 defaults_judged gs [] = Got no_pairs
 defaults_judged gs (v ∷ vs) =
     and_then (judged v.1.type v.1.default) (λ t.
-    due_field (orDefault kinds v.0 v.1 v.1.default (defaults_judged gs vs)) v.1 (entry_of v.1.name gs) (defaults_judged gs vs))
+    due_field (or_default kinds v.0 v.1 v.1.default (defaults_judged gs vs)) v.1 (entry_of v.1.name gs) (defaults_judged gs vs))
 
 -- `$v: Int = true`, given `{v: 1}`: v is 1
 abbrev one : Entries
@@ -162,10 +162,10 @@ abbrev wrong_default : List (At × Due)
 wrong_default = (here 1, record { name = bytes "v"; type = int; default = some (boolean (here 3) true) }) ∷ []
 
 pub default_passed_over :
-    variablesFrom kinds (givens kinds unset one) wrong_default ∷ defaults_judged (givens kinds unset one) wrong_default ∷ [] ≡ Got (pair (bytes "v") (Bits 1) no_pairs) ∷ No (here 3) 1 ∷ []
+    variables_from kinds (givens kinds unset one) wrong_default ∷ defaults_judged (givens kinds unset one) wrong_default ∷ [] ≡ Got (pair (bytes "v") (Bits 1) no_pairs) ∷ No (here 3) 1 ∷ []
 unfolding coerce kind_of_type built_ins meaning any_of first_at gather int_of value_from
 default_passed_over = refl
 
-pub judging_differs : ((gs : List Given) (vs : List (At × Due)) → defaults_judged gs vs ≡ variablesFrom kinds gs vs) → ⊥
+pub judging_differs : ((gs : List Given) (vs : List (At × Due)) → defaults_judged gs vs ≡ variables_from kinds gs vs) → ⊥
 unfolding coerce kind_of_type built_ins meaning any_of first_at gather int_of value_from
 judging_differs h = let z : ◌≡◌ {A = ℕ} 3 0 = ap row_told (h (givens kinds unset one) wrong_default) in omega (arith, z)

@@ -10,7 +10,7 @@ use Rattle.paper_values.specs.ValueNumbers.{reason_missing, reason_unknown, reas
 use Rattle.paper_values.specs.Values.{Name, At, Value, Entries, Due, Tree, Fields, Pairs, no_pairs, pair, Out, Got, No, and_then}
 use Rattle.paper_values.specs.Kinds.{Kind}
 use Rattle.paper_values.specs.Coercion.{heads, repeated_entry, unknown_entry, value_in}
-use Rattle.paper_values.specs.CoercionRules.{valueFor, Coerces}
+use Rattle.paper_values.specs.CoercionRules.{value_for, Coerces}
 
 -- no variable has a value: so constants are coerced
 abbrev pub no_variables : Name → Option Tree
@@ -20,17 +20,17 @@ module _ (kinds : Name → Kind) where
   -- What is due, in definition order, each with the place that is told where it is missing: its entry's value; else its default; else nothing.
   pub data InDues (vars : Name → Option Tree) (es : Entries) : List (At × Due) → Out Pairs → Type 0 where
     no_dues : InDues vars es [] (Got no_pairs)
-    given_refused : {i j : At} {d : Due} {ds : List (At × Due)} {w : ℕ} (v : Value) → valueFor kinds vars d.name es ≡ some v →
+    given_refused : {i j : At} {d : Due} {ds : List (At × Due)} {w : ℕ} (v : Value) → value_for kinds vars d.name es ≡ some v →
         Coerces kinds vars v d.type (No j w) → InDues vars es ((i, d) ∷ ds) (No j w)
-    given_got : {i : At} {d : Due} {ds : List (At × Due)} {t : Tree} {o p : Out Pairs} (v : Value) → valueFor kinds vars d.name es ≡ some v →
+    given_got : {i : At} {d : Due} {ds : List (At × Due)} {t : Tree} {o p : Out Pairs} (v : Value) → value_for kinds vars d.name es ≡ some v →
         Coerces kinds vars v d.type (Got t) → InDues vars es ds o → and_then o (λ ps. Got (pair d.name t ps)) ≡ p → InDues vars es ((i, d) ∷ ds) p
-    default_refused : {i j : At} {d : Due} {ds : List (At × Due)} {w : ℕ} (v : Value) → valueFor kinds vars d.name es ≡ none → d.default ≡ some v →
+    default_refused : {i j : At} {d : Due} {ds : List (At × Due)} {w : ℕ} (v : Value) → value_for kinds vars d.name es ≡ none → d.default ≡ some v →
         Coerces kinds no_variables v d.type (No j w) → InDues vars es ((i, d) ∷ ds) (No j w)
-    default_got : {i : At} {d : Due} {ds : List (At × Due)} {t : Tree} {o p : Out Pairs} (v : Value) → valueFor kinds vars d.name es ≡ none → d.default ≡ some v →
+    default_got : {i : At} {d : Due} {ds : List (At × Due)} {t : Tree} {o p : Out Pairs} (v : Value) → value_for kinds vars d.name es ≡ none → d.default ≡ some v →
         Coerces kinds no_variables v d.type (Got t) → InDues vars es ds o → and_then o (λ ps. Got (pair d.name t ps)) ≡ p → InDues vars es ((i, d) ∷ ds) p
-    due_missing : {i : At} {d : Due} {ds : List (At × Due)} → valueFor kinds vars d.name es ≡ none → d.default ≡ none →
+    due_missing : {i : At} {d : Due} {ds : List (At × Due)} → value_for kinds vars d.name es ≡ none → d.default ≡ none →
         is_non_null d.type ≡ true → InDues vars es ((i, d) ∷ ds) (No i reason_missing)
-    due_left_out : {i : At} {d : Due} {ds : List (At × Due)} {o : Out Pairs} → valueFor kinds vars d.name es ≡ none → d.default ≡ none →
+    due_left_out : {i : At} {d : Due} {ds : List (At × Due)} {o : Out Pairs} → value_for kinds vars d.name es ≡ none → d.default ≡ none →
         is_non_null d.type ≡ false → InDues vars es ds o → InDues vars es ((i, d) ∷ ds) o
 
   -- an operation's variables vs, from the entries es of the variables text: a repeated name before all else; other names are passed over

@@ -8,7 +8,7 @@ use Rattle.paper_table.specs.References.{Ref, named, list_of, non_null, is_non_n
 use Rattle.paper_values.specs.ValueNumbers.{reason_missing, reason_null, reason_unknown, reason_repeated}
 use Rattle.paper_values.specs.Values.{Name, At, Value, variable, integer, float, string, boolean, null, enum, list, object, Values, no_values, item, Entries, no_entries, entry, Due, Tree, Null, Bits, Decimal, Text, Truth, Member, Many, Fields, Token, Trees, no_more, also, Pairs, no_pairs, pair, Out, Got, No, and_then}
 use Rattle.paper_values.specs.Kinds.{Kind}
-use Rattle.paper_values.specs.Coercion.{by_type, wrong_kind, integer_at, float_at, string_at, boolean_at, enum_at, Head, repeated_entry, unknown_entry, heads, leftOut, value_in}
+use Rattle.paper_values.specs.Coercion.{by_type, wrong_kind, integer_at, float_at, string_at, boolean_at, enum_at, Head, repeated_entry, unknown_entry, heads, left_out, value_in}
 
 -- null: at a Non-Null type reason 4, at any other itself; it is never made a list of one
 abbrev pub null_at : At → Ref → Out Tree
@@ -102,7 +102,7 @@ module _ (kinds : Name → Kind) (vars : Name → Option Tree) where
 
     pub givens : Entries → List Given
     givens no_entries = []
-    givens (entry i n v es) = record { name = n; out = leftOut kinds vars v; at = λ r. coerce v r } ∷ givens es
+    givens (entry i n v es) = record { name = n; out = left_out kinds vars v; at = λ r. coerce v r } ∷ givens es
 
 -- ---- the two calls
 
@@ -112,21 +112,21 @@ module _ (kinds : Name → Kind) where
   constant v r = coerce kinds (λ n. none) v r
 
   -- without an entry: the default, or reason 3 at the place i, or nothing
-  abbrev pub orDefault : At → Due → Option Value → Out Pairs → Out Pairs
-  orDefault i d none rest = missing_due i d rest
-  orDefault i d (some v) rest = pair_first d.name (constant v d.type) rest
+  abbrev pub or_default : At → Due → Option Value → Out Pairs → Out Pairs
+  or_default i d none rest = missing_due i d rest
+  or_default i d (some v) rest = pair_first d.name (constant v d.type) rest
 
   -- a variable: the place of its definition, and what is due
-  abbrev pub variablesFrom : List Given → List (At × Due) → Out Pairs
-  variablesFrom gs [] = Got no_pairs
-  variablesFrom gs (v ∷ vs) = due_field (orDefault v.0 v.1 v.1.default (variablesFrom gs vs)) v.1 (entry_of v.1.name gs) (variablesFrom gs vs)
+  abbrev pub variables_from : List Given → List (At × Due) → Out Pairs
+  variables_from gs [] = Got no_pairs
+  variables_from gs (v ∷ vs) = due_field (or_default v.0 v.1 v.1.default (variables_from gs vs)) v.1 (entry_of v.1.name gs) (variables_from gs vs)
 
   -- an operation's variables: an entry each in definition order; other names are passed over, and a repeated name is reason 6 before all else
   abbrev pub variables_of : Entries → List (At × Due) → Out Pairs
-  variables_of es vs = unless (repeated_entry [] (heads es)) reason_repeated (variablesFrom (givens kinds (λ n. none) es) vs)
+  variables_of es vs = unless (repeated_entry [] (heads es)) reason_repeated (variables_from (givens kinds (λ n. none) es) vs)
 
   -- then a field's arguments, as an input object of their definitions; i is the field's place
-  abbrev pub argumentsOf : Entries → List (At × Due) → At → Entries → List Due → Out Tree
-  argumentsOf given vs i es ds =
+  abbrev pub arguments_of : Entries → List (At × Due) → At → Entries → List Due → Out Tree
+  arguments_of given vs i es ds =
       and_then (variables_of given vs) (λ ps.
-      in_object (λ d rest. orDefault i d d.default rest) (heads es) (givens kinds (value_in ps) es) ds)
+      in_object (λ d rest. or_default i d d.default rest) (heads es) (givens kinds (value_in ps) es) ds)

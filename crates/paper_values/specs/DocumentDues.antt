@@ -15,7 +15,7 @@ use Rattle.paper_query.specs.Rule11VariableType.{declared}
 use Rattle.paper_query.specs.Opening.{if_below}
 use Rattle.paper_values.specs.Values.{At, Value, Entries, Due}
 use Rattle.paper_values.specs.Kinds.{due_argument}
-use Rattle.paper_values.specs.RowValues.{ref_in, placed, valueOfRow, entriesFrom}
+use Rattle.paper_values.specs.RowValues.{ref_in, placed, value_of_row, entries_from}
 
 -- ---- variables
 
@@ -37,7 +37,7 @@ default_row d v = if_below (count d) (first_at (λ r. is_value r && below v r) d
 
 abbrev pub value_if : Doc → Option ℕ → Option Value
 value_if d none = none
-value_if d (some i) = some (valueOfRow input_document d i)
+value_if d (some i) = some (value_of_row input_document d i)
 
 abbrev pub due_variable : Doc → ℕ → Due
 due_variable d v = record { name = name_of d v; type = declared_ref d v; default = value_if d (default_row d v) }
@@ -48,7 +48,7 @@ variable_dues d op = map (λ v. (placed input_document d v, due_variable d v)) (
 
 -- what the variables text gives: the entries of its one object, row 0
 abbrev pub given_in : Doc → Entries
-given_in d = entriesFrom input_variables d (valueOfRow input_variables d) kind_object_field 0 (count d - 1) 1
+given_in d = entries_from input_variables d (value_of_row input_variables d) kind_object_field 0 (count d - 1) 1
 
 -- ---- arguments
 

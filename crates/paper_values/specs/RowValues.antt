@@ -23,41 +23,41 @@ module _ (text : ℕ) (d : Doc) where
   placed i = record { text = text; row = i }
 
   -- the bytes of a row
-  abbrev pub tokenAt : ℕ → List ℕ
-  tokenAt i = take ((row_of d i).end - (row_of d i).start) (drop (row_of d i).start d.bytes)
+  abbrev pub token_at : ℕ → List ℕ
+  token_at i = take ((row_of d i).end - (row_of d i).start) (drop (row_of d i).start d.bytes)
 
   -- the values right below row h among the m rows from c on
-  unfoldable pub itemsFrom : (ℕ → Value) → ℕ → ℕ → ℕ → Values
-  itemsFrom read h zero c = no_values
-  itemsFrom read h (suc m) c = cond (eqb (parent_of d c) h) (item (read c) (itemsFrom read h m (c + 1))) (itemsFrom read h m (c + 1))
+  unfoldable pub items_from : (ℕ → Value) → ℕ → ℕ → ℕ → Values
+  items_from read h zero c = no_values
+  items_from read h (suc m) c = cond (eqb (parent_of d c) h) (item (read c) (items_from read h m (c + 1))) (items_from read h m (c + 1))
 
   -- the entries of this kind (6 arguments, 10 an object's fields) right below row h among the m rows from c on
-  unfoldable pub entriesFrom : (ℕ → Value) → ℕ → ℕ → ℕ → ℕ → Entries
-  entriesFrom read k h zero c = no_entries
-  entriesFrom read k h (suc m) c =
-      cond (eqb (parent_of d c) h && eqb (kind_of d c) k) (entry (placed c) (name_of d c) (read (c + 1)) (entriesFrom read k h m (c + 1))) (entriesFrom read k h m (c + 1))
+  unfoldable pub entries_from : (ℕ → Value) → ℕ → ℕ → ℕ → ℕ → Entries
+  entries_from read k h zero c = no_entries
+  entries_from read k h (suc m) c =
+      cond (eqb (parent_of d c) h && eqb (kind_of d c) k) (entry (placed c) (name_of d c) (read (c + 1)) (entries_from read k h m (c + 1))) (entries_from read k h m (c + 1))
 
   -- what a row is, where its parts are read by `read`
-  unfoldable pub valueBy : (ℕ → Value) → ℕ → Value
-  valueBy read i =
+  unfoldable pub value_by : (ℕ → Value) → ℕ → Value
+  value_by read i =
       cond (eqb (kind_of d i) kind_variable) (variable (placed i) (name_of d i))
-      (cond (eqb (kind_of d i) kind_integer) (integer (placed i) (tokenAt i))
-      (cond (eqb (kind_of d i) kind_float) (float (placed i) (tokenAt i))
-      (cond (eqb (kind_of d i) kind_string) (string (placed i) (tokenAt i) (characters_of (tokenAt i)))
+      (cond (eqb (kind_of d i) kind_integer) (integer (placed i) (token_at i))
+      (cond (eqb (kind_of d i) kind_float) (float (placed i) (token_at i))
+      (cond (eqb (kind_of d i) kind_string) (string (placed i) (token_at i) (characters_of (token_at i)))
       (cond (eqb (kind_of d i) kind_boolean) (boolean (placed i) (eqb (extra_of d i) extra_true))
       (cond (eqb (kind_of d i) kind_null) (null (placed i))
       (cond (eqb (kind_of d i) kind_enum) (enum (placed i) (name_of d i))
-      (cond (eqb (kind_of d i) kind_list) (list (placed i) (itemsFrom read i (count d - (i + 1)) (i + 1)))
-      (object (placed i) (entriesFrom read kind_object_field i (count d - (i + 1)) (i + 1))))))))))
+      (cond (eqb (kind_of d i) kind_list) (list (placed i) (items_from read i (count d - (i + 1)) (i + 1)))
+      (object (placed i) (entries_from read kind_object_field i (count d - (i + 1)) (i + 1))))))))))
 
   -- the first number bounds how deep values stand in one another; 33 is enough
   unfoldable pub value_at : ℕ → ℕ → Value
   value_at zero i = null (placed i)
-  value_at (suc k) i = valueBy (value_at k) i
+  value_at (suc k) i = value_by (value_at k) i
 
   -- the value of row i, and the arguments of the field at row i
-  abbrev pub valueOfRow : ℕ → Value
-  valueOfRow i = value_at (suc most_levels) i
+  abbrev pub value_of_row : ℕ → Value
+  value_of_row i = value_at (suc most_levels) i
 
   abbrev pub arguments_at : ℕ → Entries
-  arguments_at i = entriesFrom valueOfRow kind_argument i (count d - (i + 1)) (i + 1)
+  arguments_at i = entries_from value_of_row kind_argument i (count d - (i + 1)) (i + 1)

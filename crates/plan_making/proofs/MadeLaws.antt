@@ -23,8 +23,8 @@ use Rattle.plan_blocks.proofs.BlockLaws.{blocks_rows}
 use Rattle.plan_steps.specs.Table.{flat_raw}
 use Rattle.plan_steps.proofs.Chains.{chained_family}
 use Rattle.plan_tests.specs.Right.{TableTo}
-use Rattle.plan_tests.proofs.TableLaws.{table_above, table_few, table_held, table_kinds, table_set, table_tabled}
-use Rattle.plan_writing.specs.Writing.{rawProgram, rawFirsts, Tables, Holders, plan_cells, Fits, Over, Writes}
+use Rattle.plan_tests.proofs.TableLaws.{table_above, table_few, table_held, table_kinds, table_set_is, table_tabled}
+use Rattle.plan_writing.specs.Writing.{raw_program, raw_firsts, Tables, Holders, plan_cells, Fits, Over, Writes}
 use Rattle.plan_writing.proofs.Numbers.{plan_steps_count, plan_cells_is}
 use Rattle.plan_making.specs.Made.{PlanFits, PlanOver, PlanMade, Asked, Prepared}
 use Rattle.plan_making.proofs.BlockCounts.{blocks_few, block_low}
@@ -71,9 +71,9 @@ module _ (t book s rows : List ℕ) (n o : ℕ) (a : Asked t book s rows n o) wh
     few_blocks : length (o ∷ take m out) ≤ most_blocks
     few_blocks = let q = prepared_holders in omega (arith, q.few, length-take-le m out q.within)
 
-    steps_count : length (rawProgram cells n 0 (o ∷ take m out)) ≡ length (plan_for (table_of t) d o (o ∷ take m out)).steps
+    steps_count : length (raw_program cells n 0 (o ∷ take m out)) ≡ length (plan_for (table_of t) d o (o ∷ take m out)).steps
     steps_count =
-        plan_steps_count cells n kinds (by_numbers (table_of t) d o) (table_tabled t s rows n o cells w.table) (set_of d) (table_set t s rows n o cells w.table) (o ∷ take m out)
+        plan_steps_count cells n kinds (by_numbers (table_of t) d o) (table_tabled t s rows n o cells w.table) (set_of d) (table_set_is t s rows n o cells w.table) (o ∷ take m out)
         ∙ ap (λ (p : Plan). length p.steps) made_is
 
     pub prepared_made : (p : List ℕ) (r : ℕ) → Writes cells n (o ∷ take m out) p r → PlanMade (table_of t) d o p r
@@ -85,7 +85,7 @@ module _ (t book s rows : List ℕ) (n o : ℕ) (a : Asked t book s rows n o) wh
           top = f.top;
           written =
               f.written
-              ∙ plan_cells_is cells n kinds (by_numbers (table_of t) d o) (table_tabled t s rows n o cells w.table) (set_of d) (table_set t s rows n o cells w.table) (o ∷ take m out) r f.end few_blocks
+              ∙ plan_cells_is cells n kinds (by_numbers (table_of t) d o) (table_tabled t s rows n o cells w.table) (set_of d) (table_set_is t s rows n o cells w.table) (o ∷ take m out) r f.end few_blocks
               ∙ ap (λ (p : Plan). plan_numbers p ++ replicate (plan_size - length (plan_numbers p)) 0) made_is;
         })
         go (inr f) = inr (record { told = f.told; many = let e = steps_count in omega (arith, f.many, e) })

@@ -7,7 +7,7 @@ use Prim.Native.Nat.{ℕ, zero, suc, ◌+◌, ◌*◌, ◌-◌, ◌≤◌, ◌<�
 use native.Mathlib.Omega.{arith}
 use lib.ListN.{length, get_or, set}
 use lib.Seq.{sets, get_or-set_same, get_or-set_other}
-use Rattle.plan_steps.specs.Table.{Raw, flat_raw, what, above, arg, count, rawTests, expandOf, Chained, Fitted, TooMany, Expanded}
+use Rattle.plan_steps.specs.Table.{Raw, flat_raw, what, above, arg, count, raw_tests, expand_of, Chained, Fitted, TooMany, Expanded}
 use Rattle.plan_steps.proofs.Writes.{Doing, do_start, do_next, do_nested, do_done, over_nested, none_fits}
 
 pub told_many : {p p' : List ℕ} {from r : ℕ} {s : List Raw} → r ≡ 4097 → TooMany from 4097 s → Expanded p p' from r s
@@ -57,14 +57,14 @@ module _ (t : List ℕ) (n holder k from : ℕ) (p₀ : List ℕ) where
       }))
 
   -- too many steps of a level are too many
-  over_levels : (d : ℕ) (rows steps : List ℕ) (j h start : ℕ) (before : List ℕ) → Opened d rows steps j h start before → TooMany start 4097 (expandOf t n (suc j) start h) → TooMany from 4097 (expandOf t n k from holder)
+  over_levels : (d : ℕ) (rows steps : List ℕ) (j h start : ℕ) (before : List ℕ) → Opened d rows steps j h start before → TooMany start 4097 (expand_of t n (suc j) start h) → TooMany from 4097 (expand_of t n k from holder)
   over_levels zero rows steps j h start before o m =
-      subst (λ (x : ℕ). TooMany from 4097 (expandOf t n x from holder)) o.0 (subst (λ (x : ℕ). TooMany from 4097 (expandOf t n (suc j) from x)) o.1 (subst (λ (x : ℕ). TooMany x 4097 (expandOf t n (suc j) x h)) o.2 m))
+      subst (λ (x : ℕ). TooMany from 4097 (expand_of t n x from holder)) o.0 (subst (λ (x : ℕ). TooMany from 4097 (expand_of t n (suc j) from x)) o.1 (subst (λ (x : ℕ). TooMany x 4097 (expand_of t n (suc j) x h)) o.2 m))
   over_levels (suc d) rows steps j h start before o m =
       let c = get_or rows d 0 in let a = get_or steps d 0 in
       over_levels d rows steps (suc j) (above t c) o.its_start o.its_before o.under
       (over_nested t n (above t c) (suc j) o.its_start o.its_before before a c o.doing o.low 4097 refl o.no_none o.no_dropped o.no_field
-      (subst (λ (x : ℕ). TooMany (a + count t c) 4097 (expandOf t n (suc j) (a + count t c) x)) o.behind (subst (λ (x : ℕ). TooMany x 4097 (expandOf t n (suc j) x h)) o.begins m)))
+      (subst (λ (x : ℕ). TooMany (a + count t c) 4097 (expand_of t n (suc j) (a + count t c) x)) o.behind (subst (λ (x : ℕ). TooMany x 4097 (expand_of t n (suc j) x h)) o.begins m)))
 
   -- before row c of the rows below h, behind d open rows
   pub record Going (rows steps p : List ℕ) (d h at c : ℕ) : Type 0 where
@@ -81,20 +81,20 @@ module _ (t : List ℕ) (n holder k from : ℕ) (p₀ : List ℕ) where
     pub go_on : (p' : List ℕ) (at' c' : ℕ) → Doing t n h w.own w.start w.before p' at' c' → Going rows steps p' d h at' c'
     go_on p' at' c' q = record { own = w.own; start = w.start; before = w.before; opened = w.opened; levels = w.levels; doing = q; size = q.size ∙ sym w.doing.size ∙ w.size }
 
-    pub go_over : TooMany w.start 4097 (expandOf t n (suc w.own) w.start h) → TooMany from 4097 (expandOf t n k from holder)
+    pub go_over : TooMany w.start 4097 (expand_of t n (suc w.own) w.start h) → TooMany from 4097 (expand_of t n k from holder)
     go_over m = over_levels d rows steps w.own h w.start w.before w.opened m
 
     -- a level more than k is left out
     go_deepest : (p' : List ℕ) → c < n → above t c ≡ h → (what t c ≡ 0 → ⊥) → (what t c ≡ 3 → ⊥) → (what t c ≡ 1 → ⊥) → at + count t c ≤ 4096 → d + 1 ≡ k
-        → p' ≡ sets p (2050 + 3 * at) (flat_raw (rawTests t (12 * c + 4) (count t c) (at + count t c))) → Doing t n h w.own w.start w.before p' (at + count t c) (c + 1)
+        → p' ≡ sets p (2050 + 3 * at) (flat_raw (raw_tests t (12 * c + 4) (count t c) (at + count t c))) → Doing t n h w.own w.start w.before p' (at + count t c) (c + 1)
     go_deepest p' low f n0 n3 n1 room last q =
         do_nested t n h w.own w.start w.before p at c w.doing low p p' (at + count t c) f n0 n3 n1 (none_fits t n (arg t c) (at + count t c) w.own p (omega (arith, w.levels)) room) q
 
     pub go_last : (p' : List ℕ) {m : ℕ} → c < n → above t c ≡ h → (what t c ≡ 0 → ⊥) → (what t c ≡ 3 → ⊥) → (what t c ≡ 1 → ⊥) → m ≡ count t c → at + m ≤ 4096 → d + 1 ≡ k
-        → p' ≡ sets p (2050 + 3 * at) (flat_raw (rawTests t (12 * c + 4) (count t c) (at + m))) → Doing t n h w.own w.start w.before p' (at + m) (c + 1)
+        → p' ≡ sets p (2050 + 3 * at) (flat_raw (raw_tests t (12 * c + 4) (count t c) (at + m))) → Doing t n h w.own w.start w.before p' (at + m) (c + 1)
     go_last p' {m} low f n0 n3 n1 e room last q =
         subst (λ (x : ℕ). Doing t n h w.own w.start w.before p' (at + x) (c + 1)) (sym e)
-        (go_deepest p' low f n0 n3 n1 (omega (arith, e)) last (q ∙ ap (λ (x : ℕ). sets p (2050 + 3 * at) (flat_raw (rawTests t (12 * c + 4) (count t c) (at + x)))) e))
+        (go_deepest p' low f n0 n3 n1 (omega (arith, e)) last (q ∙ ap (λ (x : ℕ). sets p (2050 + 3 * at) (flat_raw (raw_tests t (12 * c + 4) (count t c) (at + x)))) e))
 
   module _ (first next : List ℕ) (ch : Chained t n first next) where
     pub go_start : (rows steps : List ℕ) {c : ℕ} → (k ≡ 0 → ⊥) → from ≤ 4096 → holder ≤ 2048 → c ≡ get_or first holder 0 → Going rows steps p₀ 0 holder from c
@@ -167,15 +167,15 @@ module _ (t : List ℕ) (n holder k from : ℕ) (p₀ : List ℕ) where
       abbrev its : ℕ
       its = get_or rows d 0
 
-      abbrev its-step : ℕ
-      its-step = get_or steps d 0
+      abbrev its_step : ℕ
+      its_step = get_or steps d 0
 
-      pub go_out : (p' : List ℕ) {c' : ℕ} → n ≤ c → p' ≡ sets p (2050 + 3 * its-step) (flat_raw (rawTests t (12 * its + 4) (count t its) at)) → c' ≡ get_or next its 0 → Going rows steps p' d (above t its) at c'
+      pub go_out : (p' : List ℕ) {c' : ℕ} → n ≤ c → p' ≡ sets p (2050 + 3 * its_step) (flat_raw (raw_tests t (12 * its + 4) (count t its) at)) → c' ≡ get_or next its 0 → Going rows steps p' d (above t its) at c'
       go_out p' {c'} none_left q e =
           let o = w.opened in
-          let fit = subst (λ (x : ℕ). Fitted w.before p (its-step + count t its) at (expandOf t n (suc w.own) (its-step + count t its) x)) o.behind
-          (subst (λ (x : ℕ). Fitted w.before p x at (expandOf t n (suc w.own) x h)) o.begins (do_done t n h w.own w.start w.before p at c w.doing none_left)) in
-          let done = do_nested t n (above t its) (suc w.own) o.its_start o.its_before w.before its-step its o.doing o.low p p' at refl o.no_none o.no_dropped o.no_field fit q in
+          let fit = subst (λ (x : ℕ). Fitted w.before p (its_step + count t its) at (expand_of t n (suc w.own) (its_step + count t its) x)) o.behind
+          (subst (λ (x : ℕ). Fitted w.before p x at (expand_of t n (suc w.own) x h)) o.begins (do_done t n h w.own w.start w.before p at c w.doing none_left)) in
+          let done = do_nested t n (above t its) (suc w.own) o.its_start o.its_before w.before its_step its o.doing o.low p p' at refl o.no_none o.no_dropped o.no_field fit q in
           record {
             own = suc w.own;
             start = o.its_start;
@@ -197,19 +197,19 @@ module _ (t : List ℕ) (n holder k from : ℕ) (p₀ : List ℕ) where
       pub open_room : a + count t r ≤ 4096
       open_room = let o = deeper.opened in omega (arith, o.begins, o.room, ea, ap (count t) er)
 
-      pub go_back : (p' : List ℕ) {h' c' : ℕ} → n ≤ c → p' ≡ sets p (2050 + 3 * a) (flat_raw (rawTests t (12 * r + 4) (count t r) at)) → h' ≡ above t r → c' ≡ get_or next r 0 → Going rows steps p' (d - 1) h' at c'
+      pub go_back : (p' : List ℕ) {h' c' : ℕ} → n ≤ c → p' ≡ sets p (2050 + 3 * a) (flat_raw (raw_tests t (12 * r + 4) (count t r) at)) → h' ≡ above t r → c' ≡ get_or next r 0 → Going rows steps p' (d - 1) h' at c'
       go_back p' {h'} {c'} none_left q eh ec =
           subst (λ (x : ℕ). Going rows steps p' (d - 1) x at c') (sym (eh ∙ ap (above t) er))
           (go_out rows steps p (d - 1) h at c deeper p' none_left
-          (q ∙ ap (λ (x : ℕ). sets p (2050 + 3 * x) (flat_raw (rawTests t (12 * r + 4) (count t r) at))) ea ∙ ap (λ (x : ℕ). sets p (2050 + 3 * get_or steps (d - 1) 0) (flat_raw (rawTests t (12 * x + 4) (count t x) at))) er)
+          (q ∙ ap (λ (x : ℕ). sets p (2050 + 3 * x) (flat_raw (raw_tests t (12 * r + 4) (count t r) at))) ea ∙ ap (λ (x : ℕ). sets p (2050 + 3 * get_or steps (d - 1) 0) (flat_raw (raw_tests t (12 * x + 4) (count t x) at))) er)
           (ec ∙ ap (λ (x : ℕ). get_or next x 0) er))
 
   -- no row is left, and no row is open
-  pub go_end : (rows steps p : List ℕ) (d h at c : ℕ) → Going rows steps p d h at c → d ≡ 0 → n ≤ c → Fitted p₀ p from at (expandOf t n k from holder)
+  pub go_end : (rows steps p : List ℕ) (d h at c : ℕ) → Going rows steps p d h at c → d ≡ 0 → n ≤ c → Fitted p₀ p from at (expand_of t n k from holder)
   go_end rows steps p d h at c v e none_left =
       let w = subst (λ (x : ℕ). Going rows steps p x h at c) e v in let o = w.opened in
-      subst (λ (x : List ℕ). Fitted x p from at (expandOf t n k from holder)) o.3
-      (subst (λ (x : ℕ). Fitted w.before p x at (expandOf t n k x holder)) o.2
-      (subst (λ (x : ℕ). Fitted w.before p w.start at (expandOf t n k w.start x)) o.1
-      (subst (λ (x : ℕ). Fitted w.before p w.start at (expandOf t n x w.start h)) o.0
+      subst (λ (x : List ℕ). Fitted x p from at (expand_of t n k from holder)) o.3
+      (subst (λ (x : ℕ). Fitted w.before p x at (expand_of t n k x holder)) o.2
+      (subst (λ (x : ℕ). Fitted w.before p w.start at (expand_of t n k w.start x)) o.1
+      (subst (λ (x : ℕ). Fitted w.before p w.start at (expand_of t n x w.start h)) o.0
       (do_done t n h w.own w.start w.before p at c w.doing none_left))))

@@ -11,9 +11,9 @@ use lib.Dec.{eqb, leb}
 use borrow.Author.Tests.{eq-eqb, ne_eqb, lt-leb, le-leb}
 use Rattle.paper.specs.Numbers.{most_rows, kind_field, kind_inline}
 use Rattle.paper_plan.specs.Collecting.{Cond, absent, literal, variable, Sort, field, spread, inline, View}
-use Rattle.paper_plan.specs.Planning.{Test, if_true, unless_true, unless_applies, if_met, Step, skip_tests, include_tests, condition_tests, dropped, tests, sortTests, content}
+use Rattle.paper_plan.specs.Planning.{Test, if_true, unless_true, unless_applies, if_met, Step, skip_tests, include_tests, condition_tests, dropped, tests, sort_tests, content}
 use Rattle.plan_walk_steps.specs.Numbers.{test_of}
-use Rattle.plan_steps.specs.Table.{testsFrom}
+use Rattle.plan_steps.specs.Table.{tests_from}
 use Rattle.plan_conditions.specs.declared.If.{If}
 use Rattle.plan_conditions.specs.declared.If.TheVariants.{Absent, Literal, Variable}
 use Rattle.plan_conditions.specs.Conditions.{coded}
@@ -172,7 +172,7 @@ module _ (v : View ℕ) (set : ℕ → List ℕ) (r above : ℕ) where
           selection = λ z y. absurd (omega (arith, x));
           drops = λ z. ne_eqb (get_or row' 0 0) 3 (λ y. absurd (omega (arith, x))) ∙ sym d;
           kinds = λ j z. h.kinds j (omega (arith, c));
-          its_tests = λ z y. ap (testsFrom row' 4) c ∙ h.are ∙ is;
+          its_tests = λ z y. ap (tests_from row' 4) c ∙ h.are ∙ is;
           a_field = λ z y. f ∙ ap field (sym b);
           nested = λ z y. absurd (y x);
         }
@@ -192,7 +192,7 @@ module _ (v : View ℕ) (set : ℕ → List ℕ) (r above : ℕ) where
           selection = λ z y. absurd (omega (arith, x));
           drops = λ z. ne_eqb (get_or row' 0 0) 3 (λ y. absurd (omega (arith, x))) ∙ sym d;
           kinds = λ j z. h.kinds j (omega (arith, c));
-          its_tests = λ z y. ap (testsFrom row' 4) c ∙ h.are ∙ is;
+          its_tests = λ z y. ap (tests_from row' 4) c ∙ h.are ∙ is;
           a_field = λ z y. absurd (omega (arith, x));
           nested = λ z y u at inner. f at inner ∙ ap (λ (n : ℕ). inner at (set n)) (sym b);
         }
@@ -202,12 +202,12 @@ module _ (v : View ℕ) (set : ℕ → List ℕ) (r above : ℕ) where
     abbrev given : List Test
     given = skip_tests (v.skip r) ++ include_tests (v.include r)
 
-    tests_are : (ts : List Test) → sortTests v (v.sort r) ≡ ts → given ++ ts ≡ tests v r
+    tests_are : (ts : List Test) → sort_tests v (v.sort r) ≡ ts → given ++ ts ≡ tests v r
     tests_are ts q = append_assoc (skip_tests (v.skip r)) (include_tests (v.include r)) ts ∙ ap (λ (l : List Test). skip_tests (v.skip r) ++ (include_tests (v.include r) ++ l)) (sym q)
 
     pub kept_field : (key : ℕ) → key ≤ most_rows → v.sort r ≡ field key → row' ≡ sets row 0 (1 ∷ above ∷ key ∷ m ∷ []) → Right v set r above selects row'
     kept_field key low q x =
-        right_field selects e d row row' m key given w (omega arith) low (sym (append-nil given) ∙ tests_are [] (ap (sortTests v) q)) q x
+        right_field selects e d row row' m key given w (omega arith) low (sym (append-nil given) ∙ tests_are [] (ap (sort_tests v) q)) q x
 
     pub kept_spread : (number type f : ℕ) → f ≤ most_rows → v.sort r ≡ spread number → v.on number ≡ type → v.fragment number ≡ set f → row' ≡ spread_row row m above number type f → Right v set r above selects row'
     kept_spread number type f low q o g x =
@@ -216,7 +216,7 @@ module _ (v : View ℕ) (set : ℕ → List ℕ) (r above : ℕ) where
         let z : m + 1 + 1 ≡ m + 2 = omega arith in
         let both : (given ++ (test_of 4 number ∷ [])) ++ (test_of 3 type ∷ []) ≡ tests v r =
         append_assoc given (test_of 4 number ∷ []) (test_of 3 type ∷ []) ∙ ap (λ (t : Test). given ++ (t ∷ test_of 3 type ∷ [])) (test_4 number) ∙ ap (λ (t : Test). given ++ (if_met number ∷ t ∷ [])) (test_3 type)
-        ∙ tests_are (if_met number ∷ unless_applies type ∷ []) (ap (sortTests v) q ∙ ap (λ (t : ℕ). if_met number ∷ unless_applies t ∷ []) o) in
+        ∙ tests_are (if_met number ∷ unless_applies type ∷ []) (ap (sort_tests v) q ∙ ap (λ (t : ℕ). if_met number ∷ unless_applies t ∷ []) o) in
         right_nested selects e d (sets (sets row (4 + 2 * m) (4 ∷ number ∷ [])) (4 + 2 * (m + 1)) (3 ∷ type ∷ [])) row' (m + 2) f ((given ++ (test_of 4 number ∷ [])) ++ (test_of 3 type ∷ []))
         (subst (λ (n : ℕ). TestsAre (sets (sets row (4 + 2 * m) (4 ∷ number ∷ [])) (4 + 2 * (m + 1)) (3 ∷ type ∷ [])) n ((given ++ (test_of 4 number ∷ [])) ++ (test_of 3 type ∷ []))) z two)
         (omega arith) low both
@@ -224,8 +224,8 @@ module _ (v : View ℕ) (set : ℕ → List ℕ) (r above : ℕ) where
 
     pub kept_inline : (c : Option ℕ) → r ≤ most_rows → v.sort r ≡ inline c → v.body r ≡ set r → row' ≡ inline_row row m above r c → Right v set r above selects row'
     kept_inline none low q g x =
-        right_nested selects e d row row' m r given w (omega arith) low (sym (append-nil given) ∙ tests_are [] (ap (sortTests v) q)) (λ at inner. ap (content v inner at r) q ∙ ap (inner at) g) x
+        right_nested selects e d row row' m r given w (omega arith) low (sym (append-nil given) ∙ tests_are [] (ap (sort_tests v) q)) (λ at inner. ap (content v inner at r) q ∙ ap (inner at) g) x
     kept_inline (some type) low q g x =
         let one = tests_put row m given w (sets row (4 + 2 * m) (3 ∷ type ∷ [])) 3 type (omega arith) (omega arith) (omega arith) refl in
         right_nested selects e d (sets row (4 + 2 * m) (3 ∷ type ∷ [])) row' (m + 1) r (given ++ (test_of 3 type ∷ [])) one (omega arith) low
-        (ap (λ (t : Test). given ++ (t ∷ [])) (test_3 type) ∙ tests_are (unless_applies type ∷ []) (ap (sortTests v) q)) (λ at inner. ap (content v inner at r) q ∙ ap (inner at) g) x
+        (ap (λ (t : Test). given ++ (t ∷ [])) (test_3 type) ∙ tests_are (unless_applies type ∷ []) (ap (sort_tests v) q)) (λ at inner. ap (content v inner at r) q ∙ ap (inner at) g) x

@@ -8,7 +8,7 @@ use lib.ListN.{length, get_or, set, length-set}
 use lib.Seq.{sets, length-sets, get_or-set_same, get_or-set_other}
 use Rattle.paper_plan.specs.Planning.{Test}
 use Rattle.plan_walk_steps.specs.Numbers.{test_of}
-use Rattle.plan_steps.specs.Table.{testsFrom}
+use Rattle.plan_steps.specs.Table.{tests_from}
 use Rattle.plan_tests.specs.Right.{row_cells, TestsAre}
 
 -- two numbers one behind the other
@@ -16,29 +16,29 @@ pub test_is : (row : List ℕ) (m k x : ℕ) → set (set row (4 + 2 * m) k) (4 
 test_is row m k x = let z : 4 + 2 * m + 1 ≡ suc (4 + 2 * m) = omega arith in ap (λ (i : ℕ). set (set row (4 + 2 * m) k) i x) z
 
 -- only the tests' own numbers matter
-pub tests_frame : (a b : List ℕ) (i j m : ℕ) → ((k : ℕ) → k < 2 * m → get_or a (i + k) 0 ≡ get_or b (j + k) 0) → testsFrom a i m ≡ testsFrom b j m
-unfolding testsFrom
+pub tests_frame : (a b : List ℕ) (i j m : ℕ) → ((k : ℕ) → k < 2 * m → get_or a (i + k) 0 ≡ get_or b (j + k) 0) → tests_from a i m ≡ tests_from b j m
+unfolding tests_from
 tests_frame a b i j zero h = refl
 tests_frame a b i j (suc m) h =
     let i0 : i + 0 ≡ i = omega arith in let j0 : j + 0 ≡ j = omega arith in
     let x : get_or a i 0 ≡ get_or b j 0 = ap (λ (n : ℕ). get_or a n 0) (sym i0) ∙ h 0 (omega arith) ∙ ap (λ (n : ℕ). get_or b n 0) j0 in
     let y : get_or a (i + 1) 0 ≡ get_or b (j + 1) 0 = h 1 (omega arith) in
-    ap (λ (n : ℕ). test_of n (get_or a (i + 1) 0) ∷ testsFrom a (i + 2) m) x
-    ∙ ap (λ (n : ℕ). test_of (get_or b j 0) n ∷ testsFrom a (i + 2) m) y
+    ap (λ (n : ℕ). test_of n (get_or a (i + 1) 0) ∷ tests_from a (i + 2) m) x
+    ∙ ap (λ (n : ℕ). test_of (get_or b j 0) n ∷ tests_from a (i + 2) m) y
     ∙ ap (λ (l : List Test). test_of (get_or b j 0) (get_or b (j + 1) 0) ∷ l)
     (tests_frame a b (i + 2) (j + 2) m (λ k l. let p : i + 2 + k ≡ i + (2 + k) = omega arith in let q : j + 2 + k ≡ j + (2 + k) = omega arith in
     ap (λ (n : ℕ). get_or a n 0) p ∙ h (2 + k) (omega arith) ∙ ap (λ (n : ℕ). get_or b n 0) (sym q)))
 
-tests_more : (t : List ℕ) (i m : ℕ) → testsFrom t i (suc m) ≡ testsFrom t i m ++ (test_of (get_or t (i + 2 * m) 0) (get_or t (i + 2 * m + 1) 0) ∷ [])
-unfolding testsFrom
+tests_more : (t : List ℕ) (i m : ℕ) → tests_from t i (suc m) ≡ tests_from t i m ++ (test_of (get_or t (i + 2 * m) 0) (get_or t (i + 2 * m + 1) 0) ∷ [])
+unfolding tests_from
 tests_more t i zero = let z : i ≡ i + 2 * 0 = omega arith in ap (λ (n : ℕ). test_of (get_or t n 0) (get_or t (n + 1) 0) ∷ []) z
 tests_more t i (suc m) =
     let z : i + 2 + 2 * m ≡ i + 2 * suc m = omega arith in
     ap (λ (l : List Test). test_of (get_or t i 0) (get_or t (i + 1) 0) ∷ l)
-    (tests_more t (i + 2) m ∙ ap (λ (n : ℕ). testsFrom t (i + 2) m ++ (test_of (get_or t n 0) (get_or t (n + 1) 0) ∷ [])) z)
+    (tests_more t (i + 2) m ∙ ap (λ (n : ℕ). tests_from t (i + 2) m ++ (test_of (get_or t n 0) (get_or t (n + 1) 0) ∷ [])) z)
 
 pub tests_start : (row : List ℕ) → length row ≡ row_cells → TestsAre row 0 []
-unfolding testsFrom
+unfolding tests_from
 tests_start row e = record { size = e; are = refl; kinds = λ j h. absurd (omega arith) }
 
 -- one test more
@@ -47,7 +47,7 @@ module _ (row : List ℕ) (m : ℕ) (ts : List Test) (w : TestsAre row m ts) whe
   tests_put row' k x few least low e = record {
     size = ap length e ∙ length-sets row (4 + 2 * m) (k ∷ x ∷ []) ∙ w.size;
     are = let one : m + 1 ≡ suc m = omega arith in
-        ap (testsFrom row' 4) one ∙ tests_more row' 4 m
+        ap (tests_from row' 4) one ∙ tests_more row' 4 m
         ∙ ap (λ (l : List Test). l ++ (test_of (get_or row' (4 + 2 * m) 0) (get_or row' (4 + 2 * m + 1) 0) ∷ [])) (tests_frame row' row 4 4 m (λ j h. other (4 + j) (omega arith)) ∙ w.are)
         ∙ ap (λ (n : ℕ). ts ++ (test_of n (get_or row' (4 + 2 * m + 1) 0) ∷ [])) here ∙ ap (λ (n : ℕ). ts ++ (test_of k n ∷ [])) there;
     kinds = λ j h. go j h (dec_lt j m);

@@ -34,7 +34,7 @@ use Rattle.plan_rows.specs.Ranks.{is_fragment, is_variable_of, rank, RanksTo}
 use Rattle.plan_rows.proofs.RankLaws.{rank_most, rank_first, fragment_rank, variable_is}
 use Rattle.plan_conditions.specs.declared.If.{If}
 use Rattle.plan_conditions.specs.Conditions.{coded}
-use Rattle.plan_steps.specs.Table.{up_from, keep, what, above, arg, belongs, testsFrom, tableSet, Space, RowOf, Tabled}
+use Rattle.plan_steps.specs.Table.{up_from, keep, what, above, arg, belongs, tests_from, table_set, Space, RowOf, Tabled}
 use Rattle.plan_steps.specs.Table.{count as testCount}
 use Rattle.plan_tests.specs.Right.{row_cells, Small, spread_row, inline_row, TestsAre, Right, cells_of, RightRow, TableTo}
 use Rattle.plan_tests.proofs.RowLaws.{tests_frame}
@@ -297,9 +297,9 @@ module _ (t s rows : List ℕ) (n o : ℕ) (cells : List ℕ) (w : TableTo t s r
       go false m = m
 
   -- a row's selections are those of the table
-  pub table_set : (h : ℕ) → tableSet cells n h ≡ set_of d h
+  pub table_set_is : (h : ℕ) → table_set cells n h ≡ set_of d h
   unfolding numbers_where
-  table_set h =
+  table_set_is h =
       ap (λ (m : ℕ). keep (λ r. belongs cells h r) (up_from m 0)) (sym (rows_count rows n))
       ∙ keep_rows (λ r. belongs cells h r) (λ r. below h r && is_selection r) (rows_in rows n) 0
       (λ k l. let z : 0 + k ≡ k = omega arith in ap (λ (x : ℕ). belongs cells h x) z ∙ belongs_is h k (omega (arith, rows_count rows n)))
@@ -313,9 +313,9 @@ module _ (t s rows : List ℕ) (n o : ℕ) (cells : List ℕ) (w : TableTo t s r
         kinds = λ j m. let z : row_cells * r + (4 + 2 * j) ≡ 12 * r + 4 + 2 * j = omega arith in
             omega (arith, ap (λ (x : ℕ). get_or cells x 0) z, cell r (4 + 2 * j) (omega (arith, cell r 3 (omega arith), (w r l).few)), ((w r l).kinds j (omega (arith, cell r 3 (omega arith)))).1);
         its_tests = λ z. tests_frame cells (cells_of cells r) (12 * r + 4) 4 (testCount cells r) (λ k m. let y : 12 * r + 4 + k ≡ row_cells * r + (4 + k) = omega arith in
-            ap (λ (x : ℕ). get_or cells x 0) y ∙ sym (cell r (4 + k) (omega (arith, cell r 3 (omega arith), (w r l).few)))) ∙ ap (testsFrom (cells_of cells r) 4) (sym (cell r 3 (omega arith))) ∙ (w r l).its_tests sel (λ y. z (sym (first_cell r) ∙ y));
+            ap (λ (x : ℕ). get_or cells x 0) y ∙ sym (cell r (4 + k) (omega (arith, cell r 3 (omega arith), (w r l).few)))) ∙ ap (tests_from (cells_of cells r) 4) (sym (cell r 3 (omega arith))) ∙ (w r l).its_tests sel (λ y. z (sym (first_cell r) ∙ y));
         a_field = λ z. (w r l).a_field sel (first_cell r ∙ z) ∙ ap field (cell r 2 (omega arith));
-        nested = λ z y at inner. (w r l).nested sel (λ x. z (sym (first_cell r) ∙ x)) (λ x. y (sym (first_cell r) ∙ x)) at inner ∙ ap (λ (x : ℕ). inner at (set_of d x)) (cell r 2 (omega arith)) ∙ ap (inner at) (sym (table_set (arg cells r)));
+        nested = λ z y at inner. (w r l).nested sel (λ x. z (sym (first_cell r) ∙ x)) (λ x. y (sym (first_cell r) ∙ x)) at inner ∙ ap (λ (x : ℕ). inner at (set_of d x)) (cell r 2 (omega arith)) ∙ ap (inner at) (sym (table_set_is (arg cells r)));
       }
         where
           sel : is_selection (row_in rows n r) ≡ true

@@ -17,7 +17,7 @@ use Rattle.plan_keys.specs.Keyed.{Keyed}
 use Rattle.plan_rows.specs.Ranks.{is_fragment, RanksTo}
 use Rattle.plan_conditions.specs.declared.If.{If}
 use Rattle.plan_conditions.specs.declared.If.TheVariants.{Absent, Literal, Variable}
-use Rattle.plan_steps.specs.Table.{testsFrom}
+use Rattle.plan_steps.specs.Table.{tests_from}
 
 -- a row's numbers, and what a row is
 abbrev pub row_cells : ℕ
@@ -84,7 +84,7 @@ inline_row row m above i (some type) = sets (sets row (4 + 2 * m) (step_unless_a
 -- the row holds m tests so far
 pub record TestsAre (row : List ℕ) (m : ℕ) (ts : List Test) : Type 0 where
   pub size : length row ≡ row_cells
-  pub are : testsFrom row 4 m ≡ ts
+  pub are : tests_from row 4 m ≡ ts
   pub kinds : (j : ℕ) → j < m → (1 ≤ get_or row (4 + 2 * j) 0) × (get_or row (4 + 2 * j) 0 ≤ 4)
 
 -- the twelve numbers of row r, by the view v of the document, its parent, and whether it is a selection; `set` gives a row's selections
@@ -97,7 +97,7 @@ pub record Right (v : View ℕ) (set : ℕ → List ℕ) (r above : ℕ) (select
   pub selection : selects ≡ true → get_or row 0 0 ≡ 0 → ⊥
   pub drops : selects ≡ true → eqb (get_or row 0 0) 3 ≡ dropped (v.skip r) (v.include r)
   pub kinds : (j : ℕ) → j < get_or row 3 0 → (1 ≤ get_or row (4 + 2 * j) 0) × (get_or row (4 + 2 * j) 0 ≤ 4)
-  pub its_tests : selects ≡ true → (get_or row 0 0 ≡ 3 → ⊥) → testsFrom row 4 (get_or row 3 0) ≡ tests v r
+  pub its_tests : selects ≡ true → (get_or row 0 0 ≡ 3 → ⊥) → tests_from row 4 (get_or row 3 0) ≡ tests v r
   pub a_field : selects ≡ true → get_or row 0 0 ≡ 1 → v.sort r ≡ field (get_or row 2 0)
   pub nested : selects ≡ true → (get_or row 0 0 ≡ 1 → ⊥) → (get_or row 0 0 ≡ 3 → ⊥)
       → ((at : ℕ) (inner : ℕ → List ℕ → List Step) → content v inner at r (v.sort r) ≡ inner at (set (get_or row 2 0)))

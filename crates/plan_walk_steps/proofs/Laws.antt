@@ -11,7 +11,7 @@ use Rattle.plan_theory.proofs.Same.{arrived, now}
 use lib.Dec.{eqb, ltb}
 use borrow.Author.Tests.{eqb-true, eqb-false, eq-eqb, ne_eqb, le-ltb, lt-ltb}
 use Rattle.paper_plan.specs.Collecting.{elem, Pair}
-use Rattle.paper_plan.specs.Planning.{Test, if_true, unless_true, unless_applies, if_met, Step, leave, list, State, says, marksAfter, does, goal, walk}
+use Rattle.paper_plan.specs.Planning.{Test, if_true, unless_true, unless_applies, if_met, Step, leave, list, State, says, marks_after, does, goal, walk}
 use Rattle.plan_walk_steps.specs.Numbers.{test_of, step_of, step_at, steps_from, is_one, Marks, pair_numbers, Listed, Over, Held, block_walk, Formed, Ready, Walked}
 
 pub test_1 : (k a : ℕ) → k ≡ 1 → test_of k a ≡ if_true a
@@ -96,22 +96,22 @@ unfolding step_of
 step_leave k a b e = ap (λ (t : Bool). cond t (list a b) (leave (test_of k a) b)) (ne_eqb k 5 e)
 
 -- marks change only where a fragment is met for the first time
-pub same_marks : (vs as' : ℕ → Bool) (t : Test) (m : List ℕ) → says vs as' t m ≡ true → marksAfter vs as' t m ≡ m
+pub same_marks : (vs as' : ℕ → Bool) (t : Test) (m : List ℕ) → says vs as' t m ≡ true → marks_after vs as' t m ≡ m
 same_marks vs as' (if_true v) m h = refl
 same_marks vs as' (unless_true v) m h = refl
 same_marks vs as' (unless_applies v) m h = refl
 same_marks vs as' (if_met f) m h = ap (λ (b : Bool). cond b m (f ∷ m)) h
 
-pub new_mark : (vs as' : ℕ → Bool) (f : ℕ) (m : List ℕ) → says vs as' (if_met f) m ≡ false → marksAfter vs as' (if_met f) m ≡ f ∷ m
+pub new_mark : (vs as' : ℕ → Bool) (f : ℕ) (m : List ℕ) → says vs as' (if_met f) m ≡ false → marks_after vs as' (if_met f) m ≡ f ∷ m
 new_mark vs as' f m h = ap (λ (b : Bool). cond b m (f ∷ m)) h
 
-pub no_mark : (vs as' : ℕ → Bool) (k a : ℕ) (m : List ℕ) → 1 ≤ k → k ≤ 5 → (k ≡ 5 → ⊥) → (k ≡ 4 → ⊥) → marksAfter vs as' (test_of k a) m ≡ m
+pub no_mark : (vs as' : ℕ → Bool) (k a : ℕ) (m : List ℕ) → 1 ≤ k → k ≤ 5 → (k ≡ 5 → ⊥) → (k ≡ 4 → ⊥) → marks_after vs as' (test_of k a) m ≡ m
 no_mark vs as' k a m low high n5 n4 = go (eqb k 1) (eqb k 2) refl refl
   where
-    go : (b c : Bool) → eqb k 1 ≡ b → eqb k 2 ≡ c → marksAfter vs as' (test_of k a) m ≡ m
-    go true c p q = ap (λ (t : Test). marksAfter vs as' t m) (test_1 k a (eqb-true k 1 p))
-    go false true p q = ap (λ (t : Test). marksAfter vs as' t m) (test_2 k a (eqb-true k 2 q))
-    go false false p q = ap (λ (t : Test). marksAfter vs as' t m) (test_3 k a (omega (arith, eqb-false k 1 p, eqb-false k 2 q)))
+    go : (b c : Bool) → eqb k 1 ≡ b → eqb k 2 ≡ c → marks_after vs as' (test_of k a) m ≡ m
+    go true c p q = ap (λ (t : Test). marks_after vs as' t m) (test_1 k a (eqb-true k 1 p))
+    go false true p q = ap (λ (t : Test). marks_after vs as' t m) (test_2 k a (eqb-true k 2 q))
+    go false false p q = ap (λ (t : Test). marks_after vs as' t m) (test_3 k a (omega (arith, eqb-false k 1 p, eqb-false k 2 q)))
 
 -- ---- the buffers
 
@@ -212,7 +212,7 @@ module _ (p : List ℕ) (from end : ℕ) (vars fits met₀ out₀ : List ℕ) (s
 
     -- a step that does not leave: the marks after it
     goes_on : (met' : List ℕ) → (kind ≡ 5 → ⊥) → length met' ≡ length met₀
-        → ((l : List ℕ) → Marks met l → (says (is_one vars) (is_one fits) (test_of kind first) l ≡ false) × Marks met' (marksAfter (is_one vars) (is_one fits) (test_of kind first) l)) → Goes met' out (i + 1) n
+        → ((l : List ℕ) → Marks met l → (says (is_one vars) (is_one fits) (test_of kind first) l ≡ false) × Marks met' (marks_after (is_one vars) (is_one fits) (test_of kind first) l)) → Goes met' out (i + 1) n
     goes_on met' k size w = record {
       above = omega (arith, goes.above);
       below = omega arith;
@@ -220,7 +220,7 @@ module _ (p : List ℕ) (from end : ℕ) (vars fits met₀ out₀ : List ℕ) (s
       met_size = size;
       out_size = goes.out_size;
       state = λ l o q b. let g = goes.state l o q b in let s = g.0 in let t = w s.met g.1 in (
-        record { met = marksAfter (is_one vars) (is_one fits) (test_of kind first) s.met; out = s.out },
+        record { met = marks_after (is_one vars) (is_one fits) (test_of kind first) s.met; out = s.out },
         t.1,
         g.2,
         sym (turn vars fits p end i (i + 1) (leave (test_of kind first) second) s h (omega arith) (omega arith) (step_leave kind first second k) (inr (ap (λ (x : Bool). cond x second 0) t.0, refl))) ∙ g.3,
@@ -234,7 +234,7 @@ module _ (p : List ℕ) (from end : ℕ) (vars fits met₀ out₀ : List ℕ) (s
         let t = sym (w l q) in let e : test_of kind first ≡ if_met first = test_4 kind first k in (
           t,
           subst (λ (x : List ℕ). Marks (set met first 1) x)
-              (sym (ap (λ (y : Test). marksAfter (is_one vars) (is_one fits) y l) e ∙ new_mark (is_one vars) (is_one fits) first l (ap (λ (y : Test). says (is_one vars) (is_one fits) y l) (sym e) ∙ t)))
+              (sym (ap (λ (y : Test). marks_after (is_one vars) (is_one fits) y l) e ∙ new_mark (is_one vars) (is_one fits) first l (ap (λ (y : Test). says (is_one vars) (is_one fits) y l) (sym e) ∙ t)))
               (marks_set met l first (omega (arith, formed.index not-3 not-5, goes.met_size, ready.met_long)) q),
         )
 

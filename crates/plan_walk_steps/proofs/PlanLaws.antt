@@ -9,7 +9,7 @@ use lib.ListN.{length, get_or, take, drop, replicate, length-append, length-repl
 use lib.Seq.{get_or-append-add}
 use lib.Dec.{eqb, ltb}
 use Rattle.paper_table.specs.Lists.{gather}
-use Rattle.paper_plan.specs.Planning.{Test, if_true, unless_true, unless_applies, if_met, Step, leave, list, Plan, State, says, marksAfter, does, goal, walk}
+use Rattle.paper_plan.specs.Planning.{Test, if_true, unless_true, unless_applies, if_met, Step, leave, list, Plan, State, says, marks_after, does, goal, walk}
 use Rattle.paper_plan.specs.PlanNumbers.{most_blocks, step_numbers, plan_numbers, first_in}
 use Rattle.plan_walk_steps.specs.Numbers.{test_of, step_of, step_at, steps_from}
 

@@ -98,17 +98,17 @@ pub record Made (table document name plan plan' : List ℕ) : Type 0 where
 
 module _ (table document name plan plan' : List ℕ) (m : Made table document name plan plan') where
   module _ (rs : List Row) (op : ℕ) (rows : List ℕ) (o : Opened table document name (opens rs op)) (w : BlockRows (read document rs) op rows) where
-    abbrev plan-of : Plan
-    plan-of = plan_for (table_of table) (read document rs) op rows
+    abbrev plan_of : Plan
+    plan_of = plan_for (table_of table) (read document rs) op rows
 
     -- there is one plan
-    same : m.made ≡ plan-of
+    same : m.made ≡ plan_of
     same = plan_one m.is (record { rows = rs; operation = op; blocks = rows; opened = o; their = w; is = refl })
 
-    left : plan' ≡ filled plan_size (plan_numbers plan-of) plan
+    left : plan' ≡ filled plan_size (plan_numbers plan_of) plan
     left = m.written ∙ ap (λ (p : Plan). filled plan_size (plan_numbers p) plan) same
 
-    few_steps : length plan-of.steps ≤ most_steps
+    few_steps : length plan_of.steps ≤ most_steps
     few_steps = omega (arith, m.few, ap (λ (p : Plan). length p.steps) same)
 
     pub made_blocks : blocks_in plan' ≡ length rows

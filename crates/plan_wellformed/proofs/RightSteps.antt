@@ -18,7 +18,7 @@ use Rattle.paper_query.specs.Enclosing.{definition_at, condition_of}
 use Rattle.paper_query.specs.Reaching.{is_definition, Within, itself, deeper, Reaches, here, through}
 use Rattle.paper_plan.specs.Keys.{key_at}
 use Rattle.paper_plan.specs.Collecting.{Cond, absent, literal, variable, field, spread, inline, View, elem}
-use Rattle.paper_plan.specs.Planning.{Test, if_true, unless_true, unless_applies, if_met, Step, leave, list, skip_tests, include_tests, condition_tests, sortTests, tests, content, dropped, leaves_past, guarded, unless_dropped, selection, selections, plan, program}
+use Rattle.paper_plan.specs.Planning.{Test, if_true, unless_true, unless_applies, if_met, Step, leave, list, skip_tests, include_tests, condition_tests, sort_tests, tests, content, dropped, leaves_past, guarded, unless_dropped, selection, selections, plan, program}
 use Rattle.paper_plan.specs.Selecting.{set_of, fragment_number, fragment_row, type_if, if_of, number_sort, by_numbers}
 use Rattle.plan_keys.proofs.KeyLaws.{key_most}
 use Rattle.plan_theory.proofs.NumbersOf.{where_placed, or_l, or_r}
@@ -117,7 +117,7 @@ module _ (t : Table) (d : Doc) (op : ℕ) (ok : Plannable d) (sane : Sane t d op
     by_number : (P : ℕ → Type 0) → P (fragment_named d (name_of d r)) → P (fragment_row d (fragment_number d (name_of d r)))
     by_number P = subst P (sym (fragment_placed (name_of d r)))
 
-    spread_right : is kind_spread (row_of d r) ≡ true → RightTests t (sortTests view (spread (fragment_number d (name_of d r))))
+    spread_right : is kind_spread (row_of d r) ≡ true → RightTests t (sort_tests view (spread (fragment_number d (name_of d r))))
     spread_right q =
         let there = ok.spreads r q in
         let n = fragment_row d (fragment_number d (name_of d r)) in
@@ -125,15 +125,15 @@ module _ (t : Table) (d : Doc) (op : ℕ) (ok : Plannable d) (sane : Sane t d op
         (sane.fragment_below (name_of d r) there, (sane.on_output n fragment, tt))
 
     sort_right : (b c : Bool) → is kind_field (row_of d r) ≡ b → is kind_spread (row_of d r) ≡ c →
-        RightTests t (sortTests view (number_sort d (cond b (field (key_at d r)) (cond c (spread (name_of d r)) (inline (type_if t d (condition_of d r)))))))
+        RightTests t (sort_tests view (number_sort d (cond b (field (key_at d r)) (cond c (spread (name_of d r)) (inline (type_if t d (condition_of d r)))))))
     sort_right true c e q = tt
     sort_right false true e q = spread_right q
     sort_right false false e q = condition_right (type_if t d (condition_of d r)) refl
 
     tests_right : RightTests t (tests view r)
     tests_right =
-        tests_both t (skip_tests (view.skip r)) (include_tests (view.include r) ++ sortTests view (view.sort r)) (skip_right (view.skip r) refl)
-        (tests_both t (include_tests (view.include r)) (sortTests view (view.sort r)) (include_right (view.include r) refl)
+        tests_both t (skip_tests (view.skip r)) (include_tests (view.include r) ++ sort_tests view (view.sort r)) (skip_right (view.skip r) refl)
+        (tests_both t (include_tests (view.include r)) (sort_tests view (view.sort r)) (include_right (view.include r) refl)
         (sort_right (is kind_field (row_of d r)) (is kind_spread (row_of d r)) refl refl))
 
     content_right : (inner : ℕ → List ℕ → List Step) → ((at : ℕ) (rs : List ℕ) → AllFound rs → AllRight t (inner at rs)) → (at : ℕ) (b c : Bool) →

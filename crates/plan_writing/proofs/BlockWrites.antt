@@ -9,9 +9,9 @@ use lib.ListN.{length, get_or, set, take, drop, replicate, length-append, length
 use lib.Seq.{sets, length-sets, drop-cons, get_or-take, length-take-le}
 use Rattle.paper.specs.Numbers.{most_rows}
 use Rattle.paper_plan.specs.PlanNumbers.{plan_size, most_steps, most_blocks}
-use Rattle.plan_steps.specs.Table.{Raw, flat_raw, arg, expandOf, Space, Chained, Fitted, TooMany, Expanded}
+use Rattle.plan_steps.specs.Table.{Raw, flat_raw, arg, expand_of, Space, Chained, Fitted, TooMany, Expanded}
 use Rattle.plan_steps.proofs.Writes.{sets_then, flat_append, flat_length}
-use Rattle.plan_writing.specs.Writing.{rawProgram, rawFirsts, Tables, Holders, plan_cells, Fits, Over, Going, Blocks, Writes}
+use Rattle.plan_writing.specs.Writing.{raw_program, raw_firsts, Tables, Holders, plan_cells, Fits, Over, Going, Blocks, Writes}
 use Rattle.plan_writing.proofs.Zeros.{set_sets, counted}
 
 -- the rows of the blocks
@@ -40,19 +40,19 @@ module _ (t : List ℕ) (n : ℕ) (hs : List ℕ) where
 
   module _ (p : List ℕ) (at b : ℕ) (w : Going t n hs p at b) (low : b < length hs) (h : ℕ) (eh : h ≡ get_or hs b 0) where
     abbrev s : List Raw
-    s = expandOf t n (n + 1) at h
+    s = expand_of t n (n + 1) at h
 
-    steps_next : rawProgram t n 0 hs ≡ (w.raws ++ s) ++ rawProgram t n (at + length s) (drop (suc b) hs)
-    unfolding rawProgram
+    steps_next : raw_program t n 0 hs ≡ (w.raws ++ s) ++ raw_program t n (at + length s) (drop (suc b) hs)
+    unfolding raw_program
     steps_next =
-        w.steps_rest ∙ ap (λ (l : List ℕ). w.raws ++ rawProgram t n at l) (drop-cons hs b 0 low) ∙ ap (λ (x : ℕ). w.raws ++ rawProgram t n at (x ∷ drop (suc b) hs)) (sym eh)
-        ∙ sym (append_assoc w.raws s (rawProgram t n (at + length s) (drop (suc b) hs)))
+        w.steps_rest ∙ ap (λ (l : List ℕ). w.raws ++ raw_program t n at l) (drop-cons hs b 0 low) ∙ ap (λ (x : ℕ). w.raws ++ raw_program t n at (x ∷ drop (suc b) hs)) (sym eh)
+        ∙ sym (append_assoc w.raws s (raw_program t n (at + length s) (drop (suc b) hs)))
 
-    firsts_next : rawFirsts t n 0 hs ≡ (w.firsts ++ (at ∷ [])) ++ rawFirsts t n (at + length s) (drop (suc b) hs)
-    unfolding rawFirsts
+    firsts_next : raw_firsts t n 0 hs ≡ (w.firsts ++ (at ∷ [])) ++ raw_firsts t n (at + length s) (drop (suc b) hs)
+    unfolding raw_firsts
     firsts_next =
-        w.firsts_rest ∙ ap (λ (l : List ℕ). w.firsts ++ rawFirsts t n at l) (drop-cons hs b 0 low) ∙ ap (λ (x : ℕ). w.firsts ++ rawFirsts t n at (x ∷ drop (suc b) hs)) (sym eh)
-        ∙ sym (append_assoc w.firsts (at ∷ []) (rawFirsts t n (at + length s) (drop (suc b) hs)))
+        w.firsts_rest ∙ ap (λ (l : List ℕ). w.firsts ++ raw_firsts t n at l) (drop-cons hs b 0 low) ∙ ap (λ (x : ℕ). w.firsts ++ raw_firsts t n at (x ∷ drop (suc b) hs)) (sym eh)
+        ∙ sym (append_assoc w.firsts (at ∷ []) (raw_firsts t n (at + length s) (drop (suc b) hs)))
 
     pub going_more : (p₁ p₂ : List ℕ) (e : ℕ) → length hs ≤ most_blocks → p₁ ≡ set p (2 + b) at → Fitted p₁ p₂ at e s → Going t n hs p₂ e (b + 1)
     going_more p₁ p₂ e few q f = record {
@@ -64,8 +64,8 @@ module _ (t : List ℕ) (n : ℕ) (hs : List ℕ) where
       count = omega (arith, w.count, length-append w.firsts (at ∷ []));
       size = ap length f.written ∙ length-sets p₁ (2050 + 3 * at) (flat_raw s) ∙ ap length q ∙ length-set p (2 + b) at ∙ w.size;
       cells = all;
-      steps_rest = steps_next ∙ ap (λ (x : ℕ). (w.raws ++ s) ++ rawProgram t n x (drop (suc b) hs)) (sym f.end) ∙ ap (λ (k : ℕ). (w.raws ++ s) ++ rawProgram t n e (drop k hs)) one;
-      firsts_rest = firsts_next ∙ ap (λ (x : ℕ). (w.firsts ++ (at ∷ [])) ++ rawFirsts t n x (drop (suc b) hs)) (sym f.end) ∙ ap (λ (k : ℕ). (w.firsts ++ (at ∷ [])) ++ rawFirsts t n e (drop k hs)) one;
+      steps_rest = steps_next ∙ ap (λ (x : ℕ). (w.raws ++ s) ++ raw_program t n x (drop (suc b) hs)) (sym f.end) ∙ ap (λ (k : ℕ). (w.raws ++ s) ++ raw_program t n e (drop k hs)) one;
+      firsts_rest = firsts_next ∙ ap (λ (x : ℕ). (w.firsts ++ (at ∷ [])) ++ raw_firsts t n x (drop (suc b) hs)) (sym f.end) ∙ ap (λ (k : ℕ). (w.firsts ++ (at ∷ [])) ++ raw_firsts t n e (drop k hs)) one;
     }
       where
         one : suc b ≡ b + 1
@@ -81,18 +81,18 @@ module _ (t : List ℕ) (n : ℕ) (hs : List ℕ) where
 
     pub going_over : (e : ℕ) → TooMany at e s → Over t n hs e
     going_over e f =
-        let r = rawProgram t n (at + length s) (drop (suc b) hs) in
+        let r = raw_program t n (at + length s) (drop (suc b) hs) in
         record { told = f.told; many = omega (arith, f.many, ap length steps_next, length-append (w.raws ++ s) r, length-append w.raws s, w.reached) }
 
   -- all blocks are written
   module _ (p : List ℕ) (at : ℕ) (w : Going t n hs p at (length hs)) where
-    raws_all : rawProgram t n 0 hs ≡ w.raws
-    unfolding rawProgram
-    raws_all = w.steps_rest ∙ ap (λ (l : List ℕ). w.raws ++ rawProgram t n at l) (drop_of_length-le hs {i = length hs} (omega arith)) ∙ append-nil w.raws
+    raws_all : raw_program t n 0 hs ≡ w.raws
+    unfolding raw_program
+    raws_all = w.steps_rest ∙ ap (λ (l : List ℕ). w.raws ++ raw_program t n at l) (drop_of_length-le hs {i = length hs} (omega arith)) ∙ append-nil w.raws
 
-    firsts_all : rawFirsts t n 0 hs ≡ w.firsts
-    unfolding rawFirsts
-    firsts_all = w.firsts_rest ∙ ap (λ (l : List ℕ). w.firsts ++ rawFirsts t n at l) (drop_of_length-le hs {i = length hs} (omega arith)) ∙ append-nil w.firsts
+    firsts_all : raw_firsts t n 0 hs ≡ w.firsts
+    unfolding raw_firsts
+    firsts_all = w.firsts_rest ∙ ap (λ (l : List ℕ). w.firsts ++ raw_firsts t n at l) (drop_of_length-le hs {i = length hs} (omega arith)) ∙ append-nil w.firsts
 
     pub going_fits : (x : ℕ) → length hs ≤ most_blocks → x ≡ length hs → Fits t n hs (set (set p 0 x) 1 at) at
     going_fits x few e = record {
@@ -101,7 +101,7 @@ module _ (t : List ℕ) (n : ℕ) (hs : List ℕ) where
       written =
           counted w.firsts (flat_raw w.raws) (omega (arith, w.count)) (omega (arith, flat_length w.raws, w.reached, w.top)) p x at w.cells
           ∙ ap (λ (k : ℕ). plan_cells k at w.firsts (flat_raw w.raws)) e ∙ ap (λ (l : List ℕ). plan_cells (length hs) at l (flat_raw w.raws)) (sym firsts_all)
-          ∙ ap (λ (l : List Raw). plan_cells (length hs) at (rawFirsts t n 0 hs) (flat_raw l)) (sym raws_all);
+          ∙ ap (λ (l : List Raw). plan_cells (length hs) at (raw_firsts t n 0 hs) (flat_raw l)) (sym raws_all);
     }
 
 -- by what was told

@@ -12,10 +12,10 @@ use Rattle.paper_plan.specs.Planning.{Step, Plan, plan, program, firsts, plan_of
 use Rattle.paper_plan.specs.PlanNumbers.{plan_size, most_steps, most_blocks, step_numbers, plan_numbers}
 use Rattle.paper.specs.Calls.{filled}
 use Rattle.plan_walk_steps.specs.Numbers.{test_of, step_of}
-use Rattle.plan_steps.specs.Table.{Raw, flat_raw, what, arg, rawTests, shut, one, belongs, over, up_from, expandOf, decode, tableSet, Tabled}
+use Rattle.plan_steps.specs.Table.{Raw, flat_raw, what, arg, raw_tests, shut, one, belongs, over, up_from, expand_of, decode, table_set, Tabled}
 use Rattle.plan_steps.specs.Table.{count as testCount}
 use Rattle.plan_steps.proofs.Bridge.{expanded_is_plan}
-use Rattle.plan_writing.specs.Writing.{rawProgram, rawFirsts, plan_cells}
+use Rattle.plan_writing.specs.Writing.{raw_program, raw_firsts, plan_cells}
 
 -- a step's numbers, and back
 abbrev pub Known : Raw → Type 0
@@ -46,8 +46,8 @@ numbers_flat (x ∷ xs) a = ap (λ (l : List ℕ). l ++ gather step_numbers (map
 
 -- all kinds of the table's tests are known
 module _ (t : List ℕ) (n : ℕ) (kinds : (r j : ℕ) → r < n → j < testCount t r → (1 ≤ get_or t (12 * r + 4 + 2 * j) 0) × (get_or t (12 * r + 4 + 2 * j) 0 ≤ 4)) where
-  tests_known : (i m e : ℕ) → ((j : ℕ) → j < m → (1 ≤ get_or t (i + 2 * j) 0) × (get_or t (i + 2 * j) 0 ≤ 4)) → AllKnown (rawTests t i m e)
-  unfolding rawTests
+  tests_known : (i m e : ℕ) → ((j : ℕ) → j < m → (1 ≤ get_or t (i + 2 * j) 0) × (get_or t (i + 2 * j) 0 ≤ 4)) → AllKnown (raw_tests t i m e)
+  unfolding raw_tests
   tests_known i zero e h = tt
   tests_known i (suc m) e h =
       let z : i + 2 * 0 ≡ i = omega arith in
@@ -55,7 +55,7 @@ module _ (t : List ℕ) (n : ℕ) (kinds : (r j : ℕ) → r < n → j < testCou
       ((k.0, omega (arith, k.1)), tests_known (i + 2) m e (λ j l. let y : i + 2 * (j + 1) ≡ i + 2 + 2 * j = omega arith in subst (λ (x : ℕ). (1 ≤ get_or t x 0) × (get_or t x 0 ≤ 4)) y (h (j + 1) (omega arith))))
 
   shut_known : (at r : ℕ) (b : List Raw) → r < n → AllKnown b → AllKnown (shut t at r b)
-  shut_known at r b l a = all_both (rawTests t (12 * r + 4) (testCount t r) (at + testCount t r + length b)) b (tests_known (12 * r + 4) (testCount t r) (at + testCount t r + length b) (λ j h. kinds r j l h)) a
+  shut_known at r b l a = all_both (raw_tests t (12 * r + 4) (testCount t r) (at + testCount t r + length b)) b (tests_known (12 * r + 4) (testCount t r) (at + testCount t r + length b) (λ j h. kinds r j l h)) a
 
   module _ (inner : ℕ → ℕ → List Raw) (known : (at h : ℕ) → AllKnown (inner at h)) where
     one_known : (at r : ℕ) → r < n → AllKnown (one t inner at r)
@@ -76,67 +76,67 @@ module _ (t : List ℕ) (n : ℕ) (kinds : (r j : ℕ) → r < n → j < testCou
         go true ih = all_both (one t inner at c) (over t inner h (at + length (one t inner at c)) (up_from m (suc c))) (one_known at c (omega arith)) (ih (at + length (one t inner at c)))
         go false ih = ih at
 
-  expand_known : (k at h : ℕ) → AllKnown (expandOf t n k at h)
-  unfolding expandOf
+  expand_known : (k at h : ℕ) → AllKnown (expand_of t n k at h)
+  unfolding expand_of
   expand_known zero at h = tt
-  expand_known (suc k) at h = over_known (λ at' h'. expandOf t n k at' h') (λ at' h'. expand_known k at' h') n 0 h at (omega arith)
+  expand_known (suc k) at h = over_known (λ at' h'. expand_of t n k at' h') (λ at' h'. expand_known k at' h') n 0 h at (omega arith)
 
-  program_known : (at : ℕ) (hs : List ℕ) → AllKnown (rawProgram t n at hs)
-  unfolding rawProgram
+  program_known : (at : ℕ) (hs : List ℕ) → AllKnown (raw_program t n at hs)
+  unfolding raw_program
   program_known at [] = tt
-  program_known at (h ∷ hs) = all_both (expandOf t n (n + 1) at h) (rawProgram t n (at + length (expandOf t n (n + 1) at h)) hs) (expand_known (n + 1) at h) (program_known (at + length (expandOf t n (n + 1) at h)) hs)
+  program_known at (h ∷ hs) = all_both (expand_of t n (n + 1) at h) (raw_program t n (at + length (expand_of t n (n + 1) at h)) hs) (expand_known (n + 1) at h) (program_known (at + length (expand_of t n (n + 1) at h)) hs)
 
   -- the plan
-  module _ (v : View ℕ) (tabled : Tabled t n v) (set : ℕ → List ℕ) (sets-are : (h : ℕ) → tableSet t n h ≡ set h) where
-    block_is : (at h : ℕ) → map decode (expandOf t n (n + 1) at h) ≡ plan v (suc n) at (set h)
+  module _ (v : View ℕ) (tabled : Tabled t n v) (set : ℕ → List ℕ) (sets-are : (h : ℕ) → table_set t n h ≡ set h) where
+    block_is : (at h : ℕ) → map decode (expand_of t n (n + 1) at h) ≡ plan v (suc n) at (set h)
     block_is at h = let z : n + 1 ≡ suc n = omega arith in
-        expanded_is_plan t n v tabled (n + 1) at h ∙ ap (λ (k : ℕ). plan v k at (tableSet t n h)) z ∙ ap (plan v (suc n) at) (sets-are h)
+        expanded_is_plan t n v tabled (n + 1) at h ∙ ap (λ (k : ℕ). plan v k at (table_set t n h)) z ∙ ap (plan v (suc n) at) (sets-are h)
 
-    block_length : (at h : ℕ) → length (expandOf t n (n + 1) at h) ≡ length (plan v (suc n) at (set h))
-    block_length at h = sym (length-map (expandOf t n (n + 1) at h) decode) ∙ ap length (block_is at h)
+    block_length : (at h : ℕ) → length (expand_of t n (n + 1) at h) ≡ length (plan v (suc n) at (set h))
+    block_length at h = sym (length-map (expand_of t n (n + 1) at h) decode) ∙ ap length (block_is at h)
 
     map_append : (xs ys : List Raw) → map decode (xs ++ ys) ≡ map decode xs ++ map decode ys
     map_append [] ys = refl
     map_append (x ∷ xs) ys = ap (λ (l : List Step). decode x ∷ l) (map_append xs ys)
 
-    program_is : (at : ℕ) (hs : List ℕ) → map decode (rawProgram t n at hs) ≡ program v (suc n) at (map set hs)
-    unfolding rawProgram program
+    program_is : (at : ℕ) (hs : List ℕ) → map decode (raw_program t n at hs) ≡ program v (suc n) at (map set hs)
+    unfolding raw_program program
     program_is at [] = refl
     program_is at (h ∷ hs) =
-        let s = expandOf t n (n + 1) at h in
-        map_append s (rawProgram t n (at + length s) hs) ∙ ap (λ (l : List Step). l ++ map decode (rawProgram t n (at + length s) hs)) (block_is at h)
+        let s = expand_of t n (n + 1) at h in
+        map_append s (raw_program t n (at + length s) hs) ∙ ap (λ (l : List Step). l ++ map decode (raw_program t n (at + length s) hs)) (block_is at h)
         ∙ ap (λ (l : List Step). plan v (suc n) at (set h) ++ l) (program_is (at + length s) hs ∙ ap (λ (k : ℕ). program v (suc n) (at + k) (map set hs)) (block_length at h))
 
-    firsts_is : (at : ℕ) (hs : List ℕ) → rawFirsts t n at hs ≡ firsts v (suc n) at (map set hs)
-    unfolding rawFirsts firsts
+    firsts_is : (at : ℕ) (hs : List ℕ) → raw_firsts t n at hs ≡ firsts v (suc n) at (map set hs)
+    unfolding raw_firsts firsts
     firsts_is at [] = refl
     firsts_is at (h ∷ hs) =
-        ap (λ (l : List ℕ). at ∷ l) (firsts_is (at + length (expandOf t n (n + 1) at h)) hs ∙ ap (λ (k : ℕ). firsts v (suc n) (at + k) (map set hs)) (block_length at h))
+        ap (λ (l : List ℕ). at ∷ l) (firsts_is (at + length (expand_of t n (n + 1) at h)) hs ∙ ap (λ (k : ℕ). firsts v (suc n) (at + k) (map set hs)) (block_length at h))
 
-    firsts_count : (at : ℕ) (hs : List ℕ) → length (rawFirsts t n at hs) ≡ length hs
-    unfolding rawFirsts
+    firsts_count : (at : ℕ) (hs : List ℕ) → length (raw_firsts t n at hs) ≡ length hs
+    unfolding raw_firsts
     firsts_count at [] = refl
-    firsts_count at (h ∷ hs) = ap suc (firsts_count (at + length (expandOf t n (n + 1) at h)) hs)
+    firsts_count at (h ∷ hs) = ap suc (firsts_count (at + length (expand_of t n (n + 1) at h)) hs)
 
     module _ (hs : List ℕ) where
       abbrev made : Plan
       made = plan_of v (suc n) (map set hs)
 
-      pub plan_steps_count : length (rawProgram t n 0 hs) ≡ length made.steps
-      plan_steps_count = sym (length-map (rawProgram t n 0 hs) decode) ∙ ap length (program_is 0 hs)
+      pub plan_steps_count : length (raw_program t n 0 hs) ≡ length made.steps
+      plan_steps_count = sym (length-map (raw_program t n 0 hs) decode) ∙ ap length (program_is 0 hs)
 
       pub plan_blocks_count : length made.first ≡ length hs
       plan_blocks_count = sym (ap length (firsts_is 0 hs)) ∙ firsts_count 0 hs
 
-      numbers_are : gather step_numbers made.steps ≡ flat_raw (rawProgram t n 0 hs)
-      numbers_are = ap (gather step_numbers) (sym (program_is 0 hs)) ∙ numbers_flat (rawProgram t n 0 hs) (program_known 0 hs)
+      numbers_are : gather step_numbers made.steps ≡ flat_raw (raw_program t n 0 hs)
+      numbers_are = ap (gather step_numbers) (sym (program_is 0 hs)) ∙ numbers_flat (raw_program t n 0 hs) (program_known 0 hs)
 
       -- the cells are the plan's numbers and zeros
-      pub plan_cells_is : (r : ℕ) → r ≡ length (rawProgram t n 0 hs) → length hs ≤ most_blocks → plan_cells (length hs) r (rawFirsts t n 0 hs) (flat_raw (rawProgram t n 0 hs)) ≡ plan_numbers made ++ replicate (plan_size - length (plan_numbers made)) 0
+      pub plan_cells_is : (r : ℕ) → r ≡ length (raw_program t n 0 hs) → length hs ≤ most_blocks → plan_cells (length hs) r (raw_firsts t n 0 hs) (flat_raw (raw_program t n 0 hs)) ≡ plan_numbers made ++ replicate (plan_size - length (plan_numbers made)) 0
       plan_cells_is r e few =
-          ap (λ (k : ℕ). plan_cells k r (rawFirsts t n 0 hs) (flat_raw (rawProgram t n 0 hs))) (sym plan_blocks_count)
-          ∙ ap (λ (k : ℕ). plan_cells (length made.first) k (rawFirsts t n 0 hs) (flat_raw (rawProgram t n 0 hs))) (e ∙ plan_steps_count)
-          ∙ ap (λ (l : List ℕ). plan_cells (length made.first) (length made.steps) l (flat_raw (rawProgram t n 0 hs))) (firsts_is 0 hs)
+          ap (λ (k : ℕ). plan_cells k r (raw_firsts t n 0 hs) (flat_raw (raw_program t n 0 hs))) (sym plan_blocks_count)
+          ∙ ap (λ (k : ℕ). plan_cells (length made.first) k (raw_firsts t n 0 hs) (flat_raw (raw_program t n 0 hs))) (e ∙ plan_steps_count)
+          ∙ ap (λ (l : List ℕ). plan_cells (length made.first) (length made.steps) l (flat_raw (raw_program t n 0 hs))) (firsts_is 0 hs)
           ∙ ap (plan_cells (length made.first) (length made.steps) made.first) (sym numbers_are)
           ∙ ap (λ (l : List ℕ). length made.first ∷ length made.steps ∷ l) (sym (append_assoc fs cs (replicate (3 * most_steps - length cs) 0)))
           ∙ ap (λ (k : ℕ). plan_numbers made ++ replicate k 0) room

@@ -4,18 +4,18 @@ use Rattle.std.specs.Prelude.{◌≡◌, List, [], ◌∷◌, ◌++◌, ◌⊎�
 use Rattle.std.proofs.lemmas.List.Edits.{sets}
 use Rattle.paper.specs.Numbers.{most_rows}
 use Rattle.paper_plan.specs.PlanNumbers.{plan_size, most_steps, most_blocks}
-use Rattle.plan_steps.specs.Table.{Raw, flat_raw, arg, expandOf, Chained}
+use Rattle.plan_steps.specs.Table.{Raw, flat_raw, arg, expand_of, Chained}
 use Rattle.plan_steps.specs.Table.{count as testCount}
 
 -- the steps of the blocks of the rows hs, from step `at` on; and where each begins. No selection stands deeper than there are rows.
 module _ (t : List ℕ) (n : ℕ) where
-  unfoldable pub rawProgram : ℕ → List ℕ → List Raw
-  rawProgram at [] = []
-  rawProgram at (h ∷ hs) = let s = expandOf t n (n + 1) at h in s ++ rawProgram (at + length s) hs
+  unfoldable pub raw_program : ℕ → List ℕ → List Raw
+  raw_program at [] = []
+  raw_program at (h ∷ hs) = let s = expand_of t n (n + 1) at h in s ++ raw_program (at + length s) hs
 
-  unfoldable pub rawFirsts : ℕ → List ℕ → List ℕ
-  rawFirsts at [] = []
-  rawFirsts at (h ∷ hs) = let s = expandOf t n (n + 1) at h in at ∷ rawFirsts (at + length s) hs
+  unfoldable pub raw_firsts : ℕ → List ℕ → List ℕ
+  raw_firsts at [] = []
+  raw_firsts at (h ∷ hs) = let s = expand_of t n (n + 1) at h in at ∷ raw_firsts (at + length s) hs
 
 -- what is asked of the table and the chains of its rows
 pub record Tables (t : List ℕ) (n : ℕ) (first next : List ℕ) : Type 0 where
@@ -39,13 +39,13 @@ plan_cells blocks steps firsts cells =
 
 -- the plan of the blocks hs is written; or it has more steps than there may be
 pub record Fits (t : List ℕ) (n : ℕ) (hs p : List ℕ) (r : ℕ) : Type 0 where
-  pub end : r ≡ length (rawProgram t n 0 hs)
+  pub end : r ≡ length (raw_program t n 0 hs)
   pub top : r ≤ most_steps
-  pub written : p ≡ plan_cells (length hs) r (rawFirsts t n 0 hs) (flat_raw (rawProgram t n 0 hs))
+  pub written : p ≡ plan_cells (length hs) r (raw_firsts t n 0 hs) (flat_raw (raw_program t n 0 hs))
 
 pub record Over (t : List ℕ) (n : ℕ) (hs : List ℕ) (r : ℕ) : Type 0 where
   pub told : r ≡ suc most_steps
-  pub many : most_steps < length (rawProgram t n 0 hs)
+  pub many : most_steps < length (raw_program t n 0 hs)
 
 abbrev pub Writes : List ℕ → ℕ → List ℕ → List ℕ → ℕ → Type 0
 Writes t n hs p r = Fits t n hs p r ⊎ Over t n hs r
@@ -60,8 +60,8 @@ pub record Going (t : List ℕ) (n : ℕ) (hs p : List ℕ) (at b : ℕ) : Type 
   pub count : length firsts ≡ b
   pub size : length p ≡ plan_size
   pub cells : p ≡ sets (sets (replicate plan_size 0) 2 firsts) 2050 (flat_raw raws)
-  pub steps_rest : rawProgram t n 0 hs ≡ raws ++ rawProgram t n at (drop b hs)
-  pub firsts_rest : rawFirsts t n 0 hs ≡ firsts ++ rawFirsts t n at (drop b hs)
+  pub steps_rest : raw_program t n 0 hs ≡ raws ++ raw_program t n at (drop b hs)
+  pub firsts_rest : raw_firsts t n 0 hs ≡ firsts ++ raw_firsts t n at (drop b hs)
 
 -- all blocks, or too many steps
 abbrev pub Blocks : List ℕ → ℕ → List ℕ → List ℕ → ℕ → Type 0

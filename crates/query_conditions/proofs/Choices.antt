@@ -62,16 +62,16 @@ module _ (t : Table) (d : Doc) (judged : Judged t d Fits) (rows : Below d.rows) 
       (and_r (is_selection (row_of d (parent_of d k))) (not (repeated_there d k) && only_ifs d (rows_below d kind_argument k))
       (and_r (any_of (same (name_of d k)) built_in_directives) (is_selection (row_of d (parent_of d k)) && (not (repeated_there d k) && only_ifs d (rows_below d kind_argument k))) r))
 
-  abbrev isArgument : ℕ → Row → Bool
-  isArgument k r = is kind_argument r && below k r
+  abbrev is_argument : ℕ → Row → Bool
+  is_argument k r = is kind_argument r && below k r
 
-  abbrev isChoice : ℕ → Row → Bool
-  isChoice a r = (is kind_boolean r || is kind_variable r) && below a r
+  abbrev is_choice : ℕ → Row → Bool
+  is_choice a r = (is kind_boolean r || is kind_variable r) && below a r
 
   -- the argument below a directive, and the row right behind it
   record Choice (k : ℕ) : Type 0 where
-    argument : T (isArgument k (row_of d (argument_below d k)))
-    choice : T (isChoice (argument_below d k) (row_of d (suc (argument_below d k))))
+    argument : T (is_argument k (row_of d (argument_below d k)))
+    choice : T (is_choice (argument_below d k) (row_of d (suc (argument_below d k))))
 
   value_of : (n : ℕ) → T (eqb n kind_boolean || eqb n kind_variable) → T (leb kind_variable n && leb n kind_object)
   value_of n h = go (or_cases (eqb n kind_boolean) (eqb n kind_variable) h)
@@ -89,15 +89,15 @@ module _ (t : Table) (d : Doc) (judged : Judged t d Fits) (rows : Below d.rows) 
   choice_of k h =
       let o = one_if (rows_below d kind_argument k) (directive_right_is k h) in
       let a = o.0 in
-      let f = first_number (isArgument k) d.rows 0 a [] o.1 in
+      let f = first_number (is_argument k) d.rows 0 a [] o.1 in
       let q : a ≡ argument_below d k = f.0 ∙ zero-add (argument_below d k) in
-      let s = any_some (isChoice a) d.rows (and_r (same (name_of d a) (bytes "if")) (any_of (isChoice a) d.rows) o.2) in
+      let s = any_some (is_choice a) d.rows (and_r (same (name_of d a) (bytes "if")) (any_of (is_choice a) d.rows) o.2) in
       let j = s.0 in
-      let c : T (isChoice (argument_below d k) (row_of d j)) = subst (λ (x : ℕ). T (isChoice x (row_of d j))) q s.1 in
+      let c : T (is_choice (argument_below d k) (row_of d j)) = subst (λ (x : ℕ). T (is_choice x (row_of d j))) q s.1 in
       let b : T (is kind_boolean (row_of d j) || is kind_variable (row_of d j)) = and_l (is kind_boolean (row_of d j) || is kind_variable (row_of d j)) (below (argument_below d k) (row_of d j)) c in
       let p : T (below (argument_below d k) (row_of d j)) = and_r (is kind_boolean (row_of d j) || is kind_variable (row_of d j)) (below (argument_below d k) (row_of d j)) c in
       let z = value_place (argument_below d k) j (and_l (is kind_argument (row_of d (argument_below d k))) (below k (row_of d (argument_below d k))) f.1) (value_of (row_of d j).kind b) p in
-      record { argument = f.1; choice = subst (λ (x : ℕ). T (isChoice (argument_below d k) (row_of d x))) z c }
+      record { argument = f.1; choice = subst (λ (x : ℕ). T (is_choice (argument_below d k) (row_of d x))) z c }
 
   -- the variable of a @skip or @include, row by row
   pub record Given (op i v : ℕ) : Type 0 where
@@ -105,7 +105,7 @@ module _ (t : Table) (d : Doc) (judged : Judged t d Fits) (rows : Below d.rows) 
     argument : ℕ
     directive : ℕ
     is_variable : T (is kind_variable (row_of d value))
-    is_argument : T (is kind_argument (row_of d argument))
+    is_argument_is : T (is kind_argument (row_of d argument))
     is_directive : T (is kind_directive (row_of d directive))
     below_argument : parent_of d value ≡ argument
     below_directive : parent_of d argument ≡ directive
@@ -138,13 +138,13 @@ module _ (t : Table) (d : Doc) (judged : Judged t d Fits) (rows : Below d.rows) 
           let c = choice_of k h in
           let n : T (is kind_argument (row_of d a)) = and_l (is kind_argument (row_of d a)) (below k (row_of d a)) c.argument in
           let z = value_place a j n (and_l (is_value (row_of d j)) (below a (row_of d j)) u) (and_r (is_value (row_of d j)) (below a (row_of d j)) u) in
-          let m : T (isChoice a (row_of d j)) = subst (λ (o : ℕ). T (isChoice a (row_of d o))) (sym z) c.choice in
+          let m : T (is_choice a (row_of d j)) = subst (λ (o : ℕ). T (is_choice a (row_of d o))) (sym z) c.choice in
           record {
             value = j;
             argument = a;
             directive = k;
             is_variable = chosen (row_of d j) (and_l (is kind_boolean (row_of d j) || is kind_variable (row_of d j)) (below a (row_of d j)) m) (ap (is kind_boolean) y ∙ q);
-            is_argument = n;
+            is_argument_is = n;
             is_directive = h;
             below_argument = eqb→eq (parent_of d j) a (and_r (is_value (row_of d j)) (below a (row_of d j)) u);
             below_directive = eqb→eq (parent_of d a) k (and_r (is kind_argument (row_of d a)) (below k (row_of d a)) c.argument);

@@ -43,8 +43,8 @@ module _ (t : Table) (d : Doc) (judged : Judged t d Fits) (rows : Below d.rows) 
       (λ w. not_broken t d judged j _ (condition (and_i (is kind_type_reference (row_of d j)) (is_fragment (row_of d (parent_of d j)) && not (is_composite (meant t (name_of d j)))) r (and_i (is_fragment (row_of d (parent_of d j))) (not (is_composite (meant t (name_of d j)))) f w))))
 
   -- the condition of row i that was found
-  abbrev isCondition : ℕ → Row → Bool
-  isCondition i r = cond (is kind_type_reference r) (below i r) false
+  abbrev is_condition : ℕ → Row → Bool
+  is_condition i r = cond (is kind_type_reference r) (below i r) false
 
   cond_left : (a b : Bool) → cond a b false ≡ true → T a
   cond_left true b e = tt
@@ -57,7 +57,7 @@ module _ (t : Table) (d : Doc) (judged : Judged t d Fits) (rows : Below d.rows) 
   found_right : (i : ℕ) (r : Row) → condition_of d i ≡ some r → ((j : ℕ) → T (is kind_type_reference (row_of d j)) → parent_of d j ≡ i → T (is_fragment (row_of d i))) → is_composite (definition_at t (type_number t (spelt d r))) ≡ true
   unfolding condition_of composite_of
   found_right i r e f =
-      let s = find_some (isCondition i) d.rows r no_row e in
+      let s = find_some (is_condition i) d.rows r no_row e in
       let j = s.0 in
       let q : row_of d j ≡ r = s.2 in
       let k : T (is kind_type_reference (row_of d j)) = subst (λ (x : Row). T (is kind_type_reference x)) (sym q) (cond_left (is kind_type_reference r) (below i r) s.3) in
@@ -68,7 +68,7 @@ module _ (t : Table) (d : Doc) (judged : Judged t d Fits) (rows : Below d.rows) 
   unfolding condition_of
   some_there f k n =
       let c = rows.fragments f (eqb→eq (row_of d f).kind kind_fragment k) in
-      any_none (isCondition f) refl d.rows (find_none (isCondition f) d.rows n) (suc f) (two (row_of d (suc f)).kind (parent_of d (suc f)) c.0 c.1)
+      any_none (is_condition f) refl d.rows (find_none (is_condition f) d.rows n) (suc f) (two (row_of d (suc f)).kind (parent_of d (suc f)) c.0 c.1)
     where
       two : (j p : ℕ) → j ≡ kind_type_reference → p ≡ f → T (cond (eqb j kind_type_reference) (eqb p f) false)
       two j p e q = subst (λ (x : ℕ). T (cond (eqb x kind_type_reference) (eqb p f) false)) (sym e) (subst (λ (x : ℕ). T (eqb x f)) (sym q) (eqb_refl f))

@@ -1,4 +1,6 @@
 // Rows beside each other and right below a row; the query rule on them: 12.
+#![tactic(auto)]
+
 ghost use Rattle.std.specs.Prelude.{◌≡◌, ◌+◌, ◌≤◌, ◌<◌, length};
 ghost use Rattle.paper_table.specs.Lists.{earlier};
 ghost use Rattle.table_book.specs.Book.{part};

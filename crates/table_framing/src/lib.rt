@@ -1,4 +1,6 @@
 // Where a table's framing is wrong first. Nothing is asked of the bytes.
+#![tactic(auto)]
+
 ghost use Rattle.std.specs.Prelude.{◌≡◌, ◌+◌, ◌≤◌, length};
 ghost use mathlib.Core.List.{head?};
 ghost use Rattle.std.proofs.Math.Seq.{slice};

@@ -1,5 +1,7 @@
 // Which objects an interface or union can be, found once for a table: a bit for each pair of definitions.
 // Nothing is asked of the table but its book.
+#![tactic(auto)]
+
 ghost use Rattle.std.specs.Prelude.{◌≡◌, true, ◌+◌, ◌≤◌, ◌<◌, length, eqb};
 ghost use Rattle.paper_table.specs.TableNumbers.{tag_object, tag_union};
 ghost use Rattle.paper.specs.Tokens.{same};

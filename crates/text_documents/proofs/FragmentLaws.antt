@@ -161,11 +161,11 @@ fragment_first S σ a e t =
     ∙ class_first n_fragment a e t S σ FragmentDefinition {α = act row ∷ act (kind kind_fragment 0) ∷ tm (the n_fragment) ∷ act named ∷ name_stack} (Memᴰ.head refl) tt
 
 module _ (s rows : List ℕ) (c : Cursor) (before : ℕ) (g : Ready s rows c no_parent) (h : AtFragment s c) where
-  abbrev first-cells : List ℕ
-  first-cells = put rows c.rows kind_fragment c.start 0 no_parent 0 0 0
+  abbrev first_cells : List ℕ
+  first_cells = put rows c.rows kind_fragment c.start 0 no_parent 0 0 0
 
   fragment_row : (σ : Stack) (o : List ℕ) (q : Counts) → top o ≡ no_parent →
-      at s rows c o most_levels q (one_definition ++ σ) ≡ go (st first-cells (c.rows + 1) (c.rows ∷ o) c.stop most_levels (kinded kind_fragment q)) (tm (the n_fragment) ∷ act named ∷ (name_stack ++ σ)) (from s c.stop)
+      at s rows c o most_levels q (one_definition ++ σ) ≡ go (st first_cells (c.rows + 1) (c.rows ∷ o) c.stop most_levels (kinded kind_fragment q)) (tm (the n_fragment) ∷ act named ∷ (name_stack ++ σ)) (from s c.stop)
   fragment_row σ o q t =
       rw (fragment_text s c g.within g.looks h) (fragment_first (st rows c.rows o c.stop most_levels q) σ c.start c.end (from s c.end)
       ∙ row_opens rows c.rows o c.stop most_levels q (tm (the n_fragment) ∷ act named ∷ (name_stack ++ σ)) (token (token_of n_fragment c.start c.end) (from s c.end)) kind_fragment 0
@@ -176,7 +176,7 @@ module _ (s rows : List ℕ) (c : Cursor) (before : ℕ) (g : Ready s rows c no_
       let i : most_rows < c.rows + 1 = omega arith in
       fragment_row σ o q t
       ∙ rw (fragment_text s c g.within g.looks h)
-      (class_take n_fragment c.start c.end (from s c.end) first-cells (c.rows + 1) (c.rows ∷ o) c.stop most_levels (kinded kind_fragment q) (act named ∷ (name_stack ++ σ)) (the n_fragment) tt tt tt
+      (class_take n_fragment c.start c.end (from s c.end) first_cells (c.rows + 1) (c.rows ∷ o) c.stop most_levels (kinded kind_fragment q) (act named ∷ (name_stack ++ σ)) (the n_fragment) tt tt tt
       ∙ rw (lt-ltb most_rows (c.rows + 1) i) refl)
 
   module _ (room : c.rows ≡ most_rows → ⊥) where
@@ -186,7 +186,7 @@ module _ (s rows : List ℕ) (c : Cursor) (before : ℕ) (g : Ready s rows c no_
         let j : most_fragments ≤ q.fragments = omega arith in
         fragment_row σ o q t
         ∙ rw (fragment_text s c g.within g.looks h)
-        (class_take n_fragment c.start c.end (from s c.end) first-cells (c.rows + 1) (c.rows ∷ o) c.stop most_levels (kinded kind_fragment q) (act named ∷ (name_stack ++ σ)) (the n_fragment) tt tt tt
+        (class_take n_fragment c.start c.end (from s c.end) first_cells (c.rows + 1) (c.rows ∷ o) c.stop most_levels (kinded kind_fragment q) (act named ∷ (name_stack ++ σ)) (the n_fragment) tt tt tt
         ∙ rw (le-ltb most_rows (c.rows + 1) i, fragment_over q j) refl)
 
     module _ (less : before ≡ most_fragments → ⊥) where
@@ -194,22 +194,22 @@ module _ (s rows : List ℕ) (c : Cursor) (before : ℕ) (g : Ready s rows c no_
       one_more q f m = let p = fine_parts q f in fragment_fine q f (omega (arith, p.0, less))
 
       fragment_past : (σ : Stack) (o : List ℕ) (q : Counts) → top o ≡ no_parent → over_counts q ≡ false → fragments_are before q →
-          at s rows c o most_levels q (one_definition ++ σ) ≡ go (st first-cells (c.rows + 1) (c.rows ∷ o) c.end most_levels (kinded kind_fragment q)) (act named ∷ (name_stack ++ σ)) (from s c.end)
+          at s rows c o most_levels q (one_definition ++ σ) ≡ go (st first_cells (c.rows + 1) (c.rows ∷ o) c.end most_levels (kinded kind_fragment q)) (act named ∷ (name_stack ++ σ)) (from s c.end)
       fragment_past σ o q t f m =
           let i : c.rows + 1 ≤ most_rows = omega (arith, g.few, room) in
           fragment_row σ o q t
           ∙ rw (fragment_text s c g.within g.looks h)
-          (class_take n_fragment c.start c.end (from s c.end) first-cells (c.rows + 1) (c.rows ∷ o) c.stop most_levels (kinded kind_fragment q) (act named ∷ (name_stack ++ σ)) (the n_fragment) tt tt tt
+          (class_take n_fragment c.start c.end (from s c.end) first_cells (c.rows + 1) (c.rows ∷ o) c.stop most_levels (kinded kind_fragment q) (act named ∷ (name_stack ++ σ)) (the n_fragment) tt tt tt
           ∙ rw (le-ltb most_rows (c.rows + 1) i, one_more q f m) refl)
 
       module _ (r : Read) (e : r ≡ moved_to c.end (c.rows + 1) (head_of (from s c.end))) where
         pub fragment_bad : (rows' : List ℕ) (x : Refusal) → r ≡ Refused x → CountedSaid 1 s rows rows' c no_parent most_levels one_definition stays (fragments_are before) (fragments_become (before + 1)) r
         fragment_bad rows' x y =
-            rw y (λ σ o q t f m. fragment_past σ o q t f m ∙ moved_halts s c.end (c.rows + 1) r x e y (st first-cells (c.rows + 1) (c.rows ∷ o) c.end most_levels (kinded kind_fragment q)) (act named ∷ (name_stack ++ σ)))
+            rw y (λ σ o q t f m. fragment_past σ o q t f m ∙ moved_halts s c.end (c.rows + 1) r x e y (st first_cells (c.rows + 1) (c.rows ∷ o) c.end most_levels (kinded kind_fragment q)) (act named ∷ (name_stack ++ σ)))
 
         module _ (d : Cursor) (y : r ≡ Done d) where
-          abbrev named-cells : List ℕ
-          named-cells = put rows c.rows kind_fragment c.start 0 no_parent d.start (d.end - d.start) 0
+          abbrev named_cells : List ℕ
+          named_cells = put rows c.rows kind_fragment c.start 0 no_parent d.start (d.end - d.start) 0
 
           word_next : Next s c.end (c.rows + 1) d
           word_next = next_of s c.end (c.rows + 1) r d e y
@@ -224,7 +224,7 @@ module _ (s rows : List ℕ) (c : Cursor) (before : ℕ) (g : Ready s rows c no_
           fragment_ends = end_within s d name_within word_next.looks
 
           name_at : (σ : Stack) (o : List ℕ) (q : Counts) → top o ≡ no_parent → over_counts q ≡ false → fragments_are before q →
-              at s rows c o most_levels q (one_definition ++ σ) ≡ at s named-cells d (c.rows ∷ o) most_levels (kinded kind_fragment q) (name_stack ++ σ)
+              at s rows c o most_levels q (one_definition ++ σ) ≡ at s named_cells d (c.rows ∷ o) most_levels (kinded kind_fragment q) (name_stack ++ σ)
           name_at σ o q t f m =
               fragment_past σ o q t f m
               ∙ rw (sym word_next.stop, sym word_next.rows)
@@ -233,9 +233,9 @@ module _ (s rows : List ℕ) (c : Cursor) (before : ℕ) (g : Ready s rows c no_
 
           pub fragment_nameless : (rows' : List ℕ) → names_fragment s d ≡ false → (u : Read) → u ≡ no_going_of d → CountedSaid 1 s rows rows' c no_parent most_levels one_definition stays (fragments_are before) (fragments_become (before + 1)) u
           fragment_nameless rows' k u z =
-              rw z (λ σ o q t f m. name_at σ o q t f m ∙ name_refused s d name_within word_next.looks named-cells (c.rows ∷ o) most_levels (kinded kind_fragment q) k (nt TypeCondition ∷ (body_stack ++ σ)))
+              rw z (λ σ o q t f m. name_at σ o q t f m ∙ name_refused s d name_within word_next.looks named_cells (c.rows ∷ o) most_levels (kinded kind_fragment q) k (nt TypeCondition ∷ (body_stack ++ σ)))
 
-          module _ (rows₁ : List ℕ) (z : rows₁ ≡ named-cells) where
+          module _ (rows₁ : List ℕ) (z : rows₁ ≡ named_cells) where
             pub fragment_ready : names_fragment s d ≡ true → Ready s rows₁ d c.rows × (c.rows < most_rows) × (names_fragment s d ≡ true)
             fragment_ready k = (
               next_ready s rows₁ c.end (c.rows + 1) d g.short (ap length z ∙ put_length rows c.rows kind_fragment c.start 0 no_parent d.start (d.end - d.start) 0 ∙ g.size) word_begins.2 (omega (arith, g.few, room)) word_next c.rows g.few,

@@ -81,12 +81,12 @@ type_hits (suc (suc x)) = (tt, tt, tt)
 
 -- THE OPERATION
 module _ (s rows : List ℕ) (c : Cursor) (extra : ℕ) (g : Ready s rows c no_parent) (h : AtType s c extra) where
-  abbrev first-cells : List ℕ
-  first-cells = put rows c.rows kind_operation c.start 0 no_parent 0 0 extra
+  abbrev first_cells : List ℕ
+  first_cells = put rows c.rows kind_operation c.start 0 no_parent 0 0 extra
 
   operation_row : (σ : Stack) (o : List ℕ) (q : Counts) → top o ≡ no_parent →
       at s rows c o most_levels q (one_definition ++ σ)
-      ≡ go (st first-cells (c.rows + 1) (c.rows ∷ o) c.stop most_levels (kinded kind_operation q)) (tm (the (type_class extra)) ∷ nt OperationName? ∷ (rest_stack ++ σ)) (from s c.stop)
+      ≡ go (st first_cells (c.rows + 1) (c.rows ∷ o) c.stop most_levels (kinded kind_operation q)) (tm (the (type_class extra)) ∷ nt OperationName? ∷ (rest_stack ++ σ)) (from s c.stop)
   operation_row σ o q t =
       rw (type_text s c extra g.within g.looks h) (operation_first extra h.2 (st rows c.rows o c.stop most_levels q) σ c.start c.end (from s c.end)
       ∙ row_opens rows c.rows o c.stop most_levels q (tm (the (type_class extra)) ∷ nt OperationName? ∷ (rest_stack ++ σ)) (token (token_of (type_class extra) c.start c.end) (from s c.end)) kind_operation extra
@@ -98,18 +98,18 @@ module _ (s rows : List ℕ) (c : Cursor) (extra : ℕ) (g : Ready s rows c no_p
       let i : most_rows < c.rows + 1 = omega arith in
       operation_row σ o q t
       ∙ rw (type_text s c extra g.within g.looks h)
-      (class_take (type_class extra) c.start c.end (from s c.end) first-cells (c.rows + 1) (c.rows ∷ o) c.stop most_levels (kinded kind_operation q) (nt OperationName? ∷ (rest_stack ++ σ)) (the (type_class extra)) y.0 y.1 y.2
+      (class_take (type_class extra) c.start c.end (from s c.end) first_cells (c.rows + 1) (c.rows ∷ o) c.stop most_levels (kinded kind_operation q) (nt OperationName? ∷ (rest_stack ++ σ)) (the (type_class extra)) y.0 y.1 y.2
       ∙ rw (lt-ltb most_rows (c.rows + 1) i) refl)
 
   module _ (room : c.rows ≡ most_rows → ⊥) where
     operation_past : (σ : Stack) (o : List ℕ) (q : Counts) → top o ≡ no_parent → over_counts q ≡ false →
-        at s rows c o most_levels q (one_definition ++ σ) ≡ go (st first-cells (c.rows + 1) (c.rows ∷ o) c.end most_levels (kinded kind_operation q)) (nt OperationName? ∷ (rest_stack ++ σ)) (from s c.end)
+        at s rows c o most_levels q (one_definition ++ σ) ≡ go (st first_cells (c.rows + 1) (c.rows ∷ o) c.end most_levels (kinded kind_operation q)) (nt OperationName? ∷ (rest_stack ++ σ)) (from s c.end)
     operation_past σ o q t f =
         let y = type_hits extra in
         let i : c.rows + 1 ≤ most_rows = omega (arith, g.few, room) in
         operation_row σ o q t
         ∙ rw (type_text s c extra g.within g.looks h)
-        (class_take (type_class extra) c.start c.end (from s c.end) first-cells (c.rows + 1) (c.rows ∷ o) c.stop most_levels (kinded kind_operation q) (nt OperationName? ∷ (rest_stack ++ σ)) (the (type_class extra)) y.0 y.1 y.2
+        (class_take (type_class extra) c.start c.end (from s c.end) first_cells (c.rows + 1) (c.rows ∷ o) c.stop most_levels (kinded kind_operation q) (nt OperationName? ∷ (rest_stack ++ σ)) (the (type_class extra)) y.0 y.1 y.2
         ∙ rw (le-ltb most_rows (c.rows + 1) i, operation_fine q f) refl)
 
     -- the rest is read, where the machine is at it
@@ -130,7 +130,7 @@ module _ (s rows : List ℕ) (c : Cursor) (extra : ℕ) (g : Ready s rows c no_p
     module _ (r : Read) (e : r ≡ moved_to c.end (c.rows + 1) (head_of (from s c.end))) where
       pub operation_bad : (rows' : List ℕ) (x : Refusal) → r ≡ Refused x → CountedSaid 1 s rows rows' c no_parent most_levels one_definition stays any_counts same_fragments r
       operation_bad rows' x y =
-          rw y (λ σ o q t f m. operation_past σ o q t f ∙ moved_halts s c.end (c.rows + 1) r x e y (st first-cells (c.rows + 1) (c.rows ∷ o) c.end most_levels (kinded kind_operation q)) (nt OperationName? ∷ (rest_stack ++ σ)))
+          rw y (λ σ o q t f m. operation_past σ o q t f ∙ moved_halts s c.end (c.rows + 1) r x e y (st first_cells (c.rows + 1) (c.rows ∷ o) c.end most_levels (kinded kind_operation q)) (nt OperationName? ∷ (rest_stack ++ σ)))
 
       module _ (d : Cursor) (y : r ≡ Done d) where
         next : Next s c.end (c.rows + 1) d
@@ -146,53 +146,53 @@ module _ (s rows : List ℕ) (c : Cursor) (extra : ℕ) (g : Ready s rows c no_p
         name_ends = end_within s d name_within next.looks
 
         -- what the rest asks, where there is no name
-        pub unnamed_ready : (rows₁ : List ℕ) → rows₁ ≡ first-cells → Ready s rows₁ d c.rows × (c.rows < most_rows)
+        pub unnamed_ready : (rows₁ : List ℕ) → rows₁ ≡ first_cells → Ready s rows₁ d c.rows × (c.rows < most_rows)
         unnamed_ready rows₁ z = (
           next_ready s rows₁ c.end (c.rows + 1) d g.short (ap length z ∙ put_length rows c.rows kind_operation c.start 0 no_parent 0 0 extra ∙ g.size) begins.2 (omega (arith, g.few, room)) next c.rows g.few,
           omega (arith, g.few, room),
         )
 
-        pub unnamed_says : (d.kind ≡ kind_of n_other → ⊥) → (rows₁ : List ℕ) → rows₁ ≡ first-cells → (rows' : List ℕ) (u : Read) → CountedSaid 1 s rows₁ rows' d c.rows most_levels rest_stack pop (variables_are 0) same_fragments u →
+        pub unnamed_says : (d.kind ≡ kind_of n_other → ⊥) → (rows₁ : List ℕ) → rows₁ ≡ first_cells → (rows' : List ℕ) (u : Read) → CountedSaid 1 s rows₁ rows' d c.rows most_levels rest_stack pop (variables_are 0) same_fragments u →
             CountedSaid 1 s rows rows' c no_parent most_levels one_definition stays any_counts same_fragments u
         unfolding factored language choose
         unnamed_says k rows₁ z rows' u w =
             operation_says rows₁ d (omega (arith, next.stop, begins))
             (λ σ o q t f. operation_past σ o q t f
-            ∙ rw (sym next.stop, sym next.rows) (null s d name_within next.looks first-cells d.rows (c.rows ∷ o) most_levels (kinded kind_operation q) (rest_stack ++ σ) OperationName? {α = []} (Memᴰ.head refl) tt refl (λ y. not (is (kind_of n_other) y)) (not_is (kind_of n_other) d.kind k) tt ∙ rw z refl))
+            ∙ rw (sym next.stop, sym next.rows) (null s d name_within next.looks first_cells d.rows (c.rows ∷ o) most_levels (kinded kind_operation q) (rest_stack ++ σ) OperationName? {α = []} (Memᴰ.head refl) tt refl (λ y. not (is (kind_of n_other) y)) (not_is (kind_of n_other) d.kind k) tt ∙ rw z refl))
             rows' u w
 
         module _ (k : d.kind ≡ kind_of n_other) where
-          abbrev named-cells : List ℕ
-          named-cells = put rows c.rows kind_operation c.start 0 no_parent d.start (d.end - d.start) extra
+          abbrev named_cells : List ℕ
+          named_cells = put rows c.rows kind_operation c.start 0 no_parent d.start (d.end - d.start) extra
 
           named_past : (σ : Stack) (o : List ℕ) (q : Counts) → top o ≡ no_parent → over_counts q ≡ false →
-              at s rows c o most_levels q (one_definition ++ σ) ≡ go (st named-cells (c.rows + 1) (c.rows ∷ o) d.end most_levels (kinded kind_operation q)) (rest_stack ++ σ) (from s d.end)
+              at s rows c o most_levels q (one_definition ++ σ) ≡ go (st named_cells (c.rows + 1) (c.rows ∷ o) d.end most_levels (kinded kind_operation q)) (rest_stack ++ σ) (from s d.end)
           unfolding factored language
           named_past σ o q t f =
               operation_past σ o q t f
               ∙ rw (sym next.stop, sym next.rows)
-              (first s d name_within next.looks first-cells d.rows (c.rows ∷ o) most_levels (kinded kind_operation q) (rest_stack ++ σ) OperationName? {α = act named ∷ nt Name ∷ []} (Memᴰ.tail (Memᴰ.head refl)) n_other k tt
+              (first s d name_within next.looks first_cells d.rows (c.rows ∷ o) most_levels (kinded kind_operation q) (rest_stack ++ σ) OperationName? {α = act named ∷ nt Name ∷ []} (Memᴰ.tail (Memᴰ.head refl)) n_other k tt
               ∙ name_told rows d.rows o d.stop most_levels (kinded kind_operation q) (nt Name ∷ (rest_stack ++ σ)) (from s d.stop) c.rows kind_operation c.start 0 no_parent 0 0 extra
               ∙ rw (start_in_is s d next.looks, stop_in_is s d next.looks)
-              (first s d name_within next.looks named-cells d.rows (c.rows ∷ o) most_levels (kinded kind_operation q) (rest_stack ++ σ) Name {α = tm any_name ∷ []} (Memᴰ.head refl) n_other k tt
-              ∙ plain s d name_within next.looks named-cells d.rows (c.rows ∷ o) most_levels (kinded kind_operation q) (rest_stack ++ σ) any_name n_other k tt tt (omega (arith, next.rows, g.few, room)) (operation_fine q f)))
+              (first s d name_within next.looks named_cells d.rows (c.rows ∷ o) most_levels (kinded kind_operation q) (rest_stack ++ σ) Name {α = tm any_name ∷ []} (Memᴰ.head refl) n_other k tt
+              ∙ plain s d name_within next.looks named_cells d.rows (c.rows ∷ o) most_levels (kinded kind_operation q) (rest_stack ++ σ) any_name n_other k tt tt (omega (arith, next.rows, g.few, room)) (operation_fine q f)))
 
           module _ (v : Read) (i : v ≡ moved_to d.end (c.rows + 1) (head_of (from s d.end))) where
             pub operation_bad_2 : (rows' : List ℕ) (x : Refusal) → v ≡ Refused x → CountedSaid 1 s rows rows' c no_parent most_levels one_definition stays any_counts same_fragments v
             operation_bad_2 rows' x z =
-                rw z (λ σ o q t f m. named_past σ o q t f ∙ moved_halts s d.end (c.rows + 1) v x i z (st named-cells (c.rows + 1) (c.rows ∷ o) d.end most_levels (kinded kind_operation q)) (rest_stack ++ σ))
+                rw z (λ σ o q t f m. named_past σ o q t f ∙ moved_halts s d.end (c.rows + 1) v x i z (st named_cells (c.rows + 1) (c.rows ∷ o) d.end most_levels (kinded kind_operation q)) (rest_stack ++ σ))
 
             module _ (b : Cursor) (j : v ≡ Done b) where
               next_2 : Next s d.end (c.rows + 1) b
               next_2 = next_of s d.end (c.rows + 1) v b i j
 
-              pub named_ready : (rows₁ : List ℕ) → rows₁ ≡ named-cells → Ready s rows₁ b c.rows × (c.rows < most_rows)
+              pub named_ready : (rows₁ : List ℕ) → rows₁ ≡ named_cells → Ready s rows₁ b c.rows × (c.rows < most_rows)
               named_ready rows₁ z = (
                 next_ready s rows₁ d.end (c.rows + 1) b g.short (ap length z ∙ put_length rows c.rows kind_operation c.start 0 no_parent d.start (d.end - d.start) extra ∙ g.size) name_ends.1 (omega (arith, g.few, room)) next_2 c.rows g.few,
                 omega (arith, g.few, room),
               )
 
-              pub named_says : (rows₁ : List ℕ) → rows₁ ≡ named-cells → (rows' : List ℕ) (u : Read) → CountedSaid 1 s rows₁ rows' b c.rows most_levels rest_stack pop (variables_are 0) same_fragments u →
+              pub named_says : (rows₁ : List ℕ) → rows₁ ≡ named_cells → (rows' : List ℕ) (u : Read) → CountedSaid 1 s rows₁ rows' b c.rows most_levels rest_stack pop (variables_are 0) same_fragments u →
                   CountedSaid 1 s rows rows' c no_parent most_levels one_definition stays any_counts same_fragments u
               named_says rows₁ z rows' u w =
                   operation_says rows₁ b (let p = ahead s d name_within next.looks (λ z. let x : ⊥ = omega (arith, k) in x) in omega (arith, next.stop, next_2.stop, begins, p))
@@ -200,15 +200,15 @@ module _ (s rows : List ℕ) (c : Cursor) (extra : ℕ) (g : Ready s rows c no_p
 
 -- A SELECTION SET ALONE
 module _ (s rows : List ℕ) (c : Cursor) (g : Ready s rows c no_parent) (h : c.kind ≡ kind_of brace_l) where
-  abbrev short-cells : List ℕ
-  short-cells = put rows c.rows kind_operation c.start 0 no_parent 0 0 extra_query
+  abbrev short_cells : List ℕ
+  short_cells = put rows c.rows kind_operation c.start 0 no_parent 0 0 extra_query
 
   -- the cursor, with the operation's row counted
   abbrev counted : Cursor
   counted = record { kind = c.kind; start = c.start; end = c.end; stop = c.stop; rows = c.rows + 1 }
 
   short_row : (σ : Stack) (o : List ℕ) (q : Counts) → top o ≡ no_parent →
-      at s rows c o most_levels q (one_definition ++ σ) ≡ at s short-cells counted (c.rows ∷ o) most_levels (kinded kind_operation q) (nt SelectionSet ∷ act end ∷ σ)
+      at s rows c o most_levels q (one_definition ++ σ) ≡ at s short_cells counted (c.rows ∷ o) most_levels (kinded kind_operation q) (nt SelectionSet ∷ act end ∷ σ)
   unfolding factored language
   short_row σ o q t =
       first s c g.within g.looks rows c.rows o most_levels q σ Definition {α = nt OperationDefinition ∷ []} (Memᴰ.head refl) brace_l h tt
@@ -220,10 +220,10 @@ module _ (s rows : List ℕ) (c : Cursor) (g : Ready s rows c no_parent) (h : c.
   unfolding factored language
   short_full k σ o q t f m =
       short_row σ o q t
-      ∙ first s counted g.within g.looks short-cells (c.rows + 1) (c.rows ∷ o) most_levels (kinded kind_operation q) (act end ∷ σ) SelectionSet {α = tm (the brace_l) ∷ nt Selection+ ∷ tm (the brace_r) ∷ []} (Memᴰ.head refl) brace_l h tt
-      ∙ too_many_rows_open s counted g.within g.looks short-cells (c.rows + 1) (c.rows ∷ o) most_levels (kinded kind_operation q) (nt Selection+ ∷ tm (the brace_r) ∷ act end ∷ σ) (the brace_l) brace_l h tt tt 31 refl (omega arith)
+      ∙ first s counted g.within g.looks short_cells (c.rows + 1) (c.rows ∷ o) most_levels (kinded kind_operation q) (act end ∷ σ) SelectionSet {α = tm (the brace_l) ∷ nt Selection+ ∷ tm (the brace_r) ∷ []} (Memᴰ.head refl) brace_l h tt
+      ∙ too_many_rows_open s counted g.within g.looks short_cells (c.rows + 1) (c.rows ∷ o) most_levels (kinded kind_operation q) (nt Selection+ ∷ tm (the brace_r) ∷ act end ∷ σ) (the brace_l) brace_l h tt tt 31 refl (omega arith)
 
-  module _ (rows₁ : List ℕ) (z : rows₁ ≡ short-cells) where
+  module _ (rows₁ : List ℕ) (z : rows₁ ≡ short_cells) where
     short_at : (σ : Stack) (o : List ℕ) (q : Counts) → top o ≡ no_parent → at s rows c o most_levels q (one_definition ++ σ) ≡ at s rows₁ counted (c.rows ∷ o) most_levels (kinded kind_operation q) (nt SelectionSet ∷ act end ∷ σ)
     short_at σ o q t = short_row σ o q t ∙ rw z refl
 

@@ -144,15 +144,15 @@ module _ (s rows : List ℕ) (c : Cursor) (parent left n start : ℕ) (a : Ready
         below = a.below;
       }
 
-  abbrev kinded-at : Stack → Stack
-  kinded-at σ = nt TypeCondition? ∷ nt Directives? ∷ body_stack ++ σ
+  abbrev kinded_at : Stack → Stack
+  kinded_at σ = nt TypeCondition? ∷ nt Directives? ∷ body_stack ++ σ
 
   -- its kind is told
   told_as : (σ : Stack) (o : List ℕ) (q : Counts) →
-      go (st (spread_begun rows n start parent) c.rows (n ∷ o) c.stop left q) (act (kind 5 0) ∷ kinded-at σ) (from s c.stop) ≡ at s rows₁ c (n ∷ o) left q (kinded-at σ)
+      go (st (spread_begun rows n start parent) c.rows (n ∷ o) c.stop left q) (act (kind 5 0) ∷ kinded_at σ) (from s c.stop) ≡ at s rows₁ c (n ∷ o) left q (kinded_at σ)
   told_as σ o q =
-      kind_told rows c.rows o c.stop left q (kinded-at σ) (from s c.stop) n 0 start 0 parent 0 0 0 5 0
-      ∙ ap (λ (u : List ℕ). at s u c (n ∷ o) left q (kinded-at σ)) (sym j)
+      kind_told rows c.rows o c.stop left q (kinded_at σ) (from s c.stop) n 0 start 0 parent 0 0 0 5 0
+      ∙ ap (λ (u : List ℕ). at s u c (n ∷ o) left q (kinded_at σ)) (sym j)
 
   -- with a type condition
   module _ (k : c.kind ≡ kind_of n_other) where
@@ -195,7 +195,7 @@ module _ (s rows : List ℕ) (c : Cursor) (parent left n start : ℕ) (a : Ready
 
   -- without
   module _ (k : c.kind ≡ kind_of n_other → ⊥) where
-    no_condition : (σ : Stack) (o : List ℕ) (q : Counts) → at s rows₁ c (n ∷ o) left q (kinded-at σ) ≡ at s rows₁ c (n ∷ o) left q (nt Directives? ∷ body_stack ++ σ)
+    no_condition : (σ : Stack) (o : List ℕ) (q : Counts) → at s rows₁ c (n ∷ o) left q (kinded_at σ) ≡ at s rows₁ c (n ∷ o) left q (nt Directives? ∷ body_stack ++ σ)
     unfolding factored language choose
     no_condition σ o q =
         null s c a.within a.looks rows₁ c.rows (n ∷ o) left q (nt Directives? ∷ body_stack ++ σ) TypeCondition? (Memᴰ.head refl) tt refl (λ (u : ℕ). not (is (kind_of n_other) u)) (not_is (kind_of n_other) c.kind k) tt

@@ -48,14 +48,14 @@ module _ (good : What → Bool) where
   abbrev numbers : Lex → Bool
   numbers n = same_l NumberRest n && (good (is int) && good (is float))
 
-  abbrev orS : Bool → Bool → Bool → Bool
-  orS true a b = a
-  orS false a b = b
+  abbrev or_s : Bool → Bool → Bool → Bool
+  or_s true a b = a
+  or_s false a b = b
 
   -- the first mark that a stack writes is good
   abbrev good_s : Stack → Bool
   good_s [] = false
-  good_s (nt n ∷ ss) = orS (silent n) (good_s ss) (numbers n)
+  good_s (nt n ∷ ss) = or_s (silent n) (good_s ss) (numbers n)
   good_s (tm p ∷ ss) = good_s ss
   good_s (act w ∷ ss) = good w
 
@@ -63,7 +63,7 @@ module _ (good : What → Bool) where
   good_silent [] ys h k = k
   good_silent (nt n ∷ xs) ys h k = go (silent n) h (λ (t : T (silent_s xs)). good_silent xs ys t k)
     where
-      go : (b : Bool) → T (b && silent_s xs) → (T (silent_s xs) → T (good_s (xs ++ ys))) → T (orS b (good_s (xs ++ ys)) (numbers n))
+      go : (b : Bool) → T (b && silent_s xs) → (T (silent_s xs) → T (good_s (xs ++ ys))) → T (or_s b (good_s (xs ++ ys)) (numbers n))
       go true t f = f t
       go false t f = absurd t
   good_silent (tm p ∷ xs) ys h k = good_silent xs ys h k
@@ -73,7 +73,7 @@ module _ (good : What → Bool) where
   good_append [] ys h = absurd h
   good_append (nt n ∷ xs) ys h = go (silent n) h (λ (t : T (good_s xs)). good_append xs ys t)
     where
-      go : (b : Bool) → T (orS b (good_s xs) (numbers n)) → (T (good_s xs) → T (good_s (xs ++ ys))) → T (orS b (good_s (xs ++ ys)) (numbers n))
+      go : (b : Bool) → T (or_s b (good_s xs) (numbers n)) → (T (good_s xs) → T (good_s (xs ++ ys))) → T (or_s b (good_s (xs ++ ys)) (numbers n))
       go true t f = f t
       go false t f = t
   good_append (tm p ∷ xs) ys h = good_append xs ys h
@@ -101,7 +101,7 @@ module _ (good : What → Bool) where
   good_derives (note d) h = h
   good_derives (by {n} {α} {ss} m d) h = good_derives d (go (silent n) (silent_prods n) h)
     where
-      go : (b : Bool) → T (implies b (all silent_s (lex_factored n))) → T (orS b (good_s ss) (numbers n)) → T (good_s (α ++ ss))
+      go : (b : Bool) → T (implies b (all silent_s (lex_factored n))) → T (or_s b (good_s ss) (numbers n)) → T (good_s (α ++ ss))
       go true q t = good_silent α ss (all_mem silent_s q m) t
       go false q t = good_append α ss (all_mem good_s (numbers_prods n t) m)
 
@@ -117,18 +117,18 @@ module _ (good : What → Bool) where
   bare (tok c ∷ es) = bare es
   bare (mark w ∷ es) = false
 
-  abbrev goodStep : Step Lex Set ℕ What → Bool
-  goodStep (took es σ) = bare es && good_s σ
-  goodStep (emptied es) = false
-  goodStep refused = true
-  goodStep spent = false
+  abbrev good_step : Step Lex Set ℕ What → Bool
+  good_step (took es σ) = bare es && good_s σ
+  good_step (emptied es) = false
+  good_step refused = true
+  good_step spent = false
 
   bare_what : (es fs : List (Ev ℕ What)) → T (bare es) → what_of (es ++ fs) ≡ what_of fs
   bare_what [] fs h = refl
   bare_what (tok c ∷ es) fs h = bare_what es fs h
   bare_what (mark w ∷ es) fs h = absurd h
 
-  piece_good : (b : ℕ) (bs : List ℕ) → T (goodStep (step lexer (nt Piece ∷ []) (some b))) → (m : Match ℕ What) → scan lexer (nt Piece ∷ []) (b ∷ bs) ≡ some m → T (good (what_of m.events))
+  piece_good : (b : ℕ) (bs : List ℕ) → T (good_step (step lexer (nt Piece ∷ []) (some b))) → (m : Match ℕ What) → scan lexer (nt Piece ∷ []) (b ∷ bs) ≡ some m → T (good (what_of m.events))
   unfolding scan
   piece_good b bs h m q = go (step lexer (nt Piece ∷ []) (some b)) refl h (rw end_piece at q)
     where
@@ -139,7 +139,7 @@ module _ (good : What → Bool) where
           let w : es ++ k.events ≡ m.events = cc in
           subst (λ (fs : List (Ev ℕ What)). T (good (what_of fs))) w (rw (bare_what es k.events t) (f k e))
 
-      go : (s : Step Lex Set ℕ What) → step lexer (nt Piece ∷ []) (some b) ≡ s → T (goodStep s) → further lexer (λ σ'. scan lexer σ' bs) s none ≡ some m → T (good (what_of m.events))
+      go : (s : Step Lex Set ℕ What) → step lexer (nt Piece ∷ []) (some b) ≡ s → T (good_step s) → further lexer (λ σ'. scan lexer σ' bs) s none ≡ some m → T (good (what_of m.events))
       go (took es σ) e t z = deep es σ (and_l (bare es) (good_s σ) t) (scan_good bs σ (kept_step fits_l (nt Piece ∷ []) b (λ u k. absurd k, tt) e) (and_r (bare es) (good_s σ) t)) (scan lexer σ bs) refl z
       go (emptied es) e t z = absurd t
       go refused e t z = absurd (none≢some z)
@@ -149,7 +149,7 @@ abbrev pub no_token : What → Bool
 no_token w = not (is_token w)
 
 -- no token begins so
-pub not_token : (b at : ℕ) (bs : List ℕ) → T (goodStep no_token (step lexer (nt Piece ∷ []) (some b))) → token_here at (b ∷ bs) ≡ Bad at
+pub not_token : (b at : ℕ) (bs : List ℕ) → T (good_step no_token (step lexer (nt Piece ∷ []) (some b))) → token_here at (b ∷ bs) ≡ Bad at
 unfolding token_here piece_at
 not_token b at bs h = go (scan lexer (nt Piece ∷ []) (b ∷ bs)) refl
   where
@@ -163,7 +163,7 @@ not_token b at bs h = go (scan lexer (nt Piece ∷ []) (b ∷ bs)) refl
     go (some m) e = by_what (what_of m.events) m.size (piece_good no_token b bs h m e)
 
 -- nothing ignored begins so
-pub not_ignored : (b : ℕ) (bs : List ℕ) → T (goodStep is_token (step lexer (nt Piece ∷ []) (some b))) → ignored_here (b ∷ bs) ≡ 0
+pub not_ignored : (b : ℕ) (bs : List ℕ) → T (good_step is_token (step lexer (nt Piece ∷ []) (some b))) → ignored_here (b ∷ bs) ≡ 0
 unfolding ignored_here piece_at
 not_ignored b bs h = go (scan lexer (nt Piece ∷ []) (b ∷ bs)) refl
   where
@@ -183,8 +183,8 @@ begins_token b = hits_byte letter b || (hits_byte digit b || (is_punctuator b ||
 pub bad_byte : (b : ℕ) → b < 256 → T (not (begins_token b)) → (at : ℕ) (bs : List ℕ) → token_here at (b ∷ bs) ≡ Bad at
 unfolding step enter choose lex_factored lexical is_punctuator
 bad_byte b h t at bs =
-    not_token b at bs (implies_out (not (begins_token b)) (goodStep no_token (step lexer (nt Piece ∷ []) (some b)))
-    (from_all 0 256 (λ k. implies (not (begins_token k)) (goodStep no_token (step lexer (nt Piece ∷ []) (some k)))) tt b (omega arith) (omega arith)) t)
+    not_token b at bs (implies_out (not (begins_token b)) (good_step no_token (step lexer (nt Piece ∷ []) (some b)))
+    (from_all 0 256 (λ k. implies (not (begins_token k)) (good_step no_token (step lexer (nt Piece ∷ []) (some k)))) tt b (omega arith) (omega arith)) t)
 
 -- those that begin nothing ignored
 abbrev pub blank : Set
@@ -193,5 +193,5 @@ blank = span 0x09 0x0a ∷ span 0x0d 0x0d ∷ span 0x20 0x20 ∷ span 0x23 0x23 
 pub kept_byte : (b : ℕ) → b < 256 → hits_byte blank b ≡ false → (bs : List ℕ) → ignored_here (b ∷ bs) ≡ 0
 unfolding step enter choose lex_factored lexical
 kept_byte b h q bs =
-    not_ignored b bs (implies_out (not (hits_byte blank b)) (goodStep is_token (step lexer (nt Piece ∷ []) (some b)))
-    (from_all 0 256 (λ k. implies (not (hits_byte blank k)) (goodStep is_token (step lexer (nt Piece ∷ []) (some k)))) tt b (omega arith) (omega arith)) (rw q tt))
+    not_ignored b bs (implies_out (not (hits_byte blank b)) (good_step is_token (step lexer (nt Piece ∷ []) (some b)))
+    (from_all 0 256 (λ k. implies (not (hits_byte blank k)) (good_step is_token (step lexer (nt Piece ∷ []) (some k)))) tt b (omega arith) (omega arith)) (rw q tt))

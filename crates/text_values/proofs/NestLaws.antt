@@ -32,7 +32,7 @@ use Rattle.text_cursor.proofs.Steps.{is, not_is, same_bool, first, null, opening
 use Rattle.text_cursor.proofs.Cells.{put, put_length, row_opens, ends_row}
 use Rattle.text_leaves.specs.Marks.{Open, deep, crowded, entered, Close}
 use Rattle.text_leaves.proofs.MovedLaws.{start_in_is, ready_lies, ready_moves, Moved, moved_done, moved_halts, moved_said}
-use Rattle.text_values.proofs.StackSteps.{inRun, run_more}
+use Rattle.text_values.proofs.StackSteps.{in_run, run_more}
 
 -- the production of p that is a row of kind K, and in it a run `star` of items between the marks A and B
 pub record Nest (p : Part) (K : ℕ) (A B : Class) (inner item star : Part) : Type 0 where
@@ -49,7 +49,7 @@ pub record Nest (p : Part) (K : ℕ) (A B : Class) (inner item star : Part) : Ty
   pub closing_none : T (all (λ k. implies (is (kind_of B) (kind_of k)) (not (graphql.first star k))) all_c)
   pub none_end : choose graphql star none ≡ some []
   pub no_item_end : T (refuses_end item)
-  pub item_first : T (all (λ k. implies (not (is (kind_of B) (kind_of k))) (inRun item star (the B) more_in none_in k)) all_c)
+  pub item_first : T (all (λ k. implies (not (is (kind_of B) (kind_of k))) (in_run item star (the B) more_in none_in k)) all_c)
 
 -- where the loop is: items of row n were read up to the cursor d, and the machine expects more of them, or B
 pub record InNest (s rows₀ rows : List ℕ) (d₀ d : Cursor) (n left : ℕ) (star : Part) (B : Class) : Type 0 where

@@ -66,14 +66,14 @@ module _ (cells : List ℕ) (n : ℕ) (o : List ℕ) (stop left : ℕ) (q : Coun
 -- a token that begins none is refused there too
 module _ (part star : Part) (w : Terminal) (more : Memᴰ (nt part ∷ nt star ∷ []) (factored star)) (nothing : Memᴰ [] (factored star)) where
   -- w is not there, and the token begins a part, or no part and no run of them
-  abbrev pub inRun : Class → Bool
-  inRun k = not (hits w k) && (fst graphql (nt part ∷ nt star ∷ []) k || (not (graphql.first star k) && refuses part k))
+  abbrev pub in_run : Class → Bool
+  in_run k = not (hits w k) && (fst graphql (nt part ∷ nt star ∷ []) k || (not (graphql.first star k) && refuses part k))
 
   nope : (b : Bool) → T (not b) → T b → ⊥
   nope true x y = x
   nope false x y = y
 
-  run_step : (σ : Stack) (k : Class) → T (inRun k) → step graphql (nt star ∷ tm w ∷ σ) (some k) ≡ step graphql (nt part ∷ nt star ∷ tm w ∷ σ) (some k)
+  run_step : (σ : Stack) (k : Class) → T (in_run k) → step graphql (nt star ∷ tm w ∷ σ) (some k) ≡ step graphql (nt part ∷ nt star ∷ tm w ∷ σ) (some k)
   unfolding step refuses
   run_step σ k r = cases (fst graphql (nt part ∷ nt star ∷ []) k) refl (and_r (not (hits w k)) (fst graphql (nt part ∷ nt star ∷ []) k || (not (graphql.first star k) && refuses part k)) r)
     where
@@ -91,11 +91,11 @@ module _ (part star : Part) (w : Terminal) (more : Memᴰ (nt part ∷ nt star �
   unfolding step refuses_end
   run_end σ e r = step_by fits star none (tm w ∷ σ) e ∙ sym (step_none fits part none (nt star ∷ tm w ∷ σ) (none_is (choose graphql part none) r))
 
-  pub run_more : (s : List ℕ) (c : Cursor) → c.stop ≤ length s → Looks s c → (g : ℕ → Bool) → T (g c.kind) → T (all (λ k. implies (g (kind_of k)) (inRun k)) all_c) → choose graphql star none ≡ some [] → T (refuses_end part) →
+  pub run_more : (s : List ℕ) (c : Cursor) → c.stop ≤ length s → Looks s c → (g : ℕ → Bool) → T (g c.kind) → T (all (λ k. implies (g (kind_of k)) (in_run k)) all_c) → choose graphql star none ≡ some [] → T (refuses_end part) →
       (S : State) (σ : Stack) → go S (nt star ∷ tm w ∷ σ) (from s c.stop) ≡ go S (nt part ∷ nt star ∷ tm w ∷ σ) (from s c.stop)
   unfolding go
   run_more s c h l g t a e r S σ = cases (front s c h l)
     where
       cases : Front s c → go S (nt star ∷ tm w ∷ σ) (from s c.stop) ≡ go S (nt part ∷ nt star ∷ tm w ∷ σ) (from s c.stop)
-      cases (a_token k d f i j m) = rw f (ap (goes S (token_of k c.start c.end) (from s c.end) (λ s' τ. go s' τ (from s c.end))) (run_step σ k (by_kind inRun g a k c.kind d t)))
+      cases (a_token k d f i j m) = rw f (ap (goes S (token_of k c.start c.end) (from s c.end) (λ s' τ. go s' τ (from s c.end))) (run_step σ k (by_kind in_run g a k c.kind d t)))
       cases (the_end d f i j) = rw f (ap (ended S c.start) (run_end σ e r))

@@ -13,16 +13,16 @@ use Rattle.paper_values.specs.ValueNumbers.{reason_repeated, reason_unknown}
 use Rattle.paper_values.specs.Values.{Name, At, Due, Fields, Pairs, Out, Got, and_then}
 use Rattle.paper_values.specs.Kinds.{Kind, due_argument}
 use Rattle.paper_values.specs.Coercion.{Head, repeated_entry, unknown_entry}
-use Rattle.paper_values.specs.Computed.{Given, missing_due, due_field, due_fields, entry_of, unless, in_object, orDefault}
+use Rattle.paper_values.specs.Computed.{Given, missing_due, due_field, due_fields, entry_of, unless, in_object, or_default}
 use Rattle.value_entries.specs.Entered.{dues_by}
 use Rattle.value_coerce.specs.Coercing.{slim_due}
 
 module _ (kinds : Name → Kind) (i : At) (gs : List Given) where
-  lacks_same : (xs : List Argument) → due_fields (λ d rest. orDefault kinds i d d.default rest) gs (map due_argument xs) ≡ due_fields (missing_due i) gs (map due_argument xs)
+  lacks_same : (xs : List Argument) → due_fields (λ d rest. or_default kinds i d d.default rest) gs (map due_argument xs) ≡ due_fields (missing_due i) gs (map due_argument xs)
   lacks_same [] = refl
   lacks_same (x ∷ xs) = ap (λ (r : Out Pairs). due_field (missing_due i (due_argument x) r) (due_argument x) (entry_of x.name gs) r) (lacks_same xs)
 
-  pub arguments_same : (hs : List Head) (xs : List Argument) → in_object (λ d rest. orDefault kinds i d d.default rest) hs gs (map due_argument xs) ≡ in_object (missing_due i) hs gs (map due_argument xs)
+  pub arguments_same : (hs : List Head) (xs : List Argument) → in_object (λ d rest. or_default kinds i d d.default rest) hs gs (map due_argument xs) ≡ in_object (missing_due i) hs gs (map due_argument xs)
   arguments_same hs xs = ap (λ (o : Out Pairs). unless (repeated_entry [] hs) reason_repeated (unless (unknown_entry (map due_argument xs) hs) reason_unknown (and_then o (λ (ps : Pairs). Got (Fields ps))))) (lacks_same xs)
 
 -- what the arguments in a content make due

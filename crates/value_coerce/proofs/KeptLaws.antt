@@ -21,7 +21,7 @@ use Rattle.paper_values.specs.Computed.{null_at, object_at, Given, missing_due, 
 use Rattle.paper_values.specs.Coercion.{in_range, text_at, enum_value_at, by_type, integer_at, float_at, string_at, boolean_at, enum_at, Head, heads, repeated_entry, unknown_entry}
 use Rattle.paper_values.specs.CoercionRules.{plain_value}
 use Rattle.paper_values.specs.Encoding.{encode}
-use Rattle.paper_values.specs.RowValues.{placed, value_at, valueBy, valueOfRow}
+use Rattle.paper_values.specs.RowValues.{placed, value_at, value_by, value_of_row}
 use Rattle.value_writing.specs.Writing.{place_of}
 use Rattle.value_kinds.specs.declared.Coerced.{Coerced}
 use Rattle.value_kinds.specs.declared.Coerced.TheVariants.{UpTo}
@@ -144,7 +144,7 @@ module _ (t : List ℕ) (vars : Vars) (text there : ℕ) (d : Doc) (n row i limi
   abbrev Goal : Type 0
   Goal = Told text limit (stood t vars text i r (some tree)) from p p' c
 
-  level : valueOfRow there d row ≡ valueBy there d (value_at there d 32) row
+  level : value_of_row there d row ≡ value_by there d (value_at there d 32) row
   level = at_level there d 33 row (λ (e : 33 ≡ 0). omega (arith, e))
 
   is_null : (kind_of d row ≡ kind_null) ⊎ (kind_of d row ≡ kind_variable) → tree ≡ Null
@@ -157,12 +157,12 @@ module _ (t : List ℕ) (vars : Vars) (text there : ℕ) (d : Doc) (n row i limi
 
   module _ (q : (kind_of d row ≡ kind_null) ⊎ (kind_of d row ≡ kind_variable) → ⊥) where
     is_filled : filled (Got tree) ≡ true
-    is_filled = ap filled (sym k.is) ∙ plain_filled (kinds_in t) (λ m. none) (valueOfRow there d row) ref (ap plain_value level ∙ row_plain there d (value_at there d 32) row (λ (e : kind_of d row ≡ kind_variable). q (inr e)) (λ (e : kind_of d row ≡ kind_null). q (inl e)))
+    is_filled = ap filled (sym k.is) ∙ plain_filled (kinds_in t) (λ m. none) (value_of_row there d row) ref (ap plain_value level ∙ row_plain there d (value_at there d 32) row (λ (e : kind_of d row ≡ kind_variable). q (inr e)) (λ (e : kind_of d row ≡ kind_null). q (inl e)))
 
     by_tree : Told text limit (Got tree) from p p' c → Goal
     by_tree g = subst (λ (o : Out Tree). Told text limit o from p p' c) (sym (stood_is t vars text i r tree is_filled)) g
 
-    pub kept_value : Told there limit (coerce (kinds_in t) (λ m. none) (valueOfRow there d row) ref) from p p' c → Goal
+    pub kept_value : Told there limit (coerce (kinds_in t) (λ m. none) (value_of_row there d row) ref) from p p' c → Goal
     kept_value g = by_tree (subst (λ (o : Out Tree). Told there limit o from p p' c) k.is g)
 
     pub kept_full : limit < from → from ≤ limit + 1 → c ≡ UpTo from → Goal

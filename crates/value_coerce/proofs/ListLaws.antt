@@ -11,7 +11,7 @@ use Rattle.paper_values.specs.Kinds.{Kind}
 use Rattle.paper_values.specs.Computed.{coerce, coerce_all}
 use Rattle.paper_values.specs.Encoding.{encode, encode_all}
 use Rattle.paper_values.proofs.EncodingLaws.{behind}
-use Rattle.paper_values.specs.RowValues.{itemsFrom, value_at}
+use Rattle.paper_values.specs.RowValues.{items_from, value_at}
 use Rattle.paper_values.proofs.RowValuesLaws.{items_more}
 use Rattle.value_writing.specs.Writing.{place_of, Put, Room, Closed, Behind}
 use Rattle.value_writing.proofs.PlaceLaws.{place_least, behind_order}
@@ -52,8 +52,8 @@ all_more : (kinds : Name → Kind) (vars : Vars) (v : Value) (vs : Values) (r : 
 unfolding coerce
 all_more kinds vars v vs r = refl
 
-all_none : (text : ℕ) (d : Doc) (read : ℕ → Value) (kinds : Name → Kind) (vars : Vars) (h c : ℕ) (r : Ref) → coerce_all kinds vars (itemsFrom text d read h 0 c) r ≡ Got no_more
-unfolding coerce itemsFrom
+all_none : (text : ℕ) (d : Doc) (read : ℕ → Value) (kinds : Name → Kind) (vars : Vars) (h c : ℕ) (r : Ref) → coerce_all kinds vars (items_from text d read h 0 c) r ≡ Got no_more
+unfolding coerce items_from
 all_none text d read kinds vars h c r = refl
 
 -- from the next item on the items are the same
@@ -61,11 +61,11 @@ module _ (text : ℕ) (d : Doc) (read : ℕ → Value) (n h b c : ℕ) (e : c �
   found : Next d h text read (n - b) b c
   found = subst (λ (x : ℕ). Next d h text read (n - b) b x) (sym e) (child_next d h text read (n - b) b)
 
-  items_skip : itemsFrom text d read h (n - b) b ≡ itemsFrom text d read h (n - c) c
+  items_skip : items_from text d read h (n - b) b ≡ items_from text d read h (n - c) c
   items_skip =
       let l : b ≤ c = found.least in let m : c ≤ b + (n - b) = found.most in
       let z : b + (n - b) - c ≡ n - c = omega (arith, l, m) in
-      found.same_items ∙ ap (λ (m : ℕ). itemsFrom text d read h m c) z
+      found.same_items ∙ ap (λ (m : ℕ). items_from text d read h m c) z
 
 pub item_below : (d : Doc) (n h b c : ℕ) → c ≡ child_at d h (n - b) b → c < n → parent_of d c ≡ h
 item_below d n h b c e l =
@@ -91,8 +91,8 @@ module _ (t : List ℕ) (vars : Vars) (text : ℕ) (d : Doc) (n k h : ℕ) (r : 
   module _ (p : List ℕ) (at c : ℕ) (g : Listed p at c) where
     turned : c < n → parent_of d c ≡ h → items_at t vars text d n k h c r ≡ and_then (coerced t vars text d k c r) (λ (x : Tree). and_then (items_at t vars text d n k h (c + 1) r) (λ (ts : Trees). Got (also x ts)))
     turned l q =
-        ap (λ (m : ℕ). coerce_all (kinds_in t) vars (itemsFrom text d (value_at text d k) h m c) r) (one_less n c l)
-        ∙ ap (λ (vs : Values). coerce_all (kinds_in t) vars vs r) (items_more text d (value_at text d k) h (n - (c + 1)) c q) ∙ all_more (kinds_in t) vars (value_at text d k c) (itemsFrom text d (value_at text d k) h (n - (c + 1)) (c + 1)) r
+        ap (λ (m : ℕ). coerce_all (kinds_in t) vars (items_from text d (value_at text d k) h m c) r) (one_less n c l)
+        ∙ ap (λ (vs : Values). coerce_all (kinds_in t) vars vs r) (items_more text d (value_at text d k) h (n - (c + 1)) c q) ∙ all_more (kinds_in t) vars (value_at text d k c) (items_from text d (value_at text d k) h (n - (c + 1)) (c + 1)) r
 
     pub list_step : (p' : List ℕ) (x : Tree) (e c' : ℕ) → c < n → parent_of d c ≡ h → coerced t vars text d k c r ≡ Got x → Put limit (encode x) at p p' e → c' ≡ child_at d h (n - (c + 1)) (c + 1) → Listed p' e c'
     list_step p' x e c' l q o m z = record {
@@ -114,7 +114,7 @@ module _ (t : List ℕ) (vars : Vars) (text : ℕ) (d : Doc) (n k h : ℕ) (r : 
         subst (λ (o : Out Tree). Told text limit o from p₀ p' y) (sym o) (z.3, z.4)
 
     ended : n ≤ c → items_at t vars text d n k h c r ≡ Got no_more
-    ended l = let z : n - c ≡ 0 = omega arith in ap (λ (m : ℕ). coerce_all (kinds_in t) vars (itemsFrom text d (value_at text d k) h m c) r) z ∙ all_none text d (value_at text d k) (kinds_in t) vars h c r
+    ended l = let z : n - c ≡ 0 = omega arith in ap (λ (m : ℕ). coerce_all (kinds_in t) vars (items_from text d (value_at text d k) h m c) r) z ∙ all_none text d (value_at text d k) (kinds_in t) vars h c r
 
     pub list_end : (p' : List ℕ) (e : ℕ) → n ≤ c → Closed limit from tag_list at p p' e → Told text limit (listed t vars text d n k h r) from p₀ p' (UpTo e)
     list_end p' e l m =

@@ -139,29 +139,29 @@ module _ (text limit at : ℕ) (p p' : List ℕ) (x : Coerced) where
 -- ---- all that are due
 
 module _ (t : List ℕ) (vars : Vars) (text : ℕ) (d : Doc) (n k kind h : ℕ) (dues : ℕ → List Due) (start limit from : ℕ) (p₀ : List ℕ) where
-  abbrev pub fieldsFrom : ℕ → Out Pairs
-  fieldsFrom a = due_fields (missing_due (placed_at text h)) (givens_at t vars text d n k kind h) (dues a)
+  abbrev pub fields_from : ℕ → Out Pairs
+  fields_from a = due_fields (missing_due (placed_at text h)) (givens_at t vars text d n k kind h) (dues a)
 
   -- before the members from a on: the pairs of those before stand behind the three bytes kept free, as far as there is room
   pub record Fielded (p : List ℕ) (at a : ℕ) : Type 0 where
     pub done : Pairs
     pub put : Put limit (encode_pairs done) (place_of limit (from + 3)) p₀ p at
-    pub rest : fieldsFrom start ≡ and_then (fieldsFrom a) (λ (ps : Pairs). Got (join_pairs done ps))
+    pub rest : fields_from start ≡ and_then (fields_from a) (λ (ps : Pairs). Got (join_pairs done ps))
 
   pub fields_start : (at : ℕ) → at ≡ place_of limit (from + 3) → Fielded p₀ at start
   fields_start at a = record {
     done = no_pairs;
     put = subst (λ (x : ℕ). Put limit (encode_pairs no_pairs) (place_of limit (from + 3)) p₀ p₀ x) (sym a) (no_pairs_put limit (place_of limit (from + 3)) p₀ (place_least limit (from + 3) (place_of limit (from + 3)) refl));
-    rest = sym (and_got (fieldsFrom start));
+    rest = sym (and_got (fields_from start));
   }
 
   module _ (p : List ℕ) (at a : ℕ) (g : Fielded p at a) where
     module _ (δ : Due) (stop : ℕ) (e : dues a ≡ δ ∷ dues stop) where
-      turned : fieldsFrom a ≡ and_then (stepped t vars text d n k kind h δ) (λ (ps : Pairs). and_then (fieldsFrom stop) (λ (qs : Pairs). Got (join_pairs ps qs)))
+      turned : fields_from a ≡ and_then (stepped t vars text d n k kind h δ) (λ (ps : Pairs). and_then (fields_from stop) (λ (qs : Pairs). Got (join_pairs ps qs)))
       turned = ap (due_fields (missing_due (placed_at text h)) (givens_at t vars text d n k kind h)) e ∙ fields_first (placed_at text h) (givens_at t vars text d n k kind h) δ (dues stop)
 
-      by_step : (o : Out Pairs) → stepped t vars text d n k kind h δ ≡ o → fieldsFrom start ≡ and_then (and_then o (λ (ps : Pairs). and_then (fieldsFrom stop) (λ (qs : Pairs). Got (join_pairs ps qs)))) (λ (ps : Pairs). Got (join_pairs g.done ps))
-      by_step o q = g.rest ∙ ap (λ (y : Out Pairs). and_then y (λ (ps : Pairs). Got (join_pairs g.done ps))) (turned ∙ ap (λ (y : Out Pairs). and_then y (λ (ps : Pairs). and_then (fieldsFrom stop) (λ (qs : Pairs). Got (join_pairs ps qs)))) q)
+      by_step : (o : Out Pairs) → stepped t vars text d n k kind h δ ≡ o → fields_from start ≡ and_then (and_then o (λ (ps : Pairs). and_then (fields_from stop) (λ (qs : Pairs). Got (join_pairs ps qs)))) (λ (ps : Pairs). Got (join_pairs g.done ps))
+      by_step o q = g.rest ∙ ap (λ (y : Out Pairs). and_then y (λ (ps : Pairs). Got (join_pairs g.done ps))) (turned ∙ ap (λ (y : Out Pairs). and_then y (λ (ps : Pairs). and_then (fields_from stop) (λ (qs : Pairs). Got (join_pairs ps qs)))) q)
 
       pub fields_step : (p' : List ℕ) (x : Coerced) (next : ℕ) → ToldPairs text limit (stepped t vars text d n k kind h δ) at p p' x → x ≡ UpTo next → Fielded p' next stop
       fields_step p' x next w u =
@@ -170,18 +170,18 @@ module _ (t : List ℕ) (vars : Vars) (text : ℕ) (d : Doc) (n k kind h : ℕ) 
             done = join_pairs g.done z.0;
             put = put_as limit (encode_pairs g.done ++ encode_pairs z.0) (encode_pairs (join_pairs g.done z.0)) (place_of limit (from + 3)) p₀ p' next (sym (encode_join g.done z.0))
                 (put_then limit (encode_pairs g.done) (encode_pairs z.0) (place_of limit (from + 3)) at next p₀ p p' g.put z.2);
-            rest = by_step (Got z.0) z.1 ∙ join_more g.done z.0 (fieldsFrom stop);
+            rest = by_step (Got z.0) z.1 ∙ join_more g.done z.0 (fields_from stop);
           }
 
       pub fields_stop : (p' : List ℕ) (x : Coerced) (row why : ℕ) → ToldPairs text limit (stepped t vars text d n k kind h δ) at p p' x → x ≡ Refused row why →
-          Told text limit (and_then (fieldsFrom start) (λ (ps : Pairs). Got (Fields ps))) from p₀ p' x
+          Told text limit (and_then (fields_from start) (λ (ps : Pairs). Got (Fields ps))) from p₀ p' x
       fields_stop p' x row why w u =
           let z = pairs_no text limit at p p' x (stepped t vars text d n k kind h δ) row why w u in
           subst (λ (o : Out Pairs). Told text limit (and_then o (λ (ps : Pairs). Got (Fields ps))) from p₀ p' x) (sym (by_step (No z.0 z.1) z.2)) (z.3, z.4)
 
-    pub fields_end : (p' : List ℕ) (e : ℕ) → dues a ≡ [] → Closed limit from tag_input at p p' e → Told text limit (and_then (fieldsFrom start) (λ (ps : Pairs). Got (Fields ps))) from p₀ p' (UpTo e)
+    pub fields_end : (p' : List ℕ) (e : ℕ) → dues a ≡ [] → Closed limit from tag_input at p p' e → Told text limit (and_then (fields_from start) (λ (ps : Pairs). Got (Fields ps))) from p₀ p' (UpTo e)
     fields_end p' e q m =
-        let o : fieldsFrom start ≡ Got g.done
+        let o : fields_from start ≡ Got g.done
         = g.rest ∙ ap (λ (y : Out Pairs). and_then y (λ (ps : Pairs). Got (join_pairs g.done ps))) (ap (due_fields (missing_due (placed_at text h)) (givens_at t vars text d n k kind h)) q) ∙ ap Got (join_nothing g.done) in
         subst (λ (y : Out Pairs). Told text limit (and_then y (λ (ps : Pairs). Got (Fields ps))) from p₀ p' (UpTo e)) (sym o)
         (e, refl, object_put limit g.done from (place_of limit (from + 3)) at e p₀ p p' refl g.put m)
@@ -219,7 +219,7 @@ module _ (t : List ℕ) (vars : Vars) (text : ℕ) (d : Doc) (n k kind h : ℕ) 
     pub object_unknown : j < n → Told text limit (objected t vars text d n k kind h (dues start)) from p p (Refused j reason_unknown)
     object_unknown z = subst (λ (o : Out Tree). Told text limit o from p p (Refused j reason_unknown)) (sym (opened (some (placed_at text j)) (marked n text (unknown_entry (dues start) es) j w z))) (refl, refl)
 
-    pub object_fields : n ≤ j → (p' : List ℕ) (x : Coerced) → Told text limit (and_then (fieldsFrom t vars text d n k kind h dues start limit from p start) (λ (ps : Pairs). Got (Fields ps))) from p p' x → Told text limit (objected t vars text d n k kind h (dues start)) from p p' x
+    pub object_fields : n ≤ j → (p' : List ℕ) (x : Coerced) → Told text limit (and_then (fields_from t vars text d n k kind h dues start limit from p start) (λ (ps : Pairs). Got (Fields ps))) from p p' x → Told text limit (objected t vars text d n k kind h (dues start)) from p p' x
     object_fields z p' x a = subst (λ (o : Out Tree). Told text limit o from p p' x) (sym (opened none (unmarked n text (unknown_entry (dues start) es) j w z))) a
 
 -- what the members of an entry make due, where its bounds were read

@@ -21,7 +21,7 @@ use Rattle.paper_values.specs.Kinds.{Kind, Input}
 use Rattle.paper_values.specs.Computed.{null_at, object_at, in_object, missing_due, coerce, coerce_all, givens}
 use Rattle.paper_values.specs.Coercion.{heads}
 use Rattle.paper_values.specs.CoercionRules.{plain_value, single_value as alone}
-use Rattle.paper_values.specs.RowValues.{placed, itemsFrom, entriesFrom, valueBy, value_at}
+use Rattle.paper_values.specs.RowValues.{placed, items_from, entries_from, value_by, value_at}
 use Rattle.value_leaves.specs.Leaves.{sort_of}
 use Rattle.value_leaves.specs.declared.Wrote.{Wrote}
 use Rattle.value_kinds.specs.declared.Coerced.{Coerced}
@@ -101,14 +101,14 @@ unfolding coerce
 object_at_is kinds vars i es m ds e = ap (object_at i (in_object (missing_due i) (heads es) (givens kinds vars es))) e
 
 module _ (text : ℕ) (d : Doc) (read : ℕ → Value) (i : ℕ) where
-  pub row_plain : (kind_of d i ≡ kind_variable → ⊥) → (kind_of d i ≡ kind_null → ⊥) → plain_value (valueBy text d read i) ≡ true
-  unfolding valueBy
+  pub row_plain : (kind_of d i ≡ kind_variable → ⊥) → (kind_of d i ≡ kind_null → ⊥) → plain_value (value_by text d read i) ≡ true
+  unfolding value_by
   row_plain a b = rw (ne_eqb (kind_of d i) kind_variable a, ne_eqb (kind_of d i) kind_null b)
       (pick plain_value (eqb (kind_of d i) kind_integer) _ _ refl (pick plain_value (eqb (kind_of d i) kind_float) _ _ refl (pick plain_value (eqb (kind_of d i) kind_string) _ _ refl
       (pick plain_value (eqb (kind_of d i) kind_boolean) _ _ refl (pick plain_value (eqb (kind_of d i) kind_enum) _ _ refl (pick plain_value (eqb (kind_of d i) kind_list) _ _ refl refl))))))
 
-  row_alone : (kind_of d i ≡ kind_variable → ⊥) → (kind_of d i ≡ kind_null → ⊥) → (kind_of d i ≡ kind_list → ⊥) → alone (valueBy text d read i) ≡ true
-  unfolding valueBy
+  row_alone : (kind_of d i ≡ kind_variable → ⊥) → (kind_of d i ≡ kind_null → ⊥) → (kind_of d i ≡ kind_list → ⊥) → alone (value_by text d read i) ≡ true
+  unfolding value_by
   row_alone a b c = rw (ne_eqb (kind_of d i) kind_variable a, ne_eqb (kind_of d i) kind_null b, ne_eqb (kind_of d i) kind_list c)
       (pick alone (eqb (kind_of d i) kind_integer) _ _ refl (pick alone (eqb (kind_of d i) kind_float) _ _ refl (pick alone (eqb (kind_of d i) kind_string) _ _ refl
       (pick alone (eqb (kind_of d i) kind_boolean) _ _ refl (pick alone (eqb (kind_of d i) kind_enum) _ _ refl refl)))))
@@ -158,7 +158,7 @@ module _ (t book : List ℕ) (vars : Vars) (text : ℕ) (d : Doc) (k i sort numb
         let z : nullable_of r ≡ named (base_of (nullable_of r)) = pack_named (nullable_of r) (λ (y : pack_of (nullable_of r) % 4 ≡ 2). a (ap (λ (v : ℕ). v % 4) (sym e) ∙ y)) (λ (y : pack_of (nullable_of r) % 4 ≡ 1). b (ap (λ (v : ℕ). v % 4) (sym e) ∙ y)) in
         by_out (No (placed_at text i) reason_kind) (plain_nullable (kinds_in t) vars (value_at text d k i) is_plain r ∙ ap (λ (s : Ref). coerced t vars text d k i s) z
         ∙ ap (λ (v : Value). coerce (kinds_in t) vars v (named (base_of (nullable_of r)))) (at_level text d k i q ∙ value_list text d (value_at text d (k - 1)) i l)
-        ∙ no_list_at (kinds_in t) vars (placed text d i) (itemsFrom text d (value_at text d (k - 1)) i (count d - (i + 1)) (i + 1)) (base_of (nullable_of r))) (refl, x)
+        ∙ no_list_at (kinds_in t) vars (placed text d i) (items_from text d (value_at text d (k - 1)) i (count d - (i + 1)) (i + 1)) (base_of (nullable_of r))) (refl, x)
 
     -- a value of another kind is a list of one at each depth
     pub told_single : (kind_of d i ≡ kind_list → ⊥) → (m : ℕ) → m ≡ lists_of r → Told text limit (ones m (coerced t vars text d k i (named (base_of r)))) from p p' c → Goal
@@ -170,8 +170,8 @@ module _ (t book : List ℕ) (vars : Vars) (text : ℕ) (d : Doc) (k i sort numb
     told_list n u m e y l f =
         let z = pack_list (nullable_of r) (ap (λ (x : ℕ). x % 4) e ∙ y) in
         by_out (listed t vars text d n (k - 1) i z.0) (plain_nullable (kinds_in t) vars (value_at text d k i) is_plain r ∙ ap (λ (s : Ref). coerced t vars text d k i s) z.1
-        ∙ ap (λ (v : Value). coerce (kinds_in t) vars v (list_of z.0)) (at_level text d k i q ∙ value_list text d (value_at text d (k - 1)) i l ∙ ap (λ (x : ℕ). list (placed text d i) (itemsFrom text d (value_at text d (k - 1)) i (x - (i + 1)) (i + 1))) m)
-        ∙ list_at (kinds_in t) vars (placed text d i) (itemsFrom text d (value_at text d (k - 1)) i (n - (i + 1)) (i + 1)) z.0) (f z.0 (same_base t book r z.0 sort number w (u / 4) (z.3 ∙ base_nullable r) (z.2 ∙ ap (λ (x : ℕ). x / 4) e) δ))
+        ∙ ap (λ (v : Value). coerce (kinds_in t) vars v (list_of z.0)) (at_level text d k i q ∙ value_list text d (value_at text d (k - 1)) i l ∙ ap (λ (x : ℕ). list (placed text d i) (items_from text d (value_at text d (k - 1)) i (x - (i + 1)) (i + 1))) m)
+        ∙ list_at (kinds_in t) vars (placed text d i) (items_from text d (value_at text d (k - 1)) i (n - (i + 1)) (i + 1)) z.0) (f z.0 (same_base t book r z.0 sort number w (u / 4) (z.3 ∙ base_nullable r) (z.2 ∙ ap (λ (x : ℕ). x / 4) e) δ))
 
     module _ (a : w % 4 ≡ 2 → ⊥) (b : w % 4 ≡ 1 → ⊥) where
       is_named : r ≡ named (base_of r)
@@ -184,8 +184,8 @@ module _ (t book : List ℕ) (vars : Vars) (text : ℕ) (d : Doc) (k i sort numb
           let h : 7 ≤ sort = omega (arith, s) in
           let g : kinds_in t (base_of r) ≡ Input ds = δ.sorted.held h ∙ sort_input (definition_on t number) (sym (ap sort_of (δ.sorted.held h)) ∙ δ.sorted.sort_is ∙ s) ∙ ap Input (sym are) in
           by_out (objected t vars text d n (k - 1) kind_object_field i ds) (ap (λ (s : Ref). coerced t vars text d k i s) is_named
-          ∙ ap (λ (v : Value). coerce (kinds_in t) vars v (named (base_of r))) (at_level text d k i q ∙ value_object text d (value_at text d (k - 1)) i o ∙ ap (λ (x : ℕ). object (placed text d i) (entriesFrom text d (value_at text d (k - 1)) kind_object_field i (x - (i + 1)) (i + 1))) m)
-          ∙ object_at_is (kinds_in t) vars (placed text d i) (entriesFrom text d (value_at text d (k - 1)) kind_object_field i (n - (i + 1)) (i + 1)) (base_of r) ds g) f
+          ∙ ap (λ (v : Value). coerce (kinds_in t) vars v (named (base_of r))) (at_level text d k i q ∙ value_object text d (value_at text d (k - 1)) i o ∙ ap (λ (x : ℕ). object (placed text d i) (entries_from text d (value_at text d (k - 1)) kind_object_field i (x - (i + 1)) (i + 1))) m)
+          ∙ object_at_is (kinds_in t) vars (placed text d i) (entries_from text d (value_at text d (k - 1)) kind_object_field i (n - (i + 1)) (i + 1)) (base_of r) ds g) f
         where
           first : (x y : Bool) → x && y ≡ true → x ≡ true
           first true y e = refl
@@ -195,10 +195,10 @@ module _ (t book : List ℕ) (vars : Vars) (text : ℕ) (d : Doc) (k i sort numb
           second true y e = e
           second false y e = absurd (let z : ◌≡◌ {A = ℕ} 0 1 = cc in omega arith)
 
-      pub told_leaf : (l : Wrote) → c ≡ told i l → ((vars : Vars) (text : ℕ) (read : ℕ → Value) (m : Name) → Sorted t book m sort number → Told text limit (coerce (kinds_in t) vars (valueBy text d read i) (named m)) from p p' (told i l)) → Goal
+      pub told_leaf : (l : Wrote) → c ≡ told i l → ((vars : Vars) (text : ℕ) (read : ℕ → Value) (m : Name) → Sorted t book m sort number → Told text limit (coerce (kinds_in t) vars (value_by text d read i) (named m)) from p p' (told i l)) → Goal
       told_leaf l e f =
-          by_out (coerce (kinds_in t) vars (valueBy text d (value_at text d (k - 1)) i) (named (base_of r))) (ap (λ (s : Ref). coerced t vars text d k i s) is_named ∙ ap (λ (v : Value). coerce (kinds_in t) vars v (named (base_of r))) (at_level text d k i q))
-          (subst (λ (x : Coerced). Told text limit (coerce (kinds_in t) vars (valueBy text d (value_at text d (k - 1)) i) (named (base_of r))) from p p' x) (sym e) (f vars text (value_at text d (k - 1)) (base_of r) δ.sorted))
+          by_out (coerce (kinds_in t) vars (value_by text d (value_at text d (k - 1)) i) (named (base_of r))) (ap (λ (s : Ref). coerced t vars text d k i s) is_named ∙ ap (λ (v : Value). coerce (kinds_in t) vars v (named (base_of r))) (at_level text d k i q))
+          (subst (λ (x : Coerced). Told text limit (coerce (kinds_in t) vars (value_by text d (value_at text d (k - 1)) i) (named (base_of r))) from p p' x) (sym e) (f vars text (value_at text d (k - 1)) (base_of r) δ.sorted))
 
 -- ---- what the calls ask
 

@@ -9,7 +9,7 @@ use Rattle.paper_query.specs.Constructs.{Doc}
 use Rattle.paper_values.specs.Values.{Due, Tree, Many, Trees, Pairs, no_pairs, Out, Got, and_then}
 use Rattle.paper_values.specs.Coercion.{heads}
 use Rattle.paper_values.specs.Computed.{missing_due, due_field, entry_of, in_object, held, coerce_all}
-use Rattle.paper_values.specs.RowValues.{itemsFrom, value_at}
+use Rattle.paper_values.specs.RowValues.{items_from, value_at}
 use Rattle.value_kinds.specs.Dues.{placed_at, DueIs}
 use Rattle.value_held.specs.Given.{Vars, kinds_in, entries_at, givens_at}
 
@@ -31,7 +31,7 @@ slim_due δ = leb (wrapperCount δ.type) most_wrappers
 
 -- the list of row h, with k levels left for each item
 abbrev pub items_at : List ℕ → Vars → ℕ → Doc → ℕ → ℕ → ℕ → ℕ → Ref → Out Trees
-items_at t vars text d n k h c r = coerce_all (kinds_in t) vars (itemsFrom text d (value_at text d k) h (n - c) c) r
+items_at t vars text d n k h c r = coerce_all (kinds_in t) vars (items_from text d (value_at text d k) h (n - c) c) r
 
 abbrev pub listed : List ℕ → Vars → ℕ → Doc → ℕ → ℕ → ℕ → Ref → Out Tree
 listed t vars text d n k h r = and_then (items_at t vars text d n k h (h + 1) r) (λ ts. Got (Many ts))

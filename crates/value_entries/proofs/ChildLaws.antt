@@ -19,7 +19,7 @@ use Rattle.query_subtrees.specs.Past.{past_of, Parented}
 use Rattle.query_subtrees.proofs.PastLaws.{past_after, past_most, past_parents, past_child, past_hop, past_first}
 use Rattle.paper_values.specs.Values.{Name, Value, Due}
 use Rattle.paper_values.specs.Coercion.{heads, repeated_entry, unknown_entry}
-use Rattle.paper_values.specs.RowValues.{entriesFrom}
+use Rattle.paper_values.specs.RowValues.{entries_from}
 use Rattle.value_entries.specs.Entered.{Treed, is_entry, names_before, entry_at, child_at, due_named}
 use Rattle.value_entries.proofs.EntryLaws.{seen_later, seen_step, seen_start, repeated_on, repeated_start, unknown_on, entry_on, child_on, child_here, child_end, child_reached, passed}
 
@@ -117,18 +117,18 @@ module _ (d : Doc) (h n c r : ℕ) (e : r ≡ child_at d h (n - (c + 1)) (c + 1)
     seen_next x i f g = sym (seen_hop x) ∙ seen_step d k h x c i ∙ rw (f, g) refl
 
     module _ (text : ℕ) (read : ℕ → Value) where
-      repeated_hop : repeated_entry (names_before d k h (c + 1 - (h + 1))) (heads (entriesFrom text d read k h (n - (c + 1)) (c + 1))) ≡ repeated_entry (names_before d k h (r - (h + 1))) (heads (entriesFrom text d read k h (n - r) r))
-      repeated_hop = hop (λ (j : ℕ). repeated_entry (names_before d k h (j - (h + 1))) (heads (entriesFrom text d read k h (n - j) j))) (λ j i m q. repeated_on d k h text read n j (omega arith) m (no_entry d k h j (any_of (same (name_of d j)) (names_before d k h (j - (h + 1)))) q))
+      repeated_hop : repeated_entry (names_before d k h (c + 1 - (h + 1))) (heads (entries_from text d read k h (n - (c + 1)) (c + 1))) ≡ repeated_entry (names_before d k h (r - (h + 1))) (heads (entries_from text d read k h (n - r) r))
+      repeated_hop = hop (λ (j : ℕ). repeated_entry (names_before d k h (j - (h + 1))) (heads (entries_from text d read k h (n - j) j))) (λ j i m q. repeated_on d k h text read n j (omega arith) m (no_entry d k h j (any_of (same (name_of d j)) (names_before d k h (j - (h + 1)))) q))
 
       pub repeated_next : h < c → c < n → is_entry d k h c && any_of (same (name_of d c)) (names_before d k h (c - (h + 1))) ≡ false →
-          repeated_entry (names_before d k h (c - (h + 1))) (heads (entriesFrom text d read k h (n - c) c)) ≡ repeated_entry (names_before d k h (r - (h + 1))) (heads (entriesFrom text d read k h (n - r) r))
+          repeated_entry (names_before d k h (c - (h + 1))) (heads (entries_from text d read k h (n - c) c)) ≡ repeated_entry (names_before d k h (r - (h + 1))) (heads (entries_from text d read k h (n - r) r))
       repeated_next i m f = repeated_on d k h text read n c i m f ∙ repeated_hop
 
-      pub unknown_hop : (ds : List Due) → unknown_entry ds (heads (entriesFrom text d read k h (n - (c + 1)) (c + 1))) ≡ unknown_entry ds (heads (entriesFrom text d read k h (n - r) r))
-      unknown_hop ds = hop (λ (j : ℕ). unknown_entry ds (heads (entriesFrom text d read k h (n - j) j))) (λ j i m q. unknown_on d k h text read ds (any_of (due_named (name_of d j)) ds) j refl n m (no_entry d k h j (not (any_of (due_named (name_of d j)) ds)) q))
+      pub unknown_hop : (ds : List Due) → unknown_entry ds (heads (entries_from text d read k h (n - (c + 1)) (c + 1))) ≡ unknown_entry ds (heads (entries_from text d read k h (n - r) r))
+      unknown_hop ds = hop (λ (j : ℕ). unknown_entry ds (heads (entries_from text d read k h (n - j) j))) (λ j i m q. unknown_on d k h text read ds (any_of (due_named (name_of d j)) ds) j refl n m (no_entry d k h j (not (any_of (due_named (name_of d j)) ds)) q))
 
       pub unknown_next : (ds : List Due) → c < n → is_entry d k h c && not (any_of (due_named (name_of d c)) ds) ≡ false →
-          unknown_entry ds (heads (entriesFrom text d read k h (n - c) c)) ≡ unknown_entry ds (heads (entriesFrom text d read k h (n - r) r))
+          unknown_entry ds (heads (entries_from text d read k h (n - c) c)) ≡ unknown_entry ds (heads (entries_from text d read k h (n - r) r))
       unknown_next ds m f = unknown_on d k h text read ds (any_of (due_named (name_of d c)) ds) c refl n m f ∙ unknown_hop ds
 
     pub entry_hop : (x : Name) → entry_at d k h x (n - (c + 1)) (c + 1) ≡ entry_at d k h x (n - r) r
@@ -142,7 +142,7 @@ module _ (d : Doc) (k h n r : ℕ) (e : r ≡ child_at d h (n - (h + 1)) (h + 1)
   pub seen_first : (x : Name) → any_of (same x) (names_before d k h (r - (h + 1))) ≡ false
   seen_first x = sym (seen_hop d h n h r e k (omega arith) x) ∙ seen_start d k h x
 
-  pub repeated_first : (text : ℕ) (read : ℕ → Value) → repeated_entry [] (heads (entriesFrom text d read k h (n - (h + 1)) (h + 1))) ≡ repeated_entry (names_before d k h (r - (h + 1))) (heads (entriesFrom text d read k h (n - r) r))
+  pub repeated_first : (text : ℕ) (read : ℕ → Value) → repeated_entry [] (heads (entries_from text d read k h (n - (h + 1)) (h + 1))) ≡ repeated_entry (names_before d k h (r - (h + 1))) (heads (entries_from text d read k h (n - r) r))
   repeated_first text read = repeated_start d k h text read n ∙ repeated_hop d h n h r e k (omega arith) text read
 
 -- whether a name is seen before row c, from whether it is before row j

@@ -14,9 +14,9 @@ use Rattle.paper_table.specs.References.{Ref}
 use Rattle.paper_query.specs.Constructs.{Doc, parent_of, name_of}
 use Rattle.paper_values.specs.Values.{Name, At, Value, Due, entry, Tree, Out}
 use Rattle.paper_values.specs.Kinds.{Kind}
-use Rattle.paper_values.specs.Coercion.{heads, repeated_entry, unknown_entry, leftOut}
+use Rattle.paper_values.specs.Coercion.{heads, repeated_entry, unknown_entry, left_out}
 use Rattle.paper_values.specs.Computed.{entry_of, coerce, givens}
-use Rattle.paper_values.specs.RowValues.{placed, itemsFrom, entriesFrom}
+use Rattle.paper_values.specs.RowValues.{placed, items_from, entries_from}
 use Rattle.value_kinds.proofs.KindLaws.{same_sym}
 use Rattle.value_entries.specs.Entered.{is_entry, names_before, entry_at, child_at, Marks}
 
@@ -61,12 +61,12 @@ module _ (d : Doc) (k h : ℕ) where
 
   module _ (text : ℕ) (read : ℕ → Value) where
     entries_step : (m c : ℕ) (b : Bool) → is_entry d k h c ≡ b →
-        heads (entriesFrom text d read k h (suc m) c) ≡ cond b ((placed text d c, name_of d c) ∷ heads (entriesFrom text d read k h m (c + 1))) (heads (entriesFrom text d read k h m (c + 1)))
-    unfolding entriesFrom
+        heads (entries_from text d read k h (suc m) c) ≡ cond b ((placed text d c, name_of d c) ∷ heads (entries_from text d read k h m (c + 1))) (heads (entries_from text d read k h m (c + 1)))
+    unfolding entries_from
     entries_step m c b e = go (is_entry d k h c) b e
       where
-        go : (a b : Bool) → a ≡ b → heads (cond a (entry (placed text d c) (name_of d c) (read (c + 1)) (entriesFrom text d read k h m (c + 1))) (entriesFrom text d read k h m (c + 1)))
-            ≡ cond b ((placed text d c, name_of d c) ∷ heads (entriesFrom text d read k h m (c + 1))) (heads (entriesFrom text d read k h m (c + 1)))
+        go : (a b : Bool) → a ≡ b → heads (cond a (entry (placed text d c) (name_of d c) (read (c + 1)) (entries_from text d read k h m (c + 1))) (entries_from text d read k h m (c + 1)))
+            ≡ cond b ((placed text d c, name_of d c) ∷ heads (entries_from text d read k h m (c + 1))) (heads (entries_from text d read k h m (c + 1)))
         go true true q = refl
         go true false q = absurd (let z : ◌≡◌ {A = ℕ} 0 1 = cc in omega arith)
         go false true q = absurd (let z : ◌≡◌ {A = ℕ} 0 1 = cc in omega arith)
@@ -83,70 +83,70 @@ module _ (d : Doc) (k h : ℕ) where
 
     -- a row that repeats no name is passed over
     pub repeated_on : (n c : ℕ) → h < c → c < n → is_entry d k h c && any_of (same (name_of d c)) (names_before d k h (c - (h + 1))) ≡ false →
-        repeated_entry (names_before d k h (c - (h + 1))) (heads (entriesFrom text d read k h (n - c) c)) ≡ repeated_entry (names_before d k h (c + 1 - (h + 1))) (heads (entriesFrom text d read k h (n - (c + 1)) (c + 1)))
+        repeated_entry (names_before d k h (c - (h + 1))) (heads (entries_from text d read k h (n - c) c)) ≡ repeated_entry (names_before d k h (c + 1 - (h + 1))) (heads (entries_from text d read k h (n - (c + 1)) (c + 1)))
     repeated_on n c l i e = go (is_entry d k h c) refl e
       where
         go : (b : Bool) → is_entry d k h c ≡ b → b && any_of (same (name_of d c)) (names_before d k h (c - (h + 1))) ≡ false →
-            repeated_entry (names_before d k h (c - (h + 1))) (heads (entriesFrom text d read k h (n - c) c)) ≡ repeated_entry (names_before d k h (c + 1 - (h + 1))) (heads (entriesFrom text d read k h (n - (c + 1)) (c + 1)))
+            repeated_entry (names_before d k h (c - (h + 1))) (heads (entries_from text d read k h (n - c) c)) ≡ repeated_entry (names_before d k h (c + 1 - (h + 1))) (heads (entries_from text d read k h (n - (c + 1)) (c + 1)))
         go true q f =
-            ap (λ (m : ℕ). repeated_entry (names_before d k h (c - (h + 1))) (heads (entriesFrom text d read k h m c))) (one_less n c i)
+            ap (λ (m : ℕ). repeated_entry (names_before d k h (c - (h + 1))) (heads (entries_from text d read k h m c))) (one_less n c i)
             ∙ ap (repeated_entry (names_before d k h (c - (h + 1)))) (entries_step (n - (c + 1)) c true q)
-            ∙ ap (λ (b : Bool). cond b (some (placed text d c)) (repeated_entry (name_of d c ∷ names_before d k h (c - (h + 1))) (heads (entriesFrom text d read k h (n - (c + 1)) (c + 1))))) f
-            ∙ ap (λ (x : List Name). repeated_entry x (heads (entriesFrom text d read k h (n - (c + 1)) (c + 1)))) (sym (names_more c true l q))
+            ∙ ap (λ (b : Bool). cond b (some (placed text d c)) (repeated_entry (name_of d c ∷ names_before d k h (c - (h + 1))) (heads (entries_from text d read k h (n - (c + 1)) (c + 1))))) f
+            ∙ ap (λ (x : List Name). repeated_entry x (heads (entries_from text d read k h (n - (c + 1)) (c + 1)))) (sym (names_more c true l q))
         go false q f =
-            ap (λ (m : ℕ). repeated_entry (names_before d k h (c - (h + 1))) (heads (entriesFrom text d read k h m c))) (one_less n c i)
+            ap (λ (m : ℕ). repeated_entry (names_before d k h (c - (h + 1))) (heads (entries_from text d read k h m c))) (one_less n c i)
             ∙ ap (repeated_entry (names_before d k h (c - (h + 1)))) (entries_step (n - (c + 1)) c false q)
-            ∙ ap (λ (x : List Name). repeated_entry x (heads (entriesFrom text d read k h (n - (c + 1)) (c + 1)))) (sym (names_more c false l q))
+            ∙ ap (λ (x : List Name). repeated_entry x (heads (entries_from text d read k h (n - (c + 1)) (c + 1)))) (sym (names_more c false l q))
 
     pub repeated_here : (n c : ℕ) → c < n → is_entry d k h c && any_of (same (name_of d c)) (names_before d k h (c - (h + 1))) ≡ true →
-        repeated_entry (names_before d k h (c - (h + 1))) (heads (entriesFrom text d read k h (n - c) c)) ≡ some (placed text d c)
+        repeated_entry (names_before d k h (c - (h + 1))) (heads (entries_from text d read k h (n - c) c)) ≡ some (placed text d c)
     repeated_here n c i e = go (is_entry d k h c) refl e
       where
         go : (b : Bool) → is_entry d k h c ≡ b → b && any_of (same (name_of d c)) (names_before d k h (c - (h + 1))) ≡ true →
-            repeated_entry (names_before d k h (c - (h + 1))) (heads (entriesFrom text d read k h (n - c) c)) ≡ some (placed text d c)
+            repeated_entry (names_before d k h (c - (h + 1))) (heads (entries_from text d read k h (n - c) c)) ≡ some (placed text d c)
         go true q f =
-            ap (λ (m : ℕ). repeated_entry (names_before d k h (c - (h + 1))) (heads (entriesFrom text d read k h m c))) (one_less n c i)
+            ap (λ (m : ℕ). repeated_entry (names_before d k h (c - (h + 1))) (heads (entries_from text d read k h m c))) (one_less n c i)
             ∙ ap (repeated_entry (names_before d k h (c - (h + 1)))) (entries_step (n - (c + 1)) c true q)
-            ∙ ap (λ (b : Bool). cond b (some (placed text d c)) (repeated_entry (name_of d c ∷ names_before d k h (c - (h + 1))) (heads (entriesFrom text d read k h (n - (c + 1)) (c + 1))))) f
+            ∙ ap (λ (b : Bool). cond b (some (placed text d c)) (repeated_entry (name_of d c ∷ names_before d k h (c - (h + 1))) (heads (entries_from text d read k h (n - (c + 1)) (c + 1))))) f
         go false q f = absurd (let z : ◌≡◌ {A = ℕ} 0 1 = cc in omega arith)
 
-    pub repeated_start : (n : ℕ) → repeated_entry [] (heads (entriesFrom text d read k h (n - (h + 1)) (h + 1))) ≡ repeated_entry (names_before d k h (h + 1 - (h + 1))) (heads (entriesFrom text d read k h (n - (h + 1)) (h + 1)))
+    pub repeated_start : (n : ℕ) → repeated_entry [] (heads (entries_from text d read k h (n - (h + 1)) (h + 1))) ≡ repeated_entry (names_before d k h (h + 1 - (h + 1))) (heads (entries_from text d read k h (n - (h + 1)) (h + 1)))
     unfolding names_before
     repeated_start n = let z : h + 1 - (h + 1) ≡ 0 = omega arith in rw z refl
 
-    pub repeated_end : (seen : List Name) (n c : ℕ) → n ≤ c → repeated_entry seen (heads (entriesFrom text d read k h (n - c) c)) ≡ none
-    unfolding entriesFrom
-    repeated_end seen n c l = let z : n - c ≡ 0 = omega arith in ap (λ (m : ℕ). repeated_entry seen (heads (entriesFrom text d read k h m c))) z
+    pub repeated_end : (seen : List Name) (n c : ℕ) → n ≤ c → repeated_entry seen (heads (entries_from text d read k h (n - c) c)) ≡ none
+    unfolding entries_from
+    repeated_end seen n c l = let z : n - c ≡ 0 = omega arith in ap (λ (m : ℕ). repeated_entry seen (heads (entries_from text d read k h m c))) z
 
     -- the same of names that nothing due has
     module _ (ds : List Due) (known : Bool) (c : ℕ) (e : any_of (λ (x : Due). same (name_of d c) x.name) ds ≡ known) where
-      pub unknown_on : (n : ℕ) → c < n → is_entry d k h c && not known ≡ false → unknown_entry ds (heads (entriesFrom text d read k h (n - c) c)) ≡ unknown_entry ds (heads (entriesFrom text d read k h (n - (c + 1)) (c + 1)))
+      pub unknown_on : (n : ℕ) → c < n → is_entry d k h c && not known ≡ false → unknown_entry ds (heads (entries_from text d read k h (n - c) c)) ≡ unknown_entry ds (heads (entries_from text d read k h (n - (c + 1)) (c + 1)))
       unknown_on n i f = go (is_entry d k h c) refl known e f
         where
           go : (b : Bool) → is_entry d k h c ≡ b → (x : Bool) → any_of (λ (x : Due). same (name_of d c) x.name) ds ≡ x → b && not x ≡ false →
-              unknown_entry ds (heads (entriesFrom text d read k h (n - c) c)) ≡ unknown_entry ds (heads (entriesFrom text d read k h (n - (c + 1)) (c + 1)))
+              unknown_entry ds (heads (entries_from text d read k h (n - c) c)) ≡ unknown_entry ds (heads (entries_from text d read k h (n - (c + 1)) (c + 1)))
           go true q true y g =
-              ap (λ (m : ℕ). unknown_entry ds (heads (entriesFrom text d read k h m c))) (one_less n c i)
+              ap (λ (m : ℕ). unknown_entry ds (heads (entries_from text d read k h m c))) (one_less n c i)
               ∙ ap (unknown_entry ds) (entries_step (n - (c + 1)) c true q)
-              ∙ ap (λ (b : Bool). cond b (unknown_entry ds (heads (entriesFrom text d read k h (n - (c + 1)) (c + 1)))) (some (placed text d c))) y
+              ∙ ap (λ (b : Bool). cond b (unknown_entry ds (heads (entries_from text d read k h (n - (c + 1)) (c + 1)))) (some (placed text d c))) y
           go true q false y g = absurd (let z : ◌≡◌ {A = ℕ} 0 1 = cc in omega arith)
-          go false q x y g = ap (λ (m : ℕ). unknown_entry ds (heads (entriesFrom text d read k h m c))) (one_less n c i) ∙ ap (unknown_entry ds) (entries_step (n - (c + 1)) c false q)
+          go false q x y g = ap (λ (m : ℕ). unknown_entry ds (heads (entries_from text d read k h m c))) (one_less n c i) ∙ ap (unknown_entry ds) (entries_step (n - (c + 1)) c false q)
 
-      pub unknown_here : (n : ℕ) → c < n → is_entry d k h c && not known ≡ true → unknown_entry ds (heads (entriesFrom text d read k h (n - c) c)) ≡ some (placed text d c)
+      pub unknown_here : (n : ℕ) → c < n → is_entry d k h c && not known ≡ true → unknown_entry ds (heads (entries_from text d read k h (n - c) c)) ≡ some (placed text d c)
       unknown_here n i f = go (is_entry d k h c) refl known e f
         where
           go : (b : Bool) → is_entry d k h c ≡ b → (x : Bool) → any_of (λ (x : Due). same (name_of d c) x.name) ds ≡ x → b && not x ≡ true →
-              unknown_entry ds (heads (entriesFrom text d read k h (n - c) c)) ≡ some (placed text d c)
+              unknown_entry ds (heads (entries_from text d read k h (n - c) c)) ≡ some (placed text d c)
           go true q true y g = absurd (let z : ◌≡◌ {A = ℕ} 0 1 = cc in omega arith)
           go true q false y g =
-              ap (λ (m : ℕ). unknown_entry ds (heads (entriesFrom text d read k h m c))) (one_less n c i)
+              ap (λ (m : ℕ). unknown_entry ds (heads (entries_from text d read k h m c))) (one_less n c i)
               ∙ ap (unknown_entry ds) (entries_step (n - (c + 1)) c true q)
-              ∙ ap (λ (b : Bool). cond b (unknown_entry ds (heads (entriesFrom text d read k h (n - (c + 1)) (c + 1)))) (some (placed text d c))) y
+              ∙ ap (λ (b : Bool). cond b (unknown_entry ds (heads (entries_from text d read k h (n - (c + 1)) (c + 1)))) (some (placed text d c))) y
           go false q x y g = absurd (let z : ◌≡◌ {A = ℕ} 0 1 = cc in omega arith)
 
-    pub unknown_end : (ds : List Due) (n c : ℕ) → n ≤ c → unknown_entry ds (heads (entriesFrom text d read k h (n - c) c)) ≡ none
-    unfolding entriesFrom
-    unknown_end ds n c l = let z : n - c ≡ 0 = omega arith in ap (λ (m : ℕ). unknown_entry ds (heads (entriesFrom text d read k h m c))) z
+    pub unknown_end : (ds : List Due) (n c : ℕ) → n ≤ c → unknown_entry ds (heads (entries_from text d read k h (n - c) c)) ≡ none
+    unfolding entries_from
+    unknown_end ds n c l = let z : n - c ≡ 0 = omega arith in ap (λ (m : ℕ). unknown_entry ds (heads (entries_from text d read k h m c))) z
 
   -- the entry of a name
   pub entry_on : (x : Name) (n c : ℕ) → c < n → is_entry d k h c && same (name_of d c) x ≡ false → entry_at d k h x (n - c) c ≡ entry_at d k h x (n - (c + 1)) (c + 1)
@@ -213,11 +213,11 @@ module _ (d : Doc) (h : ℕ) where
     pub least : c ≤ r
     pub most : r ≤ c + m
     pub below : r < c + m → parent_of d r ≡ h
-    pub same_items : itemsFrom text d read h m c ≡ itemsFrom text d read h (c + m - r) r
+    pub same_items : items_from text d read h m c ≡ items_from text d read h (c + m - r) r
 
-  items_on : (text : ℕ) (read : ℕ → Value) (n j : ℕ) → j < n → (parent_of d j ≡ h → ⊥) → itemsFrom text d read h (n - j) j ≡ itemsFrom text d read h (n - (j + 1)) (j + 1)
-  unfolding itemsFrom
-  items_on text read n j i e = ap (λ (m : ℕ). itemsFrom text d read h m j) (one_less n j i) ∙ rw (ne_eqb (parent_of d j) h e) refl
+  items_on : (text : ℕ) (read : ℕ → Value) (n j : ℕ) → j < n → (parent_of d j ≡ h → ⊥) → items_from text d read h (n - j) j ≡ items_from text d read h (n - (j + 1)) (j + 1)
+  unfolding items_from
+  items_on text read n j i e = ap (λ (m : ℕ). items_from text d read h m j) (one_less n j i) ∙ rw (ne_eqb (parent_of d j) h e) refl
 
   pub child_next : (text : ℕ) (read : ℕ → Value) (m c : ℕ) → Next text read m c (child_at d h m c)
   child_next text read m c =
@@ -227,32 +227,32 @@ module _ (d : Doc) (h : ℕ) where
         least = p.least;
         most = p.most;
         below = p.below;
-        same_items = ap (λ (x : ℕ). itemsFrom text d read h x c) z ∙ passed (λ (j : ℕ). itemsFrom text d read h (c + m - j) j) m c (λ j l i. items_on text read (c + m) j i);
+        same_items = ap (λ (x : ℕ). items_from text d read h x c) z ∙ passed (λ (j : ℕ). items_from text d read h (c + m - j) j) m c (λ j l i. items_on text read (c + m) j i);
       }
 
 -- the entry of a name among those that are given
 module _ (kinds : Name → Kind) (vars : Name → Option Tree) (text : ℕ) (d : Doc) (read : ℕ → Value) (k h : ℕ) (x : Name) where
-  abbrev pub givenAt : ℕ → Option (Ref → Out Tree)
-  givenAt r = cond (leftOut kinds vars (read (r + 1))) none (some (λ q. coerce kinds vars (read (r + 1)) q))
+  abbrev pub given_at : ℕ → Option (Ref → Out Tree)
+  given_at r = cond (left_out kinds vars (read (r + 1))) none (some (λ q. coerce kinds vars (read (r + 1)) q))
 
-  pub given_none : (m c : ℕ) → c + m ≤ entry_at d k h x m c → entry_of x (givens kinds vars (entriesFrom text d read k h m c)) ≡ none
-  unfolding entry_at entriesFrom coerce
+  pub given_none : (m c : ℕ) → c + m ≤ entry_at d k h x m c → entry_of x (givens kinds vars (entries_from text d read k h m c)) ≡ none
+  unfolding entry_at entries_from coerce
   given_none zero c l = refl
   given_none (suc m) c l = go (is_entry d k h c) (same (name_of d c) x) refl (λ i. given_none m (c + 1) i) l
     where
-      go : (a b : Bool) → same (name_of d c) x ≡ b → (c + 1 + m ≤ entry_at d k h x m (c + 1) → entry_of x (givens kinds vars (entriesFrom text d read k h m (c + 1))) ≡ none) → c + suc m ≤ cond (a && b) c (entry_at d k h x m (c + 1)) →
-          entry_of x (givens kinds vars (cond a (entry (placed text d c) (name_of d c) (read (c + 1)) (entriesFrom text d read k h m (c + 1))) (entriesFrom text d read k h m (c + 1)))) ≡ none
+      go : (a b : Bool) → same (name_of d c) x ≡ b → (c + 1 + m ≤ entry_at d k h x m (c + 1) → entry_of x (givens kinds vars (entries_from text d read k h m (c + 1))) ≡ none) → c + suc m ≤ cond (a && b) c (entry_at d k h x m (c + 1)) →
+          entry_of x (givens kinds vars (cond a (entry (placed text d c) (name_of d c) (read (c + 1)) (entries_from text d read k h m (c + 1))) (entries_from text d read k h m (c + 1)))) ≡ none
       go true true q ih i = absurd (omega (arith, i))
       go true false q ih i = rw (same_sym x (name_of d c), q) (ih (omega (arith, i)))
       go false b q ih i = ih (omega (arith, i))
 
-  pub given_here : (m c : ℕ) → entry_at d k h x m c < c + m → entry_of x (givens kinds vars (entriesFrom text d read k h m c)) ≡ givenAt (entry_at d k h x m c)
-  unfolding entry_at entriesFrom coerce
+  pub given_here : (m c : ℕ) → entry_at d k h x m c < c + m → entry_of x (givens kinds vars (entries_from text d read k h m c)) ≡ given_at (entry_at d k h x m c)
+  unfolding entry_at entries_from coerce
   given_here zero c l = absurd (omega (arith, l))
   given_here (suc m) c l = go (is_entry d k h c) (same (name_of d c) x) refl (λ i. given_here m (c + 1) i) l
     where
-      go : (a b : Bool) → same (name_of d c) x ≡ b → (entry_at d k h x m (c + 1) < c + 1 + m → entry_of x (givens kinds vars (entriesFrom text d read k h m (c + 1))) ≡ givenAt (entry_at d k h x m (c + 1))) → cond (a && b) c (entry_at d k h x m (c + 1)) < c + suc m →
-          entry_of x (givens kinds vars (cond a (entry (placed text d c) (name_of d c) (read (c + 1)) (entriesFrom text d read k h m (c + 1))) (entriesFrom text d read k h m (c + 1)))) ≡ givenAt (cond (a && b) c (entry_at d k h x m (c + 1)))
+      go : (a b : Bool) → same (name_of d c) x ≡ b → (entry_at d k h x m (c + 1) < c + 1 + m → entry_of x (givens kinds vars (entries_from text d read k h m (c + 1))) ≡ given_at (entry_at d k h x m (c + 1))) → cond (a && b) c (entry_at d k h x m (c + 1)) < c + suc m →
+          entry_of x (givens kinds vars (cond a (entry (placed text d c) (name_of d c) (read (c + 1)) (entries_from text d read k h m (c + 1))) (entries_from text d read k h m (c + 1)))) ≡ given_at (cond (a && b) c (entry_at d k h x m (c + 1)))
       go true true q ih i = rw (same_sym x (name_of d c), q) refl
       go true false q ih i = rw (same_sym x (name_of d c), q) (ih (omega (arith, i)))
       go false b q ih i = ih (omega (arith, i))

@@ -11,7 +11,7 @@ ghost use Rattle.table_members.specs.Members.{arguments_in};
 ghost use Rattle.query_rows.specs.Rowed.{row_in, doc_of, Rowed};
 ghost use Rattle.paper_values.specs.Values.{Value};
 ghost use Rattle.paper_values.specs.Coercion.{heads, repeated_entry, unknown_entry};
-ghost use Rattle.paper_values.specs.RowValues.{entriesFrom};
+ghost use Rattle.paper_values.specs.RowValues.{entries_from};
 ghost use Rattle.value_entries.specs.Entered.{Treed, is_entry, names_before, entry_at, child_at, due_named, dues_by, NextDue, Marks};
 
 use paper::KIND_ARGUMENT;
@@ -102,7 +102,7 @@ fn is_repeated(
 // The first entry whose name an earlier one has; n if there is none.
 pub fn first_repeated(s: &[u8], rows: &[u32], n: usize, past: &[u32], h: usize, kind: u32) -> usize
     requires { Treed s.now rows.now n past.now × (h < n) }
-    ensures { (text : ℕ) (read : ℕ → Value) → Marks n text (repeated_entry [] (heads (entriesFrom text (doc_of s.now rows.now n) read kind h (n - (h + 1)) (h + 1)))) result }
+    ensures { (text : ℕ) (read : ℕ → Value) → Marks n text (repeated_entry [] (heads (entries_from text (doc_of s.now rows.now n) read kind h (n - (h + 1)) (h + 1)))) result }
 {
     let mut c = first_child(s, rows, n, past, h);
     while c < n {
@@ -203,7 +203,7 @@ pub fn first_unknown(
     kind: u32,
 ) -> usize
     requires { Bounds t.now start end × Treed s.now rows.now n past.now × (h < n) }
-    ensures { (text : ℕ) (read : ℕ → Value) → Marks n text (unknown_entry (dues_by kind t.now start end) (heads (entriesFrom text (doc_of s.now rows.now n) read kind h (n - (h + 1)) (h + 1)))) result }
+    ensures { (text : ℕ) (read : ℕ → Value) → Marks n text (unknown_entry (dues_by kind t.now start end) (heads (entries_from text (doc_of s.now rows.now n) read kind h (n - (h + 1)) (h + 1)))) result }
 {
     let mut c = first_child(s, rows, n, past, h);
     while c < n {

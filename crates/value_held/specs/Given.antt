@@ -12,7 +12,7 @@ use Rattle.paper_values.specs.Values.{Name, Entries, Tree, Pairs, Out, Got, No}
 use Rattle.paper_values.specs.Kinds.{Kind, kind_of_type}
 use Rattle.paper_values.specs.Computed.{Given, coerce, givens}
 use Rattle.paper_values.specs.Encoding.{encode_pairs}
-use Rattle.paper_values.specs.RowValues.{entriesFrom, value_at}
+use Rattle.paper_values.specs.RowValues.{entries_from, value_at}
 use Rattle.value_writing.specs.Writing.{Put}
 use Rattle.value_kinds.specs.declared.Coerced.{Coerced}
 use Rattle.value_kinds.specs.declared.Coerced.TheVariants.{UpTo, Refused}
@@ -50,7 +50,7 @@ coerced t vars text d k i r = coerce (kinds_in t) vars (value_at text d k i) r
 
 -- the entries of this kind of row h, as they are given
 abbrev pub entries_at : ℕ → Doc → ℕ → ℕ → ℕ → ℕ → Entries
-entries_at text d n k kind h = entriesFrom text d (value_at text d k) kind h (n - (h + 1)) (h + 1)
+entries_at text d n k kind h = entries_from text d (value_at text d k) kind h (n - (h + 1)) (h + 1)
 
 abbrev pub givens_at : List ℕ → Vars → ℕ → Doc → ℕ → ℕ → ℕ → ℕ → List Given
 givens_at t vars text d n k kind h = givens (kinds_in t) vars (entries_at text d n k kind h)

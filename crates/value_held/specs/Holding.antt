@@ -12,14 +12,14 @@ use Rattle.table_book.specs.Book.{part}
 use Rattle.query_rows.specs.Rowed.{cell, doc_of}
 use Rattle.paper_values.specs.Values.{Name, Tree, Pairs, no_pairs, pair, Got}
 use Rattle.paper_values.specs.Computed.{entry_of, constant}
-use Rattle.paper_values.specs.RowValues.{valueOfRow}
+use Rattle.paper_values.specs.RowValues.{value_of_row}
 use Rattle.value_kinds.specs.Dues.{DueIs, Fits}
 use Rattle.value_held.specs.Given.{Ready, Vars, is_none, kinds_in, coerced, givens_at}
 
 -- the value of row `row` of this text, at the type ref
 pub record Kept (t : List ℕ) (text : ℕ) (d : Doc) (n row : ℕ) (ref : Ref) (tree : Tree) : Type 0 where
   pub there : row ≤ n
-  pub is : constant (kinds_in t) (valueOfRow text d row) ref ≡ Got tree
+  pub is : constant (kinds_in t) (value_of_row text d row) ref ≡ Got tree
 
 -- variable j has this name and this tree
 pub record HeldAt (t book s rows : List ℕ) (n : ℕ) (s1 rows1 : List ℕ) (n1 : ℕ) (held : List ℕ) (j : ℕ) (name : Name) (tree : Tree) : Type 0 where

@@ -10,7 +10,7 @@ ghost use Rattle.query_rows.specs.Rowed.{cell, row_in, doc_of, Rowed, Sized, Dec
 ghost use Rattle.paper_values.specs.Values.{Value, Due as Dues, Got, no_pairs};
 ghost use Rattle.paper_values.specs.Coercion.{heads, repeated_entry, unknown_entry};
 ghost use Rattle.paper_values.specs.Computed.{missing_due};
-ghost use Rattle.paper_values.specs.RowValues.{entriesFrom};
+ghost use Rattle.paper_values.specs.RowValues.{entries_from};
 ghost use Rattle.value_kinds.specs.Dues.{placed_at};
 ghost use Rattle.value_entries.specs.Entered.{Treed, Marks, dues_by};
 ghost use Rattle.value_held.specs.Given.{Vars, leaves_out, ToldPairs};
@@ -141,7 +141,7 @@ pub fn given(
 // The first entry of this kind right below row h whose name an earlier one has; n if there is none. Below a row that is not there stands nothing.
 pub fn find_again(s: &[u8], rows: &[u32], n: usize, past: &[u32], h: usize, kind: u32) -> usize
     requires { Treed s.now rows.now n past.now × (h ≤ n) }
-    ensures { (text : ℕ) (read : ℕ → Value) → Marks n text (repeated_entry [] (heads (entriesFrom text (doc_of s.now rows.now n) read kind h (n - (h + 1)) (h + 1)))) result }
+    ensures { (text : ℕ) (read : ℕ → Value) → Marks n text (repeated_entry [] (heads (entries_from text (doc_of s.now rows.now n) read kind h (n - (h + 1)) (h + 1)))) result }
 {
     if n <= h {
         return n;
@@ -162,7 +162,7 @@ pub fn find_alien(
     kind: u32,
 ) -> usize
     requires { Bounds t.now start end × Treed s.now rows.now n past.now × (h ≤ n) }
-    ensures { (text : ℕ) (read : ℕ → Value) → Marks n text (unknown_entry (dues_by kind t.now start end) (heads (entriesFrom text (doc_of s.now rows.now n) read kind h (n - (h + 1)) (h + 1)))) result }
+    ensures { (text : ℕ) (read : ℕ → Value) → Marks n text (unknown_entry (dues_by kind t.now start end) (heads (entries_from text (doc_of s.now rows.now n) read kind h (n - (h + 1)) (h + 1)))) result }
 {
     if n <= h {
         return n;

@@ -21,13 +21,13 @@ use Rattle.value_ones.proofs.ToldLaws.{told_up, told_no}
 
 module _ (limit from : ℕ) where
   -- the place of a head, and of what is in the list
-  abbrev headAt : ℕ → ℕ
-  headAt j = place_of limit (from + 3 * j)
+  abbrev head_at : ℕ → ℕ
+  head_at j = place_of limit (from + 3 * j)
 
-  pub head_first : from ≤ limit + 1 → headAt 0 ≡ from
+  pub head_first : from ≤ limit + 1 → head_at 0 ≡ from
   head_first h = sym (put_none limit from [] h).0
 
-  head_next : (j : ℕ) → headAt (j + 1) ≡ place_of limit (headAt j + 3)
+  head_next : (j : ℕ) → head_at (j + 1) ≡ place_of limit (head_at j + 3)
   head_next j = let z : from + 3 * (j + 1) ≡ from + 3 * j + 3 = omega arith in ap (place_of limit) z ∙ sym (place_add limit (from + 3 * j) 3)
 
   module _ (text : ℕ) (p : List ℕ) where
@@ -39,18 +39,18 @@ module _ (limit from : ℕ) where
         subst (λ (y : Out Tree). Told text limit y here p d' (UpTo e)) (sym (ap (λ (y : Out Tree). and_then y (λ x. Got (Many (also x no_more)))) z.1))
         (e, refl, list_put limit (also z.0 no_more) here first at e p d d' f (item_put limit no_more z.0 first first at p p d (no_items_put limit first p (place_least limit (here + 3) first f)) z.2) m)
 
-    pub ones_more : (o : Out Tree) (m j at e : ℕ) (d d' : List ℕ) → 0 < j → j ≤ m → Told text limit (ones (m - j) o) (headAt j) p d (UpTo at) → Closed limit (headAt (j - 1)) tag_list at d d' e →
-        Told text limit (ones (m - (j - 1)) o) (headAt (j - 1)) p d' (UpTo e)
+    pub ones_more : (o : Out Tree) (m j at e : ℕ) (d d' : List ℕ) → 0 < j → j ≤ m → Told text limit (ones (m - j) o) (head_at j) p d (UpTo at) → Closed limit (head_at (j - 1)) tag_list at d d' e →
+        Told text limit (ones (m - (j - 1)) o) (head_at (j - 1)) p d' (UpTo e)
     ones_more o m j at e d d' h l g c =
         let z : m - (j - 1) ≡ suc (m - j) = omega arith in let y : j ≡ j - 1 + 1 = omega arith in
-        subst (λ (x : ℕ). Told text limit (ones x o) (headAt (j - 1)) p d' (UpTo e)) (sym z)
-        (one_more (ones (m - j) o) (headAt j) at (headAt (j - 1)) e d d' (ap headAt y ∙ head_next (j - 1)) g c)
+        subst (λ (x : ℕ). Told text limit (ones x o) (head_at (j - 1)) p d' (UpTo e)) (sym z)
+        (one_more (ones (m - j) o) (head_at j) at (head_at (j - 1)) e d d' (ap head_at y ∙ head_next (j - 1)) g c)
 
-  pub head_behind : (j at : ℕ) (d : List ℕ) → 0 < j → limit ≤ most_limit → at ≤ limit + 1 → (at ≤ limit → from + 3 * j ≤ at) → length d ≡ limit → Behind limit (headAt (j - 1)) at d
+  pub head_behind : (j at : ℕ) (d : List ℕ) → 0 < j → limit ≤ most_limit → at ≤ limit + 1 → (at ≤ limit → from + 3 * j ≤ at) → length d ≡ limit → Behind limit (head_at (j - 1)) at d
   head_behind j at d h a b f s = record {
     least = a;
     end = b;
-    order = λ (l : at ≤ limit). let z = f l in let y : from + 3 * (j - 1) ≡ headAt (j - 1) = place_in limit (from + 3 * (j - 1)) (omega (arith, z, l, h)) in omega (arith, y, z, h);
+    order = λ (l : at ≤ limit). let z = f l in let y : from + 3 * (j - 1) ≡ head_at (j - 1) = place_in limit (from + 3 * (j - 1)) (omega (arith, z, l, h)) in omega (arith, y, z, h);
     size = s;
   }
 

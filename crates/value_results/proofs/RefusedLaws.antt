@@ -17,9 +17,9 @@ use Rattle.paper_query.specs.Opening.{if_below}
 use Rattle.paper_values.specs.ValueNumbers.{reason_missing, reason_repeated}
 use Rattle.paper_values.specs.Values.{Name, At, Value, Due, Tree, Pairs, no_pairs, pair, Out, Got, No}
 use Rattle.paper_values.specs.Kinds.{Kind}
-use Rattle.paper_values.specs.Computed.{Given, unless, entry_of, pair_first, missing_due, due_field, in_object, givens, constant, orDefault, variablesFrom}
+use Rattle.paper_values.specs.Computed.{Given, unless, entry_of, pair_first, missing_due, due_field, in_object, givens, constant, or_default, variables_from}
 use Rattle.paper_values.specs.Coercion.{heads, repeated_entry, value_in}
-use Rattle.paper_values.specs.RowValues.{placed, valueOfRow, arguments_at}
+use Rattle.paper_values.specs.RowValues.{placed, value_of_row, arguments_at}
 use Rattle.paper_values.specs.DocumentDues.{value_if, definitions_of, due_variable, variable_dues, given_in}
 use Rattle.paper_values.proofs.PlacesLaws.{Kept, PlacedEntries, PlacedIf, PlacedDues, UpTo, variables_kept, object_kept, value_placed, entries_placed}
 use Rattle.value_held.specs.Given.{kinds_in}
@@ -54,11 +54,11 @@ module _ (d : Doc) (m : ℕ) (few : count d ≤ m) where
 
   given_placed : PlacedEntries (UpTo m) (given_in d)
   given_placed =
-      entries_placed input_variables d m few (valueOfRow input_variables d) (λ i q. value_placed input_variables d m few (suc most_levels) i q) kind_object_field 0 (count d - 1) 1 (λ z. omega (arith, z, few))
+      entries_placed input_variables d m few (value_of_row input_variables d) (λ i q. value_placed input_variables d m few (suc most_levels) i q) kind_object_field 0 (count d - 1) 1 (λ z. omega (arith, z, few))
 
   arguments_placed : (i : ℕ) → PlacedEntries (UpTo m) (arguments_at input_document d i)
   arguments_placed i =
-      entries_placed input_document d m few (valueOfRow input_document d) (λ i q. value_placed input_document d m few (suc most_levels) i q) kind_argument i (count d - (i + 1)) (i + 1) (λ z. omega (arith, z, few))
+      entries_placed input_document d m few (value_of_row input_document d) (λ i q. value_placed input_document d m few (suc most_levels) i q) kind_argument i (count d - (i + 1)) (i + 1) (λ z. omega (arith, z, few))
 
 -- the row of a variable that is refused
 pub variables_rows : (t : List ℕ) (d : Doc) (op : ℕ) (d1 : Doc) → count d ≤ most_rows → count d1 ≤ most_rows → Kept (UpTo most_rows) (coerced_variables t d op d1)
@@ -94,18 +94,18 @@ most_if true i rest k h = tt
 most_if false i rest k h = most_more k rest h
 
 module _ (kinds : Name → Kind) where
-  most_default : (i : At) (d : Due) (m : Option Value) (rest : Out Pairs) (k : ℕ) → AtMost k rest → AtMost (suc k) (orDefault kinds i d m rest)
+  most_default : (i : At) (d : Due) (m : Option Value) (rest : Out Pairs) (k : ℕ) → AtMost k rest → AtMost (suc k) (or_default kinds i d m rest)
   most_default i d none rest k h = most_if (is_non_null d.type) i rest k h
   most_default i d (some v) rest k h = most_first d.name (constant kinds v d.type) rest k h
 
-  most_field : (i : At) (d : Due) (m : Option (Ref → Out Tree)) (rest : Out Pairs) (k : ℕ) → AtMost k rest → AtMost (suc k) (due_field (orDefault kinds i d d.default rest) d m rest)
+  most_field : (i : At) (d : Due) (m : Option (Ref → Out Tree)) (rest : Out Pairs) (k : ℕ) → AtMost k rest → AtMost (suc k) (due_field (or_default kinds i d d.default rest) d m rest)
   most_field i d none rest k h = most_default i d d.default rest k h
   most_field i d (some f) rest k h = most_first d.name (f d.type) rest k h
 
-  most_variables : (gs : List Given) (vs : List (At × Due)) → AtMost (length vs) (variablesFrom kinds gs vs)
+  most_variables : (gs : List Given) (vs : List (At × Due)) → AtMost (length vs) (variables_from kinds gs vs)
   unfolding pair_count
   most_variables gs [] = omega arith
-  most_variables gs (v ∷ vs) = most_field v.0 v.1 (entry_of v.1.name gs) (variablesFrom kinds gs vs) (length vs) (most_variables gs vs)
+  most_variables gs (v ∷ vs) = most_field v.0 v.1 (entry_of v.1.name gs) (variables_from kinds gs vs) (length vs) (most_variables gs vs)
 
   most_unless : (m : Option At) (w k : ℕ) (o : Out Pairs) → AtMost k o → AtMost k (unless m w o)
   most_unless none w k o h = h

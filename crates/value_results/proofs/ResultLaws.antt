@@ -20,7 +20,7 @@ use Rattle.paper_values.specs.ValueNumbers.{refuse_value, refuse_too_long, most_
 use Rattle.paper_values.specs.Values.{At, Tree, Fields, Pairs, Out, Got, No, and_then}
 use Rattle.paper_values.specs.Kinds.{due_argument}
 use Rattle.paper_values.specs.Coercion.{heads, value_in}
-use Rattle.paper_values.specs.Computed.{in_object, givens, orDefault, missing_due}
+use Rattle.paper_values.specs.Computed.{in_object, givens, or_default, missing_due}
 use Rattle.paper_values.specs.Encoding.{encode, encode_pairs}
 use Rattle.paper_values.specs.RowValues.{placed, arguments_at}
 use Rattle.paper_values.specs.DocumentDues.{definitions_of, argument_dues}
@@ -174,7 +174,7 @@ module _ (t s rows : List ℕ) (n row start end : ℕ) (f : FieldServes t (doc_o
   -- as an input object of their definitions
   pub argued_is : (ps : Pairs) → argued t d row ps ≡ object ps
   argued_is ps =
-      ap (in_object (λ δ rest. orDefault (kinds_in t) (placed input_document d row) δ δ.default rest) (heads (arguments_at input_document d row)) (givens (kinds_in t) (value_in ps) (arguments_at input_document d row))) dues_are
+      ap (in_object (λ δ rest. or_default (kinds_in t) (placed input_document d row) δ δ.default rest) (heads (arguments_at input_document d row)) (givens (kinds_in t) (value_in ps) (arguments_at input_document d row))) dues_are
       ∙ arguments_same (kinds_in t) (placed input_document d row) (givens (kinds_in t) (value_in ps) (arguments_at input_document d row)) (heads (arguments_at input_document d row)) (arguments_in t start end)
       ∙ ap (in_object (missing_due (placed input_document d row)) (heads (arguments_at input_document d row)) (givens (kinds_in t) (value_in ps) (arguments_at input_document d row))) (sym (dues_arguments t start end))
       ∙ ap (λ (k : ℕ). objected t (value_in ps) input_document d k 33 kind_argument row (dues_by kind_argument t start end)) (rows_count rows n)

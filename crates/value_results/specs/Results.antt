@@ -8,7 +8,7 @@ use Rattle.paper_query.specs.Enclosing.{field_at}
 use Rattle.paper_values.specs.ValueNumbers.{refuse_value, refuse_too_long, most_coerced}
 use Rattle.paper_values.specs.Values.{Tree, Pairs, Out, and_then}
 use Rattle.paper_values.specs.Coercion.{heads, value_in}
-use Rattle.paper_values.specs.Computed.{in_object, givens, orDefault, variables_of}
+use Rattle.paper_values.specs.Computed.{in_object, givens, or_default, variables_of}
 use Rattle.paper_values.specs.RowValues.{placed, arguments_at}
 use Rattle.paper_values.specs.DocumentDues.{definitions_of, variable_dues, given_in, argument_dues}
 use Rattle.paper_values.specs.ValueCalls.{Ending, ends, yields, ended, as_object}
@@ -32,7 +32,7 @@ coerced_variables t d op d1 = variables_of (kinds_in t) (given_in d1) (variable_
 -- the arguments of the field at a row, where these variables have values
 abbrev pub argued : List ℕ → Doc → ℕ → Pairs → Out Tree
 argued t d row ps =
-    in_object (λ δ rest. orDefault (kinds_in t) (placed input_document d row) δ δ.default rest) (heads (arguments_at input_document d row))
+    in_object (λ δ rest. or_default (kinds_in t) (placed input_document d row) δ δ.default rest) (heads (arguments_at input_document d row))
     (givens (kinds_in t) (value_in ps) (arguments_at input_document d row)) (argument_dues (field_at (table_of t) d row))
 
 abbrev pub result_of : List ℕ → Doc → ℕ → Doc → Task → Out Tree

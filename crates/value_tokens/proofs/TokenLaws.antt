@@ -26,7 +26,7 @@ use Rattle.paper_values.specs.Kinds.{Kind, Int, Float, String, Boolean, ID, Own,
 use Rattle.paper_values.specs.NumberTokens.{int_of, float_content}
 use Rattle.paper_values.specs.Coercion.{in_range, text_at, enum_value_at, integer_at, float_at, string_at, boolean_at, enum_at}
 use Rattle.paper_values.specs.Computed.{object_at, coerce}
-use Rattle.paper_values.specs.RowValues.{placed, tokenAt, itemsFrom, entriesFrom, valueBy}
+use Rattle.paper_values.specs.RowValues.{placed, token_at, items_from, entries_from, value_by}
 use Rattle.value_leaves.specs.Leaves.{sort_of, Leaf}
 use Rattle.value_leaves.specs.declared.Wrote.{Wrote}
 use Rattle.value_leaves.specs.declared.Wrote.TheVariants.{UpTo, Refused}
@@ -66,44 +66,44 @@ takes_high kind sort q l = rw (eq-eqb sort 8 q, le-ltb kind kind_variable l) ref
 -- ---- values by their kinds
 
 module _ (text : ℕ) (d : Doc) (read : ℕ → Value) (i : ℕ) where
-  by_kind : (k : ℕ) → kind_of d i ≡ k → valueBy text d read i ≡
+  by_kind : (k : ℕ) → kind_of d i ≡ k → value_by text d read i ≡
       cond (eqb k kind_variable) (variable (placed text d i) (name_of d i))
-      (cond (eqb k kind_integer) (integer (placed text d i) (tokenAt text d i))
-      (cond (eqb k kind_float) (float (placed text d i) (tokenAt text d i))
-      (cond (eqb k kind_string) (string (placed text d i) (tokenAt text d i) (characters_of (tokenAt text d i)))
+      (cond (eqb k kind_integer) (integer (placed text d i) (token_at text d i))
+      (cond (eqb k kind_float) (float (placed text d i) (token_at text d i))
+      (cond (eqb k kind_string) (string (placed text d i) (token_at text d i) (characters_of (token_at text d i)))
       (cond (eqb k kind_boolean) (boolean (placed text d i) (eqb (extra_of d i) extra_true))
       (cond (eqb k kind_null) (null (placed text d i))
       (cond (eqb k kind_enum) (enum (placed text d i) (name_of d i))
-      (cond (eqb k kind_list) (list (placed text d i) (itemsFrom text d read i (count d - (i + 1)) (i + 1)))
-      (object (placed text d i) (entriesFrom text d read kind_object_field i (count d - (i + 1)) (i + 1))))))))))
-  unfolding valueBy
+      (cond (eqb k kind_list) (list (placed text d i) (items_from text d read i (count d - (i + 1)) (i + 1)))
+      (object (placed text d i) (entries_from text d read kind_object_field i (count d - (i + 1)) (i + 1))))))))))
+  unfolding value_by
   by_kind k e = rw e refl
 
-  pub value_variable : kind_of d i ≡ kind_variable → valueBy text d read i ≡ variable (placed text d i) (name_of d i)
+  pub value_variable : kind_of d i ≡ kind_variable → value_by text d read i ≡ variable (placed text d i) (name_of d i)
   value_variable e = by_kind kind_variable e
 
-  pub value_integer : kind_of d i ≡ kind_integer → valueBy text d read i ≡ integer (placed text d i) (tokenAt text d i)
+  pub value_integer : kind_of d i ≡ kind_integer → value_by text d read i ≡ integer (placed text d i) (token_at text d i)
   value_integer e = by_kind kind_integer e
 
-  pub value_float : kind_of d i ≡ kind_float → valueBy text d read i ≡ float (placed text d i) (tokenAt text d i)
+  pub value_float : kind_of d i ≡ kind_float → value_by text d read i ≡ float (placed text d i) (token_at text d i)
   value_float e = by_kind kind_float e
 
-  pub value_string : kind_of d i ≡ kind_string → valueBy text d read i ≡ string (placed text d i) (tokenAt text d i) (characters_of (tokenAt text d i))
+  pub value_string : kind_of d i ≡ kind_string → value_by text d read i ≡ string (placed text d i) (token_at text d i) (characters_of (token_at text d i))
   value_string e = by_kind kind_string e
 
-  pub value_boolean : kind_of d i ≡ kind_boolean → valueBy text d read i ≡ boolean (placed text d i) (eqb (extra_of d i) extra_true)
+  pub value_boolean : kind_of d i ≡ kind_boolean → value_by text d read i ≡ boolean (placed text d i) (eqb (extra_of d i) extra_true)
   value_boolean e = by_kind kind_boolean e
 
-  pub value_null : kind_of d i ≡ kind_null → valueBy text d read i ≡ null (placed text d i)
+  pub value_null : kind_of d i ≡ kind_null → value_by text d read i ≡ null (placed text d i)
   value_null e = by_kind kind_null e
 
-  pub value_enum : kind_of d i ≡ kind_enum → valueBy text d read i ≡ enum (placed text d i) (name_of d i)
+  pub value_enum : kind_of d i ≡ kind_enum → value_by text d read i ≡ enum (placed text d i) (name_of d i)
   value_enum e = by_kind kind_enum e
 
-  pub value_list : kind_of d i ≡ kind_list → valueBy text d read i ≡ list (placed text d i) (itemsFrom text d read i (count d - (i + 1)) (i + 1))
+  pub value_list : kind_of d i ≡ kind_list → value_by text d read i ≡ list (placed text d i) (items_from text d read i (count d - (i + 1)) (i + 1))
   value_list e = by_kind kind_list e
 
-  pub value_object : is_object_kind (kind_of d i) ≡ true → valueBy text d read i ≡ object (placed text d i) (entriesFrom text d read kind_object_field i (count d - (i + 1)) (i + 1))
+  pub value_object : is_object_kind (kind_of d i) ≡ true → value_by text d read i ≡ object (placed text d i) (entries_from text d read kind_object_field i (count d - (i + 1)) (i + 1))
   value_object e = by_kind (kind_of d i) refl
       ∙ rw (
         ne_eqb (kind_of d i) 20 (not_in 20 refl refl),
@@ -223,10 +223,10 @@ pub name_is : (s rows : List ℕ) (n i at l : ℕ) → at ≡ (row_in rows n i).
 name_is s rows n i at l p q = rw (p, q) refl
 
 -- a token whose place was read
-pub token_is : (s rows : List ℕ) (n i start stop : ℕ) → start ≡ (row_in rows n i).start → stop ≡ (row_in rows n i).end → take (stop - start) (drop start s) ≡ tokenAt 0 (doc_of s rows n) i
+pub token_is : (s rows : List ℕ) (n i start stop : ℕ) → start ≡ (row_in rows n i).start → stop ≡ (row_in rows n i).end → take (stop - start) (drop start s) ≡ token_at 0 (doc_of s rows n) i
 token_is s rows n i start stop p q = rw (p, q) refl
 
-module _ (d : Doc) (i sort limit from : ℕ) (p p' : List ℕ) (r : Wrote) (w : List ℕ) (q : w ≡ tokenAt 0 d i) where
+module _ (d : Doc) (i sort limit from : ℕ) (p p' : List ℕ) (r : Wrote) (w : List ℕ) (q : w ≡ token_at 0 d i) where
   pub token_int : kind_of d i ≡ kind_integer → ((k : Kind) (a : At) → sort_of k ≡ sort → Leaf limit (integer_at a w k) from p p' r) → Tokened d i sort limit from p p' r
   token_int e l = record {
     int = λ z k a h. subst (λ (x : List ℕ). Leaf limit (integer_at a x k) from p p' r) q (l k a h);
@@ -261,9 +261,9 @@ token_other d i sort limit from p p' x y z = record {
 
 module _ (t book : List ℕ) (d : Doc) (i sort number limit from : ℕ) (p p' : List ℕ) (r : Wrote) (vars : Name → Option Tree) (text : ℕ) (read : ℕ → Value) (name : Name) (s : Sorted t book name sort number) where
   abbrev Is : Type 0
-  Is = Told text limit (coerce (kind_of_type (table_of t)) vars (valueBy text d read i) (named name)) from p p' (told i r)
+  Is = Told text limit (coerce (kind_of_type (table_of t)) vars (value_by text d read i) (named name)) from p p' (told i r)
 
-  from_value : (v : Value) → valueBy text d read i ≡ v → Here (placed text d i) (coerce (kind_of_type (table_of t)) vars v (named name)) → Leaf limit (coerce (kind_of_type (table_of t)) vars v (named name)) from p p' r → Is
+  from_value : (v : Value) → value_by text d read i ≡ v → Here (placed text d i) (coerce (kind_of_type (table_of t)) vars v (named name)) → Leaf limit (coerce (kind_of_type (table_of t)) vars v (named name)) from p p' r → Is
   from_value v e h l = subst (λ (x : Value). Told text limit (coerce (kind_of_type (table_of t)) vars x (named name)) from p p' (told i r)) (sym e) (leaf_told text limit from i d p p' r (coerce (kind_of_type (table_of t)) vars v (named name)) h l)
 
   pub base_boolean : (b : Bool) → kind_of d i ≡ kind_boolean → b ≡ eqb (extra_of d i) extra_true →
@@ -298,19 +298,19 @@ module _ (t book : List ℕ) (d : Doc) (i sort number limit from : ℕ) (p p' : 
       go : (a : Bool) → eqb (kind_of d i) kind_integer ≡ a → (b : Bool) → eqb (kind_of d i) kind_float ≡ b → (c : Bool) → eqb (kind_of d i) kind_string ≡ c → (e : Bool) → eqb (kind_of d i) kind_list ≡ e → Is
       go true u b v c w e x =
           let q : kind_of d i ≡ kind_integer = eqb-true (kind_of d i) kind_integer u in
-          from_value (integer (placed text d i) (tokenAt text d i)) (value_integer text d read i q) (here_integer (placed text d i) (tokenAt text d i) (kind_of_type (table_of t) name)) (k.int q (kind_of_type (table_of t) name) (placed text d i) s.sort_is)
+          from_value (integer (placed text d i) (token_at text d i)) (value_integer text d read i q) (here_integer (placed text d i) (token_at text d i) (kind_of_type (table_of t) name)) (k.int q (kind_of_type (table_of t) name) (placed text d i) s.sort_is)
       go false u true v c w e x =
           let q : kind_of d i ≡ kind_float = eqb-true (kind_of d i) kind_float v in
-          from_value (float (placed text d i) (tokenAt text d i)) (value_float text d read i q) (here_float (placed text d i) (tokenAt text d i) (kind_of_type (table_of t) name)) (k.decimal q (kind_of_type (table_of t) name) (placed text d i) s.sort_is)
+          from_value (float (placed text d i) (token_at text d i)) (value_float text d read i q) (here_float (placed text d i) (token_at text d i) (kind_of_type (table_of t) name)) (k.decimal q (kind_of_type (table_of t) name) (placed text d i) s.sort_is)
       go false u false v true w e x =
           let q : kind_of d i ≡ kind_string = eqb-true (kind_of d i) kind_string w in
-          from_value (string (placed text d i) (tokenAt text d i) (characters_of (tokenAt text d i))) (value_string text d read i q) (here_string (placed text d i) (tokenAt text d i) (characters_of (tokenAt text d i)) (kind_of_type (table_of t) name)) (k.text q (kind_of_type (table_of t) name) (placed text d i) s.sort_is)
+          from_value (string (placed text d i) (token_at text d i) (characters_of (token_at text d i))) (value_string text d read i q) (here_string (placed text d i) (token_at text d i) (characters_of (token_at text d i)) (kind_of_type (table_of t) name)) (k.text q (kind_of_type (table_of t) name) (placed text d i) s.sort_is)
       go false u false v false w true x =
-          from_value (list (placed text d i) (itemsFrom text d read i (count d - (i + 1)) (i + 1))) (value_list text d read i (eqb-true (kind_of d i) kind_list x)) refl
+          from_value (list (placed text d i) (items_from text d read i (count d - (i + 1)) (i + 1))) (value_list text d read i (eqb-true (kind_of d i) kind_list x)) refl
           (k.other (eqb-false (kind_of d i) kind_integer u) (eqb-false (kind_of d i) kind_float v) (eqb-false (kind_of d i) kind_string w))
       go false u false v false w false x =
           let o : is_object_kind (kind_of d i) ≡ true = objects (eqb-false (kind_of d i) kind_integer u) (eqb-false (kind_of d i) kind_float v) (eqb-false (kind_of d i) kind_string w) (eqb-false (kind_of d i) kind_list x) in
-          from_value (object (placed text d i) (entriesFrom text d read kind_object_field i (count d - (i + 1)) (i + 1))) (value_object text d read i o)
+          from_value (object (placed text d i) (entries_from text d read kind_object_field i (count d - (i + 1)) (i + 1))) (value_object text d read i o)
           (subst (Here (placed text d i)) (sym (object_other (placed text d i) _ (kind_of_type (table_of t) name) (no_input o))) refl)
           (subst (λ (y : Out Tree). Leaf limit y from p p' r) (sym (object_other (placed text d i) _ (kind_of_type (table_of t) name) (no_input o)))
           (k.other (eqb-false (kind_of d i) kind_integer u) (eqb-false (kind_of d i) kind_float v) (eqb-false (kind_of d i) kind_string w)))

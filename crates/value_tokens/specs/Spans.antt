@@ -9,7 +9,7 @@ use Rattle.paper_values.specs.Characters.{characters_of}
 use Rattle.paper_values.specs.Values.{At}
 use Rattle.paper_values.specs.Kinds.{Kind}
 use Rattle.paper_values.specs.Coercion.{integer_at, float_at, string_at}
-use Rattle.paper_values.specs.RowValues.{tokenAt}
+use Rattle.paper_values.specs.RowValues.{token_at}
 use Rattle.value_leaves.specs.Leaves.{sort_of, Leaf}
 use Rattle.value_leaves.specs.declared.Wrote.{Wrote}
 use Rattle.value_leaves.specs.declared.Wrote.TheVariants.{UpTo, Refused}
@@ -31,7 +31,7 @@ takes_fields kind sort = eqb sort 8 && is_object_kind kind
 
 -- what a number or string token of row i answers; reason 1 for another row
 pub record Tokened (d : Doc) (i sort limit from : ℕ) (p p' : List ℕ) (r : Wrote) : Type 0 where
-  pub int : kind_of d i ≡ kind_integer → (k : Kind) (a : At) → sort_of k ≡ sort → Leaf limit (integer_at a (tokenAt 0 d i) k) from p p' r
-  pub decimal : kind_of d i ≡ kind_float → (k : Kind) (a : At) → sort_of k ≡ sort → Leaf limit (float_at a (tokenAt 0 d i) k) from p p' r
-  pub text : kind_of d i ≡ kind_string → (k : Kind) (a : At) → sort_of k ≡ sort → Leaf limit (string_at a (tokenAt 0 d i) (characters_of (tokenAt 0 d i)) k) from p p' r
+  pub int : kind_of d i ≡ kind_integer → (k : Kind) (a : At) → sort_of k ≡ sort → Leaf limit (integer_at a (token_at 0 d i) k) from p p' r
+  pub decimal : kind_of d i ≡ kind_float → (k : Kind) (a : At) → sort_of k ≡ sort → Leaf limit (float_at a (token_at 0 d i) k) from p p' r
+  pub text : kind_of d i ≡ kind_string → (k : Kind) (a : At) → sort_of k ≡ sort → Leaf limit (string_at a (token_at 0 d i) (characters_of (token_at 0 d i)) k) from p p' r
   pub other : (kind_of d i ≡ kind_integer → ⊥) → (kind_of d i ≡ kind_float → ⊥) → (kind_of d i ≡ kind_string → ⊥) → r ≡ Refused reason_kind

@@ -10,7 +10,7 @@ ghost use Rattle.query_rows.specs.Rowed.{row_in, doc_of, Rowed};
 ghost use Rattle.paper_values.specs.Values.{Name, Value, Tree};
 ghost use Rattle.paper_values.specs.Kinds.{kind_of_type};
 ghost use Rattle.paper_values.specs.Computed.{coerce};
-ghost use Rattle.paper_values.specs.RowValues.{valueBy};
+ghost use Rattle.paper_values.specs.RowValues.{value_by};
 ghost use Rattle.value_writing.specs.Writing.{Room};
 ghost use Rattle.value_kinds.specs.Dues.{Sorted, told, Told};
 ghost use Rattle.value_tokens.specs.Spans.{Spanned, takes_fields, Tokened};
@@ -82,7 +82,7 @@ pub fn put_base(
     requires { Booked t.now book.now × Rowed s.now rows.now n × Spanned s.now rows.now n × (7 ≤ sort → number < count_in book.now) × Room limit from out.old
         × ((row_in rows.now n i).kind ≡ kind_variable → ⊥) × ((row_in rows.now n i).kind ≡ kind_null → ⊥) × (takes_fields (row_in rows.now n i).kind sort ≡ false) }
     ensures { (vars : Name → Option Tree) (text : ℕ) (read : ℕ → Value) (name : Name) → Sorted t.now book.now name sort number →
-        Told text limit (coerce (kind_of_type (table_of t.now)) vars (valueBy text (doc_of s.now rows.now n) read i) (named name)) from out.old out.new (told i result) }
+        Told text limit (coerce (kind_of_type (table_of t.now)) vars (value_by text (doc_of s.now rows.now n) read i) (named name)) from out.old out.new (told i result) }
 {
     let kind = query_rows::kind_of(rows, n, i);
     if kind == KIND_BOOLEAN {

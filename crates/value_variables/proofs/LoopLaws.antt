@@ -13,10 +13,10 @@ use Rattle.query_rows.specs.Rowed.{row_in, doc_of}
 use Rattle.query_rows.proofs.RowsIn.{rows_count}
 use Rattle.paper_values.specs.ValueNumbers.{reason_missing, reason_repeated}
 use Rattle.paper_values.specs.Values.{Name, At, Value, Due, Tree, Pairs, no_pairs, pair, Out, Got, No, and_then}
-use Rattle.paper_values.specs.Computed.{Given, unless, pair_first, due_field, missing_due, orDefault, entry_of, constant, variablesFrom, variables_of}
+use Rattle.paper_values.specs.Computed.{Given, unless, pair_first, due_field, missing_due, or_default, entry_of, constant, variables_from, variables_of}
 use Rattle.paper_values.specs.Coercion.{heads, repeated_entry}
 use Rattle.paper_values.specs.Encoding.{encode_pairs}
-use Rattle.paper_values.specs.RowValues.{placed, valueOfRow, entriesFrom}
+use Rattle.paper_values.specs.RowValues.{placed, value_of_row, entries_from}
 use Rattle.paper_values.specs.DocumentDues.{definitions_of, due_variable, variable_dues, given_in}
 use Rattle.value_writing.specs.Writing.{Put, Room}
 use Rattle.value_writing.proofs.PlaceLaws.{put_as, put_then, room_after}
@@ -34,8 +34,8 @@ use Rattle.value_variables.proofs.KeptLaws.{holds_same, holds_join}
 -- ---- the first variable, and the others
 
 only_first : (t : List ℕ) (gs : List Given) (v : At × Due) (vs : List (At × Due)) →
-    variablesFrom (kinds_in t) gs (v ∷ vs) ≡ and_then (only_of t gs v) (λ (ps : Pairs). and_then (variablesFrom (kinds_in t) gs vs) (λ (qs : Pairs). Got (join_pairs ps qs)))
-only_first t gs v vs = go (entry_of v.1.name gs) v.1.default (variablesFrom (kinds_in t) gs vs)
+    variables_from (kinds_in t) gs (v ∷ vs) ≡ and_then (only_of t gs v) (λ (ps : Pairs). and_then (variables_from (kinds_in t) gs vs) (λ (qs : Pairs). Got (join_pairs ps qs)))
+only_first t gs v vs = go (entry_of v.1.name gs) v.1.default (variables_from (kinds_in t) gs vs)
   where
     lacks : (b : Bool) (rest : Out Pairs) → cond b (No v.0 reason_missing) rest ≡ and_then (cond b (No v.0 reason_missing) (Got no_pairs)) (λ (ps : Pairs). and_then rest (λ (qs : Pairs). Got (join_pairs ps qs)))
     lacks true rest = refl
@@ -45,8 +45,8 @@ only_first t gs v vs = go (entry_of v.1.name gs) v.1.default (variablesFrom (kin
     has (Got x) rest = refl
     has (No j w) rest = refl
 
-    go : (o : Option (Ref → Out Tree)) (e : Option Value) (rest : Out Pairs) → due_field (orDefault (kinds_in t) v.0 v.1 e rest) v.1 o rest ≡
-        and_then (due_field (orDefault (kinds_in t) v.0 v.1 e (Got no_pairs)) v.1 o (Got no_pairs)) (λ (ps : Pairs). and_then rest (λ (qs : Pairs). Got (join_pairs ps qs)))
+    go : (o : Option (Ref → Out Tree)) (e : Option Value) (rest : Out Pairs) → due_field (or_default (kinds_in t) v.0 v.1 e rest) v.1 o rest ≡
+        and_then (due_field (or_default (kinds_in t) v.0 v.1 e (Got no_pairs)) v.1 o (Got no_pairs)) (λ (ps : Pairs). and_then rest (λ (qs : Pairs). Got (join_pairs ps qs)))
     go none none rest = lacks (is_non_null v.1.type) rest
     go none (some w) rest = has (constant (kinds_in t) w v.1.type) rest
     go (some f) e rest = has (f v.1.type) rest
@@ -91,10 +91,10 @@ module _ (t book s rows : List ℕ) (n : ℕ) (s1 rows1 : List ℕ) (n1 limit fr
   due v = (placed input_document d v, due_variable d v)
 
   abbrev behind : List ℕ → Out Pairs
-  behind vs = variablesFrom (kinds_in t) (givens_in t d1) (map due vs)
+  behind vs = variables_from (kinds_in t) (givens_in t d1) (map due vs)
 
   abbrev pub whole : Out Pairs
-  whole = variablesFrom (kinds_in t) (givens_in t d1) (variable_dues d op)
+  whole = variables_from (kinds_in t) (givens_in t d1) (variable_dues d op)
 
   -- before row v: the pairs of the definitions before it are written, and their values kept
   pub record Going (held out : List ℕ) (at many v : ℕ) : Type 0 where
@@ -186,7 +186,7 @@ module _ (t book s rows : List ℕ) (n : ℕ) (s1 rows1 : List ℕ) (n1 limit fr
 -- ---- a repeated name before all else
 
 module _ (t book s rows : List ℕ) (n : ℕ) (s1 rows1 : List ℕ) (n1 limit from op : ℕ) (p p' held' : List ℕ) (again : ℕ)
-    (m : (text : ℕ) (read : ℕ → Value) → Marks n1 text (repeated_entry [] (heads (entriesFrom text (doc_of s1 rows1 n1) read kind_object_field 0 (n1 - (0 + 1)) (0 + 1)))) again) where
+    (m : (text : ℕ) (read : ℕ → Value) → Marks n1 text (repeated_entry [] (heads (entries_from text (doc_of s1 rows1 n1) read kind_object_field 0 (n1 - (0 + 1)) (0 + 1)))) again) where
   abbrev vs : List (At × Due)
   vs = variable_dues (doc_of s rows n) op
 
@@ -195,11 +195,11 @@ module _ (t book s rows : List ℕ) (n : ℕ) (s1 rows1 : List ℕ) (n1 limit fr
 
   marks : Marks n1 input_variables twice again
   marks =
-      subst (λ (k : ℕ). Marks n1 input_variables (repeated_entry [] (heads (entriesFrom input_variables (doc_of s1 rows1 n1) (valueOfRow input_variables (doc_of s1 rows1 n1)) kind_object_field 0 (k - 1) 1))) again)
-      (sym (rows_count rows1 n1)) (m input_variables (valueOfRow input_variables (doc_of s1 rows1 n1)))
+      subst (λ (k : ℕ). Marks n1 input_variables (repeated_entry [] (heads (entries_from input_variables (doc_of s1 rows1 n1) (value_of_row input_variables (doc_of s1 rows1 n1)) kind_object_field 0 (k - 1) 1))) again)
+      (sym (rows_count rows1 n1)) (m input_variables (value_of_row input_variables (doc_of s1 rows1 n1)))
 
   abbrev rest : Out Pairs
-  rest = variablesFrom (kinds_in t) (givens_in t (doc_of s1 rows1 n1)) vs
+  rest = variables_from (kinds_in t) (givens_in t (doc_of s1 rows1 n1)) vs
 
   pub all_repeated : again < n1 → Told t book s rows n s1 rows1 n1 limit (variables_of (kinds_in t) (given_in (doc_of s1 rows1 n1)) vs) 0 from p p' held' (Refused input_variables again reason_repeated)
   all_repeated h = go twice marks

@@ -11,7 +11,7 @@ use Rattle.paper_table.specs.References.{Ref, is_non_null}
 use Rattle.paper_values.specs.ValueNumbers.{tag_pair, reason_missing}
 use Rattle.paper_values.specs.Written.{house_field_bytes}
 use Rattle.paper_values.specs.Values.{Name, At, Value, Due, Tree, Pairs, no_pairs, pair, Out, Got, No, and_then}
-use Rattle.paper_values.specs.Computed.{Given, pair_first, due_field, missing_due, orDefault, entry_of, constant}
+use Rattle.paper_values.specs.Computed.{Given, pair_first, due_field, missing_due, or_default, entry_of, constant}
 use Rattle.paper_values.specs.Encoding.{encode}
 use Rattle.value_writing.specs.Writing.{place_of, Put, Room, Closed, Behind}
 use Rattle.value_writing.proofs.PlaceLaws.{put_then, put_place, behind_order}
@@ -52,17 +52,17 @@ module _ (text limit from : ℕ) (name : Name) (o : Out Tree) (p p₁ p₂ : Lis
 
 module _ (t : List ℕ) (gs : List Given) (v : At × Due) where
   pub only_given : (f : Ref → Out Tree) → entry_of v.1.name gs ≡ some f → only_of t gs v ≡ pair_first v.1.name (f v.1.type) (Got no_pairs)
-  only_given f q = ap (λ (o : Option (Ref → Out Tree)). due_field (orDefault (kinds_in t) v.0 v.1 v.1.default (Got no_pairs)) v.1 o (Got no_pairs)) q
+  only_given f q = ap (λ (o : Option (Ref → Out Tree)). due_field (or_default (kinds_in t) v.0 v.1 v.1.default (Got no_pairs)) v.1 o (Got no_pairs)) q
 
   pub only_default : (w : Value) → entry_of v.1.name gs ≡ none → v.1.default ≡ some w → only_of t gs v ≡ pair_first v.1.name (constant (kinds_in t) w v.1.type) (Got no_pairs)
   only_default w q e =
-      ap (λ (o : Option (Ref → Out Tree)). due_field (orDefault (kinds_in t) v.0 v.1 v.1.default (Got no_pairs)) v.1 o (Got no_pairs)) q
-      ∙ ap (λ (o : Option Value). orDefault (kinds_in t) v.0 v.1 o (Got no_pairs)) e
+      ap (λ (o : Option (Ref → Out Tree)). due_field (or_default (kinds_in t) v.0 v.1 v.1.default (Got no_pairs)) v.1 o (Got no_pairs)) q
+      ∙ ap (λ (o : Option Value). or_default (kinds_in t) v.0 v.1 o (Got no_pairs)) e
 
   pub only_nothing : entry_of v.1.name gs ≡ none → v.1.default ≡ none → only_of t gs v ≡ missing_due v.0 v.1 (Got no_pairs)
   only_nothing q e =
-      ap (λ (o : Option (Ref → Out Tree)). due_field (orDefault (kinds_in t) v.0 v.1 v.1.default (Got no_pairs)) v.1 o (Got no_pairs)) q
-      ∙ ap (λ (o : Option Value). orDefault (kinds_in t) v.0 v.1 o (Got no_pairs)) e
+      ap (λ (o : Option (Ref → Out Tree)). due_field (or_default (kinds_in t) v.0 v.1 v.1.default (Got no_pairs)) v.1 o (Got no_pairs)) q
+      ∙ ap (λ (o : Option Value). or_default (kinds_in t) v.0 v.1 o (Got no_pairs)) e
 
 module _ (t book s rows : List ℕ) (n : ℕ) (s1 rows1 : List ℕ) (n1 limit many from text : ℕ) (p p' held' : List ℕ) (c : Coerced) where
   abbrev Goal : ℕ → Out Pairs → Type 0

@@ -19,7 +19,7 @@ use Rattle.query_rows.specs.Rowed.{row_in, doc_of}
 use Rattle.query_rows.proofs.RowsIn.{rows_count, name_within}
 use Rattle.paper_values.specs.Values.{Name, At, Value, Due, Tree, Pairs, no_pairs, Out, Got, No}
 use Rattle.paper_values.specs.Computed.{Given, pair_first, missing_due, entry_of, constant, givens}
-use Rattle.paper_values.specs.RowValues.{placed, valueOfRow, entriesFrom}
+use Rattle.paper_values.specs.RowValues.{placed, value_of_row, entries_from}
 use Rattle.paper_values.specs.DocumentDues.{declared_ref, default_row, value_if, due_variable, given_in}
 use Rattle.paper_values.specs.CallRules.{no_variables}
 use Rattle.value_kinds.specs.Dues.{DueIs, Fits}
@@ -99,7 +99,7 @@ module _ (t book s rows : List ℕ) (n : ℕ) (past s1 rows1 : List ℕ) (n1 : �
 
   -- the entries of the variables text
   given_is : givens_at t no_variables input_variables d1 n1 33 kind_object_field 0 ≡ givens_in t d1
-  given_is = ap (λ (k : ℕ). givens (kinds_in t) no_variables (entriesFrom input_variables d1 (valueOfRow input_variables d1) kind_object_field 0 (k - 1) 1)) (sym (rows_count rows1 n1))
+  given_is = ap (λ (k : ℕ). givens (kinds_in t) no_variables (entries_from input_variables d1 (value_of_row input_variables d1) kind_object_field 0 (k - 1) 1)) (sym (rows_count rows1 n1))
 
   module _ (r : ℕ) (g : Gives s1 held 0 d1 n1 33 kind_object_field 0 (part s name size) r) where
     entry_some : r < n1 → entry_of (name_of d v) (givens_in t d1) ≡ some (λ q. coerced t no_variables input_variables d1 33 (r + 1) q)
@@ -131,22 +131,22 @@ module _ (t book s rows : List ℕ) (n : ℕ) (past s1 rows1 : List ℕ) (n1 : �
       same_here = keep_same held held' many name size text i sort (small number) wrappers k room
 
     pub way_given : (held' : List ℕ) (c : Coerced) → r < n1 → held' ≡ sets held (row_size * many) (name ∷ size ∷ input_variables ∷ (r + 1) ∷ sort ∷ small number ∷ wrappers ∷ []) →
-        ToldPairs input_variables limit (pair_first (part s name size) (constant (kinds_in t) (valueOfRow input_variables d1 (r + 1)) ref) (Got no_pairs)) from p p' c → Goal held' (told input_variables (many + 1) c)
+        ToldPairs input_variables limit (pair_first (part s name size) (constant (kinds_in t) (value_of_row input_variables d1 (r + 1)) ref) (Got no_pairs)) from p p' c → Goal held' (told input_variables (many + 1) c)
     way_given held' c h k w =
-        whole held' (told input_variables (many + 1) c) (pair_first (name_of d v) (constant (kinds_in t) (valueOfRow input_variables d1 (r + 1)) ref) (Got no_pairs))
+        whole held' (told input_variables (many + 1) c) (pair_first (name_of d v) (constant (kinds_in t) (value_of_row input_variables d1 (r + 1)) ref) (Got no_pairs))
         (only_given t (givens_in t d1) var (λ q. coerced t no_variables input_variables d1 33 (r + 1) q) (entry_some h)) (same_here held' input_variables (r + 1) k)
-        (told_first t book s rows n s1 rows1 n1 limit many from input_variables p p' held' c (name_of d v) (constant (kinds_in t) (valueOfRow input_variables d1 (r + 1)) ref)
+        (told_first t book s rows n s1 rows1 n1 limit many from input_variables p p' held' c (name_of d v) (constant (kinds_in t) (value_of_row input_variables d1 (r + 1)) ref)
         (λ tree e. held_here held' input_variables (r + 1) k tree (λ z. absurd (omega (arith, z))) (λ z. record { there = omega (arith, h); is = e }))
-        (subst (λ (x : Name). ToldPairs input_variables limit (pair_first x (constant (kinds_in t) (valueOfRow input_variables d1 (r + 1)) ref) (Got no_pairs)) from p p' c) spelt w))
+        (subst (λ (x : Name). ToldPairs input_variables limit (pair_first x (constant (kinds_in t) (value_of_row input_variables d1 (r + 1)) ref) (Got no_pairs)) from p p' c) spelt w))
 
     pub way_default : (held' : List ℕ) (c : Coerced) (i : ℕ) → n1 ≤ r → default_row d v ≡ some i → held' ≡ sets held (row_size * many) (name ∷ size ∷ input_document ∷ i ∷ sort ∷ small number ∷ wrappers ∷ []) →
-        ToldPairs input_document limit (pair_first (part s name size) (constant (kinds_in t) (valueOfRow input_document d i) ref) (Got no_pairs)) from p p' c → Goal held' (told input_document (many + 1) c)
+        ToldPairs input_document limit (pair_first (part s name size) (constant (kinds_in t) (value_of_row input_document d i) ref) (Got no_pairs)) from p p' c → Goal held' (told input_document (many + 1) c)
     way_default held' c i h e k w =
-        whole held' (told input_document (many + 1) c) (pair_first (name_of d v) (constant (kinds_in t) (valueOfRow input_document d i) ref) (Got no_pairs))
-        (only_default t (givens_in t d1) var (valueOfRow input_document d i) (entry_none h) (ap (value_if d) e)) (same_here held' input_document i k)
-        (told_first t book s rows n s1 rows1 n1 limit many from input_document p p' held' c (name_of d v) (constant (kinds_in t) (valueOfRow input_document d i) ref)
+        whole held' (told input_document (many + 1) c) (pair_first (name_of d v) (constant (kinds_in t) (value_of_row input_document d i) ref) (Got no_pairs))
+        (only_default t (givens_in t d1) var (value_of_row input_document d i) (entry_none h) (ap (value_if d) e)) (same_here held' input_document i k)
+        (told_first t book s rows n s1 rows1 n1 limit many from input_document p p' held' c (name_of d v) (constant (kinds_in t) (value_of_row input_document d i) ref)
         (λ tree q. held_here held' input_document i k tree (λ z. record { there = (let l = default_there s rows n v i e in omega (arith, l)); is = q }) (λ z. absurd (z refl)))
-        (subst (λ (x : Name). ToldPairs input_document limit (pair_first x (constant (kinds_in t) (valueOfRow input_document d i) ref) (Got no_pairs)) from p p' c) spelt w))
+        (subst (λ (x : Name). ToldPairs input_document limit (pair_first x (constant (kinds_in t) (value_of_row input_document d i) ref) (Got no_pairs)) from p p' c) spelt w))
 
     pub way_nothing : (c : Coerced) → n1 ≤ r → default_row d v ≡ none → ToldPairs input_document limit (missing_due (placed input_document d v) (due_variable d v) (Got no_pairs)) from p p' c → Goal held (told input_document many c)
     way_nothing c h e w =

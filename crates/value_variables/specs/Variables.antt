@@ -11,7 +11,7 @@ use Rattle.paper_query.specs.Constructs.{Doc, is, below}
 use Rattle.query_rows.specs.Rowed.{cell}
 use Rattle.query_rows.proofs.ReadRows.{Taken}
 use Rattle.paper_values.specs.Values.{At, Due, Tree, Pairs, no_pairs, Out, Got, No}
-use Rattle.paper_values.specs.Computed.{Given, entry_of, due_field, orDefault, givens}
+use Rattle.paper_values.specs.Computed.{Given, entry_of, due_field, or_default, givens}
 use Rattle.paper_values.specs.Encoding.{encode_pairs}
 use Rattle.paper_values.specs.RowValues.{placed}
 use Rattle.paper_values.specs.DocumentDues.{due_variable, given_in}
@@ -50,7 +50,7 @@ givens_in t d1 = givens (kinds_in t) no_variables (given_in d1)
 
 -- one variable alone: its entry's value, its default, reason 3 or nothing
 abbrev pub only_of : List ℕ → List Given → At × Due → Out Pairs
-only_of t gs v = due_field (orDefault (kinds_in t) v.0 v.1 v.1.default (Got no_pairs)) v.1 (entry_of v.1.name gs) (Got no_pairs)
+only_of t gs v = due_field (or_default (kinds_in t) v.0 v.1 v.1.default (Got no_pairs)) v.1 (entry_of v.1.name gs) (Got no_pairs)
 
 abbrev pub only_at : List ℕ → Doc → Doc → ℕ → Out Pairs
 only_at t d d1 v = only_of t (givens_in t d1) (placed input_document d v, due_variable d v)

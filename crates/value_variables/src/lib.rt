@@ -7,8 +7,8 @@ ghost use Rattle.paper_table.specs.References.{Ref};
 ghost use Rattle.table_book.specs.Book.{part};
 ghost use Rattle.query_rows.specs.Rowed.{row_in, doc_of, Sized};
 ghost use Rattle.paper_values.specs.Values.{Got, no_pairs};
-ghost use Rattle.paper_values.specs.Computed.{pair_first, constant, variablesFrom, variables_of};
-ghost use Rattle.paper_values.specs.RowValues.{valueOfRow};
+ghost use Rattle.paper_values.specs.Computed.{pair_first, constant, variables_from, variables_of};
+ghost use Rattle.paper_values.specs.RowValues.{value_of_row};
 ghost use Rattle.paper_values.specs.DocumentDues.{definitions_of, given_in, variable_dues};
 ghost use Rattle.value_writing.specs.Writing.{Room};
 ghost use Rattle.value_kinds.specs.Dues.{DueIs, Fits};
@@ -90,7 +90,7 @@ fn put_pair(
 ) -> Coerced
     requires { Ready t.now book.now s.now rows.now n past.now × (i ≤ n) × Fits book.now due.sort due.number due.wrappers × Meant t.now book.now due.sort due.number due.wrappers × (at + l ≤ length names.now) × Room limit from out.old }
     ensures { (text : ℕ) (r : Ref) → DueIs t.now book.now r due.sort due.number due.wrappers →
-        ToldPairs text limit (pair_first (part names.now at l) (constant (kinds_in t.now) (valueOfRow text (doc_of s.now rows.now n) i) r) (Got no_pairs)) from out.old out.new result }
+        ToldPairs text limit (pair_first (part names.now at l) (constant (kinds_in t.now) (value_of_row text (doc_of s.now rows.now n) i) r) (Got no_pairs)) from out.old out.new result }
 {
     let start = place(limit, from, 3);
     let stop = at + l;
@@ -225,7 +225,7 @@ fn in_order(
 ) -> Variables
     requires { Asked t.now book.now s.now rows.now n past.now s1.now rows1.now n1 past1.now × (length (definitions_of (doc_of s.now rows.now n) op) ≤ most_variables) × (length held.old ≡ row_size * most_variables) × Room limit from out.old }
     ensures { Told t.now book.now s.now rows.now n s1.now rows1.now n1 limit
-        (variablesFrom (kinds_in t.now) (givens_in t.now (doc_of s1.now rows1.now n1)) (variable_dues (doc_of s.now rows.now n) op)) 0 from out.old out.new held.new result }
+        (variables_from (kinds_in t.now) (givens_in t.now (doc_of s1.now rows1.now n1)) (variable_dues (doc_of s.now rows.now n) op)) 0 from out.old out.new held.new result }
 {
     let mut at = from;
     let mut many = 0;

@@ -6,7 +6,7 @@ use Prim.Native.Nat.{ℕ, ◌+◌, ◌*◌, ◌-◌, ◌≤◌, ◌<◌}
 use native.Mathlib.Omega.{arith}
 use lib.ListN.{length}
 use lib.Seq.{sets, length-sets}
-use Rattle.plan_steps.specs.Table.{flat_raw, rawTests, arg, count}
+use Rattle.plan_steps.specs.Table.{flat_raw, raw_tests, arg, count}
 use Rattle.plan_steps.proofs.Writes.{field_of, field_over}
 use borrow.Author.Rules.{rules}
 use Rattle.plan_steps.proofs.put_field.Statement.{statement}

@@ -1,7 +1,6 @@
 -- The kind first, then the name.
 use mathlib.Core.Path.{sym, ◌∙◌}
 use borrow.Author.Tests.{eq-eqb, ne_eqb}
-use borrow.Author.Rules.{rules}
 use Rattle.query_siblings.proofs.is_kind_called.Goals as goal
 
 pub returns-then-kind_of-k : goal.returns-then-kind_of-k

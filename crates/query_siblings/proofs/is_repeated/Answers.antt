@@ -3,7 +3,6 @@ use mathlib.Core.Path.{ap, ◌∙◌}
 use Prim.Native.Nat.{ℕ}
 use native.Mathlib.Omega.{arith}
 use lib.Dec.{ltb}
-use borrow.Author.Rules.{rules}
 use Rattle.query_rows.specs.Rowed.{doc_of}
 use Rattle.query_rows.proofs.RowsIn.{rows_count}
 use Rattle.query_siblings.proofs.TwiceLaws.{like_earlier}

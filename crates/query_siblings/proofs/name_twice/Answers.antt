@@ -1,6 +1,5 @@
 -- By its kind: an argument, a variable definition, another.
 use mathlib.Core.Path.{sym, ◌∙◌}
-use borrow.Author.Rules.{rules}
 use Rattle.query_rows.specs.Rowed.{doc_of}
 use Rattle.query_siblings.proofs.TwiceLaws.{twice_argument, twice_variable, twice_other}
 use Rattle.query_siblings.proofs.name_twice.Goals as goal

@@ -1,10 +1,8 @@
 -- Along the rows beside row j: the first of the kind from here on is the first from row j on.
 use mathlib.Core.Path.{sym, ◌∙◌}
-use Prim.Native.Nat.{◌-◌}
 use native.Mathlib.Omega.{arith}
-use borrow.Author.Rules.{rules}
 use Rattle.query_links.proofs.ChainWalks.{family_less, family_room}
-use Rattle.query_siblings.proofs.BesideLaws.{Seeking, seeking_start, seeking_next, seeking_here, seeking_end}
+use Rattle.query_siblings.proofs.BesideLaws.{seeking_start, seeking_next, seeking_here, seeking_end}
 use Rattle.query_siblings.proofs.next_beside.Goals as goal
 
 pub loop-m-init : goal.loop-m-init

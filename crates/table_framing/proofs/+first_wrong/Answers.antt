@@ -1,18 +1,16 @@
 -- Depth falls at each call; in a holder one field more is read at each turn, and what comes decides.
 use Rattle.table_fields.proofs.BoundsLaws.{later, narrow}
-use borrow.Author.Rules.{rules}
+use borrow.Enum.Refused.{opened}
 use mathlib.Core.Path.{◌≡◌, sym, subst, ◌∙◌}
-use Prim.Native.Nat.{ℕ, ◌+◌, ◌-◌, ◌<◌}
+use Prim.Native.Nat.{◌+◌}
 use native.Mathlib.Omega.{arith}
-use borrow.Author.Tests.{not-true, not-false}
 use mathlib.Core.Bool.{true, false}
 use lib.Seq.{slice}
 use Rattle.table_fields.specs.declared.FieldRead.TheVariants.{Field}
 use Rattle.table_fields.specs.Fields.{field_at}
 use Rattle.table_fields.proofs.FieldLaws.{Lies, field_lies}
 use Rattle.table_framing.specs.Holders.{Holder, HoldsAs}
-use Rattle.table_framing.proofs.WrongLaws.{wrong_deep, leaf_is, Ordered, ordered_start, ordered_torn, ordered_out, ordered_inside, ordered_on, ordered_first, ordered_second, ordered_right}
-use Prim.Native.Nat.{ℕ, ◌<◌}
+use Rattle.table_framing.proofs.WrongLaws.{wrong_deep, leaf_is, ordered_start, ordered_torn, ordered_out, ordered_inside, ordered_on, ordered_first, ordered_second, ordered_right}
 use Rattle.table_framing.proofs.+first_wrong.Goals as goal
 
 pub overflow_cast-result : goal.overflow_cast-result
@@ -28,13 +26,13 @@ pub is_leaf-requires : goal.is_leaf-requires
 is_leaf-requires t c = c.requires
 
 pub returns-then-is_leaf : goal.returns-then-is_leaf
-returns-then-is_leaf t c = leaf_is c.args.depth c.args.at c.args.tag (slice (c.args.at + 3) c.args.end c.args.t.now) c.content_of-h.result true c.is_leaf.result c.if-depth-eq0.false c.content_of-h.ensures c.in-Fields.keys2 c.is_leaf.ensures c.if-is_leaf.true
+returns-then-is_leaf t c = leaf_is c.args.depth c.args.at c.args.tag (slice (c.args.at + 3) c.args.end c.args.t.now) c.content_of-h.result true c.is_leaf.result c.if-depth-eq0.false c.content_of-h.ensures (opened c.in_default.in_default-own.keys2) c.is_leaf.ensures c.if-is_leaf.true
 
 pub overflow_cast-result-in_default : goal.overflow_cast-result-in_default
 overflow_cast-result-in_default t c = omega (arith, c.requires.order, c.requires.within, c.requires.most)
 
 pub returns-in_default : goal.returns-in_default
-returns-in_default t c = leaf_is c.args.depth c.args.at c.args.tag (slice (c.args.at + 3) c.args.end c.args.t.now) c.content_of-h.result false c.is_leaf.result c.if-depth-eq0.false c.content_of-h.ensures c.in-Fields.keys2 c.is_leaf.ensures c.if-is_leaf.false
+returns-in_default t c = leaf_is c.args.depth c.args.at c.args.tag (slice (c.args.at + 3) c.args.end c.args.t.now) c.content_of-h.result false c.is_leaf.result c.if-depth-eq0.false c.content_of-h.ensures (opened c.in_default.in_default-own.keys2) c.is_leaf.ensures c.if-is_leaf.false
 
 pub overflow_add-i : goal.overflow_add-i
 overflow_add-i t c = omega (arith, c.requires.order, c.requires.within, c.requires.most)

@@ -1,5 +1,4 @@
 -- One row of the table for each tag.
-use borrow.Author.Rules.{rules}
 use Rattle.table_framing.proofs.TagLaws.{holds_scalar, holds_object, holds_interface, holds_union, holds_enum, holds_input_object, holds_directive, holds_roots, holds_field, holds_argument, leaf_reference, leaf_name, leaf_implements, leaf_union_member, leaf_enum_value, leaf_query_root, leaf_mutation_root, leaf_subscription_root, content_none}
 use Rattle.table_framing.proofs.content_of.Goals as goal
 
@@ -28,7 +27,7 @@ pub returns-in-8 : goal.returns-in-8
 returns-in-8 c = rw c.in-8.is holds_roots
 
 pub returns-in-18 : goal.returns-in-18
-returns-in-18 c = rw (c.in-18.is, c.type_inv.ensures) holds_field
+returns-in-18 c = rw (c.in-18.is, c.typed.ensures) holds_field
 
 pub returns-in-19 : goal.returns-in-19
 returns-in-19 c = rw (c.in-19.is, c.typed-in-19.ensures) holds_argument

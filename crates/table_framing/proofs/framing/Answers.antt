@@ -1,15 +1,12 @@
 -- One record more at each turn, and what comes decides.
-use borrow.Author.Rules.{rules}
 use mathlib.Core.Path.{◌≡◌, sym, ◌∙◌}
-use Prim.Native.Nat.{◌-◌}
 use native.Mathlib.Omega.{arith}
 use native.Mathlib.Nat.{le_refl}
-use borrow.Author.Tests.{not-true, not-false}
 use lib.ListN.{length}
 use Rattle.table_fields.specs.declared.FieldRead.TheVariants.{Field}
 use Rattle.table_fields.specs.Fields.{field_at}
 use Rattle.table_fields.proofs.FieldLaws.{Lies, field_lies}
-use Rattle.table_framing.proofs.WrongLaws.{Framing, framing_start, framing_end, framing_torn, framing_out, framing_inside, framing_on}
+use Rattle.table_framing.proofs.WrongLaws.{framing_start, framing_end, framing_torn, framing_out, framing_inside, framing_on}
 use Rattle.table_framing.proofs.framing.Goals as goal
 
 pub loop-i-init : goal.loop-i-init

@@ -1,12 +1,7 @@
 -- Field by field: the tag is seen from each place on, or it is here.
 use Rattle.table_fields.proofs.BoundsLaws.{later}
-use borrow.Author.Rules.{rules}
 use mathlib.Core.Path.{◌≡◌, refl, sym, ◌∙◌}
-use Prim.Native.Nat.{◌-◌, ◌≤◌}
 use native.Mathlib.Omega.{arith}
-use lib.Seq.{slice}
-use Rattle.paper_table.specs.Lists.{any_of}
-use Rattle.paper_table.specs.House.{house_fields, tag_is}
 use Rattle.table_fields.specs.declared.FieldRead.TheVariants.{Field}
 use Rattle.table_fields.specs.Fields.{field_at}
 use Rattle.table_fields.proofs.FieldLaws.{field_lies}

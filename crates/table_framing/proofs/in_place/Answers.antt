@@ -1,7 +1,5 @@
 -- The rank, then the tag.
-use Prim.Native.Nat.{◌-◌}
 use borrow.Author.Tests.{le-leb, lt-leb, eq-eqb, ne_eqb}
-use borrow.Author.Rules.{rules}
 use Rattle.table_framing.proofs.in_place.Goals as goal
 
 pub returns-then-rank_of-least : goal.returns-then-rank_of-least

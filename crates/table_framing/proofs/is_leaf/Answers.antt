@@ -1,6 +1,5 @@
 -- A name or a reference's text.
 use mathlib.Core.Path.{◌∙◌}
-use borrow.Author.Rules.{rules}
 use Rattle.table_framing.proofs.is_leaf.Goals as goal
 
 pub returns-in-Name : goal.returns-in-Name

@@ -1,11 +1,10 @@
 -- Its own rank where many may be, else the next.
 use mathlib.Core.Bool.{Bool, true, false, cond}
-use Prim.Native.Nat.{ℕ, ◌-◌, ◌*◌, ◌<◌}
+use Prim.Native.Nat.{ℕ, ◌*◌, ◌<◌}
 use native.Mathlib.Omega.{arith}
 use lib.Dec.{eqb}
 use borrow.Author.Tests.{le-leb, lt-leb, eq-eqb, ne_eqb}
 use Rattle.table_framing.specs.Holders.{rank}
-use borrow.Author.Rules.{rules}
 use Rattle.table_framing.proofs.least_after.Goals as goal
 
 small : (k : ℕ) → k < 256 → rank k < 512

@@ -1,7 +1,5 @@
 -- A reference apart, twice the number.
-use Prim.Native.Nat.{◌-◌}
 use borrow.Author.Tests.{eq-eqb, ne_eqb}
-use borrow.Author.Rules.{rules}
 use Rattle.table_framing.proofs.rank_of.Goals as goal
 
 pub returns-then-k-eq-TAG_REFERENCE : goal.returns-then-k-eq-TAG_REFERENCE

@@ -1,5 +1,4 @@
 -- By the bounds of a record's tag.
-use Prim.Native.Nat.{◌-◌}
 use native.Mathlib.Omega.{arith}
 use borrow.Author.Tests.{le-leb, lt-leb, eq-eqb, ne_eqb}
 use Rattle.table_framing.proofs.record_in_place.Goals as goal

@@ -1,7 +1,6 @@
 -- An 8 comes once.
 use mathlib.Core.Path.{◌≡◌, refl}
 use mathlib.Core.Bool.{Bool, true, false, ◌&&◌}
-use Prim.Native.Nat.{◌-◌}
 use borrow.Author.Tests.{eq-eqb, ne_eqb}
 use Rattle.table_framing.proofs.roots_after.Goals as goal
 

@@ -6,7 +6,7 @@ use native.Mathlib.Omega.{arith}
 use Rattle.query_rows.specs.Rowed.{doc_of}
 use Rattle.paper_values.specs.Values.{Value}
 use Rattle.paper_values.specs.Coercion.{heads, repeated_entry}
-use Rattle.paper_values.specs.RowValues.{entriesFrom}
+use Rattle.paper_values.specs.RowValues.{entries_from}
 use Rattle.value_entries.specs.Entered.{names_before}
 use Rattle.value_entries.proofs.EntryLaws.{repeated_here, repeated_end, marks_none, marks_some}
 use Rattle.value_entries.proofs.ChildLaws.{Stands, stands, stands_later, repeated_first, repeated_next}
@@ -14,7 +14,7 @@ use Rattle.value_entries.proofs.first_repeated.Statement.{statement}
 use Rattle.value_entries.proofs.first_repeated.Tie as tie
 
 abbrev invariant-loop : tie.invariant-loop
-invariant-loop s rows n past h kind c₀ c = Stands (doc_of s rows n) h n c × ((text : ℕ) (read : ℕ → Value) → repeated_entry [] (heads (entriesFrom text (doc_of s rows n) read kind h (n - (h + 1)) (h + 1))) ≡ repeated_entry (names_before (doc_of s rows n) kind h (c - (h + 1))) (heads (entriesFrom text (doc_of s rows n) read kind h (n - c) c)))
+invariant-loop s rows n past h kind c₀ c = Stands (doc_of s rows n) h n c × ((text : ℕ) (read : ℕ → Value) → repeated_entry [] (heads (entries_from text (doc_of s rows n) read kind h (n - (h + 1)) (h + 1))) ≡ repeated_entry (names_before (doc_of s rows n) kind h (c - (h + 1))) (heads (entries_from text (doc_of s rows n) read kind h (n - c) c)))
 
 abbrev decreases-loop : tie.decreases-loop
 decreases-loop s rows n past h kind c₀ c = n - c

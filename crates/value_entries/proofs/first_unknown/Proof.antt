@@ -5,7 +5,7 @@ use native.Mathlib.Omega.{arith}
 use Rattle.query_rows.specs.Rowed.{doc_of}
 use Rattle.paper_values.specs.Values.{Value}
 use Rattle.paper_values.specs.Coercion.{heads, unknown_entry}
-use Rattle.paper_values.specs.RowValues.{entriesFrom}
+use Rattle.paper_values.specs.RowValues.{entries_from}
 use Rattle.value_entries.specs.Entered.{dues_by}
 use Rattle.value_entries.proofs.EntryLaws.{unknown_here, unknown_end, marks_none, marks_some}
 use Rattle.value_entries.proofs.ChildLaws.{Stands, stands, stands_later, unknown_hop, unknown_next}
@@ -13,7 +13,7 @@ use Rattle.value_entries.proofs.first_unknown.Statement.{statement}
 use Rattle.value_entries.proofs.first_unknown.Tie as tie
 
 abbrev invariant-loop : tie.invariant-loop
-invariant-loop t start end s rows n past h kind c₀ c = Stands (doc_of s rows n) h n c × ((text : ℕ) (read : ℕ → Value) → unknown_entry (dues_by kind t start end) (heads (entriesFrom text (doc_of s rows n) read kind h (n - (h + 1)) (h + 1))) ≡ unknown_entry (dues_by kind t start end) (heads (entriesFrom text (doc_of s rows n) read kind h (n - c) c)))
+invariant-loop t start end s rows n past h kind c₀ c = Stands (doc_of s rows n) h n c × ((text : ℕ) (read : ℕ → Value) → unknown_entry (dues_by kind t start end) (heads (entries_from text (doc_of s rows n) read kind h (n - (h + 1)) (h + 1))) ≡ unknown_entry (dues_by kind t start end) (heads (entries_from text (doc_of s rows n) read kind h (n - c) c)))
 
 abbrev decreases-loop : tie.decreases-loop
 decreases-loop t start end s rows n past h kind c₀ c = n - c

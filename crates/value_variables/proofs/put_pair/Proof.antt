@@ -8,7 +8,7 @@ use Rattle.paper_values.specs.Values.{no_pairs}
 use Rattle.table_book.specs.Book.{part}
 use Rattle.query_rows.specs.Rowed.{doc_of}
 use Rattle.paper_values.specs.Computed.{constant}
-use Rattle.paper_values.specs.RowValues.{valueOfRow}
+use Rattle.paper_values.specs.RowValues.{value_of_row}
 use Rattle.value_held.specs.Given.{kinds_in}
 use Rattle.value_writing.specs.Writing.{place_of}
 use Rattle.value_writing.proofs.PlaceLaws.{room_after}
@@ -34,16 +34,16 @@ value-requires c κs =
     )
 
 returns : tie.Need-returns
-returns c = λ text r e. pair_stop text c.before.before.before.before.before.before.before.before.before.before.before.before.before.before.before.before.before.before.before.before.args.limit c.before.before.before.before.before.before.before.before.before.before.before.before.before.before.before.before.before.before.before.before.args.from (part c.before.before.before.before.before.before.before.before.before.before.before.before.before.before.before.before.before.before.before.before.args.names.now c.before.before.before.before.before.before.before.before.before.before.before.before.before.before.before.before.before.before.before.before.args.at c.before.before.before.before.before.before.before.before.before.before.before.before.before.before.before.before.before.before.before.before.args.l) (constant (kinds_in c.before.before.before.before.before.before.before.before.before.before.before.before.before.before.before.before.before.before.before.before.args.t.now) (valueOfRow text (doc_of c.before.before.before.before.before.before.before.before.before.before.before.before.before.before.before.before.before.before.before.before.args.s.now c.before.before.before.before.before.before.before.before.before.before.before.before.before.before.before.before.before.before.before.before.args.rows.now c.before.before.before.before.before.before.before.before.before.before.before.before.before.before.before.before.before.before.before.before.args.n) c.before.before.before.before.before.before.before.before.before.before.before.before.before.before.before.before.before.before.before.before.args.i) r) c.before.before.before.before.before.before.before.before.before.before.before.before.before.before.before.before.before.before.before.before.args.out.now _ _ _ c.before.before.before.before.value.result (c.before.before.before.before.value.ensures text r no_pairs e refl) _ _ c.enum_told.given.1
+returns c = λ text r e. pair_stop text c.before.before.before.before.before.before.before.before.before.before.before.before.before.before.before.before.before.before.before.before.args.limit c.before.before.before.before.before.before.before.before.before.before.before.before.before.before.before.before.before.before.before.before.args.from (part c.before.before.before.before.before.before.before.before.before.before.before.before.before.before.before.before.before.before.before.before.args.names.now c.before.before.before.before.before.before.before.before.before.before.before.before.before.before.before.before.before.before.before.before.args.at c.before.before.before.before.before.before.before.before.before.before.before.before.before.before.before.before.before.before.before.before.args.l) (constant (kinds_in c.before.before.before.before.before.before.before.before.before.before.before.before.before.before.before.before.before.before.before.before.args.t.now) (value_of_row text (doc_of c.before.before.before.before.before.before.before.before.before.before.before.before.before.before.before.before.before.before.before.before.args.s.now c.before.before.before.before.before.before.before.before.before.before.before.before.before.before.before.before.before.before.before.before.args.rows.now c.before.before.before.before.before.before.before.before.before.before.before.before.before.before.before.before.before.before.before.before.args.n) c.before.before.before.before.before.before.before.before.before.before.before.before.before.before.before.before.before.before.before.before.args.i) r) c.before.before.before.before.before.before.before.before.before.before.before.before.before.before.before.before.before.before.before.before.args.out.now _ _ _ c.before.before.before.before.value.result (c.before.before.before.before.value.ensures text r no_pairs e refl) _ _ c.enum_told.given.1
 
 close-requires : tie.Need-close-requires
 close-requires c κs =
-    pair_behind 0 c.before.before.before.before.before.before.before.before.before.before.before.before.before.before.before.before.before.before.before.before.before.before.args.limit c.before.before.before.before.before.before.before.before.before.before.before.before.before.before.before.before.before.before.before.before.before.before.args.from (part c.before.before.before.before.before.before.before.before.before.before.before.before.before.before.before.before.before.before.before.before.before.before.args.names.now c.before.before.before.before.before.before.before.before.before.before.before.before.before.before.before.before.before.before.before.before.before.before.args.at c.before.before.before.before.before.before.before.before.before.before.before.before.before.before.before.before.before.before.before.before.before.before.args.l) (constant (kinds_in c.before.before.before.before.before.before.before.before.before.before.before.before.before.before.before.before.before.before.before.before.before.before.args.t.now) (valueOfRow 0 (doc_of c.before.before.before.before.before.before.before.before.before.before.before.before.before.before.before.before.before.before.before.before.before.before.args.s.now c.before.before.before.before.before.before.before.before.before.before.before.before.before.before.before.before.before.before.before.before.before.before.args.rows.now c.before.before.before.before.before.before.before.before.before.before.before.before.before.before.before.before.before.before.before.before.before.before.args.n) c.before.before.before.before.before.before.before.before.before.before.before.before.before.before.before.before.before.before.before.before.before.before.args.i) c.before.before.before.before.before.before.before.before.before.before.before.before.before.before.before.before.before.before.before.before.before.before.requires.3.ref) c.before.before.before.before.before.before.before.before.before.before.before.before.before.before.before.before.before.before.before.before.before.before.args.out.now _ _ _ c.before.before.before.before.before.before.value.result (c.before.before.before.before.before.before.value.ensures 0 c.before.before.before.before.before.before.before.before.before.before.before.before.before.before.before.before.before.before.before.before.before.before.requires.3.ref no_pairs c.before.before.before.before.before.before.before.before.before.before.before.before.before.before.before.before.before.before.before.before.before.before.requires.3.is refl) _ c.before.before.r.given.1 (name_put c.before.before.before.before.before.before.before.before.before.before.before.before.before.before.before.before.before.before.before.before.before.before.args.limit c.before.before.before.before.before.before.before.before.before.before.before.before.before.before.before.before.before.before.before.before.before.before.args.from _ _ c.before.before.before.before.before.before.before.before.before.before.before.before.before.before.before.before.before.before.before.before.before.before.args.out.now _ c.before.before.before.before.before.before.before.before.before.before.before.before.before.before.before.before.before.before.before.before.before.before.args.names.now c.before.before.before.before.before.before.before.before.before.before.before.before.before.before.before.before.before.before.before.before.before.before.args.at c.before.before.before.before.before.before.before.before.before.before.before.before.before.before.before.before.before.before.before.before.before.before.args.l _ refl c.before.before.before.before.before.before.before.before.before.before.before.before.before.place.ensures c.before.before.before.before.before.before.before.before.before.before.put-field.ensures)
+    pair_behind 0 c.before.before.before.before.before.before.before.before.before.before.before.before.before.before.before.before.before.before.before.before.before.before.args.limit c.before.before.before.before.before.before.before.before.before.before.before.before.before.before.before.before.before.before.before.before.before.before.args.from (part c.before.before.before.before.before.before.before.before.before.before.before.before.before.before.before.before.before.before.before.before.before.before.args.names.now c.before.before.before.before.before.before.before.before.before.before.before.before.before.before.before.before.before.before.before.before.before.before.args.at c.before.before.before.before.before.before.before.before.before.before.before.before.before.before.before.before.before.before.before.before.before.before.args.l) (constant (kinds_in c.before.before.before.before.before.before.before.before.before.before.before.before.before.before.before.before.before.before.before.before.before.before.args.t.now) (value_of_row 0 (doc_of c.before.before.before.before.before.before.before.before.before.before.before.before.before.before.before.before.before.before.before.before.before.before.args.s.now c.before.before.before.before.before.before.before.before.before.before.before.before.before.before.before.before.before.before.before.before.before.before.args.rows.now c.before.before.before.before.before.before.before.before.before.before.before.before.before.before.before.before.before.before.before.before.before.before.args.n) c.before.before.before.before.before.before.before.before.before.before.before.before.before.before.before.before.before.before.before.before.before.before.args.i) c.before.before.before.before.before.before.before.before.before.before.before.before.before.before.before.before.before.before.before.before.before.before.requires.3.ref) c.before.before.before.before.before.before.before.before.before.before.before.before.before.before.before.before.before.before.before.before.before.before.args.out.now _ _ _ c.before.before.before.before.before.before.value.result (c.before.before.before.before.before.before.value.ensures 0 c.before.before.before.before.before.before.before.before.before.before.before.before.before.before.before.before.before.before.before.before.before.before.requires.3.ref no_pairs c.before.before.before.before.before.before.before.before.before.before.before.before.before.before.before.before.before.before.before.before.before.before.requires.3.is refl) _ c.before.before.r.given.1 (name_put c.before.before.before.before.before.before.before.before.before.before.before.before.before.before.before.before.before.before.before.before.before.before.args.limit c.before.before.before.before.before.before.before.before.before.before.before.before.before.before.before.before.before.before.before.before.before.before.args.from _ _ c.before.before.before.before.before.before.before.before.before.before.before.before.before.before.before.before.before.before.before.before.before.before.args.out.now _ c.before.before.before.before.before.before.before.before.before.before.before.before.before.before.before.before.before.before.before.before.before.before.args.names.now c.before.before.before.before.before.before.before.before.before.before.before.before.before.before.before.before.before.before.before.before.before.before.args.at c.before.before.before.before.before.before.before.before.before.before.before.before.before.before.before.before.before.before.before.before.before.before.args.l _ refl c.before.before.before.before.before.before.before.before.before.before.before.before.before.place.ensures c.before.before.before.before.before.before.before.before.before.before.put-field.ensures)
     (room_first c.before.before.before.before.before.before.before.before.before.before.before.before.before.before.before.before.before.before.before.before.before.before.args.limit c.before.before.before.before.before.before.before.before.before.before.before.before.before.before.before.before.before.before.before.before.before.before.args.from (place_of c.before.before.before.before.before.before.before.before.before.before.before.before.before.before.before.before.before.before.before.before.before.before.args.limit (c.before.before.before.before.before.before.before.before.before.before.before.before.before.before.before.before.before.before.before.before.before.before.args.from + 3)) c.before.before.before.before.before.before.before.before.before.before.before.before.before.before.before.before.before.before.before.before.before.before.args.out.now c.before.before.before.before.before.before.before.before.before.before.before.before.before.before.before.before.before.before.before.before.before.before.requires.5 refl) c.before.before.before.before.before.before.before.before.before.before.put-field.auto.0 c.before.before.before.before.before.before.value.auto.1.1.1.1.1.1.1.1.1.1.1.1.1.1.1.0
 
 returns-2 : tie.Need-returns-2
 returns-2 c = λ text r e.
-    pair_done text c.before.before.before.before.before.before.before.before.before.before.before.before.before.before.before.before.before.before.before.before.before.before.before.before.before.args.limit c.before.before.before.before.before.before.before.before.before.before.before.before.before.before.before.before.before.before.before.before.before.before.before.before.before.args.from (part c.before.before.before.before.before.before.before.before.before.before.before.before.before.before.before.before.before.before.before.before.before.before.before.before.before.args.names.now c.before.before.before.before.before.before.before.before.before.before.before.before.before.before.before.before.before.before.before.before.before.before.before.before.before.args.at c.before.before.before.before.before.before.before.before.before.before.before.before.before.before.before.before.before.before.before.before.before.before.before.before.before.args.l) (constant (kinds_in c.before.before.before.before.before.before.before.before.before.before.before.before.before.before.before.before.before.before.before.before.before.before.before.before.before.args.t.now) (valueOfRow text (doc_of c.before.before.before.before.before.before.before.before.before.before.before.before.before.before.before.before.before.before.before.before.before.before.before.before.before.args.s.now c.before.before.before.before.before.before.before.before.before.before.before.before.before.before.before.before.before.before.before.before.before.before.before.before.before.args.rows.now c.before.before.before.before.before.before.before.before.before.before.before.before.before.before.before.before.before.before.before.before.before.before.before.before.before.args.n) c.before.before.before.before.before.before.before.before.before.before.before.before.before.before.before.before.before.before.before.before.before.before.before.before.before.args.i) r) c.before.before.before.before.before.before.before.before.before.before.before.before.before.before.before.before.before.before.before.before.before.before.before.before.before.args.out.now _ _ _ c.before.before.before.before.before.before.before.before.before.value.result (c.before.before.before.before.before.before.before.before.before.value.ensures text r no_pairs e refl) _ c.before.before.before.before.before.r.given.1 (name_put c.before.before.before.before.before.before.before.before.before.before.before.before.before.before.before.before.before.before.before.before.before.before.before.before.before.args.limit c.before.before.before.before.before.before.before.before.before.before.before.before.before.before.before.before.before.before.before.before.before.before.before.before.before.args.from _ _ c.before.before.before.before.before.before.before.before.before.before.before.before.before.before.before.before.before.before.before.before.before.before.before.before.before.args.out.now _ c.before.before.before.before.before.before.before.before.before.before.before.before.before.before.before.before.before.before.before.before.before.before.before.before.before.args.names.now c.before.before.before.before.before.before.before.before.before.before.before.before.before.before.before.before.before.before.before.before.before.before.before.before.before.args.at c.before.before.before.before.before.before.before.before.before.before.before.before.before.before.before.before.before.before.before.before.before.before.before.before.before.args.l _ refl c.before.before.before.before.before.before.before.before.before.before.before.before.before.before.before.before.place.ensures c.before.before.before.before.before.before.before.before.before.before.before.before.before.put-field.ensures) _ _ c.before.before.before.before.before.before.before.before.before.before.before.before.before.before.before.before.before.before.before.before.before.before.before.before.before.requires.5.place c.before.before.close.ensures
+    pair_done text c.before.before.before.before.before.before.before.before.before.before.before.before.before.before.before.before.before.before.before.before.before.before.before.before.before.args.limit c.before.before.before.before.before.before.before.before.before.before.before.before.before.before.before.before.before.before.before.before.before.before.before.before.before.args.from (part c.before.before.before.before.before.before.before.before.before.before.before.before.before.before.before.before.before.before.before.before.before.before.before.before.before.args.names.now c.before.before.before.before.before.before.before.before.before.before.before.before.before.before.before.before.before.before.before.before.before.before.before.before.before.args.at c.before.before.before.before.before.before.before.before.before.before.before.before.before.before.before.before.before.before.before.before.before.before.before.before.before.args.l) (constant (kinds_in c.before.before.before.before.before.before.before.before.before.before.before.before.before.before.before.before.before.before.before.before.before.before.before.before.before.args.t.now) (value_of_row text (doc_of c.before.before.before.before.before.before.before.before.before.before.before.before.before.before.before.before.before.before.before.before.before.before.before.before.before.args.s.now c.before.before.before.before.before.before.before.before.before.before.before.before.before.before.before.before.before.before.before.before.before.before.before.before.before.args.rows.now c.before.before.before.before.before.before.before.before.before.before.before.before.before.before.before.before.before.before.before.before.before.before.before.before.before.args.n) c.before.before.before.before.before.before.before.before.before.before.before.before.before.before.before.before.before.before.before.before.before.before.before.before.before.args.i) r) c.before.before.before.before.before.before.before.before.before.before.before.before.before.before.before.before.before.before.before.before.before.before.before.before.before.args.out.now _ _ _ c.before.before.before.before.before.before.before.before.before.value.result (c.before.before.before.before.before.before.before.before.before.value.ensures text r no_pairs e refl) _ c.before.before.before.before.before.r.given.1 (name_put c.before.before.before.before.before.before.before.before.before.before.before.before.before.before.before.before.before.before.before.before.before.before.before.before.before.args.limit c.before.before.before.before.before.before.before.before.before.before.before.before.before.before.before.before.before.before.before.before.before.before.before.before.before.args.from _ _ c.before.before.before.before.before.before.before.before.before.before.before.before.before.before.before.before.before.before.before.before.before.before.before.before.before.args.out.now _ c.before.before.before.before.before.before.before.before.before.before.before.before.before.before.before.before.before.before.before.before.before.before.before.before.before.args.names.now c.before.before.before.before.before.before.before.before.before.before.before.before.before.before.before.before.before.before.before.before.before.before.before.before.before.args.at c.before.before.before.before.before.before.before.before.before.before.before.before.before.before.before.before.before.before.before.before.before.before.before.before.before.args.l _ refl c.before.before.before.before.before.before.before.before.before.before.before.before.before.before.before.before.place.ensures c.before.before.before.before.before.before.before.before.before.before.before.before.before.put-field.ensures) _ _ c.before.before.before.before.before.before.before.before.before.before.before.before.before.before.before.before.before.before.before.before.before.before.before.before.before.requires.5.place c.before.before.close.ensures
 
 pub put-pair-spec : {M : Type 1} → statement M
 put-pair-spec =
