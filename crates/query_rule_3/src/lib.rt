@@ -1,4 +1,6 @@
 // The first row of a kind and a name; the query rule on names of fragments: 3. Each walks only rows of one kind.
+#![tactic(auto)]
+
 ghost use Rattle.std.specs.Prelude.{◌≡◌, ◌+◌, ◌≤◌, ◌<◌, length};
 ghost use Rattle.table_book.specs.Book.{part};
 ghost use Rattle.paper_query.specs.Constructs.{name_of, fragment_named};

@@ -1,0 +1,52 @@
+-- One record more at each turn, and what comes decides.
+use mathlib.Core.Path.{◌≡◌, sym, ◌∙◌}
+use native.Mathlib.Omega.{arith}
+use native.Mathlib.Nat.{le_refl}
+use lib.ListN.{length}
+use Rattle.table_fields.specs.declared.FieldRead.TheVariants.{Field}
+use Rattle.table_fields.specs.Fields.{field_at}
+use Rattle.table_fields.proofs.FieldLaws.{Lies, field_lies}
+use Rattle.table_sizes.proofs.CountLaws.{recording_start, recording_end, recording_torn, recording_over, recording_inside, recording_on}
+use Rattle.table_sizes.proofs.over.Goals as goal
+
+pub loop-i-init : goal.loop-i-init
+loop-i-init c = recording_start c.args.t.now
+
+pub read_field-requires : goal.read_field-requires
+read_field-requires c = record { order = c.loop-i.invariant.order; within = le_refl (length c.args.t.now); most = c.requires }
+
+pub returns-in_default : goal.returns-in_default
+returns-in_default c = recording_torn c.args.t.now _ c.loop-i.i c.loop-i.invariant c.loop-i-test.true (sym c.read_field.ensures ∙ c.in_default.is)
+
+pub overflow_cast-result : goal.overflow_cast-result
+overflow_cast-result c = omega (arith, c.loop-i.invariant.order, c.requires)
+
+pub returns-then-left-n : goal.returns-then-left-n
+returns-then-left-n c =
+    let read : field_at c.args.t.now c.loop-i.i (length c.args.t.now) ≡ Field c.in-Field.k c.in-Field.start c.in-Field.e = sym c.read_field.ensures ∙ c.in-Field.is in
+    recording_over c.args.t.now _ c.loop-i.i c.loop-i.invariant c.loop-i-test.true _ _ _ read _ c.is_record-n.ensures c.if-left-n.true
+
+pub first_over-w-requires : goal.first_over-w-requires
+first_over-w-requires c =
+    let read : field_at c.args.t.now c.loop-i.i (length c.args.t.now) ≡ Field c.in-Field.k c.in-Field.start c.in-Field.e = sym c.read_field.ensures ∙ c.in-Field.is in
+    let lies : Lies c.loop-i.i (length c.args.t.now) c.in-Field.start c.in-Field.e = field_lies c.args.t.now c.loop-i.i (length c.args.t.now) _ _ _ c.loop-i.invariant.order read in
+    let l = lies in record { order = omega (arith, l.begins, l.order); within = l.within; most = c.requires }
+
+pub returns-in_default-w : goal.returns-in_default-w
+returns-in_default-w c =
+    let read : field_at c.args.t.now c.loop-i.i (length c.args.t.now) ≡ Field c.in-Field.k c.in-Field.start c.in-Field.e = sym c.read_field.ensures ∙ c.in-Field.is in
+    recording_inside c.args.t.now _ c.loop-i.i c.loop-i.invariant c.loop-i-test.true _ _ _ read _ c.is_record-n.ensures c.if-left-n.false _ _ c.first_over-w.ensures c.in_default-w.is
+
+pub loop-i-smaller : goal.loop-i-smaller
+loop-i-smaller c =
+    let read : field_at c.args.t.now c.loop-i.i (length c.args.t.now) ≡ Field c.in-Field.k c.in-Field.start c.in-Field.e = sym c.read_field.ensures ∙ c.in-Field.is in
+    let lies : Lies c.loop-i.i (length c.args.t.now) c.in-Field.start c.in-Field.e = field_lies c.args.t.now c.loop-i.i (length c.args.t.now) _ _ _ c.loop-i.invariant.order read in
+    let l = lies in omega (arith, l.begins, l.order, l.within, c.loop-i-test.true)
+
+pub loop-i-preserved : goal.loop-i-preserved
+loop-i-preserved c =
+    let read : field_at c.args.t.now c.loop-i.i (length c.args.t.now) ≡ Field c.in-Field.k c.in-Field.start c.in-Field.e = sym c.read_field.ensures ∙ c.in-Field.is in
+    recording_on c.args.t.now _ c.loop-i.i c.loop-i.invariant c.loop-i-test.true _ _ _ read _ c.is_record-n.ensures c.if-left-n.false _ c.first_over-w.ensures c.in-Within.is
+
+pub returns : goal.returns
+returns c = recording_end c.args.t.now _ c.loop-i.i c.loop-i.invariant c.loop-i-test.false
