@@ -1,7 +1,7 @@
 -- A content that begins with a name and a reference.
 use mathlib.Core.Path.{◌≡◌, refl, sym, ap, ◌∙◌}
 use mathlib.Core.List.{List, [], ◌++◌}
-use Prim.Native.Nat.{ℕ, ◌+◌, ◌-◌, ◌≤◌, ◌<◌}
+use Prim.Native.Nat.{ℕ, ◌-◌, ◌≤◌, ◌<◌}
 use native.Mathlib.Omega.{arith}
 use lib.Seq.{slice}
 use Rattle.paper_table.specs.TableNumbers.{tag_name, tag_reference, tag_field, tag_argument}

@@ -1,6 +1,8 @@
 // The entries of a table: its members with types and their arguments in one list of numbers, which is made once, so that a member or argument, its type
 // and what that type's name means are looked up and the table's fields are not read again. Of the table nothing is asked but its sizes.
 // The judge of documents looks members and arguments up in them.
+#![tactic(auto)]
+
 ghost use Rattle.std.specs.Prelude.{◌≡◌, true, false, suc, ◌+◌, ◌-◌, ◌≤◌, ◌<◌, length, get_or};
 ghost use Rattle.paper.specs.Tokens.{same};
 ghost use Rattle.paper_table.specs.TableNumbers.{most_table};

@@ -8,7 +8,7 @@ use native.Mathlib.Omega.{arith}
 use lib.ListN.{length, set, length-set}
 use Rattle.paper.specs.Grammar.{nt, tm, act}
 use Rattle.paper.specs.Numbers.{most_text, most_rows, most_variables, kind_variable_definition}
-use Rattle.paper.specs.Language.{language, the, dollar, colon, kind, named, end, Name, VariableDefinition, DefaultValue?}
+use Rattle.paper.specs.Language.{language, the, dollar, colon, named, end, Name, VariableDefinition, DefaultValue?}
 use Rattle.paper.specs.Rows.{top}
 use Rattle.paper.specs.Sizes.{Counts, kinded, over_counts}
 use Rattle.paper.specs.declared.Refusal.{Refusal}

@@ -1,4 +1,6 @@
 // Reads variable definitions, and writes their rows.
+#![tactic(auto)]
+
 ghost use Rattle.std.specs.Prelude.{◌≡◌, [], ◌∷◌, ℕ, ◌+◌, ◌<◌};
 ghost use Rattle.paper.specs.Grammar.{nt};
 ghost use Rattle.paper.specs.Numbers.{most_rows};

@@ -1,5 +1,4 @@
 -- The header read, entered.
-use borrow.Author.Rules.{rules}
 use Rattle.table_entries.proofs.enter.Goals as goal
 
 pub returns : goal.returns

@@ -1,15 +1,14 @@
 -- What is entered so far, and what is left, are the arguments.
-use borrow.Author.Rules.{rules}
 use mathlib.Core.Path.{◌≡◌, refl, ap, subst}
 use mathlib.Core.List.{List}
-use Prim.Native.Nat.{◌+◌, ◌-◌, ◌≤◌}
+use Prim.Native.Nat.{◌+◌}
 use Rattle.paper_table.specs.Types.{Argument}
 use lib.ListN.{length}
 use Rattle.table_members.specs.Members.{arguments_in, NextArgument}
 use Rattle.table_members.specs.declared.FieldFound.TheVariants.{Found}
-use Rattle.table_entries.specs.Entries.{Roomy, ArgumentEntry}
+use Rattle.table_entries.specs.Entries.{Roomy}
 use Rattle.table_entries.proofs.Runs.{roomy_less, roomy_same}
-use Rattle.table_entries.proofs.Writes.{Filling, filling_start, filling_end, filling_more, arguments_keep, argument_entered}
+use Rattle.table_entries.proofs.Writes.{filling_start, filling_end, filling_more, arguments_keep, argument_entered}
 use native.Mathlib.Omega.{arith}
 use Rattle.table_entries.proofs.enter_arguments.Goals as goal
 
@@ -42,8 +41,8 @@ enter-requires c =
     let p = c.requires in
     (record { order = f.lies.order; within = omega (arith, f.lies.within, p.0.within); most = p.0.most }, p.1, roomy_same roomy (omega arith) c.loop-start.invariant.1.cells, roomy.most)
 
-pub overflow_add-k : goal.overflow_add-k
-overflow_add-k c =
+pub overflow_add-k-in-loop-start : goal.overflow_add-k-in-loop-start
+overflow_add-k-in-loop-start c =
     let found : NextArgument c.args.t.now c.loop-start.i c.args.end (Found c.in-Found.tag c.in-Found.start c.in-Found.stop) = subst (NextArgument c.args.t.now c.loop-start.i c.args.end) c.in-Found.is c.next_argument.ensures in
     let one_less : c.loop-start.k + length (arguments_in c.args.t.now c.loop-start.i c.args.end) ≡ c.loop-start.k + 1 + length (arguments_in c.args.t.now c.in-Found.stop c.args.end) = let q = ap (λ (xs : List Argument). length xs) found.all_are in omega (arith, q) in
     let roomy : Roomy c.args.es.now (c.loop-start.k + 1) = roomy_less c.requires.2 (omega (arith, one_less, c.loop-start.invariant.1.size)) in

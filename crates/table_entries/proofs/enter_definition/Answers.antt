@@ -5,9 +5,7 @@ use Rattle.table_types.proofs.Entries.{bounds_entered, members_entered}
 use Rattle.table_entries.specs.Entries.{entries_of}
 use Rattle.table_entries.proofs.Runs.{roomy_less}
 use Rattle.table_entries.proofs.Spans.{typed_is, none_written, some_entries, some_written}
-use borrow.Author.Tests.{not-true, not-false}
 use native.Mathlib.Omega.{arith}
-use borrow.Author.Rules.{rules}
 use Rattle.table_entries.proofs.enter_definition.Goals as goal
 
 pub returns-then-not-has_types : goal.returns-then-not-has_types

@@ -1,6 +1,5 @@
 -- What is put says of the name and the type what they are.
 use Rattle.table_entries.proofs.Stores.{entering_is}
-use borrow.Author.Rules.{rules}
 use Rattle.table_entries.proofs.enter_header.Goals as goal
 
 pub returns : goal.returns

@@ -7,7 +7,6 @@ use Rattle.table_members.specs.Members.{member_from}
 use Rattle.table_entries.proofs.Runs.{roomy_less, roomy_same}
 use Rattle.table_entries.proofs.Writes.{member_written}
 use native.Mathlib.Omega.{arith}
-use borrow.Author.Rules.{rules}
 use Rattle.table_entries.proofs.enter_member.Goals as goal
 
 pub enter_arguments-next-requires : goal.enter_arguments-next-requires

@@ -1,14 +1,8 @@
 -- What is entered so far, and what is left, are the members.
-use borrow.Author.Rules.{rules}
-use mathlib.Core.Path.{◌≡◌, refl, ap, subst}
-use Prim.Native.Nat.{◌+◌, ◌-◌, ◌≤◌, suc}
-use lib.ListN.{length}
-use Rattle.table_members.specs.Members.{members_in, member_from, NextMember}
-use Rattle.table_members.specs.declared.FieldFound.TheVariants.{Found}
+use Prim.Native.Nat.{◌-◌, ◌≤◌}
+use Rattle.table_members.specs.Members.{members_in}
 use Rattle.table_entries.specs.Entries.{entries_of, MemberEntry}
-use Rattle.table_entries.proofs.Runs.{roomy_same}
-use Rattle.table_entries.proofs.Writes.{Filling, filling_start, filling_end, filling_more, members_keep}
-use native.Mathlib.Omega.{arith}
+use Rattle.table_entries.proofs.Writes.{Filling}
 use Rattle.table_entries.proofs.enter_members.Given as goal
 
 abbrev pub invariant-loop-tag : goal.invariant-loop-tag

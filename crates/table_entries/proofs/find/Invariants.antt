@@ -1,11 +1,7 @@
 -- What is found from here on is what is found of all.
-use borrow.Author.Rules.{rules}
-use mathlib.Core.Path.{◌∙◌}
-use native.Mathlib.Omega.{arith}
 use Prim.Native.Nat.{◌-◌}
 use Rattle.table_book.specs.Book.{part}
-use Rattle.table_entries.proofs.Runs.{roomy_less}
-use Rattle.table_entries.proofs.Looks.{Looking, looking_start, looking_end, looking_less, name_stands, looking_here, looking_on}
+use Rattle.table_entries.proofs.Looks.{Looking}
 use Rattle.table_entries.proofs.find.Given as goal
 
 abbrev pub invariant-loop-e : goal.invariant-loop-e

@@ -1,7 +1,6 @@
 -- A member without arguments for each argument: the search is the same.
 use Rattle.table_book.specs.Book.{part}
 use Rattle.table_entries.proofs.Finds.{arguments_stand, argument_hit, argument_none}
-use borrow.Author.Rules.{rules}
 use Rattle.table_entries.proofs.find_argument.Goals as goal
 
 pub find-k-requires : goal.find-k-requires

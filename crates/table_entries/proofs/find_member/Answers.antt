@@ -3,7 +3,6 @@ use Rattle.table_book.specs.Book.{part}
 use Rattle.table_types.specs.Booked.{definition_on}
 use Rattle.table_entries.proofs.Finds.{members_stand, standing_is, hit_wide, hit_none}
 use native.Mathlib.Omega.{arith}
-use borrow.Author.Rules.{rules}
 use Rattle.table_entries.proofs.find_member.Goals as goal
 
 pub first_of-end-requires : goal.first_of-end-requires

@@ -3,7 +3,6 @@ use mathlib.Core.Path.{sym, ◌∙◌}
 use Rattle.table_book.specs.Book.{part}
 use Rattle.table_entries.specs.Entries.{name_at}
 use Rattle.table_entries.proofs.Keys.{other_key}
-use borrow.Author.Rules.{rules}
 use Rattle.table_entries.proofs.is_named.Goals as goal
 
 pub returns-then-cell_of-key : goal.returns-then-cell_of-key

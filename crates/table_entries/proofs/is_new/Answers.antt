@@ -1,6 +1,5 @@
 -- The search before it ends at it.
 use Rattle.table_entries.proofs.Finds.{here_stands, new_is}
-use borrow.Author.Rules.{rules}
 use Rattle.table_entries.proofs.is_new.Goals as goal
 
 pub find-x-requires : goal.find-x-requires

@@ -1,7 +1,6 @@
 -- The part's last four bytes and its first, and its size.
 use native.Mathlib.Omega.{arith}
 use Rattle.table_entries.proofs.Keys.{key_none, key_some}
-use borrow.Author.Rules.{rules}
 use Rattle.table_entries.proofs.key_of.Goals as goal
 
 pub returns-then-n-eq0 : goal.returns-then-n-eq0

@@ -1,7 +1,6 @@
 -- By the entry's number.
 use mathlib.Core.Path.{sym, ◌∙◌}
 use Rattle.table_entries.proofs.Meanings.{kind_built_in, kind_other}
-use borrow.Author.Rules.{rules}
 use Rattle.table_entries.proofs.kind_by.Goals as goal
 
 pub returns-then-k-eq-BUILT_IN : goal.returns-then-k-eq-BUILT_IN

@@ -1,5 +1,4 @@
 -- The entry's cell.
-use borrow.Author.Rules.{rules}
 use Rattle.table_entries.proofs.meant_by.Goals as goal
 
 pub returns : goal.returns

@@ -3,7 +3,6 @@ use mathlib.Core.Path.{sym, ◌∙◌}
 use Rattle.table_book.specs.Book.{part}
 use Rattle.table_entries.proofs.Meanings.{means_built_in, means_definition, means_nothing}
 use native.Mathlib.Omega.{arith}
-use borrow.Author.Rules.{rules}
 use Rattle.table_entries.proofs.number_of.Goals as goal
 
 pub returns-then-is_built_in : goal.returns-then-is_built_in

@@ -3,7 +3,6 @@ use mathlib.Core.List.{[], ◌∷◌}
 use Rattle.table_entries.specs.Entries.{entry_at}
 use Rattle.table_entries.proofs.Stores.{stored_length, put_is}
 use native.Mathlib.Omega.{arith}
-use borrow.Author.Rules.{rules}
 use Rattle.table_entries.proofs.put.Goals as goal
 
 pub bounds-es-i-2 : goal.bounds-es-i-2

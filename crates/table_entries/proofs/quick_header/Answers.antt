@@ -4,7 +4,6 @@ use Rattle.table_fields.specs.Wrappers.{RefersRead}
 use Rattle.table_entries.proofs.Headers.{first_lies, first_bounds, second_bounds, header_in}
 use Rattle.table_fields.specs.declared.RefRead.TheVariants.{Reference}
 use native.Mathlib.Omega.{arith}
-use borrow.Author.Rules.{rules}
 use Rattle.table_entries.proofs.quick_header.Goals as goal
 
 pub read_field-requires-2 : goal.read_field-requires-2

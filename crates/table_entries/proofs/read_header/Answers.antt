@@ -4,7 +4,6 @@ use Rattle.table_members.proofs.PartLaws.{arguments_none}
 use Rattle.table_entries.specs.Entries.{QuickRead}
 use Rattle.table_entries.proofs.Headers.{field_header, input_header}
 use native.Mathlib.Omega.{arith}
-use borrow.Author.Rules.{rules}
 use Rattle.table_entries.proofs.read_header.Goals as goal
 
 pub returns-then-tag-eq-TAG_FIELD : goal.returns-then-tag-eq-TAG_FIELD

@@ -1,5 +1,4 @@
 -- The entry's three cells.
-use borrow.Author.Rules.{rules}
 use Rattle.table_entries.proofs.type_of.Goals as goal
 
 pub returns : goal.returns
