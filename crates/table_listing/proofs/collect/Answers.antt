@@ -1,13 +1,10 @@
 -- Member by member: those that are not entered yet stand from here on.
 use Rattle.table_fields.proofs.BoundsLaws.{later, narrow}
-use borrow.Author.Rules.{rules}
 use mathlib.Core.Path.{sym, subst, ◌∙◌}
-use Prim.Native.Nat.{◌-◌, ◌≤◌}
 use native.Mathlib.Omega.{arith}
 use Rattle.table_members.specs.Members.{NextMember}
 use Rattle.table_members.specs.declared.FieldFound.TheVariants.{Found}
-use Rattle.table_listing.specs.Listed.{most_tag}
-use Rattle.table_listing.proofs.Listing.{Collecting, collecting_start, collecting_end, collecting_more, member_below}
+use Rattle.table_listing.proofs.Listing.{collecting_start, collecting_end, collecting_more, member_below}
 use Rattle.table_listing.proofs.collect.Goals as goal
 
 pub loop-tag-init : goal.loop-tag-init
@@ -50,4 +47,4 @@ loop-tag-preserved c =
     let found : NextMember c.args.t.now c.loop-tag.at c.args.end (Found c.in-Found.tag c.in-Found.start c.in-Found.stop) = subst (NextMember c.args.t.now c.loop-tag.at c.args.end) c.in-Found.is c.next_member.ensures in
     let a = c.args in
     let l = c.loop-tag in
-    collecting_more a.t.now l.book a.from a.end l.at l.i l.invariant _ _ _ found _ (let z : c.in-Found.tag ≤ most_tag = omega (arith, c.known_told-1.given) in z) c.enter.ensures
+    collecting_more a.t.now l.book a.from a.end l.at l.i l.invariant _ _ _ found _ (omega arith) c.enter.ensures

@@ -1,6 +1,5 @@
 -- The member's name, then five stores.
 use Rattle.table_listing.proofs.Listing.{entering_is}
-use borrow.Author.Rules.{rules}
 use Rattle.table_listing.proofs.enter.Goals as goal
 
 pub returns : goal.returns

@@ -3,7 +3,6 @@ use Prim.Native.Nat.{◌<◌}
 use native.Mathlib.Omega.{arith}
 use Rattle.table_book.specs.Book.{part, count_in}
 use Rattle.table_listing.proofs.Listing.{listed_found, listed_none}
-use borrow.Author.Rules.{rules}
 use Rattle.table_listing.proofs.find_listed.Goals as goal
 
 pub overflow_cast-result : goal.overflow_cast-result

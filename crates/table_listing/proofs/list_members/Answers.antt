@@ -1,6 +1,5 @@
 -- The entries, their count, the links.
 use Rattle.table_listing.proofs.Listing.{counted_held, listed_is}
-use borrow.Author.Rules.{rules}
 use Rattle.table_listing.proofs.list_members.Goals as goal
 
 pub link-requires : goal.link-requires
