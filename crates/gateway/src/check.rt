@@ -8,8 +8,7 @@ ghost use Rattle.paper_query.specs.DocumentCalls.{CheckedDocument};
 //   rows       lent, 14,336 numbers are written; refusals 1 and 2 leave them
 //   report     lent, 8 numbers are written; with fewer nothing is touched and the answer is 1
 // Answers 0 and the number of rows, or a refusal's number and what it shows.
-#[unsafe(no_mangle)]
-pub extern "C" fn gw_check(
+pub fn gw_check(
     table: &[u8],
     document: &[u8],
     rows: &mut [u32],

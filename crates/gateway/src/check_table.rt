@@ -5,8 +5,7 @@ ghost use Rattle.paper_table.specs.TableCalls.{Checked};
 //   table    read, of any length and content
 //   report   lent, 8 numbers are written; with fewer nothing is touched and the answer is 1
 // Answers 0 for a table that keeps to its framing, its sizes and the schema rules, or a refusal's number and what it shows.
-#[unsafe(no_mangle)]
-pub extern "C" fn gw_check_table(table: &[u8], report: &mut [u32]) -> u32
+pub fn gw_check_table(table: &[u8], report: &mut [u32]) -> u32
     ensures { Checked table.now report.old report.new result }
 {
     table_answer::answer(table, report)

@@ -12,8 +12,7 @@ ghost use Rattle.paper_values.specs.ValueCalls.{CoercedArguments};
 //   value      lent, 8,192 bytes are written; refusals 1 and 2 leave them
 //   report     lent, 8 numbers are written; with fewer nothing is touched and the answer is 1
 // Answers 0 and the number of the value's bytes, or a refusal's number and what it shows.
-#[unsafe(no_mangle)]
-pub extern "C" fn gw_coerce_arguments(
+pub fn gw_coerce_arguments(
     table: &[u8],
     document: &[u8],
     operation: &[u8],

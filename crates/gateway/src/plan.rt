@@ -10,8 +10,7 @@ ghost use Rattle.paper_plan.specs.PlanCalls.{Planned};
 //   plan        lent, 14,338 numbers are written; refusals 1 and 2 leave them
 //   report      lent, 8 numbers are written; with fewer nothing is touched and the answer is 1
 // Answers 0 and the numbers of blocks and steps, or a refusal's number and what it shows.
-#[unsafe(no_mangle)]
-pub extern "C" fn gw_plan(
+pub fn gw_plan(
     table: &[u8],
     document: &[u8],
     operation: &[u8],

@@ -12,8 +12,7 @@ ghost use Rattle.paper_plan.specs.WalkCalls.{Walked};
 //   pairs       lent, 1,024 numbers are written; refusals 1 and 2 leave them
 //   report      lent, 8 numbers are written; with fewer nothing is touched and the answer is 1
 // Answers 0 and the number of pairs, or a refusal's number and what it shows.
-#[unsafe(no_mangle)]
-pub extern "C" fn gw_walk(
+pub fn gw_walk(
     table: &[u8],
     plan: &[u32],
     object: u32,

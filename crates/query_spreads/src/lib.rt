@@ -1,4 +1,6 @@
 // Where spreads lead: the definition of each row, the fragment of each spread, and the spreads of each definition, linked once for a document.
+#![tactic(auto)]
+
 ghost use Rattle.std.specs.Prelude.{◌≡◌, ◌≤◌, ◌<◌, length};
 ghost use Rattle.paper_query.specs.Rule7Spread.{spread_of_none};
 ghost use Rattle.query_rows.specs.Rowed.{doc_of, rows_in, Rowed, Sized, room_of};

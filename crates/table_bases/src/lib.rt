@@ -1,5 +1,7 @@
 // What a name in a table means, by the type's tag: the base of a reference, an implemented name.
 // Nothing is asked of the table but its sizes.
+#![tactic(auto)]
+
 ghost use Rattle.std.specs.Prelude.{◌≡◌, ◌-◌};
 ghost use Rattle.paper_table.specs.Types.{table_of, type_in};
 ghost use Rattle.paper_table.specs.Rule7NoType.{base_meant};

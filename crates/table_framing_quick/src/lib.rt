@@ -1,4 +1,6 @@
 // Is a table's framing right, and is it within the sizes? In one walk, and in one direction only: what is answered with no may be so too.
+#![tactic(auto)]
+
 ghost use Rattle.std.specs.Prelude.{◌≡◌, true, ◌+◌, ◌≤◌, length};
 ghost use Rattle.std.proofs.Math.Option.{none};
 ghost use Rattle.std.proofs.Math.Seq.{slice};

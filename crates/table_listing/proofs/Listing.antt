@@ -9,7 +9,6 @@ use lib.ListN.{length, drop, get_or, set, length-set, length-drop}
 use lib.Seq.{get_or-set_same, get_or-set_other, drop-drop, get_or-drop}
 use lib.Dec.{ltb}
 use borrow.Author.Tests.{ltb-true, ltb-false, le-leb}
-use Rattle.paper.specs.Tokens.{same}
 use Rattle.paper_table.specs.Lists.{first_at, find}
 use Rattle.paper_table.specs.Types.{Member, name_only, tag_nothing, member_named}
 use Rattle.table_book.specs.Book.{no_key, room, cell_name, cell_size, cell_start, cell_end, cell_count, book_size, count_in, keys_of, keyed, Held, Linked}

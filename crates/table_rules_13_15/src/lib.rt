@@ -1,5 +1,7 @@
 // The schema rules 13 to 15 at the arguments of one field and another's of the same names, by the rule's number: the first place, or none.
 // Of the table nothing is asked but its sizes.
+#![tactic(auto)]
+
 ghost use Rattle.std.specs.Prelude.{◌≡◌, true};
 ghost use Rattle.std.proofs.Math.Option.{none, some};
 ghost use mathlib.Core.List.{head?};

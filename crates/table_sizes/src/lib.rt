@@ -1,4 +1,6 @@
 // Which of a table's fields, or of its references' wrappers, is the first over a size. Nothing is asked of the bytes.
+#![tactic(auto)]
+
 ghost use Rattle.std.specs.Prelude.{◌≡◌, ◌||◌, ◌+◌, ◌≤◌, length, eqb};
 ghost use mathlib.Core.List.{head?};
 ghost use Rattle.std.proofs.Math.Seq.{slice};

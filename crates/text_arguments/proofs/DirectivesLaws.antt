@@ -22,7 +22,7 @@ use Rattle.text_cursor.specs.declared.Cursor.{Cursor}
 use Rattle.text_cursor.specs.declared.Read.{Read}
 use Rattle.text_cursor.specs.declared.Read.TheVariants.{Done, Refused}
 use Rattle.text_cursor.specs.Reader.{Looks, moved_to, at, Ready, Went, Halts, Said}
-use Rattle.paper.specs.Language.{language, the, at_sign_is, kind, named, end, Name, Arguments?, Directives?, Directives, Directive+, Directive*, Directive, n_other, paren_l}
+use Rattle.paper.specs.Language.{language, the, at_sign, named, end, Name, Arguments?, Directives?, Directives, Directive+, Directive*, Directive, n_other, paren_l}
 use Rattle.text_cursor.proofs.Steps.{first, null, plain, too_many_rows, is, not_is}
 use Rattle.text_cursor.proofs.Cells.{put, put_length, ends_row}
 use Rattle.text_arguments.specs.Arguments.{arguments_stack, directive_stack, directives_stack}
@@ -32,22 +32,22 @@ use Rattle.text_arguments.proofs.ArgumentsLaws.{none_said}
 use Rattle.text_arguments.proofs.Onward.{Next, lies, has_bytes, next, next_at, name_taken, name_lacks, same, said_went, said_halts, opened_row, named_row}
 
 -- ONE DIRECTIVE, at its @, whose row is n
-module _ (s rows : List ℕ) (c : Cursor) (parent left : ℕ) (a : Ready s rows c parent) (e : c.kind ≡ kind_of at_sign_is) where
+module _ (s rows : List ℕ) (c : Cursor) (parent left : ℕ) (a : Ready s rows c parent) (e : c.kind ≡ kind_of at_sign) where
   abbrev rest : Stack → Stack
   rest σ = nt Arguments? ∷ act end ∷ σ
 
   begins : (σ : Stack) (o : List ℕ) (q : Counts) → top o ≡ parent →
       at s rows c o left q (nt Directive ∷ σ)
-      ≡ go (st (put rows c.rows 7 c.start 0 parent 0 0 0) (c.rows + 1) (c.rows ∷ o) c.stop left q) (tm (the at_sign_is) ∷ act named ∷ nt Name ∷ rest σ) (from s c.stop)
+      ≡ go (st (put rows c.rows 7 c.start 0 parent 0 0 0) (c.rows + 1) (c.rows ∷ o) c.stop left q) (tm (the at_sign) ∷ act named ∷ nt Name ∷ rest σ) (from s c.stop)
   unfolding factored language
   begins σ o q p =
-      first s c a.within a.looks rows c.rows o left q σ Directive (Memᴰ.head refl) at_sign_is e tt
-      ∙ opened_row s c a.looks rows c.rows o parent left q (tm (the at_sign_is) ∷ act named ∷ nt Name ∷ rest σ) 7 0 p
+      first s c a.within a.looks rows c.rows o left q σ Directive (Memᴰ.head refl) at_sign e tt
+      ∙ opened_row s c a.looks rows c.rows o parent left q (tm (the at_sign) ∷ act named ∷ nt Name ∷ rest σ) 7 0 p
 
   pub directive_full : c.rows ≡ most_rows → Halts s rows c parent left directive_stack (TooManyRows c.start)
   directive_full z σ o q p f =
       begins σ o q p
-      ∙ too_many_rows s c a.within a.looks (put rows c.rows 7 c.start 0 parent 0 0 0) (c.rows + 1) (c.rows ∷ o) left q (act named ∷ nt Name ∷ rest σ) (the at_sign_is) at_sign_is e tt tt (omega arith)
+      ∙ too_many_rows s c a.within a.looks (put rows c.rows 7 c.start 0 parent 0 0 0) (c.rows + 1) (c.rows ∷ o) left q (act named ∷ nt Name ∷ rest σ) (the at_sign) at_sign e tt tt (omega arith)
 
   module _ (z : c.rows ≡ most_rows → ⊥) where
     pub directive_room : c.rows < most_rows
@@ -58,7 +58,7 @@ module _ (s rows : List ℕ) (c : Cursor) (parent left : ℕ) (a : Ready s rows 
         ≡ go (st (put rows c.rows 7 c.start 0 parent 0 0 0) (c.rows + 1) (c.rows ∷ o) c.end left q) (act named ∷ nt Name ∷ rest σ) (from s c.end)
     at_sign_is σ o q p f =
         begins σ o q p
-        ∙ plain s c a.within a.looks (put rows c.rows 7 c.start 0 parent 0 0 0) (c.rows + 1) (c.rows ∷ o) left q (act named ∷ nt Name ∷ rest σ) (the at_sign_is) at_sign_is e tt tt (omega (arith, directive_room)) f
+        ∙ plain s c a.within a.looks (put rows c.rows 7 c.start 0 parent 0 0 0) (c.rows + 1) (c.rows ∷ o) left q (act named ∷ nt Name ∷ rest σ) (the at_sign) at_sign e tt tt (omega (arith, directive_room)) f
 
     -- what stands behind the @
     module _ (r : Read) (m : r ≡ moved_to c.end (c.rows + 1) (head_of (from s c.end))) where
@@ -136,7 +136,7 @@ module _ (s rows : List ℕ) (c : Cursor) (parent left : ℕ) (a : Ready s rows 
                         within = directive_read.within;
                         few = directive_read.few;
                         looks = directive_read.looks;
-                        on = omega (arith, has_bytes s c a.within a.looks at_sign_is e, directive_name.stop, behind.stop, directive_read.on);
+                        on = omega (arith, has_bytes s c a.within a.looks at_sign e, directive_name.stop, behind.stop, directive_read.on);
                         goes =
                             λ σ o q p f.
                             to_arguments σ o q p f
@@ -154,25 +154,25 @@ module _ (s : List ℕ) (c : Cursor) (h : c.stop ≤ length s) (l : Looks s c) (
   abbrev here : Stack → Out
   here τ = go (st cells n o c.stop left q) τ (from s c.stop)
 
-  one_more : (σ : Stack) → c.kind ≡ kind_of at_sign_is → here (nt Directive* ∷ σ) ≡ here (nt Directive ∷ nt Directive* ∷ σ)
+  one_more : (σ : Stack) → c.kind ≡ kind_of at_sign → here (nt Directive* ∷ σ) ≡ here (nt Directive ∷ nt Directive* ∷ σ)
   unfolding factored language
-  one_more σ e = first s c h l cells n o left q σ Directive* (Memᴰ.tail (Memᴰ.head refl)) at_sign_is e tt
+  one_more σ e = first s c h l cells n o left q σ Directive* (Memᴰ.tail (Memᴰ.head refl)) at_sign e tt
 
-  no_more : (σ : Stack) → (c.kind ≡ kind_of at_sign_is → ⊥) → here (nt Directive* ∷ σ) ≡ here σ
+  no_more : (σ : Stack) → (c.kind ≡ kind_of at_sign → ⊥) → here (nt Directive* ∷ σ) ≡ here σ
   unfolding factored language choose
-  no_more σ e = null s c h l cells n o left q σ Directive* (Memᴰ.head refl) tt refl (λ (y : ℕ). not (is (kind_of at_sign_is) y)) (not_is (kind_of at_sign_is) c.kind e) tt
+  no_more σ e = null s c h l cells n o left q σ Directive* (Memᴰ.head refl) tt refl (λ (y : ℕ). not (is (kind_of at_sign) y)) (not_is (kind_of at_sign) c.kind e) tt
 
   some_or_none : (σ : Stack) → here (nt Directives? ∷ σ) ≡ here (nt Directive* ∷ σ)
   unfolding factored language choose
-  some_or_none σ = by_sign (same c.kind (kind_of at_sign_is))
+  some_or_none σ = by_sign (same c.kind (kind_of at_sign))
     where
-      by_sign : (c.kind ≡ kind_of at_sign_is) ⊎ (c.kind ≡ kind_of at_sign_is → ⊥) → here (nt Directives? ∷ σ) ≡ here (nt Directive* ∷ σ)
+      by_sign : (c.kind ≡ kind_of at_sign) ⊎ (c.kind ≡ kind_of at_sign → ⊥) → here (nt Directives? ∷ σ) ≡ here (nt Directive* ∷ σ)
       by_sign (inl e) =
-          first s c h l cells n o left q σ Directives? (Memᴰ.tail (Memᴰ.head refl)) at_sign_is e tt
-          ∙ first s c h l cells n o left q σ Directives (Memᴰ.head refl) at_sign_is e tt
-          ∙ first s c h l cells n o left q σ Directive+ (Memᴰ.head refl) at_sign_is e tt
+          first s c h l cells n o left q σ Directives? (Memᴰ.tail (Memᴰ.head refl)) at_sign e tt
+          ∙ first s c h l cells n o left q σ Directives (Memᴰ.head refl) at_sign e tt
+          ∙ first s c h l cells n o left q σ Directive+ (Memᴰ.head refl) at_sign e tt
           ∙ sym (one_more σ e)
-      by_sign (inr e) = null s c h l cells n o left q σ Directives? (Memᴰ.head refl) tt refl (λ (y : ℕ). not (is (kind_of at_sign_is) y)) (not_is (kind_of at_sign_is) c.kind e) tt ∙ sym (no_more σ e)
+      by_sign (inr e) = null s c h l cells n o left q σ Directives? (Memᴰ.head refl) tt refl (λ (y : ℕ). not (is (kind_of at_sign) y)) (not_is (kind_of at_sign) c.kind e) tt ∙ sym (no_more σ e)
 
 -- the loop: at each turn one more is to be read, or none
 abbrev pub some_more : Stack
@@ -186,7 +186,7 @@ module _ (s rows rows₁ : List ℕ) (c d : Cursor) (parent left : ℕ) (i : Pas
   pub turn_ready : length s ≤ most_text → parent ≤ most_rows → Ready s rows₁ d parent
   turn_ready h p = record { short = h; size = i.size; within = i.within; few = i.few; looks = i.looks; below = p }
 
-  pub turn_ends : (d.kind ≡ kind_of at_sign_is → ⊥) → Went 0 s rows rows₁ c d parent left directives_stack
+  pub turn_ends : (d.kind ≡ kind_of at_sign → ⊥) → Went 0 s rows rows₁ c d parent left directives_stack
   turn_ends e =
       record {
         size = i.size;
@@ -197,7 +197,7 @@ module _ (s rows rows₁ : List ℕ) (c d : Cursor) (parent left : ℕ) (i : Pas
         goes = λ σ o q p f. i.goes σ o q p f ∙ no_more s d i.within i.looks rows₁ d.rows o left q σ e;
       }
 
-  module _ (e : d.kind ≡ kind_of at_sign_is) (rows₂ : List ℕ) (r : Read) (v : Said 1 s rows₁ rows₂ d parent left directive_stack r) where
+  module _ (e : d.kind ≡ kind_of at_sign) (rows₂ : List ℕ) (r : Read) (v : Said 1 s rows₁ rows₂ d parent left directive_stack r) where
     to_directive : (σ : Stack) (o : List ℕ) (q : Counts) → top o ≡ parent → over_counts q ≡ false → at s rows c o left q (nt Directives? ∷ σ) ≡ at s rows₁ d o left q (nt Directive ∷ nt Directive* ∷ σ)
     to_directive σ o q p f = i.goes σ o q p f ∙ one_more s d i.within i.looks rows₁ d.rows o left q σ e
 
@@ -220,5 +220,5 @@ module _ (s rows rows₁ : List ℕ) (c d : Cursor) (parent left : ℕ) (i : Pas
           }
 
 -- no directive, where no @ stands
-pub no_directives : (s rows : List ℕ) (c : Cursor) (parent left : ℕ) → Ready s rows c parent → (c.kind ≡ kind_of at_sign_is → ⊥) → Went 0 s rows rows c c parent left directives_stack
+pub no_directives : (s rows : List ℕ) (c : Cursor) (parent left : ℕ) → Ready s rows c parent → (c.kind ≡ kind_of at_sign → ⊥) → Went 0 s rows rows c c parent left directives_stack
 no_directives s rows c parent left a = turn_ends s rows rows c c parent left (turn_first s rows c parent left a)

@@ -1,4 +1,6 @@
 // Reads arguments, directives and type conditions, and writes their rows.
+#![tactic(auto)]
+
 ghost use Rattle.std.specs.Prelude.{◌≡◌};
 ghost use Rattle.paper.specs.Language.{at_sign, paren_l};
 ghost use Rattle.text_scan.specs.Head.{kind_of};

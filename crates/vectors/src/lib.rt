@@ -5,8 +5,12 @@
 
 ghost use Rattle.io.specs.Counts.{IsPrefixLen};
 
-use libc::{STDIN_FILENO, STDOUT_FILENO};
 use paper::{REPORT_SIZE, ROWS_SIZE};
+
+// the standard input and output
+const STDIN_FILENO: i32 = 0;
+
+const STDOUT_FILENO: i32 = 1;
 
 // more cases than any file has
 pub const MOST_CASES: u64 = 1000;

@@ -1,9 +1,9 @@
 -- Depth falls at each call; in a holder one field more is read at each turn, and what comes decides.
 use Rattle.table_fields.proofs.BoundsLaws.{later, narrow}
-use borrow.Author.Rules.{rules}
+use borrow.Enum.Refused.{opened}
 use mathlib.Core.Path.{◌≡◌, sym, ap, subst, ◌∙◌}
 use mathlib.Core.List.{List, head?}
-use Prim.Native.Nat.{ℕ, ◌+◌, ◌-◌, ◌<◌}
+use Prim.Native.Nat.{ℕ, ◌+◌}
 use native.Mathlib.Omega.{arith}
 use lib.Seq.{slice}
 use Rattle.table_fields.specs.declared.FieldRead.TheVariants.{Field}
@@ -11,8 +11,8 @@ use Rattle.table_fields.specs.Fields.{field_at}
 use Rattle.table_fields.proofs.FieldLaws.{Lies, field_lies}
 use Rattle.table_framing.specs.Holders.{HoldsAs}
 use Rattle.table_rooms.specs.Rooms.{told_over}
-use Rattle.table_sizes.proofs.CountLaws.{over_plain, not_plain, leaf_over, Counting, counting_start, counting_end, counting_torn, counting_names, counting_others, counting_inside, counting_on}
-use Prim.Native.Nat.{ℕ, ◌<◌}
+use Rattle.table_sizes.proofs.CountLaws.{over_plain, not_plain, leaf_over, counting_start, counting_end, counting_torn, counting_names, counting_others, counting_inside, counting_on}
+use Prim.Native.Nat.{ℕ}
 use Rattle.table_sizes.proofs.+first_over.Goals as goal
 
 pub returns-then-is_plain : goal.returns-then-is_plain
@@ -25,7 +25,7 @@ pub leaf_over-requires : goal.leaf_over-requires
 leaf_over-requires t c = c.requires
 
 pub returns-in_default : goal.returns-in_default
-returns-in_default t c = c.leaf_over.ensures ∙ ap (λ (l : List ℕ). told_over (head? l)) (leaf_over c.args.depth c.args.at c.args.tag (slice (c.args.at + 3) c.args.end c.args.t.now) c.content_of-h.result (not_plain c.args.depth c.args.tag c.is_plain.ensures c.if-is_plain.false) c.content_of-h.ensures c.in-Fields.keys2)
+returns-in_default t c = c.leaf_over.ensures ∙ ap (λ (l : List ℕ). told_over (head? l)) (leaf_over c.args.depth c.args.at c.args.tag (slice (c.args.at + 3) c.args.end c.args.t.now) c.content_of-h.result (not_plain c.args.depth c.args.tag c.is_plain.ensures c.if-is_plain.false) c.content_of-h.ensures (opened c.in_default.in_default-own.keys2))
 
 pub overflow_add-i : goal.overflow_add-i
 overflow_add-i t c = omega (arith, c.requires.order, c.requires.within, c.requires.most)

@@ -1,5 +1,4 @@
 -- By the bounds of a record's tag.
-use Prim.Native.Nat.{◌-◌}
 use native.Mathlib.Omega.{arith}
 use borrow.Author.Tests.{le-leb, lt-leb}
 use Rattle.table_sizes.proofs.is_record.Goals as goal

@@ -1,6 +1,5 @@
 -- Only a reference's text has a size of its own.
 use mathlib.Core.Path.{◌∙◌}
-use borrow.Author.Rules.{rules}
 use Rattle.table_sizes.proofs.leaf_over.Goals as goal
 
 pub returns-in-Reference : goal.returns-in-Reference

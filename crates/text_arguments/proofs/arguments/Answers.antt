@@ -3,8 +3,6 @@ use Prim.Native.Nat.{◌-◌}
 use mathlib.Core.Path.{refl, sym, ◌∙◌}
 use mathlib.Core.Logic.{inl}
 use native.Mathlib.Omega.{arith}
-use borrow.Author.Rules.{rules}
-use lib.ListN.{length}
 use Rattle.text_arguments.specs.Arguments.{arguments_stack}
 use Rattle.text_arguments.specs.Passed.{Passed, shut}
 use Rattle.text_arguments.proofs.Onward.{ready_past, went_past, joined, unmoved}

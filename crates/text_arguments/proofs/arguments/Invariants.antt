@@ -1,14 +1,8 @@
 -- `text_arguments` is the machine at Arguments: at each turn of its loop an argument is to be read.
 use Prim.Native.Nat.{◌-◌}
-use mathlib.Core.Path.{refl, sym, ◌∙◌}
-use mathlib.Core.Logic.{inl}
-use native.Mathlib.Omega.{arith}
-use borrow.Author.Rules.{rules}
 use lib.ListN.{length}
-use Rattle.text_arguments.specs.Arguments.{arguments_stack}
 use Rattle.text_arguments.specs.Passed.{Passed, shut}
-use Rattle.text_arguments.proofs.Onward.{ready_past, went_past, joined, unmoved}
-use Rattle.text_arguments.proofs.ArgumentsLaws.{one_more, deep_said, bad_said, turn_first, turn_ready, turn_stops, turn_read, turn_more, turn_ends}
+use Rattle.text_arguments.proofs.ArgumentsLaws.{one_more}
 use Rattle.text_arguments.proofs.arguments.Given as goal
 
 abbrev pub invariant-loop-next : goal.invariant-loop-next

@@ -1,7 +1,6 @@
 -- `condition` is the machine at TypeCondition.
 use Rattle.text_arguments.proofs.Onward.{ready_past, next_order, next_past}
 use Rattle.text_arguments.proofs.ConditionLaws.{condition_bad, condition_name, condition_nameless, condition_full, condition_said}
-use borrow.Author.Rules.{rules}
 use Rattle.text_arguments.proofs.condition.Goals as goal
 
 pub past-r-requires : goal.past-r-requires

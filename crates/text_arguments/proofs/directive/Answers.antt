@@ -2,7 +2,6 @@
 use mathlib.Core.Path.{◌∙◌}
 use Rattle.text_arguments.proofs.Onward.{ready_past, next_order, next_past}
 use Rattle.text_arguments.proofs.DirectivesLaws.{directive_full, directive_room, directive_bad, directive_name, directive_nameless, directive_bad_behind, directive_ready, directive_stops, directive_read, directive_ends, directive_bare}
-use borrow.Author.Rules.{rules}
 use Rattle.text_arguments.proofs.directive.Goals as goal
 
 pub returns-then-n-eq-MOST_ROWS : goal.returns-then-n-eq-MOST_ROWS

@@ -1,14 +1,7 @@
 -- `directives` is the machine at Directives: at each turn of its loop one more is to be read.
-use mathlib.Core.Path.{◌≡◌, sym, ◌∙◌}
-use Prim.Native.Nat.{◌-◌}
+use mathlib.Core.Path.{sym, ◌∙◌}
 use native.Mathlib.Omega.{arith}
-use borrow.Author.Rules.{rules}
-use lib.ListN.{length}
-use Rattle.paper.specs.Language.{at_sign}
-use Rattle.text_scan.specs.Head.{kind_of}
-use Rattle.text_arguments.specs.Arguments.{directives_stack}
-use Rattle.text_arguments.specs.Passed.{Passed, shut}
-use Rattle.text_arguments.proofs.DirectivesLaws.{some_more, turn_first, turn_ready, turn_ends, turn_stops, turn_read, turn_more}
+use Rattle.text_arguments.proofs.DirectivesLaws.{turn_first, turn_ready, turn_ends, turn_stops, turn_read, turn_more}
 use Rattle.text_arguments.proofs.directives.Goals as goal
 
 pub loop-next-init : goal.loop-next-init

@@ -1,14 +1,12 @@
 -- `directives` is the machine at Directives: at each turn of its loop one more is to be read.
-use mathlib.Core.Path.{◌≡◌, sym, ◌∙◌}
+use mathlib.Core.Path.{◌≡◌}
 use Prim.Native.Nat.{◌-◌}
-use native.Mathlib.Omega.{arith}
-use borrow.Author.Rules.{rules}
 use lib.ListN.{length}
 use Rattle.paper.specs.Language.{at_sign}
 use Rattle.text_scan.specs.Head.{kind_of}
 use Rattle.text_arguments.specs.Arguments.{directives_stack}
 use Rattle.text_arguments.specs.Passed.{Passed, shut}
-use Rattle.text_arguments.proofs.DirectivesLaws.{some_more, turn_first, turn_ready, turn_ends, turn_stops, turn_read, turn_more}
+use Rattle.text_arguments.proofs.DirectivesLaws.{some_more}
 use Rattle.text_arguments.proofs.directives.Given as goal
 
 abbrev pub invariant-loop-next : goal.invariant-loop-next
