@@ -46,7 +46,7 @@ fn is_possible(t: &[u8], book: &[u32], bits: &[u32], q: TypeRead, r: TypeRead) -
     table_possible::is_set(bits, i, j)
 }
 
-// Is the type r a sub_type of q?
+// Is the type r a sub-type of q?
 fn is_below(t: &[u8], book: &[u32], bits: &[u32], r: TypeRead, q: TypeRead) -> bool
     requires { Booked t.now book.now × Possible t.now book.now bits.now × (r.at + r.size ≤ length t.now) × (q.at + q.size ≤ length t.now) }
     ensures { SubKept t.now r.at r.size r.wrappers q.at q.size q.wrappers result }
