@@ -1,4 +1,3 @@
-use borrow.Author.Rules.{rules}
 use mathlib.Core.Path.{sym, ap, ◌∙◌}
 use mathlib.Core.List.{List, head?}
 use Rattle.paper_table.specs.Types.{table_of}
@@ -6,13 +5,8 @@ use Rattle.paper_table.specs.Places.{Place}
 use Rattle.table_places.specs.Placed.{placed}
 use Rattle.table_types.specs.Booked.{definition_on}
 use Rattle.table_rules_11_15.proofs.AskedLaws.{asks_argument}
-use Rattle.table_rules_11_15.proofs.argument_missing.Statement.{statement}
-use Rattle.table_rules_11_15.proofs.argument_missing.Tie as tie
+use Rattle.table_rules_11_15.proofs.argument_missing.Goals as goal
 
-returns : tie.Need-returns
-returns c =
-    let a = c.before.before.before.before.args in
+pub returns : goal.returns
+returns c = let a = c.args in
     c.broken.ensures ∙ ap (λ (qs : List Place). placed (head? qs)) (sym (asks_argument (table_of a.t.now) a.i (definition_on a.t.now a.i)))
-
-pub argument-missing-spec : {M : Type 1} → statement M
-argument-missing-spec = tie.close (tie.spec (λ c κs. search rules) returns)
