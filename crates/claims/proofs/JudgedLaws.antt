@@ -148,7 +148,7 @@ breaks_shown s i k m p a = (to, from)
             = before_one (least_least (breaks (table_of s)) d q b h.2.2) (before_sound (numbers_of b) (numbers_of d) (h.2.3 d (least_member (breaks (table_of s)) d q))) in
             rw (h.0, h.1, q) (ap showing (e ∙ h.2.1))
 
--- the sub_type test, exactly
+-- the sub-type test, exactly
 pub sub_type_exactly : (can : List ℕ → List ℕ → Bool) (r q : Ref) → (sub_test can r q ≡ true) ↔ SubType can r q
 sub_type_exactly can r q = (sub_test_sound can r q, sub_test_complete can)
 

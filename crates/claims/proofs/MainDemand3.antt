@@ -28,7 +28,7 @@ use Rattle.plan_theory.proofs.Demand3 as collection
 use Rattle.claims.proofs.Demand3Laws as demand
 use Rattle.claims.proofs.DepthLaws as depth
 
--- Every plan that `gw_plan` makes is well_formed.
+-- Every plan that `gw_plan` makes is well-formed.
 pub plan_is_well_formed : {table document name plan report plan' report' : List ℕ} → Planned table document name plan report plan' report' 0 → WellFormed (table_of table) plan'
 plan_is_well_formed = demand.plan_formed
 

@@ -116,6 +116,6 @@ reference_read_exactly = judged.reference_exactly
 pub sub_type_exactly : (can : List ℕ → List ℕ → Bool) (r q : Ref) → (sub_test can r q ≡ true) ↔ SubType can r q
 sub_type_exactly = judged.sub_type_exactly
 
--- `B!` is no sub_type of `A!` unless equal.
+-- `B!` is no sub-type of `A!` unless equal.
 pub sub_type_non_null : (can : List ℕ → List ℕ → Bool) (a b : List ℕ) → SubType can (non_null (named b)) (non_null (named a)) → b ≡ a
 sub_type_non_null = sub-types.sub_type_non_null_is

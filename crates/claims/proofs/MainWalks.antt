@@ -65,7 +65,7 @@ pub walk_lists_exactly : {table plan : List ℕ} {object : ℕ} {blocks variable
     (a ≡ 0) ↔ (WalkLent pairs report × Right table × CanWalk (table_of table) plan object blocks variables × (length (listed (table_of table) plan object blocks variables) ≤ most_pairs))
 walk_lists_exactly = walks.listed_exactly
 
--- 14 exactly when something is not so that a walk asks: the plan is not well_formed, a block unknown, the record no object's, over 64 blocks or fewer than 64 variables.
+-- 14 exactly when something is not so that a walk asks: the plan is not well-formed, a block unknown, the record no object's, over 64 blocks or fewer than 64 variables.
 pub walk_refused_exactly : {table plan : List ℕ} {object : ℕ} {blocks variables pairs report pairs' report' : List ℕ} {a : ℕ} →
     Walked table plan object blocks variables pairs report pairs' report' a →
     (a ≡ 14) ↔ (WalkLent pairs report × Right table × (CanWalk (table_of table) plan object blocks variables → ⊥))

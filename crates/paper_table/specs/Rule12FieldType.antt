@@ -1,4 +1,4 @@
--- 12. Field type not a sub_type.
+-- 12. Field type not a sub-type.
 use Rattle.std.specs.Prelude.{Bool, not}
 use Rattle.paper_table.specs.Lists.{only_if}
 use Rattle.paper_table.specs.Types.{Member, Definition, Table, can_be}

@@ -5,7 +5,7 @@ use Rattle.std.specs.Prelude.{◌≡◌, Bool, true, false, ◌||◌, List, ℕ}
 use Rattle.paper.specs.Tokens.{same}
 use Rattle.paper_table.specs.References.{Ref, named, list_of, non_null, same_ref}
 
--- `SubType can r s`: r is a sub_type of s, where `can a o` says that the interface or union a can be the object o
+-- `SubType can r s`: r is a sub-type of s, where `can a o` says that the interface or union a can be the object o
 pub data SubType (can : List ℕ → List ℕ → Bool) : Ref → Ref → Type 0 where
   equal : {r : Ref} → SubType can r r
   object_of : {o a : List ℕ} → can a o ≡ true → SubType can (named o) (named a)

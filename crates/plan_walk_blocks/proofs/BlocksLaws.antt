@@ -80,7 +80,7 @@ module _ (p : List ℕ) (w : Walkable p) (b : ℕ) (h : b < blocks_in p) where
       = ap (λ (x : ℕ). block_walk p x end vars fits l o) e ∙ ap (λ (x : ℕ). block_walk p (first_in p b) x vars fits l o) f ∙ walked_is vars fits l o in
       subst (λ (x : State). Over r x ⊎ Held r met' out' x) s (g l o q c)
 
--- a well_formed plan can be walked
+-- a well-formed plan can be walked
 pub well_walkable : (t book p : List ℕ) → Booked t book → WellFormed (table_of t) p → Walkable p
 well_walkable t book p b w = record {
   long = w.long;

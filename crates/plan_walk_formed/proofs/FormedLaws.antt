@@ -1,4 +1,4 @@
--- A step's test, path by path; blocks and head make a well_formed plan, and it is one that can be walked.
+-- A step's test, path by path; blocks and head make a well-formed plan, and it is one that can be walked.
 use mathlib.Core.Path.{◌≡◌, refl, sym, ap, ◌∙◌, subst}
 use mathlib.Core.Bool.{Bool, true, false, cond, true≢false}
 use mathlib.Core.List.{List}
@@ -103,7 +103,7 @@ end_next p b h = rw (lt-ltb (suc b) (blocks_in p) h)
 pub end_last : (p : List ℕ) (b : ℕ) → blocks_in p ≤ suc b → end_in p b ≡ steps_in p
 end_last p b h = rw (le-ltb (suc b) (blocks_in p) h)
 
--- a well_formed plan: its head and its blocks
+-- a well-formed plan: its head and its blocks
 pub well_formed : (t : Table) (p : List ℕ) → Headed p → BlocksFormed t p → WellFormed t p
 well_formed t p h f = record {
   long = h.long;

@@ -1,4 +1,4 @@
-// Whether the numbers of a lent plan are well_formed.
+// Whether the numbers of a lent plan are well-formed.
 ghost use Rattle.std.specs.Prelude.{◌≡◌, ◌+◌, ◌≤◌, ◌<◌, length, get_or};
 ghost use Rattle.paper_table.specs.Types.{table_of};
 ghost use Rattle.table_types.specs.Booked.{Booked};
@@ -35,7 +35,7 @@ pub fn number_at(p: &[u32], i: usize) -> usize
     wide(p[i])
 }
 
-// Is step i well_formed, in a block that ends at step `end`?
+// Is step i well-formed, in a block that ends at step `end`?
 fn step_formed(t: &[u8], book: &[u32], p: &[u32], end: usize, i: usize) -> bool
     requires { Booked t.now book.now × (plan_size ≤ length p.now) × (i < most_steps) }
     ensures { Decides result (Formed (table_of t.now) p.now end i) }

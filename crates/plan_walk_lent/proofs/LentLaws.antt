@@ -1,4 +1,4 @@
--- The answer that a walk reads off a well_formed plan, a byte for each record: it is the answer for the object type; of a plan's own numbers, the draft's.
+-- The answer that a walk reads off a well-formed plan, a byte for each record: it is the answer for the object type; of a plan's own numbers, the draft's.
 use mathlib.Core.Path.{◌≡◌, refl, sym, ap, ◌∙◌, subst}
 use mathlib.Core.Bool.{Bool, true, false}
 use mathlib.Core.Logic.{◌⊎◌}

@@ -5,7 +5,7 @@ use Rattle.paper_plan.specs.Planning.{State, walk}
 pub use Rattle.paper_plan.specs.LentPlan.{step_at, is_one, pair_numbers}
 unfoldable pub use Rattle.paper_plan.specs.LentPlan.{test_of, step_of, steps_from}
 
--- a step of a well_formed plan, in a block that ends at `end`
+-- a step of a well-formed plan, in a block that ends at `end`
 pub record Formed (p : List ℕ) (end i : ℕ) : Type 0 where
   pub low : 1 ≤ get_or p (2050 + 3 * i) 0
   pub high : get_or p (2050 + 3 * i) 0 ≤ 5

@@ -1,4 +1,6 @@
 // One pass of a search for what a definition reaches: over the spreads of a definition that the search met.
+#![tactic(auto)]
+
 ghost use Rattle.query_rows.specs.Rowed.{doc_of};
 ghost use Rattle.query_spreads.specs.Spreads.{Graph};
 ghost use Rattle.query_reach_pass.specs.Marks.{Noted, Room, Search, Passed};

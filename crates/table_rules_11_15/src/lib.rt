@@ -179,7 +179,7 @@ pub fn field_missing(t: &[u8], book: &[u32], listed: &[u32], i: usize) -> PlaceR
     broken(t, book, listed, RULE_FIELD_MISSING, i)
 }
 
-// 12. Field type not a sub_type.
+// 12. Field type not a sub-type.
 pub fn field_type(t: &[u8], book: &[u32], listed: &[u32], i: usize) -> PlaceRead
     requires { Booked t.now book.now × Slim (table_of t.now) × (i < count_in book.now) × Listed t.now listed.now (start_in book.now i) (end_in book.now i) }
     ensures { result ≡ placed (head? (field_type (table_of t.now) i (definition_on t.now i))) }

@@ -57,7 +57,7 @@ pub record AllKept (t : Table) (i : ℕ) (d : Definition) : Type 0 where
   pub argument_type_is : argument_type t i d ≡ []
   pub argument_extra_is : argument_extra t i d ≡ []
 
--- if q is true the first reference is a sub_type of the second, of two with at most seven wrappers
+-- if q is true the first reference is a sub-type of the second, of two with at most seven wrappers
 abbrev pub SubKept : List ℕ → ℕ → ℕ → ℕ → ℕ → ℕ → ℕ → Bool → Type 0
 SubKept t at n o at' n' i q =
     (r s : Ref) → Typed t at n o r → Typed t at' n' i s → wrapperCount r ≤ most_wrappers → wrapperCount s ≤ most_wrappers

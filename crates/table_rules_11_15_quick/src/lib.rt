@@ -1,5 +1,7 @@
 // Whether a definition keeps the rules 11 to 15, in one walk over the fields that its interfaces promise: if the answer is true it does.
 // What breaks a rule, and where, `table_rules_11_15` says. Of the table nothing is asked but its sizes.
+#![tactic(auto)]
+
 ghost use Rattle.std.specs.Prelude.{◌≡◌, true, false, ◌⊎◌, ◌+◌, ◌-◌, ◌≤◌, ◌<◌, length};
 ghost use Rattle.paper_table.specs.Lists.{all_of};
 ghost use Rattle.paper_table.specs.References.{is_non_null};
@@ -44,7 +46,7 @@ fn is_possible(t: &[u8], book: &[u32], bits: &[u32], q: TypeRead, r: TypeRead) -
     table_possible::is_set(bits, i, j)
 }
 
-// Is the type r a sub_type of q?
+// Is the type r a sub-type of q?
 fn is_below(t: &[u8], book: &[u32], bits: &[u32], r: TypeRead, q: TypeRead) -> bool
     requires { Booked t.now book.now × Possible t.now book.now bits.now × (r.at + r.size ≤ length t.now) × (q.at + q.size ≤ length t.now) }
     ensures { SubKept t.now r.at r.size r.wrappers q.at q.size q.wrappers result }

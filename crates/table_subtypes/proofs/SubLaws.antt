@@ -1,4 +1,4 @@
--- The sub_type test on wrappers, one law for each way that it ends or goes on.
+-- The sub-type test on wrappers, one law for each way that it ends or goes on.
 use mathlib.Core.Path.{◌≡◌, refl, sym, ap, ◌∙◌}
 use mathlib.Core.Bool.{Bool, true, false, ◌&&◌, ◌||◌}
 use Prim.Native.Nat.{ℕ, ◌%◌, ◌/◌}
@@ -13,7 +13,7 @@ use Rattle.table_fields.specs.Wrappers.{pack_of}
 use Rattle.table_fields.proofs.PackLaws.{same_ref_is, same_pack, same_base}
 use Rattle.table_subtypes.specs.SubAnswers.{SubAnswer}
 
--- equal wrappers and the same base: a reference is a sub_type of itself
+-- equal wrappers and the same base: a reference is a sub-type of itself
 refl_test : (can : Bool) (r s : Ref) → pack_of r ≡ pack_of s → same (base_of r) (base_of s) ≡ true → true ≡ sub_test (λ a b. can) r s
 unfolding pack_of sub_test
 refl_test can (named a) (named b) e h = rw h

@@ -1,4 +1,4 @@
-// The sub_type test on packed wrappers: whether one type reference is a sub_type of another, given what is known of their base names.
+// The sub-type test on packed wrappers: whether one type reference is a sub-type of another, given what is known of their base names.
 #![tactic(auto)]
 
 ghost use Rattle.std.specs.Prelude.{◌≡◌, ◌&&◌, eqb};

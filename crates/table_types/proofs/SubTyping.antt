@@ -1,4 +1,4 @@
--- The sub_type test of two references that were read.
+-- The sub-type test of two references that were read.
 use mathlib.Core.Path.{◌≡◌, refl, sym, ap, ◌∙◌}
 use mathlib.Core.Bool.{Bool, true, false, ◌||◌}
 use mathlib.Core.List.{List}

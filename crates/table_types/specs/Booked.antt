@@ -98,7 +98,7 @@ pub record NumberMeant (t book n : List ℕ) (i : ℕ) : Type 0 where
   pub is : i < count_in book → meant (table_of t) n ≡ definition_on t i
   pub none : count_in book ≤ i → (meant (table_of t) n).tag ≤ tag_scalar
 
--- q answers whether the first reference is a sub_type of the second, of two with at most seven wrappers
+-- q answers whether the first reference is a sub-type of the second, of two with at most seven wrappers
 abbrev pub SubTyped : List ℕ → ℕ → ℕ → ℕ → ℕ → ℕ → ℕ → Bool → Type 0
 SubTyped t at n o at' n' i q =
     (r s : Ref) → Typed t at n o r → Typed t at' n' i s → wrapperCount r ≤ most_wrappers → wrapperCount s ≤ most_wrappers

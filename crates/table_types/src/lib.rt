@@ -267,7 +267,7 @@ pub fn can_be(t: &[u8], book: &[u32], s: &[u8], a: usize, an: usize, o: usize, o
     false
 }
 
-// Is the type r a sub_type of q?
+// Is the type r a sub-type of q?
 pub fn is_sub_type(t: &[u8], book: &[u32], r: TypeRead, q: TypeRead) -> bool
     requires { Booked t.now book.now × (r.at + r.size ≤ length t.now) × (q.at + q.size ≤ length t.now) }
     ensures { SubTyped t.now r.at r.size r.wrappers q.at q.size q.wrappers result }
