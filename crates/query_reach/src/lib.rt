@@ -1,4 +1,6 @@
 // Which fragments a definition reaches: by a search over the spreads of each definition.
+#![tactic(auto)]
+
 ghost use Rattle.std.specs.Prelude.{◌≡◌, ◌+◌, ◌≤◌, ◌<◌, length};
 ghost use Rattle.paper.specs.Numbers.{most_rows};
 ghost use Rattle.paper_query.specs.Reaching.{Reaches};

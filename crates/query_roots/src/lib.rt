@@ -1,4 +1,6 @@
 // The roots of a table, and their types with selections. Of the table nothing is asked but its sizes.
+#![tactic(auto)]
+
 ghost use Rattle.std.specs.Prelude.{◌≡◌};
 ghost use Rattle.paper_table.specs.References.{found};
 ghost use Rattle.paper_table.specs.Types.{table_of};

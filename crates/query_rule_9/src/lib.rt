@@ -1,4 +1,6 @@
 // The query rule 9: a directive, the row that it stands on, those beside it and its arguments.
+#![tactic(auto)]
+
 ghost use Rattle.std.specs.Prelude.{◌≡◌, ◌<◌};
 ghost use Rattle.paper.specs.Numbers.{kind_argument, kind_directive};
 ghost use Rattle.paper_query.specs.Constructs.{is_selection};

@@ -1,5 +1,7 @@
 // Types with selections, by a table: whether a definition is one, and the one that a name means.
 // A type is coded as one number, so that it can be kept for a document's rows. Of the table nothing is asked but its sizes.
+#![tactic(auto)]
+
 ghost use Rattle.std.specs.Prelude.{◌≡◌, ◌+◌, ◌≤◌, length};
 ghost use Rattle.paper_table.specs.Types.{definition, table_of};
 ghost use Rattle.paper_query.specs.Enclosing.{if_composite, composite_of};

@@ -1,5 +1,7 @@
 // Whether a member or an argument breaks a schema rule: the tests that the rules' walks share.
 // Nothing is asked of the table but its sizes.
+#![tactic(auto)]
+
 ghost use Rattle.std.specs.Prelude.{◌≡◌};
 ghost use Rattle.paper_table.specs.Types.{table_of};
 ghost use Rattle.paper_table.specs.Rule7NoType.{member_type_unknown};

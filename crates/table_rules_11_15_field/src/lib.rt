@@ -1,5 +1,7 @@
 // The schema rules 11 to 15 at one field of an interface and the definition's own, by the rule's number: the first place, or none.
 // Of the table nothing is asked but its sizes.
+#![tactic(auto)]
+
 ghost use Rattle.std.specs.Prelude.{◌≡◌, true, eqb};
 ghost use mathlib.Core.List.{head?};
 ghost use Rattle.paper_table.specs.Lists.{only_if};

@@ -1,5 +1,7 @@
 // Whether a definition keeps the rules 11 to 15, in one walk over the fields that its interfaces promise: if the answer is true it does.
 // What breaks a rule, and where, `table_rules_11_15` says. Of the table nothing is asked but its sizes.
+#![tactic(auto)]
+
 ghost use Rattle.std.specs.Prelude.{◌≡◌, true, false, ◌⊎◌, ◌+◌, ◌-◌, ◌≤◌, ◌<◌, length};
 ghost use Rattle.paper_table.specs.Lists.{all_of};
 ghost use Rattle.paper_table.specs.References.{is_non_null};

@@ -1,4 +1,6 @@
 // Reads documents and variables texts, and writes their rows.
+#![tactic(auto)]
+
 ghost use Rattle.std.specs.Prelude.{◌≡◌, true, [], ◌∷◌, ◌+◌, ◌≤◌, ◌<◌, length};
 ghost use Rattle.paper.specs.Grammar.{nt};
 ghost use Rattle.paper.specs.Numbers.{most_text, most_levels, most_rows, rows_size, no_parent};

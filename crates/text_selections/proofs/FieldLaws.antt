@@ -21,7 +21,7 @@ use Rattle.text_cursor.specs.declared.Cursor.{Cursor}
 use Rattle.text_cursor.specs.declared.Read.{Read}
 use Rattle.text_cursor.specs.declared.Read.TheVariants.{Done, Refused}
 use Rattle.text_cursor.specs.Reader.{moved_to, at, Ready, Went, Halts, Said}
-use Rattle.paper.specs.Language.{language, the, any_name, colon, kind, named, end, Name, Field, AliasRest, Arguments?, Directives?, SelectionSet?, Selection, at_sign, brace_l, n_other, paren_l}
+use Rattle.paper.specs.Language.{language, the, any_name, colon, named, end, Name, Field, AliasRest, Arguments?, Directives?, SelectionSet?, Selection, at_sign, brace_l, n_other, paren_l}
 use Rattle.text_cursor.proofs.Steps.{first, null, plain, too_many_rows, is, not_is}
 use Rattle.text_cursor.proofs.Cells.{put_length, ends_row}
 use Rattle.text_arguments.specs.Arguments.{arguments_stack, directives_stack}

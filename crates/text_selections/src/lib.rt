@@ -1,4 +1,6 @@
 // Reads selection sets, with their fields, fragment spreads and inline fragments, and writes their rows.
+#![tactic(auto)]
+
 ghost use Rattle.std.specs.Prelude.{◌≡◌, true, false, [], ◌+◌, ◌≤◌, ◌<◌, length};
 ghost use Rattle.paper.specs.Numbers.{most_rows};
 ghost use Rattle.paper.specs.Language.{colon, n_other, spread};

@@ -1,4 +1,3 @@
-use borrow.Author.Rules.{rules}
 use Rattle.paper_table.specs.Types.{table_of}
 use Rattle.table_members.specs.Members.{member_from, arguments_in}
 use Rattle.table_members.proofs.PartLaws.{from_bounds}
@@ -7,7 +6,7 @@ use Rattle.table_rules_11_15_field.proofs.own_place.Goals as goal
 
 pub returns-then-rule-eq-RULE_FIELD_MISSING : goal.returns-then-rule-eq-RULE_FIELD_MISSING
 returns-then-rule-eq-RULE_FIELD_MISSING c = let a = c.args in
-    own_missing a.rule (table_of a.t.now) a.member a.part (member_from a.t.now a.tag a.start a.end) (member_from a.t.now a.own-tag a.from a.stop) c.if-rule-eq-RULE_FIELD_MISSING.true
+    own_missing a.rule (table_of a.t.now) a.member a.part (member_from a.t.now a.tag a.start a.end) (member_from a.t.now a.own_tag a.from a.stop) c.if-rule-eq-RULE_FIELD_MISSING.true
 
 pub returns-then-rule-eq-RULE_FIELD_TYPE : goal.returns-then-rule-eq-RULE_FIELD_TYPE
 returns-then-rule-eq-RULE_FIELD_TYPE c = rw c.if-rule-eq-RULE_FIELD_TYPE.true c.type_place.ensures
@@ -28,7 +27,7 @@ pub returns-then-rule-eq-RULE_ARGUMENT_EXTRA : goal.returns-then-rule-eq-RULE_AR
 returns-then-rule-eq-RULE_ARGUMENT_EXTRA c = let a = c.args in
     asked_by a.rule a.member a.part (arguments_in a.t.now c.arguments_from-b.result a.stop) (arguments_in a.t.now c.arguments_from-a.result a.end)
     c.first_wrong.ensures c.arguments_from-b.ensures.are c.arguments_from-a.ensures.are
-    (own_extra a.rule (table_of a.t.now) a.member a.part (member_from a.t.now a.tag a.start a.end) (member_from a.t.now a.own-tag a.from a.stop) c.if-rule-eq-RULE_FIELD_MISSING.false c.if-rule-eq-RULE_FIELD_TYPE.false c.if-rule-eq-RULE_ARGUMENT_EXTRA.true)
+    (own_extra a.rule (table_of a.t.now) a.member a.part (member_from a.t.now a.tag a.start a.end) (member_from a.t.now a.own_tag a.from a.stop) c.if-rule-eq-RULE_FIELD_MISSING.false c.if-rule-eq-RULE_FIELD_TYPE.false c.if-rule-eq-RULE_ARGUMENT_EXTRA.true)
 
 pub first_wrong-requires-2 : goal.first_wrong-requires-2
 first_wrong-requires-2 c = let p = c.requires in
@@ -40,4 +39,4 @@ pub returns : goal.returns
 returns c = let a = c.args in
     asked_by a.rule a.member a.part (arguments_in a.t.now c.arguments_from-a.result a.end) (arguments_in a.t.now c.arguments_from-b.result a.stop)
     c.first_wrong-2.ensures c.arguments_from-a.ensures.are c.arguments_from-b.ensures.are
-    (own_other a.rule (table_of a.t.now) a.member a.part (member_from a.t.now a.tag a.start a.end) (member_from a.t.now a.own-tag a.from a.stop) c.if-rule-eq-RULE_FIELD_MISSING.false c.if-rule-eq-RULE_FIELD_TYPE.false c.if-rule-eq-RULE_ARGUMENT_EXTRA.false)
+    (own_other a.rule (table_of a.t.now) a.member a.part (member_from a.t.now a.tag a.start a.end) (member_from a.t.now a.own_tag a.from a.stop) c.if-rule-eq-RULE_FIELD_MISSING.false c.if-rule-eq-RULE_FIELD_TYPE.false c.if-rule-eq-RULE_ARGUMENT_EXTRA.false)

@@ -1,0 +1,13 @@
+-- Member by member: what is found from here on is what is found from the start.
+use Prim.Native.Nat.{◌-◌}
+use Rattle.paper_table.specs.Lists.{find}
+use Rattle.table_members.specs.Members.{members_in}
+use Rattle.table_members.proofs.FindLaws.{Sought}
+use Rattle.query_roots.specs.Rooted.{tagged}
+use Rattle.query_roots.proofs.find_tagged.Given as goal
+
+abbrev pub invariant-loop-k : goal.invariant-loop-k
+invariant-loop-k l = Sought l.from l.end l.i (find (tagged l.tag) (members_in l.t l.from l.end)) (find (tagged l.tag) (members_in l.t l.i l.end))
+
+abbrev pub decreases-loop-k : goal.decreases-loop-k
+decreases-loop-k l = l.end - l.i

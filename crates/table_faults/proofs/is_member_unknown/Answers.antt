@@ -1,0 +1,12 @@
+-- By the member's tag.
+use Rattle.table_bases.proofs.TestLaws.{unknown_field, unknown_input, unknown_other}
+use Rattle.table_faults.proofs.is_member_unknown.Goals as goal
+
+pub returns-then-tag-eq-TAG_FIELD : goal.returns-then-tag-eq-TAG_FIELD
+returns-then-tag-eq-TAG_FIELD c = unknown_field _ _ _ _ _ c.base_tag.ensures c.if-tag-eq-TAG_FIELD.true
+
+pub returns-then-tag-eq-TAG_ARGUMENT : goal.returns-then-tag-eq-TAG_ARGUMENT
+returns-then-tag-eq-TAG_ARGUMENT c = unknown_input _ _ _ _ _ c.base_tag-then-tag-eq-TAG_ARGUMENT.ensures c.if-tag-eq-TAG_FIELD.false c.if-tag-eq-TAG_ARGUMENT.true
+
+pub returns : goal.returns
+returns c = unknown_other _ _ _ _ c.if-tag-eq-TAG_FIELD.false c.if-tag-eq-TAG_ARGUMENT.false
