@@ -1,4 +1,6 @@
 // Lent buffers: whether rows and inputs keep to their sizes, before anything is read; and clearing.
+#![tactic(auto)]
+
 ghost use Rattle.std.specs.Prelude.{◌≡◌, ◌≤◌, length};
 ghost use Rattle.call_buffers.specs.Buffers.{cleared, Sized};
 

@@ -1,4 +1,6 @@
 // What a call tells in its report: the number of its answer, what that shows, and zeros.
+#![tactic(auto)]
+
 ghost use Rattle.std.specs.Prelude.{◌≡◌, [], ◌∷◌, ◌≤◌, length};
 ghost use Rattle.paper.specs.Numbers.{report_size};
 ghost use Rattle.paper.specs.Refusals.{number_of, shown_of, shown_in_text};

@@ -2,13 +2,13 @@
 -- Every reader's contract is an equation of `go`; `GoingSaid` of crate `paper_theory` shows that what it answers is what `Reading` says.
 use mathlib.Core.Path.{◌≡◌, refl}
 use mathlib.Core.Bool.{Bool, true, false}
-use mathlib.Core.List.{List, [], ◌∷◌, ◌++◌}
-use mathlib.Core.Option.{Option, none, some}
+use mathlib.Core.List.{List, [], ◌∷◌}
+use mathlib.Core.Option.{none, some}
 use Prim.Native.Nat.{ℕ, zero, suc, ◌+◌, ◌-◌, ◌*◌}
 use lib.Dec.{ltb}
 use lib.ListN.{set, get_or}
 use lib.Seq.{sets}
-use Rattle.paper.specs.Grammar.{Sym, nt, tm, act, Ev, tok, mark}
+use Rattle.paper.specs.Grammar.{Sym, act, Ev, tok, mark}
 use Rattle.paper.specs.Numbers.{most_levels, most_rows}
 use Rattle.paper.specs.Language.{Class, Terminal, Mark, row, kind, named, wrapper, wrap, end, Part}
 use Rattle.paper.specs.Tokens.{Tok, Text, at_end, bad, token}
@@ -16,7 +16,7 @@ use Rattle.paper.specs.Rows.{top, pop}
 use Rattle.paper.specs.Sizes.{Counts, opens_level, closes_level, kinded, wrapper_more, over_counts}
 use Rattle.paper.specs.declared.Refusal.{Refusal}
 use Rattle.paper.specs.declared.Refusal.TheVariants.{NoToken, NoGoing, TooDeep, TooManyRows, TooMany}
-use Rattle.paper.proofs.Machine.{Step, took, emptied, refused, spent, step, over as over-stack, ◌▸◌}
+use Rattle.paper.proofs.Machine.{Step, took, emptied, refused, spent, step, ◌▸◌}
 use Rattle.paper.proofs.Tables.{graphql}
 
 abbrev pub Stack : Type 0

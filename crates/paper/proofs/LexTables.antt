@@ -8,8 +8,8 @@ use lib.Dec.{eqb}
 use lib.ListN.{get_elem?}
 use Rattle.paper.specs.Grammar.{Sym, nt, tm, act}
 use Rattle.paper.proofs.Machine.{Tables}
-use Rattle.paper.specs.Language.{bang, dollar, paren_l, paren_r, spread, colon, equals, at_sign, bracket_l, bracket_r, brace_l, bar, brace_r, n_other, int, float, string}
-use Rattle.paper.specs.Lexical.{Span, span, Set, hits_byte, What, is, ignored, comment, dot, quote, zero, non_zero, b_bang, b_dollar, b_paren_l, b_paren_r, b_colon, b_equals, b_at_sign, b_bracket_l, b_bracket_r, b_brace_l, b_bar, b_brace_r}
+use Rattle.paper.specs.Language.{bang, dollar, paren_l, paren_r, spread, colon, equals, at_sign, bracket_l, bracket_r, brace_l, bar, brace_r, n_other, string}
+use Rattle.paper.specs.Lexical.{span, Set, hits_byte, What, is, ignored, comment, dot, quote, b_bang, b_dollar, b_paren_l, b_paren_r, b_colon, b_equals, b_at_sign, b_bracket_l, b_bracket_r, b_brace_l, b_bar, b_brace_r}
 use Rattle.paper.specs.Lexical.{Lex, lexical, Piece, Name, NameRest*, IntValue, FloatValue, IntegerPart, NegativeSign?, Digit*, Digit+, FractionalPart, ExponentPart, Sign?, StringValue, StringCharacter+, StringCharacter*, StringCharacter, Escape, Wide, Ignored, Comment, CommentCharacter*, CommentCharacter, Number, NumberRest, ExponentPart?, FloatRest, UnsignedPart}
 
 abbrev pub num_l : Lex → ℕ

@@ -1,16 +1,16 @@
 -- The same language, left-factored for the machine (seven parts differ from the draft's), and the machine's tables.
 -- They are tested in `Checked` of crate `paper_theory` and trusted for nothing.
-use mathlib.Core.Bool.{Bool, true, false, ◌||◌}
+use mathlib.Core.Bool.{Bool, true, false}
 use mathlib.Core.List.{List, [], ◌∷◌}
 use mathlib.Core.Path.{◌≡◌, refl}
-use mathlib.Core.Option.{Option, some}
-use Prim.Native.Nat.{ℕ, zero, suc}
+use mathlib.Core.Option.{some}
+use Prim.Native.Nat.{ℕ}
 use lib.Dec.{eqb}
 use lib.ListN.{get_elem?}
-use Rattle.paper.specs.Grammar.{Sym, nt, tm, act}
+use Rattle.paper.specs.Grammar.{Sym, nt, act}
 use Rattle.paper.proofs.Machine.{Tables}
-use Rattle.paper.specs.Numbers.{kind_operation, kind_fragment, kind_field, kind_spread, kind_inline, kind_argument, kind_directive, kind_variable_definition, kind_type_reference, kind_object_field, kind_variable, kind_integer, kind_float, kind_string, kind_boolean, kind_null, kind_enum, kind_list, kind_object, extra_query, extra_mutation, extra_subscription, extra_true, extra_false, wrap_list, wrap_non_null}
-use Rattle.paper.specs.Language.{Class, num_c, same_c, one_of, Terminal, hits, the, any_name, name_but_on, name_but_literal, Mark, row, kind, named, wrapper, wrap, end, Part, t, language}
+use Rattle.paper.specs.Numbers.{kind_field}
+use Rattle.paper.specs.Language.{Class, num_c, one_of, Terminal, hits, Mark, row, kind, named, end, Part, t, language}
 use Rattle.paper.specs.Language.{bang, dollar, paren_l, paren_r, spread, colon, equals, at_sign, bracket_l, bracket_r, brace_l, bar, brace_r, n_query, n_mutation, n_subscription, n_fragment, n_on, n_true, n_false, n_null, n_other, int, float, string}
 use Rattle.paper.specs.Language.{Document, Definition+, Definition*, Definition, OperationDefinition, OperationType, OperationName?, SelectionSet, Selection+, Selection*, Selection, Field, Alias?, Alias, SelectionSet?, Arguments?, Arguments, Argument+, Argument*, Argument, FragmentSpread, FragmentDefinition, FragmentName, TypeCondition?, TypeCondition, InlineFragment, Value, ListValue, Value+, Value*, ObjectValue, ObjectField+, ObjectField*, ObjectField, ConstValue, ConstListValue, ConstValue+, ConstValue*, ConstObjectValue, ConstObjectField+, ConstObjectField*, ConstObjectField, EnumValue, VariableDefinitions?, VariableDefinitions, VariableDefinition+, VariableDefinition*, VariableDefinition, DefaultValue?, DefaultValue, TypeRef, NamedType, ListType, NonNullType, Directives?, Directives, Directive+, Directive*, Directive, Name, VariablesText, SpreadRest, AliasRest, Bang?}
 

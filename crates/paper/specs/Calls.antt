@@ -7,7 +7,7 @@ use Rattle.paper.specs.Language.{Document}
 use Rattle.paper.specs.Tokens.{Text, Tokens}
 use Rattle.paper.specs.Rows.{flat}
 use Rattle.paper.specs.Refusals.{number_of, shown_of}
-use Rattle.paper.specs.Reading.{Answer, rows_are, refuses, TextAnswer}
+use Rattle.paper.specs.Reading.{rows_are, refuses, TextAnswer}
 use Rattle.paper.specs.declared.Refusal.{Refusal}
 use Rattle.paper.specs.declared.Refusal.TheVariants.{Buffer, OverLength}
 

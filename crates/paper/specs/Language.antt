@@ -4,7 +4,7 @@
 -- The productions are the draft's as they stand; none is left-factored here. The machine that the proofs run reads them left-factored, in seven parts: Selection,
 -- Field, ListValue, ObjectValue, ConstListValue, ConstObjectValue, TypeRef (`changed` in proofs/Tables). Both are proved to be one language (`SameLanguage` in crate `paper_theory`).
 -- Assumes nothing.
-use Rattle.std.specs.Prelude.{Bool, true, false, ◌&&◌, ◌||◌, not, List, [], ◌∷◌, ℕ, eqb}
+use Rattle.std.specs.Prelude.{Bool, false, ◌&&◌, ◌||◌, not, List, [], ◌∷◌, ℕ, eqb}
 use Rattle.paper.specs.Grammar.{Sym, nt, tm, act}
 use Rattle.paper.specs.Numbers.{kind_operation, kind_fragment, kind_field, kind_spread, kind_inline, kind_argument, kind_directive, kind_variable_definition, kind_type_reference, kind_object_field, kind_variable, kind_integer, kind_float, kind_string, kind_boolean, kind_null, kind_enum, kind_list, kind_object, extra_query, extra_mutation, extra_subscription, extra_true, extra_false, wrap_list, wrap_non_null}
 

@@ -2,7 +2,7 @@
 -- States: source document 002. A piece is a token, an ignored token or a comment; `X?`, `X+`, `X*` as in `Language`.
 -- None is left-factored here; the machine's are, in four parts: Piece, FloatValue, IntegerPart, StringValue (`changed_l` in proofs/LexTables; `LexSame` in crate `paper_theory`).
 -- Assumes nothing.
-use Rattle.std.specs.Prelude.{Bool, true, false, ◌&&◌, ◌||◌, List, [], ◌∷◌, ℕ, leb, ltb, eqb}
+use Rattle.std.specs.Prelude.{Bool, false, ◌&&◌, ◌||◌, List, [], ◌∷◌, ℕ, leb, ltb}
 use Rattle.paper.specs.Grammar.{Sym, nt, tm, act}
 use Rattle.paper.specs.Language.{Class, bang, dollar, paren_l, paren_r, spread, colon, equals, at_sign, bracket_l, bracket_r, brace_l, bar, brace_r, n_other, int, float, string}
 

@@ -1,7 +1,7 @@
 -- What is counted while a text is read, and when a count is over its size.
 -- States: 01, "Sizes and refusals": nesting, rows, fragments, variables per operation, wrappers per type reference; rows 5, 6 and 8.
 -- Assumes nothing.
-use Rattle.std.specs.Prelude.{Bool, true, false, ◌||◌, cond, List, [], ◌∷◌, ℕ, zero, suc, ◌+◌, ◌-◌, ltb, eqb}
+use Rattle.std.specs.Prelude.{Bool, ◌||◌, cond, List, [], ◌∷◌, ℕ, zero, suc, ◌+◌, ◌-◌, ltb, eqb}
 use Rattle.paper.specs.Grammar.{Ev, tok, mark}
 use Rattle.paper.specs.Numbers.{most_levels, most_rows, most_fragments, most_variables, most_wrappers, kind_operation, kind_fragment, kind_variable_definition}
 use Rattle.paper.specs.Language.{Class, one_of, paren_l, paren_r, bracket_l, bracket_r, brace_l, brace_r, Mark, row, kind, named, wrapper, wrap, end}

@@ -1,7 +1,7 @@
 -- The tokens of a text, and how it ends.
 -- States: 01, "Reading a document": "Characters, tokens and grammar are the draft's, in valid UTF-8. Longest match"; row 3 of the refusals.
 -- Assumes nothing.
-use Rattle.std.specs.Prelude.{◌≡◌, Bool, true, false, ◌&&◌, ◌||◌, not, cond, List, [], ◌∷◌, ◌++◌, ℕ, ◌+◌, ◌≤◌, T, eqb, length, drop}
+use Rattle.std.specs.Prelude.{◌≡◌, Bool, true, false, ◌&&◌, ◌||◌, not, List, [], ◌∷◌, ◌++◌, ℕ, ◌+◌, ◌≤◌, T, eqb, length, drop}
 use Rattle.paper.specs.Grammar.{nt, Ev, tok, mark, toks, Derives}
 use Rattle.paper.specs.Language.{Class, same_c, n_query, n_mutation, n_subscription, n_fragment, n_on, n_true, n_false, n_null, n_other}
 use Rattle.paper.specs.Lexical.{What, is, ignored, comment, Piece, lexical, hits_byte}

@@ -1,5 +1,6 @@
 // The numbers that document 01 fixes, as the code writes them, and the refusals. No function.
 // `specs/Numbers.antt` has the same numbers under the same names, for contracts.
+#![tactic(auto)]
 
 // sizes
 pub const MOST_TEXT: usize = 16384;

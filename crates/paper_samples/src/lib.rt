@@ -1,1 +1,3 @@
+#![tactic(auto)]
+
 // No code: `proofs` has worked examples of the definitions of `paper`.

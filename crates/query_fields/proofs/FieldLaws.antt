@@ -1,25 +1,25 @@
 -- Fields by their number.
 use mathlib.Core.Path.{◌≡◌, refl, sym, ap, subst, ◌∙◌}
-use mathlib.Core.Bool.{Bool, true, false, ◌&&◌, ◌||◌, true≢false}
-use mathlib.Core.Option.{Option, none, some}
+use mathlib.Core.Bool.{Bool, true, false, ◌&&◌, true≢false}
+use mathlib.Core.Option.{some}
 use mathlib.Core.List.{List}
 use Prim.Native.Nat.{ℕ, zero, suc, ◌+◌, ◌-◌, ◌≤◌, ◌<◌}
 use native.Mathlib.Omega.{arith}
 use lib.ListN.{get_or}
 use lib.Dec.{leb}
 use borrow.Author.Tests.{eq-eqb, ne_eqb, le-leb, leb-true}
-use Rattle.paper_table.specs.TableNumbers.{tag_object, tag_interface, tag_union, tag_input_object, tag_directive}
+use Rattle.paper_table.specs.TableNumbers.{tag_object, tag_interface, tag_union}
 use Rattle.paper_table.specs.Lists.{find}
-use Rattle.paper_table.specs.References.{Ref, base_of}
+use Rattle.paper_table.specs.References.{base_of}
 use Rattle.paper_table.specs.Types.{Member, Definition, table_of, definition, member_named}
 use Rattle.paper_query.proofs.EnclosingLaws.{Composite}
-use Rattle.paper_query.specs.Enclosing.{FieldIs, typename, member, missing, unknown, definition_at, if_composite, composite_of, field_of, is_typename, or_missing, field_named, selections_type}
+use Rattle.paper_query.specs.Enclosing.{FieldIs, typename, member, missing, unknown, definition_at, if_composite, composite_of, field_of, is_typename, or_missing, field_named}
 use Rattle.table_book.specs.Book.{room, count_in}
 use Rattle.table_types.specs.Booked.{Booked}
-use Rattle.table_entries.specs.Entries.{room_entries, Roomy, next_of, has_types, MemberEntry, Entered, Hit, MemberStands, MeantAnswer}
+use Rattle.table_entries.specs.Entries.{room_entries, Roomy, next_of, has_types, MemberEntry, Hit, MemberStands, MeantAnswer}
 use Rattle.query_types.specs.Coded.{type_coded}
 use Rattle.query_types.proofs.CompositeLaws.{output_below, composite_number}
-use Rattle.query_fields.specs.Kept.{field_unknown, field_missing, field_typename, field_first, MemberKept, FieldKept, FieldStands, FieldTyped}
+use Rattle.query_fields.specs.Kept.{field_unknown, field_missing, field_typename, field_first, FieldKept, FieldStands, FieldTyped}
 
 module _ (t book es : List ℕ) where
   -- where it is no member

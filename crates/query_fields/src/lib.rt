@@ -1,5 +1,7 @@
 // What a field of a name is in a type with selections, and the type that its own selections are of.
 // A field is coded as one number, so that it can be kept for a document's rows. Of the table nothing is asked but its sizes.
+#![tactic(auto)]
+
 ghost use Rattle.std.specs.Prelude.{◌+◌, ◌≤◌, length, ◌≡◌};
 ghost use Rattle.paper_table.specs.Types.{table_of};
 ghost use Rattle.paper_query.specs.Enclosing.{field_of, is_typename, or_missing, field_named};

@@ -1,4 +1,6 @@
 // The query rules on names of operations: 1 and 2. Each walks only rows of one kind.
+#![tactic(auto)]
+
 ghost use Rattle.std.specs.Prelude.{◌≡◌, List, ℕ, ◌<◌};
 ghost use Rattle.paper_query.specs.Rule1OperationRepeated.{operation_repeated};
 ghost use Rattle.paper_query.specs.Rule2OperationUnnamed.{operation_unnamed};

@@ -1,4 +1,6 @@
 // The query rules 4 and 13: what a table says of type conditions and roots.
+#![tactic(auto)]
+
 ghost use Rattle.std.specs.Prelude.{◌≡◌, ◌||◌, eqb};
 ghost use Rattle.paper.specs.Numbers.{kind_fragment, kind_inline};
 ghost use Rattle.paper_table.specs.Types.{table_of};

@@ -1,5 +1,7 @@
 // Reads a table's parts: one house field, one name, one type reference's text, the first field of a tag.
 // Nothing is asked of the bytes; a part is named by where it starts and where it ends.
+#![tactic(auto)]
+
 ghost use Rattle.std.specs.Prelude.{◌≡◌, ◌+◌};
 ghost use Rattle.std.proofs.Math.Seq.{slice};
 ghost use Rattle.paper_table.specs.References.{is_name, is_reference, name_size};

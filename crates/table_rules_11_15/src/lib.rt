@@ -1,5 +1,7 @@
 // The schema rules 11 to 15: what the interfaces that a definition implements ask of its fields. Each rule's first place, or none.
 // Of the table nothing is asked but its sizes.
+#![tactic(auto)]
+
 ghost use Rattle.std.specs.Prelude.{◌≡◌, true, ◌-◌, ◌<◌};
 ghost use mathlib.Core.List.{head?};
 ghost use Rattle.paper_table.specs.Lists.{all_of, each};

@@ -1,5 +1,7 @@
 // Whether a definition keeps the rules 4 to 8, in one walk over its members and their arguments: if the answer is true it does.
 // What breaks a rule, and where, crate rules says. Of the table nothing is asked but its sizes.
+#![tactic(auto)]
+
 ghost use Rattle.std.specs.Prelude.{◌≡◌, true, false, ◌+◌, ◌≤◌, ◌<◌, length};
 ghost use Rattle.paper_table.specs.TableNumbers.{most_table};
 ghost use Rattle.paper_table.specs.Types.{table_of};

@@ -1,5 +1,7 @@
 // The first member, argument or implemented name of a record that breaks a schema rule; a member's arguments come before itself.
 // Nothing is asked of the table but its sizes.
+#![tactic(auto)]
+
 ghost use Rattle.std.specs.Prelude.{◌≡◌, ◌+◌, ◌≤◌, ◌<◌, length};
 ghost use mathlib.Core.List.{head?};
 ghost use Rattle.paper_table.specs.TableNumbers.{most_table};

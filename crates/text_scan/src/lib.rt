@@ -1,4 +1,6 @@
 // The parts of strings and comments; words; and what the token reader answers.
+#![tactic(auto)]
+
 ghost use Rattle.std.specs.Prelude.{◌≡◌, ◌+◌, ◌-◌, ◌≤◌, ◌<◌, length, take, drop};
 ghost use Rattle.paper.specs.Lexical.{hits_byte, hex, escaped};
 ghost use Rattle.paper.specs.Tokens.{same};

@@ -1,4 +1,6 @@
 // Strings and comments, each as a whole.
+#![tactic(auto)]
+
 ghost use Rattle.std.specs.Prelude.{◌≡◌, ◌<◌, length, drop, get_or};
 ghost use Rattle.text_scan.specs.Piece.{token_here, ignored_here};
 

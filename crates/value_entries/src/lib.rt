@@ -1,5 +1,7 @@
 // The rows right below an object's, a list's or a field's: the first and the next of them, the first entry whose name an earlier one has,
 // the first of a name that nothing due has, the entry of a name; and what a content makes due, one by one.
+#![tactic(auto)]
+
 ghost use Rattle.std.specs.Prelude.{◌≡◌, ◌&&◌, not, [], ℕ, ◌+◌, ◌-◌, ◌≤◌, ◌<◌, length};
 ghost use Rattle.paper.specs.Tokens.{same};
 ghost use Rattle.paper_table.specs.Lists.{any_of};

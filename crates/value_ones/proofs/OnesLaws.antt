@@ -7,8 +7,8 @@ use lib.ListN.{length}
 use Rattle.table_fields.specs.Wrappers.{pack_limit}
 use Rattle.paper_values.specs.ValueNumbers.{tag_list}
 use Rattle.paper_values.specs.Values.{At, Tree, Many, no_more, also, Out, Got, No, and_then}
-use Rattle.paper_values.specs.Encoding.{encode, encode_all}
-use Rattle.value_writing.specs.Writing.{most_limit, place_of, Put, Room, Closed, Behind}
+use Rattle.paper_values.specs.Encoding.{encode}
+use Rattle.value_writing.specs.Writing.{most_limit, place_of, Room, Closed, Behind}
 use Rattle.value_writing.proofs.PlaceLaws.{place_in, place_add, place_back, place_least, put_none, put_place}
 use Rattle.value_writing.proofs.EncodedLaws.{no_items_put, item_put, list_put}
 use Rattle.value_kinds.specs.declared.Coerced.{Coerced}

@@ -1,4 +1,6 @@
 // The wrappers of a type: how many are lists, and those without Non-Null outside; and the heads of lists of one, each in the other.
+#![tactic(auto)]
+
 ghost use Rattle.std.specs.Prelude.{◌≡◌, List, ℕ, ◌+◌, ◌*◌, ◌%◌, ◌≤◌, ◌<◌};
 ghost use Rattle.paper_table.specs.References.{Ref};
 ghost use Rattle.table_fields.specs.Wrappers.{pack_of, pack_limit};

@@ -1,13 +1,8 @@
 -- `call_buffers::clear` meets its contract: before turn i the numbers from `from` up to i are 0.
-use mathlib.Core.Path.{◌≡◌, refl, ap, ◌∙◌}
-use mathlib.Core.List.{List}
-use Prim.Native.Nat.{ℕ, ◌-◌, ◌≤◌}
-use native.Mathlib.Nat.{le_refl, sub_self}
-use native.Mathlib.Omega.{arith}
-use borrow.Author.Rules.{rules}
-use lib.ListN.{length, set, replicate, length-set}
+use mathlib.Core.Path.{◌≡◌}
+use Prim.Native.Nat.{◌-◌, ◌≤◌}
+use lib.ListN.{length, replicate}
 use lib.Seq.{sets}
-use Rattle.call_buffers.proofs.BufferLaws.{clear_more, clear_end}
 use Rattle.call_buffers.proofs.clear.Given as goal
 
 abbrev pub invariant-loop-i : goal.invariant-loop-i

@@ -1,5 +1,4 @@
 -- `call_buffers::sizes_met` meets its contract: each way to its end is one case.
-use borrow.Author.Rules.{rules}
 use Rattle.call_buffers.specs.Buffers.{short_rows, long_document, long_table}
 use Rattle.call_buffers.proofs.sizes_met.Goals as goal
 

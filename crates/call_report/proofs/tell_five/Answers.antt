@@ -1,6 +1,5 @@
 -- `call_report::tell_five` meets its contract: eight stores are the whole report.
 use native.Mathlib.Omega.{arith}
-use borrow.Author.Rules.{rules}
 use lib.ListN.{length-set}
 use Rattle.call_report.proofs.ReportLaws.{told}
 use Rattle.call_report.proofs.tell_five.Goals as goal

@@ -2,7 +2,6 @@
 use mathlib.Core.Path.{sym, ◌∙◌}
 use mathlib.Core.Bool.{true, false}
 use Rattle.call_report.proofs.ReportLaws.{text_told}
-use borrow.Author.Rules.{rules}
 use Rattle.call_report.proofs.tell_in_text.Goals as goal
 
 pub returns-then-is_of_text : goal.returns-then-is_of_text

@@ -1,5 +1,4 @@
 -- `call_report::tell_refusal` meets its contract: its number and what it shows are the whole report.
-use borrow.Author.Rules.{rules}
 use Rattle.call_report.proofs.ReportLaws.{refusal_told}
 use Rattle.call_report.proofs.tell_refusal.Goals as goal
 

@@ -1,5 +1,4 @@
 -- `call_report::tell_table` meets its contract: each variant has its own numbers to show.
-use borrow.Author.Rules.{rules}
 use Rattle.call_report.proofs.ReportLaws.{table_told}
 use Rattle.call_report.proofs.tell_table.Goals as goal
 

@@ -1,13 +1,10 @@
 -- A letter, and the bytes of names behind it go to the end.
 use mathlib.Core.Path.{sym, ◌∙◌}
-use Prim.Native.Nat.{◌-◌}
 use native.Mathlib.Omega.{arith}
 use Rattle.table_fields.proofs.BoundsLaws.{later}
-use borrow.Author.Tests.{not-true, not-false}
 use lib.ListN.{get_or}
 use Rattle.text_characters.proofs.ByteLaws.{letter_byte}
 use Rattle.table_fields.proofs.NameLaws.{name_none, name_no, name_by}
-use borrow.Author.Rules.{rules}
 use Rattle.table_fields.proofs.is_name.Goals as goal
 
 pub returns-then-start-end : goal.returns-then-start-end

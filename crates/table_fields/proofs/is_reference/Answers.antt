@@ -1,6 +1,5 @@
 -- There is a reference if one is read.
 use Rattle.table_fields.proofs.RefLaws.{read_is, bad_is}
-use borrow.Author.Rules.{rules}
 use Rattle.table_fields.proofs.is_reference.Goals as goal
 
 pub returns-in_default : goal.returns-in_default

@@ -2,7 +2,6 @@
 use native.Mathlib.Omega.{arith}
 use Prim.Native.Nat.{◌+◌}
 use borrow.Author.Tests.{lt-ltb, le-ltb, le-leb, lt-leb}
-use borrow.Author.Rules.{rules}
 use Rattle.table_fields.proofs.read_field.Goals as goal
 
 pub returns-then-end-at-lt3 : goal.returns-then-end-at-lt3

@@ -1,5 +1,4 @@
 -- One answer for each case of the byte.
-use Prim.Native.Nat.{◌-◌}
 use borrow.Author.Tests.{eq-eqb, ne_eqb}
 use Rattle.table_fields.proofs.wrapper.Goals as goal
 

@@ -1,11 +1,8 @@
 -- `begins`: the bytes that are left to compare, of the text and of the word, are the same just where all are.
-use mathlib.Core.Path.{◌≡◌, ◌∙◌}
-use Prim.Native.Nat.{◌≤◌, ◌-◌}
-use lib.ListN.{length, take, drop}
+use mathlib.Core.Path.{◌∙◌}
 use borrow.Author.Rules.{rules}
 use native.Mathlib.Omega.{arith}
-use Rattle.paper.specs.Tokens.{same}
-use Rattle.text_scan.proofs.WordLaws.{same_from, same_whole, same_more, same_stop, same_all}
+use Rattle.text_scan.proofs.WordLaws.{same_whole, same_more, same_stop, same_all}
 use Rattle.text_scan.proofs.begins.Goals as goal
 
 pub loop-i-init : goal.loop-i-init

@@ -1,11 +1,9 @@
 -- `begins`: the bytes that are left to compare, of the text and of the word, are the same just where all are.
-use mathlib.Core.Path.{◌≡◌, ◌∙◌}
+use mathlib.Core.Path.{◌≡◌}
 use Prim.Native.Nat.{◌≤◌, ◌-◌}
 use lib.ListN.{length, take, drop}
-use borrow.Author.Rules.{rules}
-use native.Mathlib.Omega.{arith}
 use Rattle.paper.specs.Tokens.{same}
-use Rattle.text_scan.proofs.WordLaws.{same_from, same_whole, same_more, same_stop, same_all}
+use Rattle.text_scan.proofs.WordLaws.{same_from}
 use Rattle.text_scan.proofs.begins.Given as goal
 
 abbrev pub invariant-loop-i : goal.invariant-loop-i

@@ -1,10 +1,8 @@
 -- `comment_end`: at each turn whole characters lie behind, and the text holds them.
 use Prim.Native.Nat.{◌≤◌, ◌-◌}
-use native.Mathlib.Omega.{arith}
 use lib.ListN.{length}
 use Rattle.text_characters.specs.Characters.{character_size}
 use Rattle.text_scan.specs.Parts.{Runs}
-use Rattle.text_scan.proofs.CharacterRuns.{run_none, run_more, run_stop, run_over, no_character, character_fits}
 use Rattle.text_scan.proofs.comment_end.Given as goal
 
 abbrev pub invariant-loop-i : goal.invariant-loop-i

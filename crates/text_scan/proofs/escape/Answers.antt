@@ -4,7 +4,6 @@ use mathlib.Core.Bool.{true, false}
 use Prim.Native.Nat.{◌+◌}
 use native.Mathlib.Omega.{arith}
 use Rattle.text_scan.proofs.PartLaws.{escape_none, escape_u, escape_other}
-use borrow.Author.Rules.{rules}
 use Rattle.text_scan.proofs.escape.Goals as goal
 
 pub returns-then-s-i : goal.returns-then-s-i

@@ -3,7 +3,6 @@ use mathlib.Core.Path.{sym, refl, ◌∙◌}
 use mathlib.Core.Bool.{true, false}
 use native.Mathlib.Omega.{arith}
 use Rattle.text_scan.proofs.PartLaws.{four_short, four_fit}
-use borrow.Author.Rules.{rules}
 use Rattle.text_scan.proofs.four_hex.Goals as goal
 
 pub returns-then-s-i-lt4 : goal.returns-then-s-i-lt4

@@ -1,8 +1,6 @@
 -- `string_end`: at each turn whole characters and escapes lie behind, and the text holds them.
-use Prim.Native.Nat.{◌≤◌, ◌-◌}
 use native.Mathlib.Omega.{arith}
-use lib.ListN.{length}
-use Rattle.text_scan.specs.Parts.{Runs, part_size}
+use Rattle.text_scan.specs.Parts.{part_size}
 use Rattle.text_scan.proofs.CharacterRuns.{run_none, run_more, run_stop, run_over, no_part, part_fits}
 use Rattle.text_scan.proofs.string_end.Goals as goal
 

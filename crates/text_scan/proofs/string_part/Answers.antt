@@ -2,7 +2,6 @@
 use mathlib.Core.Path.{◌∙◌}
 use native.Mathlib.Omega.{arith}
 use Rattle.text_scan.proofs.PartLaws.{part_escape, part_quote, part_other}
-use borrow.Author.Rules.{rules}
 use Rattle.text_scan.proofs.string_part.Goals as goal
 
 pub returns-then-b-eq92 : goal.returns-then-b-eq92

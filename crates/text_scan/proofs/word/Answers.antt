@@ -2,7 +2,6 @@
 use mathlib.Core.Path.{refl, sym, ◌∙◌}
 use mathlib.Core.Bool.{true, false}
 use Rattle.text_scan.proofs.WordLaws.{word_2, word_4, word_5, word_8, word_12, word_none}
-use borrow.Author.Rules.{rules}
 use Rattle.text_scan.proofs.word.Goals as goal
 
 pub returns-then-begins : goal.returns-then-begins

@@ -2,7 +2,6 @@
 use native.Mathlib.Omega.{arith}
 use Rattle.text_scan.proofs.CharacterRuns.{run_past}
 use Rattle.text_strings.proofs.StringLaws.{comment_whole, comment_lf, comment_cr, comment_bad}
-use borrow.Author.Rules.{rules}
 use Rattle.text_strings.proofs.comment.Goals as goal
 
 pub returns-then-s-e : goal.returns-then-s-e

@@ -1,6 +1,5 @@
 -- `string`: by what stands where its characters end.
 use Rattle.text_strings.proofs.StringLaws.{string_found, string_other, string_unended}
-use borrow.Author.Rules.{rules}
 use Rattle.text_strings.proofs.string.Goals as goal
 
 pub returns-then-s-e-eq34 : goal.returns-then-s-e-eq34

@@ -1,0 +1,13 @@
+-- A walk over a field's arguments.
+use Prim.Native.Nat.{◌-◌}
+use Rattle.paper_table.specs.Types.{table_of}
+use Rattle.table_members.specs.Members.{arguments_in}
+use Rattle.table_walks.proofs.Walked.{Walking}
+use Rattle.table_walks.proofs.ArgumentLaws.{argument_faults}
+use Rattle.table_walks.proofs.arguments_place.Given as goal
+
+abbrev pub invariant-loop-from : goal.invariant-loop-from
+invariant-loop-from l = Walking (argument_faults l.rule (table_of l.t) (arguments_in l.t l.start l.end) l.m) l.start l.end l.i l.a (arguments_in l.t l.start l.end) (arguments_in l.t l.i l.end)
+
+abbrev pub decreases-loop-from : goal.decreases-loop-from
+decreases-loop-from l = l.end - l.i
