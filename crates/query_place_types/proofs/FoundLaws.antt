@@ -1,10 +1,9 @@
 -- The type of an argument or input field that a search of the entries finds.
 use mathlib.Core.Path.{◌≡◌, subst}
 use mathlib.Core.Bool.{Bool, true}
-use mathlib.Core.Option.{none, some}
+use mathlib.Core.Option.{some}
 use mathlib.Core.List.{List, []}
 use Prim.Native.Nat.{ℕ, ◌≤◌, ◌<◌}
-use lib.ListN.{length}
 use Rattle.paper.proofs.Bools.{and_left}
 use Rattle.paper_table.specs.Lists.{all_of, find}
 use Rattle.paper_table.specs.References.{named}

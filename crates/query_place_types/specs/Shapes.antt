@@ -1,6 +1,6 @@
 -- A place's type as two numbers.
 -- Assumes nothing.
-use Rattle.std.specs.Prelude.{◌≡◌, Bool, true, not, ◌&&◌, cond, List, ℕ, suc, ◌-◌, ◌≤◌, ◌<◌, length, eqb, leb}
+use Rattle.std.specs.Prelude.{◌≡◌, Bool, true, not, ◌&&◌, cond, List, ℕ, suc, ◌-◌, ◌≤◌, eqb, leb}
 use Rattle.std.proofs.Math.Option.{Option, none, some}
 use Rattle.paper.specs.Numbers.{most_wrappers}
 use Rattle.paper_table.specs.TableNumbers.{tag_object, tag_union}

@@ -1,4 +1,6 @@
 // The type of a place as two numbers: a list's items', and that of an argument or input field of a table.
+#![tactic(auto)]
+
 ghost use Rattle.std.specs.Prelude.{◌≡◌, true, ◌≤◌, ◌<◌};
 ghost use Rattle.paper_table.specs.Lists.{all_of, find};
 ghost use Rattle.paper_table.specs.Types.{member_named};
