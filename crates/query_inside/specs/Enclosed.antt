@@ -5,7 +5,6 @@ use Rattle.paper.specs.Numbers.{kind_operation, kind_fragment, kind_field, kind_
 use Rattle.paper_table.specs.Types.{table_of}
 use Rattle.paper_query.specs.Enclosing.{type_inside, field_at}
 use Rattle.table_types.specs.Booked.{Booked}
-use Rattle.table_entries.specs.Entries.{Entered}
 use Rattle.query_rows.specs.Rowed.{row_in, rows_in, doc_of, Rowed, room_of}
 use Rattle.query_links.specs.Links.{Family}
 use Rattle.query_types.specs.Coded.{type_coded}

@@ -1,5 +1,7 @@
 // The type inside each row of a document, and what each field is in the type that encloses it; kept for the rules that need a type.
 // Operations, fragments, fields and inline fragments have them; what is kept of other rows is left alone.
+#![tactic(auto)]
+
 ghost use Rattle.std.specs.Prelude.{◌≡◌, true, suc, ◌<◌, length};
 ghost use Rattle.paper.specs.Numbers.{kind_field};
 ghost use Rattle.paper_table.specs.Types.{table_of};

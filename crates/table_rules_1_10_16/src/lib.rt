@@ -1,5 +1,7 @@
 // The schema rules 1 to 10 and 16 on one definition of a table: the first place that breaks the rule, if any.
 // Nothing is asked of the table but its sizes.
+#![tactic(auto)]
+
 ghost use Rattle.std.specs.Prelude.{◌≡◌, ◌&&◌, ◌||◌, ◌+◌, ◌≤◌, ◌<◌, length, eqb};
 ghost use mathlib.Core.List.{head?};
 ghost use Rattle.paper_table.specs.Lists.{only_if};
