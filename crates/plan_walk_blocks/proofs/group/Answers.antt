@@ -1,0 +1,43 @@
+use mathlib.Core.Path.{◌≡◌, refl, sym, ap, ◌∙◌, subst}
+use mathlib.Core.Logic.{inl, inr}
+use Prim.Native.Nat.{ℕ, suc, ◌+◌, ◌*◌, ◌-◌, ◌≤◌, ◌<◌}
+use native.Mathlib.Omega.{arith}
+use lib.ListN.{length}
+use Rattle.paper_plan.specs.PlanNumbers.{blocks_in}
+use Rattle.plan_walk_steps.specs.Numbers.{Over}
+use Rattle.plan_walk_blocks.specs.Answers.{after_all, before}
+use Rattle.plan_walk_blocks.proofs.BlocksLaws.{block_ready, block_walks, Going, going_start, going_over, going_on, going_end}
+use Rattle.plan_walk_blocks.proofs.GroupLaws.{before_found, before_on, before_none, Emits, emits_start, emits_below, emits_found, emits_past, emits_end, Groups, groups_start, groups_past, groups_room, groups_more, groups_end}
+use borrow.Author.Rules.{rules}
+use Rattle.plan_walk_blocks.proofs.group.Goals as goal
+
+pub loop-i-init : goal.loop-i-init
+loop-i-init c = groups_start c.args.found.now c.args.n _
+
+pub came_before-requires : goal.came_before-requires
+came_before-requires c = let l = c.loop-i in
+    (omega (arith, c.requires.0, l.invariant.high), omega (arith, c.requires.1, l.invariant.high))
+
+pub loop-i-preserved-then-came_before : goal.loop-i-preserved-then-came_before
+loop-i-preserved-then-came_before c = let a = c.args in
+    let l = c.loop-i in
+    groups_past a.found.now a.n _ _ _ l.i l.invariant c.loop-i-test.true (sym c.came_before.ensures ∙ c.if-came_before.true)
+
+pub emit-m-requires : goal.emit-m-requires
+emit-m-requires c = let a = c.args in
+    let l = c.loop-i in
+    let p = c.requires in
+    (p.0, omega (arith, l.invariant.high), p.1, omega (arith, p.2, l.invariant.size), groups_room a.found.now a.n _ _ l.m l.i l.invariant c.loop-i-test.true (sym c.came_before.ensures ∙ c.if-came_before.false) p.1)
+
+pub loop-i-preserved : goal.loop-i-preserved
+loop-i-preserved c = let a = c.args in
+    let l = c.loop-i in
+    groups_more a.found.now a.n _ _ l.m l.i l.invariant c.loop-i-test.true (sym c.came_before.ensures ∙ c.if-came_before.false) _ _ c.emit-m.auto.out c.emit-m.ensures
+
+pub shape_of-out : goal.shape_of-out
+shape_of-out c = c.loop-i.invariant.size
+
+pub returns : goal.returns
+returns c = let a = c.args in
+    let l = c.loop-i in
+    groups_end a.found.now a.n _ _ l.m l.i l.invariant c.loop-i-test.false
