@@ -13,7 +13,7 @@ ROW = re.compile(r"^\| `(\w+)` \| (\d+) \|.* (\d+) \|$", re.M)
 def crates():
     """the crates of crates.txt, in its order"""
     lines = (line.split("#")[0].strip() for line in open(os.path.join(ROOT, "crates.txt")))
-    return [line.split(":")[0] for line in lines if line]
+    return [line.split(":")[0].split()[0] for line in lines if line]
 
 
 def lines_of(pattern, comment):

@@ -21,7 +21,8 @@ def crates():
         if found:
             heading = found.group(1)
         elif line and not line.startswith("#"):
-            name, rest = line.split(":")
+            name, rest = (part.strip() for part in line.split(":"))
+            name = name.split()[0]
             deps[name] = [d for d in rest.split() if d not in KIT]
             under[name] = heading
     return deps, under

@@ -128,7 +128,7 @@ def edits():
 
 
 def crates():
-    return [line.split(":")[0] for line in (ROOT / "crates.txt").read_text().split("\n") if line.strip() and not line.startswith("#")]
+    return [line.split(":")[0].split()[0] for line in (ROOT / "crates.txt").read_text().split("\n") if line.strip() and not line.startswith("#")]
 
 
 def names_of(text):
@@ -175,7 +175,7 @@ def named_edits(text):
 
 
 def named_theorems(text):
-    return re.findall(r"(?<![\w-])[a-z0-9]+(?:-[a-z0-9]+)+", text)
+    return re.findall(r"(?<![\w-])[a-z0-9]+(?:_[a-z0-9]+)+(?![\w`/])", text)
 
 
 def named_notes(text):

@@ -1,8 +1,8 @@
 -- A step's test, path by path; blocks and head make a well-formed plan, and it is one that can be walked.
-use mathlib.Core.Path.{◌≡◌, refl, sym, ap, ◌∙◌, subst}
-use mathlib.Core.Bool.{Bool, true, false, cond, true≢false}
+use mathlib.Core.Path.{◌≡◌, sym, ap, ◌∙◌, subst}
+use mathlib.Core.Bool.{Bool, true, false, true≢false}
 use mathlib.Core.List.{List}
-use Prim.Native.Nat.{ℕ, suc, ◌+◌, ◌*◌, ◌≤◌, ◌<◌}
+use Prim.Native.Nat.{ℕ, suc, ◌+◌, ◌≤◌, ◌<◌}
 use native.Mathlib.Decide.{dec_lt}
 use native.Mathlib.Omega.{arith}
 use lib.ListN.{length, get_or}
@@ -10,7 +10,6 @@ use lib.Dec.{ltb, eqb}
 use borrow.Author.Tests.{lt-ltb, le-ltb, ltb-true, ltb-false, eqb-true, eqb-false}
 use Rattle.paper_table.specs.Types.{Table, table_of, is_composite}
 use Rattle.paper_query.specs.Enclosing.{definition_at}
-use Rattle.table_book.specs.Book.{count_in, room}
 use Rattle.table_types.specs.Booked.{Booked}
 use Rattle.query_rows.specs.Rowed.{Decides}
 use Rattle.query_types.proofs.CompositeLaws.{output_below}

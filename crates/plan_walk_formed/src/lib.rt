@@ -1,4 +1,6 @@
 // Whether the numbers of a lent plan are well-formed.
+#![tactic(auto)]
+
 ghost use Rattle.std.specs.Prelude.{◌≡◌, ◌+◌, ◌≤◌, ◌<◌, length, get_or};
 ghost use Rattle.paper_table.specs.Types.{table_of};
 ghost use Rattle.table_types.specs.Booked.{Booked};

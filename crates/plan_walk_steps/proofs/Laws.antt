@@ -1,6 +1,6 @@
 -- Laws for the walk's code.
 use mathlib.Core.Path.{◌≡◌, refl, sym, ap, ◌∙◌, subst}
-use mathlib.Core.Bool.{Bool, true, false, cond, not, ◌&&◌, ◌||◌}
+use mathlib.Core.Bool.{Bool, true, false, cond, ◌||◌}
 use mathlib.Core.List.{List, [], ◌∷◌, ◌++◌, append_assoc}
 use Prim.Native.Nat.{ℕ, zero, suc, ◌+◌, ◌*◌, ◌-◌, ◌≤◌, ◌<◌}
 use native.Mathlib.Omega.{arith}
@@ -9,10 +9,10 @@ use lib.ListN.{length, get_or, take, set, length-append, length-set}
 use lib.Seq.{take-suc-set, get_or-set_same, get_or-set_other}
 use Rattle.plan_theory.proofs.Same.{arrived, now}
 use lib.Dec.{eqb, ltb}
-use borrow.Author.Tests.{eqb-true, eqb-false, eq-eqb, ne_eqb, le-ltb, lt-ltb}
+use borrow.Author.Tests.{eqb-true, eqb-false, ne_eqb, lt-ltb}
 use Rattle.paper_plan.specs.Collecting.{elem, Pair}
 use Rattle.paper_plan.specs.Planning.{Test, if_true, unless_true, unless_applies, if_met, Step, leave, list, State, says, marks_after, does, goal, walk}
-use Rattle.plan_walk_steps.specs.Numbers.{test_of, step_of, step_at, steps_from, is_one, Marks, pair_numbers, Listed, Over, Held, block_walk, Formed, Ready, Walked}
+use Rattle.plan_walk_steps.specs.Numbers.{test_of, step_of, step_at, steps_from, is_one, Marks, pair_numbers, Listed, Held, block_walk, Formed, Ready, Walked}
 
 pub test_1 : (k a : ℕ) → k ≡ 1 → test_of k a ≡ if_true a
 unfolding test_of

@@ -1,15 +1,14 @@
 -- A plan's numbers read back as its steps; blocks as parts of the numbers; a walk asks of the object type only what its steps name.
-use mathlib.Core.Path.{◌≡◌, refl, sym, ap, ◌∙◌, subst}
-use mathlib.Core.Bool.{Bool, true, false, cond, not}
+use mathlib.Core.Path.{◌≡◌, refl, sym, ap, ◌∙◌}
+use mathlib.Core.Bool.{Bool, cond, not}
 use mathlib.Core.List.{List, [], ◌∷◌, ◌++◌, append_assoc}
 use Prim.Native.Nat.{ℕ, zero, suc, ◌+◌, ◌*◌, ◌-◌, ◌≤◌, ◌<◌}
-use native.Mathlib.Nat.{add-zero}
 use native.Mathlib.Omega.{arith}
 use lib.ListN.{length, get_or, take, drop, replicate, length-append, length-replicate, get_or-append}
 use lib.Seq.{get_or-append-add}
-use lib.Dec.{eqb, ltb}
+use lib.Dec.{ltb}
 use Rattle.paper_table.specs.Lists.{gather}
-use Rattle.paper_plan.specs.Planning.{Test, if_true, unless_true, unless_applies, if_met, Step, leave, list, Plan, State, says, marks_after, does, goal, walk}
+use Rattle.paper_plan.specs.Planning.{if_true, unless_true, unless_applies, if_met, Step, leave, list, Plan, State, does, goal, walk}
 use Rattle.paper_plan.specs.PlanNumbers.{most_blocks, step_numbers, plan_numbers, first_in}
 use Rattle.plan_walk_steps.specs.Numbers.{test_of, step_of, step_at, steps_from}
 

@@ -1,4 +1,6 @@
 // The walk's inner loop, over the plan's numbers.
+#![tactic(auto)]
+
 ghost use Rattle.std.specs.Prelude.{◌≡◌, List, ℕ, ◌≤◌, ◌<◌, length};
 ghost use Rattle.paper_plan.specs.Planning.{says};
 ghost use Rattle.plan_walk_steps.specs.Numbers.{test_of, is_one, Marks, Ready, Walked};

@@ -1,6 +1,6 @@
 -- Which type conditions apply to an object type, a byte for each record.
 -- Assumes nothing.
-use Rattle.std.specs.Prelude.{◌≡◌, Bool, true, false, ◌&&◌, cond, List, ℕ, ◌<◌, ◌≤◌, length, get_or, ltb}
+use Rattle.std.specs.Prelude.{◌≡◌, Bool, true, false, ◌&&◌, List, ℕ, ◌<◌, length, get_or, ltb}
 use Rattle.paper_table.specs.Types.{Table}
 use Rattle.table_book.specs.Book.{room}
 use Rattle.paper_plan.specs.Applies.{applies}

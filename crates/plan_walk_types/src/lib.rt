@@ -1,4 +1,6 @@
 // Which type conditions apply to an object type, found once before a walk: a byte for each of the table's records.
+#![tactic(auto)]
+
 ghost use Rattle.std.specs.Prelude.{◌≡◌, ◌&&◌, ◌≤◌, ◌<◌, length, get_or, ltb};
 ghost use Rattle.paper_table.specs.Types.{table_of};
 ghost use Rattle.table_book.specs.Book.{room, count_in};

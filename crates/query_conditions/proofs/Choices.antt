@@ -182,5 +182,5 @@ module _ (t : Table) (d : Doc) (judged : Judged t d Fits) (rows : Below d.rows) 
       reached : Reaches d op g.value
       reached =
           reach_below op g.value g.argument kind_variable g.is_variable tt g.below_argument
-          (reach_below op g.argument g.directive kind_argument g.is_argument tt g.below_directive
+          (reach_below op g.argument g.directive kind_argument g.is_argument_is tt g.below_directive
           (reach_below op g.directive i kind_directive g.is_directive tt g.below_it r))

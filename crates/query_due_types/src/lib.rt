@@ -1,4 +1,6 @@
 // The type that is due at one argument, object field or value of a document, given that due at its parent.
+#![tactic(auto)]
+
 ghost use Rattle.paper_table.specs.Types.{table_of};
 ghost use Rattle.paper_query.specs.Constructs.{name_of};
 ghost use Rattle.paper_query.specs.Enclosing.{then};

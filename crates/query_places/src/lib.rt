@@ -1,4 +1,6 @@
 // The type that is due at each argument, object field and value of a document, by a table, kept for each row; whether a variable definition's is no input type.
+#![tactic(auto)]
+
 ghost use Rattle.std.specs.Prelude.{◌≡◌, ◌+◌, ◌<◌, length};
 ghost use Rattle.paper_table.specs.Types.{table_of};
 ghost use Rattle.paper_query.specs.Rule11VariableType.{no_input_type};

@@ -1,4 +1,6 @@
 // The query rules 5 and 6: what a table says of fields and their selections. They are judged where the enclosing type is known.
+#![tactic(auto)]
+
 ghost use Rattle.std.specs.Prelude.{◌≡◌, ◌<◌};
 ghost use Rattle.paper_table.specs.Types.{table_of};
 ghost use Rattle.paper_query.specs.Rule5Field.{field_not_of_type};

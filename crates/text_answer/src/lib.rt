@@ -1,4 +1,6 @@
 // Reads a document into rows of the fixed size, and leaves nothing else in them; and the whole answer to `gw_parse`.
+#![tactic(auto)]
+
 ghost use Rattle.std.specs.Prelude.{◌≡◌, ◌≤◌, length};
 ghost use Rattle.paper.specs.Numbers.{most_text, rows_size};
 ghost use Rattle.paper.specs.Language.{Document};

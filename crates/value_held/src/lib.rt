@@ -1,5 +1,7 @@
 // The values that are held of variables, and which entries of a row are given: those of a name, the first that is repeated or unknown, and
 // what is answered where nothing is given.
+#![tactic(auto)]
+
 ghost use Rattle.std.specs.Prelude.{◌≡◌, ◌⊎◌, List, [], ℕ, ◌+◌, ◌-◌, ◌*◌, ◌≤◌, ◌<◌, length};
 ghost use Rattle.paper.specs.Numbers.{row_size, kind_variable, kind_null};
 ghost use Rattle.paper_query.specs.Constructs.{name_of};

@@ -1,27 +1,27 @@
 -- Rows in their text, and what a row is at the base of a type.
 use mathlib.Core.Path.{◌≡◌, refl, sym, ap, subst, ◌∙◌}
-use mathlib.Core.Bool.{Bool, true, false, ◌&&◌, ◌||◌, cond}
+use mathlib.Core.Bool.{Bool, true, false, ◌||◌, cond}
 use mathlib.Core.Option.{Option, none, some}
-use mathlib.Core.List.{List, []}
-use Prim.Native.Nat.{ℕ, ◌+◌, ◌-◌, ◌*◌, ◌≤◌, ◌<◌}
+use mathlib.Core.List.{List}
+use Prim.Native.Nat.{ℕ, ◌+◌, ◌-◌, ◌≤◌, ◌<◌}
 use native.Mathlib.Omega.{arith}
 use native.Mathlib.Decide.{dec_lt}
-use lib.ListN.{length, get_or, take, drop}
-use lib.Dec.{eqb, ltb, leb}
-use borrow.Author.Tests.{eq-eqb, ne_eqb, eqb-true, eqb-false, lt-ltb, le-ltb, ltb-true, ltb-false}
-use Rattle.paper.specs.Numbers.{row_size, kind_variable, kind_integer, kind_float, kind_string, kind_boolean, kind_null, kind_enum, kind_list, kind_object_field, extra_true}
-use Rattle.paper_table.specs.References.{Ref, named}
+use lib.ListN.{length, take, drop}
+use lib.Dec.{eqb, ltb}
+use borrow.Author.Tests.{eq-eqb, ne_eqb, eqb-true, eqb-false, lt-ltb, le-ltb, ltb-false}
+use Rattle.paper.specs.Numbers.{kind_variable, kind_integer, kind_float, kind_string, kind_boolean, kind_null, kind_enum, kind_list, kind_object_field, extra_true}
+use Rattle.paper_table.specs.References.{named}
 use Rattle.paper.specs.Tokens.{same}
 use Rattle.paper_table.specs.Lists.{any_of}
 use Rattle.paper_table.specs.Types.{table_of}
-use Rattle.paper_query.specs.Constructs.{Doc, no_row, count, row_of, kind_of, extra_of, name_of}
+use Rattle.paper_query.specs.Constructs.{Doc, count, kind_of, extra_of, name_of}
 use Rattle.table_book.specs.Book.{part}
-use Rattle.query_rows.specs.Rowed.{cell, row_in, doc_of, Sized}
+use Rattle.query_rows.specs.Rowed.{row_in, doc_of}
 use Rattle.query_rows.proofs.RowsIn.{row_at_is, row_none}
 use Rattle.paper.specs.Rows.{Row}
 use Rattle.paper_values.specs.ValueNumbers.{reason_kind, reason_enum}
 use Rattle.paper_values.specs.Characters.{characters_of}
-use Rattle.paper_values.specs.Values.{Name, At, Value, variable, integer, float, string, boolean, null, enum, list, object, Values, Entries, Due, Tree, Bits, Decimal, Member, Out, Got, No}
+use Rattle.paper_values.specs.Values.{Name, At, Value, variable, integer, float, string, boolean, null, enum, list, object, Due, Tree, Bits, Decimal, Member, Out, Got, No}
 use Rattle.paper_values.specs.Kinds.{Kind, Int, Float, String, Boolean, ID, Own, Other, Enum, Input, kind_of_type}
 use Rattle.paper_values.specs.NumberTokens.{int_of, float_content}
 use Rattle.paper_values.specs.Coercion.{in_range, text_at, enum_value_at, integer_at, float_at, string_at, boolean_at, enum_at}
@@ -29,7 +29,7 @@ use Rattle.paper_values.specs.Computed.{object_at, coerce}
 use Rattle.paper_values.specs.RowValues.{placed, token_at, items_from, entries_from, value_by}
 use Rattle.value_leaves.specs.Leaves.{sort_of, Leaf}
 use Rattle.value_leaves.specs.declared.Wrote.{Wrote}
-use Rattle.value_leaves.specs.declared.Wrote.TheVariants.{UpTo, Refused}
+use Rattle.value_leaves.specs.declared.Wrote.TheVariants.{Refused}
 use Rattle.value_kinds.specs.declared.Coerced.TheVariants.{Refused as TheRefused}
 use Rattle.value_kinds.specs.Dues.{Sorted, told, Told}
 use Rattle.value_tokens.specs.Spans.{Spanned, is_object_kind, takes_fields, Tokened}

@@ -3,7 +3,7 @@
 use Rattle.std.specs.Prelude.{◌≡◌, Bool, ◌&&◌, ◌||◌, List, ℕ, ◌+◌, ◌≤◌, ◌<◌, length, eqb, ltb}
 use Rattle.paper.specs.Numbers.{kind_variable, kind_integer, kind_float, kind_string, kind_list, most_text}
 use Rattle.paper_query.specs.Constructs.{Doc, kind_of}
-use Rattle.query_rows.specs.Rowed.{cell, row_in, Sized}
+use Rattle.query_rows.specs.Rowed.{cell, Sized}
 use Rattle.paper_values.specs.ValueNumbers.{reason_kind}
 use Rattle.paper_values.specs.Characters.{characters_of}
 use Rattle.paper_values.specs.Values.{At}
@@ -12,7 +12,7 @@ use Rattle.paper_values.specs.Coercion.{integer_at, float_at, string_at}
 use Rattle.paper_values.specs.RowValues.{token_at}
 use Rattle.value_leaves.specs.Leaves.{sort_of, Leaf}
 use Rattle.value_leaves.specs.declared.Wrote.{Wrote}
-use Rattle.value_leaves.specs.declared.Wrote.TheVariants.{UpTo, Refused}
+use Rattle.value_leaves.specs.declared.Wrote.TheVariants.{Refused}
 
 -- the lent numbers hold n rows that lie in the bytes s, strings with their quotes
 pub record Spanned (s rows : List ℕ) (n : ℕ) : Type 0 where

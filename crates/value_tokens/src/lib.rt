@@ -1,4 +1,6 @@
 // Writes what a row holds that is no null, no variable and no object of fields, at the base of a type.
+#![tactic(auto)]
+
 ghost use Rattle.std.specs.Prelude.{◌≡◌, false, List, ℕ, ◌+◌, ◌≤◌, ◌<◌, length};
 ghost use Rattle.std.proofs.Math.Option.{Option};
 ghost use Rattle.paper.specs.Numbers.{kind_variable, kind_null};
