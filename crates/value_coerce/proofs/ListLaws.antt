@@ -6,7 +6,7 @@ use native.Mathlib.Omega.{arith}
 use Rattle.paper_table.specs.References.{Ref}
 use Rattle.paper_query.specs.Constructs.{Doc, parent_of}
 use Rattle.paper_values.specs.ValueNumbers.{tag_list}
-use Rattle.paper_values.specs.Values.{Name, Value, null, Values, no_values, item, Tree, Many, Trees, no_more, also, Out, Got, No, and_then}
+use Rattle.paper_values.specs.Values.{Name, Value, null, Values, item, Tree, Many, Trees, no_more, also, Out, Got, No, and_then}
 use Rattle.paper_values.specs.Kinds.{Kind}
 use Rattle.paper_values.specs.Computed.{coerce, coerce_all}
 use Rattle.paper_values.specs.Encoding.{encode, encode_all}

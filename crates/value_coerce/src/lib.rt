@@ -1,5 +1,7 @@
 // Coerces the value of a row at a type into the lent buffer, or refuses a row with a reason; and the entries of an object, or the arguments
 // of a field, where they are due. A variable is coerced anew at each of its places: its value stands in the document or in the variables text.
+#![tactic(auto)]
+
 ghost use Rattle.std.specs.Prelude.{◌≡◌, true, ℕ, ◌≤◌, ◌<◌};
 ghost use Rattle.std.proofs.Math.Option.{some};
 ghost use Rattle.paper_table.specs.Lists.{all_of};
