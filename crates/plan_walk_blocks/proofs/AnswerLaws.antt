@@ -1,21 +1,20 @@
 -- From the walk and the grouping to the answer; the plan that a plan's numbers say is that plan.
-use mathlib.Core.Path.{◌≡◌, refl, sym, ap, ◌∙◌, subst}
-use mathlib.Core.Bool.{Bool, true, false}
+use mathlib.Core.Path.{◌≡◌, refl, sym, ap, ◌∙◌}
+use mathlib.Core.Bool.{false}
 use mathlib.Core.Logic.{◌⊎◌, inl, inr}
 use mathlib.Core.List.{List, [], ◌∷◌, ◌++◌}
 use Prim.Native.Nat.{ℕ, zero, suc, ◌+◌, ◌*◌, ◌-◌, ◌≤◌, ◌<◌}
 use native.Mathlib.Omega.{arith}
-use lib.ListN.{length, get_or, take, drop, replicate, drop_of_length-le}
+use lib.ListN.{length, get_or, drop, replicate, drop_of_length-le}
 use lib.Seq.{drop-cons}
 use lib.Dec.{eqb}
-use Rattle.paper_plan.specs.Collecting.{Pair, elem, pairs}
-use Rattle.paper_plan.specs.Planning.{Step, Plan, State, grouped, walk_answer}
+use Rattle.paper_plan.specs.Planning.{Step, Plan}
 use Rattle.paper_plan.specs.PlanNumbers.{most_blocks, plan_numbers, first_in}
 use Rattle.call_buffers.specs.Buffers.{cleared}
-use Rattle.plan_walk_steps.specs.Numbers.{Marks, Listed, Over, Held, is_one, steps_from, pair_numbers}
+use Rattle.plan_walk_steps.specs.Numbers.{Marks, Listed, Over, Held, steps_from, pair_numbers}
 use Rattle.plan_walk_steps.proofs.TwoPass.{runs, two_pass}
 use Rattle.plan_walk_steps.proofs.PlanLaws.{plan_steps, plan_first}
-use Rattle.plan_walk_blocks.specs.Answers.{firsts_from, plan_in, after_all, pairs_from, Given, answer_of, TooMany, Holds, Answered}
+use Rattle.plan_walk_blocks.specs.Answers.{firsts_from, plan_in, after_all, pairs_from, Given, answer_of, TooMany, Holds}
 use Rattle.plan_walk_blocks.proofs.GroupLaws.{answer_length, pairs_listed}
 
 zero_at : (n f : ℕ) → get_or {A = ℕ} (replicate n 0) f 0 ≡ 0

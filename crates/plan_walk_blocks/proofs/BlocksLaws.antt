@@ -1,24 +1,23 @@
 -- Blocks as parts of the numbers; the walk block by block.
 use mathlib.Core.Path.{◌≡◌, refl, sym, ap, ◌∙◌, subst}
-use mathlib.Core.Bool.{Bool, true, false, cond}
 use mathlib.Core.Logic.{◌⊎◌, inl, inr}
-use mathlib.Core.List.{List, [], ◌∷◌, ◌++◌}
-use Prim.Native.Nat.{ℕ, zero, suc, ◌+◌, ◌*◌, ◌-◌, ◌≤◌, ◌<◌}
+use mathlib.Core.List.{List, [], ◌∷◌}
+use Prim.Native.Nat.{ℕ, zero, suc, ◌+◌, ◌-◌, ◌≤◌, ◌<◌}
 use native.Mathlib.Nat.{zero-add}
 use native.Mathlib.Decide.{dec_lt}
 use native.Mathlib.Omega.{arith}
 use lib.ListN.{length, get_or, take, drop, drop_of_length-le}
 use lib.Seq.{drop-cons}
 use Rattle.paper_plan.specs.Collecting.{Pair}
-use Rattle.paper_plan.specs.Planning.{Step, Plan, State, block_of, walk, blocks}
+use Rattle.paper_plan.specs.Planning.{Step, State, block_of, walk, blocks}
 use Rattle.paper_plan.specs.PlanNumbers.{blocks_in, steps_in, first_in, end_in, WellFormed}
 use Rattle.paper_table.specs.Types.{table_of}
 use Rattle.table_types.specs.Booked.{Booked}
-use Rattle.plan_walk_steps.specs.Numbers.{Formed, Marks, Listed, Over, Held, Ready, Walked, is_one, steps_from, step_at, block_walk, pair_numbers}
+use Rattle.plan_walk_steps.specs.Numbers.{Formed, Marks, Over, Held, Ready, Walked, is_one, steps_from, block_walk}
 use Rattle.plan_walk_steps.proofs.Laws.{longer}
 use Rattle.plan_walk_steps.proofs.PlanLaws.{steps_part}
 use Rattle.plan_walk_formed.proofs.FormedLaws.{end_next, end_last, formed_blocks, formed_walks}
-use Rattle.plan_walk_blocks.specs.Answers.{firsts_from, plan_in, Walkable, Room, after_block, Walks, after_all, Given}
+use Rattle.plan_walk_blocks.specs.Answers.{firsts_from, plan_in, Walkable, Room, after_block, Walks, after_all}
 
 steps_length : (p : List ℕ) (i n : ℕ) → length (steps_from p i n) ≡ n
 unfolding steps_from

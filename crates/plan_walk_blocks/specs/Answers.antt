@@ -2,11 +2,11 @@
 -- Assumes nothing.
 use Rattle.std.specs.Prelude.{◌≡◌, Bool, false, ◌||◌, ◌⊎◌, List, [], ◌∷◌, ◌++◌, ℕ, zero, suc, ◌+◌, ◌*◌, ◌-◌, ◌≤◌, ◌<◌, length, get_or, replicate, eqb}
 use Rattle.paper_plan.specs.Collecting.{Pair}
-use Rattle.paper_plan.specs.Planning.{Plan, State, block_of, walk, blocks, walk_answer}
+use Rattle.paper_plan.specs.Planning.{State, block_of, walk, blocks, walk_answer}
 use Rattle.paper_plan.specs.PlanNumbers.{plan_size, most_blocks, most_steps, blocks_in, steps_in, first_in, end_in}
 pub use Rattle.paper_plan.specs.LentPlan.{plan_in}
 unfoldable pub use Rattle.paper_plan.specs.LentPlan.{firsts_from}
-use Rattle.plan_walk_steps.specs.Numbers.{Formed, Marks, Listed, Over, Held, is_one, steps_from, pair_numbers}
+use Rattle.plan_walk_steps.specs.Numbers.{Formed, Marks, Listed, Over, Held, is_one, pair_numbers}
 use Rattle.plan_walk_steps.proofs.TwoPass.{by_key, runs}
 
 -- what a walk asks of a plan's numbers

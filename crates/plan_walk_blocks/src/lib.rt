@@ -1,4 +1,6 @@
 // The walk over blocks with one set of marks, and the pairs grouped by key.
+#![tactic(auto)]
+
 ghost use Rattle.std.specs.Prelude.{◌≡◌, List, [], ◌++◌, ◌+◌, ◌*◌, ◌-◌, ◌≤◌, ◌<◌, length, get_or};
 ghost use Rattle.paper_plan.specs.Collecting.{Pair};
 ghost use Rattle.paper_plan.specs.PlanNumbers.{blocks_in};

@@ -1,4 +1,6 @@
 // Whether two variables are alike, in name, place and owner: what operations say of the one, they say of the other.
+#![tactic(auto)]
+
 ghost use Rattle.std.specs.Prelude.{◌≡◌, true, ◌<◌, length, get_or, eqb};
 ghost use Rattle.paper.specs.Numbers.{kind_variable};
 ghost use Rattle.paper_table.specs.Types.{table_of};

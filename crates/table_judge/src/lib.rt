@@ -1,5 +1,7 @@
 // The first break of a table's schema: definition by definition, of each the sixteen rules in turn, then `Query`.
 // Nothing is asked of the table but its sizes.
+#![tactic(auto)]
+
 ghost use Rattle.std.specs.Prelude.{◌≡◌, true, ◌+◌, ◌≤◌, ◌<◌, length};
 ghost use Rattle.std.proofs.Math.Option.{none};
 ghost use mathlib.Core.List.{head?};

@@ -1,7 +1,7 @@
 -- The content of a field of a name in a type, by the table's bytes.
 use mathlib.Core.Path.{◌≡◌, refl, sym, ap, subst, ◌∙◌}
 use mathlib.Core.Bool.{Bool, true, false, ◌&&◌, ◌||◌, true≢false}
-use mathlib.Core.Option.{Option, none, some}
+use mathlib.Core.Option.{none}
 use mathlib.Core.List.{List, []}
 use Prim.Native.Nat.{ℕ, ◌-◌, ◌≤◌, ◌<◌}
 use native.Mathlib.Omega.{arith}
@@ -11,10 +11,10 @@ use borrow.Author.Tests.{eq-eqb, ne_eqb, eqb-true, eqb-false, leb-true}
 use Rattle.paper_table.specs.TableNumbers.{tag_object, tag_interface, tag_union, tag_field}
 use Rattle.paper_table.specs.Lists.{all_of, find}
 use Rattle.paper_table.specs.Types.{Member, Definition, table_of, is_object, is_interface, blank_definition, tag_nothing, name_only, type_in as type_of, member_named}
-use Rattle.paper_table.specs.Rule7NoType.{is_field_is}
+use Rattle.paper_table.specs.Rule7NoType.{is_field}
 use Rattle.paper_table.proofs.ListsLaws.{find_some}
 use Rattle.paper_query.proofs.EnclosingLaws.{Composite}
-use Rattle.paper_query.specs.Enclosing.{FieldIs, typename, member, missing, unknown, definition_at, composite_of, field_of, is_typename, or_missing, field_named, selections_type}
+use Rattle.paper_query.specs.Enclosing.{typename, member, missing, unknown, definition_at, composite_of, field_of, is_typename, or_missing, field_named, selections_type}
 use Rattle.table_fields.specs.Fields.{Bounds}
 use Rattle.table_book.specs.Book.{part, count_in}
 use Rattle.table_members.specs.Members.{fields_in, members_in, member_from, Typed, Finds}
@@ -101,9 +101,9 @@ module _ (t book : List ℕ) (b : Booked t book) where
             is_field_is : tag ≡ tag_field
             is_field_is =
                 let a : fields_only (definition_at (table_of t) k) ≡ true = all_at fields_only (blank_definition tag_nothing) (table_of t) f k (omega (arith, below, b.count)) in
-                let m : all_of is_field_is (members_in t start end) ≡ true = sym (ap (all_of is_field_is) members_are) ∙ (rw has_fields at a) in
+                let m : all_of is_field (members_in t start end) ≡ true = sym (ap (all_of is_field) members_are) ∙ (rw has_fields at a) in
                 let z = find_some (member_named n) (members_in t start end) (member_from t tag from to) (name_only tag_nothing []) s.is in
-                let y : is_field_is (member_from t tag from to) ≡ true = subst (λ (e : Member). is_field_is e ≡ true) z.2 (all_at is_field_is (name_only tag_nothing []) (members_in t start end) m z.0 z.1) in
+                let y : is_field (member_from t tag from to) ≡ true = subst (λ (e : Member). is_field e ≡ true) z.2 (all_at is_field (name_only tag_nothing []) (members_in t start end) m z.0 z.1) in
                 sym (member_tag t tag from to) ∙ eqb-true (member_from t tag from to).tag tag_field y
 
   -- what a field is in the type above

@@ -9,8 +9,7 @@ use native.Mathlib.Omega.{arith}
 use Rattle.paper.specs.Numbers.{kind_field}
 use Rattle.paper.specs.Rows.{Row}
 use Rattle.paper_table.specs.Types.{table_of}
-use Rattle.paper_query.specs.Constructs.{name_of}
-use Rattle.paper_query.specs.Enclosing.{type_inside, type_inside_from, enclosing, field_at, field_named, selections_type}
+use Rattle.paper_query.specs.Enclosing.{type_inside, type_inside_from, enclosing, field_at}
 use Rattle.paper_query.proofs.EnclosingLaws.{inside_step, from_other}
 use Rattle.query_rows.specs.Rowed.{row_in, doc_of, Rowed}
 use Rattle.query_rows.proofs.RowsIn.{row_none, parent_before}

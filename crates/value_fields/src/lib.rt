@@ -1,6 +1,8 @@
 // Whether a row is a field that an operation reaches, and where that field's arguments stand in the table.
 // A row in the operation itself is told by its owner alone; spreads are searched only for the others.
 // All of it is scratch, made with room for few rows where there are few: less is cleared then.
+#![tactic(auto)]
+
 ghost use Rattle.std.specs.Prelude.{◌≡◌, true, ◌+◌, ◌≤◌, ◌<◌, length, replicate};
 ghost use Rattle.paper_table.specs.Types.{table_of};
 ghost use Rattle.paper_query.specs.Enclosing.{field_of, or_missing, field_named, type_inside, enclosing, field_at};

@@ -1,14 +1,6 @@
-use mathlib.Core.Path.{◌≡◌, refl, sym, ap, ◌∙◌, subst}
-use mathlib.Core.Logic.{inl, inr}
-use Prim.Native.Nat.{ℕ, suc, ◌+◌, ◌*◌, ◌-◌, ◌≤◌, ◌<◌}
+use mathlib.Core.Path.{sym, ◌∙◌}
 use native.Mathlib.Omega.{arith}
-use lib.ListN.{length}
-use Rattle.paper_plan.specs.PlanNumbers.{blocks_in}
-use Rattle.plan_walk_steps.specs.Numbers.{Over}
-use Rattle.plan_walk_blocks.specs.Answers.{after_all, before}
-use Rattle.plan_walk_blocks.proofs.BlocksLaws.{block_ready, block_walks, Going, going_start, going_over, going_on, going_end}
-use Rattle.plan_walk_blocks.proofs.GroupLaws.{before_found, before_on, before_none, Emits, emits_start, emits_below, emits_found, emits_past, emits_end, Groups, groups_start, groups_past, groups_room, groups_more, groups_end}
-use borrow.Author.Rules.{rules}
+use Rattle.plan_walk_blocks.proofs.GroupLaws.{groups_start, groups_past, groups_room, groups_more, groups_end}
 use Rattle.plan_walk_blocks.proofs.group.Goals as goal
 
 pub loop-i-init : goal.loop-i-init

@@ -1,14 +1,11 @@
-use mathlib.Core.Path.{◌≡◌, refl, sym, ap, ◌∙◌, subst}
+use mathlib.Core.Path.{refl, sym, ◌∙◌, subst}
 use mathlib.Core.Logic.{inl, inr}
-use Prim.Native.Nat.{ℕ, suc, ◌+◌, ◌*◌, ◌-◌, ◌≤◌, ◌<◌}
+use Prim.Native.Nat.{ℕ, ◌<◌}
 use native.Mathlib.Omega.{arith}
-use lib.ListN.{length}
 use Rattle.paper_plan.specs.PlanNumbers.{blocks_in}
 use Rattle.plan_walk_steps.specs.Numbers.{Over}
-use Rattle.plan_walk_blocks.specs.Answers.{after_all, before}
-use Rattle.plan_walk_blocks.proofs.BlocksLaws.{block_ready, block_walks, Going, going_start, going_over, going_on, going_end}
-use Rattle.plan_walk_blocks.proofs.GroupLaws.{before_found, before_on, before_none, Emits, emits_start, emits_below, emits_found, emits_past, emits_end, Groups, groups_start, groups_past, groups_room, groups_more, groups_end}
-use borrow.Author.Rules.{rules}
+use Rattle.plan_walk_blocks.specs.Answers.{after_all}
+use Rattle.plan_walk_blocks.proofs.BlocksLaws.{going_start, going_over, going_on, going_end}
 use Rattle.plan_walk_blocks.proofs.walk_blocks.Goals as goal
 
 pub loop-j-init : goal.loop-j-init
@@ -35,7 +32,7 @@ pub loop-j-preserved : goal.loop-j-preserved
 loop-j-preserved c = let a = c.args in
     let l = c.loop-j in
     let k = c.walk_one-m.auto in
-    (omega (arith, c.loop-j-test.true), going_on a.p.now a.blocks.now a.vars.now a.fits.now _ _ l.j _ l.invariant.1 c.loop-j-test.true _ _ _ _ c.number_at-b.ensures c.walk_one-m.ensures c.if-m-eq-TOO_MANY_PAIRS.false, k.1.1.1.1.0 ∙ l.invariant.2, k.1.1.1.1.1.0 ∙ l.invariant.3)
+    (omega (arith, c.loop-j-test.true), going_on a.p.now a.blocks.now a.vars.now a.fits.now _ _ l.j _ l.invariant.1 c.loop-j-test.true _ _ _ _ c.number_at-b.ensures c.walk_one-m.ensures c.if-m-eq-TOO_MANY_PAIRS.false, k.met ∙ l.invariant.2, k.out ∙ l.invariant.3)
 
 pub returns : goal.returns
 returns c = let a = c.args in
