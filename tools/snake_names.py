@@ -23,7 +23,7 @@ SHARED = re.compile(r"(?m)^ +(?:abbrev )?(?:unfoldable )?(?:pub )?(" + W + r") :
 # names that a file uses for something of its own, beside a definition that would be called so
 LOCALS = {"crates/text_arguments/proofs/DirectivesLaws.antt": ["at_sign"], "crates/value_fields/proofs/ContentLaws.antt": ["is_field"]}
 # words of Rattle that look like names of ours
-KEEP = set()
+KEEP = {"at_sign"}
 
 
 def snake(name):
