@@ -3,7 +3,7 @@ use mathlib.Core.Path.{◌≡◌, refl, sym, ap, ◌∙◌, subst}
 use mathlib.Core.Bool.{Bool, true, false, true≢false, ◌&&◌, ◌||◌}
 use mathlib.Core.Logic.{◌⊎◌, inl, inr}
 use mathlib.Core.List.{List, [], ◌∷◌, ◌++◌}
-use Prim.Native.Nat.{ℕ, zero, suc, ◌+◌, ◌<◌, ◌≤◌}
+use Prim.Native.Nat.{ℕ, zero, suc, ◌+◌, ◌<◌}
 use native.Mathlib.Numerals.{add-one}
 use native.Mathlib.Decide.{dec_lt}
 use native.Mathlib.Omega.{arith}
@@ -16,13 +16,12 @@ use Rattle.paper.specs.Numbers.{kind_field}
 use Rattle.paper.specs.Rows.{Row}
 use Rattle.paper_table.specs.Lists.{any_of, first_at}
 use Rattle.paper_table.proofs.ListsLaws.{any_first}
-use Rattle.paper_query.specs.Constructs.{Doc, count, row_of, no_row, is, is_selection, below}
+use Rattle.paper_query.specs.Constructs.{Doc, count, row_of, no_row, is_selection, below}
 use Rattle.paper_query.specs.Reaching.{Reaches}
 use Rattle.paper_query.specs.Rule6Leaf.{has_selections}
 use Rattle.query_rows.specs.Rowed.{Decides}
 use Rattle.query_links.proofs.Nexts.{next_passes, next_all}
 use Rattle.paper_plan.specs.Collecting.{elem}
-use Rattle.paper_query.specs.Constructs.{numbers_where}
 use Rattle.paper_plan.specs.Selecting.{set_of, IsBlock, Above, Rising, BlockRows}
 use Rattle.plan_theory.proofs.Same.{clash}
 use Rattle.plan_theory.proofs.NumbersOf.{where_kept, where_keeps, or_l, or_r, or_case}

@@ -1,23 +1,22 @@
 -- What a row's numbers say, by what the row is.
 use mathlib.Core.Path.{◌≡◌, refl, sym, ap, ◌∙◌, subst}
-use mathlib.Core.Bool.{Bool, true, false, cond, true≢false, not, ◌&&◌, ◌||◌}
+use mathlib.Core.Bool.{Bool, true, false, true≢false, ◌||◌}
 use mathlib.Core.Option.{Option, none, some}
 use mathlib.Core.List.{List, [], ◌∷◌, ◌++◌, append-nil, append_assoc}
-use Prim.Native.Nat.{ℕ, zero, suc, ◌+◌, ◌*◌, ◌≤◌, ◌<◌}
+use Prim.Native.Nat.{ℕ, ◌+◌, ◌*◌, ◌≤◌, ◌<◌}
 use native.Mathlib.Omega.{arith}
 use lib.ListN.{length, get_or}
 use lib.Seq.{sets}
-use lib.Dec.{eqb, leb}
-use borrow.Author.Tests.{eq-eqb, ne_eqb, lt-leb, le-leb}
-use Rattle.paper.specs.Numbers.{most_rows, kind_field, kind_inline}
-use Rattle.paper_plan.specs.Collecting.{Cond, absent, literal, variable, Sort, field, spread, inline, View}
-use Rattle.paper_plan.specs.Planning.{Test, if_true, unless_true, unless_applies, if_met, Step, skip_tests, include_tests, condition_tests, dropped, tests, sort_tests, content}
+use borrow.Author.Tests.{eq-eqb, ne_eqb}
+use Rattle.paper.specs.Numbers.{most_rows}
+use Rattle.paper_plan.specs.Collecting.{Cond, absent, literal, variable, field, spread, inline, View}
+use Rattle.paper_plan.specs.Planning.{Test, if_true, unless_true, unless_applies, if_met, Step, skip_tests, include_tests, dropped, tests, sort_tests, content}
 use Rattle.plan_walk_steps.specs.Numbers.{test_of}
 use Rattle.plan_steps.specs.Table.{tests_from}
 use Rattle.plan_conditions.specs.declared.If.{If}
 use Rattle.plan_conditions.specs.declared.If.TheVariants.{Absent, Literal, Variable}
 use Rattle.plan_conditions.specs.Conditions.{coded}
-use Rattle.plan_tests.specs.Right.{row_cells, what_nested, Small, PutIf, skip_drops_by, include_drops_by, drops_by, spread_row, inline_row, TestsAre, Right}
+use Rattle.plan_tests.specs.Right.{row_cells, Small, PutIf, skip_drops_by, include_drops_by, drops_by, spread_row, inline_row, TestsAre, Right}
 use Rattle.plan_tests.proofs.RowLaws.{tests_start, tests_put, head_tests, head_what, head_above, head_behind, head_count}
 
 -- the kinds of tests

@@ -6,37 +6,37 @@ use mathlib.Core.List.{List, [], ◌∷◌, ◌++◌}
 use Prim.Native.Nat.{ℕ, zero, suc, ◌+◌, ◌*◌, ◌-◌, ◌≤◌, ◌<◌}
 use native.Mathlib.Decide.{dec_lt}
 use native.Mathlib.Omega.{arith}
-use lib.ListN.{length, get_or, set, take, drop, length-append, length-drop}
-use lib.Seq.{sets, length-take-le, take-take, take_at, drop_at, get_or-take, get_or-drop, length-sets}
+use lib.ListN.{length, get_or, take, drop, length-append, length-drop}
+use lib.Seq.{sets, length-take-le, take-take, take_at, drop_at, get_or-take, get_or-drop}
 use lib.Dec.{eqb, ltb}
 use borrow.Author.Tests.{eq-eqb, ne_eqb}
 use borrow.Rule.Slice.PartMut.{put_mid, Post-is}
-use Rattle.paper.specs.Numbers.{most_rows, kind_field, kind_spread, kind_inline, kind_fragment, kind_type_reference, kind_boolean}
+use Rattle.paper.specs.Numbers.{most_rows, kind_field, kind_spread, kind_fragment, kind_type_reference, kind_boolean}
 use Rattle.paper.specs.Rows.{Row}
-use Rattle.paper_table.specs.Lists.{bytes, first_at, find, each_from, only_if}
+use Rattle.paper_table.specs.Lists.{first_at, find, each_from, only_if}
 use Rattle.paper_table.specs.Types.{Table, table_of}
 use Rattle.paper_table.proofs.ListsLaws.{first_at_most}
 use Rattle.paper_query.specs.Constructs.{Doc, count, row_of, no_row, is, is_selection, is_value, below, called, spelt, name_of, numbers_where, fragment_named}
 use Rattle.paper_query.specs.Enclosing.{composite_of, condition_of}
 use Rattle.table_book.specs.Book.{part}
-use Rattle.query_rows.specs.Rowed.{row_in, rows_in, doc_of, Rowed}
+use Rattle.query_rows.specs.Rowed.{row_in, rows_in, doc_of}
 use Rattle.query_rows.proofs.RowsIn.{rows_count}
 use Rattle.query_links.proofs.Nexts.{find_yes, find_no}
 use Rattle.query_siblings.specs.Alike.{is_below, first_below}
 use Rattle.query_types.specs.Coded.{type_coded}
 use Rattle.paper_plan.specs.Keys.{key_at, key_number}
-use Rattle.paper_plan.specs.Collecting.{Cond, absent, literal, variable, Sort, field, spread, inline, View}
-use Rattle.paper_plan.specs.Planning.{Step, tests, content, dropped, skip_tests, include_tests}
-use Rattle.paper_plan.specs.Selecting.{rows_where, set_of, fragment_number, fragment_row, variable_number, or_count, type_number, type_on, type_if, argument_below, directive_on, cond_from, if_of, sort_of, by_numbers}
+use Rattle.paper_plan.specs.Collecting.{absent, literal, variable, field, spread, inline, View}
+use Rattle.paper_plan.specs.Planning.{dropped, skip_tests, include_tests}
+use Rattle.paper_plan.specs.Selecting.{set_of, fragment_number, fragment_row, variable_number, or_count, type_number, type_on, type_if, argument_below, directive_on, cond_from, if_of, by_numbers}
 use Rattle.plan_theory.proofs.NumbersOf.{where_placed}
 use Rattle.plan_keys.specs.Keyed.{Keyed}
 use Rattle.plan_rows.specs.Ranks.{is_fragment, is_variable_of, rank, RanksTo}
 use Rattle.plan_rows.proofs.RankLaws.{rank_most, rank_first, fragment_rank, variable_is}
 use Rattle.plan_conditions.specs.declared.If.{If}
 use Rattle.plan_conditions.specs.Conditions.{coded}
-use Rattle.plan_steps.specs.Table.{up_from, keep, what, above, arg, belongs, tests_from, table_set, Space, RowOf, Tabled}
+use Rattle.plan_steps.specs.Table.{up_from, keep, what, above, arg, belongs, tests_from, table_set, RowOf, Tabled}
 use Rattle.plan_steps.specs.Table.{count as testCount}
-use Rattle.plan_tests.specs.Right.{row_cells, Small, spread_row, inline_row, TestsAre, Right, cells_of, RightRow, TableTo}
+use Rattle.plan_tests.specs.Right.{row_cells, Small, spread_row, inline_row, TestsAre, cells_of, RightRow, TableTo}
 use Rattle.plan_tests.proofs.RowLaws.{tests_frame}
 use Rattle.plan_tests.proofs.RightLaws.{kept_field, kept_spread, kept_inline}
 

@@ -9,7 +9,7 @@ use Rattle.paper_query.specs.Constructs.{is, is_selection, name_of, fragment_nam
 use Rattle.table_types.specs.Booked.{Booked}
 use Rattle.query_rows.specs.Rowed.{row_in, rows_in, doc_of, Rowed}
 use Rattle.query_links.specs.Links.{Family, Kinds}
-use Rattle.paper_plan.specs.Collecting.{Sort, field, View}
+use Rattle.paper_plan.specs.Collecting.{field, View}
 use Rattle.paper_plan.specs.Planning.{Test, Step, tests, content, dropped}
 use Rattle.paper_plan.specs.Selecting.{by_numbers, set_of}
 use Rattle.paper_plan.specs.PlanNumbers.{step_unless_applies, step_if_met}

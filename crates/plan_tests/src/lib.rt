@@ -1,5 +1,7 @@
 // The planner's first pass: what each row of a document is to the plan, and what is tested before it, as twelve numbers a row.
 // All reading of names, directives, literals, fragments and types is done here, once for each row.
+#![tactic(auto)]
+
 ghost use Rattle.std.specs.Prelude.{◌≡◌, true, false, [], ◌∷◌, ◌++◌, ◌+◌, ◌*◌, ◌≤◌, ◌<◌, length};
 ghost use Rattle.std.proofs.lemmas.List.Edits.{sets};
 ghost use Rattle.paper.specs.Numbers.{most_rows, kind_spread};

@@ -1,4 +1,6 @@
 // May these numbers be walked: is the plan well-formed, with the blocks asked for, and is all else given that a walk asks for?
+#![tactic(auto)]
+
 ghost use Rattle.std.specs.Prelude.{◌≡◌, ◌≤◌, length};
 ghost use Rattle.paper_table.specs.Types.{table_of, is_object};
 ghost use Rattle.paper_query.specs.Enclosing.{definition_at};

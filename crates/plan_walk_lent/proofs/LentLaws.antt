@@ -1,9 +1,8 @@
 -- The answer that a walk reads off a well-formed plan, a byte for each record: it is the answer for the object type; of a plan's own numbers, the draft's.
 use mathlib.Core.Path.{◌≡◌, refl, sym, ap, ◌∙◌, subst}
-use mathlib.Core.Bool.{Bool, true, false}
-use mathlib.Core.Logic.{◌⊎◌}
+use mathlib.Core.Bool.{Bool}
 use mathlib.Core.List.{List, [], ◌∷◌, ◌++◌, map}
-use Prim.Native.Nat.{ℕ, zero, suc, ◌+◌, ◌*◌, ◌-◌, ◌≤◌, ◌<◌}
+use Prim.Native.Nat.{ℕ, zero, suc, ◌+◌, ◌-◌, ◌≤◌, ◌<◌}
 use native.Mathlib.Decide.{ℕ_discrete}
 use native.Mathlib.Omega.{arith}
 use lib.ListN.{length, get_or}
@@ -12,21 +11,20 @@ use Rattle.paper_table.specs.Types.{table_of}
 use Rattle.paper_query.specs.DocumentCalls.{read}
 use Rattle.paper_plan.specs.Applies.{applies}
 use Rattle.paper_plan.specs.Collecting.{Grouped, pairs}
-use Rattle.paper_plan.specs.Planning.{Step, leave, list, Test, Plan, State, walk, block_of, blocks, grouped, walk_answer}
+use Rattle.paper_plan.specs.Planning.{Step, leave, Test, Plan, State, walk, block_of, blocks, grouped, walk_answer}
 use Rattle.paper_plan.specs.PlanNumbers.{most_blocks, blocks_in, first_in, end_in, kind_at, one_at, two_at, plan_numbers, Formed, WellFormed}
 use Rattle.paper_plan.specs.Selecting.{Name, Collects, pairs_of, block_in, plan_for}
 use Rattle.paper_query.specs.Opening.{AcceptedDocument}
-use Rattle.table_book.specs.Book.{count_in, room}
 use Rattle.table_types.specs.Booked.{Booked}
 use Rattle.query_types.proofs.CompositeLaws.{output_below}
 use Rattle.plan_theory.proofs.Document.{Among}
 use Rattle.plan_theory.proofs.Demand3.{walk_answers}
 use Rattle.plan_walk_types.specs.Fits.{Fits}
 use Rattle.plan_walk_types.proofs.FitLaws.{fits_one}
-use Rattle.plan_walk_steps.specs.Numbers.{test_of, step_of, step_at, steps_from, is_one}
+use Rattle.plan_walk_steps.specs.Numbers.{step_at, steps_from, is_one}
 use Rattle.plan_walk_steps.proofs.Laws.{test_1, test_2, test_3, test_4, step_5, step_leave}
 use Rattle.plan_walk_steps.proofs.PlanLaws.{Same, AllSame, same_walk}
-use Rattle.plan_walk_blocks.specs.Answers.{plan_in, Walkable, answer_of}
+use Rattle.plan_walk_blocks.specs.Answers.{plan_in, answer_of}
 use Rattle.plan_walk_blocks.proofs.BlocksLaws.{block_is, well_walkable}
 use Rattle.plan_walk_blocks.proofs.AnswerLaws.{plan_in_is}
 

@@ -1,17 +1,16 @@
 -- One block more; all blocks; too many steps.
-use mathlib.Core.Path.{◌≡◌, refl, sym, ap, ◌∙◌, subst}
+use mathlib.Core.Path.{◌≡◌, refl, sym, ap, ◌∙◌}
 use mathlib.Core.List.{List, [], ◌∷◌, ◌++◌, append_assoc, append-nil}
-use mathlib.Core.Logic.{◌⊎◌, inl, inr}
+use mathlib.Core.Logic.{inl, inr}
 use Prim.Native.Nat.{ℕ, zero, suc, ◌+◌, ◌*◌, ◌-◌, ◌≤◌, ◌<◌}
-use native.Mathlib.Decide.{dec_lt}
 use native.Mathlib.Omega.{arith}
 use lib.ListN.{length, get_or, set, take, drop, replicate, length-append, length-replicate, length-set, drop_of_length-le}
 use lib.Seq.{sets, length-sets, drop-cons, get_or-take, length-take-le}
 use Rattle.paper.specs.Numbers.{most_rows}
-use Rattle.paper_plan.specs.PlanNumbers.{plan_size, most_steps, most_blocks}
-use Rattle.plan_steps.specs.Table.{Raw, flat_raw, arg, expand_of, Space, Chained, Fitted, TooMany, Expanded}
+use Rattle.paper_plan.specs.PlanNumbers.{plan_size, most_blocks}
+use Rattle.plan_steps.specs.Table.{Raw, flat_raw, expand_of, Space, Fitted, TooMany, Expanded}
 use Rattle.plan_steps.proofs.Writes.{sets_then, flat_append, flat_length}
-use Rattle.plan_writing.specs.Writing.{raw_program, raw_firsts, Tables, Holders, plan_cells, Fits, Over, Going, Blocks, Writes}
+use Rattle.plan_writing.specs.Writing.{raw_program, raw_firsts, Tables, Holders, plan_cells, Fits, Over, Going, Blocks}
 use Rattle.plan_writing.proofs.Zeros.{set_sets, counted}
 
 -- the rows of the blocks

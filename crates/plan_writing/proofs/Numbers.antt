@@ -10,7 +10,6 @@ use Rattle.paper_table.specs.Lists.{gather}
 use Rattle.paper_plan.specs.Collecting.{View}
 use Rattle.paper_plan.specs.Planning.{Step, Plan, plan, program, firsts, plan_of}
 use Rattle.paper_plan.specs.PlanNumbers.{plan_size, most_steps, most_blocks, step_numbers, plan_numbers}
-use Rattle.paper.specs.Calls.{filled}
 use Rattle.plan_walk_steps.specs.Numbers.{test_of, step_of}
 use Rattle.plan_steps.specs.Table.{Raw, flat_raw, what, arg, raw_tests, shut, one, belongs, over, up_from, expand_of, decode, table_set, Tabled}
 use Rattle.plan_steps.specs.Table.{count as testCount}

@@ -1,11 +1,10 @@
 -- Writes into a buffer of zeros.
-use mathlib.Core.Path.{◌≡◌, refl, sym, ap, ◌∙◌, subst}
+use mathlib.Core.Path.{◌≡◌, refl, ap, ◌∙◌}
 use mathlib.Core.List.{List, [], ◌∷◌, ◌++◌}
 use Prim.Native.Nat.{ℕ, zero, suc, ◌+◌, ◌*◌, ◌-◌, ◌≤◌, ◌<◌}
-use native.Mathlib.Nat.{add-zero}
 use native.Mathlib.Omega.{arith}
 use lib.ListN.{length, set, replicate, length-replicate, length-set, length-append}
-use lib.Seq.{sets, set_comm, set-append_left, length-sets}
+use lib.Seq.{sets, set_comm, set-append_left}
 use Rattle.paper_plan.specs.PlanNumbers.{plan_size, most_steps, most_blocks}
 use Rattle.plan_writing.specs.Writing.{plan_cells}
 

@@ -1,4 +1,6 @@
 // Writes a plan: its blocks, one after the other, by the table of the document's rows; then its counts.
+#![tactic(auto)]
+
 ghost use Rattle.std.specs.Prelude.{◌≡◌, ◌∷◌, ◌≤◌, length, get_or, take, replicate};
 ghost use Rattle.paper_plan.specs.PlanNumbers.{plan_size};
 ghost use Rattle.plan_writing.specs.Writing.{Tables, Holders, Writes, Blocks};

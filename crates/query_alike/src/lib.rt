@@ -1,5 +1,7 @@
 // Variables that are like one before them, in name, place and owner: what operations say of the one, they say of the other.
 // So these are not compared with the operations, but get its flag.
+#![tactic(auto)]
+
 ghost use Rattle.std.specs.Prelude.{◌≡◌, ◌-◌, ◌≤◌, ◌<◌, length, get_or};
 ghost use Rattle.paper.specs.Numbers.{kind_variable};
 ghost use Rattle.paper_table.specs.Types.{table_of};

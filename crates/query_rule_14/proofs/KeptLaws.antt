@@ -1,6 +1,6 @@
 -- Rule 14 at an argument of a field, by what is kept of both.
-use mathlib.Core.Path.{◌≡◌, refl, sym, ap, ◌∙◌}
-use mathlib.Core.Bool.{Bool, true, false, not}
+use mathlib.Core.Path.{◌≡◌, sym, ap, ◌∙◌}
+use mathlib.Core.Bool.{false, not}
 use mathlib.Core.Option.{Option}
 use mathlib.Core.List.{List}
 use Prim.Native.Nat.{ℕ, ◌≤◌, ◌<◌}
@@ -22,9 +22,8 @@ use Rattle.query_fields.specs.Kept.{field_typename, FieldKept}
 use Rattle.query_inside.specs.Enclosed.{encloses}
 use Rattle.query_inside.proofs.EnclosedLaws.{rowed_before}
 use Rattle.query_place_types.specs.Shapes.{place_unknown, coded, argument_shape}
-use Rattle.query_place_types.specs.declared.Place.{Place}
 use Rattle.query_due_types.proofs.PlaceCases.{field_there, argument_of_field, from_argument}
-use Rattle.query_places.specs.Placed.{place_in, Placed}
+use Rattle.query_places.specs.Placed.{Placed}
 use Rattle.query_places.proofs.PlacedLaws.{in_row}
 use Rattle.query_rule_14.proofs.CodedLaws.{lacks_unknown, lacks_known, shape_found, coded_found}
 

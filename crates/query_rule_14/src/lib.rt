@@ -1,5 +1,7 @@
 // The query rule 14: what a table says of a field's arguments. It is judged where the field is known.
 // No name is looked up for it: an argument that its field has not is one at which no type is due, and those types are kept.
+#![tactic(auto)]
+
 ghost use Rattle.std.specs.Prelude.{◌≡◌};
 ghost use Rattle.paper_table.specs.Types.{table_of};
 ghost use Rattle.paper_query.specs.Rule14Argument.{argument_unknown};

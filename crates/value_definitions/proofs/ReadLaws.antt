@@ -1,13 +1,11 @@
 -- Of a text that was read: its rows stand as the search below a row asks, and the row behind a variable definition is the type that it declares.
-use mathlib.Core.Path.{◌≡◌, sym, ap, ◌∙◌}
-use mathlib.Core.Bool.{true, ◌&&◌}
+use mathlib.Core.Path.{◌≡◌, sym, ◌∙◌}
 use mathlib.Core.List.{List}
 use Prim.Native.Nat.{ℕ, ◌+◌, ◌<◌}
 use native.Mathlib.Omega.{arith}
-use lib.ListN.{length}
 use borrow.Author.Tests.{eq-eqb}
 use Rattle.paper.specs.Language.{Part, Document}
-use Rattle.paper.specs.Numbers.{kind_type_reference, kind_variable_definition}
+use Rattle.paper.specs.Numbers.{kind_variable_definition}
 use Rattle.paper_table.specs.Lists.{first_at}
 use Rattle.query_rows.specs.Rowed.{rows_in, row_in}
 use Rattle.query_rows.proofs.RowsIn.{rows_count}
@@ -15,7 +13,7 @@ use Rattle.query_rows.proofs.ReadRows.{Taken}
 use Rattle.query_subtrees.specs.Past.{Pasts}
 use Rattle.query_subtrees.proofs.Nesting.{taken_nested}
 use Rattle.value_entries.specs.Entered.{Treed}
-use Rattle.value_texts.proofs.Defining.{Defined, taken_defined}
+use Rattle.value_texts.proofs.Defining.{taken_defined}
 use Rattle.value_definitions.specs.Definitions.{is_declared}
 use Rattle.value_definitions.proofs.SeekLaws.{seeks_start, seeks_here, declared_below, declared_is}
 

@@ -1,4 +1,6 @@
 // What a variable definition of a document says, found by its rows: the type that it declares, and the row of its default.
+#![tactic(auto)]
+
 ghost use Rattle.std.specs.Prelude.{◌≡◌, ◌<◌};
 ghost use Rattle.paper.specs.Language.{Document};
 ghost use Rattle.paper_table.specs.Lists.{first_at};

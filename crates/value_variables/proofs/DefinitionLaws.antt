@@ -1,12 +1,11 @@
 -- The definitions of an operation, row by row.
-use mathlib.Core.Path.{◌≡◌, refl, sym, ap, ◌∙◌}
-use mathlib.Core.Bool.{Bool, true, false, cond}
-use mathlib.Core.List.{List, [], ◌∷◌, ◌++◌}
+use mathlib.Core.Path.{◌≡◌, refl, ap, ◌∙◌}
+use mathlib.Core.Bool.{Bool, true, false}
+use mathlib.Core.List.{[], ◌∷◌, ◌++◌}
 use Prim.Native.Nat.{ℕ, suc, ◌+◌, ◌≤◌, ◌<◌}
 use native.Mathlib.Omega.{arith}
-use lib.ListN.{length, drop, get_or, drop_of_length-le}
+use lib.ListN.{drop_of_length-le}
 use lib.Seq.{drop-cons}
-use Rattle.paper.specs.Rows.{Row}
 use Rattle.paper_table.specs.Lists.{each_from, only_if}
 use Rattle.paper_query.specs.Constructs.{Doc, count, row_of, no_row, numbers_where}
 use Rattle.paper_values.specs.DocumentDues.{definitions_of}

@@ -1,6 +1,5 @@
 -- What is kept of variables: more of them behind those that are there.
 use mathlib.Core.Path.{◌≡◌, refl, sym, ap, ◌∙◌, subst}
-use mathlib.Core.Bool.{true, cond}
 use mathlib.Core.List.{List, [], ◌∷◌}
 use Prim.Native.Nat.{ℕ, zero, suc, ◌+◌, ◌*◌, ◌≤◌, ◌<◌}
 use native.Mathlib.Omega.{arith}
@@ -14,7 +13,7 @@ use Rattle.table_types.specs.Booked.{Booked, definition_on}
 use Rattle.paper_values.specs.Kinds.{kind_of_definition}
 use Rattle.query_rows.specs.Rowed.{cell, doc_of}
 use Rattle.paper_values.specs.Values.{Name, Tree, Pairs, no_pairs, pair}
-use Rattle.value_kinds.specs.Dues.{Sorted, DueIs, Fits}
+use Rattle.value_kinds.specs.Dues.{DueIs, Fits}
 use Rattle.value_held.specs.Holding.{Kept, HeldAt, Holds}
 use Rattle.value_coerce.proofs.ObjectLaws.{join_pairs}
 use Rattle.value_variables.specs.Variables.{small, Same}

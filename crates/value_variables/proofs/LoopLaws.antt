@@ -8,12 +8,12 @@ use native.Mathlib.Omega.{arith}
 use lib.ListN.{length}
 use Rattle.paper.specs.Numbers.{row_size, most_variables, kind_object_field, input_document, input_variables}
 use Rattle.paper_table.specs.References.{Ref, is_non_null}
-use Rattle.paper_query.specs.Constructs.{Doc, count, row_of}
+use Rattle.paper_query.specs.Constructs.{Doc, count}
 use Rattle.query_rows.specs.Rowed.{row_in, doc_of}
 use Rattle.query_rows.proofs.RowsIn.{rows_count}
 use Rattle.paper_values.specs.ValueNumbers.{reason_missing, reason_repeated}
-use Rattle.paper_values.specs.Values.{Name, At, Value, Due, Tree, Pairs, no_pairs, pair, Out, Got, No, and_then}
-use Rattle.paper_values.specs.Computed.{Given, unless, pair_first, due_field, missing_due, or_default, entry_of, constant, variables_from, variables_of}
+use Rattle.paper_values.specs.Values.{At, Value, Due, Tree, Pairs, no_pairs, Out, Got, No, and_then}
+use Rattle.paper_values.specs.Computed.{Given, unless, pair_first, due_field, or_default, entry_of, constant, variables_from, variables_of}
 use Rattle.paper_values.specs.Coercion.{heads, repeated_entry}
 use Rattle.paper_values.specs.Encoding.{encode_pairs}
 use Rattle.paper_values.specs.RowValues.{placed, value_of_row, entries_from}

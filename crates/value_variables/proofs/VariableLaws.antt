@@ -2,15 +2,15 @@
 use mathlib.Core.Path.{◌≡◌, refl, sym, ap, ◌∙◌, subst}
 use mathlib.Core.Bool.{Bool, true, false, cond}
 use mathlib.Core.Option.{Option, none, some}
-use mathlib.Core.List.{List, [], ◌∷◌, ◌++◌}
-use Prim.Native.Nat.{ℕ, ◌+◌, ◌-◌, ◌≤◌, ◌<◌}
+use mathlib.Core.List.{List, ◌++◌}
+use Prim.Native.Nat.{ℕ, ◌+◌, ◌≤◌}
 use native.Mathlib.Omega.{arith}
 use lib.ListN.{length}
 use Rattle.paper_table.specs.TableNumbers.{tag_name}
 use Rattle.paper_table.specs.References.{Ref, is_non_null}
 use Rattle.paper_values.specs.ValueNumbers.{tag_pair, reason_missing}
 use Rattle.paper_values.specs.Written.{house_field_bytes}
-use Rattle.paper_values.specs.Values.{Name, At, Value, Due, Tree, Pairs, no_pairs, pair, Out, Got, No, and_then}
+use Rattle.paper_values.specs.Values.{Name, At, Value, Due, Tree, Pairs, no_pairs, Out, Got, No}
 use Rattle.paper_values.specs.Computed.{Given, pair_first, due_field, missing_due, or_default, entry_of, constant}
 use Rattle.paper_values.specs.Encoding.{encode}
 use Rattle.value_writing.specs.Writing.{place_of, Put, Room, Closed, Behind}

@@ -1,5 +1,5 @@
 -- The three ways of one variable: an entry of the variables text, a default, nothing.
-use mathlib.Core.Path.{◌≡◌, refl, sym, ap, ◌∙◌, subst}
+use mathlib.Core.Path.{◌≡◌, refl, sym, ap, subst}
 use mathlib.Core.Bool.{Bool, true, false, cond}
 use mathlib.Core.Option.{Option, none, some}
 use mathlib.Core.List.{List, [], ◌∷◌}
@@ -13,14 +13,13 @@ use Rattle.paper.specs.Numbers.{row_size, kind_object_field, input_document, inp
 use Rattle.paper_table.specs.References.{Ref}
 use Rattle.paper_query.specs.Constructs.{Doc, count, name_of}
 use Rattle.paper_query.specs.Opening.{if_below}
-use Rattle.table_fields.specs.Wrappers.{pack_of}
 use Rattle.table_book.specs.Book.{part}
 use Rattle.query_rows.specs.Rowed.{row_in, doc_of}
 use Rattle.query_rows.proofs.RowsIn.{rows_count, name_within}
-use Rattle.paper_values.specs.Values.{Name, At, Value, Due, Tree, Pairs, no_pairs, Out, Got, No}
+use Rattle.paper_values.specs.Values.{Name, At, Due, Tree, Pairs, no_pairs, Out, Got}
 use Rattle.paper_values.specs.Computed.{Given, pair_first, missing_due, entry_of, constant, givens}
 use Rattle.paper_values.specs.RowValues.{placed, value_of_row, entries_from}
-use Rattle.paper_values.specs.DocumentDues.{declared_ref, default_row, value_if, due_variable, given_in}
+use Rattle.paper_values.specs.DocumentDues.{declared_ref, default_row, value_if, due_variable}
 use Rattle.paper_values.specs.CallRules.{no_variables}
 use Rattle.value_kinds.specs.Dues.{DueIs, Fits}
 use Rattle.value_kinds.specs.declared.Coerced.{Coerced}
@@ -29,7 +28,7 @@ use Rattle.value_definitions.specs.declared.Default.{Default}
 use Rattle.value_definitions.specs.declared.Default.TheVariants as default
 use Rattle.value_held.specs.Given.{kinds_in, coerced, givens_at, ToldPairs}
 use Rattle.value_held.specs.Holding.{Kept, HeldAt, Gives, Names, Knows, held_from}
-use Rattle.value_variables.specs.Variables.{small, told, Asked, Same, Grows, givens_in, only_of, only_at, Told}
+use Rattle.value_variables.specs.Variables.{small, told, Asked, Same, Grows, givens_in, only_at, Told}
 use Rattle.value_variables.specs.declared.Variables.{Variables}
 use Rattle.value_variables.proofs.KeptLaws.{keep_same, keep_held, small_due, small_fits}
 use Rattle.value_variables.proofs.VariableLaws.{only_given, only_default, only_nothing, told_first, told_missing}

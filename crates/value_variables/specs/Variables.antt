@@ -1,7 +1,6 @@
 -- What coercing an operation's variables asks and answers, and what is kept of those that have values.
 -- Assumes nothing.
-use Rattle.std.specs.Prelude.{◌≡◌, Bool, ◌&&◌, cond, List, [], ℕ, ◌+◌, ◌≤◌, ◌<◌, leb}
-use Rattle.std.proofs.Math.Option.{Option, none}
+use Rattle.std.specs.Prelude.{◌≡◌, Bool, ◌&&◌, cond, List, ℕ, ◌+◌, ◌≤◌, ◌<◌, leb}
 use lib.ListN.{length}
 use Rattle.paper.specs.Numbers.{row_size, most_rows, kind_variable_definition, input_document}
 use Rattle.paper.specs.Language.{Document}
@@ -10,7 +9,7 @@ use Rattle.paper_table.specs.Lists.{each_from, only_if}
 use Rattle.paper_query.specs.Constructs.{Doc, is, below}
 use Rattle.query_rows.specs.Rowed.{cell}
 use Rattle.query_rows.proofs.ReadRows.{Taken}
-use Rattle.paper_values.specs.Values.{At, Due, Tree, Pairs, no_pairs, Out, Got, No}
+use Rattle.paper_values.specs.Values.{At, Due, Pairs, no_pairs, Out, Got, No}
 use Rattle.paper_values.specs.Computed.{Given, entry_of, due_field, or_default, givens}
 use Rattle.paper_values.specs.Encoding.{encode_pairs}
 use Rattle.paper_values.specs.RowValues.{placed}

@@ -1,5 +1,7 @@
 // Coerces the variables of an operation, in definition order, from the variables text and the definitions' defaults; and keeps, of each that
 // has a value, where this stands and at which type, so that a field's arguments can be coerced.
+#![tactic(auto)]
+
 ghost use Rattle.std.specs.Prelude.{◌≡◌, List, [], ◌∷◌, ℕ, ◌+◌, ◌*◌, ◌≤◌, ◌<◌, length};
 ghost use Rattle.std.proofs.lemmas.List.Edits.{sets};
 ghost use Rattle.paper.specs.Numbers.{row_size, most_variables};

@@ -1,28 +1,19 @@
 -- By the row's kind, its parent's, and what is kept of both.
 use mathlib.Core.Path.{◌≡◌, sym, ap, ◌∙◌}
-use mathlib.Core.Bool.{Bool}
 use Prim.Native.Nat.{ℕ}
 use native.Mathlib.Omega.{arith}
 use Rattle.paper.specs.Numbers.{kind_field, kind_argument}
 use Rattle.paper_table.specs.Types.{table_of}
 use Rattle.paper_query.specs.Constructs.{name_of}
 use Rattle.paper_query.specs.Enclosing.{field_at}
-use Rattle.paper_query.specs.Rule14Argument.{has_no_argument, argument_unknown}
+use Rattle.paper_query.specs.Rule14Argument.{has_no_argument}
 use Rattle.query_rows.specs.Rowed.{row_in, doc_of}
 use Rattle.query_rows.proofs.RowsIn.{rowed_sized}
 use Rattle.query_rows.proofs.Rooms.{room_enough}
 use Rattle.query_due_types.proofs.PlaceCases.{field_there}
 use Rattle.query_rule_14.proofs.KeptLaws.{argument_there, unknown_field, known_field}
 use Rattle.query_rule_14.proofs.RuleLaws.{argument_other, argument_elsewhere, argument_judged}
-use borrow.Author.Rules.{rules}
 use Rattle.query_rule_14.proofs.argument_unknown.Goals as goal
-
-judged : (c : goal.Else-kind_of-ne-KIND_FIELD) {r : Bool}
-    → r ≡ has_no_argument (field_at (table_of c.args.t.now) (doc_of c.args.s.now c.args.rows.now c.args.n) c.parent_of-p.result) (name_of (doc_of c.args.s.now c.args.rows.now c.args.n) c.args.i)
-    → r ≡ argument_unknown (table_of c.args.t.now) (doc_of c.args.s.now c.args.rows.now c.args.n) c.args.i
-judged c e =
-    let a = c.args in
-    argument_judged (table_of a.t.now) (doc_of a.s.now a.rows.now a.n) a.i (kind c.before.before.before) (ap (λ (p : ℕ). (row_in a.rows.now a.n p).kind) (sym c.parent_of-p.ensures) ∙ above c) (e ∙ ap (λ (p : ℕ). has_no_argument (field_at (table_of a.t.now) (doc_of a.s.now a.rows.now a.n) p) (name_of (doc_of a.s.now a.rows.now a.n) a.i)) c.parent_of-p.ensures)
 
 pub kind_of-requires : goal.kind_of-requires
 kind_of-requires c = rowed_sized c.requires.0
@@ -54,7 +45,8 @@ returns-then-at-p-lt-FIELD_TYPENAME c =
     let kind : (row_in c.args.rows.now c.args.n c.args.i).kind ≡ kind_argument = sym c.kind_of.ensures ∙ c.if-kind_of-ne-KIND_ARGUMENT.false in
     let above : (row_in c.args.rows.now c.args.n c.parent_of-p.result).kind ≡ kind_field = sym c.kind_of-2.ensures ∙ c.if-kind_of-ne-KIND_FIELD.false in
     let g = c.requires in
-    judged c.before.before (unknown_field _ _ _ _ _ _ _ g.0 g.1 _ kind _ c.parent_of-p.ensures above (omega (arith, c.if-at-p-lt-FIELD_TYPENAME.true)))
+    let a = c.args in
+    argument_judged (table_of a.t.now) (doc_of a.s.now a.rows.now a.n) a.i kind (ap (λ (p : ℕ). (row_in a.rows.now a.n p).kind) (sym c.parent_of-p.ensures) ∙ above) (unknown_field _ _ _ _ _ _ _ g.0 g.1 _ kind _ c.parent_of-p.ensures above (omega (arith, c.if-at-p-lt-FIELD_TYPENAME.true)) ∙ ap (λ (p : ℕ). has_no_argument (field_at (table_of a.t.now) (doc_of a.s.now a.rows.now a.n) p) (name_of (doc_of a.s.now a.rows.now a.n) a.i)) c.parent_of-p.ensures)
 
 pub offset_bounds-at-i : goal.offset_bounds-at-i
 offset_bounds-at-i c =
@@ -75,4 +67,5 @@ returns c =
     let kind : (row_in c.args.rows.now c.args.n c.args.i).kind ≡ kind_argument = sym c.kind_of.ensures ∙ c.if-kind_of-ne-KIND_ARGUMENT.false in
     let above : (row_in c.args.rows.now c.args.n c.parent_of-p.result).kind ≡ kind_field = sym c.kind_of-2.ensures ∙ c.if-kind_of-ne-KIND_FIELD.false in
     let g = c.requires in
-    judged c.before.before.before (known_field _ _ _ _ _ _ _ g.0 g.1 _ kind _ c.parent_of-p.ensures above (omega (arith, c.if-at-p-lt-FIELD_TYPENAME.false)))
+    let a = c.args in
+    argument_judged (table_of a.t.now) (doc_of a.s.now a.rows.now a.n) a.i kind (ap (λ (p : ℕ). (row_in a.rows.now a.n p).kind) (sym c.parent_of-p.ensures) ∙ above) (known_field _ _ _ _ _ _ _ g.0 g.1 _ kind _ c.parent_of-p.ensures above (omega (arith, c.if-at-p-lt-FIELD_TYPENAME.false)) ∙ ap (λ (p : ℕ). has_no_argument (field_at (table_of a.t.now) (doc_of a.s.now a.rows.now a.n) p) (name_of (doc_of a.s.now a.rows.now a.n) a.i)) c.parent_of-p.ensures)
