@@ -23,7 +23,7 @@ SHARED = re.compile(r"(?m)^ +(?:abbrev )?(?:unfoldable )?(?:pub )?(" + W + r") :
 # names that a file uses for something of its own, beside a definition that would be called so
 LOCALS = {"crates/text_arguments/proofs/DirectivesLaws.antt": ["at_sign"], "crates/value_fields/proofs/ContentLaws.antt": ["is_field"]}
 # words of Rattle that look like names of ours
-KEEP = set()
+KEEP = {"at_sign"}
 
 
 def snake(name):
@@ -125,7 +125,8 @@ def main(argv):
     for path, text in texts.items():
         if path.endswith(".edit"):
             continue
-        mine = {a: b for a, b in turned.items() if a not in foreign(text)}
+        theirs = foreign(text)
+        mine = {a: b for a, b in turned.items() if a not in theirs}
         by = collections.defaultdict(set)
         for w in set(re.findall(W, re.sub(r"(?m)(--|//).*$", "", text))):
             by[mine.get(w, w)].add(w)
@@ -139,7 +140,8 @@ def main(argv):
         if not os.path.exists(path):
             continue
         text = read(path)
-        mine = turned if path.endswith((".md", ".edit")) else {a: b for a, b in turned.items() if a not in foreign(text)}
+        theirs = set() if path.endswith((".md", ".edit")) else foreign(text)
+        mine = {a: b for a, b in turned.items() if a not in theirs}
 
         for w in LOCALS.get(os.path.relpath(path, root), []):
             mine[w] = w + "_is"

@@ -2,7 +2,7 @@
 use mathlib.Core.Path.{◌≡◌, refl, sym, ap, ◌∙◌, subst}
 use mathlib.Core.Logic.{◌⊎◌, inl, inr}
 use mathlib.Core.List.{List, [], ◌∷◌, ◌++◌, append-nil}
-use Prim.Native.Nat.{ℕ, suc, ◌+◌, ◌*◌, ◌-◌, ◌≤◌, ◌<◌}
+use Prim.Native.Nat.{ℕ, ◌*◌, ◌-◌}
 use native.Mathlib.Omega.{arith}
 use lib.ListN.{length, drop, replicate, drop_of_length-le}
 use Rattle.paper.specs.Numbers.{report_size, accepted}
@@ -11,7 +11,7 @@ use Rattle.paper_table.specs.Types.{table_of}
 use Rattle.call_buffers.specs.Buffers.{cleared}
 use Rattle.paper_plan.specs.Collecting.{Pair}
 use Rattle.paper_plan.specs.LentPlan.{pair_numbers}
-use Rattle.paper_plan.specs.WalkNumbers.{most_pairs, pairs_size, refuse_walk, refuse_too_many_pairs}
+use Rattle.paper_plan.specs.WalkNumbers.{pairs_size, refuse_walk}
 use Rattle.paper_plan.specs.WalkCalls.{CanWalk, listed, WalkLent, Right, Walked, refuses_walk, too_many_pairs, lists}
 use Rattle.plan_walk_told.specs.Walking.{Few, Many, Pairs, Told}
 

@@ -1,5 +1,5 @@
 -- From the answer of the plan's numbers, by a byte for each record, to the pairs of the walk; and what is told of them.
-use mathlib.Core.Path.{◌≡◌, refl, sym, ap, ◌∙◌, subst}
+use mathlib.Core.Path.{◌≡◌, refl, sym, ap, ◌∙◌}
 use mathlib.Core.Logic.{◌⊎◌, inl, inr}
 use mathlib.Core.List.{List, [], ◌∷◌, ◌++◌}
 use Prim.Native.Nat.{ℕ, ◌*◌, ◌-◌, ◌≤◌, ◌<◌}
@@ -16,7 +16,7 @@ use Rattle.paper_plan.specs.WalkCalls.{CanWalk, listed}
 use Rattle.plan_walk_types.specs.Fits.{Fits}
 use Rattle.plan_walk_blocks.specs.Answers.{answer_of, TooMany, Holds, Answered}
 use Rattle.plan_walk_lent.proofs.LentLaws.{lent_answer}
-use Rattle.plan_walk_told.specs.Walking.{Few, Many, Pairs, Told}
+use Rattle.plan_walk_told.specs.Walking.{Pairs, Told}
 
 pub pairs_listed : (t book plan : List ℕ) (o : ℕ) (blocks variables fits pairs : List ℕ) (n : ℕ) → Booked t book → CanWalk (table_of t) plan o blocks variables → Fits (table_of t) o fits
     → Answered plan blocks variables fits pairs n → Pairs (table_of t) plan o blocks variables pairs n

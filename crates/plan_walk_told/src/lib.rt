@@ -1,4 +1,6 @@
 // Walks a plan by an accepted table: what is asked of a walk, then the pairs, and what is told of them.
+#![tactic(auto)]
+
 ghost use Rattle.std.specs.Prelude.{◌≡◌, ◌≤◌, length};
 ghost use Rattle.paper.specs.Numbers.{report_size};
 ghost use Rattle.paper_table.specs.Types.{table_of};

@@ -1,4 +1,6 @@
 // What one operation says of one variable, by the query rules 10 and 11; and the least that operations have said of it so far.
+#![tactic(auto)]
+
 ghost use Rattle.std.specs.Prelude.{◌≡◌, ◌&&◌, ◌+◌, ◌<◌};
 ghost use Rattle.std.proofs.Math.Option.{some};
 ghost use Rattle.paper.specs.Numbers.{kind_operation, kind_variable_definition};
