@@ -1,7 +1,7 @@
 -- The sizes; and what is told of the steps of a plan.
 use mathlib.Core.Path.{◌≡◌, refl}
 use mathlib.Core.List.{List, [], ◌∷◌}
-use Prim.Native.Nat.{ℕ, suc, ◌≤◌, ◌<◌}
+use Prim.Native.Nat.{ℕ, ◌≤◌, ◌<◌}
 use native.Mathlib.Omega.{arith}
 use lib.ListN.{get_or}
 use Rattle.paper.specs.Numbers.{rows_size, report_size, accepted}
@@ -12,7 +12,7 @@ use Rattle.call_buffers.specs.Buffers.{Asks, Sized, cleared}
 use Rattle.call_buffers.specs.Buffers.{short_rows as asks-rows, long_document as asks-document, long_table as asks-table}
 use Rattle.call_buffers.specs.declared.Sizes.{Sizes}
 use Rattle.call_buffers.specs.declared.Sizes.TheVariants.{Met, Unmet}
-use Rattle.paper_plan.specs.PlanNumbers.{plan_size, most_steps}
+use Rattle.paper_plan.specs.PlanNumbers.{plan_size}
 use Rattle.paper_plan.specs.PlanCalls.{refuse_too_many_steps}
 use Rattle.plan_endings.specs.Endings.{PlanAsks, PlanSized, MadeTold}
 use Rattle.plan_endings.specs.Endings.{short_plan as asks-plan, long_document as asks-long, long_table as asks-long-table}

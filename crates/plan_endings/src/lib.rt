@@ -1,4 +1,6 @@
 // How `gw_plan` begins and ends: whether its buffers and inputs keep to their sizes, and what is told of a plan that was made.
+#![tactic(auto)]
+
 ghost use Rattle.std.specs.Prelude.{◌≡◌, suc, ◌≤◌, length};
 ghost use Rattle.paper.specs.Numbers.{report_size};
 ghost use Rattle.paper_plan.specs.PlanNumbers.{plan_size, most_steps};

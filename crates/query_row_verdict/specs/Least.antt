@@ -1,13 +1,8 @@
 -- The least rule that one row breaks.
 -- Assumes nothing.
-use Rattle.std.specs.Prelude.{◌≡◌, List, ℕ, ◌<◌, ◌≤◌, length, get_or}
-use Rattle.paper.specs.Numbers.{most_rows}
+use Rattle.std.specs.Prelude.{ℕ, ◌<◌, ◌≤◌}
 use Rattle.paper_table.specs.Types.{Table}
-use Rattle.paper_query.specs.QueryNumbers.{rule_circle, rule_undefined, rule_variable_type}
-use Rattle.paper_query.specs.Constructs.{Doc, count}
-use Rattle.paper_query.specs.Rule8Circle.{ReachesItself}
-use Rattle.paper_query.specs.Rule10Undefined.{Undefined}
-use Rattle.paper_query.specs.Rule11VariableType.{Differs}
+use Rattle.paper_query.specs.Constructs.{Doc}
 use Rattle.paper_query.specs.QueryRules.{Broken}
 
 -- `LeastAt t d i r`: r is the least rule that row i breaks, 0 if it breaks none

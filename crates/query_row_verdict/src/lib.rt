@@ -1,4 +1,6 @@
 // Judges one row of a document, all made ready: the least rule that it breaks.
+#![tactic(auto)]
+
 ghost use Rattle.std.specs.Prelude.{◌≡◌, cond, ◌<◌, length};
 ghost use Rattle.paper.specs.Numbers.{kind_operation, kind_fragment, kind_field, kind_argument, kind_variable_definition};
 ghost use Rattle.paper_table.specs.Types.{Table, table_of};

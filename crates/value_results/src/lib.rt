@@ -1,5 +1,7 @@
 // What a coercing call puts into its value: an operation's variables as an object, or the arguments of one of its fields; or a refused value.
 // The document is judged and both texts are read already, with the row past each row's subtree.
+#![tactic(auto)]
+
 ghost use Rattle.std.specs.Prelude.{◌≡◌, ◌≤◌, length};
 ghost use Rattle.paper.specs.Numbers.{most_rows};
 ghost use Rattle.query_rows.specs.Rowed.{doc_of};
