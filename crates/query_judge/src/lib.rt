@@ -1,6 +1,8 @@
 // Judges a document that was read against an accepted table: makes all ready that the rules ask of it, then judges its rows.
 // The table's entries are made first, for all that looks members and arguments up. What is lent mutably is scratch. It is made at once, with room for few rows
 // where there are few: less is cleared then.
+#![tactic(auto)]
+
 ghost use Rattle.std.specs.Prelude.{◌≡◌, ◌≤◌, ◌<◌, length};
 ghost use Rattle.paper_table.specs.TableNumbers.{most_table};
 ghost use Rattle.paper_table.specs.Types.{table_of};
