@@ -1,30 +1,26 @@
 -- From what is made ready to what the writing asks, and from what is written to the plan.
-use mathlib.Core.Path.{◌≡◌, refl, sym, ap, ◌∙◌, subst}
-use mathlib.Core.Bool.{Bool, true, false, ◌||◌}
-use mathlib.Core.List.{List, [], ◌∷◌, ◌++◌, map}
+use mathlib.Core.Path.{◌≡◌, refl, sym, ap, ◌∙◌}
+use mathlib.Core.Bool.{true}
+use mathlib.Core.List.{List, ◌∷◌, ◌++◌, map}
 use mathlib.Core.Logic.{◌⊎◌, inl, inr}
 use Prim.Native.Nat.{ℕ, suc, ◌+◌, ◌*◌, ◌-◌, ◌≤◌, ◌<◌}
 use native.Mathlib.Omega.{arith}
 use lib.ListN.{length, get_or, take, replicate}
 use lib.Seq.{length-take-le}
-use lib.Dec.{T}
-use Rattle.paper.specs.Numbers.{most_rows, kind_operation, kind_fragment, kind_spread}
-use Rattle.paper_table.specs.Types.{Table, table_of}
-use Rattle.paper_query.specs.Constructs.{Doc, count, row_of, is, name_of, fragment_named}
-use Rattle.query_rows.specs.Rowed.{row_in, rows_in, doc_of, Rowed}
+use Rattle.paper.specs.Numbers.{kind_operation, kind_spread}
+use Rattle.paper_table.specs.Types.{table_of}
+use Rattle.paper_query.specs.Constructs.{Doc, is, name_of, fragment_named}
+use Rattle.query_rows.specs.Rowed.{row_in, doc_of}
 use Rattle.query_rows.proofs.RowsIn.{rows_count}
 use Rattle.query_spreads.specs.Owners.{Defines}
 use Rattle.paper_plan.specs.Planning.{Plan, plan_of}
-use Rattle.paper_plan.specs.Selecting.{BlockRows, by_numbers, set_of, plan_for}
-use Rattle.paper_plan.specs.PlanNumbers.{plan_size, most_steps, most_blocks, plan_numbers}
-use Rattle.plan_theory.proofs.Plannable.{Plannable, in_range, fragment_is}
-use Rattle.plan_blocks.specs.Blocks.{BlocksTo}
+use Rattle.paper_plan.specs.Selecting.{by_numbers, set_of, plan_for}
+use Rattle.paper_plan.specs.PlanNumbers.{plan_size, most_blocks, plan_numbers}
+use Rattle.plan_theory.proofs.Plannable.{in_range, fragment_is}
 use Rattle.plan_blocks.proofs.BlockLaws.{blocks_rows}
-use Rattle.plan_steps.specs.Table.{flat_raw}
 use Rattle.plan_steps.proofs.Chains.{chained_family}
-use Rattle.plan_tests.specs.Right.{TableTo}
 use Rattle.plan_tests.proofs.TableLaws.{table_above, table_few, table_held, table_kinds, table_set_is, table_tabled}
-use Rattle.plan_writing.specs.Writing.{raw_program, raw_firsts, Tables, Holders, plan_cells, Fits, Over, Writes}
+use Rattle.plan_writing.specs.Writing.{raw_program, Tables, Holders, Writes}
 use Rattle.plan_writing.proofs.Numbers.{plan_steps_count, plan_cells_is}
 use Rattle.plan_making.specs.Made.{PlanFits, PlanOver, PlanMade, Asked, Prepared}
 use Rattle.plan_making.proofs.BlockCounts.{blocks_few, block_low}

@@ -6,7 +6,7 @@ use Rattle.paper_table.specs.Types.{Table}
 use Rattle.paper_query.specs.Constructs.{Doc, row_of, is}
 use Rattle.table_types.specs.Booked.{Booked}
 use Rattle.query_rows.specs.Rowed.{rows_in, doc_of, Rowed, room_of}
-use Rattle.query_links.specs.Links.{firsts_size, Family}
+use Rattle.query_links.specs.Links.{Family}
 use Rattle.paper_plan.specs.Selecting.{BlockRows, plan_for}
 use Rattle.paper_plan.specs.PlanNumbers.{plan_size, most_steps, plan_numbers}
 use Rattle.plan_theory.proofs.Plannable.{Plannable}

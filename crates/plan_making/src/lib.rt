@@ -1,5 +1,7 @@
 // Makes the plan of an operation of a document that was opened: links its rows, finds its blocks, fills the table, then writes the plan.
 // What is lent mutably is scratch but the plan. The document's rows stand in the plan's buffer until all is read off them.
+#![tactic(auto)]
+
 ghost use Rattle.std.specs.Prelude.{◌≡◌, ◌∷◌, ◌+◌, ◌*◌, ◌≤◌, ◌<◌, length, take};
 ghost use Rattle.paper.specs.Numbers.{rows_size, most_rows};
 ghost use Rattle.paper_table.specs.Types.{table_of};

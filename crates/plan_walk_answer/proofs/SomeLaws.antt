@@ -1,6 +1,6 @@
 -- Of every input and buffers some result is as `Walked` says.
 use mathlib.Core.Path.{◌≡◌, refl}
-use mathlib.Core.List.{List, [], ◌∷◌}
+use mathlib.Core.List.{List}
 use Prim.Native.Nat.{ℕ, ◌≤◌}
 use native.Mathlib.Nat.{lt_of_not-le}
 use native.Mathlib.Decide.{dec_le}
@@ -8,15 +8,12 @@ use native.Mathlib.Omega.{arith}
 use lib.ListN.{length}
 use Rattle.paper.specs.Numbers.{report_size, accepted}
 use Rattle.paper.specs.Refusals.{number_of}
-use Rattle.paper.specs.Calls.{filled, tells}
 use Rattle.paper.specs.declared.Refusal.TheVariants.{Buffer, OverLength}
 use Rattle.paper_table.specs.TableNumbers.{most_table, input_table}
 use Rattle.paper_table.specs.Types.{table_of}
 use Rattle.paper_table.specs.Judging.{judge, table_number}
-use Rattle.paper_table.specs.TableCalls.{tells_table}
 use Rattle.paper_table.specs.declared.TableAnswer.{TableAnswer}
 use Rattle.paper_table.specs.declared.TableAnswer.TheVariants.{Accepted, Framing, TooMany, Breaks}
-use Rattle.paper_plan.specs.LentPlan.{pair_numbers}
 use Rattle.paper_plan.specs.WalkNumbers.{most_pairs, pairs_size, refuse_walk, refuse_too_many_pairs}
 use Rattle.paper_plan.specs.WalkCalls.{CanWalk, listed, WalkLent, Right, Walked, short_report, short_pairs, long_table, refuses_table, refuses_walk, too_many_pairs, lists}
 use Rattle.plan_walk_answer.proofs.Decided.{can_walk_decided}

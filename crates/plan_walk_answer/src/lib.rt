@@ -1,4 +1,6 @@
 // The whole answer to `gw_walk`: the sizes are tested, then the table, and the plan is walked by it.
+#![tactic(auto)]
+
 ghost use Rattle.std.specs.Prelude.{◌≡◌, ◌≤◌, length};
 ghost use Rattle.paper_table.specs.TableNumbers.{most_table};
 ghost use Rattle.table_book.specs.Book.{book_size};

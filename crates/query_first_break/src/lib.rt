@@ -1,4 +1,6 @@
 // Judges the rows of a document in order, all made ready: the first row that breaks a rule.
+#![tactic(auto)]
+
 ghost use Rattle.paper_table.specs.Types.{table_of};
 ghost use Rattle.paper_query.specs.QueryRules.{Judged};
 ghost use Rattle.query_rows.specs.Rowed.{doc_of};

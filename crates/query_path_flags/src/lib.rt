@@ -1,5 +1,7 @@
 // The query rules that speak of paths, flagged at each row: makes ready what `query_path_rules` asks for, and nothing above does.
 // All of it is scratch, made with room for few rows where there are few: less is cleared then.
+#![tactic(auto)]
+
 ghost use Rattle.std.specs.Prelude.{◌≡◌, ◌≤◌, ◌<◌, length};
 ghost use Rattle.paper_table.specs.Types.{table_of};
 ghost use Rattle.query_rows.specs.Rowed.{rows_in, doc_of, Rowed, few_rows, room_of};

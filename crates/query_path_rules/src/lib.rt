@@ -1,6 +1,8 @@
 // The query rules 8 and 10, and 11 where variables are used: the least of them that each row breaks, as one number.
 // One search from each fragment and each operation; then each variable is compared with the operations that reach it.
 // Most variables are like one before them, in name, place and owner: these are not compared, but get its flag.
+#![tactic(auto)]
+
 ghost use Rattle.std.specs.Prelude.{◌≡◌, ◌+◌, length};
 ghost use Rattle.paper.specs.Numbers.{kind_operation};
 ghost use Rattle.paper_table.specs.Types.{table_of};

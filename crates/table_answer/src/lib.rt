@@ -1,4 +1,6 @@
 // Judges a type table: its framing, its sizes, its schema rules, in this order; and the whole answer to `gw_check_table`.
+#![tactic(auto)]
+
 ghost use Rattle.std.specs.Prelude.{◌≡◌, true, ◌≤◌, length};
 ghost use Rattle.std.proofs.Math.Option.{none};
 ghost use Rattle.paper_table.specs.TableNumbers.{most_table};

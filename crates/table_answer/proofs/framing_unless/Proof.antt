@@ -1,9 +1,0 @@
-use borrow.Author.Rules.{rules}
-use Rattle.table_answer.proofs.framing_unless.Statement.{statement}
-use Rattle.table_answer.proofs.framing_unless.Tie as tie
-
-returns : tie.Need-returns
-returns c = rw (c.before.before.requires.1 c.if1.true)
-
-pub framing-unless-spec : {M : Type 1} → statement M
-framing-unless-spec = tie.close (tie.spec returns (λ c κs. search rules) (λ c. search rules))
