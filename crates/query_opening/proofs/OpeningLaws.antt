@@ -15,13 +15,13 @@ use Rattle.paper.proofs.Lexing.{from}
 use Rattle.paper_theory.proofs.TokensLaws.{tokens_are}
 use Rattle.paper_theory.proofs.GoingSaid.{going_halt}
 use Rattle.paper_theory.proofs.CallsGoing.{from_rising}
-use Rattle.paper_table.specs.Lists.{first_at, each_from, each, only_if}
+use Rattle.paper_table.specs.Lists.{each_from, only_if}
 use Rattle.paper_table.specs.Types.{table_of}
 use Rattle.paper_table.specs.Judging.{judge}
 use Rattle.paper_table.specs.declared.TableAnswer.{TableAnswer}
 use Rattle.paper_table.specs.declared.TableAnswer.TheVariants.{Accepted}
 use Rattle.paper_table.proofs.ListsLaws.{each_from_at, each_from_end}
-use Rattle.paper_query.specs.Constructs.{Doc, count, no_row, is, called}
+use Rattle.paper_query.specs.Constructs.{Doc, no_row, is}
 use Rattle.paper_query.specs.QueryRules.{Judged}
 use Rattle.paper_query.specs.DocumentCalls.{read}
 use Rattle.paper_query.specs.declared.QueryAnswer.{QueryAnswer}
@@ -35,15 +35,15 @@ use Rattle.query_rows.specs.Rowed.{row_in, rows_in, doc_of}
 use Rattle.query_rows.proofs.RowsIn.{rows_count}
 use Rattle.query_rows.proofs.ReadRows.{Taken, ended_taken}
 use Rattle.query_links.specs.Links.{next_with}
-use Rattle.query_links.proofs.Nexts.{next_here, next_step, next_end, next_least, next_most, next_skips, next_all}
+use Rattle.query_links.proofs.Nexts.{next_here, next_step, next_end, next_least, next_skips}
 use Rattle.query_rule_3.specs.Called.{first_called}
 use Rattle.paper.specs.Numbers.{most_text, rows_size}
 use Rattle.paper_query.specs.Constructs.{numbers_where}
-use Rattle.paper_query.specs.Opening.{only_one, if_below, operation_meant, AcceptedDocument, Opened, table_refused, text_refused, rule_broken, no_operation, opened}
+use Rattle.paper_query.specs.Opening.{only_one, operation_meant, AcceptedDocument, table_refused, text_refused, rule_broken, no_operation, opened}
 use Rattle.query_opening.specs.declared.Meant.{Meant}
 use Rattle.query_opening.specs.declared.Meant.TheVariants.{Row as Found, Nothing}
 use Rattle.query_opening.specs.declared.Start.TheVariants.{BadTable, BadText, Broken, NoOperation, Open}
-use Rattle.query_opening.specs.Opens.{told, Ready, Opens}
+use Rattle.query_opening.specs.Opens.{told, Opens}
 
 module _ {A : Type 0} (p : A → Bool) (xs : List A) (d : A) where
   abbrev pick : ℕ → A → List ℕ

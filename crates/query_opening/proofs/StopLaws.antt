@@ -1,6 +1,6 @@
 -- What is told where an opening stops.
 use mathlib.Core.Path.{◌≡◌, sym, subst}
-use mathlib.Core.List.{List, [], ◌∷◌}
+use mathlib.Core.List.{List, ◌∷◌}
 use Prim.Native.Nat.{ℕ}
 use Rattle.paper.specs.Numbers.{report_size}
 use Rattle.paper.specs.Calls.{filled}

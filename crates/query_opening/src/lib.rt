@@ -1,4 +1,6 @@
 // Opens an operation: judges a table, reads a document and judges it by the table, and finds the operation that a name means.
+#![tactic(auto)]
+
 ghost use Rattle.std.specs.Prelude.{◌≡◌, ◌∷◌, ◌≤◌, length};
 ghost use Rattle.paper.specs.Numbers.{rows_size, report_size, kind_operation};
 ghost use Rattle.paper.specs.Calls.{filled};
