@@ -20,7 +20,6 @@ use Rattle.paper_table.specs.Judging.{judge, table_number}
 use Rattle.paper_table.specs.TableCalls.{tells_table}
 use Rattle.paper_table.specs.declared.TableAnswer.{TableAnswer}
 use Rattle.paper_table.specs.declared.TableAnswer.TheVariants.{Accepted}
-use Rattle.paper_query.specs.QueryNumbers.{refuse_query}
 use Rattle.paper_query.specs.QueryRules.{Judged}
 use Rattle.paper_query.specs.DocumentCalls.{read, Lent, Short, CheckedDocument, refuses_table, refuses_text, breaks_rule, accepts}
 use Rattle.paper_query.specs.declared.QueryAnswer.{QueryAnswer}

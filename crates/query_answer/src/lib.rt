@@ -1,4 +1,6 @@
 // Judges a document by a type table: the table, then the text, then the rules; and the whole answer to `gw_check`.
+#![tactic(auto)]
+
 ghost use Rattle.std.specs.Prelude.{◌≡◌, length};
 ghost use Rattle.paper.specs.Numbers.{rows_size};
 ghost use Rattle.paper_table.specs.Judging.{judge};
