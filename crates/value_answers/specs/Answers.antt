@@ -1,6 +1,6 @@
 -- What a call coerces, and how it ends, as the code's functions ask and answer it.
 -- Assumes nothing.
-use Rattle.std.specs.Prelude.{◌≡◌, List, [], ℕ, ◌≤◌, length}
+use Rattle.std.specs.Prelude.{◌≡◌, List, [], ℕ, length}
 use Rattle.paper.specs.Numbers.{kind_operation, input_variables}
 use Rattle.paper.specs.Language.{Document, VariablesText}
 use Rattle.paper.specs.Tokens.{Text, Tokens}

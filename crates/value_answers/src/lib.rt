@@ -1,6 +1,8 @@
 // The whole answers to `gw_coerce_variables` and `gw_coerce_arguments`: the sizes are tested, an operation is opened, the variables text is
 // read, and the operation's variables are coerced, or the arguments of one of its fields.
 // Each large array is made in a function of its own, so that the rows of the variables text take no room while the document is judged.
+#![tactic(auto)]
+
 ghost use Rattle.std.specs.Prelude.{◌≡◌, ◌≤◌, ◌<◌, length};
 ghost use Rattle.paper.specs.Numbers.{most_text, rows_size, report_size};
 ghost use Rattle.paper.specs.Language.{VariablesText};

@@ -6,7 +6,6 @@ use Rattle.paper_values.specs.ValueNumbers.{most_coerced}
 use Rattle.paper_values.specs.ValueCalls.{short_report}
 use Rattle.value_answers.specs.Answers.{EndFor}
 use Rattle.value_answers.proofs.ToldLaws.{sizes_kept, sizes_unmet, told_beyond}
-use borrow.Author.Rules.{rules}
 use Rattle.value_answers.proofs.answer.Goals as goal
 
 pub returns-then-report-lt-REPORT_SIZE : goal.returns-then-report-lt-REPORT_SIZE

@@ -2,7 +2,6 @@
 use mathlib.Core.Path.{refl, sym}
 use Rattle.query_rows.proofs.Rooms.{room_few}
 use Rattle.value_results.specs.Results.{held_room}
-use borrow.Author.Rules.{rules}
 use Rattle.value_answers.proofs.coerce_few.Goals as goal
 
 pub coerce_with-requires : goal.coerce_with-requires

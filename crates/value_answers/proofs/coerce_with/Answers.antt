@@ -1,6 +1,5 @@
 -- `value_answers::coerce_with` meets its contract: what is asked of both texts is true of texts that were read, and the call ends by what comes of the task.
 use Rattle.value_answers.proofs.EndLaws.{asks_both, stands_few, task_ends}
-use borrow.Author.Rules.{rules}
 use Rattle.value_answers.proofs.coerce_with.Goals as goal
 
 pub put_task-o-requires : goal.put_task-o-requires

@@ -5,7 +5,6 @@ use Rattle.query_rows.proofs.Rooms.{room_many}
 use Rattle.value_fields.specs.Wants.{Wants}
 use Rattle.value_answers.specs.Answers.{unreached, reached}
 use Rattle.value_answers.proofs.EndLaws.{stands_prepared, field_serves, by_call}
-use borrow.Author.Rules.{rules}
 use Rattle.value_answers.proofs.end_many.Goals as goal
 
 pub read_text-requires : goal.read_text-requires

@@ -2,7 +2,6 @@
 use mathlib.Core.Path.{subst}
 use Rattle.query_opening.specs.Opens.{Opens}
 use Rattle.value_answers.proofs.EndLaws.{not_opened, ready_standing, open_end}
-use borrow.Author.Rules.{rules}
 use borrow.Enum.Refused.{opened}
 use Rattle.value_answers.proofs.end_with.Goals as goal
 

@@ -1,7 +1,6 @@
 -- `value_answers::ended` meets its contract, by what came of the task.
 use mathlib.Core.Path.{sym, ap}
 use Rattle.value_answers.specs.Answers.{ended_of}
-use borrow.Author.Rules.{rules}
 use Rattle.value_answers.proofs.ended.Goals as goal
 
 pub returns-in-UpTo : goal.returns-in-UpTo

@@ -1,7 +1,6 @@
 -- `value_answers::read_with` meets its contract: the text is refused, or its rows are taken.
 use Rattle.query_rows.specs.Rowed.{doc_of}
 use Rattle.value_answers.proofs.EndLaws.{text_taken, text_unread, text_read}
-use borrow.Author.Rules.{rules}
 use Rattle.value_answers.proofs.read_with.Goals as goal
 
 pub coerce_few-requires : goal.coerce_few-requires

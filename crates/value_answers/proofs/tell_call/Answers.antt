@@ -1,6 +1,5 @@
 -- `value_answers::tell_call` meets its contract: what the call ends with is told.
 use mathlib.Core.Path.{◌∙◌}
-use borrow.Author.Rules.{rules}
 use Rattle.value_answers.proofs.tell_call.Goals as goal
 
 pub returns : goal.returns
