@@ -2,9 +2,9 @@
 use mathlib.Core.Path.{◌≡◌, refl, sym, ap, ◌∙◌, subst}
 use mathlib.Core.Bool.{Bool, true, false, cond}
 use mathlib.Core.List.{List, [], ◌∷◌, ◌++◌, append-nil}
-use Prim.Native.Nat.{ℕ, ◌+◌, ◌-◌, ◌≤◌, ◌<◌}
+use Prim.Native.Nat.{ℕ, ◌-◌, ◌≤◌, ◌<◌}
 use native.Mathlib.Omega.{arith}
-use lib.ListN.{length, take, drop, replicate, drop_of_length-le}
+use lib.ListN.{length, take, replicate, drop_of_length-le}
 use lib.Seq.{length-take-le}
 use lib.Dec.{leb}
 use borrow.Author.Tests.{le-leb, lt-leb}
@@ -12,7 +12,7 @@ use Rattle.paper.specs.Numbers.{report_size, accepted}
 use Rattle.paper.specs.Calls.{filled}
 use Rattle.call_buffers.specs.Buffers.{cleared}
 use Rattle.paper_values.specs.ValueNumbers.{most_coerced}
-use Rattle.paper_values.specs.ValueCalls.{Ending, ends, yields}
+use Rattle.paper_values.specs.ValueCalls.{ends, yields}
 use Rattle.value_endings.specs.Endings.{written_of, end_number, end_shown, ending_of, Leaves}
 use Rattle.value_endings.specs.declared.Ended.{Ended}
 

@@ -1,4 +1,6 @@
 // How a coercing call begins and ends: whether its buffers and inputs keep to their sizes, and what is told and left of each way to end.
+#![tactic(auto)]
+
 ghost use Rattle.std.specs.Prelude.{◌≡◌, ◌∷◌, ◌≤◌, length};
 ghost use Rattle.paper.specs.Numbers.{report_size};
 ghost use Rattle.paper.specs.Calls.{filled};

@@ -1,12 +1,10 @@
 -- `value_endings::clear` meets its contract: before turn i the bytes from `from` up to i are 0.
-use mathlib.Core.Path.{◌≡◌, refl, ap, ◌∙◌}
+use mathlib.Core.Path.{refl, ap, ◌∙◌}
 use mathlib.Core.List.{List}
-use Prim.Native.Nat.{ℕ, ◌-◌, ◌≤◌}
+use Prim.Native.Nat.{ℕ}
 use native.Mathlib.Nat.{le_refl, sub_self}
 use native.Mathlib.Omega.{arith}
-use borrow.Author.Rules.{rules}
-use lib.ListN.{length, set, replicate, length-set}
-use lib.Seq.{sets}
+use lib.ListN.{set, length-set}
 use Rattle.call_buffers.proofs.BufferLaws.{clear_more, clear_end}
 use Rattle.value_endings.proofs.clear.Goals as goal
 

@@ -1,5 +1,4 @@
 -- `value_endings::sizes_met` meets its contract: each way to its end is one case.
-use borrow.Author.Rules.{rules}
 use Rattle.value_endings.specs.Endings.{short_value, long_document, long_variables, long_table}
 use Rattle.value_endings.proofs.sizes_met.Goals as goal
 

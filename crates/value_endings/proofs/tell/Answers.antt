@@ -1,6 +1,5 @@
 -- `value_endings::tell` meets its contract: what is written up to its place, or a refusal.
 use Rattle.value_endings.proofs.EndLaws.{leaves_value, leaves_refusal}
-use borrow.Author.Rules.{rules}
 use Rattle.value_endings.proofs.tell.Goals as goal
 
 pub returns-then-at-le-MOST_COERCED : goal.returns-then-at-le-MOST_COERCED

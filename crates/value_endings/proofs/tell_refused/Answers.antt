@@ -1,7 +1,6 @@
 -- `value_endings::tell_refused` meets its contract: each variant has its own number and shows its own.
 use mathlib.Core.Path.{refl}
 use Rattle.value_endings.proofs.EndLaws.{end_told}
-use borrow.Author.Rules.{rules}
 use Rattle.value_endings.proofs.tell_refused.Goals as goal
 
 pub returns-in-NotOpened : goal.returns-in-NotOpened
