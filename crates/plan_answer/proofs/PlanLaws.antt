@@ -1,7 +1,7 @@
 -- From what the parts of the call leave to what `gw_plan` must do.
 use mathlib.Core.Path.{◌≡◌, refl, sym, ap, ◌∙◌, subst}
 use mathlib.Core.Bool.{Bool, true, false, ◌&&◌, cond}
-use mathlib.Core.Option.{Option, none, some}
+use mathlib.Core.Option.{none, some}
 use mathlib.Core.Logic.{◌⊎◌, inl, inr}
 use mathlib.Core.List.{List, [], ◌∷◌, ◌++◌, append-nil}
 use Prim.Native.Nat.{ℕ, suc, ◌-◌, ◌≤◌, ◌<◌}
@@ -9,13 +9,12 @@ use native.Mathlib.Omega.{arith}
 use native.Mathlib.Decide.{dec_lt}
 use lib.ListN.{length, get_or, take, drop, replicate, length-append, length-drop, drop_of_length-le}
 use lib.Seq.{length-take-le, take_at}
-use lib.Dec.{eqb, ltb}
+use lib.Dec.{eqb}
 use denote.Enum.Declared.{tag_of}
 use types.Run.{OneOf}
 use borrow.Author.Tests.{lt-ltb, le-ltb}
 use Rattle.paper.proofs.Bools.{and_left}
 use Rattle.paper.specs.Numbers.{rows_size, report_size, accepted, most_text, kind_operation}
-use Rattle.paper.specs.Language.{Document}
 use Rattle.paper.specs.Rows.{Row}
 use Rattle.paper.specs.Refusals.{number_of}
 use Rattle.paper.specs.Calls.{filled, tells}
@@ -25,18 +24,16 @@ use Rattle.paper_table.specs.Lists.{first_at}
 use Rattle.paper_table.specs.Types.{Table, table_of}
 use Rattle.paper_query.specs.Constructs.{Doc, count, row_of, no_row, is, called, numbers_where}
 use Rattle.paper_query.specs.DocumentCalls.{Short, read}
-use Rattle.paper_query.specs.Opening.{only_one, if_below, operation_meant, AcceptedDocument, Opened, stops, opens, opened}
+use Rattle.paper_query.specs.Opening.{only_one, if_below, operation_meant, Opened, stops, opens, opened}
 use Rattle.call_buffers.specs.Buffers.{cleared}
 use Rattle.call_buffers.specs.declared.Sizes.{Sizes}
 use Rattle.call_buffers.specs.declared.Sizes.TheVariants.{Met, Unmet}
-use Rattle.table_types.specs.Booked.{Booked}
 use Rattle.query_rows.specs.Rowed.{rows_in, doc_of}
 use Rattle.query_links.proofs.Nexts.{next_passes, next_all}
 use Rattle.paper_plan.specs.Collecting.{elem}
-use Rattle.paper_plan.specs.Planning.{Plan}
-use Rattle.paper_plan.specs.Selecting.{BlockRows, plan_for}
+use Rattle.paper_plan.specs.Selecting.{plan_for}
 use Rattle.paper_plan.specs.PlanNumbers.{plan_size, most_steps, plan_numbers}
-use Rattle.paper_plan.specs.PlanCalls.{refuse_too_many_steps, PlanLent, PlanIs, Planned, short_report, short_plan, long_document, long_table, refuses_opening, too_many_steps, plans}
+use Rattle.paper_plan.specs.PlanCalls.{PlanLent, PlanIs, Planned, short_report, short_plan, long_document, long_table, refuses_opening, too_many_steps, plans}
 use Rattle.plan_theory.proofs.NumbersOf.{where_kept, or_l}
 use Rattle.plan_theory.proofs.Accepted.{accepted_plannable}
 use Rattle.plan_making.specs.Made.{PlanFits, PlanOver, PlanMade, Asked}
