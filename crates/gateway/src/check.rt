@@ -8,12 +8,7 @@ ghost use Rattle.paper_query.specs.DocumentCalls.{CheckedDocument};
 //   rows       lent, 14,336 numbers are written; refusals 1 and 2 leave them
 //   report     lent, 8 numbers are written; with fewer nothing is touched and the answer is 1
 // Answers 0 and the number of rows, or a refusal's number and what it shows.
-pub fn gw_check(
-    table: &[u8],
-    document: &[u8],
-    rows: &mut [u32],
-    report: &mut [u32],
-) -> u32
+pub fn gw_check(table: &[u8], document: &[u8], rows: &mut [u32], report: &mut [u32]) -> u32
     ensures { CheckedDocument table.now document.now rows.old report.old rows.new report.new result }
 {
     query_answer::answer(table, document, rows, report)
