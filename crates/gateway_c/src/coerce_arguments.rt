@@ -24,5 +24,7 @@ pub extern "C" fn gw_coerce_arguments(
 ) -> u32
     ensures { CoercedArguments table.now document.now operation.now variables.now row value.old report.old value.new report.new result }
 {
-    gateway::coerce_arguments::gw_coerce_arguments(table, document, operation, variables, row, value, report)
+    gateway::coerce_arguments::gw_coerce_arguments(
+        table, document, operation, variables, row, value, report,
+    )
 }

@@ -22,5 +22,7 @@ pub extern "C" fn gw_coerce_variables(
 ) -> u32
     ensures { CoercedVariables table.now document.now operation.now variables.now value.old report.old value.new report.new result }
 {
-    gateway::coerce_variables::gw_coerce_variables(table, document, operation, variables, value, report)
+    gateway::coerce_variables::gw_coerce_variables(
+        table, document, operation, variables, value, report,
+    )
 }

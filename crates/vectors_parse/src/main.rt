@@ -1,6 +1,8 @@
 // Calls `gw_parse` on each case of the file `stdin`, and compares the answer, the report and the rows with the case's. Writes a line a case. The
 // last two cases are wrong on purpose. `tests/vectors/pack.py` makes `stdin` and `stdout` of `tests/vectors/parse.jsonl`; crate `vectors` tells the
 // form of a case, which has no table.
+#![tactic(auto)]
+
 use paper::REFUSE_OVER_LENGTH;
 use vectors::{HEAD_DOCUMENT, HEAD_ROWS, HEAD_SIZE, MOST_CASES, REPORT_LENT, ROWS_LENT, STALE};
 
