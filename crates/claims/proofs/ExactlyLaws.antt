@@ -1,22 +1,22 @@
 -- When exactly `gw_parse` and `gw_check_table` accept, and which refusal they tell; and that `gw_check` has a result.
-use mathlib.Core.Path.{◌≡◌, refl, sym, ap, ◌∙◌}
+use mathlib.Core.Path.{◌≡◌, refl, ap, ◌∙◌}
 use mathlib.Core.Logic.{◌↔◌}
 use mathlib.Core.Option.{none}
-use mathlib.Core.List.{List, ◌∷◌, []}
+use mathlib.Core.List.{List, []}
 use Prim.Native.Nat.{ℕ, ◌≤◌, ◌<◌}
 use native.Mathlib.Nat.{lt_of_not-le}
 use native.Mathlib.Decide.{dec_le}
 use native.Mathlib.Omega.{arith}
-use lib.ListN.{length, take}
+use lib.ListN.{length}
 use Rattle.paper.specs.Numbers.{report_size, rows_size, most_text, input_document}
 use Rattle.paper.specs.Language.{Document}
 use Rattle.paper.specs.Tokens.{Text, Tokens}
 use Rattle.paper.specs.Rows.{Row}
-use Rattle.paper.specs.Refusals.{number_of, shown_of}
+use Rattle.paper.specs.Refusals.{number_of}
 use Rattle.paper.specs.Reading.{Answer, rows_are, refuses, TextAnswer}
 use Rattle.paper.specs.Calls.{tells, Parsed, short_report, short_rows, over_length, refuses_text, reads}
 use Rattle.paper.specs.declared.Refusal.{Refusal}
-use Rattle.paper.specs.declared.Refusal.TheVariants.{Buffer, OverLength, NoToken, NoGoing, TooDeep, TooManyRows, TooMany}
+use Rattle.paper.specs.declared.Refusal.TheVariants.{Buffer, OverLength}
 use Rattle.paper_table.specs.TableNumbers.{most_table, input_table}
 use Rattle.paper_table.specs.House.{framing_offset}
 use Rattle.paper_table.specs.TableSizes.{counts_offset}
@@ -24,7 +24,6 @@ use Rattle.paper_table.specs.Types.{table_of}
 use Rattle.paper_table.specs.Judging.{breaks, judge, table_number}
 use Rattle.paper_table.specs.TableCalls.{tells_table, Checked}
 use Rattle.paper_table.specs.TableCalls as table-cases
-use Rattle.paper_table.specs.declared.TableAnswer.{TableAnswer}
 use Rattle.paper_table.specs.declared.TableAnswer.TheVariants.{Accepted}
 use Rattle.paper_table.proofs.TableCallsOne.{checked_one}
 use Rattle.paper_query.specs.QueryRules.{Judged, least_break}

@@ -4,7 +4,6 @@
 use mathlib.Core.Path.{◌≡◌}
 use mathlib.Core.List.{List}
 use Prim.Native.Nat.{ℕ, ◌<◌}
-use lib.ListN.{take}
 use Rattle.paper_table.specs.TableNumbers.{tag_field}
 use Rattle.table_book.specs.Book.{count_in}
 use Rattle.table_members.specs.Members.{members_in, arguments_in, member_from}

@@ -3,7 +3,7 @@ use mathlib.Core.Path.{◌≡◌, refl, sym, ap}
 use mathlib.Core.List.{List}
 use Prim.Native.Nat.{ℕ, ◌<◌}
 use Rattle.paper_table.specs.TableNumbers.{tag_field}
-use Rattle.paper_table.specs.Types.{Argument, Member, Definition}
+use Rattle.paper_table.specs.Types.{Member, Definition}
 use Rattle.table_book.specs.Book.{count_in}
 use Rattle.table_members.specs.Members.{members_in, arguments_in, member_from}
 use Rattle.table_members.proofs.MemberLaws.{field_is}

@@ -28,7 +28,6 @@ use Rattle.paper_query.proofs.JudgedOne as document-judged
 use Rattle.paper_query.proofs.DocumentCallsOne as document-calls
 use Rattle.gateway.proofs.check.gw_check.Statement as gw-check
 use Rattle.gateway.proofs.check.gw_check.Met as gw-check-met
-use Rattle.claims.proofs.BuffersLaws as buffers
 use Rattle.claims.proofs.DocumentsLaws as checked-documents
 use Rattle.claims.proofs.ExactlyLaws as exactly
 

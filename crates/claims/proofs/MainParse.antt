@@ -20,8 +20,6 @@ use Rattle.paper.specs.Refusals.{number_of, shown_in_text}
 use Rattle.paper.specs.Calls.{Parsed, filled, tells}
 use Rattle.paper.specs.declared.Refusal.{Refusal}
 use Rattle.paper.specs.declared.Refusal.TheVariants.{Buffer, OverLength, NoToken, NoGoing, TooDeep, TooManyRows, TooMany}
-use Rattle.paper_table.specs.TableSizes.{counts_offset}
-use Rattle.paper_table.specs.Judging.{not_after, table_answer}
 use Rattle.paper_query.specs.Constructs.{no_row}
 use Rattle.paper_theory.proofs.TokensLaws as tokens
 use Rattle.paper_theory.proofs.ReadingLaws as reading

@@ -1,5 +1,5 @@
 -- What `gw_plan` answers and leaves in the buffers, case by case of its statement.
-use mathlib.Core.Path.{◌≡◌, refl, sym, ap, ◌∙◌, subst}
+use mathlib.Core.Path.{◌≡◌, refl, ap, ◌∙◌}
 use mathlib.Core.Bool.{true}
 use mathlib.Core.Option.{none, some}
 use mathlib.Core.Logic.{◌⊎◌, ◌↔◌, inl, inr}
@@ -7,7 +7,6 @@ use mathlib.Core.List.{List, [], ◌∷◌, ◌++◌, map}
 use Prim.Native.Nat.{ℕ, suc, ◌+◌, ◌*◌, ◌-◌, ◌≤◌, ◌<◌}
 use native.Mathlib.Omega.{arith}
 use lib.ListN.{length, take, drop, replicate, length-append, length-replicate, length-map}
-use lib.Dec.{eqb}
 use borrow.Author.Tests.{eqb-true}
 use Rattle.paper.specs.Numbers.{report_size, most_text, input_document, accepted, most_rows, kind_operation, kind_field}
 use Rattle.paper.specs.Rows.{Row}
@@ -17,7 +16,7 @@ use Rattle.paper.specs.declared.Refusal.{Refusal}
 use Rattle.paper.specs.declared.Refusal.TheVariants.{Buffer, OverLength, NoToken, NoGoing, TooDeep, TooManyRows, TooMany}
 use Rattle.paper_table.specs.Lists.{gather}
 use Rattle.paper_table.specs.TableNumbers.{most_table, input_table}
-use Rattle.paper_table.specs.Types.{Table, table_of}
+use Rattle.paper_table.specs.Types.{table_of}
 use Rattle.paper_table.specs.Judging.{table_number}
 use Rattle.paper_table.specs.declared.TableAnswer.{TableAnswer}
 use Rattle.paper_table.specs.declared.TableAnswer.TheVariants as answers
@@ -28,7 +27,7 @@ use Rattle.paper_query.proofs.OpeningOne.{opened_one}
 use Rattle.paper_plan.specs.Collecting.{View}
 use Rattle.paper_plan.specs.Planning.{Step, leave, list, if_true, unless_true, unless_applies, if_met, Plan, plan, firsts}
 use Rattle.paper_plan.specs.PlanNumbers.{plan_size, most_steps, most_blocks, step_numbers, plan_numbers}
-use Rattle.paper_plan.specs.Selecting.{set_of, by_numbers, IsBlock, BlockRows, plan_for}
+use Rattle.paper_plan.specs.Selecting.{set_of, by_numbers, IsBlock, BlockRows}
 use Rattle.paper_plan.specs.PlanCalls.{refuse_too_many_steps, PlanLent, PlanIs, Planned, short_report, short_plan, long_document, long_table, refuses_opening, too_many_steps, plans}
 use Rattle.plan_theory.proofs.Plannable.{in_range}
 use Rattle.plan_theory.proofs.Accepted.{accepted_plannable}

@@ -9,7 +9,6 @@ use lib.ListN.{length, get_or, take, drop, replicate}
 use lib.Dec.{eqb}
 use Rattle.paper.specs.Numbers.{report_size}
 use Rattle.paper.specs.Refusals.{number_of}
-use Rattle.paper.specs.Calls.{tells}
 use Rattle.paper.specs.declared.Refusal.TheVariants.{Buffer, OverLength}
 use Rattle.paper_table.specs.TableNumbers.{most_table, input_table}
 use Rattle.paper_table.specs.Types.{table_of}
