@@ -1,6 +1,8 @@
 // Calls `gw_check_table` on each case of the file `stdin`, and compares the answer and the report with the case's. Writes a line a case. The last
 // two cases are wrong on purpose. `tests/vectors/pack.py` makes `stdin` and `stdout` of `tests/vectors/tables.jsonl`; crate `vectors` tells the form
 // of a case, which has a table alone.
+#![tactic(auto)]
+
 use vectors::{HEAD_SIZE, HEAD_TABLE, MOST_CASES, REPORT_LENT, STALE};
 
 // Case n, in a lent report
