@@ -114,6 +114,7 @@ operation_is o t = go (is kind_operation (row_of E o)) (eqb o 0) refl refl (up_t
 
 both : (a b : Bool) → T a → T b → T (a && b)
 both true b x y = y
+both false b x y = elim x [ ]
 
 -- a variable at which no test passes by the operation 0 passes none by an operation
 at_operation : (f : ℕ → ℕ → Bool) → up_to (λ i. not (is kind_variable (row_of E i) && f 0 i)) (count E) ≡ true →

@@ -14,7 +14,7 @@ use Rattle.paper.specs.Language.{Class, Mark, Part}
 use Rattle.paper.specs.Tokens.{Text}
 use Rattle.paper.specs.Rows.{Row, rows_of}
 use Rattle.paper.specs.Sizes.{Sums, nothing_counted, sums, through, over_levels, over_rows, over_counts}
-use Rattle.paper.specs.Reading.{tokens_of, classes_of, place_of, EndsWell, ends_well_later, BadAt, bad_later, StopsAt, Reads, Summed, Fault, no_token, no_going, no_end, too_deep, too_many_rows, too_many, rows_are, TextAnswer, accepts}
+use Rattle.paper.specs.Reading.{tokens_of, classes_of, place_of, EndsWell, ends_well_here, ends_well_later, BadAt, bad_later, StopsAt, Reads, Summed, Fault, no_token, no_going, no_end, too_deep, too_many_rows, too_many, rows_are, TextAnswer, accepts}
 use Rattle.paper.specs.declared.Refusal.{Refusal}
 use Rattle.paper.specs.declared.Refusal.TheVariants.{TooDeep, TooManyRows, TooMany}
 use Rattle.paper.proofs.Machine.{took, step}
@@ -79,6 +79,7 @@ summed_reading n t es k r h =
 
 -- no fault, and nothing over
 not_bad : {at : ℕ} {t : Text} → EndsWell t → BadAt at t → ⊥
+not_bad {at = at} (ends_well_here {n = n}) x3 = elim x3 [ ]
 not_bad (ends_well_later w) (bad_later b) = not_bad w b
 
 module _ (n : Part) (t : Text) (es : Evs) (w : EndsWell t) (r : Reads n (classes_of t) es) where

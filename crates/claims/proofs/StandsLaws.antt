@@ -11,7 +11,7 @@ use lib.Seq.{drop-nil, drop-drop}
 use Rattle.paper.specs.Grammar.{nt}
 use Rattle.paper.specs.Language.{Class, Mark, Part}
 use Rattle.paper.specs.Lexical.{comment}
-use Rattle.paper.specs.Tokens.{Text, NoPiece, Longest, line_end, Tokens, starts_none, skips, comments, bad_comment, tokens}
+use Rattle.paper.specs.Tokens.{Text, NoPiece, Longest, line_end, Tokens, ends, starts_none, skips, comments, bad_comment, tokens}
 use Rattle.paper.specs.Numbers.{most_levels}
 use Rattle.paper.specs.Sizes.{Sums, opens_level, over_levels, over_rows, over_counts}
 use Rattle.paper.specs.Reading.{tokens_of, classes_of, place_of, EndsWell, BadAt, bad_here, bad_later, Is, StopsAt, Summed, Fault, no_token, no_going, no_end, too_deep, too_many_rows, too_many, offset_of, NoLater, Answer, refuses, TextAnswer, refused}
@@ -83,6 +83,7 @@ behind : (n at : ℕ) (bs p : List ℕ) → BadAhead n (at + length p) (drop (le
 behind n at bs p (i, e, h, b) = (length p + i, omega arith, (let l = length-drop (length p) bs in omega arith), subst BadHere (drop-drop i (length p) bs) b)
 
 bad_ahead : {at n : ℕ} {bs : List ℕ} {t : Text} → Tokens at bs t → BadAt n t → BadAhead n at bs
+bad_ahead {n = n} (ends {at = at}) b = elim b [ ]
 bad_ahead (starts_none h) bad_here = (0, omega arith, omega arith, inl h)
 bad_ahead {bs} (bad_comment p l e) bad_here = (0, omega arith, not_empty bs (length p) e, inr (p, l, e))
 bad_ahead {at} {n} {bs} (skips p l k) b = behind n at bs p (bad_ahead k b)
