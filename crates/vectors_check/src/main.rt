@@ -1,6 +1,8 @@
 // Calls `gw_check` on each case of the file `stdin`, and compares the answer, the report and the rows with the case's. Writes a line a case. The
 // last four cases are wrong on purpose. `tests/vectors/pack.py` makes `stdin` and `stdout` of `tests/vectors/check.jsonl`; crate `vectors` tells the
 // form of a case.
+#![tactic(auto)]
+
 use paper::REFUSE_OVER_LENGTH;
 use vectors::{
     HEAD_DOCUMENT, HEAD_ROWS, HEAD_SIZE, HEAD_TABLE, MOST_CASES, REPORT_LENT, ROWS_LENT, STALE,

@@ -2,6 +2,8 @@
 // last four cases are wrong on purpose. `tests/vectors/pack.py` makes `stdin` and `stdout` of `tests/vectors/plan.jsonl`; crate `vectors` tells the
 // form of a case. Here the length of the operation's name (two bytes) stands behind the head, the name behind the document, and in the place of the
 // rows those numbers of the plan that are not 0, each with its place before it (two bytes each).
+#![tactic(auto)]
+
 use paper::REFUSE_OVER_LENGTH;
 use paper_plan::PLAN_SIZE;
 use vectors::{HEAD_DOCUMENT, HEAD_ROWS, HEAD_SIZE, HEAD_TABLE, MOST_CASES, REPORT_LENT, STALE};
