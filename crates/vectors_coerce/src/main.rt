@@ -3,6 +3,8 @@
 // `tests/vectors/coerce_vars.jsonl` and `coerce_args.jsonl`. A case is as crate `vectors` tells, with the value in the place of the rows; behind its
 // head stand the lengths of the operation's name and of the variables text, 1 for the call that coerces arguments, and its row (four bytes, the low
 // one first); behind its document the name and the variables text.
+#![tactic(auto)]
+
 use paper::REFUSE_OVER_LENGTH;
 use paper_values::MOST_COERCED;
 use vectors::{HEAD_DOCUMENT, HEAD_ROWS, HEAD_SIZE, HEAD_TABLE, REPORT_LENT, STALE};

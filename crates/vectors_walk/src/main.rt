@@ -2,6 +2,8 @@
 // last four cases are wrong on purpose. `tests/vectors/pack.py` makes `stdin` and `stdout` of `tests/vectors/walk.jsonl`; crate `vectors` tells the
 // form of a case. Here its second part is what is asked: how many numbers of the plan are not 0, how many blocks and how many variables (two bytes each), the object's
 // record (four bytes); then these numbers of the plan, each with its place before it (two bytes and four), the blocks (four bytes each), the variables (a byte each).
+#![tactic(auto)]
+
 ghost use Rattle.std.specs.Prelude.{◌≤◌};
 
 use paper::REFUSE_OVER_LENGTH;
