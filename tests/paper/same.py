@@ -26,6 +26,16 @@ def specs(crate):
     return "\n".join(path.read_text() for path in sorted((CRATES / crate / "specs").glob("*.antt")))
 
 
+def plain(word):
+    """A name without what its spelling adds: the definitions have name_class, what is written out here nameClass."""
+    return re.sub(r"[-_]", "", word).lower() if isinstance(word, str) else tuple(plain(w) for w in word) if isinstance(word, tuple) else word
+
+
+def named(module, name):
+    """What a module of Python has under a definition's name."""
+    return next((v for k, v in vars(module).items() if plain(k) == plain(name)), None)
+
+
 def without_comments(some):
     return re.sub(r"--.*", "", some)
 
@@ -65,7 +75,7 @@ def language_symbol(word):
         return ("tm", rest)
     if kind == "act":
         words = rest.strip("()").split()
-        return ("act", (words[0], *(getattr(text, w) if w in vars(text) else int(w) for w in words[1:])))
+        return ("act", (words[0], *(named(text, w) if named(text, w) is not None else int(w) for w in words[1:])))
     return (kind, rest)
 
 
@@ -85,7 +95,7 @@ def same_grammar(name, written, symbol, wrong):
     if not given:
         wrong.append(f"{name}: no productions found")
     for part in sorted({*given, *written}):
-        if given.get(part) != written.get(part):
+        if [plain(tuple(a)) for a in given.get(part, ["none"])] != [plain(tuple(a)) for a in written.get(part, ["nothing"])]:
             wrong.append(f"{name} {part}: the crate has {given.get(part)}, here stands {written.get(part)}")
     return len(given)
 
@@ -94,8 +104,9 @@ def same_sets(wrong):
     given = re.findall(r"^abbrev pub (\S+) : Set\n\1 = (.*)$", without_comments(specs("paper")), re.M)
     for name, right in given:
         spans = tuple((int(a, 16), int(b, 16)) for a, b in re.findall(r"span (0x[0-9a-f]+) (0x[0-9a-f]+)", right))
-        if text.sets.get(name) != spans:
-            wrong.append(f"{name}: the crate has {spans}, here stands {text.sets.get(name)}")
+        there = next((v for k, v in text.sets.items() if plain(k) == plain(name)), None)
+        if there != spans:
+            wrong.append(f"{name}: the crate has {spans}, here stands {there}")
     return len(given)
 
 
@@ -121,8 +132,8 @@ def main(words):
     for crate, module in PARTS.items():
         for name, number in numbers(crate):
             counted += 1
-            if not name.startswith("rule") and getattr(module, name, None) != number:       # the rules stand in lists by number
-                wrong.append(f"{crate} {name}: the crate has {number}, here stands {getattr(module, name, None)}")
+            if not name.startswith("rule") and named(module, name) != number:       # the rules stand in lists by number
+                wrong.append(f"{crate} {name}: the crate has {number}, here stands {named(module, name)}")
     parts = same_grammar("language", text.language, language_symbol, wrong) + same_grammar("lexical", text.lexical, lexical_symbol, wrong)
     sets = same_sets(wrong)
     wrong += [f"{name} has changed since it was written out in Python; see same.py" for name in changed_since()]
