@@ -15,6 +15,7 @@ pub enum Sizes {
 }
 
 // Of rows, a document and a table of these lengths; a call without a table has one of no bytes.
+#[tactic(auto, using(crate::specs::Buffers::short_rows, crate::specs::Buffers::long_document, crate::specs::Buffers::long_table))]
 pub fn sizes_met(rows: usize, document: usize, table: usize) -> Sizes
     ensures { Sized rows document table result }
 {
