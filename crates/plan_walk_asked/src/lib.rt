@@ -39,6 +39,7 @@ fn all_known(p: &[u32], blocks: &[u32]) -> bool
 }
 
 // Is all given that a walk asks for?
+#[tactic(auto, using(crate::proofs::AskedLaws::asked_is, crate::proofs::AskedLaws::not_object))]
 pub fn can_walk(
     t: &[u8],
     book: &[u32],

@@ -38,6 +38,7 @@ pub fn number_at(p: &[u32], i: usize) -> usize
 }
 
 // Is step i well-formed, in a block that ends at step `end`?
+#[tactic(auto, using(crate::proofs::FormedLaws::five_two, crate::proofs::FormedLaws::five_one, crate::proofs::FormedLaws::too_high, crate::proofs::FormedLaws::not_later, crate::proofs::FormedLaws::not_within, crate::proofs::FormedLaws::three_is, crate::proofs::FormedLaws::zero_is, crate::proofs::FormedLaws::other_is))]
 fn step_formed(t: &[u8], book: &[u32], p: &[u32], end: usize, i: usize) -> bool
     requires { Booked t.now book.now × (plan_size ≤ length p.now) × (i < most_steps) }
     ensures { Decides result (Formed (table_of t.now) p.now end i) }
@@ -97,6 +98,7 @@ pub fn end_of(p: &[u32], b: usize) -> usize
 }
 
 // Is block b well-formed?
+#[tactic(auto, using(crate::proofs::FormedLaws::block_is))]
 fn block_formed(t: &[u8], book: &[u32], p: &[u32], b: usize) -> bool
     requires { Booked t.now book.now × (plan_size ≤ length p.now) × (b < most_blocks) × (steps_in p.now ≤ most_steps) }
     ensures { Decides result (BlockFormed (table_of t.now) p.now b) }

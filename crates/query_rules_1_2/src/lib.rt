@@ -13,6 +13,7 @@ use query_rows::{kind_of, name_of, size_of};
 use query_rule_3::first_called;
 
 // Rule 1: has an earlier operation the name of this one?
+#[tactic(auto, using(crate::proofs::OperationLaws::repeated_unnamed))]
 pub fn operation_repeated(
     s: &[u8],
     rows: &[u32],

@@ -7,4 +7,4 @@ use Rattle.plan_walk_formed.proofs.is_headed.Goals as goal
 
 pub returns : goal.returns
 returns c = let p = c.args.p.now in
-    head_is p (omega (arith, c.if-p-lt-PLAN_SIZE.false)) c.if-p-eq0.false (omega (arith, c.if-p-gt-MOST_BLOCKS.false)) (omega (arith, c.if-p-gt-MOST_STEPS.false)) (eqb (get_or p 2 0) 0) refl
+    head_is p (omega arith) (λ q. omega arith) (omega arith) (omega arith) (eqb (get_or p 2 0) 0) refl
