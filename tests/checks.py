@@ -1,5 +1,5 @@
 #!/usr/bin/env python3
-"""The table of docs/CHECKS.md: what each crate costs. Lines and edits are counted, seconds are read from what `rt check` or `rt ci` printed.
+"""The table of docs/CHECKS.md: what each crate costs. Lines and edits are counted, seconds are read from what the older kit's `rt prove` and `rt ci` printed; today's print none, and those stand.
    tests/checks.py write [LOG..]   writes the table anew; a crate that no log has keeps its seconds
    tests/checks.py check           fails where a crate has no row or a row no crate, or the edits told are not those that there are"""
 import glob, os, re, sys

@@ -1,4 +1,5 @@
--- The seven calls as they are exported: each name is the statement that the call's code meets its contract in `crates/gateway/src`, none of which has a `requires`.
+-- The seven calls: each name is the statement that the call's code meets its contract in `crates/gateway/src`, none of which has a `requires`. `crates/gateway_c`
+-- exports them under the names that C links; each function there has the same contract, which its own check proves.
 -- Assumes nothing.
 pub use Rattle.gateway.proofs.parse.gw_parse.Statement.{statement as gw-parse}
 pub use Rattle.gateway.proofs.check_table.gw_check_table.Statement.{statement as gw-check-table}

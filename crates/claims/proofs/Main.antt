@@ -37,8 +37,8 @@ use Rattle.claims.proofs.Demand3Laws as planned
 -- DEMAND 1. Every call, on any table, document and variables text of any length and content, ends with an answer or with one numbered
 -- refusal and its place. It asks nothing of the host beforehand. What a refusal leaves in every buffer is fixed.
 pub demand_1 : {M : Type 1} →
-    -- the seven calls as they are exported meet their statements, which ask for nothing beforehand: so each call ends, whatever it is
-    -- given, and touches only what is lent
+    -- the seven calls of the crate gateway, which gateway_c hands on under the names that C links, with the same statements, meet these;
+    -- they ask for nothing beforehand: so each call ends, whatever it is given, and touches only what is lent
     (call.gw-parse M × call.gw-check-table M × call.gw-check M × call.gw-coerce-variables M × call.gw-coerce-arguments M × call.gw-plan M
     × call.gw-walk M)
     -- whatever the inputs and buffers, a statement fixes the answer (0, or one of the sixteen refusals), every number of the output and

@@ -106,7 +106,7 @@ table_first_told = judging.judge_first
 -- ---- TYPE REFERENCES
 
 -- A type reference (field 20) is read exactly: from a text the reference r is read exactly when r is one that the draft writes and the text is r's. The draft writes a name, a list
--- of what it writes, and as by_non_null what is not so already; the texts are the name, `[..]` and `..!` (`Written` and `ref_text`, in `ReferenceTexts` of `paper_table`).
+-- of what it writes, and as non-null what is not so already; the texts are the name, `[..]` and `..!` (`Written` and `ref_text`, in `ReferenceTexts` of `paper_table`).
 pub reference_read_exactly : (s : List ℕ) (r : Ref) → (ref_of s ≡ some r) ↔ (Written r × (ref_text r ≡ s))
 reference_read_exactly = judged.reference_exactly
 
