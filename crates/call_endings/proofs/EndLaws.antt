@@ -2,6 +2,7 @@
 use mathlib.Core.Path.{◌≡◌, refl, sym, subst}
 use mathlib.Core.List.{List, [], ◌∷◌}
 use Prim.Native.Nat.{ℕ}
+use Rattle.std.specs.Prelude.{Result, Ok, Err}
 use Rattle.paper.specs.Numbers.{report_size, accepted}
 use Rattle.paper.specs.Refusals.{number_of}
 use Rattle.paper.specs.Calls.{filled, tells}
@@ -11,8 +12,6 @@ use Rattle.paper_query.specs.declared.QueryAnswer.{QueryAnswer}
 use Rattle.paper_query.specs.declared.QueryAnswer.TheVariants.{Fits, Breaks}
 use Rattle.call_buffers.specs.Buffers.{cleared}
 use Rattle.text_cursor.specs.declared.Cursor.{Cursor}
-use Rattle.text_cursor.specs.declared.Read.{Read}
-use Rattle.text_cursor.specs.declared.Read.TheVariants.{Done, Refused}
 use Rattle.call_endings.specs.Endings.{Ended, Told}
 
 pub ended_fits : (n : ℕ) (q : QueryAnswer) (rows report report' : List ℕ) → q ≡ Fits → report' ≡ filled report_size (accepted ∷ n ∷ []) report → Ended n q rows report rows report' accepted
@@ -25,10 +24,10 @@ unfolding Ended
 ended_breaks n q row rule rows report rows' report' e c p = subst (λ (x : QueryAnswer). Ended n x rows report rows' report' refuse_query) (sym e) (refl, c, p)
 
 -- what is told of a reading, by its case
-pub told_done : (r : Read) (d : Cursor) (report report' : List ℕ) → r ≡ Done d → report' ≡ filled report_size (accepted ∷ d.rows ∷ []) report → Told r report report' accepted
+pub told_done : (r : Result Cursor Refusal) (d : Cursor) (report report' : List ℕ) → r ≡ Ok d → report' ≡ filled report_size (accepted ∷ d.rows ∷ []) report → Told r report report' accepted
 unfolding Told
-told_done r d report report' q p = subst (λ (x : Read). Told x report report' accepted) (sym q) (refl, p)
+told_done r d report report' q p = subst (λ (x : Result Cursor Refusal). Told x report report' accepted) (sym q) (refl, p)
 
-pub told_refused : (r : Read) (z : Refusal) (report report' : List ℕ) (n : ℕ) → r ≡ Refused z → (n ≡ number_of z) × (report' ≡ tells z report) → Told r report report' n
+pub told_refused : (r : Result Cursor Refusal) (z : Refusal) (report report' : List ℕ) (n : ℕ) → r ≡ Err z → (n ≡ number_of z) × (report' ≡ tells z report) → Told r report report' n
 unfolding Told
-told_refused r z report report' n q t = subst (λ (x : Read). Told x report report' n) (sym q) t
+told_refused r z report report' n q t = subst (λ (x : Result Cursor Refusal). Told x report report' n) (sym q) t

@@ -6,21 +6,21 @@ ghost use Rattle.paper.specs.Numbers.{report_size};
 ghost use Rattle.paper_query.specs.DocumentCalls.{Lent};
 ghost use Rattle.call_endings.specs.Endings.{Ended, Told};
 
-use paper::ACCEPTED;
+use paper::{ACCEPTED, Refusal};
 use paper_query::{QueryAnswer, REFUSE_QUERY};
-use text_cursor::Read;
+use text_cursor::Cursor;
 
-// Tells what came of reading, and answers its number.
-pub fn tell_read(r: Read, report: &mut [u32]) -> u32
+// Tells what came of reading, Ok with the cursor that counts the rows or Err with the refusal, and answers its number.
+pub fn tell_read(r: Result<Cursor, Refusal>, report: &mut [u32]) -> u32
     requires { report_size ≤ length report.old }
     ensures { Told r report.old report.new result }
 {
     match r {
-        Read::Done(c) => {
+        Ok(c) => {
             call_report::tell(report, ACCEPTED, c.rows);
             ACCEPTED
         }
-        Read::Refused(why) => call_report::tell_refusal(report, why),
+        Err(why) => call_report::tell_refusal(report, why),
     }
 }
 

@@ -8,6 +8,7 @@ use mathlib.Core.Logic.{◌⊎◌, ◌↔◌}
 use Prim.Native.Nat.{ℕ, suc, ◌-◌, ◌*◌, ◌≤◌, ◌<◌}
 use lib.Dec.{T}
 use lib.ListN.{length, take, drop, get_or, replicate}
+use Rattle.std.specs.Prelude.{Ok, Err}
 use Rattle.paper.specs.Numbers.{report_size, row_size, rows_size, most_text, most_levels, most_rows, most_fragments, most_variables, most_wrappers, no_parent, kind_fragment, kind_variable_definition, input_document}
 use Rattle.paper.specs.Grammar.{Ev, mark, toks}
 use Rattle.paper.specs.Language.{Class, Mark, row, kind, wrapper, Part, Document, VariablesText}
@@ -28,7 +29,6 @@ use Rattle.paper_theory.proofs.CallsOne as calls
 use Rattle.text_rows.proofs.RowsLie as lie
 use Rattle.text_documents.specs.Documents.{Ended}
 use Rattle.text_cursor.specs.declared.Cursor.{Cursor}
-use Rattle.text_cursor.specs.declared.Read.TheVariants.{Done, Refused}
 use Rattle.gateway.proofs.parse.gw_parse.Statement as gw-parse
 use Rattle.gateway.proofs.parse.gw_parse.Met as gw-parse-met
 use Rattle.text_documents.proofs.variables_text.Statement as variables-text
@@ -231,11 +231,11 @@ pub variables_text_meets : {M : Type 1} → variables-text.statement M
 variables_text_meets = variables-text-met.met
 
 -- That contract says what `TextAnswer VariablesText` does: the rows and their count, or the refusal.
-pub variables_text_reads : (s rows rows' : List ℕ) (d : Cursor) → length rows ≡ rows_size → Ended VariablesText s rows rows' (Done d) →
+pub variables_text_reads : (s rows rows' : List ℕ) (d : Cursor) → length rows ≡ rows_size → Ended VariablesText s rows rows' (Ok d) →
     (t : Text) × (rs : List Row) × Tokens 0 s t × TextAnswer VariablesText t (rows_are rs) × (d.rows ≡ length rs) × (length rs ≤ most_rows) × (take (row_size * length rs) rows' ≡ flat rs)
 variables_text_reads = variables.variables_read
 
-pub variables_text_refuses : (s rows rows' : List ℕ) (r : Refusal) → length rows ≡ rows_size → Ended VariablesText s rows rows' (Refused r) →
+pub variables_text_refuses : (s rows rows' : List ℕ) (r : Refusal) → length rows ≡ rows_size → Ended VariablesText s rows rows' (Err r) →
     (t : Text) × Tokens 0 s t × TextAnswer VariablesText t (refuses r)
 variables_text_refuses = variables.variables_refused
 

@@ -5,6 +5,7 @@ use mathlib.Core.List.{List, [], ◌∷◌, ◌++◌, Memᴰ}
 use Prim.Native.Nat.{ℕ, zero, suc, ◌*◌, ◌≤◌}
 use lib.Dec.{T, eqb}
 use lib.ListN.{length, take}
+use Rattle.std.specs.Prelude.{Ok, Err}
 use Rattle.paper.specs.Grammar.{Sym, nt, tm, act, Ev, tok, mark, Derives, done, take as take-token, note, by}
 use Rattle.paper.specs.Numbers.{report_size, input_document, row_size, rows_size, most_rows, kind_operation, kind_fragment, kind_variable_definition}
 use Rattle.paper.specs.Language.{Class, Terminal, Mark, row, kind, named, wrapper, wrap, end, Part, language, hits, VariablesText}
@@ -26,10 +27,9 @@ use Rattle.paper_theory.proofs.GoingSaid.{going_whole, going_halt}
 use Rattle.paper_theory.proofs.CallsGoing.{from_rising}
 use Rattle.text_documents.specs.Documents.{Ended}
 use Rattle.text_cursor.specs.declared.Cursor.{Cursor}
-use Rattle.text_cursor.specs.declared.Read.TheVariants.{Done, Refused}
 
 -- the rows of the text and their count
-pub variables_read : (s rows rows' : List ℕ) (d : Cursor) → length rows ≡ rows_size → Ended VariablesText s rows rows' (Done d) →
+pub variables_read : (s rows rows' : List ℕ) (d : Cursor) → length rows ≡ rows_size → Ended VariablesText s rows rows' (Ok d) →
     (t : Text) × (rs : List Row) × Tokens 0 s t × TextAnswer VariablesText t (rows_are rs) × (d.rows ≡ length rs) × (length rs ≤ most_rows) × (take (row_size * length rs) rows' ≡ flat rs)
 variables_read s rows rows' d e h =
     let g = going_whole VariablesText (from s 0) rows h.0 e h.1 in (
@@ -43,7 +43,7 @@ variables_read s rows rows' d e h =
     )
 
 -- or why it is refused
-pub variables_refused : (s rows rows' : List ℕ) (r : Refusal) → length rows ≡ rows_size → Ended VariablesText s rows rows' (Refused r) →
+pub variables_refused : (s rows rows' : List ℕ) (r : Refusal) → length rows ≡ rows_size → Ended VariablesText s rows rows' (Err r) →
     (t : Text) × Tokens 0 s t × TextAnswer VariablesText t (refuses r)
 variables_refused s rows rows' r e h = (from s 0, tokens_are s, going_halt VariablesText (from s 0) (from_rising s) rows r h)
 

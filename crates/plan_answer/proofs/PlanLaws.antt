@@ -10,9 +10,8 @@ use native.Mathlib.Decide.{dec_lt}
 use lib.ListN.{length, get_or, take, drop, replicate, length-append, length-drop, drop_of_length-le}
 use lib.Seq.{length-take-le, take_at}
 use lib.Dec.{eqb}
-use denote.Enum.Declared.{tag_of}
-use types.Run.{OneOf}
 use borrow.Author.Tests.{lt-ltb, le-ltb}
+use Rattle.std.specs.Prelude.{Result, Ok, Err}
 use Rattle.paper.proofs.Bools.{and_left}
 use Rattle.paper.specs.Numbers.{rows_size, report_size, accepted, most_text, kind_operation}
 use Rattle.paper.specs.Rows.{Row}
@@ -26,8 +25,6 @@ use Rattle.paper_query.specs.Constructs.{Doc, count, row_of, no_row, is, called,
 use Rattle.paper_query.specs.DocumentCalls.{Short, read}
 use Rattle.paper_query.specs.Opening.{only_one, if_below, operation_meant, Opened, stops, opens, opened}
 use Rattle.call_buffers.specs.Buffers.{cleared}
-use Rattle.call_buffers.specs.declared.Sizes.{Sizes}
-use Rattle.call_buffers.specs.declared.Sizes.TheVariants.{Met, Unmet}
 use Rattle.query_rows.specs.Rowed.{rows_in, doc_of}
 use Rattle.query_links.proofs.Nexts.{next_passes, next_all}
 use Rattle.paper_plan.specs.Collecting.{elem}
@@ -37,10 +34,10 @@ use Rattle.paper_plan.specs.PlanCalls.{PlanLent, PlanIs, Planned, short_report, 
 use Rattle.plan_theory.proofs.NumbersOf.{where_kept, or_l}
 use Rattle.plan_theory.proofs.Accepted.{accepted_plannable}
 use Rattle.plan_making.specs.Made.{PlanFits, PlanOver, PlanMade, Asked}
-use Rattle.query_opening.specs.contracts.Start.{the_type}
 use Rattle.query_opening.specs.Opens.{Ready, Opens, stop_number, stop_shown}
-use Rattle.query_opening.specs.declared.Start.{Start}
-use Rattle.query_opening.specs.declared.Start.TheVariants.{BadTable, BadText, Broken, NoOperation, Open}
+use Rattle.query_opening.specs.declared.OpenedOperation.{OpenedOperation}
+use Rattle.query_opening.specs.declared.NotOpened.{NotOpened}
+use Rattle.query_opening.specs.declared.NotOpened.TheVariants.{BadTable, BadText, Broken, NoOperation}
 use Rattle.plan_endings.specs.Endings.{PlanAsks, PlanSized, MadeTold}
 use Rattle.plan_endings.specs.Endings.{short_plan as asks-plan, long_document as asks-long, long_table as asks-long-table}
 use Rattle.plan_answer.specs.Told.{TooManyTold, PlanTold, Left}
@@ -70,21 +67,11 @@ opened_meant : {table document name : List ℕ} {rs : List Row} {o : ℕ} → Op
 opened_meant (opened a e) = e
 
 -- an opening that does not open stops
-pub not_open : (x : Start) → OneOf (0 ∷ 1 ∷ 2 ∷ 3 ∷ []) (tag_of the_type x) → (n o : ℕ) → x ≡ Open n o → ⊥
-not_open x k n o e = go (subst (λ (y : Start). OneOf (0 ∷ 1 ∷ 2 ∷ 3 ∷ []) (tag_of the_type y)) e k)
-  where
-    go : (◌≡◌ {A = ℕ} 4 0) ⊎ ((◌≡◌ {A = ℕ} 4 1) ⊎ ((◌≡◌ {A = ℕ} 4 2) ⊎ (◌≡◌ {A = ℕ} 4 3))) → ⊥
-    go (inl q) = absurd (omega (arith, q))
-    go (inr (inl q)) = absurd (omega (arith, q))
-    go (inr (inr (inl q))) = absurd (omega (arith, q))
-    go (inr (inr (inr q))) = absurd (omega (arith, q))
-
-stops_so : (table document name rows book : List ℕ) (x : Start) → Opens table document name rows book x → ((n o : ℕ) → x ≡ Open n o → ⊥) → Opened table document name (stops (stop_number x) (stop_shown x))
-stops_so table document name rows book (BadTable a) w f = w
-stops_so table document name rows book (BadText r) w f = w
-stops_so table document name rows book (Broken i k) w f = w
-stops_so table document name rows book NoOperation w f = w
-stops_so table document name rows book (Open n o) w f = absurd (f n o refl)
+stops_so : (table document name rows book : List ℕ) (z : NotOpened) → Opens table document name rows book (Err z) → Opened table document name (stops (stop_number (Err z)) (stop_shown (Err z)))
+stops_so table document name rows book (BadTable a) w = w
+stops_so table document name rows book (BadText r) w = w
+stops_so table document name rows book (Broken i k) w = w
+stops_so table document name rows book NoOperation w = w
 
 -- what opens can be planned
 pub ready_asked : (table document name rows book : List ℕ) (n o : ℕ) → Ready table document name rows book n o → Asked table book document rows n o
@@ -95,8 +82,8 @@ ready_asked table document name rows book n o w = record {
   operation = meant_operation (doc_of document rows n) name o (opened_meant w.opened);
 }
 
-pub open_ready : (table document name rows book : List ℕ) (x : Start) (n o : ℕ) → Opens table document name rows book x → x ≡ Open n o → Ready table document name rows book n o
-open_ready table document name rows book x n o w e = subst (Opens table document name rows book) e w
+pub open_ready : (table document name rows book : List ℕ) (x : Result OpenedOperation NotOpened) (y : OpenedOperation) → Opens table document name rows book x → x ≡ Ok y → Ready table document name rows book y.n y.row
+open_ready table document name rows book x y w e = subst (Opens table document name rows book) e w
 
 -- the rows stand in front of the plan's buffer
 pub front_rows : (rows plan : List ℕ) → length rows ≡ rows_size → take rows_size (rows ++ drop rows_size plan) ≡ rows
@@ -163,29 +150,30 @@ module _ (table document name plan report plan' report' : List ℕ) (lent : Plan
   rows_front : (rows : List ℕ) → length plan ≡ plan_size → length rows ≡ rows_size → length (rows ++ drop rows_size plan) ≡ plan_size
   rows_front rows e f = omega (arith, length-append rows (drop rows_size plan), length-drop rows_size plan)
 
-  pub opened_asked : (rows book : List ℕ) (x : Start) (n o : ℕ) → Opens table document name rows book x → x ≡ Open n o → Asked table book document (take rows_size (rows ++ drop rows_size plan)) n o
-  opened_asked rows book x n o w e =
-      let r = open_ready table document name rows book x n o w e in
-      subst (λ (l : List ℕ). Asked table book document l n o) (sym (front_rows rows plan r.taken.rowed.size)) (ready_asked table document name rows book n o r)
+  pub opened_asked : (rows book : List ℕ) (x : Result OpenedOperation NotOpened) (y : OpenedOperation) → Opens table document name rows book x → x ≡ Ok y → Asked table book document (take rows_size (rows ++ drop rows_size plan)) y.n y.row
+  opened_asked rows book x y w e =
+      let r = open_ready table document name rows book x y w e in
+      subst (λ (l : List ℕ). Asked table book document l y.n y.row) (sym (front_rows rows plan r.taken.rowed.size)) (ready_asked table document name rows book y.n y.row r)
 
-  pub planned_opened : (rows book : List ℕ) (x : Start) (n o r : ℕ) → Opens table document name rows book x → x ≡ Open n o → length plan ≡ plan_size
-      → Left (table_of table) (doc_of document (take rows_size (rows ++ drop rows_size plan)) n) o (rows ++ drop rows_size plan) plan' report report' r → Planned table document name plan report plan' report' r
-  planned_opened rows book x n o r w e size l =
-      let k = open_ready table document name rows book x n o w e in
+  pub planned_opened : (rows book : List ℕ) (x : Result OpenedOperation NotOpened) (y : OpenedOperation) (r : ℕ) → Opens table document name rows book x → x ≡ Ok y → length plan ≡ plan_size
+      → Left (table_of table) (doc_of document (take rows_size (rows ++ drop rows_size plan)) y.n) y.row (rows ++ drop rows_size plan) plan' report report' r → Planned table document name plan report plan' report' r
+  planned_opened rows book x y r w e size l =
+      let k = open_ready table document name rows book x y w e in
       let f : length rows ≡ rows_size = k.taken.rowed.size in
-      planned_left rows book (rows ++ drop rows_size plan) n o r k size (rows_front rows size f)
-      (subst (λ (z : List ℕ). Left (table_of table) (doc_of document z n) o (rows ++ drop rows_size plan) plan' report report' r) (front_rows rows plan f) l)
+      planned_left rows book (rows ++ drop rows_size plan) y.n y.row r k size (rows_front rows size f)
+      (subst (λ (z : List ℕ). Left (table_of table) (doc_of document z y.n) y.row (rows ++ drop rows_size plan) plan' report report' r) (front_rows rows plan f) l)
 
-  pub planned_stop : (rows book plan₁ : List ℕ) (x : Start) (r : ℕ) → Opens table document name rows book x → ((n o : ℕ) → x ≡ Open n o → ⊥) → length plan ≡ plan_size → length plan₁ ≡ plan_size
-      → plan' ≡ cleared 0 plan₁ → (r ≡ stop_number x) × (report' ≡ filled report_size (stop_number x ∷ stop_shown x) report) → Planned table document name plan report plan' report' r
-  planned_stop rows book plan₁ x r w f e g q t =
-      subst (Planned table document name plan report plan' report') (sym t.0) (refuses_opening lent short (stops_so table document name rows book x w f) (q ∙ all_cleared plan plan₁ e g) t.1)
+  pub planned_stop : (rows book plan₁ : List ℕ) (x : Result OpenedOperation NotOpened) (z : NotOpened) (r : ℕ) → Opens table document name rows book x → x ≡ Err z → length plan ≡ plan_size → length plan₁ ≡ plan_size
+      → plan' ≡ cleared 0 plan₁ → (r ≡ stop_number (Err z)) × (report' ≡ filled report_size (stop_number (Err z) ∷ stop_shown (Err z)) report) → Planned table document name plan report plan' report' r
+  planned_stop rows book plan₁ x z r w f e g q t =
+      subst (Planned table document name plan report plan' report') (sym t.0)
+      (refuses_opening lent short (stops_so table document name rows book z (subst (Opens table document name rows book) f w)) (q ∙ all_cleared plan plan₁ e g) t.1)
 
 -- The sizes.
-pub sizes_kept : {plan document table : ℕ} {s : Sizes} → PlanSized plan document table s → s ≡ Met → (plan_size ≤ plan) × (document ≤ most_text) × (table ≤ most_table)
+pub sizes_kept : {plan document table : ℕ} {s : Result (Unit {0}) Refusal} {u : Unit {0}} → PlanSized plan document table s → s ≡ Ok u → (plan_size ≤ plan) × (document ≤ most_text) × (table ≤ most_table)
 sizes_kept {plan} {document} {table} w e = subst (PlanSized plan document table) e w
 
-pub sizes_unmet : (table document name plan report report' : List ℕ) (s : Sizes) (z : Refusal) (n : ℕ) → report_size ≤ length report → PlanSized (length plan) (length document) (length table) s → s ≡ Unmet z →
+pub sizes_unmet : (table document name plan report report' : List ℕ) (s : Result (Unit {0}) Refusal) (z : Refusal) (n : ℕ) → report_size ≤ length report → PlanSized (length plan) (length document) (length table) s → s ≡ Err z →
     n ≡ number_of z → report' ≡ tells z report → Planned table document name plan report plan report' n
 sizes_unmet table document name plan report report' s z n h a q p e =
     subst (Planned table document name plan report plan report') (sym p) (go z (subst (PlanSized (length plan) (length document) (length table)) q a) e)

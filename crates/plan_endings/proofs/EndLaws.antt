@@ -4,25 +4,24 @@ use mathlib.Core.List.{List, [], ◌∷◌}
 use Prim.Native.Nat.{ℕ, ◌≤◌, ◌<◌}
 use native.Mathlib.Omega.{arith}
 use lib.ListN.{get_or}
+use Rattle.std.specs.Prelude.{Result, Ok, Err}
 use Rattle.paper.specs.Numbers.{rows_size, report_size, accepted}
 use Rattle.paper.specs.Calls.{filled}
 use Rattle.paper.specs.declared.Refusal.{Refusal}
 use Rattle.paper.specs.declared.Refusal.TheVariants.{Buffer}
 use Rattle.call_buffers.specs.Buffers.{Asks, Sized, cleared}
 use Rattle.call_buffers.specs.Buffers.{short_rows as asks-rows, long_document as asks-document, long_table as asks-table}
-use Rattle.call_buffers.specs.declared.Sizes.{Sizes}
-use Rattle.call_buffers.specs.declared.Sizes.TheVariants.{Met, Unmet}
 use Rattle.paper_plan.specs.PlanNumbers.{plan_size}
 use Rattle.paper_plan.specs.PlanCalls.{refuse_too_many_steps}
 use Rattle.plan_endings.specs.Endings.{PlanAsks, PlanSized, MadeTold}
 use Rattle.plan_endings.specs.Endings.{short_plan as asks-plan, long_document as asks-long, long_table as asks-long-table}
 
-pub sized_short : (plan document table : ℕ) → plan < plan_size → PlanSized plan document table (Unmet Buffer)
+pub sized_short : (plan document table : ℕ) → plan < plan_size → PlanSized plan document table (Err Buffer)
 sized_short plan document table h = asks-plan h
 
-pub sized_rest : (plan document table : ℕ) (s : Sizes) → plan_size ≤ plan → Sized rows_size document table s → PlanSized plan document table s
-sized_rest plan document table Met h w = (h, w.1, w.2)
-sized_rest plan document table (Unmet r) h w = go r w
+pub sized_rest : (plan document table : ℕ) (s : Result (Unit {0}) Refusal) → plan_size ≤ plan → Sized rows_size document table s → PlanSized plan document table s
+sized_rest plan document table (Ok u) h w = (h, w.1, w.2)
+sized_rest plan document table (Err r) h w = go r w
   where
     go : (y : Refusal) → Asks rows_size document table y → PlanAsks plan document table y
     go _ (asks-rows u) = absurd (omega arith)

@@ -6,17 +6,16 @@ ghost use Rattle.paper.specs.Numbers.{report_size};
 ghost use Rattle.paper_plan.specs.PlanNumbers.{plan_size, most_steps};
 ghost use Rattle.plan_endings.specs.Endings.{PlanSized, MadeTold};
 
-use call_buffers::Sizes;
 use paper::{ACCEPTED, ROWS_SIZE, Refusal};
 use paper_plan::{PLAN_BLOCKS, PLAN_SIZE, REFUSE_TOO_MANY_STEPS};
 use plan_steps::TOO_MANY_STEPS;
 
-// Whether the plan's buffer and the inputs keep to their sizes, or the first refusal that they ask for.
-pub fn sizes_met(plan: usize, document: usize, table: usize) -> Sizes
+// Ok where the plan's buffer and the inputs keep to their sizes, or Err with the first refusal that they ask for.
+pub fn sizes_met(plan: usize, document: usize, table: usize) -> Result<(), Refusal>
     ensures { PlanSized plan document table result }
 {
     if plan < PLAN_SIZE {
-        return Sizes::Unmet(Refusal::Buffer);
+        return Err(Refusal::Buffer);
     }
     call_buffers::sizes_met(ROWS_SIZE, document, table)
 }

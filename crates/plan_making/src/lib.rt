@@ -6,7 +6,7 @@ ghost use Rattle.std.specs.Prelude.{◌≡◌, ◌∷◌, ◌+◌, ◌*◌, ◌�
 ghost use Rattle.paper.specs.Numbers.{rows_size, most_rows};
 ghost use Rattle.paper_table.specs.Types.{table_of};
 ghost use Rattle.table_types.specs.Booked.{Booked};
-ghost use Rattle.query_rows.specs.Rowed.{rows_in, doc_of, Rowed, few_rows};
+ghost use Rattle.query_rows.specs.Rowed.{rows_in, doc_of, Rowed, room_of};
 ghost use Rattle.query_links.specs.Links.{firsts_size, kinds_size, Family, Kinds};
 ghost use Rattle.query_spreads.specs.Owners.{Defines};
 ghost use Rattle.paper_plan.specs.PlanNumbers.{plan_size};
@@ -15,6 +15,7 @@ ghost use Rattle.plan_keys.specs.Keyed.{buckets};
 ghost use Rattle.plan_blocks.specs.Blocks.{BlocksTo};
 ghost use Rattle.plan_tests.specs.Right.{TableTo};
 ghost use Rattle.plan_writing.specs.Writing.{Tables, Holders, Writes};
+ghost use Rattle.plan_making.specs.declared.TheConstants.{CELLS};
 ghost use Rattle.plan_making.specs.Made.{PlanMade, Asked, Room, Prepared};
 
 use paper::ROWS_SIZE;
@@ -152,62 +153,29 @@ fn write_cleared(
     write_plan(cells, n, first, next, o, out, m, opened, begun, plan)
 }
 
-// Makes the plan of a document of few rows, in room for few.
-fn make_few(t: &[u8], book: &[u32], s: &[u8], plan: &mut [u32], n: usize, o: usize) -> usize
-    requires { Asked t.now book.now s.now (take rows_size plan.old) n o × (length plan.old ≡ plan_size) × (n ≤ few_rows) }
+// Makes the plan in lists of these lengths: few for few rows, so that little is cleared.
+fn make_in<const ROOM: usize, const TABLE: usize>(
+    t: &[u8],
+    book: &[u32],
+    s: &[u8],
+    plan: &mut [u32],
+    n: usize,
+    o: usize,
+) -> usize
+    requires { Asked t.now book.now s.now (take rows_size plan.old) n o × (length plan.old ≡ plan_size) × (ROOM ≡ room_of n) × (12 * n ≤ TABLE) × (TABLE ≤ CELLS) }
     ensures { PlanMade (table_of t.now) (doc_of s.now (take rows_size plan.old) n) o plan.new result }
 {
     let mut first = [0u16; FIRSTS];
-    let mut next = [0u16; FEW_ROWS];
+    let mut next = [0u16; ROOM];
     let mut firstk = [0u16; KINDS];
-    let mut nextk = [0u16; FEW_ROWS];
-    let mut owner = [0u16; FEW_ROWS];
-    let mut mark = [0u16; FEW_ROWS];
-    let mut target = [0u16; FEW_ROWS];
+    let mut nextk = [0u16; ROOM];
+    let mut owner = [0u16; ROOM];
+    let mut mark = [0u16; ROOM];
+    let mut target = [0u16; ROOM];
     let mut firsts = [0u16; FIRSTS];
-    let mut nexts = [0u16; FEW_ROWS];
-    let mut stack = [0u16; FEW_ROWS];
-    let mut cells = [0u16; FEW_CELLS];
-    let m = ready(
-        t,
-        book,
-        s,
-        &plan[..ROWS_SIZE],
-        n,
-        o,
-        &mut first,
-        &mut next,
-        &mut firstk,
-        &mut nextk,
-        &mut owner,
-        &mut mark,
-        &mut target,
-        &mut firsts,
-        &mut nexts,
-        &mut stack,
-        &mut cells,
-    );
-    write_cleared(
-        &cells, n, &first, &next, o as u16, &target, m, &mut owner, &mut mark, plan,
-    )
-}
-
-// Makes the plan of a document of more rows than few.
-fn make_many(t: &[u8], book: &[u32], s: &[u8], plan: &mut [u32], n: usize, o: usize) -> usize
-    requires { Asked t.now book.now s.now (take rows_size plan.old) n o × (length plan.old ≡ plan_size) × (few_rows < n) }
-    ensures { PlanMade (table_of t.now) (doc_of s.now (take rows_size plan.old) n) o plan.new result }
-{
-    let mut first = [0u16; FIRSTS];
-    let mut next = [0u16; ROWS];
-    let mut firstk = [0u16; KINDS];
-    let mut nextk = [0u16; ROWS];
-    let mut owner = [0u16; ROWS];
-    let mut mark = [0u16; ROWS];
-    let mut target = [0u16; ROWS];
-    let mut firsts = [0u16; FIRSTS];
-    let mut nexts = [0u16; ROWS];
-    let mut stack = [0u16; ROWS];
-    let mut cells = [0u16; CELLS];
+    let mut nexts = [0u16; ROOM];
+    let mut stack = [0u16; ROOM];
+    let mut cells = [0u16; TABLE];
     let m = ready(
         t,
         book,
@@ -239,7 +207,7 @@ pub fn make(t: &[u8], book: &[u32], s: &[u8], plan: &mut [u32], n: usize, o: usi
     ensures { PlanMade (table_of t.now) (doc_of s.now (take rows_size plan.old) n) o plan.new result }
 {
     if n <= FEW_ROWS {
-        return make_few(t, book, s, plan, n, o);
+        return make_in::<FEW_ROWS, FEW_CELLS>(t, book, s, plan, n, o);
     }
-    make_many(t, book, s, plan, n, o)
+    make_in::<ROWS, CELLS>(t, book, s, plan, n, o)
 }

@@ -1,20 +1,21 @@
 -- What a row's numbers say, by what the row is.
 use mathlib.Core.Path.{◌≡◌, refl, sym, ap, ◌∙◌, subst}
 use mathlib.Core.Bool.{Bool, true, false, true≢false, ◌||◌}
-use mathlib.Core.Option.{Option, none, some}
+use mathlib.Core.Option.{Option as Maybe, none, some}
 use mathlib.Core.List.{List, [], ◌∷◌, ◌++◌, append-nil, append_assoc}
 use Prim.Native.Nat.{ℕ, ◌+◌, ◌*◌, ◌≤◌, ◌<◌}
 use native.Mathlib.Omega.{arith}
 use lib.ListN.{length, get_or}
 use lib.Seq.{sets}
 use borrow.Author.Tests.{eq-eqb, ne_eqb}
+use Rattle.std.specs.Prelude.{Option, Some, None}
 use Rattle.paper.specs.Numbers.{most_rows}
 use Rattle.paper_plan.specs.Collecting.{Cond, absent, literal, variable, field, spread, inline, View}
 use Rattle.paper_plan.specs.Planning.{Test, if_true, unless_true, unless_applies, if_met, Step, skip_tests, include_tests, dropped, tests, sort_tests, content}
 use Rattle.plan_walk_steps.specs.Numbers.{test_of}
 use Rattle.plan_steps.specs.Table.{tests_from}
-use Rattle.plan_conditions.specs.declared.If.{If}
-use Rattle.plan_conditions.specs.declared.If.TheVariants.{Absent, Literal, Variable}
+use Rattle.plan_conditions.specs.declared.IfValue.{IfValue}
+use Rattle.plan_conditions.specs.declared.IfValue.TheVariants.{Literal, Variable}
 use Rattle.plan_conditions.specs.Conditions.{coded}
 use Rattle.plan_tests.specs.Right.{row_cells, Small, PutIf, skip_drops_by, include_drops_by, drops_by, spread_row, inline_row, TestsAre, Right}
 use Rattle.plan_tests.proofs.RowLaws.{tests_start, tests_put, head_tests, head_what, head_above, head_behind, head_count}
@@ -37,26 +38,26 @@ unfolding test_of
 test_4 x = refl
 
 -- what the `if` of a directive is, and what is written then
-pub small_variable : (c : If) (v : ℕ) → Small c → c ≡ Variable v → v ≤ most_rows
+pub small_variable : (c : Option IfValue) (v : ℕ) → Small c → c ≡ Some (Variable v) → v ≤ most_rows
 small_variable c v s e = subst Small e s
 
-pub put_absent : (row : List ℕ) (m k : ℕ) (c : If) → c ≡ Absent → PutIf row m k c row m
-put_absent row m k c e = subst (λ (x : If). PutIf row m k x row m) (sym e) (refl, refl)
+pub put_absent : (row : List ℕ) (m k : ℕ) (c : Option IfValue) → c ≡ None → PutIf row m k c row m
+put_absent row m k c e = subst (λ (x : Option IfValue). PutIf row m k x row m) (sym e) (refl, refl)
 
-pub put_literal : (row : List ℕ) (m k : ℕ) (c : If) (b : Bool) → c ≡ Literal b → PutIf row m k c row m
-put_literal row m k c b e = subst (λ (x : If). PutIf row m k x row m) (sym e) (refl, refl)
+pub put_literal : (row : List ℕ) (m k : ℕ) (c : Option IfValue) (b : Bool) → c ≡ Some (Literal b) → PutIf row m k c row m
+put_literal row m k c b e = subst (λ (x : Option IfValue). PutIf row m k x row m) (sym e) (refl, refl)
 
-pub put_variable : (row row' : List ℕ) (m k : ℕ) (c : If) (v : ℕ) → c ≡ Variable v → row' ≡ sets row (4 + 2 * m) (k ∷ v ∷ []) → PutIf row m k c row' (m + 1)
-put_variable row row' m k c v e q = subst (λ (x : If). PutIf row m k x row' (m + 1)) (sym e) (q, refl)
+pub put_variable : (row row' : List ℕ) (m k : ℕ) (c : Option IfValue) (v : ℕ) → c ≡ Some (Variable v) → row' ≡ sets row (4 + 2 * m) (k ∷ v ∷ []) → PutIf row m k c row' (m + 1)
+put_variable row row' m k c v e q = subst (λ (x : Option IfValue). PutIf row m k x row' (m + 1)) (sym e) (q, refl)
 
-pub drops_first : (a b : If) → skip_drops_by a ≡ true → true ≡ drops_by a b
+pub drops_first : (a b : Option IfValue) → skip_drops_by a ≡ true → true ≡ drops_by a b
 drops_first a b e = sym (ap (λ (x : Bool). x || include_drops_by b) e)
 
-pub drops_second : (a b : If) (r : Bool) → skip_drops_by a ≡ false → r ≡ include_drops_by b → r ≡ drops_by a b
+pub drops_second : (a b : Option IfValue) (r : Bool) → skip_drops_by a ≡ false → r ≡ include_drops_by b → r ≡ drops_by a b
 drops_second a b r e q = q ∙ sym (ap (λ (x : Bool). x || include_drops_by b) e)
 
-pub dropped_by : (a b c e : If) → a ≡ c → b ≡ e → drops_by a b ≡ drops_by c e
-dropped_by a b c e p q = ap (λ (x : If). drops_by x b) p ∙ ap (drops_by c) q
+pub dropped_by : (a b c e : Option IfValue) → a ≡ c → b ≡ e → drops_by a b ≡ drops_by c e
+dropped_by a b c e p q = ap (λ (x : Option IfValue). drops_by x b) p ∙ ap (drops_by c) q
 
 pub spread_written : (row row₁ row₂ row₃ : List ℕ) (m above number number' type type' f f' : ℕ) → number ≡ number' → type ≡ type' → f ≡ f'
     → row₁ ≡ sets row (4 + 2 * m) (4 ∷ number ∷ []) → row₂ ≡ sets row₁ (4 + 2 * (m + 1)) (3 ∷ type ∷ []) → row₃ ≡ sets row₂ 0 (2 ∷ above ∷ f ∷ (m + 2) ∷ [])
@@ -93,17 +94,17 @@ put_include (literal b) row row' m k ts w h p = (subst (λ (l : List ℕ). Tests
 put_include (variable v) row row' m k ts w h p =
     (subst (λ (n : ℕ). TestsAre row' n (ts ++ (unless_true v ∷ []))) (sym p.1) (subst (λ (t : Test). TestsAre row' (m + 1) (ts ++ (t ∷ []))) (test_2 v) (tests_put row m ts w row' 2 v h (omega arith) (omega arith) p.0)), omega (arith, p.1))
 
-put_size : (a : If) (row row' : List ℕ) (m k x : ℕ) → PutIf row m x a row' k → m < 4 → length row ≡ row_cells → (length row' ≡ row_cells) × (k ≤ m + 1)
-put_size Absent row row' m k x p h e = (ap length p.0 ∙ e, omega (arith, p.1))
-put_size (Literal b) row row' m k x p h e = (ap length p.0 ∙ e, omega (arith, p.1))
-put_size (Variable v) row row' m k x p h e = (ap length p.0 ∙ lib.Seq.length-sets row (4 + 2 * m) (x ∷ v ∷ []) ∙ e, omega (arith, p.1))
+put_size : (a : Option IfValue) (row row' : List ℕ) (m k x : ℕ) → PutIf row m x a row' k → m < 4 → length row ≡ row_cells → (length row' ≡ row_cells) × (k ≤ m + 1)
+put_size None row row' m k x p h e = (ap length p.0 ∙ e, omega (arith, p.1))
+put_size (Some (Literal b)) row row' m k x p h e = (ap length p.0 ∙ e, omega (arith, p.1))
+put_size (Some (Variable v)) row row' m k x p h e = (ap length p.0 ∙ lib.Seq.length-sets row (4 + 2 * m) (x ∷ v ∷ []) ∙ e, omega (arith, p.1))
 
 -- the tests of both directives, from none on; the code's conditions are a and b
-module _ (a b : Cond) (s i : If) (e : s ≡ coded a) (f : i ≡ coded b) (row row₁ row₂ : List ℕ) (k m : ℕ) (size : length row ≡ row_cells)
+module _ (a b : Cond) (s i : Option IfValue) (e : s ≡ coded a) (f : i ≡ coded b) (row row₁ row₂ : List ℕ) (k m : ℕ) (size : length row ≡ row_cells)
     (p : PutIf row 0 1 s row₁ k) where
   first : TestsAre row₁ k (skip_tests a) × (k ≤ 1)
   first =
-      let q = put_skip a row row₁ 0 k [] (tests_start row size) (omega arith) (subst (λ (c : If). PutIf row 0 1 c row₁ k) e p) in
+      let q = put_skip a row row₁ 0 k [] (tests_start row size) (omega arith) (subst (λ (c : Option IfValue). PutIf row 0 1 c row₁ k) e p) in
       (q.0, omega (arith, q.1))
 
   pub once_size : (length row₁ ≡ row_cells) × (k ≤ 1)
@@ -111,7 +112,7 @@ module _ (a b : Cond) (s i : If) (e : s ≡ coded a) (f : i ≡ coded b) (row ro
 
   pub both_tests : PutIf row₁ k 2 i row₂ m → TestsAre row₂ m (skip_tests a ++ include_tests b) × (m ≤ 2)
   both_tests q =
-      let r = put_include b row₁ row₂ k m (skip_tests a) first.0 (omega (arith, first.1)) (subst (λ (c : If). PutIf row₁ k 2 c row₂ m) f q) in
+      let r = put_include b row₁ row₂ k m (skip_tests a) first.0 (omega (arith, first.1)) (subst (λ (c : Option IfValue). PutIf row₁ k 2 c row₂ m) f q) in
       (r.0, omega (arith, r.1, first.1))
 
 module _ (v : View ℕ) (set : ℕ → List ℕ) (r above : ℕ) where
@@ -221,7 +222,7 @@ module _ (v : View ℕ) (set : ℕ → List ℕ) (r above : ℕ) where
         (omega arith) low both
         (λ at inner. ap (content v inner at r) q ∙ ap (inner at) g) x
 
-    pub kept_inline : (c : Option ℕ) → r ≤ most_rows → v.sort r ≡ inline c → v.body r ≡ set r → row' ≡ inline_row row m above r c → Right v set r above selects row'
+    pub kept_inline : (c : Maybe ℕ) → r ≤ most_rows → v.sort r ≡ inline c → v.body r ≡ set r → row' ≡ inline_row row m above r c → Right v set r above selects row'
     kept_inline none low q g x =
         right_nested selects e d row row' m r given w (omega arith) low (sym (append-nil given) ∙ tests_are [] (ap (sort_tests v) q)) (λ at inner. ap (content v inner at r) q ∙ ap (inner at) g) x
     kept_inline (some type) low q g x =

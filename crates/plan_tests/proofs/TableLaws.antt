@@ -32,7 +32,7 @@ use Rattle.plan_theory.proofs.NumbersOf.{where_placed}
 use Rattle.plan_keys.specs.Keyed.{Keyed}
 use Rattle.plan_rows.specs.Ranks.{is_fragment, is_variable_of, rank, RanksTo}
 use Rattle.plan_rows.proofs.RankLaws.{rank_most, rank_first, fragment_rank, variable_is}
-use Rattle.plan_conditions.specs.declared.If.{If}
+use Rattle.plan_conditions.specs.declared.IfValue.{IfValue}
 use Rattle.plan_conditions.specs.Conditions.{coded}
 use Rattle.plan_steps.specs.Table.{up_from, keep, what, above, arg, belongs, tests_from, table_set, RowOf, Tabled}
 use Rattle.plan_steps.specs.Table.{count as testCount}
@@ -101,7 +101,7 @@ module _ (d : Doc) (o : ℕ) (few : count d ≤ most_rows) where
       go true r = small_from r
       go false r = tt
 
-pub small_coded : (d : Doc) (o : ℕ) → count d ≤ most_rows → (x : List ℕ) (i : ℕ) (c : If) → c ≡ coded (if_of d o x i) → Small c
+pub small_coded : (d : Doc) (o : ℕ) → count d ≤ most_rows → (x : List ℕ) (i : ℕ) (c : Rattle.std.specs.Prelude.Option IfValue) → c ≡ coded (if_of d o x i) → Small c
 small_coded d o few x i c e = subst Small (sym e) (small_if d o few x i)
 
 -- what a selection is, by its kind

@@ -1,7 +1,7 @@
 -- The planner's first pass: a table of twelve numbers a row (plan_steps has their meaning), and what it is made from.
 -- Assumes nothing.
-use Rattle.std.specs.Prelude.{◌≡◌, Bool, true, false, not, ◌||◌, List, [], ◌∷◌, ℕ, ◌+◌, ◌*◌, ◌≤◌, ◌<◌, length, get_or, take, drop, eqb}
-use Rattle.std.proofs.Math.Option.{Option, none, some}
+use Rattle.std.specs.Prelude.{◌≡◌, Bool, true, false, not, ◌||◌, List, [], ◌∷◌, ℕ, ◌+◌, ◌*◌, ◌≤◌, ◌<◌, Option, Some, None, length, get_or, take, drop, eqb}
+use Rattle.std.proofs.Math.Option.{Option as Maybe, none, some}
 use Rattle.std.proofs.lemmas.List.Edits.{sets}
 use Rattle.paper.specs.Numbers.{most_rows, kind_spread}
 use Rattle.paper_table.specs.Types.{table_of}
@@ -15,8 +15,8 @@ use Rattle.paper_plan.specs.Selecting.{by_numbers, set_of}
 use Rattle.paper_plan.specs.PlanNumbers.{step_unless_applies, step_if_met}
 use Rattle.plan_keys.specs.Keyed.{Keyed}
 use Rattle.plan_rows.specs.Ranks.{is_fragment, RanksTo}
-use Rattle.plan_conditions.specs.declared.If.{If}
-use Rattle.plan_conditions.specs.declared.If.TheVariants.{Absent, Literal, Variable}
+use Rattle.plan_conditions.specs.declared.IfValue.{IfValue}
+use Rattle.plan_conditions.specs.declared.IfValue.TheVariants.{Literal, Variable}
 use Rattle.plan_steps.specs.Table.{tests_from}
 
 -- a row's numbers, and what a row is
@@ -49,27 +49,27 @@ pub record Given (t book s rows : List ℕ) (n : ℕ) (first next firstk nextk r
   pub spreads : (i : ℕ) → is kind_spread (row_in rows n i) ≡ true → fragment_named (doc_of s rows n) (name_of (doc_of s rows n) i) < n
 
 -- What the `if` of a directive writes: a variable's test, or nothing; whether it drops the selection; a number that fits.
-abbrev pub Small : If → Type 0
-Small Absent = Unit {0}
-Small (Literal b) = Unit {0}
-Small (Variable v) = v ≤ most_rows
+abbrev pub Small : Option IfValue → Type 0
+Small None = Unit {0}
+Small (Some (Literal b)) = Unit {0}
+Small (Some (Variable v)) = v ≤ most_rows
 
-abbrev pub PutIf : List ℕ → ℕ → ℕ → If → List ℕ → ℕ → Type 0
-PutIf old m k Absent new r = (new ≡ old) × (r ≡ m)
-PutIf old m k (Literal b) new r = (new ≡ old) × (r ≡ m)
-PutIf old m k (Variable v) new r = (new ≡ sets old (4 + 2 * m) (k ∷ v ∷ [])) × (r ≡ m + 1)
+abbrev pub PutIf : List ℕ → ℕ → ℕ → Option IfValue → List ℕ → ℕ → Type 0
+PutIf old m k None new r = (new ≡ old) × (r ≡ m)
+PutIf old m k (Some (Literal b)) new r = (new ≡ old) × (r ≡ m)
+PutIf old m k (Some (Variable v)) new r = (new ≡ sets old (4 + 2 * m) (k ∷ v ∷ [])) × (r ≡ m + 1)
 
-abbrev pub skip_drops_by : If → Bool
-skip_drops_by Absent = false
-skip_drops_by (Literal b) = b
-skip_drops_by (Variable v) = false
+abbrev pub skip_drops_by : Option IfValue → Bool
+skip_drops_by None = false
+skip_drops_by (Some (Literal b)) = b
+skip_drops_by (Some (Variable v)) = false
 
-abbrev pub include_drops_by : If → Bool
-include_drops_by Absent = false
-include_drops_by (Literal b) = not b
-include_drops_by (Variable v) = false
+abbrev pub include_drops_by : Option IfValue → Bool
+include_drops_by None = false
+include_drops_by (Some (Literal b)) = not b
+include_drops_by (Some (Variable v)) = false
 
-abbrev pub drops_by : If → If → Bool
+abbrev pub drops_by : Option IfValue → Option IfValue → Bool
 drops_by s i = skip_drops_by s || include_drops_by i
 
 -- What a spread and an inline fragment write behind m tests.
@@ -77,7 +77,7 @@ abbrev pub spread_row : List ℕ → ℕ → ℕ → ℕ → ℕ → ℕ → Lis
 spread_row row m above number type f =
     sets (sets (sets row (4 + 2 * m) (step_if_met ∷ number ∷ [])) (4 + 2 * (m + 1)) (step_unless_applies ∷ type ∷ [])) 0 (what_nested ∷ above ∷ f ∷ (m + 2) ∷ [])
 
-abbrev pub inline_row : List ℕ → ℕ → ℕ → ℕ → Option ℕ → List ℕ
+abbrev pub inline_row : List ℕ → ℕ → ℕ → ℕ → Maybe ℕ → List ℕ
 inline_row row m above i none = sets row 0 (what_nested ∷ above ∷ i ∷ m ∷ [])
 inline_row row m above i (some type) = sets (sets row (4 + 2 * m) (step_unless_applies ∷ type ∷ [])) 0 (what_nested ∷ above ∷ i ∷ (m + 1) ∷ [])
 

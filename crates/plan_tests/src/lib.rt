@@ -18,7 +18,7 @@ ghost use Rattle.plan_tests.specs.Right.{row_cells, Given, Small, PutIf, skip_dr
 
 use paper::{KIND_FIELD, KIND_SPREAD, KIND_TYPE_REFERENCE};
 use paper_plan::{TEST_IF_MET, TEST_IF_TRUE, TEST_UNLESS_APPLIES, TEST_UNLESS_TRUE};
-use plan_conditions::If;
+use plan_conditions::IfValue;
 use plan_steps::{
     CELL_ABOVE, CELL_BEHIND, CELL_COUNT, CELL_TESTS, ROW_CELLS, WHAT_DROPPED, WHAT_FIELD,
     WHAT_NESTED, WHAT_NONE,
@@ -48,14 +48,16 @@ fn put_test(row: &mut [u16], m: usize, kind: u16, number: u32)
 }
 
 // Writes the test of a variable's `if`, of the kind, as test m; how many tests there are then.
-fn put_if(row: &mut [u16], m: usize, kind: u16, given: If) -> usize
+fn put_if(row: &mut [u16], m: usize, kind: u16, given: Option<IfValue>) -> usize
     requires { (length row.old ≡ row_cells) × (m < 4) × Small given }
     ensures { PutIf row.old m kind given row.new result }
 {
-    match given {
-        If::Absent => m,
-        If::Literal(_) => m,
-        If::Variable(v) => {
+    let Some(value) = given else {
+        return m;
+    };
+    match value {
+        IfValue::Literal(_) => m,
+        IfValue::Variable(v) => {
             put_test(row, m, kind, v as u32);
             m + 1
         }
@@ -63,29 +65,33 @@ fn put_if(row: &mut [u16], m: usize, kind: u16, given: If) -> usize
 }
 
 // Does the `if` of a @skip drop its selection?
-fn skip_drops(given: If) -> bool
+fn skip_drops(given: Option<IfValue>) -> bool
     ensures { result ≡ skip_drops_by given }
 {
-    match given {
-        If::Absent => false,
-        If::Literal(b) => b,
-        If::Variable(_) => false,
+    let Some(value) = given else {
+        return false;
+    };
+    match value {
+        IfValue::Literal(b) => b,
+        IfValue::Variable(_) => false,
     }
 }
 
 // Does the `if` of an @include drop its selection?
-fn include_drops(given: If) -> bool
+fn include_drops(given: Option<IfValue>) -> bool
     ensures { result ≡ include_drops_by given }
 {
-    match given {
-        If::Absent => false,
-        If::Literal(b) => !b,
-        If::Variable(_) => false,
+    let Some(value) = given else {
+        return false;
+    };
+    match value {
+        IfValue::Literal(b) => !b,
+        IfValue::Variable(_) => false,
     }
 }
 
 // Does one of them?
-fn drops(skip: If, include: If) -> bool
+fn drops(skip: Option<IfValue>, include: Option<IfValue>) -> bool
     ensures { result ≡ drops_by skip include }
 {
     if skip_drops(skip) {
@@ -277,8 +283,7 @@ pub fn fill_table(
     requires { Given t.now book.now s.now rows.now n first.now next.now firstk.now nextk.now ranks.now keys.now × (o ≤ most_rows) × (row_cells * n ≤ length cells.old) }
     ensures { TableTo t.now s.now rows.now n o cells.new n }
 {
-    let mut i = 0;
-    while i < n {
+    for i in 0..n {
         let from = ROW_CELLS * i;
         let to = from + ROW_CELLS;
         fill_row(
@@ -297,6 +302,5 @@ pub fn fill_table(
             i,
             &mut cells[from..to],
         );
-        i += 1;
     }
 }

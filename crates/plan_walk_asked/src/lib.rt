@@ -27,13 +27,10 @@ fn all_known(p: &[u32], blocks: &[u32]) -> bool
     ensures { Decides result (Known p.now blocks.now) }
 {
     let n = p[PLAN_BLOCKS];
-    let mut j = 0;
-    while j < blocks.len() {
-        if blocks[j] < n {
-            j += 1;
-            continue;
+    for b in blocks {
+        if n <= *b {
+            return false;
         }
-        return false;
     }
     true
 }

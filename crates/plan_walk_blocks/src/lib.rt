@@ -54,15 +54,13 @@ pub fn walk_blocks(
     ensures { Given p.now blocks.now vars.now fits.now met.new out.new result }
 {
     let mut n = 0;
-    let mut j = 0;
-    while j < blocks.len() {
+    for j in 0..blocks.len() {
         let b = number_at(blocks, j);
         let m = walk_one(p, b, vars, fits, met, out, n);
         if m == TOO_MANY_PAIRS {
             return TOO_MANY_PAIRS;
         }
         n = m;
-        j += 1;
     }
     n
 }
@@ -72,9 +70,7 @@ fn came_before(found: &[u32], i: usize, key: u32) -> bool
     requires { (2 * i ≤ length found.now) × (i ≤ 512) }
     ensures { result ≡ before found.now i key }
 {
-    let mut j = i;
-    while 0 < j {
-        j -= 1;
+    for j in (0..i).rev() {
         if found[2 * j] == key {
             return true;
         }
@@ -88,16 +84,13 @@ fn emit(found: &[u32], i: usize, n: usize, key: u32, out: &mut [u32], m: usize) 
     ensures { Emitted found.now i n key out.old m out.new result }
 {
     let mut k = m;
-    let mut j = i;
-    while j < n {
-        if found[2 * j] == key {
-            out[2 * k] = key;
-            out[2 * k + 1] = found[2 * j + 1];
-            k += 1;
-            j += 1;
+    for j in i..n {
+        if found[2 * j] != key {
             continue;
         }
-        j += 1;
+        out[2 * k] = key;
+        out[2 * k + 1] = found[2 * j + 1];
+        k += 1;
     }
     k
 }
@@ -108,15 +101,12 @@ pub fn group(found: &[u32], n: usize, out: &mut [u32])
     ensures { Grouped found.now n out.new }
 {
     let mut m = 0;
-    let mut i = 0;
-    while i < n {
+    for i in 0..n {
         let key = found[2 * i];
         if came_before(found, i, key) {
-            i += 1;
             continue;
         }
         m = emit(found, i, n, key, out, m);
-        i += 1;
     }
 }
 

@@ -75,13 +75,10 @@ fn steps_formed(t: &[u8], book: &[u32], p: &[u32], from: usize, end: usize) -> b
     requires { Booked t.now book.now × (plan_size ≤ length p.now) × (end ≤ most_steps) }
     ensures { Decides result (StepsFormed (table_of t.now) p.now from end) }
 {
-    let mut i = from;
-    while i < end {
-        if step_formed(t, book, p, end, i) {
-            i += 1;
-            continue;
+    for i in from..end {
+        if !step_formed(t, book, p, end, i) {
+            return false;
         }
-        return false;
     }
     true
 }
@@ -120,13 +117,10 @@ fn blocks_formed(t: &[u8], book: &[u32], p: &[u32]) -> bool
     ensures { Decides result (BlocksFormed (table_of t.now) p.now) }
 {
     let n = number_at(p, PLAN_BLOCKS);
-    let mut b = 0;
-    while b < n {
-        if block_formed(t, book, p, b) {
-            b += 1;
-            continue;
+    for b in 0..n {
+        if !block_formed(t, book, p, b) {
+            return false;
         }
-        return false;
     }
     true
 }

@@ -47,9 +47,7 @@ pub fn fill_fits(t: &[u8], book: &[u32], o: usize, fits: &mut [u8])
     requires { Booked t.now book.now × (o < count_in book.now) × (length fits.old ≡ room) }
     ensures { Fits (table_of t.now) o fits.new }
 {
-    let mut k = 0;
-    while k < ROOM {
+    for k in 0..ROOM {
         fits[k] = fit_of(t, book, k, o);
-        k += 1;
     }
 }

@@ -37,8 +37,7 @@ fn write_blocks(
     ensures { Blocks cells.now n (o ∷ take m out.now) plan.new result }
 {
     let mut at = 0;
-    let mut b = 0;
-    while b <= m {
+    for b in 0..=m {
         let holder = block_row(o, out, b);
         plan[PLAN_FIRSTS + b] = at as u32;
         at = expand(
@@ -56,7 +55,6 @@ fn write_blocks(
         if at == TOO_MANY_STEPS {
             return at;
         }
-        b += 1;
     }
     at
 }

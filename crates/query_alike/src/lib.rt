@@ -56,9 +56,7 @@ fn model_of(
     ensures { result < n → ModelOf (table_of t.now) (doc_of s.now rows.now n) stack.now m i result }
 {
     let end = newest(m);
-    let mut k = m;
-    while end < k {
-        k -= 1;
+    for k in (end..m).rev() {
         let model = model_at(stack, k);
         if is_like(t, s, rows, n, at, es, wrappers, owner, i, model) {
             return model;

@@ -5,6 +5,7 @@ use Prim.Native.Nat.{ℕ, ◌-◌, ◌≤◌}
 use native.Mathlib.Omega.{arith}
 use lib.ListN.{length, take, drop, replicate}
 use lib.Seq.{length-take-le}
+use Rattle.std.specs.Prelude.{Result, Err}
 use Rattle.paper.specs.Numbers.{rows_size, report_size}
 use Rattle.paper.specs.Rows.{flat}
 use Rattle.paper.specs.Refusals.{number_of}
@@ -12,13 +13,11 @@ use Rattle.paper.specs.Calls.{filled, tells}
 use Rattle.paper.specs.declared.Refusal.{Refusal}
 use Rattle.call_buffers.specs.Buffers.{Asks, Sized}
 use Rattle.call_buffers.specs.Buffers.{short_rows as asks-rows, long_document as asks-document, long_table as asks-table}
-use Rattle.call_buffers.specs.declared.Sizes.{Sizes}
-use Rattle.call_buffers.specs.declared.Sizes.TheVariants.{Unmet}
 use Rattle.paper_query.specs.DocumentCalls.{Lent, Short, CheckedDocument, short_report, short_rows, long_document, long_table, refuses_table, refuses_text, breaks_rule, accepts}
 use Rattle.query_answer.proofs.DocumentLaws.{none_beyond}
 
 -- Rows or an input that do not keep to their sizes.
-pub sizes_unmet : (table document rows report report' : List ℕ) (s : Sizes) (z : Refusal) (n : ℕ) → report_size ≤ length report → Sized (length rows) (length document) (length table) s → s ≡ Unmet z →
+pub sizes_unmet : (table document rows report report' : List ℕ) (s : Result (Unit {0}) Refusal) (z : Refusal) (n : ℕ) → report_size ≤ length report → Sized (length rows) (length document) (length table) s → s ≡ Err z →
     n ≡ number_of z → report' ≡ tells z report → CheckedDocument table document rows report rows report' n
 sizes_unmet table document rows report report' s z n h a q p e =
     subst (CheckedDocument table document rows report rows report') (sym p) (go z (subst (Sized (length rows) (length document) (length table)) q a) e)

@@ -5,6 +5,7 @@ use Prim.Native.Nat.{ℕ, ◌-◌, ◌*◌, ◌≤◌}
 use native.Mathlib.Omega.{arith}
 use lib.ListN.{length, take, drop, replicate, drop_of_length-le}
 use lib.Seq.{length-take-le, take_at}
+use Rattle.std.specs.Prelude.{Result, Ok, Err}
 use Rattle.paper.specs.Numbers.{most_text, row_size, rows_size, report_size, accepted}
 use Rattle.paper.specs.Language.{Document}
 use Rattle.paper.specs.Rows.{Row, flat}
@@ -27,8 +28,6 @@ use Rattle.paper_query.specs.declared.QueryAnswer.TheVariants.{Fits, Breaks}
 use Rattle.query_rows.specs.Rowed.{doc_of}
 use Rattle.query_rows.proofs.ReadRows.{Taken, cleared_taken}
 use Rattle.text_cursor.specs.declared.Cursor.{Cursor}
-use Rattle.text_cursor.specs.declared.Read.{Read}
-use Rattle.text_cursor.specs.declared.Read.TheVariants.{Done, Refused}
 use Rattle.call_buffers.specs.Buffers.{cleared}
 use Rattle.call_endings.specs.Endings.{Ended}
 use Rattle.text_answer.specs.Parsing.{Filled}
@@ -42,19 +41,19 @@ all_cleared : (rows rows₁ : List ℕ) → length rows ≡ rows_size → length
 all_cleared rows rows₁ e f = ap (λ (n : ℕ). replicate (n - 0) 0) f ∙ none_beyond (replicate rows_size 0) rows e
 
 -- a document read through: its rows, with what all that is judged of them asks
-pub done_taken : (s rows rows₁ : List ℕ) (r : Read) (d : Cursor) → length s ≤ most_text → length rows ≡ rows_size → Filled Document s rows rows₁ r → r ≡ Done d → Taken Document s rows₁ d.rows
-done_taken s rows rows₁ r d l e f q = cleared_taken Document s rows rows₁ d.rows l e (subst (λ (x : Read). Filled Document s rows rows₁ x) q f)
+pub done_taken : (s rows rows₁ : List ℕ) (r : Result Cursor Refusal) (d : Cursor) → length s ≤ most_text → length rows ≡ rows_size → Filled Document s rows rows₁ r → r ≡ Ok d → Taken Document s rows₁ d.rows
+done_taken s rows rows₁ r d l e f q = cleared_taken Document s rows rows₁ d.rows l e (subst (λ (x : Result Cursor Refusal). Filled Document s rows rows₁ x) q f)
 
 -- A document read by an accepted table, in rows of the fixed size.
 module _ (table document rows report rows₁ : List ℕ) (lent : Lent rows report) (short : Short table document) (e : length rows ≡ rows_size) (j : judge table ≡ Accepted)
-    (r : Read) (f : Filled Document document rows rows₁ r) where
-  pub text_refused : (report' : List ℕ) (z : Refusal) (n : ℕ) → r ≡ Refused z → n ≡ number_of z → report' ≡ tells z report → CheckedDocument table document rows report rows₁ report' n
+    (r : Result Cursor Refusal) (f : Filled Document document rows rows₁ r) where
+  pub text_refused : (report' : List ℕ) (z : Refusal) (n : ℕ) → r ≡ Err z → n ≡ number_of z → report' ≡ tells z report → CheckedDocument table document rows report rows₁ report' n
   text_refused report' z n q a p =
-      let g = subst (λ (y : Read). Filled Document document rows rows₁ y) q f in
+      let g = subst (λ (y : Result Cursor Refusal). Filled Document document rows rows₁ y) q f in
       subst (CheckedDocument table document rows report rows₁ report') (sym a)
       (refuses_text lent short j (tokens_are document) (going_halt Document (from document 0) (from_rising document) rows z g.0) (g.1 ∙ none_beyond (replicate rows_size 0) rows e) p)
 
-  module _ (d : Cursor) (q : r ≡ Done d) where
+  module _ (d : Cursor) (q : r ≡ Ok d) where
     taken : Taken Document document rows₁ d.rows
     taken = done_taken document rows rows₁ r d short.0 e f q
 
@@ -63,7 +62,7 @@ module _ (table document rows report rows₁ : List ℕ) (lent : Lent rows repor
 
     rows_left : rows₁ ≡ filled rows_size (flat taken.list) rows
     rows_left =
-        let g = subst (λ (y : Read). Filled Document document rows rows₁ y) q f in
+        let g = subst (λ (y : Result Cursor Refusal). Filled Document document rows rows₁ y) q f in
         let m = g.0 in
         let n = row_size * m.rows in
         let size = whole_size document rows m e g.1 in

@@ -9,11 +9,9 @@ ghost use Rattle.table_book.specs.Book.{book_size};
 ghost use Rattle.table_types.specs.Booked.{Booked};
 ghost use Rattle.paper_query.specs.DocumentCalls.{Lent, Short, CheckedDocument};
 
-use call_buffers::Sizes;
 use paper::{REFUSE_BUFFER, REPORT_SIZE, ROWS_SIZE};
 use paper_table::TableAnswer;
 use table_book::BOOK_SIZE;
-use text_cursor::Read;
 
 // Judges a document by an accepted table. The rows are of their fixed size.
 fn check_document(
@@ -28,12 +26,12 @@ fn check_document(
 {
     let r = text_answer::parse(document, rows);
     match r {
-        Read::Done(c) => {
+        Ok(c) => {
             let n = c.rows;
             let q = query_judge::first_break(table, book, document, rows, n as usize);
             call_endings::tell_judged(q, n, rows, report)
         }
-        Read::Refused(why) => call_report::tell_refusal(report, why),
+        Err(why) => call_report::tell_refusal(report, why),
     }
 }
 
@@ -74,7 +72,7 @@ pub fn answer(table: &[u8], document: &[u8], rows: &mut [u32], report: &mut [u32
     }
     let s = call_buffers::sizes_met(rows.len(), document.len(), table.len());
     match s {
-        Sizes::Met => check(table, document, &mut rows[..ROWS_SIZE], report),
-        Sizes::Unmet(why) => call_report::tell_refusal(report, why),
+        Ok(()) => check(table, document, &mut rows[..ROWS_SIZE], report),
+        Err(why) => call_report::tell_refusal(report, why),
     }
 }

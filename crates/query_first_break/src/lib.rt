@@ -29,8 +29,7 @@ pub fn judge_rows(
     requires { Ready t.now book.now s.now rows.now n first.now next.now firstk.now nextk.now inside.now at.now es.now target.now flags.now }
     ensures { Judged (table_of t.now) (doc_of s.now rows.now n) result }
 {
-    let mut i = 0;
-    while i < n {
+    for i in 0..n {
         let rule = rule_at(
             t, book, s, rows, n, first, next, firstk, nextk, inside, at, es, target, flags, i,
         );
@@ -40,7 +39,6 @@ pub fn judge_rows(
                 rule: rule,
             };
         }
-        i += 1;
     }
     QueryAnswer::Fits
 }

@@ -170,9 +170,7 @@ pub fn enclose(
     requires { Asked t.now book.now s.now rows.now n first.now next.now × Entered t.now book.now es.now × (length inside.old ≡ room_of n) × (length at.old ≡ room_of n) }
     ensures { EnclosedTo t.now book.now es.now s.now rows.now n n inside.new at.new }
 {
-    let mut i = 0;
-    while i < n {
+    for i in 0..n {
         enclose_row(t, book, es, s, rows, n, first, next, inside, at, i);
-        i += 1;
     }
 }

@@ -9,9 +9,10 @@ ghost use Rattle.paper_table.specs.Types.{table_of};
 ghost use Rattle.paper_table.specs.Judging.{judge};
 ghost use Rattle.paper_table.specs.declared.TableAnswer.TheVariants.{Accepted};
 ghost use Rattle.table_types.specs.Booked.{Booked};
+ghost use Rattle.table_entries.specs.declared.TheConstants.{MOST_CELLS};
 ghost use Rattle.table_entries.specs.Entries.{small_table, middle_table, cells_for, Entered};
 ghost use Rattle.paper_query.specs.QueryRules.{Judged};
-ghost use Rattle.query_rows.specs.Rowed.{rows_in, doc_of, Rowed, few_rows, room_of};
+ghost use Rattle.query_rows.specs.Rowed.{rows_in, doc_of, Rowed, room_of};
 ghost use Rattle.query_links.specs.Links.{Kinds};
 ghost use Rattle.query_inside.specs.Enclosed.{Asked};
 ghost use Rattle.query_due_types.specs.Dues.{Fitted};
@@ -77,52 +78,26 @@ fn judge_linked(
     )
 }
 
-// Links and judges few rows, in room for few.
-fn judge_few(t: &[u8], book: &[u32], es: &[u16], s: &[u8], rows: &[u32], n: usize) -> QueryAnswer
-    requires { (length t.now ≤ most_table) × Fitted t.now × Booked t.now book.now × Entered t.now book.now es.now × Rowed s.now rows.now n × (n ≤ few_rows) }
+// Links and judges the rows, in lists of this length: few for few rows, so that little is cleared.
+fn judge_in<const ROOM: usize>(
+    t: &[u8],
+    book: &[u32],
+    es: &[u16],
+    s: &[u8],
+    rows: &[u32],
+    n: usize,
+) -> QueryAnswer
+    requires { (length t.now ≤ most_table) × Fitted t.now × Booked t.now book.now × Entered t.now book.now es.now × Rowed s.now rows.now n × (ROOM ≡ room_of n) }
     ensures { Judged (table_of t.now) (doc_of s.now rows.now n) result }
 {
     let mut first = [0u16; FIRSTS];
-    let mut next = [0u16; FEW_ROWS];
+    let mut next = [0u16; ROOM];
     let mut firstk = [0u16; KINDS];
-    let mut nextk = [0u16; FEW_ROWS];
-    let mut inside = [0u16; FEW_ROWS];
-    let mut at = [0u16; FEW_ROWS];
-    let mut target = [0u16; FEW_ROWS];
-    let mut flags = [0u16; FEW_ROWS];
-    query_links::families(s, rows, n, &mut first, &mut next);
-    query_links::kinds(rows, n, &mut firstk, &mut nextk);
-    judge_linked(
-        t,
-        book,
-        es,
-        s,
-        rows,
-        n,
-        &first,
-        &next,
-        &firstk,
-        &nextk,
-        &mut inside,
-        &mut at,
-        &mut target,
-        &mut flags,
-    )
-}
-
-// Links and judges more rows than few.
-fn judge_many(t: &[u8], book: &[u32], es: &[u16], s: &[u8], rows: &[u32], n: usize) -> QueryAnswer
-    requires { (length t.now ≤ most_table) × Fitted t.now × Booked t.now book.now × Entered t.now book.now es.now × Rowed s.now rows.now n × (few_rows < n) }
-    ensures { Judged (table_of t.now) (doc_of s.now rows.now n) result }
-{
-    let mut first = [0u16; FIRSTS];
-    let mut next = [0u16; ROWS];
-    let mut firstk = [0u16; KINDS];
-    let mut nextk = [0u16; ROWS];
-    let mut inside = [0u16; ROWS];
-    let mut at = [0u16; ROWS];
-    let mut target = [0u16; ROWS];
-    let mut flags = [0u16; ROWS];
+    let mut nextk = [0u16; ROOM];
+    let mut inside = [0u16; ROOM];
+    let mut at = [0u16; ROOM];
+    let mut target = [0u16; ROOM];
+    let mut flags = [0u16; ROOM];
     query_links::families(s, rows, n, &mut first, &mut next);
     query_links::kinds(rows, n, &mut firstk, &mut nextk);
     judge_linked(
@@ -156,9 +131,9 @@ fn judge_entered(
     ensures { Judged (table_of t.now) (doc_of s.now rows.now n) result }
 {
     if n <= FEW_ROWS {
-        return judge_few(t, book, es, s, rows, n);
+        return judge_in::<FEW_ROWS>(t, book, es, s, rows, n);
     }
-    judge_many(t, book, es, s, rows, n)
+    judge_in::<ROWS>(t, book, es, s, rows, n)
 }
 
 // Makes the table's entries in what is lent for them, and judges the rows by them.
@@ -177,30 +152,18 @@ fn judge_filled(
     judge_entered(t, book, es, s, rows, n)
 }
 
-// The same with entries for a small table: less is cleared.
-fn judge_small(t: &[u8], book: &[u32], s: &[u8], rows: &[u32], n: usize) -> QueryAnswer
-    requires { (length t.now ≤ small_table) × (judge t.now ≡ Accepted) × Booked t.now book.now × Rowed s.now rows.now n }
+// The same with entries in a list of this length: shorter for a smaller table, so that less is cleared.
+fn judge_with<const CELLS: usize>(
+    t: &[u8],
+    book: &[u32],
+    s: &[u8],
+    rows: &[u32],
+    n: usize,
+) -> QueryAnswer
+    requires { (length t.now ≤ most_table) × (judge t.now ≡ Accepted) × Booked t.now book.now × (cells_for (length t.now) ≤ CELLS) × (CELLS ≤ MOST_CELLS) × Rowed s.now rows.now n }
     ensures { Judged (table_of t.now) (doc_of s.now rows.now n) result }
 {
-    let mut es = [0u16; SMALL_CELLS];
-    judge_filled(t, book, &mut es, s, rows, n)
-}
-
-// The same for one of middle size.
-fn judge_middle(t: &[u8], book: &[u32], s: &[u8], rows: &[u32], n: usize) -> QueryAnswer
-    requires { (length t.now ≤ middle_table) × (judge t.now ≡ Accepted) × Booked t.now book.now × Rowed s.now rows.now n }
-    ensures { Judged (table_of t.now) (doc_of s.now rows.now n) result }
-{
-    let mut es = [0u16; MIDDLE_CELLS];
-    judge_filled(t, book, &mut es, s, rows, n)
-}
-
-// The same for any.
-fn judge_large(t: &[u8], book: &[u32], s: &[u8], rows: &[u32], n: usize) -> QueryAnswer
-    requires { (length t.now ≤ most_table) × (judge t.now ≡ Accepted) × Booked t.now book.now × Rowed s.now rows.now n }
-    ensures { Judged (table_of t.now) (doc_of s.now rows.now n) result }
-{
-    let mut es = [0u16; MOST_CELLS];
+    let mut es = [0u16; CELLS];
     judge_filled(t, book, &mut es, s, rows, n)
 }
 
@@ -210,10 +173,10 @@ pub fn first_break(t: &[u8], book: &[u32], s: &[u8], rows: &[u32], n: usize) -> 
     ensures { Judged (table_of t.now) (doc_of s.now rows.now n) result }
 {
     if t.len() <= SMALL_TABLE {
-        return judge_small(t, book, s, rows, n);
+        return judge_with::<SMALL_CELLS>(t, book, s, rows, n);
     }
     if t.len() <= MIDDLE_TABLE {
-        return judge_middle(t, book, s, rows, n);
+        return judge_with::<MIDDLE_CELLS>(t, book, s, rows, n);
     }
-    judge_large(t, book, s, rows, n)
+    judge_with::<MOST_CELLS>(t, book, s, rows, n)
 }

@@ -2,10 +2,10 @@
 use mathlib.Core.Path.{◌≡◌, refl, sym, ap, ◌∙◌}
 use mathlib.Core.Bool.{Bool, true, false}
 use mathlib.Core.List.{List}
-use Prim.Native.Nat.{ℕ, suc, ◌+◌, ◌<◌, ◌≤◌}
+use Prim.Native.Nat.{ℕ, suc, ◌<◌, ◌≤◌}
 use native.Mathlib.Omega.{arith}
 use lib.ListN.{length, get_or, set, replicate, length-set, length-replicate, get_or-replicate}
-use lib.Seq.{get_or-set_same, get_or-set_other, ext_get_or}
+use lib.Seq.{get_or-set_same, get_or-set_other}
 use lib.Dec.{eqb}
 use borrow.Author.Tests.{eq-eqb, ne_eqb, eqb-true, eqb-false}
 use Rattle.paper.specs.Numbers.{most_rows}
@@ -13,28 +13,6 @@ use Rattle.query_rows.specs.Rowed.{room_of}
 use Rattle.query_rows.proofs.Rooms.{room_enough}
 use Rattle.query_links.specs.Links.{next_with}
 use Rattle.query_links.proofs.Nexts.{next_here, next_step, next_end}
-
--- the first p numbers are n
-pub record ClearedTo (old first : List ℕ) (n p : ℕ) : Type 0 where
-  pub size : length first ≡ length old
-  pub ended : (g : ℕ) → g < p → get_or first g 0 ≡ n
-
-pub cleared_none : (old : List ℕ) (n : ℕ) → ClearedTo old old n 0
-cleared_none old n = record { size = refl; ended = λ g l. absurd (omega arith) }
-
-pub cleared_more : (old first : List ℕ) (n p : ℕ) → ClearedTo old first n p → p < length first → ClearedTo old (set first p n) n (p + 1)
-cleared_more old first n p s h = record { size = length-set first p n ∙ s.size; ended = λ g l. go g l (eqb g p) refl }
-  where
-    go : (g : ℕ) → g < p + 1 → (b : Bool) → eqb g p ≡ b → get_or (set first p n) g 0 ≡ n
-    go g l true e = rw (eqb-true g p e) (get_or-set_same first p n 0 h)
-    go g l false e =
-        let y : g ≡ p → ⊥ = eqb-false g p e in
-        get_or-set_other first p g n 0 y ∙ s.ended g (omega arith)
-
-pub cleared_all : (old first : List ℕ) (n p : ℕ) → ClearedTo old first n p → length first ≤ p → first ≡ replicate (length old) n
-cleared_all old first n p s h =
-    ext_get_or 0 first (replicate (length old) n) (s.size ∙ sym (length-replicate (length old) n))
-    (λ i l. s.ended i (omega arith) ∙ sym (get_or-replicate (length old) i n 0 (omega (arith, s.size))))
 
 -- of this key
 abbrev pub keyed : {A : Type 0} → (A → ℕ) → ℕ → A → Bool

@@ -37,12 +37,7 @@ pub fn clear(first: &mut [u16], n: usize)
     requires { n ≤ most_rows }
     ensures { first.new ≡ replicate (length first.old) n }
 {
-    let end = n as u16;
-    let mut p = 0;
-    while p < first.len() {
-        first[p] = end;
-        p += 1;
-    }
+    first.fill(n as u16);
 }
 
 // Puts row j in front of the chain p.
@@ -60,9 +55,7 @@ pub fn families(s: &[u8], rows: &[u32], n: usize, first: &mut [u16], next: &mut 
     ensures { Family (rows_in rows.now n) first.new next.new }
 {
     clear(first, n);
-    let mut j = n;
-    while 0 < j {
-        j -= 1;
+    for j in (0..n).rev() {
         let p = parent_of(rows, n, j) as usize;
         put_first(first, next, p, j);
     }
@@ -74,9 +67,7 @@ pub fn kinds(rows: &[u32], n: usize, first: &mut [u16], next: &mut [u16])
     ensures { Kinds (rows_in rows.now n) first.new next.new }
 {
     clear(first, n);
-    let mut j = n;
-    while 0 < j {
-        j -= 1;
+    for j in (0..n).rev() {
         let k = kind_of(rows, n, j) as usize;
         if k < first.len() {
             put_first(first, next, k, j);

@@ -7,6 +7,7 @@ use Prim.Native.Nat.{ℕ, zero, suc, ◌+◌, ◌-◌, ◌≤◌, ◌<◌}
 use native.Mathlib.Omega.{arith}
 use lib.ListN.{length, drop, get_or}
 use borrow.Author.Tests.{lt-ltb, le-ltb}
+use Rattle.std.specs.Prelude.{Some, None, Result, Ok, Err}
 use Rattle.paper.specs.Numbers.{kind_operation}
 use Rattle.paper.specs.Language.{Document}
 use Rattle.paper.specs.Rows.{Row}
@@ -27,8 +28,6 @@ use Rattle.paper_query.specs.DocumentCalls.{read}
 use Rattle.paper_query.specs.declared.QueryAnswer.{QueryAnswer}
 use Rattle.paper_query.specs.declared.QueryAnswer.TheVariants.{Fits, Breaks}
 use Rattle.table_types.specs.Booked.{Booked}
-use Rattle.text_cursor.specs.declared.Read.{Read}
-use Rattle.text_cursor.specs.declared.Read.TheVariants.{Done, Refused}
 use Rattle.text_cursor.specs.declared.Cursor.{Cursor}
 use Rattle.text_documents.specs.Documents.{Ended}
 use Rattle.query_rows.specs.Rowed.{row_in, rows_in, doc_of}
@@ -40,9 +39,7 @@ use Rattle.query_rule_3.specs.Called.{first_called}
 use Rattle.paper.specs.Numbers.{most_text, rows_size}
 use Rattle.paper_query.specs.Constructs.{numbers_where}
 use Rattle.paper_query.specs.Opening.{only_one, operation_meant, AcceptedDocument, table_refused, text_refused, rule_broken, no_operation, opened}
-use Rattle.query_opening.specs.declared.Meant.{Meant}
-use Rattle.query_opening.specs.declared.Meant.TheVariants.{Row as Found, Nothing}
-use Rattle.query_opening.specs.declared.Start.TheVariants.{BadTable, BadText, Broken, NoOperation, Open}
+use Rattle.query_opening.specs.declared.NotOpened.TheVariants.{BadTable, BadText, Broken, NoOperation}
 use Rattle.query_opening.specs.Opens.{told, Opens}
 
 module _ {A : Type 0} (p : A → Bool) (xs : List A) (d : A) where
@@ -108,8 +105,10 @@ module _ (rows : List ℕ) (n : ℕ) (p : Row → Bool) (start : ℕ) where
         let z : suc i ≡ i + 1 = omega arith in
         record { below = omega arith; same = subst (λ (k : ℕ). next_with p (rows_in rows n) k ≡ next_with p (rows_in rows n) start) z (next_step p (rows_in rows n) no_row i (omega (arith, rows_count rows n)) e ∙ w.same) }
 
-    pub seeks_end : n ≤ i → i ≡ next_with p (rows_in rows n) start
-    seeks_end h = next_end p (rows_in rows n) i (omega (arith, rows_count rows n)) ∙ w.same
+    pub seeks_end : n ≤ i → n ≡ next_with p (rows_in rows n) start
+    seeks_end h =
+        let e : n ≡ i = omega (arith, w.below) in
+        e ∙ next_end p (rows_in rows n) i (omega (arith, rows_count rows n)) ∙ w.same
 
 -- The only operation.
 module _ (s rows : List ℕ) (n : ℕ) where
@@ -119,15 +118,15 @@ module _ (s rows : List ℕ) (n : ℕ) where
   abbrev ops : Row → Bool
   ops = is kind_operation
 
-  pub meant_no : n ≤ next_with ops (rows_in rows n) 0 → Nothing ≡ told (only_one (numbers_where ops d))
+  pub meant_no : n ≤ next_with ops (rows_in rows n) 0 → None ≡ told (only_one (numbers_where ops d))
   unfolding numbers_where
   meant_no h = sym (ap told (only_none ops (rows_in rows n) no_row (omega (arith, rows_count rows n))))
 
-  pub meant_one : (i : ℕ) → i ≡ next_with ops (rows_in rows n) 0 → i < n → n ≤ next_with ops (rows_in rows n) (i + 1) → Found i ≡ told (only_one (numbers_where ops d))
+  pub meant_one : (i : ℕ) → i ≡ next_with ops (rows_in rows n) 0 → i < n → n ≤ next_with ops (rows_in rows n) (i + 1) → Some i ≡ told (only_one (numbers_where ops d))
   unfolding numbers_where
   meant_one i e h l = sym (ap told (only_one_is ops (rows_in rows n) no_row i e (omega (arith, rows_count rows n)) (omega (arith, rows_count rows n))))
 
-  pub meant_two : (i : ℕ) → i ≡ next_with ops (rows_in rows n) 0 → i < n → next_with ops (rows_in rows n) (i + 1) < n → Nothing ≡ told (only_one (numbers_where ops d))
+  pub meant_two : (i : ℕ) → i ≡ next_with ops (rows_in rows n) 0 → i < n → next_with ops (rows_in rows n) (i + 1) < n → None ≡ told (only_one (numbers_where ops d))
   unfolding numbers_where
   meant_two i e h l = sym (ap told (only_two ops (rows_in rows n) no_row i e (omega (arith, rows_count rows n)) (omega (arith, rows_count rows n))))
 
@@ -136,19 +135,19 @@ module _ (s rows : List ℕ) (n : ℕ) where
   by_none [] e = refl
   by_none (b ∷ bs) e = absurd (omega arith)
 
-  pub by_name : (name : List ℕ) → (length name ≡ 0 → ⊥) → (i : ℕ) → i ≡ first_called d kind_operation name → i < n → Found i ≡ told (operation_meant d name)
+  pub by_name : (name : List ℕ) → (length name ≡ 0 → ⊥) → (i : ℕ) → i ≡ first_called d kind_operation name → i < n → Some i ≡ told (operation_meant d name)
   by_name [] f i e h = absurd (f refl)
   by_name (b ∷ bs) f i e h = rw (← e, rows_count rows n, lt-ltb i n h)
 
-  pub by_no_name : (name : List ℕ) → (length name ≡ 0 → ⊥) → (i : ℕ) → i ≡ first_called d kind_operation name → n ≤ i → Nothing ≡ told (operation_meant d name)
+  pub by_no_name : (name : List ℕ) → (length name ≡ 0 → ⊥) → (i : ℕ) → i ≡ first_called d kind_operation name → n ≤ i → None ≡ told (operation_meant d name)
   by_no_name [] f i e h = absurd (f refl)
   by_no_name (b ∷ bs) f i e h = rw (← e, rows_count rows n, le-ltb i n h)
 
-told_some : (o : Option ℕ) (i : ℕ) → Found i ≡ told o → o ≡ some i
+told_some : (o : Option ℕ) (i : ℕ) → Some i ≡ told o → o ≡ some i
 told_some none i e = absurd (true≢false cc)
 told_some (some j) i e = cc
 
-told_none : (o : Option ℕ) → Nothing ≡ told o → o ≡ none
+told_none : (o : Option ℕ) → None ≡ told o → o ≡ none
 told_none none e = refl
 told_none (some j) e = absurd (true≢false cc)
 
@@ -157,7 +156,7 @@ module _ (table document name rows book : List ℕ) (n : ℕ) (j : judge table �
   judged_read : (a : QueryAnswer) → Judged (table_of table) (doc_of document rows n) a → Judged (table_of table) (read document w.list) a
   judged_read a = subst (λ (rs : List Row). Judged (table_of table) (read document rs) a) w.are
 
-  pub is_broken : (q : QueryAnswer) (i r : ℕ) → Judged (table_of table) (doc_of document rows n) q → q ≡ Breaks i r → Opens table document name rows book (Broken i r)
+  pub is_broken : (q : QueryAnswer) (i r : ℕ) → Judged (table_of table) (doc_of document rows n) q → q ≡ Breaks i r → Opens table document name rows book (Err (Broken i r))
   is_broken q i r g e = rule_broken j (tokens_are document) w.said (judged_read (Breaks i r) (subst (Judged (table_of table) (doc_of document rows n)) e g))
 
   module _ (q : QueryAnswer) (g : Judged (table_of table) (doc_of document rows n) q) (e : q ≡ Fits) where
@@ -170,24 +169,24 @@ module _ (table document name rows book : List ℕ) (n : ℕ) (j : judge table �
       judged = subst (Judged (table_of table) (doc_of document rows n)) e g;
     }
 
-    pub is_nothing : (m : Meant) → m ≡ told (operation_meant (doc_of document rows n) name) → m ≡ Nothing → Opens table document name rows book NoOperation
-    is_nothing m u v = no_operation accepted_document (told_none (operation_meant (doc_of document rows n) name) (sym v ∙ u))
+    pub is_nothing : None ≡ told (operation_meant (doc_of document rows n) name) → Opens table document name rows book (Err NoOperation)
+    is_nothing u = no_operation accepted_document (told_none (operation_meant (doc_of document rows n) name) u)
 
-    pub is_open : (m : Meant) (op : ℕ) → m ≡ told (operation_meant (doc_of document rows n) name) → m ≡ Found op → Opens table document name rows book (Open n op)
-    is_open m op u v = record {
-      opened = opened accepted_document (told_some (operation_meant (doc_of document rows n) name) op (sym v ∙ u));
+    pub is_open : (op : ℕ) → Some op ≡ told (operation_meant (doc_of document rows n) name) → Opens table document name rows book (Ok record { n = n; row = op })
+    is_open op u = record {
+      opened = opened accepted_document (told_some (operation_meant (doc_of document rows n) name) op u);
       accepted = accepted_document;
       taken = w;
       booked = k;
     }
 
-pub ended_rows : (s rows rows' : List ℕ) (r : Read) (c : Cursor) → length s ≤ most_text → length rows ≡ rows_size → Ended Document s rows rows' r → r ≡ Done c → Taken Document s rows' c.rows
-ended_rows s rows rows' r c l e f q = ended_taken Document s rows rows' c.rows l e (subst (λ (x : Read). Ended Document s rows rows' x) q f)
+pub ended_rows : (s rows rows' : List ℕ) (r : Result Cursor Refusal) (c : Cursor) → length s ≤ most_text → length rows ≡ rows_size → Ended Document s rows rows' r → r ≡ Ok c → Taken Document s rows' c.rows
+ended_rows s rows rows' r c l e f q = ended_taken Document s rows rows' c.rows l e (subst (λ (x : Result Cursor Refusal). Ended Document s rows rows' x) q f)
 
-pub is_bad_text : (table document name rows rows' book : List ℕ) (r : Read) (z : Refusal) → judge table ≡ Accepted → Ended Document document rows rows' r → r ≡ Refused z
-    → Opens table document name rows' book (BadText z)
+pub is_bad_text : (table document name rows rows' book : List ℕ) (r : Result Cursor Refusal) (z : Refusal) → judge table ≡ Accepted → Ended Document document rows rows' r → r ≡ Err z
+    → Opens table document name rows' book (Err (BadText z))
 is_bad_text table document name rows rows' book r z j f q =
-    text_refused j (tokens_are document) (going_halt Document (from document 0) (from_rising document) rows z (subst (λ (x : Read). Ended Document document rows rows' x) q f))
+    text_refused j (tokens_are document) (going_halt Document (from document 0) (from_rising document) rows z (subst (λ (x : Result Cursor Refusal). Ended Document document rows rows' x) q f))
 
-pub is_bad_table : (table document name rows book : List ℕ) (a : TableAnswer) → a ≡ judge table → (a ≡ Accepted → ⊥) → Opens table document name rows book (BadTable a)
+pub is_bad_table : (table document name rows book : List ℕ) (a : TableAnswer) → a ≡ judge table → (a ≡ Accepted → ⊥) → Opens table document name rows book (Err (BadTable a))
 is_bad_table table document name rows book a e n = table_refused (sym e) n

@@ -24,23 +24,21 @@ use paper::{ACCEPTED, KIND_OPERATION, Refusal};
 use paper_query::{QueryAnswer, REFUSE_NO_OPERATION, REFUSE_QUERY};
 use paper_table::TableAnswer;
 use query_rows::{is_called, kind_of};
-use text_cursor::Read;
 
-// The row of the operation that a name means, if there is one.
+// An opened operation: the count of its document's rows, and its own row.
 #[derive(Clone, Copy)]
-pub enum Meant {
-    Row(usize),
-    Nothing,
+pub struct OpenedOperation {
+    pub n: usize,
+    pub row: usize,
 }
 
-// What comes of opening an operation: a refusal, or the count of rows and the operation's row.
+// What stops an opening: the table's refusal or the text's, a rule that a row of the document breaks, or a name that means no operation.
 #[derive(Clone, Copy)]
-pub enum Start {
+pub enum NotOpened {
     BadTable(TableAnswer),
     BadText(Refusal),
-    Broken(u32, u32),
+    Broken { row: u32, rule: u32 },
     NoOperation,
-    Open(usize, usize),
 }
 
 // The first operation from row `from` on; n if there is none.
@@ -48,14 +46,12 @@ fn next_operation(rows: &[u32], n: usize, from: usize) -> usize
     requires { Sized rows.now n × (from ≤ n) }
     ensures { result ≡ next_with (is kind_operation) (rows_in rows.now n) from }
 {
-    let mut i = from;
-    while i < n {
+    for i in from..n {
         if kind_of(rows, n, i) == KIND_OPERATION {
             return i;
         }
-        i += 1;
     }
-    i
+    n
 }
 
 // Is row i an operation of this name?
@@ -74,33 +70,31 @@ fn first_named(s: &[u8], rows: &[u32], n: usize, name: &[u8]) -> usize
     requires { Rowed s.now rows.now n }
     ensures { result ≡ first_called (doc_of s.now rows.now n) kind_operation name.now }
 {
-    let mut i = 0;
-    while i < n {
+    for i in 0..n {
         if is_operation_called(s, rows, n, i, name) {
             return i;
         }
-        i += 1;
     }
-    i
+    n
 }
 
-// The only operation, if there is one only.
-fn only_operation(s: &[u8], rows: &[u32], n: usize) -> Meant
+// The row of the only operation; None: there is none, or more than one.
+fn only_operation(s: &[u8], rows: &[u32], n: usize) -> Option<usize>
     requires { Rowed s.now rows.now n }
     ensures { result ≡ told (only_one (numbers_where (is kind_operation) (doc_of s.now rows.now n))) }
 {
     let i = next_operation(rows, n, 0);
     if n <= i {
-        return Meant::Nothing;
+        return None;
     }
     if next_operation(rows, n, i + 1) < n {
-        return Meant::Nothing;
+        return None;
     }
-    Meant::Row(i)
+    Some(i)
 }
 
-// The operation that a name means: the empty name the only one.
-pub fn operation_meant(s: &[u8], rows: &[u32], n: usize, name: &[u8]) -> Meant
+// The row of the operation that a name means, the empty name the only one; None: the name means no operation.
+pub fn operation_meant(s: &[u8], rows: &[u32], n: usize, name: &[u8]) -> Option<usize>
     requires { Rowed s.now rows.now n }
     ensures { result ≡ told (operation_meant (doc_of s.now rows.now n) name.now) }
 {
@@ -109,12 +103,12 @@ pub fn operation_meant(s: &[u8], rows: &[u32], n: usize, name: &[u8]) -> Meant
     }
     let i = first_named(s, rows, n, name);
     if i < n {
-        return Meant::Row(i);
+        return Some(i);
     }
-    Meant::Nothing
+    None
 }
 
-// Judges a document of n rows by an accepted table, and finds the operation.
+// Judges a document of n rows by an accepted table, and finds the operation. Err: a broken rule, or no operation of that name.
 fn open_read(
     table: &[u8],
     book: &[u32],
@@ -122,67 +116,80 @@ fn open_read(
     name: &[u8],
     rows: &[u32],
     n: usize,
-) -> Start
+) -> Result<OpenedOperation, NotOpened>
     requires { Short table.now document.now × (judge table.now ≡ Accepted) × Booked table.now book.now × Taken Document document.now rows.now n }
     ensures { Opens table.now document.now name.now rows.now book.now result }
 {
     let q = query_judge::first_break(table, book, document, rows, n);
     if let QueryAnswer::Breaks { row, rule } = q {
-        return Start::Broken(row, rule);
+        return Err(NotOpened::Broken {
+            row: row,
+            rule: rule,
+        });
     }
-    let m = operation_meant(document, rows, n, name);
-    match m {
-        Meant::Row(op) => Start::Open(n, op),
-        Meant::Nothing => Start::NoOperation,
-    }
+    let row = operation_meant(document, rows, n, name).ok_or(NotOpened::NoOperation)?;
+    Ok(OpenedOperation { n: n, row: row })
 }
 
-// Reads a document into the rows, and opens it by an accepted table.
-fn open_text(table: &[u8], book: &[u32], document: &[u8], name: &[u8], rows: &mut [u32]) -> Start
+// Reads a document into the rows, and opens it by an accepted table. Err: what is wrong with the text, or with the document read.
+fn open_text(
+    table: &[u8],
+    book: &[u32],
+    document: &[u8],
+    name: &[u8],
+    rows: &mut [u32],
+) -> Result<OpenedOperation, NotOpened>
     requires { Short table.now document.now × (judge table.now ≡ Accepted) × Booked table.now book.now × (length rows.old ≡ rows_size) }
     ensures { Opens table.now document.now name.now rows.new book.now result }
 {
     let r = text_documents::document(document, rows);
     match r {
-        Read::Done(c) => {
+        Ok(c) => {
             let n = c.rows as usize;
             open_read(table, book, document, name, rows, n)
         }
-        Read::Refused(why) => Start::BadText(why),
+        Err(why) => Err(NotOpened::BadText(why)),
     }
 }
 
-// Opens the operation that a name means. The rows and the book are lent: where it opens, they are the document's and the table's.
-pub fn open(table: &[u8], book: &mut [u32], document: &[u8], name: &[u8], rows: &mut [u32]) -> Start
+// Opens the operation that a name means. Err: what stops that, in the table, the text, the document or the name.
+// The rows and the book are lent: where it opens, they are the document's and the table's.
+pub fn open(
+    table: &[u8],
+    book: &mut [u32],
+    document: &[u8],
+    name: &[u8],
+    rows: &mut [u32],
+) -> Result<OpenedOperation, NotOpened>
     requires { Short table.now document.now × (length book.old ≡ book_size) × (length rows.old ≡ rows_size) }
     ensures { Opens table.now document.now name.now rows.new book.new result }
 {
     let a = table_answer::judge_with(table, book);
     let TableAnswer::Accepted = a else {
-        return Start::BadTable(a);
+        return Err(NotOpened::BadTable(a));
     };
     open_text(table, book, document, name, rows)
 }
 
-// Tells what stopped an opening, and answers its number.
-pub fn tell_stop(report: &mut [u32], o: Start) -> u32
+// Tells what came of an opening, and answers its number.
+pub fn tell_stop(report: &mut [u32], opened: Result<OpenedOperation, NotOpened>) -> u32
     requires { report_size ≤ length report.old }
-    ensures { (result ≡ stop_number o) × (report.new ≡ filled report_size (stop_number o ∷ stop_shown o) report.old) }
+    ensures { (result ≡ stop_number opened) × (report.new ≡ filled report_size (stop_number opened ∷ stop_shown opened) report.old) }
 {
-    match o {
-        Start::BadTable(a) => call_report::tell_table(report, a),
-        Start::BadText(r) => call_report::tell_refusal(report, r),
-        Start::Broken(row, rule) => {
+    let Err(stop) = opened else {
+        call_report::tell(report, ACCEPTED, 0);
+        return ACCEPTED;
+    };
+    match stop {
+        NotOpened::BadTable(a) => call_report::tell_table(report, a),
+        NotOpened::BadText(r) => call_report::tell_refusal(report, r),
+        NotOpened::Broken { row, rule } => {
             call_report::tell_five(report, REFUSE_QUERY, row, rule, 0, 0, 0);
             REFUSE_QUERY
         }
-        Start::NoOperation => {
+        NotOpened::NoOperation => {
             call_report::tell(report, REFUSE_NO_OPERATION, 0);
             REFUSE_NO_OPERATION
-        }
-        Start::Open(_, _) => {
-            call_report::tell(report, ACCEPTED, 0);
-            ACCEPTED
         }
     }
 }

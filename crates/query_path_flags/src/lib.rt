@@ -4,7 +4,7 @@
 
 ghost use Rattle.std.specs.Prelude.{◌≡◌, ◌≤◌, ◌<◌, length};
 ghost use Rattle.paper_table.specs.Types.{table_of};
-ghost use Rattle.query_rows.specs.Rowed.{rows_in, doc_of, Rowed, few_rows, room_of};
+ghost use Rattle.query_rows.specs.Rowed.{rows_in, doc_of, Rowed, room_of};
 ghost use Rattle.query_links.specs.Links.{Family, Kinds};
 ghost use Rattle.query_places.specs.Placed.{Placed};
 ghost use Rattle.query_spreads.specs.Spreads.{Targeted};
@@ -44,8 +44,8 @@ fn flag_with(
     );
 }
 
-// Flags few rows, in room for few.
-fn flag_few(
+// Flags the rows, in lists of this length: few for few rows, so that little is cleared.
+fn flag_in<const ROOM: usize>(
     t: &[u8],
     s: &[u8],
     rows: &[u32],
@@ -60,60 +60,14 @@ fn flag_few(
     target: &[u16],
     flag: &mut [u16],
 )
-    requires { Rowed s.now rows.now n × Family (rows_in rows.now n) first.now next.now × Kinds (rows_in rows.now n) firstk.now nextk.now × Placed t.now s.now rows.now n at.now es.now inside.now × Targeted (doc_of s.now rows.now n) target.now × (length flag.old ≡ room_of n) × (n ≤ few_rows) }
+    requires { Rowed s.now rows.now n × Family (rows_in rows.now n) first.now next.now × Kinds (rows_in rows.now n) firstk.now nextk.now × Placed t.now s.now rows.now n at.now es.now inside.now × Targeted (doc_of s.now rows.now n) target.now × (length flag.old ≡ room_of n) × (ROOM ≡ room_of n) }
     ensures { Flagged (table_of t.now) (doc_of s.now rows.now n) flag.new }
 {
-    let mut owner = [0u16; FEW_ROWS];
-    let mut firsts = [0u16; FEW_ROWS];
-    let mut nexts = [0u16; FEW_ROWS];
-    let mut mark = [0u16; FEW_ROWS];
-    let mut stack = [0u16; FEW_ROWS];
-    flag_with(
-        t,
-        s,
-        rows,
-        n,
-        first,
-        next,
-        firstk,
-        nextk,
-        at,
-        es,
-        inside,
-        target,
-        &mut owner,
-        &mut firsts,
-        &mut nexts,
-        &mut mark,
-        &mut stack,
-        flag,
-    );
-}
-
-// Flags more rows than few.
-fn flag_many(
-    t: &[u8],
-    s: &[u8],
-    rows: &[u32],
-    n: usize,
-    first: &[u16],
-    next: &[u16],
-    firstk: &[u16],
-    nextk: &[u16],
-    at: &[u16],
-    es: &[u16],
-    inside: &[u16],
-    target: &[u16],
-    flag: &mut [u16],
-)
-    requires { Rowed s.now rows.now n × Family (rows_in rows.now n) first.now next.now × Kinds (rows_in rows.now n) firstk.now nextk.now × Placed t.now s.now rows.now n at.now es.now inside.now × Targeted (doc_of s.now rows.now n) target.now × (length flag.old ≡ room_of n) × (few_rows < n) }
-    ensures { Flagged (table_of t.now) (doc_of s.now rows.now n) flag.new }
-{
-    let mut owner = [0u16; ROWS];
-    let mut firsts = [0u16; ROWS];
-    let mut nexts = [0u16; ROWS];
-    let mut mark = [0u16; ROWS];
-    let mut stack = [0u16; ROWS];
+    let mut owner = [0u16; ROOM];
+    let mut firsts = [0u16; ROOM];
+    let mut nexts = [0u16; ROOM];
+    let mut mark = [0u16; ROOM];
+    let mut stack = [0u16; ROOM];
     flag_with(
         t,
         s,
@@ -156,11 +110,11 @@ pub fn flags(
     ensures { Flagged (table_of t.now) (doc_of s.now rows.now n) flag.new }
 {
     if n <= FEW_ROWS {
-        return flag_few(
+        return flag_in::<FEW_ROWS>(
             t, s, rows, n, first, next, firstk, nextk, at, es, inside, target, flag,
         );
     }
-    flag_many(
+    flag_in::<ROWS>(
         t, s, rows, n, first, next, firstk, nextk, at, es, inside, target, flag,
     );
 }

@@ -78,10 +78,8 @@ pub fn places(
     requires { Fitted t.now × Booked t.now book.now × Entered t.now book.now es.now × Rowed s.now rows.now n × EnclosedTo t.now book.now es.now s.now rows.now n n wrappers.old at.old }
     ensures { Placed t.now s.now rows.now n at.new es.now wrappers.new }
 {
-    let mut i = 0;
-    while i < n {
+    for i in 0..n {
         keep_place(t, book, es, s, rows, n, at, wrappers, i);
-        i += 1;
     }
 }
 

@@ -12,67 +12,55 @@ ghost use Rattle.query_roots.specs.Rooted.{FindTagged, RootFinds};
 
 use paper_table::TAG_QUERY_ROOT;
 use query_types::{NO_TYPE, composite, if_composite};
-use table_members::FieldFound;
+use table_fields::Field;
 
-// A root: a member of record 8; `Query`, where there is no record 8; or none.
+// A root: a member of record 8; or `Query`, where there is no record 8.
 #[derive(Clone, Copy)]
-pub enum RootFound {
+pub enum Root {
     Written { tag: u8, start: usize, end: usize },
     Query,
-    Nothing,
 }
 
-// A record's first member of this tag, from `from` on.
-fn find_tagged(t: &[u8], from: usize, end: usize, tag: usize) -> FieldFound
+// A record's first member of this tag, from `from` on; none if there is none.
+fn find_tagged(t: &[u8], from: usize, end: usize, tag: usize) -> Option<Field>
     requires { Bounds t.now from end }
     ensures { FindTagged t.now from end tag result }
 {
     let mut i = from;
     loop {
-        let FieldFound::Found {
-            tag: k,
-            start,
-            end: stop,
-        } = table_members::next_member(t, i, end)
-        else {
-            return FieldFound::Nothing;
-        };
-        if k as usize == tag {
-            return FieldFound::Found {
-                tag: k,
-                start: start,
-                end: stop,
-            };
+        let f = table_members::next_member(t, i, end)?;
+        if f.tag as usize == tag {
+            return Some(f);
         }
-        i = stop;
+        i = f.end;
     }
 }
 
-// The root of an operation's kind x: 0 query, 1 mutation, 2 subscription.
-fn find_root(t: &[u8], book: &[u32], x: u32) -> RootFound
+// The root of an operation's kind x: 0 query, 1 mutation, 2 subscription. None: the table has no such root.
+fn find_root(t: &[u8], book: &[u32], x: u32) -> Option<Root>
     requires { Booked t.now book.now }
     ensures { RootFinds t.now x result }
 {
     let k = table_types::first_roots(t, book);
     if table_book::count_of(book) <= k {
         if x == 0 {
-            return RootFound::Query;
+            return Some(Root::Query);
         }
-        return RootFound::Nothing;
+        return None;
     }
-    let FieldFound::Found { tag, start, end } = find_tagged(
+    let Some(f) = find_tagged(
         t,
         table_book::start_of(book, k),
         table_book::end_of(book, k),
         TAG_QUERY_ROOT as usize + x as usize,
     ) else {
-        return RootFound::Nothing;
+        return None;
     };
-    RootFound::Written {
-        tag: tag,
-        start: start,
-        end: end,
-    }
+    Some(Root::Written {
+        tag: f.tag,
+        start: f.start,
+        end: f.end,
+    })
 }
 
 // Has the table a root of an operation's kind?
@@ -80,16 +68,7 @@ pub fn has_root(t: &[u8], book: &[u32], x: u32) -> bool
     requires { Booked t.now book.now }
     ensures { result ≡ found (root_of (table_of t.now) x) }
 {
-    let r = find_root(t, book, x);
-    match r {
-        RootFound::Written {
-            tag: _,
-            start: _,
-            end: _,
-        } => true,
-        RootFound::Query => true,
-        RootFound::Nothing => false,
-    }
+    find_root(t, book, x).is_some()
 }
 
 // The type of the root of an operation's kind.
@@ -97,13 +76,14 @@ pub fn root_type(t: &[u8], book: &[u32], x: u32) -> u16
     requires { Booked t.now book.now }
     ensures { type_coded result ≡ then (root_of (table_of t.now) x) (λ m. composite_of (table_of t.now) m.name) }
 {
-    let r = find_root(t, book, x);
-    match r {
-        RootFound::Written { tag, start, end } => {
+    let Some(root) = find_root(t, book, x) else {
+        return NO_TYPE;
+    };
+    match root {
+        Root::Written { tag, start, end } => {
             let m = table_members::member_name(t, tag, start, end);
             composite(t, book, t, m.at, m.size)
         }
-        RootFound::Query => if_composite(t, book, table_types::first_query(t, book)),
-        RootFound::Nothing => NO_TYPE,
+        Root::Query => if_composite(t, book, table_types::first_query(t, book)),
     }
 }

@@ -35,11 +35,9 @@ pub fn owners(s: &[u8], rows: &[u32], n: usize, owner: &mut [u16])
     requires { Rowed s.now rows.now n × (length owner.old ≡ room_of n) }
     ensures { Owned (doc_of s.now rows.now n) owner.new }
 {
-    let mut i = 0;
-    while i < n {
+    for i in 0..n {
         let o = owner_of(s, rows, n, owner, i);
         owner[i] = o;
-        i += 1;
     }
 }
 
@@ -84,9 +82,7 @@ pub fn spreads(s: &[u8], rows: &[u32], n: usize, owner: &[u16], first: &mut [u16
     ensures { Linked (doc_of s.now rows.now n) first.new next.new }
 {
     query_links::clear(first, n);
-    let mut j = n;
-    while 0 < j {
-        j -= 1;
+    for j in (0..n).rev() {
         let a = spreader(s, rows, n, owner, j);
         if a < n {
             query_links::put_first(first, next, a, j);

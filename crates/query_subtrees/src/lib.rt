@@ -46,9 +46,7 @@ pub fn fill_pasts(rows: &[u32], n: usize, past: &mut [u32])
     requires { Sized rows.now n × (length past.old ≡ room_of n) }
     ensures { Pasts (rows_in rows.now n) past.new }
 {
-    let mut i = n;
-    while 0 < i {
-        i -= 1;
+    for i in (0..n).rev() {
         let e = find_past(rows, n, past, i);
         past[i] = e as u32;
     }

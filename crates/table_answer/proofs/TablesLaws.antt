@@ -4,6 +4,8 @@ use mathlib.Core.Option.{Option, none, some}
 use mathlib.Core.List.{List, head?}
 use Prim.Native.Nat.{ℕ, zero, suc, ◌≤◌}
 use lib.ListN.{length, get_or, replicate, length-replicate}
+use Prim.{Unit, tt}
+use Rattle.std.specs.Prelude.{Result, Ok, Err}
 use Rattle.paper_table.specs.TableNumbers.{most_table}
 use Rattle.paper_table.specs.House.{framing_offset}
 use Rattle.paper_table.specs.TableSizes.{counts_offset}
@@ -16,49 +18,45 @@ use Rattle.table_types.specs.Booked.{Bookable, Booked}
 use Rattle.table_types.proofs.Fitting.{records_few, references_slim, members_fit}
 use Rattle.table_possible.specs.Possible.{bits_size, Blank}
 use Rattle.table_judge.specs.Schema.{Checkable}
-use Rattle.table_framing.specs.declared.Framed.{Framed}
-use Rattle.table_framing.specs.declared.Framed.TheVariants.{Right, Wrong}
 use Rattle.table_framing.specs.Framing.{told}
-use Rattle.table_rooms.specs.declared.Counted.{Counted}
-use Rattle.table_rooms.specs.declared.Counted.TheVariants.{Within, Over}
 use Rattle.table_rooms.specs.Rooms.{told_over}
 use Rattle.table_answer.specs.Judges.{Judges}
 
-wrong_some : (o : Option ℕ) (at : ℕ) → Wrong at ≡ told o → o ≡ some at
+wrong_some : (o : Option ℕ) (at : ℕ) → Err at ≡ told o → o ≡ some at
 wrong_some none at e = let z : ◌≡◌ {A = ℕ} 0 1 = cc in absurd (omega native.Mathlib.Omega.arith)
 wrong_some (some x) at e = cc
 
-right_none : (o : Option ℕ) → Right ≡ told o → o ≡ none
+right_none : (o : Option ℕ) → Ok tt ≡ told o → o ≡ none
 right_none none e = refl
 right_none (some x) e = let z : ◌≡◌ {A = ℕ} 0 1 = cc in absurd (omega native.Mathlib.Omega.arith)
 
-over_some : (o : Option ℕ) (at : ℕ) → Over at ≡ told_over o → o ≡ some at
+over_some : (o : Option ℕ) (at : ℕ) → Err at ≡ told_over o → o ≡ some at
 over_some none at e = let z : ◌≡◌ {A = ℕ} 0 1 = cc in absurd (omega native.Mathlib.Omega.arith)
 over_some (some x) at e = cc
 
-within_none : (o : Option ℕ) → Within ≡ told_over o → o ≡ none
+within_none : (o : Option ℕ) → Ok tt ≡ told_over o → o ≡ none
 within_none none e = refl
 within_none (some x) e = let z : ◌≡◌ {A = ℕ} 0 1 = cc in absurd (omega native.Mathlib.Omega.arith)
 
 module _ (s : List ℕ) where
-  framing_is : (r : Framed) (at : ℕ) → r ≡ told (framing_offset s) → r ≡ Wrong at → Framing at ≡ judge s
+  framing_is : (r : Result (Unit {0}) ℕ) (at : ℕ) → r ≡ told (framing_offset s) → r ≡ Err at → Framing at ≡ judge s
   unfolding judge table_answer
   framing_is r at p q = rw (wrong_some (framing_offset s) at (sym q ∙ p)) refl
 
-  pub framing_wrong : (book : List ℕ) (r : Framed) (at : ℕ) → r ≡ told (framing_offset s) → r ≡ Wrong at → Judges s book (Framing at)
+  pub framing_wrong : (book : List ℕ) (r : Result (Unit {0}) ℕ) (at : ℕ) → r ≡ told (framing_offset s) → r ≡ Err at → Judges s book (Framing at)
   framing_wrong book r at p q = record { is = framing_is r at p q; booked = λ e. let z : ◌≡◌ {A = ℕ} 0 1 = cc in absurd (omega native.Mathlib.Omega.arith) }
 
-  pub framing_right : (r : Framed) → r ≡ told (framing_offset s) → r ≡ Right → framing_offset s ≡ none
+  pub framing_right : (r : Result (Unit {0}) ℕ) → r ≡ told (framing_offset s) → r ≡ Ok tt → framing_offset s ≡ none
   framing_right r p q = right_none (framing_offset s) (sym q ∙ p)
 
-  counts_is : (r : Counted) (at : ℕ) → framing_offset s ≡ none → r ≡ told_over (counts_offset s) → r ≡ Over at → TooMany at ≡ judge s
+  counts_is : (r : Result (Unit {0}) ℕ) (at : ℕ) → framing_offset s ≡ none → r ≡ told_over (counts_offset s) → r ≡ Err at → TooMany at ≡ judge s
   unfolding judge table_answer
   counts_is r at f p q = rw (f, over_some (counts_offset s) at (sym q ∙ p)) refl
 
-  pub counts_over : (book : List ℕ) (r : Counted) (at : ℕ) → framing_offset s ≡ none → r ≡ told_over (counts_offset s) → r ≡ Over at → Judges s book (TooMany at)
+  pub counts_over : (book : List ℕ) (r : Result (Unit {0}) ℕ) (at : ℕ) → framing_offset s ≡ none → r ≡ told_over (counts_offset s) → r ≡ Err at → Judges s book (TooMany at)
   counts_over book r at f p q = record { is = counts_is r at f p q; booked = λ e. let z : ◌≡◌ {A = ℕ} 0 1 = cc in absurd (omega native.Mathlib.Omega.arith) }
 
-  pub counts_within : (r : Counted) → r ≡ told_over (counts_offset s) → r ≡ Within → counts_offset s ≡ none
+  pub counts_within : (r : Result (Unit {0}) ℕ) → r ≡ told_over (counts_offset s) → r ≡ Ok tt → counts_offset s ≡ none
   counts_within r p q = within_none (counts_offset s) (sym q ∙ p)
 
   pub rules_judge : length s ≤ most_table → framing_offset s ≡ none → counts_offset s ≡ none → table_answer none none (head? (breaks (table_of s))) ≡ judge s

@@ -14,14 +14,11 @@ ghost use Rattle.table_book.specs.Book.{book_size};
 ghost use Rattle.table_possible.specs.Possible.{Blank};
 ghost use Rattle.table_answer.specs.Judges.{Judges};
 
-use call_buffers::Sizes;
 use paper::{REFUSE_BUFFER, REPORT_SIZE, ROWS_SIZE};
 use paper_table::TableAnswer;
 use table_book::BOOK_SIZE;
-use table_framing::Framed;
 use table_framing_quick::is_usual;
 use table_possible::BITS_SIZE;
-use table_rooms::Counted;
 
 // The schema rules of a table whose framing and sizes are right. Two are scratch: which object can be which type, the book of one definition's
 // members.
@@ -34,24 +31,24 @@ fn judge_rules(t: &[u8], book: &mut [u32], bits: &mut [u32], listed: &mut [u32])
     table_judge::first_break(t, book, bits, listed)
 }
 
-// Refusal 7, where it is not known that there is none.
-fn framing_unless(t: &[u8], usual: bool) -> Framed
+// Refusal 7, where it is not known that there is none: Err has its offset.
+fn framing_unless(t: &[u8], usual: bool) -> Result<(), u32>
     requires { (length t.now ≤ most_table) × (usual ≡ true → framing_offset t.now ≡ none) }
     ensures { result ≡ told (framing_offset t.now) }
 {
     if usual {
-        return Framed::Right;
+        return Ok(());
     }
     table_framing::framing(t)
 }
 
-// Refusal 8, where it is not known that there is none.
-fn over_unless(t: &[u8], usual: bool) -> Counted
+// Refusal 8, where it is not known that there is none: Err has its offset.
+fn over_unless(t: &[u8], usual: bool) -> Result<(), u32>
     requires { (length t.now ≤ most_table) × (usual ≡ true → counts_offset t.now ≡ none) }
     ensures { result ≡ told_over (counts_offset t.now) }
 {
     if usual {
-        return Counted::Within;
+        return Ok(());
     }
     table_sizes::over(t)
 }
@@ -61,15 +58,12 @@ fn judge_framed(t: &[u8], book: &mut [u32], usual: bool) -> TableAnswer
     requires { (length t.now ≤ most_table) × (framing_offset t.now ≡ none) × (length book.old ≡ book_size) × (usual ≡ true → counts_offset t.now ≡ none) }
     ensures { Judges t.now book.new result }
 {
-    let c = over_unless(t, usual);
-    match c {
-        Counted::Over(at) => TableAnswer::TooMany(at),
-        Counted::Within => {
-            let mut bits = [0u32; BITS_SIZE];
-            let mut listed = [0u32; BOOK_SIZE];
-            judge_rules(t, book, &mut bits, &mut listed)
-        }
+    if let Err(at) = over_unless(t, usual) {
+        return TableAnswer::TooMany(at);
     }
+    let mut bits = [0u32; BITS_SIZE];
+    let mut listed = [0u32; BOOK_SIZE];
+    judge_rules(t, book, &mut bits, &mut listed)
 }
 
 // What is said of a table. The book is lent for its definitions, and is the table's where it is accepted. Most tables are known to be right by
@@ -79,10 +73,9 @@ pub fn judge_with(t: &[u8], book: &mut [u32]) -> TableAnswer
     ensures { Judges t.now book.new result }
 {
     let usual = is_usual(t);
-    let f = framing_unless(t, usual);
-    match f {
-        Framed::Wrong(at) => TableAnswer::Framing(at),
-        Framed::Right => judge_framed(t, book, usual),
+    match framing_unless(t, usual) {
+        Err(at) => TableAnswer::Framing(at),
+        Ok(()) => judge_framed(t, book, usual),
     }
 }
 
@@ -105,10 +98,10 @@ pub fn answer(table: &[u8], report: &mut [u32]) -> u32
     // it has no rows and no document, so these are of a size that is kept to
     let s = call_buffers::sizes_met(ROWS_SIZE, 0, table.len());
     match s {
-        Sizes::Met => {
+        Ok(()) => {
             let a = judge_table(table);
             call_report::tell_table(report, a)
         }
-        Sizes::Unmet(why) => call_report::tell_refusal(report, why),
+        Err(why) => call_report::tell_refusal(report, why),
     }
 }

@@ -11,7 +11,7 @@ use borrow.Author.Tests.{eq-eqb, ne_eqb, eqb-true, eqb-false}
 use Rattle.paper.specs.Tokens.{same}
 use Rattle.paper_table.specs.Lists.{first_at}
 use Rattle.paper_table.proofs.TextLaws.{same_sound}
-use Rattle.table_book.specs.Book.{Key, no_key, room, cell_next, cell_head, cell_seed, book_size, keyed, first_from, in_bucket, seed_in, count_in, Chains, Kept, Cleared}
+use Rattle.table_book.specs.Book.{Key, no_key, room, cell_next, cell_head, cell_seed, book_size, keyed, first_from, in_bucket, seed_in, Chains, Kept}
 use Rattle.table_book.proofs.Firsts.{first_here, first_step, first_end, first_all, first_jump, first_passes}
 
 pub chains_none : (hash : List ℕ → ℕ) (book : List ℕ) (keys : List Key) (count : ℕ) → count ≡ length keys → length book ≡ book_size
@@ -115,33 +115,3 @@ module _ (hash : List ℕ → ℕ) (keys : List Key) (low high : ℕ) (n : List 
 
   pub sought_end : (k : ℕ) → length keys ≤ k → Sought hash keys low high n h k → k ≡ first_at (keyed low high n) keys
   sought_end k l s = first_end (keyed low high n) keys k l ∙ s.first ∙ first_all (keyed low high n) keys
-
--- the buckets up to h are at their end
-pub record HeadsTo (old book : List ℕ) (h : ℕ) : Type 0 where
-  pub kept : Kept old book
-  pub seed_is : seed_in book ≡ seed_in old
-  pub empty : (g : ℕ) → g < h → get_or book (cell_head + g) 0 ≡ count_in old
-
-pub heads_none : (old : List ℕ) → HeadsTo old old 0
-heads_none old = record { kept = record { cells = refl; entries = λ k l. refl }; seed_is = refl; empty = λ g l. absurd (omega arith) }
-
-pub heads_more : (old book : List ℕ) (h count : ℕ) → HeadsTo old book h → length old ≡ book_size → h < room → count ≡ count_in old → HeadsTo old (set book (cell_head + h) count) (h + 1)
-heads_more old book h count s b l e = record {
-  kept = record {
-    cells = length-set book (cell_head + h) count ∙ s.kept.cells;
-    entries = λ k m. get_or-set_other book (cell_head + h) k count 0 (λ z. omega arith) ∙ s.kept.entries k m;
-  };
-  seed_is = get_or-set_other book (cell_head + h) cell_seed count 0 (λ z. omega arith) ∙ s.seed_is;
-  empty = λ g m. go g m (eqb g h) refl;
-}
-  where
-    go : (g : ℕ) → g < h + 1 → (b : Bool) → eqb g h ≡ b → get_or (set book (cell_head + h) count) (cell_head + g) 0 ≡ count_in old
-    go g m true q =
-        let k : g ≡ h = eqb-true g h q in
-        rw k (get_or-set_same book (cell_head + h) count 0 (omega (arith, b, s.kept.cells)) ∙ e)
-    go g m false q =
-        let k : g ≡ h → ⊥ = eqb-false g h q in
-        get_or-set_other book (cell_head + h) (cell_head + g) count 0 (λ z. k (omega arith)) ∙ s.empty g (omega arith)
-
-pub heads_all : (old book : List ℕ) (h : ℕ) → HeadsTo old book h → room ≤ h → Cleared old book
-heads_all old book h s l = record { kept = s.kept; seed_is = s.seed_is; empty = λ g m. s.empty g (omega arith) }

@@ -6,3 +6,4 @@ pub mod KeyLaws
 pub mod Chained
 pub mod Search
 pub mod Linking
+pub mod Filled

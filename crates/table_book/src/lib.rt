@@ -97,14 +97,7 @@ pub fn same_text(s: &[u8], a: usize, t: &[u8], b: usize, n: usize) -> bool
     requires { (a + n ≤ length s.now) × (b + n ≤ length t.now) }
     ensures { result ≡ same (part s.now a n) (part t.now b n) }
 {
-    let mut i = 0;
-    while i < n {
-        if s[a + i] != t[b + i] {
-            return false;
-        }
-        i += 1;
-    }
-    true
+    s[a..a + n] == t[b..b + n]
 }
 
 // Is the text of l bytes from a on in t the one of n bytes from `at` on in s? Lengths first.
@@ -146,10 +139,8 @@ pub fn mixed(s: &[u8], at: usize, n: usize, seed: u32) -> usize
 {
     let m = multiplier(seed);
     let mut h = 0;
-    let mut i = 0;
-    while i < n {
-        h = (h + s[at + i] as usize) * m % HASH_LIMIT;
-        i += 1;
+    for b in &s[at..at + n] {
+        h = (h + *b as usize) * m % HASH_LIMIT;
     }
     h
 }
@@ -209,11 +200,7 @@ fn clear_heads(book: &mut [u32])
     ensures { Cleared book.old book.new }
 {
     let count = book[CELL_COUNT];
-    let mut h = 0;
-    while h < ROOM {
-        book[CELL_HEAD + h] = count;
-        h += 1;
-    }
+    book[CELL_HEAD..CELL_HEAD + ROOM].fill(count);
 }
 
 // Puts entry j in front of the bucket h.
@@ -233,11 +220,9 @@ fn link_by(t: &[u8], book: &mut [u32], seed: u32) -> bool
     book[CELL_SEED] = seed;
     clear_heads(book);
     let mut crowded = false;
-    let mut j = count_of(book);
-    while 0 < j {
-        j -= 1;
+    for j in (0..count_of(book)).rev() {
         let h = hash(t, name_of(book, j), size_of(book, j), seed);
-        crowded = either(crowded, is_full(book, h));
+        crowded |= is_full(book, h);
         put_first(book, h, j);
     }
     crowded
@@ -249,28 +234,19 @@ const MOST_IN_BUCKET: u32 = 5;
 
 const SEEDS: u32 = 256;
 
-fn either(a: bool, b: bool) -> bool {
-    if a {
-        return true;
-    }
-    b
-}
-
 // Has the bucket h as many entries as it may?
 fn is_full(book: &[u32], h: usize) -> bool
     requires { (length book.now ≡ book_size) × (count_in book.now ≤ room) × (h < room) }
 {
     let count = count_of(book);
     let mut k = head_of(book, h);
-    let mut left = MOST_IN_BUCKET;
-    while k < count {
-        k = next_of(book, k);
-        left -= 1;
-        if left == 0 {
-            return true;
+    for _ in 0..MOST_IN_BUCKET {
+        if count <= k {
+            return false;
         }
+        k = next_of(book, k);
     }
-    false
+    true
 }
 
 // Links a book's entries. Names that one seed puts into one bucket another seed parts; the one tried first is the book's own.
@@ -280,12 +256,10 @@ pub fn link(t: &[u8], book: &mut [u32])
 {
     let mut seed = book[CELL_SEED] % SEEDS;
     let mut crowded = link_by(t, book, seed);
-    let mut left = SEEDS;
-    while crowded {
-        if left == 0 {
+    for _ in 0..SEEDS {
+        if !crowded {
             return;
         }
-        left -= 1;
         seed = (seed + 1) % SEEDS;
         crowded = link_by(t, book, seed);
     }

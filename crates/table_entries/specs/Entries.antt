@@ -1,6 +1,6 @@
 -- The entries of a table: what their numbers say of the table's members and arguments.
 -- Assumes nothing.
-use Rattle.std.specs.Prelude.{◌≡◌, Bool, true, ◌&&◌, ◌||◌, cond, List, [], ◌∷◌, ℕ, suc, ◌+◌, ◌-◌, ◌*◌, ◌/◌, ◌%◌, ◌≤◌, ◌<◌, length, get_or, leb, eqb}
+use Rattle.std.specs.Prelude.{◌≡◌, Bool, true, ◌&&◌, ◌||◌, cond, Option, Some, None, List, [], ◌∷◌, ℕ, suc, ◌+◌, ◌-◌, ◌*◌, ◌/◌, ◌%◌, ◌≤◌, ◌<◌, length, get_or, leb, eqb}
 use Rattle.std.proofs.Math.Option.{none, some}
 use Rattle.paper_table.specs.TableNumbers.{tag_scalar, tag_object, tag_interface, tag_input_object, tag_directive}
 use Rattle.paper_table.specs.Lists.{find}
@@ -9,8 +9,7 @@ use Rattle.paper_table.specs.Types.{Argument, Member, Definition, Table, table_o
 use Rattle.table_book.specs.Book.{part, count_in}
 use Rattle.table_members.specs.Members.{fields_in, arguments_in, member_from, Named, Typed, ArgumentsFrom}
 use Rattle.table_types.specs.Booked.{Booked, NumberMeant, kind_in, definition_on}
-use Rattle.table_entries.specs.declared.HeaderFound.{HeaderFound}
-use Rattle.table_entries.specs.declared.HeaderFound.TheVariants.{Found, Nothing}
+use Rattle.table_entries.specs.declared.Header.{Header}
 
 -- how many entries a table of so many bytes has at most, if its framing is right (proofs/Most); the most of all, which no entry has as its number
 abbrev pub entry_bytes : ℕ
@@ -265,9 +264,9 @@ pub record HeaderIn (t : List ℕ) (start end name size base extent wrappers fro
   pub arguments : arguments_in t from end ≡ arguments_in t start end
   pub order : from ≤ end
 
-abbrev pub QuickRead : List ℕ → ℕ → ℕ → HeaderFound → Type 0
-QuickRead t start end (Found name size base extent wrappers from) = HeaderIn t start end name size base extent wrappers from
-QuickRead t start end Nothing = Unit {0}
+abbrev pub QuickRead : List ℕ → ℕ → ℕ → Option Header → Type 0
+QuickRead t start end (Some h) = HeaderIn t start end h.name h.size h.base h.extent h.wrappers h.from
+QuickRead t start end None = Unit {0}
 
 -- a member's
 pub record HeaderRead (t : List ℕ) (tag start end name size base extent wrappers from : ℕ) : Type 0 where

@@ -17,8 +17,7 @@ use paper_table::{
     RECORD_DIRECTIVE, RECORD_INPUT_OBJECT, RECORD_INTERFACE, RECORD_OBJECT, RECORD_SCALAR,
     TAG_ARGUMENT, TAG_FIELD, TAG_NAME, TAG_REFERENCE,
 };
-use table_fields::{FieldRead, RefRead};
-use table_members::{FieldFound, TypeRead};
+use table_members::TypeRead;
 
 // No entry: so many there are at most.
 pub const NO_ENTRY: usize = 2978;
@@ -255,63 +254,28 @@ pub struct Header {
     pub from: usize,
 }
 
-// The same of a content that begins with a name and a reference; or it does not.
-#[derive(Clone, Copy)]
-pub enum HeaderFound {
-    Found {
-        name: usize,
-        size: usize,
-        base: usize,
-        extent: usize,
-        wrappers: u32,
-        from: usize,
-    },
-    Nothing,
-}
-
-// The header of a content that begins with a name and a reference.
-fn quick_header(t: &[u8], start: usize, end: usize) -> HeaderFound
+// The header of a content that begins with a name and a reference; none if it begins otherwise.
+fn quick_header(t: &[u8], start: usize, end: usize) -> Option<Header>
     requires { Bounds t.now start end }
     ensures { QuickRead t.now start end result }
 {
-    let FieldRead::Field {
-        tag: k,
-        start: a,
-        end: b,
-    } = table_fields::read_field(t, start, end)
-    else {
-        return HeaderFound::Nothing;
-    };
-    if k != TAG_NAME {
-        return HeaderFound::Nothing;
+    let f = table_fields::read_field(t, start, end)?;
+    if f.tag != TAG_NAME {
+        return None;
     }
-    let FieldRead::Field {
-        tag: l,
-        start: c,
-        end: d,
-    } = table_fields::read_field(t, b, end)
-    else {
-        return HeaderFound::Nothing;
-    };
-    if l != TAG_REFERENCE {
-        return HeaderFound::Nothing;
+    let g = table_fields::read_field(t, f.end, end)?;
+    if g.tag != TAG_REFERENCE {
+        return None;
     }
-    let RefRead::Reference {
-        start: x,
-        end: y,
-        wrappers,
-    } = table_fields::read_reference(t, c, d)
-    else {
-        return HeaderFound::Nothing;
-    };
-    HeaderFound::Found {
-        name: a,
-        size: b - a,
-        base: x,
-        extent: y - x,
-        wrappers: wrappers,
-        from: d,
-    }
+    let r = table_fields::read_reference(t, g.start, g.end)?;
+    Some(Header {
+        name: f.start,
+        size: f.end - f.start,
+        base: r.start,
+        extent: r.end - r.start,
+        wrappers: r.wrappers,
+        from: g.end,
+    })
 }
 
 // The header of any member or argument.
@@ -337,36 +301,14 @@ fn read_header(t: &[u8], tag: u8, start: usize, end: usize) -> Header
     requires { Bounds t.now start end }
     ensures { HeaderRead t.now tag start end result.name result.size result.base result.extent result.wrappers result.from }
 {
-    let HeaderFound::Found {
-        name,
-        size,
-        base,
-        extent,
-        wrappers,
-        from,
-    } = quick_header(t, start, end)
-    else {
+    let Some(h) = quick_header(t, start, end) else {
         return slow_header(t, tag, start, end);
     };
     if tag == TAG_FIELD {
-        return Header {
-            name: name,
-            size: size,
-            base: base,
-            extent: extent,
-            wrappers: wrappers,
-            from: from,
-        };
+        return h;
     }
     if tag == TAG_ARGUMENT {
-        return Header {
-            name: name,
-            size: size,
-            base: base,
-            extent: extent,
-            wrappers: wrappers,
-            from: end,
-        };
+        return Header { from: end, ..h };
     }
     slow_header(t, tag, start, end)
 }
@@ -416,17 +358,12 @@ fn enter_arguments(
     let mut i = from;
     let mut k = e;
     loop {
-        let FieldFound::Found {
-            tag: _,
-            start,
-            end: stop,
-        } = table_members::next_argument(t, i, end)
-        else {
+        let Some(f) = table_members::next_argument(t, i, end) else {
             return k;
         };
-        enter(t, book, es, k, k + 1, TAG_ARGUMENT, start, stop);
+        enter(t, book, es, k, k + 1, TAG_ARGUMENT, f.start, f.end);
         k += 1;
-        i = stop;
+        i = f.end;
     }
 }
 
@@ -457,16 +394,11 @@ fn enter_members(t: &[u8], book: &[u32], es: &mut [u16], e: usize, from: usize, 
     let mut i = from;
     let mut k = e;
     loop {
-        let FieldFound::Found {
-            tag,
-            start,
-            end: stop,
-        } = table_members::next_member(t, i, end)
-        else {
+        let Some(f) = table_members::next_member(t, i, end) else {
             return k;
         };
-        k = enter_member(t, book, es, k, tag, start, stop);
-        i = stop;
+        k = enter_member(t, book, es, k, f.tag, f.start, f.end);
+        i = f.end;
     }
 }
 
@@ -506,12 +438,10 @@ pub fn fill_entries(t: &[u8], book: &[u32], es: &mut [u16])
 {
     let count = table_book::count_of(book);
     es[0] = 0;
-    let mut i = 0;
     let mut e = 0;
-    while i < count {
+    for i in 0..count {
         e = enter_definition(t, book, es, i, e);
-        i += 1;
-        es[i] = e as u16;
+        es[i + 1] = e as u16;
     }
 }
 

@@ -8,10 +8,10 @@ use lib.ListN.{length, take, drop, get_or, drop_of_length-le}
 use lib.Seq.{slice, slice-cons, length-slice, take-nil, length-take-le, take-take, drop-drop}
 use lib.Dec.{leb, ltb}
 use borrow.Author.Tests.{ltb-true, ltb-false, leb-true, leb-false}
+use Rattle.std.specs.Prelude.{Option, Some, None}
 use Rattle.paper_table.specs.House.{house_field, cut, house_fields}
 use Rattle.paper_table.proofs.PiecesLaws.{pieces_nil, pieces_one, pieces_two, pieces_cut, pieces_field as pieces_whole}
-use Rattle.table_fields.specs.declared.FieldRead.{FieldRead}
-use Rattle.table_fields.specs.declared.FieldRead.TheVariants.{Field, Cut}
+use Rattle.table_fields.specs.declared.Field.{Field}
 use Rattle.table_fields.specs.Fields.{field_at, size_at, pieces_by}
 
 -- a part of a part
@@ -58,7 +58,7 @@ module _ (t : List ℕ) (at end : ℕ) (w : end ≤ length t) where
   pieces_field h = go (ltb (end - at) 3) refl
     where
       long : at + 3 ≤ end → (b : Bool) → leb (size_at t at) (end - at - 3) ≡ b
-          → house_fields at (slice at end t) ≡ pieces_by t at end (cond b (Field (get_or t at 0) (at + 3) (at + 3 + size_at t at)) Cut)
+          → house_fields at (slice at end t) ≡ pieces_by t at end (cond b (Some (record { tag = get_or t at 0; start = at + 3; end = at + 3 + size_at t at })) None)
       long k true q =
           let m : size_at t at ≤ end - at - 3 = leb-true (size_at t at) (end - at - 3) q in
           ap (house_fields at) (three k)
@@ -76,16 +76,16 @@ module _ (t : List ℕ) (at end : ℕ) (w : end ≤ length t) where
       short (suc (suc (suc n))) e k = absurd (omega arith)
 
       go : (b : Bool) → ltb (end - at) 3 ≡ b
-          → house_fields at (slice at end t) ≡ pieces_by t at end (cond b Cut (cond (leb (size_at t at) (end - at - 3)) (Field (get_or t at 0) (at + 3) (at + 3 + size_at t at)) Cut))
+          → house_fields at (slice at end t) ≡ pieces_by t at end (cond b None (cond (leb (size_at t at) (end - at - 3)) (Some (record { tag = get_or t at 0; start = at + 3; end = at + 3 + size_at t at })) None))
       go true q = short (end - at) refl (ltb-true (end - at) 3 q)
       go false q = long (let m : 3 ≤ end - at = ltb-false (end - at) 3 q in omega arith) (leb (size_at t at) (end - at - 3)) refl
 
   -- so a field read is the first, and bytes that are no whole field are all there is
-  pub pieces_read : at < end → (tag start stop : ℕ) → field_at t at end ≡ Field tag start stop
-      → house_fields at (slice at end t) ≡ house_field at tag (slice start stop t) ∷ house_fields stop (slice stop end t)
-  pieces_read h tag start stop q = pieces_field h ∙ ap (pieces_by t at end) q
+  pub pieces_read : at < end → (f : Field) → field_at t at end ≡ Some f
+      → house_fields at (slice at end t) ≡ house_field at f.tag (slice f.start f.end t) ∷ house_fields f.end (slice f.end end t)
+  pieces_read h f q = pieces_field h ∙ ap (pieces_by t at end) q
 
-  pub pieces_torn : at < end → field_at t at end ≡ Cut → house_fields at (slice at end t) ≡ cut at ∷ []
+  pub pieces_torn : at < end → field_at t at end ≡ None → house_fields at (slice at end t) ≡ cut at ∷ []
   pieces_torn h q = pieces_field h ∙ ap (pieces_by t at end) q
 
 -- no byte, no field
@@ -98,17 +98,17 @@ pub record Lies (at end start stop : ℕ) : Type 0 where
   pub order : start ≤ stop
   pub within : stop ≤ end
 
-abbrev LiesRead : ℕ → ℕ → FieldRead → Type 0
-LiesRead at end (Field tag start stop) = Lies at end start stop
-LiesRead at end Cut = Unit {0}
+abbrev LiesRead : ℕ → ℕ → Option Field → Type 0
+LiesRead at end (Some f) = Lies at end f.start f.end
+LiesRead at end None = Unit {0}
 
-pub field_lies : (t : List ℕ) (at end tag start stop : ℕ) → at ≤ end → field_at t at end ≡ Field tag start stop → Lies at end start stop
-field_lies t at end tag start stop h q = subst (LiesRead at end) q (go (ltb (end - at) 3) refl)
+pub field_lies : (t : List ℕ) (at end : ℕ) (f : Field) → at ≤ end → field_at t at end ≡ Some f → Lies at end f.start f.end
+field_lies t at end f h q = subst (LiesRead at end) q (go (ltb (end - at) 3) refl)
   where
-    last : 3 ≤ end - at → (b : Bool) → leb (size_at t at) (end - at - 3) ≡ b → LiesRead at end (cond b (Field (get_or t at 0) (at + 3) (at + 3 + size_at t at)) Cut)
+    last : 3 ≤ end - at → (b : Bool) → leb (size_at t at) (end - at - 3) ≡ b → LiesRead at end (cond b (Some (record { tag = get_or t at 0; start = at + 3; end = at + 3 + size_at t at })) None)
     last k true e = let m : size_at t at ≤ end - at - 3 = leb-true (size_at t at) (end - at - 3) e in record { begins = refl; order = omega arith; within = omega arith }
     last k false e = tt
 
-    go : (b : Bool) → ltb (end - at) 3 ≡ b → LiesRead at end (cond b Cut (cond (leb (size_at t at) (end - at - 3)) (Field (get_or t at 0) (at + 3) (at + 3 + size_at t at)) Cut))
+    go : (b : Bool) → ltb (end - at) 3 ≡ b → LiesRead at end (cond b None (cond (leb (size_at t at) (end - at - 3)) (Some (record { tag = get_or t at 0; start = at + 3; end = at + 3 + size_at t at })) None))
     go true e = tt
     go false e = last (ltb-false (end - at) 3 e) (leb (size_at t at) (end - at - 3)) refl

@@ -7,9 +7,10 @@ use native.Mathlib.Nat.{le_refl}
 use lib.ListN.{length}
 use lib.Seq.{slice}
 use borrow.Author.Tests.{eq-eqb, ne_eqb}
+use Rattle.std.specs.Prelude.{Some, None}
 use Rattle.paper_table.specs.House.{house_fields}
 use Rattle.paper_table.specs.Types.{text_of}
-use Rattle.table_fields.specs.declared.FieldRead.TheVariants.{Field, Cut}
+use Rattle.table_fields.specs.declared.Field.{Field}
 use Rattle.table_fields.specs.Fields.{field_at, Finds}
 use Rattle.table_fields.proofs.FieldLaws.{field_lies, pieces_read, pieces_torn, pieces_none, slice_none}
 
@@ -36,28 +37,28 @@ module _ (t : List ℕ) (at end tag i : ℕ) (w : end ≤ length t) (s : Seeks t
   seeks_end h = none_found (rw (pieces_none t i end h w))
 
   module _ (h : i < end) where
-    pub seeks_torn : field_at t i end ≡ Cut → Finds t at end tag end end
+    pub seeks_torn : field_at t i end ≡ None → Finds t at end tag end end
     unfolding text_of
     seeks_torn q = none_found (rw (pieces_torn t i end w h q))
 
-    module _ (k from to : ℕ) (q : field_at t i end ≡ Field k from to) where
-      pub seeks_here : k ≡ tag → Finds t at end tag from to
+    module _ (f : Field) (q : field_at t i end ≡ Some f) where
+      pub seeks_here : f.tag ≡ tag → Finds t at end tag f.start f.end
       unfolding text_of
       seeks_here e =
-          let l = field_lies t i end k from to s.order q in
+          let l = field_lies t i end f s.order q in
           record {
-            text = rw (pieces_read t i end w h k from to q, eq-eqb k tag e) at s.text;
+            text = rw (pieces_read t i end w h f q, eq-eqb f.tag tag e) at s.text;
             begins = omega (arith, s.begins, l.begins);
             order = l.order;
             within = l.within;
           }
 
-      pub seeks_on : (k ≡ tag → ⊥) → Seeks t at end tag to
+      pub seeks_on : (f.tag ≡ tag → ⊥) → Seeks t at end tag f.end
       unfolding text_of
       seeks_on e =
-          let l = field_lies t i end k from to s.order q in
+          let l = field_lies t i end f s.order q in
           record {
-            text = rw (pieces_read t i end w h k from to q, ne_eqb k tag e) at s.text;
+            text = rw (pieces_read t i end w h f q, ne_eqb f.tag tag e) at s.text;
             begins = omega (arith, s.begins, l.begins, l.order);
             order = l.within;
           }

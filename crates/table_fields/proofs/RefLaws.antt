@@ -10,13 +10,14 @@ use lib.ListN.{length, take, drop, get_or}
 use lib.Seq.{slice, length-slice}
 use lib.Dec.{eqb, eqb-suc-zero}
 use borrow.Author.Tests.{eq-eqb, ne_eqb, eqb-true, eqb-false}
+use Rattle.std.specs.Prelude.{Option as Read, Some, None}
+use Rattle.std.specs.Option.{is_some}
 use Rattle.paper.specs.Lexical.{letter, letter_or_digit, in_set}
 use Rattle.paper_table.specs.Lists.{first_at}
 use Rattle.paper_table.specs.References.{is_name, Ref, named, list_of, non_null, base_of, is_non_null, byte_bang, byte_bracket_l, byte_bracket_r, ReadRef, got, no_reference, marked, closed, name_size, read_name, ref_from, whole_ref, ref_of, found, is_reference}
 use Rattle.paper_table.proofs.ListsLaws.{first_at_most}
 use Rattle.table_fields.specs.Wrappers.{pack_of, pack_limit, is_marked, bracket_size, wrapper_of, Refers, RefersRead}
-use Rattle.table_fields.specs.declared.RefRead.{RefRead}
-use Rattle.table_fields.specs.declared.RefRead.TheVariants.{Reference, Bad}
+use Rattle.table_fields.specs.declared.Reference.{Reference}
 use Rattle.table_fields.proofs.FieldLaws.{slice_none, slice_next, slice_take, slice_drop}
 use Rattle.table_fields.proofs.NameLaws.{run_all, letter_goes}
 
@@ -264,17 +265,7 @@ module _ (t : List ℕ) (start end from to wrappers lists i : ℕ) (w : end ≤ 
         }
         go (suc (suc (suc n))) q m e = absurd (omega arith)
 
--- whether there is a reference at all, by what is read
-abbrev is_read : RefRead → Bool
-is_read (Reference from to wrappers) = true
-is_read Bad = false
-
-reads_is : (t : List ℕ) (start end : ℕ) (x : RefRead) → RefersRead t start end x → is_read x ≡ is_reference (slice start end t)
-reads_is t start end (Reference from to wrappers) r = sym (ap found r.is)
-reads_is t start end Bad r = sym (ap found r)
-
-pub read_is : (t : List ℕ) (start end from to wrappers : ℕ) (x : RefRead) → x ≡ Reference from to wrappers → RefersRead t start end x → true ≡ is_reference (slice start end t)
-read_is t start end from to wrappers x e r = sym (ap is_read e) ∙ reads_is t start end x r
-
-pub bad_is : (t : List ℕ) (start end : ℕ) (x : RefRead) → x ≡ Bad → RefersRead t start end x → false ≡ is_reference (slice start end t)
-bad_is t start end x e r = sym (ap is_read e) ∙ reads_is t start end x r
+-- there is a reference if one is read
+pub read_is : (t : List ℕ) (start end : ℕ) (x : Read Reference) → RefersRead t start end x → is_some x ≡ is_reference (slice start end t)
+read_is t start end (Some k) r = sym (ap found r.is)
+read_is t start end None r = sym (ap found r)

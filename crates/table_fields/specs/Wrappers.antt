@@ -1,12 +1,11 @@
 -- A type reference's wrappers as one number, and the reading of its text.
 -- Assumes nothing.
-use Rattle.std.specs.Prelude.{◌≡◌, Bool, not, cond, List, ℕ, ◌+◌, ◌*◌, ◌%◌, ◌≤◌, eqb}
+use Rattle.std.specs.Prelude.{◌≡◌, Bool, not, cond, Option, Some, None, List, ℕ, ◌+◌, ◌*◌, ◌%◌, ◌≤◌, eqb}
 use Rattle.std.proofs.Math.Option.{none, some}
 use Rattle.std.proofs.Math.Seq.{slice}
 use Rattle.paper_table.specs.Lists.{first_at}
 use Rattle.paper_table.specs.References.{Ref, named, list_of, non_null, base_of, byte_bang, byte_bracket_l, byte_bracket_r, ref_of}
-use Rattle.table_fields.specs.declared.RefRead.{RefRead}
-use Rattle.table_fields.specs.declared.RefRead.TheVariants.{Reference, Bad}
+use Rattle.table_fields.specs.declared.Reference.{Reference}
 
 -- as a row's extra has them: from outside in, lowest two bits first, 1 list, 2 Non-Null
 unfoldable pub pack_of : Ref → ℕ
@@ -40,6 +39,6 @@ pub record Refers (t : List ℕ) (start end from to wrappers : ℕ) : Type 0 whe
   pub order : from ≤ to
   pub within : to ≤ end
 
-abbrev pub RefersRead : List ℕ → ℕ → ℕ → RefRead → Type 0
-RefersRead t start end (Reference from to wrappers) = Refers t start end from to wrappers
-RefersRead t start end Bad = ref_of (slice start end t) ≡ none
+abbrev pub RefersRead : List ℕ → ℕ → ℕ → Option Reference → Type 0
+RefersRead t start end (Some r) = Refers t start end r.start r.end r.wrappers
+RefersRead t start end None = ref_of (slice start end t) ≡ none

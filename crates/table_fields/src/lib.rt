@@ -10,30 +10,31 @@ ghost use Rattle.table_fields.specs.Wrappers.{bracket_size, wrapper_of, is_marke
 
 use paper::{WRAP_BASE, WRAP_LIST, WRAP_NON_NULL};
 
-// What stands at a place: a field's tag and the bounds of its content, or bytes that are no whole field.
+// A house field: its tag, and where its content starts and ends.
 #[derive(Clone, Copy)]
-pub enum FieldRead {
-    Field { tag: u8, start: usize, end: usize },
-    Cut,
+pub struct Field {
+    pub tag: u8,
+    pub start: usize,
+    pub end: usize,
 }
 
-// The field whose tag byte stands at `at`, in a content that ends at `end`.
-pub fn read_field(t: &[u8], at: usize, end: usize) -> FieldRead
+// The field whose tag byte stands at `at`, in a content that ends at `end`; none if the bytes there are no whole field.
+pub fn read_field(t: &[u8], at: usize, end: usize) -> Option<Field>
     requires { Bounds t.now at end }
     ensures { result ≡ field_at t.now at end }
 {
     if end - at < 3 {
-        return FieldRead::Cut;
+        return None;
     }
     let n = 256 * (t[at + 1] as usize) + t[at + 2] as usize;
     if n <= end - at - 3 {
-        return FieldRead::Field {
+        return Some(Field {
             tag: t[at],
             start: at + 3,
             end: at + 3 + n,
-        };
+        });
     }
-    FieldRead::Cut
+    None
 }
 
 // A part of the table.
@@ -50,24 +51,19 @@ pub fn find_tag(t: &[u8], at: usize, end: usize, tag: u8) -> Part
 {
     let mut i = at;
     while i < end {
-        let FieldRead::Field {
-            tag: k,
-            start: from,
-            end: to,
-        } = read_field(t, i, end)
-        else {
+        let Some(f) = read_field(t, i, end) else {
             return Part {
                 start: end,
                 end: end,
             };
         };
-        if k == tag {
+        if f.tag == tag {
             return Part {
-                start: from,
-                end: to,
+                start: f.start,
+                end: f.end,
             };
         }
-        i = to;
+        i = f.end;
     }
     Part {
         start: end,
@@ -80,14 +76,12 @@ pub fn name_end(t: &[u8], start: usize, end: usize) -> usize
     requires { Bounds t.now start end }
     ensures { result ≡ start + name_size (slice start end t.now) }
 {
-    let mut i = start;
-    while i < end {
+    for i in start..end {
         if !text_characters::in_name(t[i]) {
             return i;
         }
-        i += 1;
     }
-    i
+    end
 }
 
 // Is this part one name?
@@ -111,15 +105,12 @@ pub const BYTE_BRACKET_L: u8 = 0x5b;
 pub const BYTE_BRACKET_R: u8 = 0x5d;
 
 // A type reference's text: where its name lies, and its wrappers as one number, from outside in, lowest two bits first, 1 list, 2 Non-Null;
-// of more than seven the outer seven. Or the text is none.
+// of more than seven the outer seven.
 #[derive(Clone, Copy)]
-pub enum RefRead {
-    Reference {
-        start: usize,
-        end: usize,
-        wrappers: u32,
-    },
-    Bad,
+pub struct Reference {
+    pub start: usize,
+    pub end: usize,
+    pub wrappers: u32,
 }
 
 pub const PACK_LIMIT: u32 = 16384;
@@ -129,14 +120,12 @@ fn brackets_end(t: &[u8], start: usize, end: usize) -> usize
     requires { Bounds t.now start end }
     ensures { result ≡ start + bracket_size (slice start end t.now) }
 {
-    let mut i = start;
-    while i < end {
+    for i in start..end {
         if t[i] != BYTE_BRACKET_L {
             return i;
         }
-        i += 1;
     }
-    i
+    end
 }
 
 // The wrapper that a byte behind a reference adds: 1 for the `]` of an open list, 2 for a `!` behind what is not Non-Null, else 0.
@@ -158,39 +147,37 @@ fn wrapper(wrappers: u32, lists: usize, b: u8) -> u32
     0
 }
 
-// The type reference whose text this part is.
-pub fn read_reference(t: &[u8], start: usize, end: usize) -> RefRead
+// The type reference whose text this part is; none if it is no reference's text.
+pub fn read_reference(t: &[u8], start: usize, end: usize) -> Option<Reference>
     requires { Bounds t.now start end }
     ensures { RefersRead t.now start end result }
 {
     let from = brackets_end(t, start, end);
     if from == end {
-        return RefRead::Bad;
+        return None;
     }
     if !text_characters::starts_name(t[from]) {
-        return RefRead::Bad;
+        return None;
     }
     let to = name_end(t, from + 1, end);
     let mut lists = from - start;
     let mut wrappers = 0;
-    let mut i = to;
-    while i < end {
+    for i in to..end {
         let w = wrapper(wrappers, lists, t[i]);
         if w == 0 {
-            return RefRead::Bad;
+            return None;
         }
         wrappers = (WRAP_BASE * wrappers + w) % PACK_LIMIT;
         lists -= (w % 2) as usize;
-        i += 1;
     }
     if lists == 0 {
-        return RefRead::Reference {
+        return Some(Reference {
             start: from,
             end: to,
-            wrappers: wrappers,
-        };
+            wrappers,
+        });
     }
-    RefRead::Bad
+    None
 }
 
 // Is this part a type reference's text?
@@ -198,13 +185,5 @@ pub fn is_reference(t: &[u8], start: usize, end: usize) -> bool
     requires { Bounds t.now start end }
     ensures { result ≡ is_reference (slice start end t.now) }
 {
-    let RefRead::Reference {
-        start: _,
-        end: _,
-        wrappers: _,
-    } = read_reference(t, start, end)
-    else {
-        return false;
-    };
-    true
+    read_reference(t, start, end).is_some()
 }

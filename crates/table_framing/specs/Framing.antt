@@ -1,18 +1,17 @@
 -- The code's answers on framing.
 -- Assumes nothing.
-use Rattle.std.specs.Prelude.{Bool, false, not, ◌&&◌, List, ℕ, eqb}
+use Rattle.std.specs.Prelude.{Bool, false, not, Result, Ok, Err, ◌&&◌, List, ℕ, eqb}
+use Prim.{Unit, tt}
 use Rattle.std.proofs.Math.Option.{Option, none, some}
 use Rattle.paper_table.specs.TableNumbers.{tag_roots}
 use Rattle.paper_table.specs.References.{is_name, is_reference}
-use Rattle.table_framing.specs.declared.Framed.{Framed}
-use Rattle.table_framing.specs.declared.Framed.TheVariants.{Right, Wrong}
 use Rattle.table_framing.specs.declared.Holding.{Holding}
 use Rattle.table_framing.specs.declared.Holding.TheVariants.{Name, Reference, Fields, Nothing}
 
 -- the first wrong offset, if there is one
-abbrev pub told : Option ℕ → Framed
-told none = Right
-told (some at) = Wrong at
+abbrev pub told : Option ℕ → Result (Unit {0}) ℕ
+told none = Ok tt
+told (some at) = Err at
 
 -- a content that is no fields is right
 abbrev pub is_leaf : Holding → List ℕ → Bool

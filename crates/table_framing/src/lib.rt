@@ -17,7 +17,7 @@ use paper_table::{
     TAG_INPUT_OBJECT, TAG_INTERFACE, TAG_MUTATION_ROOT, TAG_NAME, TAG_OBJECT, TAG_QUERY_ROOT,
     TAG_REFERENCE, TAG_ROOTS, TAG_SCALAR, TAG_SUBSCRIPTION_ROOT, TAG_UNION, TAG_UNION_MEMBER,
 };
-use table_fields::{FieldRead, is_name, is_reference, read_field};
+use table_fields::{is_name, is_reference, read_field};
 
 // What a field's content is: a name, a type reference's text, fields, or there is no such tag.
 // Of fields: the tags of those that are due (the same twice if one is), and from which to which tag the others go.
@@ -101,18 +101,13 @@ pub fn has_tag(t: &[u8], start: usize, end: usize, tag: u8) -> bool
 {
     let mut i = start;
     while i < end {
-        let FieldRead::Field {
-            tag: k,
-            start: _,
-            end: to,
-        } = read_field(t, i, end)
-        else {
+        let Some(f) = read_field(t, i, end) else {
             return false;
         };
-        if k == tag {
+        if f.tag == tag {
             return true;
         }
-        i = to;
+        i = f.end;
     }
     false
 }
@@ -178,20 +173,13 @@ fn is_leaf(t: &[u8], start: usize, end: usize, h: Holding) -> bool
     }
 }
 
-// Whether a part is framed right, or its first wrong offset.
-#[derive(Clone, Copy)]
-pub enum Framed {
-    Right,
-    Wrong(u32),
-}
-
-// The field whose tag stands at `at` and whose content ends at `end`; fields stand in it `depth` deep at most.
-fn first_wrong(t: &[u8], at: usize, tag: u8, end: usize, depth: u32) -> Framed
+// The field whose tag stands at `at` and whose content ends at `end`; fields stand in it `depth` deep at most. Err has its first wrong offset.
+fn first_wrong(t: &[u8], at: usize, tag: u8, end: usize, depth: u32) -> Result<(), u32>
     requires { Bounds t.now (at + 3) end }
     ensures { result ≡ told (head? (wrongs depth at tag (slice (at + 3) end t.now))) }
 {
     if depth == 0 {
-        return Framed::Wrong(at as u32);
+        return Err(at as u32);
     }
     let h = content_of(tag);
     let Holding::Fields {
@@ -202,39 +190,31 @@ fn first_wrong(t: &[u8], at: usize, tag: u8, end: usize, depth: u32) -> Framed
     } = h
     else {
         if is_leaf(t, at + 3, end, h) {
-            return Framed::Right;
+            return Ok(());
         }
-        return Framed::Wrong(at as u32);
+        return Err(at as u32);
     };
     let mut least = 0;
     let mut i = at + 3;
     while i < end {
-        let FieldRead::Field {
-            tag: k,
-            start: _,
-            end: e,
-        } = read_field(t, i, end)
-        else {
-            return Framed::Wrong(i as u32);
+        let Some(f) = read_field(t, i, end) else {
+            return Err(i as u32);
         };
-        if !in_place(first, from, to, least, k) {
-            return Framed::Wrong(i as u32);
+        if !in_place(first, from, to, least, f.tag) {
+            return Err(i as u32);
         }
-        let w = first_wrong(t, i, k, e, depth - 1);
-        let Framed::Right = w else {
-            return w;
-        };
-        least = least_after(k);
-        i = e;
+        first_wrong(t, i, f.tag, f.end, depth - 1)?;
+        least = least_after(f.tag);
+        i = f.end;
     }
     let lacking = at as u32;
     if !has_tag(t, at + 3, end, first) {
-        return Framed::Wrong(lacking);
+        return Err(lacking);
     }
     if !has_tag(t, at + 3, end, second) {
-        return Framed::Wrong(lacking);
+        return Err(lacking);
     }
-    Framed::Right
+    Ok(())
 }
 
 // Records are 1 to 8 in any order, and 8 only once: `roots` is whether it may still come.
@@ -265,31 +245,23 @@ pub fn roots_after(roots: bool, k: u8) -> bool
 // A record, a field of it, its argument, its name.
 pub const MOST_DEEP: u32 = 4;
 
-// Refusal 7: the smallest wrong offset of a table.
-pub fn framing(t: &[u8]) -> Framed
+// Refusal 7: Err has the smallest wrong offset of a table.
+pub fn framing(t: &[u8]) -> Result<(), u32>
     requires { length t.now ≤ most_table }
     ensures { result ≡ told (framing_offset t.now) }
 {
     let mut roots = true;
     let mut i = 0;
     while i < t.len() {
-        let FieldRead::Field {
-            tag: k,
-            start: _,
-            end: e,
-        } = read_field(t, i, t.len())
-        else {
-            return Framed::Wrong(i as u32);
+        let Some(f) = read_field(t, i, t.len()) else {
+            return Err(i as u32);
         };
-        if !record_in_place(roots, k) {
-            return Framed::Wrong(i as u32);
+        if !record_in_place(roots, f.tag) {
+            return Err(i as u32);
         }
-        let w = first_wrong(t, i, k, e, MOST_DEEP);
-        let Framed::Right = w else {
-            return w;
-        };
-        roots = roots_after(roots, k);
-        i = e;
+        first_wrong(t, i, f.tag, f.end, MOST_DEEP)?;
+        roots = roots_after(roots, f.tag);
+        i = f.end;
     }
-    Framed::Right
+    Ok(())
 }

@@ -17,7 +17,8 @@ use Rattle.paper_table.specs.References.{is_name}
 use Rattle.paper_table.specs.House.{house_field, house_fields, house_fields_in, Slot, a_name, content_of, holds, in_place, open_after, tag_is, lacks_house_field, in_order, or_lacking, by_content, wrongs, most_deep, record_in_place, table_wrongs, smallest, framing_offset}
 use Rattle.paper_table.specs.TableSizes.{Room, room, is_over, less_room, room_in, room_in_table, overs_in, overs_by, overs, counts_offset}
 use Rattle.paper_table.proofs.HolderLaws.{order_on, order_end, table_on, table_end, over_on, over_end}
-use Rattle.table_fields.specs.declared.FieldRead.TheVariants.{Field}
+use Rattle.std.specs.Prelude.{Some}
+use Rattle.table_fields.specs.declared.Field.{Field}
 use Rattle.table_fields.specs.Fields.{field_at}
 use Rattle.table_fields.proofs.FieldLaws.{field_lies, pieces_read, pieces_none}
 use Rattle.table_framing.specs.Holders.{rank, least_after, placed, open_from, Holder}
@@ -59,41 +60,41 @@ module _ (t : List ℕ) (at tag end first from to least names rest i : ℕ) (w :
   }
 
   -- one field more
-  module _ (h : i < end) (k a e : ℕ) (q : field_at t i end ≡ Field k a e) where
+  module _ (h : i < end) (it : Field) (q : field_at t i end ≡ Some it) where
     abbrev open' : List Slot
     open' = open_from least o.holder.slots
 
-    split : house_fields i (slice i end t) ≡ house_field i k (slice (i + 3) e t) ∷ house_fields e (slice e end t)
-    split = let l = field_lies t i end k a e o.order q in pieces_read t i end w h k a e q ∙ rw l.begins
+    split : house_fields i (slice i end t) ≡ house_field i it.tag (slice (i + 3) it.end t) ∷ house_fields it.end (slice it.end end t)
+    split = let l = field_lies t i end it o.order q in pieces_read t i end w h it q ∙ rw l.begins
 
-    ordered_on : (r : Bool) → r ≡ placed first from to least k → r ≡ true → wrongs 3 i k (slice (i + 3) e t) ≡ [] → (m : ℕ) → m ≡ least_after k
-        → in_order (wrongs 3) (open_from m o.holder.slots) (house_fields e (slice e end t)) ≡ in_order (wrongs 3) o.holder.slots (house_fields_in at (slice (at + 3) end t))
+    ordered_on : (r : Bool) → r ≡ placed first from to least it.tag → r ≡ true → wrongs 3 i it.tag (slice (i + 3) it.end t) ≡ [] → (m : ℕ) → m ≡ least_after it.tag
+        → in_order (wrongs 3) (open_from m o.holder.slots) (house_fields it.end (slice it.end end t)) ≡ in_order (wrongs 3) o.holder.slots (house_fields_in at (slice (at + 3) end t))
     ordered_on r p f y m c =
-        let u : leb least (rank k) && (eqb k first || leb from k && leb k to) ≡ true = sym p ∙ f in
-        let there : in_place k o.holder.slots ≡ true = o.holder.known k ∙ and_right (leb least (rank k)) _ u in
-        let in-it : in_place k open' ≡ true = in_open least k o.holder.slots ∙ rw (and_left (leb least (rank k)) _ u) there in
-        let v : open_after k open' ≡ open_from m o.holder.slots =
-        open_after_is least 0 k o.holder.slots o.holder.rises (and_left (leb least (rank k)) _ u) there ∙ ap (λ (b : ℕ). open_from b o.holder.slots) (sym c) in
+        let u : leb least (rank it.tag) && (eqb it.tag first || leb from it.tag && leb it.tag to) ≡ true = sym p ∙ f in
+        let there : in_place it.tag o.holder.slots ≡ true = o.holder.known it.tag ∙ and_right (leb least (rank it.tag)) _ u in
+        let in-it : in_place it.tag open' ≡ true = in_open least it.tag o.holder.slots ∙ rw (and_left (leb least (rank it.tag)) _ u) there in
+        let v : open_after it.tag open' ≡ open_from m o.holder.slots =
+        open_after_is least 0 it.tag o.holder.slots o.holder.rises (and_left (leb least (rank it.tag)) _ u) there ∙ ap (λ (b : ℕ). open_from b o.holder.slots) (sym c) in
         sym
-        (ap (in_order (wrongs 3) open') split ∙ order_on (wrongs 3) open' i k (slice (i + 3) e t) (house_fields e (slice e end t)) in-it y
-        ∙ ap (λ (ss : List Slot). in_order (wrongs 3) ss (house_fields e (slice e end t))) v)
+        (ap (in_order (wrongs 3) open') split ∙ order_on (wrongs 3) open' i it.tag (slice (i + 3) it.end t) (house_fields it.end (slice it.end end t)) in-it y
+        ∙ ap (λ (ss : List Slot). in_order (wrongs 3) ss (house_fields it.end (slice it.end end t))) v)
         ∙ o.ordered
 
-    within_on : (n : ℕ) → n ≡ room_for tag k → n % 2 ≤ names → n / 2 ≤ rest → overs 3 i k (slice (i + 3) e t) ≡ []
-        → overs_in (overs 3) (rooms_of tag (names - n % 2) (rest - n / 2)) (house_fields e (slice e end t)) ≡ overs_in (overs 3) (room_in tag) (house_fields_in at (slice (at + 3) end t))
+    within_on : (n : ℕ) → n ≡ room_for tag it.tag → n % 2 ≤ names → n / 2 ≤ rest → overs 3 i it.tag (slice (i + 3) it.end t) ≡ []
+        → overs_in (overs 3) (rooms_of tag (names - n % 2) (rest - n / 2)) (house_fields it.end (slice it.end end t)) ≡ overs_in (overs 3) (room_in tag) (house_fields_in at (slice (at + 3) end t))
     within_on n p l m y =
-        let left : any_of (is_over k) (rooms_of tag names rest) ≡ false = room_over names rest k tag n p ∙ rw (le-ltb names (n % 2) l, le-ltb rest (n / 2) m) in
-        ap (λ (rs : List Room). overs_in (overs 3) rs (house_fields e (slice e end t))) (sym (room_less names rest k tag n p))
-        ∙ sym (ap (overs_in (overs 3) (rooms_of tag names rest)) split ∙ over_on (overs 3) (rooms_of tag names rest) i k (slice (i + 3) e t) (house_fields e (slice e end t)) left y)
+        let left : any_of (is_over it.tag) (rooms_of tag names rest) ≡ false = room_over names rest it.tag tag n p ∙ rw (le-ltb names (n % 2) l, le-ltb rest (n / 2) m) in
+        ap (λ (rs : List Room). overs_in (overs 3) rs (house_fields it.end (slice it.end end t))) (sym (room_less names rest it.tag tag n p))
+        ∙ sym (ap (overs_in (overs 3) (rooms_of tag names rest)) split ∙ over_on (overs 3) (rooms_of tag names rest) i it.tag (slice (i + 3) it.end t) (house_fields it.end (slice it.end end t)) left y)
         ∙ o.within
 
-    pub going_on : (r : Bool) → r ≡ placed first from to least k → r ≡ true → (m : ℕ) → m ≡ least_after k → (n : ℕ) → n ≡ room_for tag k → n % 2 ≤ names → n / 2 ≤ rest
-        → Fine 3 i k (slice (i + 3) e t) → Going t at tag end first from to m (names - n % 2) (rest - n / 2) e
+    pub going_on : (r : Bool) → r ≡ placed first from to least it.tag → r ≡ true → (m : ℕ) → m ≡ least_after it.tag → (n : ℕ) → n ≡ room_for tag it.tag → n % 2 ≤ names → n / 2 ≤ rest
+        → Fine 3 i it.tag (slice (i + 3) it.end t) → Going t at tag end first from to m (names - n % 2) (rest - n / 2) it.end
     going_on r p f m c n d l j y = record {
       holder = o.holder;
       ordered = ordered_on r p f y.0 m c;
       within = within_on n d l j y.1;
-      order = (field_lies t i end k a e o.order q).within;
+      order = (field_lies t i end it o.order q).within;
     }
 
 -- A record whose fields are right, and the one that is due is there.
@@ -146,33 +147,33 @@ module _ (t : List ℕ) (roots : Bool) (left i : ℕ) (o : Tabled t roots left i
     ap smallest (sym o.within ∙ ap (overs_in (overs most_deep) rooms) (pieces_none t i (length t) h (le_refl (length t))) ∙ over_end (overs most_deep) rooms),
   )
 
-  module _ (h : i < length t) (k a e : ℕ) (q : field_at t i (length t) ≡ Field k a e) (r : Bool) (p : r ≡ record_in_place roots k) (f : r ≡ true) where
-    split_table : house_fields i (slice i (length t) t) ≡ house_field i k (slice (i + 3) e t) ∷ house_fields e (slice e (length t) t)
-    split_table = let l = field_lies t i (length t) k a e o.order q in pieces_read t i (length t) (le_refl (length t)) h k a e q ∙ rw l.begins
+  module _ (h : i < length t) (it : Field) (q : field_at t i (length t) ≡ Some it) (r : Bool) (p : r ≡ record_in_place roots it.tag) (f : r ≡ true) where
+    split_table : house_fields i (slice i (length t) t) ≡ house_field i it.tag (slice (i + 3) it.end t) ∷ house_fields it.end (slice it.end (length t) t)
+    split_table = let l = field_lies t i (length t) it o.order q in pieces_read t i (length t) (le_refl (length t)) h it q ∙ rw l.begins
 
-    -- such a tag is counted
-    is_counted : leb tag_scalar k && leb k tag_roots ≡ true
-    is_counted = go (leb tag_scalar k) (leb k tag_roots) (sym p ∙ f)
+    -- such it.start tag is counted
+    is_counted : leb tag_scalar it.tag && leb it.tag tag_roots ≡ true
+    is_counted = go (leb tag_scalar it.tag) (leb it.tag tag_roots) (sym p ∙ f)
       where
-        go : (x y : Bool) → x && y && (not (eqb k tag_roots) || roots) ≡ true → x && y ≡ true
+        go : (x y : Bool) → x && y && (not (eqb it.tag tag_roots) || roots) ≡ true → x && y ≡ true
         go true true z = refl
         go true false z = z
         go false y z = z
 
-    pub tabled_on : (left ≡ 0 → ⊥) → Fine most_deep i k (slice (i + 3) e t) → (b : Bool) → b ≡ roots_after roots k → Tabled t b (left - 1) e
+    pub tabled_on : (left ≡ 0 → ⊥) → Fine most_deep i it.tag (slice (i + 3) it.end t) → (b : Bool) → b ≡ roots_after roots it.tag → Tabled t b (left - 1) it.end
     unfolding any_of
     tabled_on n y b c = record {
       ordered =
-          ap (λ (d : Bool). table_wrongs d (house_fields e (slice e (length t) t))) c
-          ∙ sym (ap (table_wrongs roots) split_table ∙ table_on roots i k (slice (i + 3) e t) (house_fields e (slice e (length t) t)) (sym p ∙ f) y.0) ∙ o.ordered;
+          ap (λ (d : Bool). table_wrongs d (house_fields it.end (slice it.end (length t) t))) c
+          ∙ sym (ap (table_wrongs roots) split_table ∙ table_on roots i it.tag (slice (i + 3) it.end t) (house_fields it.end (slice it.end (length t) t)) (sym p ∙ f) y.0) ∙ o.ordered;
       within =
-          ap (λ (rs : List Room). overs_in (overs most_deep) rs (house_fields e (slice e (length t) t))) (sym less)
-          ∙ sym (ap (overs_in (overs most_deep) rooms) split_table ∙ over_on (overs most_deep) rooms i k (slice (i + 3) e t) (house_fields e (slice e (length t) t)) room_left y.1) ∙ o.within;
-      order = (field_lies t i (length t) k a e o.order q).within;
+          ap (λ (rs : List Room). overs_in (overs most_deep) rs (house_fields it.end (slice it.end (length t) t))) (sym less)
+          ∙ sym (ap (overs_in (overs most_deep) rooms) split_table ∙ over_on (overs most_deep) rooms i it.tag (slice (i + 3) it.end t) (house_fields it.end (slice it.end (length t) t)) room_left y.1) ∙ o.within;
+      order = (field_lies t i (length t) it o.order q).within;
     }
       where
-        room_left : any_of (is_over k) rooms ≡ false
+        room_left : any_of (is_over it.tag) rooms ≡ false
         room_left = rw (is_counted, ne_eqb left 0 n)
 
-        less : ◌≡◌ {A = List Room} (map (less_room k) rooms) (room tag_scalar tag_roots (left - 1) ∷ [])
+        less : ◌≡◌ {A = List Room} (map (less_room it.tag) rooms) (room tag_scalar tag_roots (left - 1) ∷ [])
         less = rw (is_counted, pred_is left)

@@ -16,7 +16,7 @@ use paper_table::{
     MOST_IMPLEMENTED, MOST_RECORDS, TAG_ARGUMENT, TAG_ENUM_VALUE, TAG_FIELD, TAG_IMPLEMENTS,
     TAG_MUTATION_ROOT, TAG_NAME, TAG_QUERY_ROOT, TAG_SUBSCRIPTION_ROOT, TAG_UNION_MEMBER,
 };
-use table_fields::{FieldRead, is_name, read_field};
+use table_fields::{is_name, read_field};
 use table_framing::{
     Holding, content_of, has_tag, in_place, least_after, record_in_place, roots_after,
 };
@@ -66,31 +66,26 @@ fn are_usual_members(t: &[u8], at: usize, tag: u8, end: usize, first: u8, from: 
     let mut rest = rest_room(tag);
     let mut i = at + 3;
     while i < end {
-        let FieldRead::Field {
-            tag: k,
-            start: _,
-            end: e,
-        } = read_field(t, i, end)
-        else {
+        let Some(f) = read_field(t, i, end) else {
             return false;
         };
-        let n = room_of(tag, k);
+        let n = room_of(tag, f.tag);
         if names < n % 2 {
             return false;
         }
         if rest < n / 2 {
             return false;
         }
-        if !in_place(first, from, to, least, k) {
+        if !in_place(first, from, to, least, f.tag) {
             return false;
         }
-        if !is_usual_member(t, i, k, e) {
+        if !is_usual_member(t, i, f.tag, f.end) {
             return false;
         }
-        least = least_after(k);
+        least = least_after(f.tag);
         names -= n % 2;
         rest -= n / 2;
-        i = e;
+        i = f.end;
     }
     true
 }
@@ -127,26 +122,21 @@ pub fn is_usual(t: &[u8]) -> bool
     let mut left = MOST_RECORDS;
     let mut i = 0;
     while i < t.len() {
-        let FieldRead::Field {
-            tag: k,
-            start: _,
-            end: e,
-        } = read_field(t, i, t.len())
-        else {
+        let Some(f) = read_field(t, i, t.len()) else {
             return false;
         };
         if left == 0 {
             return false;
         }
-        if !record_in_place(roots, k) {
+        if !record_in_place(roots, f.tag) {
             return false;
         }
-        if !is_usual_record(t, i, k, e) {
+        if !is_usual_record(t, i, f.tag, f.end) {
             return false;
         }
-        roots = roots_after(roots, k);
+        roots = roots_after(roots, f.tag);
         left -= 1;
-        i = e;
+        i = f.end;
     }
     true
 }

@@ -9,6 +9,7 @@ use lib.ListN.{length, length-append}
 use lib.Seq.{slice, length-slice}
 use lib.Dec.{eqb}
 use borrow.Author.Tests.{ne_eqb, eqb-true}
+use Rattle.std.specs.Result.{is_ok}
 use Rattle.paper.specs.Lexical.{letter_or_digit, in_set}
 use Rattle.paper.specs.Numbers.{most_wrappers}
 use Rattle.paper_table.specs.TableNumbers.{most_arguments, tag_name, tag_reference, tag_argument, tag_field}
@@ -18,17 +19,14 @@ use Rattle.paper_table.specs.House.{house_field, house_fields, many, look_up, co
 use Rattle.paper_table.specs.TableSizes.{room, room_in, overs_in, is_wrapper, wrappers_over, overs_by, overs}
 use Rattle.paper_table.proofs.ListsLaws.{head_nil}
 use Rattle.paper_table.proofs.ReferenceTexts.{ref_text, Written, by_a_name, a_list, a_non_null, name_all, ref_of_sound}
-use Rattle.table_fields.specs.declared.FieldRead.TheVariants.{Field}
-use Rattle.table_fields.specs.declared.RefRead.{RefRead}
-use Rattle.table_fields.specs.declared.RefRead.TheVariants.{Reference}
+use Rattle.std.specs.Prelude.{Option as Answer, Some, Result}
+use Prim.{Unit}
+use Rattle.table_fields.specs.declared.Field.{Field}
+use Rattle.table_fields.specs.declared.Reference.{Reference}
 use Rattle.table_fields.specs.Fields.{field_at}
 use Rattle.table_fields.specs.Wrappers.{Refers, RefersRead}
 use Rattle.table_fields.proofs.FieldLaws.{field_lies, pieces_read, pieces_none}
-use Rattle.table_rooms.specs.declared.Counted.{Counted}
-use Rattle.table_rooms.specs.declared.Counted.TheVariants.{Within, Over}
 use Rattle.table_rooms.specs.Rooms.{told_over}
-use Rattle.table_framing_quick_types.specs.declared.Typed.{Typed}
-use Rattle.table_framing_quick_types.specs.declared.Typed.TheVariants.{Ends}
 use Rattle.table_framing_quick_types.specs.Fine.{Fine, FewWrappers, Begins, TypedTo}
 
 -- The wrappers in a text; if there are no more than may be, none is over.
@@ -78,8 +76,8 @@ beside (a_list {r} w) = let e = beside w in omega (arith, e, wrapped_both (ref_t
 beside (a_non_null {r} q w) = let e = beside w in omega (arith, e, wrapped_both (ref_text r) (byte_bang ∷ []), length-append (ref_text r) (byte_bang ∷ []))
 
 -- a reference that is read
-pub refers : (t : List ℕ) (start end from to wrappers : ℕ) (x : RefRead) → x ≡ Reference from to wrappers → RefersRead t start end x → Refers t start end from to wrappers
-refers t start end from to wrappers x p r = subst (RefersRead t start end) p r
+pub refers : (t : List ℕ) (start end : ℕ) (k : Reference) (x : Answer Reference) → x ≡ Some k → RefersRead t start end x → Refers t start end k.start k.end k.wrappers
+refers t start end k x p r = subst (RefersRead t start end) p r
 
 module _ (t : List ℕ) (start end from to wrappers : ℕ) (w : end ≤ length t) (q : Refers t start end from to wrappers) where
   -- few bytes stand beside its name
@@ -90,31 +88,31 @@ module _ (t : List ℕ) (start end from to wrappers : ℕ) (w : end ≤ length t
       (ap found q.is, none_over most_wrappers start (slice start end t) (omega (arith, h, l, q.begins, q.order, q.within, length-slice start end t w, length-slice from to t (omega (arith, q.within)))))
 
   -- its wrappers were counted
-  pub few_counted : (y : Counted) → y ≡ told_over (head? (wrappers_over most_wrappers start (slice start end t))) → y ≡ Within → FewWrappers start (slice start end t)
-  few_counted y g e = (ap found q.is, head_nil (wrappers_over most_wrappers start (slice start end t)) (told (head? (wrappers_over most_wrappers start (slice start end t))) (sym g ∙ e)))
+  pub few_counted : (y : Result (Unit {0}) ℕ) → y ≡ told_over (head? (wrappers_over most_wrappers start (slice start end t))) → is_ok y ≡ true → FewWrappers start (slice start end t)
+  few_counted y g e = (ap found q.is, head_nil (wrappers_over most_wrappers start (slice start end t)) (told (head? (wrappers_over most_wrappers start (slice start end t))) (ap is_ok (sym g) ∙ e)))
     where
-      told : (o : Option ℕ) → told_over o ≡ Within → o ≡ none
+      told : (o : Option ℕ) → is_ok (told_over o) ≡ true → o ≡ none
       told none e = refl
-      told (some v) e = let z : Over v ≡ Within = e in cc
+      told (some v) e = absurd (false≢true e)
 
 -- A field that is read in a part is its first.
-first : (t : List ℕ) (at end k from to : ℕ) → at ≤ end → end ≤ length t → field_at t at end ≡ Field k from to
-    → house_fields at (slice at end t) ≡ house_field at k (slice from to t) ∷ house_fields to (slice to end t)
-first t at end k from to o w q = let l = field_lies t at end k from to o q in pieces_read t at end w (omega (arith, l.begins, l.order, l.within)) k from to q
+first : (t : List ℕ) (at end : ℕ) (f : Field) → at ≤ end → end ≤ length t → field_at t at end ≡ Some f
+    → house_fields at (slice at end t) ≡ house_field at f.tag (slice f.start f.end t) ∷ house_fields f.end (slice f.end end t)
+first t at end f o w q = let l = field_lies t at end f o q in pieces_read t at end w (omega (arith, l.begins, l.order, l.within)) f q
 
 -- a name and a type are read
-pub begins_with : (t : List ℕ) (start end k from to m at stop : ℕ) → start ≤ end → end ≤ length t
-    → field_at t start end ≡ Field k from to → k ≡ tag_name → is_name (slice from to t) ≡ true
-    → field_at t to end ≡ Field m at stop → m ≡ tag_reference → FewWrappers at (slice at stop t)
-    → Begins t start end stop
-begins_with t start end k from to m at stop o w q e n r f g =
-    let l = field_lies t start end k from to o q in
-    let j = field_lies t to end m at stop l.within r in
+pub begins_with : (t : List ℕ) (start end : ℕ) (a b : Field) → start ≤ end → end ≤ length t
+    → field_at t start end ≡ Some a → a.tag ≡ tag_name → is_name (slice a.start a.end t) ≡ true
+    → field_at t a.end end ≡ Some b → b.tag ≡ tag_reference → FewWrappers b.start (slice b.start b.end t)
+    → Begins t start end b.end
+begins_with t start end a b o w q e n r f g =
+    let l = field_lies t start end a o q in
+    let j = field_lies t a.end end b l.within r in
     record {
-      name = slice from to t;
-      second = to;
-      reference = slice at stop t;
-      parts = rw (first t start end k from to o w q, first t to end m at stop l.within w r, e, f);
+      name = slice a.start a.end t;
+      second = a.end;
+      reference = slice b.start b.end t;
+      parts = rw (first t start end a o w q, first t a.end end b l.within w r, e, f);
       named = n;
       refers = (g.0, rw (← j.begins) g.1);
       order = omega (arith, l.begins, l.order, j.begins, j.order);
@@ -122,7 +120,7 @@ begins_with t start end k from to m at stop o w q e n r f g =
     }
 
 -- it is answered where they end
-pub begun : (t : List ℕ) (start end stop : ℕ) (x : Typed) → x ≡ Ends stop → TypedTo t start end x → Begins t start end stop
+pub begun : (t : List ℕ) (start end stop : ℕ) (x : Answer ℕ) → x ≡ Some stop → TypedTo t start end x → Begins t start end stop
 begun t start end stop x p r = subst (TypedTo t start end) p r
 
 -- An argument is a name and a type.
@@ -152,11 +150,11 @@ module _ (t : List ℕ) (at end left i : ℕ) (w : end ≤ length t) (o : Usual 
   unfolding in_order overs_in
   usual_end h d = o.rest d (rw (pieces_none t i end h w)) (rw (pieces_none t i end h w))
 
-  pub usual_on : (k from to : ℕ) → field_at t i end ≡ Field k from to → k ≡ tag_argument → (left ≡ 0 → ⊥) → ((d : ℕ) → Fine (suc (suc d)) i tag_argument (slice (i + 3) to t)) → Usual t at end (left - 1) to
+  pub usual_on : (it : Field) → field_at t i end ≡ Some it → it.tag ≡ tag_argument → (left ≡ 0 → ⊥) → ((d : ℕ) → Fine (suc (suc d)) i tag_argument (slice (i + 3) it.end t)) → Usual t at end (left - 1) it.end
   unfolding in_order overs_in any_of open_after
-  usual_on k from to q e n v =
-      let l = field_lies t i end k from to o.order q in
-      let p : house_fields i (slice i end t) ≡ house_field i tag_argument (slice (i + 3) to t) ∷ house_fields to (slice to end t) = first t i end k from to o.order w q ∙ rw (e, l.begins) in
+  usual_on it q e n v =
+      let l = field_lies t i end it o.order q in
+      let p : house_fields i (slice i end t) ≡ house_field i tag_argument (slice (i + 3) it.end t) ∷ house_fields it.end (slice it.end end t) = first t i end it o.order w q ∙ rw (e, l.begins) in
       record {
         rest = λ d f g. o.rest d (rw (p, (v d).0) f) (rw (p, (v d).1, ne_eqb left 0 n, pred_is left) g);
         order = l.within;

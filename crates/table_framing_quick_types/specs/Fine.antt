@@ -1,14 +1,12 @@
 -- What the quick judges of a field and an argument answer.
 -- Assumes nothing.
-use Rattle.std.specs.Prelude.{◌≡◌, true, List, [], ◌∷◌, ℕ, ◌+◌, ◌≤◌}
+use Rattle.std.specs.Prelude.{◌≡◌, true, Option, Some, None, List, [], ◌∷◌, ℕ, ◌+◌, ◌≤◌}
 use Rattle.std.proofs.Math.Seq.{slice}
 use Rattle.paper.specs.Numbers.{most_wrappers}
 use Rattle.paper_table.specs.TableNumbers.{tag_name, tag_reference}
 use Rattle.paper_table.specs.References.{is_name, is_reference}
 use Rattle.paper_table.specs.House.{house_field, house_fields, wrongs}
 use Rattle.paper_table.specs.TableSizes.{wrappers_over, overs}
-use Rattle.table_framing_quick_types.specs.declared.Typed.{Typed}
-use Rattle.table_framing_quick_types.specs.declared.Typed.TheVariants.{Ends, Unusual}
 
 -- A field of this tag and content, fields being so deep in it at most, has nothing wrong in it and nothing over a size.
 abbrev pub Fine : ℕ → ℕ → ℕ → List ℕ → Type 0
@@ -29,6 +27,6 @@ pub record Begins (t : List ℕ) (start end stop : ℕ) : Type 0 where
   pub order : start ≤ stop
   pub within : stop ≤ end
 
-abbrev pub TypedTo : List ℕ → ℕ → ℕ → Typed → Type 0
-TypedTo t start end (Ends stop) = Begins t start end stop
-TypedTo t start end Unusual = Unit {0}
+abbrev pub TypedTo : List ℕ → ℕ → ℕ → Option ℕ → Type 0
+TypedTo t start end (Some stop) = Begins t start end stop
+TypedTo t start end None = Unit {0}

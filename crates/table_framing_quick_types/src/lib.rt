@@ -9,71 +9,43 @@ ghost use Rattle.table_framing_quick_types.specs.Fine.{Fine, FewWrappers, TypedT
 
 use paper::MOST_WRAPPERS;
 use paper_table::{MOST_ARGUMENTS, TAG_ARGUMENT, TAG_NAME, TAG_REFERENCE};
-use table_fields::{FieldRead, RefRead, is_name, read_field, read_reference};
-use table_rooms::{Counted, wrapper_over};
+use table_fields::{is_name, read_field, read_reference};
+use table_rooms::wrapper_over;
 
 // Is this part a type reference's text with no wrapper over? Where few bytes stand beside its name, none need be counted.
 fn is_usual_reference(t: &[u8], start: usize, end: usize) -> bool
     requires { Bounds t.now start end }
     ensures { result ≡ true → FewWrappers start (slice start end t.now) }
 {
-    let RefRead::Reference {
-        start: from,
-        end: to,
-        wrappers: _,
-    } = read_reference(t, start, end)
-    else {
+    let Some(r) = read_reference(t, start, end) else {
         return false;
     };
-    if from - start + (end - to) <= MOST_WRAPPERS as usize {
+    if r.start - start + (end - r.end) <= MOST_WRAPPERS as usize {
         return true;
     }
-    let Counted::Within = wrapper_over(t, start, end) else {
-        return false;
-    };
-    true
+    wrapper_over(t, start, end).is_ok()
 }
 
-// Where the name and the type end that a part begins with, or it begins otherwise.
-#[derive(Clone, Copy)]
-pub enum Typed {
-    Ends(usize),
-    Unusual,
-}
-
-fn typed_end(t: &[u8], start: usize, end: usize) -> Typed
+// Where the name and the type end that a part begins with; none if it begins otherwise.
+fn typed_end(t: &[u8], start: usize, end: usize) -> Option<usize>
     requires { Bounds t.now start end }
     ensures { TypedTo t.now start end result }
 {
-    let FieldRead::Field {
-        tag: k,
-        start: from,
-        end: to,
-    } = read_field(t, start, end)
-    else {
-        return Typed::Unusual;
-    };
-    if k != TAG_NAME {
-        return Typed::Unusual;
+    let f = read_field(t, start, end)?;
+    if f.tag != TAG_NAME {
+        return None;
     }
-    if !is_name(t, from, to) {
-        return Typed::Unusual;
+    if !is_name(t, f.start, f.end) {
+        return None;
     }
-    let FieldRead::Field {
-        tag: m,
-        start: at,
-        end: stop,
-    } = read_field(t, to, end)
-    else {
-        return Typed::Unusual;
-    };
-    if m != TAG_REFERENCE {
-        return Typed::Unusual;
+    let g = read_field(t, f.end, end)?;
+    if g.tag != TAG_REFERENCE {
+        return None;
     }
-    if !is_usual_reference(t, at, stop) {
-        return Typed::Unusual;
+    if !is_usual_reference(t, g.start, g.end) {
+        return None;
     }
-    Typed::Ends(stop)
+    Some(g.end)
 }
 
 // The argument whose tag stands at `at` and whose content ends at `end`.
@@ -81,7 +53,7 @@ pub fn is_usual_argument(t: &[u8], at: usize, end: usize) -> bool
     requires { Bounds t.now (at + 3) end }
     ensures { result ≡ true → (d : ℕ) → Fine (suc (suc d)) at tag_argument (slice (at + 3) end t.now) }
 {
-    let Typed::Ends(stop) = typed_end(t, at + 3, end) else {
+    let Some(stop) = typed_end(t, at + 3, end) else {
         return false;
     };
     stop == end
@@ -92,7 +64,7 @@ pub fn is_usual_field(t: &[u8], at: usize, end: usize) -> bool
     requires { Bounds t.now (at + 3) end }
     ensures { result ≡ true → (d : ℕ) → Fine (suc (suc (suc d))) at tag_field (slice (at + 3) end t.now) }
 {
-    let Typed::Ends(stop) = typed_end(t, at + 3, end) else {
+    let Some(stop) = typed_end(t, at + 3, end) else {
         return false;
     };
     let mut left = MOST_ARGUMENTS;
@@ -101,22 +73,17 @@ pub fn is_usual_field(t: &[u8], at: usize, end: usize) -> bool
         if left == 0 {
             return false;
         }
-        let FieldRead::Field {
-            tag: k,
-            start: _,
-            end: to,
-        } = read_field(t, i, end)
-        else {
+        let Some(f) = read_field(t, i, end) else {
             return false;
         };
-        if k != TAG_ARGUMENT {
+        if f.tag != TAG_ARGUMENT {
             return false;
         }
-        if !is_usual_argument(t, i, to) {
+        if !is_usual_argument(t, i, f.end) {
             return false;
         }
         left -= 1;
-        i = to;
+        i = f.end;
     }
     true
 }

@@ -22,9 +22,10 @@ use Rattle.paper_table.specs.declared.TableAnswer.TheVariants.{Accepted, Breaks}
 use Rattle.paper_table.proofs.Walk.{breaks_from, definition_at, breaks_start, breaks_on, breaks_here, breaks_end}
 use Rattle.table_rules_11_15_quick.specs.Keeping.{AllKept}
 use Rattle.table_rules_4_8_quick.specs.Sound.{Sound}
-use Rattle.table_places.specs.Placed.{placed}
-use Rattle.table_places.specs.declared.PlaceRead.{PlaceRead}
-use Rattle.table_places.specs.declared.PlaceRead.TheVariants.{At, Kept}
+use Rattle.table_places.specs.Placed.{placed, code_place}
+use Prim.{Unit, tt}
+use Rattle.std.specs.Prelude.{Result, Ok, Err}
+use Rattle.table_places.specs.declared.Place.{Place as CodePlace}
 use Rattle.table_judge.specs.Schema.{early_rule, promise_rule, late_rule, rule_of, NextRule, shown_at, query_answer}
 
 -- what is said where a first break is all there may be
@@ -48,14 +49,14 @@ one_rule : (t : Table) (i : ℕ) (d : Definition) (k n : ℕ) → breaks_by t i 
 unfolding breaks_by
 one_rule t i d k n = refl
 
-told : (i k : ℕ) (qs : List Place) (bs : List Break) (r : PlaceRead) (m p a : ℕ) → r ≡ placed (head? qs) → r ≡ At m p a → shown_at i k r ≡ said (head? (map (break i k) qs ++ bs))
+told : (i k : ℕ) (qs : List Place) (bs : List Break) (r : Result (Unit {0}) CodePlace) (x : CodePlace) → r ≡ placed (head? qs) → r ≡ Err x → shown_at i k r ≡ said (head? (map (break i k) qs ++ bs))
 unfolding table_answer
-told i k [] bs r m p a e f = let z : At m p a ≡ Kept = sym f ∙ e in cc
-told i k (q ∷ qs) bs r m p a e f = ap (shown_at i k) e
+told i k [] bs r x e f = let z : Err x ≡ Ok tt = sym f ∙ e in cc
+told i k (q ∷ qs) bs r x e f = ap (shown_at i k) e
 
-kept : (i k : ℕ) (qs : List Place) (bs : List Break) (r : PlaceRead) → r ≡ placed (head? qs) → r ≡ Kept → said (head? (map (break i k) qs ++ bs)) ≡ said (head? bs)
+kept : (i k : ℕ) (qs : List Place) (bs : List Break) (r : Result (Unit {0}) CodePlace) → r ≡ placed (head? qs) → r ≡ Ok tt → said (head? (map (break i k) qs ++ bs)) ≡ said (head? bs)
 kept i k [] bs r e f = refl
-kept i k (q ∷ qs) bs r e f = let z : Kept ≡ At q.member q.part q.argument = sym f ∙ e in cc
+kept i k (q ∷ qs) bs r e f = let z : Ok tt ≡ Err (code_place q) = sym f ∙ e in cc
 
 -- what the walk over the rules knows at rule k
 pub record InTurn (t : Table) (i : ℕ) (d : Definition) (k : ℕ) : Type 0 where
@@ -73,16 +74,16 @@ module _ (t : Table) (i : ℕ) (d : Definition) where
     turn_end h =
         sym (w.same ∙ ap (λ (n : ℕ). said (head? (breaks_by t i d k n))) (let e : 17 - k ≡ 0 = omega arith in e) ∙ ap (λ (bs : List Break). said (head? bs)) (no_rule t i d k))
 
-    module _ (h : k ≤ 16) (r : PlaceRead) (e : r ≡ placed (head? (rule_of k t i d))) where
+    module _ (h : k ≤ 16) (r : Result (Unit {0}) CodePlace) (e : r ≡ placed (head? (rule_of k t i d))) where
       opened : said (head? (breaks_of t i d)) ≡ said (head? (map (break i k) (rule_of k t i d) ++ breaks_by t i d (suc k) (16 - k)))
       opened =
           w.same ∙ ap (λ (n : ℕ). said (head? (breaks_by t i d k n))) (let q : 17 - k ≡ suc (16 - k) = omega arith in q)
           ∙ ap (λ (bs : List Break). said (head? bs)) (one_rule t i d k (16 - k))
 
-      pub turn_here : (m p a : ℕ) → r ≡ At m p a → shown_at i k r ≡ said (head? (breaks_of t i d))
-      turn_here m p a f = told i k (rule_of k t i d) _ r m p a e f ∙ sym opened
+      pub turn_here : (x : CodePlace) → r ≡ Err x → shown_at i k (Err x) ≡ said (head? (breaks_of t i d))
+      turn_here x f = ap (shown_at i k) (sym f) ∙ told i k (rule_of k t i d) _ r x e f ∙ sym opened
 
-      pub turn_on : r ≡ Kept → InTurn t i d (k + 1)
+      pub turn_on : r ≡ Ok tt → InTurn t i d (k + 1)
       turn_on f = record {
         begun = omega arith;
         within = omega arith;
@@ -94,7 +95,7 @@ module _ (t : Table) (i : ℕ) (d : Definition) where
 
   -- a rule that is kept may be passed over; so the five of a walk of their own
   skip : (k : ℕ) → InTurn t i d k → k ≤ 16 → rule_of k t i d ≡ [] → InTurn t i d (k + 1)
-  skip k w h e = turn_on k w h Kept (sym (ap (λ (ps : List Place). placed (head? ps)) e)) refl
+  skip k w h e = turn_on k w h (Ok tt) (sym (ap (λ (ps : List Place). placed (head? ps)) e)) refl
 
   turn_clean : Sound t i d → InTurn t i d 4 → InTurn t i d 9
   unfolding rule_of early_rule

@@ -1,6 +1,7 @@
 -- The rules by their numbers, and what is said of their places.
 -- Assumes nothing.
-use Rattle.std.specs.Prelude.{◌≡◌, Bool, true, false, cond, ◌⊎◌, List, ℕ, ◌+◌, length, leb, eqb}
+use Rattle.std.specs.Prelude.{◌≡◌, Bool, true, false, cond, ◌⊎◌, Result, Ok, Err, List, ℕ, ◌+◌, length, leb, eqb}
+use Prim.{Unit}
 use Rattle.paper_table.specs.TableNumbers.{no_place, rule_reserved_name, rule_name_known, rule_no_members, rule_name_repeated, rule_reserved_member, rule_enum_value, rule_no_type, rule_base, rule_not_object_or_interface, rule_implemented_twice, rule_field_missing, rule_field_type, rule_argument_missing, rule_argument_type, rule_root}
 use Rattle.paper_table.specs.Lists.{all_of}
 use Rattle.paper_table.specs.Types.{Table, table_of}
@@ -28,8 +29,7 @@ use Rattle.table_types.specs.Booked.{Booked, definition_on, start_in, end_in}
 use Rattle.table_listing.specs.Listed.{Listed}
 use Rattle.table_types.specs.Sizes.{Slim, few_members}
 use Rattle.table_rules_11_15_quick.specs.Keeping.{AllKept}
-use Rattle.table_places.specs.declared.PlaceRead.{PlaceRead}
-use Rattle.table_places.specs.declared.PlaceRead.TheVariants.{At, Kept}
+use Rattle.table_places.specs.declared.Place.{Place as CodePlace}
 
 -- 1 to 8; 9 to 16
 unfoldable pub early_rule : ℕ → Rule
@@ -68,9 +68,9 @@ NextRule clean promising k r =
     (r ≡ k + 1) ⊎ (((k ≡ rule_no_members) × (clean ≡ true) × (r ≡ rule_not_object_or_interface)) ⊎ ((k ≡ rule_implemented_twice) × (promising ≡ false) × (r ≡ rule_root)))
 
 -- a rule's first place in definition i, as the answer shows it
-abbrev pub shown_at : ℕ → ℕ → PlaceRead → TableAnswer
-shown_at i k Kept = Accepted
-shown_at i k (At m p a) = Breaks i k m p a
+abbrev pub shown_at : ℕ → ℕ → Result (Unit {0}) CodePlace → TableAnswer
+shown_at i k (Ok x) = Accepted
+shown_at i k (Err q) = Breaks i k q.member q.part q.argument
 
 -- without record 8, where `Query` is the only root
 abbrev pub query_answer : Table → TableAnswer

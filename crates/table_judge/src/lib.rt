@@ -2,7 +2,7 @@
 // Nothing is asked of the table but its sizes.
 #![tactic(auto)]
 
-ghost use Rattle.std.specs.Prelude.{◌≡◌, true, ◌+◌, ◌≤◌, ◌<◌, length};
+ghost use Rattle.std.specs.Prelude.{◌≡◌, true, Err, ◌+◌, ◌≤◌, ◌<◌, length};
 ghost use Rattle.std.proofs.Math.Option.{none};
 ghost use mathlib.Core.List.{head?};
 ghost use Rattle.paper_table.specs.TableNumbers.{rule_root};
@@ -24,11 +24,10 @@ use paper_table::{
     RULE_NAME_REPEATED, RULE_NO_MEMBERS, RULE_NO_TYPE, RULE_NOT_OBJECT_OR_INTERFACE,
     RULE_RESERVED_MEMBER, RULE_RESERVED_NAME, RULE_ROOT, TableAnswer,
 };
-use table_members::FieldFound;
-use table_places::PlaceRead;
+use table_places::Place;
 
-// What a rule from 1 to 8 shows first of definition i.
-fn early_place(t: &[u8], book: &[u32], rule: u32, i: usize) -> PlaceRead
+// What a rule from 1 to 8 shows first of definition i: Err has its first place; Ok: it is kept.
+fn early_place(t: &[u8], book: &[u32], rule: u32, i: usize) -> Result<(), Place>
     requires { Booked t.now book.now × (i < count_in book.now) }
     ensures { result ≡ placed (head? (early_rule rule (table_of t.now) i (definition_on t.now i))) }
 {
@@ -57,7 +56,7 @@ fn early_place(t: &[u8], book: &[u32], rule: u32, i: usize) -> PlaceRead
 }
 
 // The same of a rule from 11 to 15, by the list of the definition's members.
-fn promise_place(t: &[u8], book: &[u32], listed: &[u32], rule: u32, i: usize) -> PlaceRead
+fn promise_place(t: &[u8], book: &[u32], listed: &[u32], rule: u32, i: usize) -> Result<(), Place>
     requires { Booked t.now book.now × Slim (table_of t.now) × (i < count_in book.now) × Listed t.now listed.now (start_in book.now i) (end_in book.now i) }
     ensures { result ≡ placed (head? (promise_rule rule (table_of t.now) i (definition_on t.now i))) }
 {
@@ -84,7 +83,7 @@ fn late_place(
     promising: bool,
     rule: u32,
     i: usize,
-) -> PlaceRead
+) -> Result<(), Place>
     requires { Booked t.now book.now × Slim (table_of t.now) × (i < count_in book.now) × Promising t.now book.now listed.now i promising }
     ensures { result ≡ placed (head? (late_rule rule (table_of t.now) i (definition_on t.now i))) }
 {
@@ -100,7 +99,7 @@ fn late_place(
     if promising {
         return promise_place(t, book, listed, rule, i);
     }
-    PlaceRead::Kept
+    Ok(())
 }
 
 // The same of any rule.
@@ -111,7 +110,7 @@ fn rule_place(
     promising: bool,
     rule: u32,
     i: usize,
-) -> PlaceRead
+) -> Result<(), Place>
     requires { Booked t.now book.now × Slim (table_of t.now) × (i < count_in book.now) × Promising t.now book.now listed.now i promising }
     ensures { result ≡ placed (head? (rule_of rule (table_of t.now) i (definition_on t.now i))) }
 {
@@ -122,24 +121,16 @@ fn rule_place(
 }
 
 // What is said of a rule's first place in definition i.
-fn shown(i: usize, rule: u32, p: PlaceRead) -> TableAnswer
+fn shown(i: usize, rule: u32, p: Place) -> TableAnswer
     requires { i < room }
-    ensures { result ≡ shown_at i rule p }
+    ensures { result ≡ shown_at i rule (Err p) }
 {
-    let PlaceRead::At {
-        member,
-        part,
-        argument,
-    } = p
-    else {
-        return TableAnswer::Accepted;
-    };
     TableAnswer::Breaks {
         definition: i as u32,
         rule: rule,
-        member: member,
-        part: part,
-        argument: argument,
+        member: p.member,
+        part: p.part,
+        argument: p.argument,
     }
 }
 
@@ -177,10 +168,9 @@ fn rules_in_turn(
 {
     let mut rule = RULE_RESERVED_NAME;
     while rule <= RULE_ROOT {
-        let p = rule_place(t, book, listed, promising, rule, i);
-        let PlaceRead::Kept = p else {
+        if let Err(p) = rule_place(t, book, listed, promising, rule, i) {
             return shown(i, rule, p);
-        };
+        }
         rule = next_rule(clean, promising, rule);
     }
     TableAnswer::Accepted
@@ -193,14 +183,9 @@ fn list_promises(t: &[u8], book: &[u32], bits: &[u32], listed: &mut [u32], i: us
 {
     let start = table_book::start_of(book, i);
     let end = table_book::end_of(book, i);
-    let FieldFound::Found {
-        tag: _,
-        start: _,
-        end: _,
-    } = table_members::next_implemented(t, start, end)
-    else {
+    if table_members::next_implemented(t, start, end).is_none() {
         return false;
-    };
+    }
     table_listing::list_members(t, listed, start, end);
     !table_rules_11_15_quick::is_all_kept(t, book, bits, listed, i)
 }
@@ -255,13 +240,11 @@ pub fn first_break(t: &[u8], book: &[u32], bits: &[u32], listed: &mut [u32]) -> 
     ensures { result ≡ table_answer none none (head? (breaks (table_of t.now))) }
 {
     let count = table_book::count_of(book);
-    let mut i = 0;
-    while i < count {
+    for i in 0..count {
         let r = definition_breaks(t, book, bits, listed, i);
         let TableAnswer::Accepted = r else {
             return r;
         };
-        i += 1;
     }
     query_break(t, book)
 }

@@ -8,7 +8,7 @@ ghost use Rattle.table_members.specs.Members.{FindMember};
 ghost use Rattle.table_listing.specs.Listed.{Listed, Listable, Entering, Collected};
 
 use table_book::CELL_COUNT;
-use table_members::FieldFound;
+use table_fields::Field;
 
 // Enters the member with this tag and content as number i.
 fn enter(t: &[u8], book: &mut [u32], i: usize, tag: u8, start: usize, end: usize)
@@ -27,17 +27,12 @@ fn collect(t: &[u8], book: &mut [u32], from: usize, end: usize) -> usize
     let mut at = from;
     let mut i = 0;
     loop {
-        let FieldFound::Found {
-            tag,
-            start,
-            end: stop,
-        } = table_members::next_member(t, at, end)
-        else {
+        let Some(f) = table_members::next_member(t, at, end) else {
             return i;
         };
-        enter(t, book, i, tag, start, stop);
+        enter(t, book, i, f.tag, f.start, f.end);
         i += 1;
-        at = stop;
+        at = f.end;
     }
 }
 
@@ -55,7 +50,7 @@ const LOWEST: u32 = 0;
 
 const HIGHEST: u32 = 255;
 
-// The first member, of the record with the content from `from` up to `end`, whose name is the n bytes of s from `at` on.
+// The first member, of the record with the content from `from` up to `end`, whose name is the n bytes of s from `at` on; none if there is none.
 pub fn find_listed(
     t: &[u8],
     book: &[u32],
@@ -64,17 +59,17 @@ pub fn find_listed(
     s: &[u8],
     at: usize,
     n: usize,
-) -> FieldFound
+) -> Option<Field>
     requires { Listed t.now book.now from end × (at + n ≤ length s.now) }
     ensures { FindMember t.now from end (part s.now at n) result }
 {
     let k = table_book::find_key(t, book, LOWEST, HIGHEST, s, at, n);
     if k < table_book::count_of(book) {
-        return FieldFound::Found {
+        return Some(Field {
             tag: table_book::kind_of(book, k) as u8,
             start: table_book::start_of(book, k),
             end: table_book::end_of(book, k),
-        };
+        });
     }
-    FieldFound::Nothing
+    None
 }

@@ -7,7 +7,8 @@ use lib.Seq.{slice}
 use Rattle.paper_table.specs.Lists.{gather}
 use Rattle.paper_table.specs.House.{HouseField, house_field, cut}
 use Rattle.table_fields.specs.Fields.{field_at}
-use Rattle.table_fields.specs.declared.FieldRead.TheVariants.{Field, Cut}
+use Rattle.std.specs.Prelude.{Some, None}
+use Rattle.table_fields.specs.declared.Field.{Field}
 use Rattle.table_fields.proofs.FieldLaws.{pieces_read, pieces_torn, pieces_none}
 use Rattle.table_members.specs.Members.{fields_in}
 
@@ -24,11 +25,11 @@ module _ {B : Type 0} (f : HouseField → List B) (g : (at : ℕ) → f (cut at)
   pub gather_none : end ≤ at → gather f (fields_in t at end) ≡ []
   gather_none l = ap (gather f) (pieces_none t at end l w) ∙ gather_nil f
 
-  pub gather_torn : at < end → field_at t at end ≡ Cut → gather f (fields_in t at end) ≡ []
+  pub gather_torn : at < end → field_at t at end ≡ None → gather f (fields_in t at end) ≡ []
   gather_torn l q =
       ap (gather f) (pieces_torn t at end w l q) ∙ gather_cons f (cut at) []
       ∙ ap (λ (m : List B). m ++ gather f []) (g at) ∙ gather_nil f
 
-  pub gather_field : at < end → (tag start stop : ℕ) → field_at t at end ≡ Field tag start stop
-      → gather f (fields_in t at end) ≡ f (house_field at tag (slice start stop t)) ++ gather f (fields_in t stop end)
-  gather_field l tag start stop q = ap (gather f) (pieces_read t at end w l tag start stop q) ∙ gather_cons f (house_field at tag (slice start stop t)) (fields_in t stop end)
+  pub gather_field : at < end → (it : Field) → field_at t at end ≡ Some it
+      → gather f (fields_in t at end) ≡ f (house_field at it.tag (slice it.start it.end t)) ++ gather f (fields_in t it.end end)
+  gather_field l it q = ap (gather f) (pieces_read t at end w l it q) ∙ gather_cons f (house_field at it.tag (slice it.start it.end t)) (fields_in t it.end end)

@@ -13,7 +13,8 @@ use Rattle.paper_table.specs.Lists.{only_if}
 use Rattle.paper_table.specs.House.{house_field, cut}
 use Rattle.paper_table.specs.Types.{Member, field_in, input_in, name_only, member_of}
 use Rattle.table_fields.specs.Fields.{field_at}
-use Rattle.table_fields.specs.declared.FieldRead.TheVariants.{Field, Cut}
+use Rattle.std.specs.Prelude.{Some, None}
+use Rattle.table_fields.specs.declared.Field.{Field}
 use Rattle.table_fields.proofs.FieldLaws.{field_lies}
 use Rattle.table_members.specs.Members.{members_in, field_from, input_from, member_from, is_member, First}
 use Rattle.table_members.proofs.GatherLaws.{gather_none, gather_torn, gather_field}
@@ -55,33 +56,33 @@ module _ (t : List ℕ) (at end i : ℕ) (w : end ≤ length t) (h : Walked at e
   pub members_none : end ≤ i → members_in t at end ≡ []
   members_none l = h.same ∙ gather_none member_of member_cut t i end w l
 
-  pub members_torn : i < end → field_at t i end ≡ Cut → members_in t at end ≡ []
+  pub members_torn : i < end → field_at t i end ≡ None → members_in t at end ≡ []
   members_torn l q = h.same ∙ gather_torn member_of member_cut t i end w l q
 
-  module _ (l : i < end) (tag start stop : ℕ) (q : field_at t i end ≡ Field tag start stop) where
-    pub members_here : is_member tag ≡ true → First at end start stop (members_in t at end) (member_from t tag start stop) (members_in t stop end)
+  module _ (l : i < end) (it : Field) (q : field_at t i end ≡ Some it) where
+    pub members_here : is_member it.tag ≡ true → First at end it.start it.end (members_in t at end) (member_from t it.tag it.start it.end) (members_in t it.end end)
     members_here e =
-        let f = field_lies t i end tag start stop h.within q in
+        let f = field_lies t i end it h.within q in
         record {
           lies = record { begins = omega (arith, h.begun, f.begins); order = f.order; within = f.within };
           all_are =
-              h.same ∙ gather_field member_of member_cut t i end w l tag start stop q
-              ∙ ap (λ (m : List Member). m ++ members_in t stop end) (member_is t i tag start stop f.begins e);
+              h.same ∙ gather_field member_of member_cut t i end w l it q
+              ∙ ap (λ (m : List Member). m ++ members_in t it.end end) (member_is t i it.tag it.start it.end f.begins e);
         }
 
-    pub members_on : is_member tag ≡ false → Walked at end stop (members_in t at end) (members_in t stop end)
+    pub members_on : is_member it.tag ≡ false → Walked at end it.end (members_in t at end) (members_in t it.end end)
     members_on e =
-        let f = field_lies t i end tag start stop h.within q in
+        let f = field_lies t i end it h.within q in
         record {
           begun = omega (arith, h.begun, f.begins, f.order);
           within = f.within;
           same =
-              h.same ∙ gather_field member_of member_cut t i end w l tag start stop q
-              ∙ ap (λ (m : List Member). m ++ members_in t stop end) (member_not i tag (slice start stop t) e);
+              h.same ∙ gather_field member_of member_cut t i end w l it q
+              ∙ ap (λ (m : List Member). m ++ members_in t it.end end) (member_not i it.tag (slice it.start it.end t) e);
         }
 
-    pub field_moves : i < stop
-    field_moves = let f = field_lies t i end tag start stop h.within q in omega (arith, f.begins, f.order)
+    pub field_moves : i < it.end
+    field_moves = let f = field_lies t i end it h.within q in omega (arith, f.begins, f.order)
 
 pub walked_start : {A : Type 0} (at end : ℕ) (all : List A) → at ≤ end → Walked at end at all all
 walked_start at end all h = record { begun = omega arith; within = h; same = refl }

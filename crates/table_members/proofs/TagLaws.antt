@@ -13,12 +13,11 @@ use Rattle.paper_table.specs.Lists.{gather}
 use Rattle.paper_table.specs.House.{HouseField, house_field, cut}
 use Rattle.paper_table.specs.Types.{text_of, name_in, argument_of, implemented_of}
 use Rattle.table_fields.specs.Fields.{field_at}
-use Rattle.table_fields.specs.declared.FieldRead.TheVariants.{Field, Cut}
+use Rattle.std.specs.Prelude.{Option, Some, None}
+use Rattle.table_fields.specs.declared.Field.{Field}
 use Rattle.table_fields.proofs.FieldLaws.{pieces_read, pieces_torn, pieces_none, field_lies}
 use Rattle.table_book.specs.Book.{part}
 use Rattle.table_members.specs.Members.{fields_in, implemented_in, from_tag, First, NextTag, NextArgument, NextImplemented, Named}
-use Rattle.table_members.specs.declared.FieldFound.{FieldFound}
-use Rattle.table_members.specs.declared.FieldFound.TheVariants.{Found, Nothing}
 use Rattle.table_members.proofs.GatherLaws.{gather_nil, gather_cons}
 use Rattle.table_members.proofs.MemberLaws.{Walked}
 
@@ -43,34 +42,34 @@ module _ (t : List ℕ) (at end k i : ℕ) (w : end ≤ length t) (h : Walked at
   pub tags_none : end ≤ i → from_tag k (fields_in t at end) ≡ []
   tags_none l = h.same ∙ ap (from_tag k) (pieces_none t i end l w) ∙ from_nil k
 
-  pub tags_torn : i < end → field_at t i end ≡ Cut → from_tag k (fields_in t at end) ≡ []
+  pub tags_torn : i < end → field_at t i end ≡ None → from_tag k (fields_in t at end) ≡ []
   tags_torn l q = h.same ∙ ap (from_tag k) (pieces_torn t i end w l q) ∙ from_cut k i
 
-  module _ (l : i < end) (tag start stop : ℕ) (q : field_at t i end ≡ Field tag start stop) where
-    pub tags_here : tag ≡ k → First at end start stop (from_tag k (fields_in t at end)) (house_field (start - 3) k (slice start stop t)) (fields_in t stop end)
+  module _ (l : i < end) (it : Field) (q : field_at t i end ≡ Some it) where
+    pub tags_here : it.tag ≡ k → First at end it.start it.end (from_tag k (fields_in t at end)) (house_field (it.start - 3) k (slice it.start it.end t)) (fields_in t it.end end)
     tags_here e =
-        let f = field_lies t i end tag start stop h.within q in
-        let z : start - 3 ≡ i = omega (arith, f.begins) in
+        let f = field_lies t i end it h.within q in
+        let z : it.start - 3 ≡ i = omega (arith, f.begins) in
         record {
           lies = record { begins = omega (arith, h.begun, f.begins); order = f.order; within = f.within };
           all_are =
-              h.same ∙ ap (from_tag k) (pieces_read t i end w l tag start stop q)
-              ∙ rw (z, e) (from_here k i (slice start stop t) (fields_in t stop end));
+              h.same ∙ ap (from_tag k) (pieces_read t i end w l it q)
+              ∙ rw (z, e) (from_here k i (slice it.start it.end t) (fields_in t it.end end));
         }
 
-    pub tags_on : (tag ≡ k → ⊥) → Walked at end stop (from_tag k (fields_in t at end)) (from_tag k (fields_in t stop end))
+    pub tags_on : (it.tag ≡ k → ⊥) → Walked at end it.end (from_tag k (fields_in t at end)) (from_tag k (fields_in t it.end end))
     tags_on e =
-        let f = field_lies t i end tag start stop h.within q in
+        let f = field_lies t i end it h.within q in
         record {
           begun = omega (arith, h.begun, f.begins, f.order);
           within = f.within;
           same =
-              h.same ∙ ap (from_tag k) (pieces_read t i end w l tag start stop q)
-              ∙ from_on k i tag (slice start stop t) (fields_in t stop end) e;
+              h.same ∙ ap (from_tag k) (pieces_read t i end w l it q)
+              ∙ from_on k i it.tag (slice it.start it.end t) (fields_in t it.end end) e;
         }
 
-    pub tags_move : i < stop
-    tags_move = let f = field_lies t i end tag start stop h.within q in omega (arith, f.begins, f.order)
+    pub tags_move : i < it.end
+    tags_move = let f = field_lies t i end it h.within q in omega (arith, f.begins, f.order)
 
 -- what is taken from fields of one tag alone
 module _ {B : Type 0} (f : HouseField → List B) (k : ℕ) (g : (at : ℕ) → f (cut at) ≡ []) (o : (at tag : ℕ) (s : List ℕ) → eqb tag k ≡ false → f (house_field at tag s) ≡ []) where
@@ -123,37 +122,37 @@ pub part_slice : (t : List ℕ) (start stop : ℕ) → part t start (stop - star
 part_slice t start stop = sym (drop_take start stop t)
 
 module _ (t : List ℕ) (at end : ℕ) where
-  pub next_argument : (r : FieldFound) → NextTag t at end tag_argument r → NextArgument t at end r
-  next_argument Nothing e = sym (gather_tag argument_of tag_argument (λ i. refl) argument_other (fields_in t at end)) ∙ ap (gather argument_of) e ∙ gather_nil argument_of
-  next_argument (Found tag start stop) f =
-      let z : start - 3 + 3 ≡ start = omega (arith, f.lies.begins) in
+  pub next_argument : (r : Option Field) → NextTag t at end tag_argument r → NextArgument t at end r
+  next_argument None e = sym (gather_tag argument_of tag_argument (λ i. refl) argument_other (fields_in t at end)) ∙ ap (gather argument_of) e ∙ gather_nil argument_of
+  next_argument (Some it) f =
+      let z : it.start - 3 + 3 ≡ it.start = omega (arith, f.lies.begins) in
       record {
         lies = f.lies;
         all_are =
             sym (gather_tag argument_of tag_argument (λ i. refl) argument_other (fields_in t at end)) ∙ ap (gather argument_of) f.all_are
-            ∙ gather_cons argument_of (house_field (start - 3) tag_argument (slice start stop t)) (fields_in t stop end)
+            ∙ gather_cons argument_of (house_field (it.start - 3) tag_argument (slice it.start it.end t)) (fields_in t it.end end)
             ∙ rw z;
       }
 
-  pub next_implemented : (r : FieldFound) → NextTag t at end tag_implements r → NextImplemented t at end r
-  next_implemented Nothing e = sym (gather_tag implemented_of tag_implements (λ i. refl) implemented_other (fields_in t at end)) ∙ ap (gather implemented_of) e ∙ gather_nil implemented_of
-  next_implemented (Found tag start stop) f =
+  pub next_implemented : (r : Option Field) → NextTag t at end tag_implements r → NextImplemented t at end r
+  next_implemented None e = sym (gather_tag implemented_of tag_implements (λ i. refl) implemented_other (fields_in t at end)) ∙ ap (gather implemented_of) e ∙ gather_nil implemented_of
+  next_implemented (Some it) f =
       record {
         lies = f.lies;
         all_are =
             sym (gather_tag implemented_of tag_implements (λ i. refl) implemented_other (fields_in t at end)) ∙ ap (gather implemented_of) f.all_are
-            ∙ gather_cons implemented_of (house_field (start - 3) tag_implements (slice start stop t)) (fields_in t stop end)
-            ∙ ap (λ (n : List ℕ). n ∷ implemented_in t stop end) (sym (part_slice t start stop));
+            ∙ gather_cons implemented_of (house_field (it.start - 3) tag_implements (slice it.start it.end t)) (fields_in t it.end end)
+            ∙ ap (λ (n : List ℕ). n ∷ implemented_in t it.end end) (sym (part_slice t it.start it.end));
       }
 
-  pub name_found : (w : end ≤ length t) (tag start stop : ℕ) → NextTag t at end tag_name (Found tag start stop) → Named t start (stop - start) (name_in (fields_in t at end))
-  name_found w tag start stop f =
+  pub name_found : (w : end ≤ length t) (it : Field) → NextTag t at end tag_name (Some it) → Named t it.start (it.end - it.start) (name_in (fields_in t at end))
+  name_found w it f =
       record {
-        is = part_slice t start stop ∙ sym (sym (text_tag tag_name (fields_in t at end)) ∙ ap (text_of tag_name) f.all_are ∙ text_here tag_name (start - 3) (slice start stop t) (fields_in t stop end));
+        is = part_slice t it.start it.end ∙ sym (sym (text_tag tag_name (fields_in t at end)) ∙ ap (text_of tag_name) f.all_are ∙ text_here tag_name (it.start - 3) (slice it.start it.end t) (fields_in t it.end end));
         within = omega (arith, f.lies.order, f.lies.within);
       }
 
-  pub name_none : at ≤ end → end ≤ length t → NextTag t at end tag_name Nothing → Named t at 0 (name_in (fields_in t at end))
+  pub name_none : at ≤ end → end ≤ length t → NextTag t at end tag_name None → Named t at 0 (name_in (fields_in t at end))
   name_none h w e =
       record {
         is = sym (sym (text_tag tag_name (fields_in t at end)) ∙ ap (text_of tag_name) e ∙ text_nil tag_name);

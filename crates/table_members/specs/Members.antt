@@ -1,17 +1,16 @@
 -- What stands in a content of a table, by its places: the members of a record, the arguments of a member, the names a record implements.
 -- Assumes nothing.
-use Rattle.std.specs.Prelude.{◌≡◌, Bool, ◌||◌, cond, List, [], ◌∷◌, ℕ, ◌+◌, ◌-◌, ◌%◌, ◌≤◌, length, leb, eqb}
-use Rattle.std.proofs.Math.Option.{Option, none, some}
+use Rattle.std.specs.Prelude.{◌≡◌, Bool, ◌||◌, cond, Option, Some, None, List, [], ◌∷◌, ℕ, ◌+◌, ◌-◌, ◌%◌, ◌≤◌, length, leb, eqb}
+use Rattle.std.proofs.Math.Option.{Option as Optional, none, some}
 use Rattle.std.proofs.Math.Seq.{slice}
 use Rattle.paper_table.specs.TableNumbers.{tag_field, tag_argument, tag_union_member}
 use Rattle.paper_table.specs.Lists.{find, gather}
 use Rattle.paper_table.specs.References.{Ref, base_of}
 use Rattle.paper_table.specs.House.{HouseField, house_field, cut, house_fields}
 use Rattle.paper_table.specs.Types.{Argument, Member, Definition, name_in, type_in, name_only, argument_of, member_of, implemented_of, member_named, argument_named}
+use Rattle.table_fields.specs.declared.Field.{Field}
 use Rattle.table_fields.specs.Wrappers.{pack_of, pack_limit}
 use Rattle.table_book.specs.Book.{part}
-use Rattle.table_members.specs.declared.FieldFound.{FieldFound}
-use Rattle.table_members.specs.declared.FieldFound.TheVariants.{Found, Nothing}
 
 -- the fields of the content from `start` up to `end`
 abbrev pub fields_in : List ℕ → ℕ → ℕ → List HouseField
@@ -65,21 +64,21 @@ pub record First {A : Type 0} (at end start stop : ℕ) (all : List A) (one : A)
   pub lies : Lies at end start stop
   pub all_are : all ≡ one ∷ others
 
-abbrev pub NextTag : List ℕ → ℕ → ℕ → ℕ → FieldFound → Type 0
-NextTag t at end k (Found tag start stop) = First at end start stop (from_tag k (fields_in t at end)) (house_field (start - 3) k (slice start stop t)) (fields_in t stop end)
-NextTag t at end k Nothing = from_tag k (fields_in t at end) ≡ []
+abbrev pub NextTag : List ℕ → ℕ → ℕ → ℕ → Option Field → Type 0
+NextTag t at end k (Some f) = First at end f.start f.end (from_tag k (fields_in t at end)) (house_field (f.start - 3) k (slice f.start f.end t)) (fields_in t f.end end)
+NextTag t at end k None = from_tag k (fields_in t at end) ≡ []
 
-abbrev pub NextMember : List ℕ → ℕ → ℕ → FieldFound → Type 0
-NextMember t at end (Found tag start stop) = First at end start stop (members_in t at end) (member_from t tag start stop) (members_in t stop end)
-NextMember t at end Nothing = members_in t at end ≡ []
+abbrev pub NextMember : List ℕ → ℕ → ℕ → Option Field → Type 0
+NextMember t at end (Some f) = First at end f.start f.end (members_in t at end) (member_from t f.tag f.start f.end) (members_in t f.end end)
+NextMember t at end None = members_in t at end ≡ []
 
-abbrev pub NextArgument : List ℕ → ℕ → ℕ → FieldFound → Type 0
-NextArgument t at end (Found tag start stop) = First at end start stop (arguments_in t at end) (argument_from t start stop) (arguments_in t stop end)
-NextArgument t at end Nothing = arguments_in t at end ≡ []
+abbrev pub NextArgument : List ℕ → ℕ → ℕ → Option Field → Type 0
+NextArgument t at end (Some f) = First at end f.start f.end (arguments_in t at end) (argument_from t f.start f.end) (arguments_in t f.end end)
+NextArgument t at end None = arguments_in t at end ≡ []
 
-abbrev pub NextImplemented : List ℕ → ℕ → ℕ → FieldFound → Type 0
-NextImplemented t at end (Found tag start stop) = First at end start stop (implemented_in t at end) (part t start (stop - start)) (implemented_in t stop end)
-NextImplemented t at end Nothing = implemented_in t at end ≡ []
+abbrev pub NextImplemented : List ℕ → ℕ → ℕ → Option Field → Type 0
+NextImplemented t at end (Some f) = First at end f.start f.end (implemented_in t at end) (part t f.start (f.end - f.start)) (implemented_in t f.end end)
+NextImplemented t at end None = implemented_in t at end ≡ []
 
 -- n bytes of the table from `at` on are this text
 pub record Named (t : List ℕ) (at n : ℕ) (text : List ℕ) : Type 0 where
@@ -98,14 +97,14 @@ pub record ArgumentsFrom (t : List ℕ) (tag start end r : ℕ) : Type 0 where
   pub order : r ≤ end
 
 -- the first so named was found there
-pub record Finds {A : Type 0} (at end start stop : ℕ) (sought : Option A) (one : A) : Type 0 where
+pub record Finds {A : Type 0} (at end start stop : ℕ) (sought : Optional A) (one : A) : Type 0 where
   pub lies : Lies at end start stop
   pub is : sought ≡ some one
 
-abbrev pub FindMember : List ℕ → ℕ → ℕ → List ℕ → FieldFound → Type 0
-FindMember t at end n (Found tag start stop) = Finds at end start stop (find (member_named n) (members_in t at end)) (member_from t tag start stop)
-FindMember t at end n Nothing = find (member_named n) (members_in t at end) ≡ none
+abbrev pub FindMember : List ℕ → ℕ → ℕ → List ℕ → Option Field → Type 0
+FindMember t at end n (Some f) = Finds at end f.start f.end (find (member_named n) (members_in t at end)) (member_from t f.tag f.start f.end)
+FindMember t at end n None = find (member_named n) (members_in t at end) ≡ none
 
-abbrev pub FindArgument : List ℕ → ℕ → ℕ → List ℕ → FieldFound → Type 0
-FindArgument t at end n (Found tag start stop) = Finds at end start stop (find (argument_named n) (arguments_in t at end)) (argument_from t start stop)
-FindArgument t at end n Nothing = find (argument_named n) (arguments_in t at end) ≡ none
+abbrev pub FindArgument : List ℕ → ℕ → ℕ → List ℕ → Option Field → Type 0
+FindArgument t at end n (Some f) = Finds at end f.start f.end (find (argument_named n) (arguments_in t at end)) (argument_from t f.start f.end)
+FindArgument t at end n None = find (argument_named n) (arguments_in t at end) ≡ none

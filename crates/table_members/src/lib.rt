@@ -14,14 +14,7 @@ ghost use Rattle.table_members.specs.Members.{fields_in, members_in, implemented
 use paper_table::{
     TAG_ARGUMENT, TAG_FIELD, TAG_IMPLEMENTS, TAG_NAME, TAG_REFERENCE, TAG_UNION_MEMBER,
 };
-use table_fields::{FieldRead, RefRead};
-
-// A field's tag and the bounds of its content; or there is none.
-#[derive(Clone, Copy)]
-pub enum FieldFound {
-    Found { tag: u8, start: usize, end: usize },
-    Nothing,
-}
+use table_fields::Field;
 
 // A name's place in the table.
 #[derive(Clone, Copy)]
@@ -39,31 +32,20 @@ pub struct TypeRead {
     pub wrappers: u32,
 }
 
-// The next field of this tag, from `at` on, in a content that ends at `end`.
-pub fn next_tag(t: &[u8], at: usize, end: usize, tag: u8) -> FieldFound
+// The next field of this tag, from `at` on, in a content that ends at `end`; none if there is none.
+pub fn next_tag(t: &[u8], at: usize, end: usize, tag: u8) -> Option<Field>
     requires { Bounds t.now at end }
     ensures { NextTag t.now at end tag result }
 {
     let mut i = at;
     while i < end {
-        let FieldRead::Field {
-            tag: k,
-            start: from,
-            end: to,
-        } = table_fields::read_field(t, i, end)
-        else {
-            return FieldFound::Nothing;
-        };
-        if k == tag {
-            return FieldFound::Found {
-                tag: k,
-                start: from,
-                end: to,
-            };
+        let f = table_fields::read_field(t, i, end)?;
+        if f.tag == tag {
+            return Some(f);
         }
-        i = to;
+        i = f.end;
     }
-    FieldFound::Nothing
+    None
 }
 
 // Is it the tag of a member?
@@ -79,43 +61,32 @@ fn is_member(tag: u8) -> bool
     TAG_UNION_MEMBER <= tag
 }
 
-// A record's next member, from `at` on.
-pub fn next_member(t: &[u8], at: usize, end: usize) -> FieldFound
+// A record's next member, from `at` on; none if there is none.
+pub fn next_member(t: &[u8], at: usize, end: usize) -> Option<Field>
     requires { Bounds t.now at end }
     ensures { NextMember t.now at end result }
 {
     let mut i = at;
     while i < end {
-        let FieldRead::Field {
-            tag: k,
-            start: from,
-            end: to,
-        } = table_fields::read_field(t, i, end)
-        else {
-            return FieldFound::Nothing;
-        };
-        if is_member(k) {
-            return FieldFound::Found {
-                tag: k,
-                start: from,
-                end: to,
-            };
+        let f = table_fields::read_field(t, i, end)?;
+        if is_member(f.tag) {
+            return Some(f);
         }
-        i = to;
+        i = f.end;
     }
-    FieldFound::Nothing
+    None
 }
 
-// A member's next argument, from `at` on.
-pub fn next_argument(t: &[u8], at: usize, end: usize) -> FieldFound
+// A member's next argument, from `at` on; none if there is none.
+pub fn next_argument(t: &[u8], at: usize, end: usize) -> Option<Field>
     requires { Bounds t.now at end }
     ensures { NextArgument t.now at end result }
 {
     next_tag(t, at, end, TAG_ARGUMENT)
 }
 
-// The next name that a record implements, from `at` on.
-pub fn next_implemented(t: &[u8], at: usize, end: usize) -> FieldFound
+// The next name that a record implements, from `at` on; none if there is none.
+pub fn next_implemented(t: &[u8], at: usize, end: usize) -> Option<Field>
     requires { Bounds t.now at end }
     ensures { NextImplemented t.now at end result }
 {
@@ -127,18 +98,12 @@ pub fn name_in(t: &[u8], start: usize, end: usize) -> Name
     requires { Bounds t.now start end }
     ensures { Named t.now result.at result.size (name_in (fields_in t.now start end)) }
 {
-    let f = next_tag(t, start, end, TAG_NAME);
-    let FieldFound::Found {
-        tag: _,
-        start: from,
-        end: to,
-    } = f
-    else {
+    let Some(f) = next_tag(t, start, end, TAG_NAME) else {
         return Name { at: start, size: 0 };
     };
     Name {
-        at: from,
-        size: to - from,
+        at: f.start,
+        size: f.end - f.start,
     }
 }
 
@@ -165,12 +130,7 @@ pub fn type_in(t: &[u8], start: usize, end: usize) -> TypeRead
     ensures { Typed t.now result.at result.size result.wrappers (type_in (fields_in t.now start end)) }
 {
     let p = table_fields::find_tag(t, start, end, TAG_REFERENCE);
-    let RefRead::Reference {
-        start: from,
-        end: to,
-        wrappers,
-    } = table_fields::read_reference(t, p.start, p.end)
-    else {
+    let Some(r) = table_fields::read_reference(t, p.start, p.end) else {
         return TypeRead {
             at: start,
             size: 0,
@@ -178,9 +138,9 @@ pub fn type_in(t: &[u8], start: usize, end: usize) -> TypeRead
         };
     };
     TypeRead {
-        at: from,
-        size: to - from,
-        wrappers: wrappers,
+        at: r.start,
+        size: r.end - r.start,
+        wrappers: r.wrappers,
     }
 }
 
@@ -239,55 +199,47 @@ fn is_named(t: &[u8], start: usize, end: usize, s: &[u8], at: usize, n: usize) -
     table_book::is_text(t, m.at, m.size, s, at, n)
 }
 
-// A record's first member, from `from` on, whose name is the n bytes of s from `at` on.
-pub fn find_member(t: &[u8], from: usize, end: usize, s: &[u8], at: usize, n: usize) -> FieldFound
+// A record's first member, from `from` on, whose name is the n bytes of s from `at` on; none if there is none.
+pub fn find_member(
+    t: &[u8],
+    from: usize,
+    end: usize,
+    s: &[u8],
+    at: usize,
+    n: usize,
+) -> Option<Field>
     requires { Bounds t.now from end × (at + n ≤ length s.now) }
     ensures { FindMember t.now from end (part s.now at n) result }
 {
     let mut i = from;
     loop {
-        let FieldFound::Found {
-            tag,
-            start,
-            end: stop,
-        } = next_member(t, i, end)
-        else {
-            return FieldFound::Nothing;
-        };
-        if is_member_named(t, tag, start, stop, s, at, n) {
-            return FieldFound::Found {
-                tag: tag,
-                start: start,
-                end: stop,
-            };
+        let f = next_member(t, i, end)?;
+        if is_member_named(t, f.tag, f.start, f.end, s, at, n) {
+            return Some(f);
         }
-        i = stop;
+        i = f.end;
     }
 }
 
-// A member's first argument, from `from` on, whose name is the n bytes of s from `at` on.
-pub fn find_argument(t: &[u8], from: usize, end: usize, s: &[u8], at: usize, n: usize) -> FieldFound
+// A member's first argument, from `from` on, whose name is the n bytes of s from `at` on; none if there is none.
+pub fn find_argument(
+    t: &[u8],
+    from: usize,
+    end: usize,
+    s: &[u8],
+    at: usize,
+    n: usize,
+) -> Option<Field>
     requires { Bounds t.now from end × (at + n ≤ length s.now) }
     ensures { FindArgument t.now from end (part s.now at n) result }
 {
     let mut i = from;
     loop {
-        let FieldFound::Found {
-            tag,
-            start,
-            end: stop,
-        } = next_argument(t, i, end)
-        else {
-            return FieldFound::Nothing;
-        };
-        if is_named(t, start, stop, s, at, n) {
-            return FieldFound::Found {
-                tag: tag,
-                start: start,
-                end: stop,
-            };
+        let f = next_argument(t, i, end)?;
+        if is_named(t, f.start, f.end, s, at, n) {
+            return Some(f);
         }
-        i = stop;
+        i = f.end;
     }
 }
 
@@ -298,17 +250,12 @@ pub fn implements(t: &[u8], from: usize, end: usize, s: &[u8], at: usize, n: usi
 {
     let mut i = from;
     loop {
-        let FieldFound::Found {
-            tag: _,
-            start,
-            end: stop,
-        } = next_implemented(t, i, end)
-        else {
+        let Some(f) = next_implemented(t, i, end) else {
             return false;
         };
-        if table_book::is_text(s, at, n, t, start, stop - start) {
+        if table_book::is_text(s, at, n, t, f.start, f.end - f.start) {
             return true;
         }
-        i = stop;
+        i = f.end;
     }
 }

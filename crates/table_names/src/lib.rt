@@ -11,8 +11,6 @@ ghost use Rattle.table_fields.specs.Fields.{Bounds};
 ghost use Rattle.table_book.specs.Book.{part};
 ghost use Rattle.table_members.specs.Members.{members_in, arguments_in, implemented_in};
 
-use table_members::FieldFound;
-
 const UNDERSCORE: u8 = 0x5f;
 
 // Rules 1 and 5: does the name of n bytes from `at` on begin `__`?
@@ -46,22 +44,15 @@ pub fn is_member_before(t: &[u8], from: usize, end: usize, count: u32, at: usize
     ensures { result ≡ any_of (member_named (part t.now at n)) (take count (members_in t.now from end)) }
 {
     let mut i = from;
-    let mut left = count;
-    while 0 < left {
-        let FieldFound::Found {
-            tag,
-            start,
-            end: stop,
-        } = table_members::next_member(t, i, end)
-        else {
+    for _ in 0..count {
+        let Some(f) = table_members::next_member(t, i, end) else {
             return false;
         };
-        let m = table_members::member_name(t, tag, start, stop);
+        let m = table_members::member_name(t, f.tag, f.start, f.end);
         if table_book::is_text(t, m.at, m.size, t, at, n) {
             return true;
         }
-        i = stop;
-        left -= 1;
+        i = f.end;
     }
     false
 }
@@ -79,22 +70,15 @@ pub fn is_argument_before(
     ensures { result ≡ any_of (argument_named (part t.now at n)) (take count (arguments_in t.now from end)) }
 {
     let mut i = from;
-    let mut left = count;
-    while 0 < left {
-        let FieldFound::Found {
-            tag: _,
-            start,
-            end: stop,
-        } = table_members::next_argument(t, i, end)
-        else {
+    for _ in 0..count {
+        let Some(f) = table_members::next_argument(t, i, end) else {
             return false;
         };
-        let m = table_members::name_in(t, start, stop);
+        let m = table_members::name_in(t, f.start, f.end);
         if table_book::is_text(t, m.at, m.size, t, at, n) {
             return true;
         }
-        i = stop;
-        left -= 1;
+        i = f.end;
     }
     false
 }
@@ -112,21 +96,14 @@ pub fn is_implemented_before(
     ensures { result ≡ any_of (same (part t.now at n)) (take count (implemented_in t.now from end)) }
 {
     let mut i = from;
-    let mut left = count;
-    while 0 < left {
-        let FieldFound::Found {
-            tag: _,
-            start,
-            end: stop,
-        } = table_members::next_implemented(t, i, end)
-        else {
+    for _ in 0..count {
+        let Some(f) = table_members::next_implemented(t, i, end) else {
             return false;
         };
-        if table_book::is_text(t, at, n, t, start, stop - start) {
+        if table_book::is_text(t, at, n, t, f.start, f.end - f.start) {
             return true;
         }
-        i = stop;
-        left -= 1;
+        i = f.end;
     }
     false
 }

@@ -1,14 +1,10 @@
-// The first place of a definition that breaks a rule, as the functions that look for it answer. No function.
+// The place of a definition that breaks a rule. A function that looks for it answers Err with the first, and Ok where the rule is kept. No function.
 #![tactic(auto)]
 
+// The place in the definition; 65,535 is none.
 #[derive(Clone, Copy)]
-pub enum PlaceRead {
-    // the place in the definition; 65,535 is none
-    At {
-        member: u32,
-        part: u32,
-        argument: u32,
-    },
-    // the rule is kept
-    Kept,
+pub struct Place {
+    pub member: u32,
+    pub part: u32,
+    pub argument: u32,
 }

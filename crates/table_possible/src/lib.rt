@@ -12,7 +12,6 @@ ghost use Rattle.table_types.specs.Booked.{Booked, kind_in, definition_on};
 ghost use Rattle.table_possible.specs.Possible.{bits_size, bit_at, Possible, Blank, Marked};
 
 use paper_table::{RECORD_INTERFACE, RECORD_OBJECT, RECORD_UNION};
-use table_members::FieldFound;
 
 // The numbers that hold the bits; an object's, and the bits of one.
 pub const BITS_SIZE: usize = 2048;
@@ -57,16 +56,11 @@ fn mark_object(t: &[u8], book: &[u32], bits: &mut [u32], j: usize)
     let end = table_book::end_of(book, j);
     let mut i = table_book::start_of(book, j);
     loop {
-        let FieldFound::Found {
-            tag: _,
-            start,
-            end: stop,
-        } = table_members::next_implemented(t, i, end)
-        else {
+        let Some(f) = table_members::next_implemented(t, i, end) else {
             return;
         };
-        mark_interface(t, book, bits, j, start, stop - start);
-        i = stop;
+        mark_interface(t, book, bits, j, f.start, f.end - f.start);
+        i = f.end;
     }
 }
 
@@ -89,17 +83,12 @@ fn mark_union(t: &[u8], book: &[u32], bits: &mut [u32], i: usize)
     let end = table_book::end_of(book, i);
     let mut m = table_book::start_of(book, i);
     loop {
-        let FieldFound::Found {
-            tag,
-            start,
-            end: stop,
-        } = table_members::next_member(t, m, end)
-        else {
+        let Some(f) = table_members::next_member(t, m, end) else {
             return;
         };
-        let name = table_members::member_name(t, tag, start, stop);
+        let name = table_members::member_name(t, f.tag, f.start, f.end);
         mark_member(t, book, bits, i, name.at, name.size);
-        m = stop;
+        m = f.end;
     }
 }
 
@@ -124,9 +113,7 @@ pub fn fill(t: &[u8], book: &[u32], bits: &mut [u32])
     ensures { Possible t.now book.now bits.new }
 {
     let count = table_book::count_of(book);
-    let mut k = 0;
-    while k < count {
+    for k in 0..count {
         mark_definition(t, book, bits, k);
-        k += 1;
     }
 }

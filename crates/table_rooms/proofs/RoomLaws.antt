@@ -15,17 +15,18 @@ use Rattle.paper_table.specs.TableNumbers.{most_implemented, most_members, most_
 use Rattle.paper_table.specs.Lists.{any_of, only_if}
 use Rattle.paper_table.specs.TableSizes.{Room, room, is_over, less_room, room_in, is_wrapper, wrappers_over}
 use Rattle.table_fields.proofs.FieldLaws.{slice_none, slice_next}
-use Rattle.table_rooms.specs.declared.Counted.TheVariants.{Within, Over}
+use Rattle.std.specs.Prelude.{Ok, Err}
+use Prim.{tt}
 use Rattle.table_rooms.specs.Rooms.{told_over, wraps_by, between, room_for, rest_room, rooms_of}
 
 -- What is told is what there is.
-pub told_within : (o : Option ℕ) → told_over o ≡ Within → o ≡ none
+pub told_within : (o : Option ℕ) → told_over o ≡ Ok tt → o ≡ none
 told_within none e = refl
-told_within (some v) e = let z : Over v ≡ Within = e in cc
+told_within (some v) e = let z : Err v ≡ Ok tt = e in cc
 
-pub told_over_is : (o : Option ℕ) (v : ℕ) → told_over o ≡ Over v → o ≡ some v
-told_over_is none v e = let z : Within ≡ Over v = e in cc
-told_over_is (some u) v e = let z : Over u ≡ Over v = e in cc
+pub told_over_is : (o : Option ℕ) (v : ℕ) → told_over o ≡ Err v → o ≡ some v
+told_over_is none v e = let z : Ok tt ≡ Err v = e in cc
+told_over_is (some u) v e = let z : Err u ≡ Err v = e in cc
 
 pub pred_is : (n : ℕ) → pred n ≡ n - 1
 pred_is zero = refl
@@ -41,7 +42,7 @@ pub wrapping_start : (t : List ℕ) (start end : ℕ) → start ≤ end → Wrap
 wrapping_start t start end h = record { rest = refl; begins = le_refl start; order = h }
 
 module _ (t : List ℕ) (start end left i : ℕ) (w : end ≤ length t) (o : Wrapping t start end left i) where
-  pub wrapping_end : end ≤ i → Within ≡ told_over (head? (wrappers_over most_wrappers start (slice start end t)))
+  pub wrapping_end : end ≤ i → Ok tt ≡ told_over (head? (wrappers_over most_wrappers start (slice start end t)))
   unfolding wrappers_over
   wrapping_end h = ap told_over (rw (slice_none t i end h w) at o.rest)
 
@@ -50,10 +51,10 @@ module _ (t : List ℕ) (start end left i : ℕ) (w : end ≤ length t) (o : Wra
     unfolding wrappers_over
     step x e = rw (slice_next t i end h w, e)
 
-    pub wrapping_over : left < n → Over i ≡ told_over (head? (wrappers_over most_wrappers start (slice start end t)))
+    pub wrapping_over : left < n → Err i ≡ told_over (head? (wrappers_over most_wrappers start (slice start end t)))
     wrapping_over l = go (is_wrapper (get_or t i 0)) refl
       where
-        go : (x : Bool) → is_wrapper (get_or t i 0) ≡ x → Over i ≡ told_over (head? (wrappers_over most_wrappers start (slice start end t)))
+        go : (x : Bool) → is_wrapper (get_or t i 0) ≡ x → Err i ≡ told_over (head? (wrappers_over most_wrappers start (slice start end t)))
         go true e = let m : n ≡ 1 = rw e at q in ap told_over (rw (eq-eqb left 0 (omega arith)) at (sym (ap head? (step true e)) ∙ o.rest))
         go false e = let m : n ≡ 0 = rw e at q in absurd (omega arith)
 

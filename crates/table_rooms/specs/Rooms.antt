@@ -1,16 +1,15 @@
 -- The code's answers on rooms.
 -- Assumes nothing.
-use Rattle.std.specs.Prelude.{Bool, ◌&&◌, cond, List, [], ◌∷◌, ℕ, leb, eqb}
+use Rattle.std.specs.Prelude.{Bool, ◌&&◌, Result, Ok, Err, cond, List, [], ◌∷◌, ℕ, leb, eqb}
+use Prim.{Unit, tt}
 use Rattle.std.proofs.Math.Option.{Option, none, some}
 use Rattle.paper_table.specs.TableNumbers.{most_members, most_arguments, tag_roots, tag_implements, tag_field, tag_argument, tag_subscription_root}
 use Rattle.paper_table.specs.TableSizes.{Room, room, is_wrapper}
-use Rattle.table_rooms.specs.declared.Counted.{Counted}
-use Rattle.table_rooms.specs.declared.Counted.TheVariants.{Within, Over}
 
 -- the first offset over a size, if there is one
-abbrev pub told_over : Option ℕ → Counted
-told_over none = Within
-told_over (some at) = Over at
+abbrev pub told_over : Option ℕ → Result (Unit {0}) ℕ
+told_over none = Ok tt
+told_over (some at) = Err at
 
 -- the wrappers that a byte is
 abbrev pub wraps_by : ℕ → ℕ

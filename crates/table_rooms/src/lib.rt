@@ -16,13 +16,6 @@ use paper_table::{
 };
 use table_fields::{BYTE_BANG, BYTE_BRACKET_L};
 
-// Whether a part is within the sizes, or the offset of the first over one.
-#[derive(Clone, Copy)]
-pub enum Counted {
-    Within,
-    Over(u32),
-}
-
 // The wrappers that a byte of a reference's text is.
 fn wraps(b: u8) -> u32
     ensures { result ≡ wraps_by b }
@@ -36,22 +29,20 @@ fn wraps(b: u8) -> u32
     0
 }
 
-// The wrapper over the most, in a reference's text.
-pub fn wrapper_over(t: &[u8], start: usize, end: usize) -> Counted
+// Err has the offset of the wrapper over the most, in a reference's text; Ok if there is none.
+pub fn wrapper_over(t: &[u8], start: usize, end: usize) -> Result<(), u32>
     requires { Bounds t.now start end }
     ensures { result ≡ told_over (head? (wrappers_over most_wrappers start (slice start end t.now))) }
 {
     let mut left = MOST_WRAPPERS;
-    let mut i = start;
-    while i < end {
+    for i in start..end {
         let n = wraps(t[i]);
         if left < n {
-            return Counted::Over(i as u32);
+            return Err(i as u32);
         }
         left -= n;
-        i += 1;
     }
-    Counted::Within
+    Ok(())
 }
 
 // Which of a holder's counts a field is of: 1 the names that a record implements, 2 a record's members or a field's arguments, 0 none.

@@ -12,7 +12,8 @@ use Rattle.paper_table.specs.Lists.{each}
 use Rattle.paper_table.specs.Types.{Definition, table_of, meant}
 use Rattle.paper_table.specs.Promises.{FieldBreaks, promised_by, promised}
 use Rattle.table_places.specs.Placed.{placed}
-use Rattle.table_places.specs.declared.PlaceRead.TheVariants.{Kept}
+use Prim.{tt}
+use Rattle.std.specs.Prelude.{Ok}
 use Rattle.table_fields.specs.Fields.{Bounds}
 use Rattle.table_book.specs.Book.{count_in}
 use Rattle.table_members.specs.Members.{members_in, implemented_in}
@@ -41,13 +42,13 @@ module _ (t book : List ℕ) (b : Booked t book) where
   kind_tag i h = ap (λ (d : Definition). d.tag) (b.entered i h).is
 
   module _ (ask : FieldBreaks) (n : List ℕ) (m k : ℕ) (w : NumberMeant t book n k) where
-    pub meant_other : (kind_in book k ≡ tag_interface → ⊥) → Kept ≡ placed (head? (promised_by ask (table_of t) m n))
+    pub meant_other : (kind_in book k ≡ tag_interface → ⊥) → Ok tt ≡ placed (head? (promised_by ask (table_of t) m n))
     meant_other e = go (ltb k (count_in book)) refl
       where
-        no : ((meant (table_of t) n).tag ≡ tag_interface → ⊥) → Kept ≡ placed (head? (promised_by ask (table_of t) m n))
+        no : ((meant (table_of t) n).tag ≡ tag_interface → ⊥) → Ok tt ≡ placed (head? (promised_by ask (table_of t) m n))
         no f = rw (ne_eqb (meant (table_of t) n).tag tag_interface f)
 
-        go : (c : Bool) → ltb k (count_in book) ≡ c → Kept ≡ placed (head? (promised_by ask (table_of t) m n))
+        go : (c : Bool) → ltb k (count_in book) ≡ c → Ok tt ≡ placed (head? (promised_by ask (table_of t) m n))
         go true q =
             let h = ltb-true k (count_in book) q in
             let z : kind_in book k ≡ get_or book k 0 = rw q in

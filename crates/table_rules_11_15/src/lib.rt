@@ -1,4 +1,5 @@
-// The schema rules 11 to 15: what the interfaces that a definition implements ask of its fields. Each rule's first place, or none.
+// The schema rules 11 to 15: what the interfaces that a definition implements ask of its fields. Err has the first place that breaks
+// the rule; Ok: none does.
 // Of the table nothing is asked but its sizes.
 #![tactic(auto)]
 
@@ -25,8 +26,7 @@ use paper_table::{
     RECORD_INTERFACE, RULE_ARGUMENT_EXTRA, RULE_ARGUMENT_MISSING, RULE_ARGUMENT_TYPE,
     RULE_FIELD_MISSING, RULE_FIELD_TYPE,
 };
-use table_members::FieldFound;
-use table_places::PlaceRead;
+use table_places::Place;
 
 // What the rule shows first of an interface's field, where the definition's members stand from `from` up to `stop`, and in the book `listed`.
 fn field_place(
@@ -41,21 +41,16 @@ fn field_place(
     end: usize,
     from: usize,
     stop: usize,
-) -> PlaceRead
+) -> Result<(), Place>
     requires { Booked t.now book.now × Bounds t.now start end × Bounds t.now from stop × (slim_member (member_from t.now tag start end) ≡ true) × (all_of slim_member (members_in t.now from stop) ≡ true) × Listed t.now listed.now from stop }
     ensures { result ≡ placed (head? (asked_of rule (table_of t.now) (members_in t.now from stop) member part (member_from t.now tag start end))) }
 {
     let n = table_members::member_name(t, tag, start, end);
-    let FieldFound::Found {
-        tag: own_tag,
-        start: own,
-        end: own_end,
-    } = table_listing::find_listed(t, listed, from, stop, t, n.at, n.size)
-    else {
+    let Some(f) = table_listing::find_listed(t, listed, from, stop, t, n.at, n.size) else {
         return table_rules_11_15_field::lacking(rule, member, part);
     };
     table_rules_11_15_field::own_place(
-        t, book, rule, member, part, tag, start, end, own_tag, own, own_end,
+        t, book, rule, member, part, tag, start, end, f.tag, f.start, f.end,
     )
 }
 
@@ -70,26 +65,20 @@ fn interface_place(
     end: usize,
     from: usize,
     stop: usize,
-) -> PlaceRead
+) -> Result<(), Place>
     requires { Booked t.now book.now × Bounds t.now at end × Bounds t.now from stop × (all_of slim_member (members_in t.now at end) ≡ true) × (all_of slim_member (members_in t.now from stop) ≡ true) × Listed t.now listed.now from stop }
     ensures { result ≡ placed (head? (each (asked_of rule (table_of t.now) (members_in t.now from stop) member) (members_in t.now at end))) }
 {
     let mut i = at;
     let mut p = 0;
     loop {
-        let FieldFound::Found {
-            tag,
-            start,
-            end: to,
-        } = table_members::next_member(t, i, end)
-        else {
-            return PlaceRead::Kept;
+        let Some(f) = table_members::next_member(t, i, end) else {
+            return Ok(());
         };
-        let r = field_place(t, book, listed, rule, member, p, tag, start, to, from, stop);
-        let PlaceRead::Kept = r else {
-            return r;
-        };
-        i = to;
+        field_place(
+            t, book, listed, rule, member, p, f.tag, f.start, f.end, from, stop,
+        )?;
+        i = f.end;
         p += 1;
     }
 }
@@ -105,13 +94,13 @@ fn name_place(
     end: usize,
     from: usize,
     stop: usize,
-) -> PlaceRead
+) -> Result<(), Place>
     requires { Booked t.now book.now × Slim (table_of t.now) × Bounds t.now at end × Bounds t.now from stop × (all_of slim_member (members_in t.now from stop) ≡ true) × Listed t.now listed.now from stop }
     ensures { result ≡ placed (head? (promised_by (asked_of rule (table_of t.now) (members_in t.now from stop)) (table_of t.now) member (part t.now at (end - at)))) }
 {
     let k = table_types::number_meant(t, book, t, at, end - at);
     if table_types::kind_in(book, k) != RECORD_INTERFACE {
-        return PlaceRead::Kept;
+        return Ok(());
     }
     interface_place(
         t,
@@ -134,32 +123,24 @@ fn first_place(
     rule: u32,
     from: usize,
     stop: usize,
-) -> PlaceRead
+) -> Result<(), Place>
     requires { Booked t.now book.now × Slim (table_of t.now) × Bounds t.now from stop × (all_of slim_member (members_in t.now from stop) ≡ true) × Listed t.now listed.now from stop }
     ensures { result ≡ placed (head? (each (promised_by (asked_of rule (table_of t.now) (members_in t.now from stop)) (table_of t.now)) (implemented_in t.now from stop))) }
 {
     let mut i = from;
     let mut m = 0;
     loop {
-        let FieldFound::Found {
-            tag: _,
-            start,
-            end: to,
-        } = table_members::next_implemented(t, i, stop)
-        else {
-            return PlaceRead::Kept;
+        let Some(f) = table_members::next_implemented(t, i, stop) else {
+            return Ok(());
         };
-        let r = name_place(t, book, listed, rule, m, start, to, from, stop);
-        let PlaceRead::Kept = r else {
-            return r;
-        };
-        i = to;
+        name_place(t, book, listed, rule, m, f.start, f.end, from, stop)?;
+        i = f.end;
         m += 1;
     }
 }
 
 // The first place of definition i that breaks the rule.
-fn broken(t: &[u8], book: &[u32], listed: &[u32], rule: u32, i: usize) -> PlaceRead
+fn broken(t: &[u8], book: &[u32], listed: &[u32], rule: u32, i: usize) -> Result<(), Place>
     requires { Booked t.now book.now × Slim (table_of t.now) × (i < count_in book.now) × Listed t.now listed.now (start_in book.now i) (end_in book.now i) }
     ensures { result ≡ placed (head? (promised (asked_of rule (table_of t.now) (definition_on t.now i).members) (table_of t.now) (definition_on t.now i))) }
 {
@@ -174,7 +155,7 @@ fn broken(t: &[u8], book: &[u32], listed: &[u32], rule: u32, i: usize) -> PlaceR
 }
 
 // 11. Interface field missing.
-pub fn field_missing(t: &[u8], book: &[u32], listed: &[u32], i: usize) -> PlaceRead
+pub fn field_missing(t: &[u8], book: &[u32], listed: &[u32], i: usize) -> Result<(), Place>
     requires { Booked t.now book.now × Slim (table_of t.now) × (i < count_in book.now) × Listed t.now listed.now (start_in book.now i) (end_in book.now i) }
     ensures { result ≡ placed (head? (interface_field_missing (table_of t.now) i (definition_on t.now i))) }
 {
@@ -182,7 +163,7 @@ pub fn field_missing(t: &[u8], book: &[u32], listed: &[u32], i: usize) -> PlaceR
 }
 
 // 12. Field type not a sub-type.
-pub fn field_type(t: &[u8], book: &[u32], listed: &[u32], i: usize) -> PlaceRead
+pub fn field_type(t: &[u8], book: &[u32], listed: &[u32], i: usize) -> Result<(), Place>
     requires { Booked t.now book.now × Slim (table_of t.now) × (i < count_in book.now) × Listed t.now listed.now (start_in book.now i) (end_in book.now i) }
     ensures { result ≡ placed (head? (field_type (table_of t.now) i (definition_on t.now i))) }
 {
@@ -190,7 +171,7 @@ pub fn field_type(t: &[u8], book: &[u32], listed: &[u32], i: usize) -> PlaceRead
 }
 
 // 13. Interface argument missing.
-pub fn argument_missing(t: &[u8], book: &[u32], listed: &[u32], i: usize) -> PlaceRead
+pub fn argument_missing(t: &[u8], book: &[u32], listed: &[u32], i: usize) -> Result<(), Place>
     requires { Booked t.now book.now × Slim (table_of t.now) × (i < count_in book.now) × Listed t.now listed.now (start_in book.now i) (end_in book.now i) }
     ensures { result ≡ placed (head? (interface_argument_missing (table_of t.now) i (definition_on t.now i))) }
 {
@@ -198,7 +179,7 @@ pub fn argument_missing(t: &[u8], book: &[u32], listed: &[u32], i: usize) -> Pla
 }
 
 // 14. Argument type differs.
-pub fn argument_type(t: &[u8], book: &[u32], listed: &[u32], i: usize) -> PlaceRead
+pub fn argument_type(t: &[u8], book: &[u32], listed: &[u32], i: usize) -> Result<(), Place>
     requires { Booked t.now book.now × Slim (table_of t.now) × (i < count_in book.now) × Listed t.now listed.now (start_in book.now i) (end_in book.now i) }
     ensures { result ≡ placed (head? (argument_type (table_of t.now) i (definition_on t.now i))) }
 {
@@ -206,7 +187,7 @@ pub fn argument_type(t: &[u8], book: &[u32], listed: &[u32], i: usize) -> PlaceR
 }
 
 // 15. Extra argument Non-Null.
-pub fn argument_extra(t: &[u8], book: &[u32], listed: &[u32], i: usize) -> PlaceRead
+pub fn argument_extra(t: &[u8], book: &[u32], listed: &[u32], i: usize) -> Result<(), Place>
     requires { Booked t.now book.now × Slim (table_of t.now) × (i < count_in book.now) × Listed t.now listed.now (start_in book.now i) (end_in book.now i) }
     ensures { result ≡ placed (head? (argument_extra (table_of t.now) i (definition_on t.now i))) }
 {

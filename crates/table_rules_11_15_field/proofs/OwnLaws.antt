@@ -10,8 +10,9 @@ use Rattle.paper_table.specs.Types.{Argument, Member, Table}
 use Rattle.paper_table.specs.Places.{Place}
 use Rattle.paper_table.specs.Rule12FieldType.{no_sub_type}
 use Rattle.table_places.specs.Placed.{placed}
-use Rattle.table_places.specs.declared.PlaceRead.{PlaceRead}
-use Rattle.table_places.specs.declared.PlaceRead.TheVariants.{At, Kept}
+use Prim.{Unit, tt}
+use Rattle.std.specs.Prelude.{Result, Ok, Err}
+use Rattle.table_places.specs.declared.Place.{Place as CodePlace}
 use Rattle.table_members.specs.Members.{member_from, arguments_in, ArgumentsFrom}
 use Rattle.table_types.specs.Sizes.{slim_argument, slim_member}
 use Rattle.table_types.proofs.SlimLaws.{slim_arguments}
@@ -23,7 +24,7 @@ pub from_slim : {t : List ℕ} {tag start end r : ℕ} → ArgumentsFrom t tag s
 from_slim {t = t} {tag = tag} {start = start} {end = end} f h = ap (all_of slim_argument) f.are ∙ slim_arguments (member_from t tag start end) h
 
 -- by other names of the same arguments
-pub asked_by : (rule m p : ℕ) (xs ys : List Argument) {xs' ys' : List Argument} {qs : List Place} {r : PlaceRead}
+pub asked_by : (rule m p : ℕ) (xs ys : List Argument) {xs' ys' : List Argument} {qs : List Place} {r : Result (Unit {0}) CodePlace}
     → r ≡ placed (head? (arguments_asked rule m p xs ys)) → xs ≡ xs' → ys ≡ ys' → qs ≡ arguments_asked rule m p xs' ys' → r ≡ placed (head? qs)
 asked_by rule m p xs ys {qs = qs} e f g h =
     let z : arguments_asked rule m p xs ys ≡ qs = rw (f, g) (sym h) in
@@ -31,7 +32,7 @@ asked_by rule m p xs ys {qs = qs} e f g h =
 
 -- the definition's own field, by the rule's number
 module _ (rule : ℕ) (t : Table) (m p : ℕ) (f e : Member) where
-  pub own_missing : rule ≡ rule_field_missing → Kept ≡ placed (head? (rule_asked rule t m p f e))
+  pub own_missing : rule ≡ rule_field_missing → Ok tt ≡ placed (head? (rule_asked rule t m p f e))
   unfolding rule_asked
   own_missing h = rw (eq-eqb rule rule_field_missing h)
 
@@ -45,10 +46,10 @@ module _ (rule : ℕ) (t : Table) (m p : ℕ) (f e : Member) where
     own_other l = rw (ne_eqb rule rule_field_missing h, ne_eqb rule rule_field_type k, ne_eqb rule rule_argument_extra l)
 
 -- rule 12, by the test of sub-types
-pub type_kept : (t : Table) (m p : ℕ) (f e : Member) → no_sub_type t f e ≡ false → Kept ≡ placed (head? (rule_asked rule_field_type t m p f e))
+pub type_kept : (t : Table) (m p : ℕ) (f e : Member) → no_sub_type t f e ≡ false → Ok tt ≡ placed (head? (rule_asked rule_field_type t m p f e))
 unfolding rule_asked
 type_kept t m p f e h = rw h
 
-pub type_broken : (t : Table) (m p : ℕ) (f e : Member) → no_sub_type t f e ≡ true → At m p no_place ≡ placed (head? (rule_asked rule_field_type t m p f e))
+pub type_broken : (t : Table) (m p : ℕ) (f e : Member) → no_sub_type t f e ≡ true → Err (record { member = m; part = p; argument = no_place }) ≡ placed (head? (rule_asked rule_field_type t m p f e))
 unfolding rule_asked
 type_broken t m p f e h = rw h

@@ -1,4 +1,5 @@
-// The schema rules 11 to 15 at one field of an interface and the definition's own, by the rule's number: the first place, or none.
+// The schema rules 11 to 15 at one field of an interface and the definition's own, by the rule's number: Err has the first place that
+// breaks it; Ok: none does.
 // Of the table nothing is asked but its sizes.
 #![tactic(auto)]
 
@@ -16,7 +17,7 @@ ghost use Rattle.table_types.specs.Sizes.{slim_member};
 ghost use Rattle.table_rules_11_15_field.specs.Asked.{rule_asked};
 
 use paper_table::{NO_PLACE, RULE_ARGUMENT_EXTRA, RULE_FIELD_MISSING, RULE_FIELD_TYPE};
-use table_places::PlaceRead;
+use table_places::Place;
 
 // Rule 12 of the interface's field with this tag and content, and the definition's own.
 fn type_place(
@@ -30,20 +31,20 @@ fn type_place(
     own_tag: u8,
     from: usize,
     stop: usize,
-) -> PlaceRead
+) -> Result<(), Place>
     requires { Booked t.now book.now × Bounds t.now start end × Bounds t.now from stop × (slim_member (member_from t.now tag start end) ≡ true) × (slim_member (member_from t.now own_tag from stop) ≡ true) }
     ensures { result ≡ placed (head? (rule_asked rule_field_type (table_of t.now) member part (member_from t.now tag start end) (member_from t.now own_tag from stop))) }
 {
     let q = table_members::member_type(t, tag, start, end);
     let r = table_members::member_type(t, own_tag, from, stop);
     if table_types::is_sub_type(t, book, r, q) {
-        return PlaceRead::Kept;
+        return Ok(());
     }
-    PlaceRead::At {
+    Err(Place {
         member: member,
         part: part,
         argument: NO_PLACE,
-    }
+    })
 }
 
 // What the rule shows first of the interface's field with this tag and content, and the definition's own.
@@ -59,12 +60,12 @@ pub fn own_place(
     own_tag: u8,
     from: usize,
     stop: usize,
-) -> PlaceRead
+) -> Result<(), Place>
     requires { Booked t.now book.now × Bounds t.now start end × Bounds t.now from stop × (slim_member (member_from t.now tag start end) ≡ true) × (slim_member (member_from t.now own_tag from stop) ≡ true) }
     ensures { result ≡ placed (head? (rule_asked rule (table_of t.now) member part (member_from t.now tag start end) (member_from t.now own_tag from stop))) }
 {
     if rule == RULE_FIELD_MISSING {
-        return PlaceRead::Kept;
+        return Ok(());
     }
     if rule == RULE_FIELD_TYPE {
         return type_place(t, book, member, part, tag, start, end, own_tag, from, stop);
@@ -78,15 +79,15 @@ pub fn own_place(
 }
 
 // What the rule shows of an interface's field that the definition lacks.
-pub fn lacking(rule: u32, member: u32, part: u32) -> PlaceRead
+pub fn lacking(rule: u32, member: u32, part: u32) -> Result<(), Place>
     ensures { result ≡ placed (head? (only_if (eqb rule rule_field_missing) (part_at member part))) }
 {
     if rule != RULE_FIELD_MISSING {
-        return PlaceRead::Kept;
+        return Ok(());
     }
-    PlaceRead::At {
+    Err(Place {
         member: member,
         part: part,
         argument: NO_PLACE,
-    }
+    })
 }

@@ -1,6 +1,6 @@
 -- What it is that a definition keeps the rules 11 to 15, said of each argument, field and implemented name.
 -- Assumes nothing.
-use Rattle.std.specs.Prelude.{◌≡◌, Bool, true, false, not, ◌&&◌, List, [], ◌∷◌, ℕ, ◌/◌, ◌%◌, ◌^◌, ◌≤◌, ◌<◌, get_or}
+use Rattle.std.specs.Prelude.{◌≡◌, Bool, true, false, not, ◌&&◌, Option, Some, None, List, [], ◌∷◌, ℕ, ◌/◌, ◌%◌, ◌^◌, ◌≤◌, ◌<◌, get_or}
 use Rattle.std.proofs.Math.Option.{some}
 use Prim.{Unit}
 use Rattle.paper.specs.Numbers.{most_wrappers}
@@ -15,8 +15,6 @@ use Rattle.paper_table.specs.Rule15ArgumentExtra.{argument_extra}
 use Rattle.paper_table.specs.SubTypes.{sub_test}
 use Rattle.paper_table.proofs.ReferenceSizes.{wrappers as wrapperCount}
 use Rattle.table_members.specs.Members.{Typed}
-use Rattle.table_rules_11_15_quick.specs.declared.Matched.{Matched}
-use Rattle.table_rules_11_15_quick.specs.declared.Matched.TheVariants.{Argument as Matches, Nothing}
 
 -- each element of a list
 abbrev pub Every : {A : Type 0} → (A → Type 0) → List A → Type 0
@@ -83,6 +81,6 @@ pub record MatchedBy (ys : List Argument) (x : Argument) (k : ℕ) : Type 0 wher
   pub name_is : (get_or ys k no_argument).name ≡ x.name
   pub small : k < 32
 
-abbrev pub MatchedAs : List Argument → Argument → Matched → Type 0
-MatchedAs ys x (Matches k) = MatchedBy ys x k
-MatchedAs ys x Nothing = Unit
+abbrev pub MatchedAs : List Argument → Argument → Option ℕ → Type 0
+MatchedAs ys x (Some k) = MatchedBy ys x k
+MatchedAs ys x None = Unit

@@ -18,7 +18,7 @@ ghost use Rattle.table_rules_11_15_quick.specs.Numbered.{ArgumentSought};
 ghost use Rattle.table_rules_11_15_quick.specs.Keeping.{Every, ArgumentKept, ExtraKept, OwnKept, FieldKept, NameKept, AllKept, SubKept, bit_of, ExtrasKept, MatchedAs};
 
 use paper_table::{RECORD_INTERFACE, TAG_FIELD, TAG_REFERENCE};
-use table_members::{FieldFound, TypeRead};
+use table_members::TypeRead;
 
 // Are the texts of two type references the same?
 fn is_alike(t: &[u8], start: usize, end: usize, from: usize, stop: usize) -> bool
@@ -83,76 +83,54 @@ fn is_type_kept(
     is_below(t, book, bits, r, q)
 }
 
-// An argument's number and the bounds of its content; or there is none.
+// An argument's number, and where its content starts and ends.
 #[derive(Clone, Copy)]
-pub enum ArgumentFound {
-    Argument {
-        number: usize,
-        start: usize,
-        end: usize,
-    },
-    Nothing,
+pub struct Argument {
+    pub number: usize,
+    pub start: usize,
+    pub end: usize,
 }
 
-// The first argument so named, from `from` on in a member's content, with its number, by which it is marked (`table_members::find_argument` counts none).
-fn argument_in(t: &[u8], from: usize, end: usize, s: &[u8], at: usize, n: usize) -> ArgumentFound
+// The first argument so named, from `from` on in a member's content, with its number, by which it is marked (`table_members::find_argument` counts none);
+// none if there is none.
+fn argument_in(t: &[u8], from: usize, end: usize, s: &[u8], at: usize, n: usize) -> Option<Argument>
     requires { Bounds t.now from end × (at + n ≤ length s.now) }
     ensures { ArgumentSought t.now (arguments_in t.now from end) (part s.now at n) result }
 {
     let mut i = from;
     let mut a = 0;
     loop {
-        let FieldFound::Found {
-            tag: _,
-            start,
-            end: stop,
-        } = table_members::next_argument(t, i, end)
-        else {
-            return ArgumentFound::Nothing;
-        };
-        let name = table_members::name_in(t, start, stop);
+        let f = table_members::next_argument(t, i, end)?;
+        let name = table_members::name_in(t, f.start, f.end);
         if table_book::is_text(t, name.at, name.size, s, at, n) {
-            return ArgumentFound::Argument {
+            return Some(Argument {
                 number: a,
-                start: start,
-                end: stop,
-            };
+                start: f.start,
+                end: f.end,
+            });
         }
-        i = stop;
+        i = f.end;
         a += 1;
     }
 }
 
-// The number of the own field's argument that has another's name and type.
-#[derive(Clone, Copy)]
-pub enum Matched {
-    Argument(u32),
-    Nothing,
-}
-
 const BITS: usize = 32;
 
-// Rules 13 and 14 of the interface's argument from `start` up to `end`, where the own field's stand from `from` up to `stop`.
-fn matching(t: &[u8], start: usize, end: usize, from: usize, stop: usize) -> Matched
+// Rules 13 and 14 of the interface's argument from `start` up to `end`, where the own field's stand from `from` up to `stop`: the number of the one
+// that has its name and type, none if none is known to.
+fn matching(t: &[u8], start: usize, end: usize, from: usize, stop: usize) -> Option<u32>
     requires { Bounds t.now start end × Bounds t.now from stop }
     ensures { MatchedAs (arguments_in t.now from stop) (argument_from t.now start end) result }
 {
     let n = table_members::name_in(t, start, end);
-    let ArgumentFound::Argument {
-        number,
-        start: own,
-        end: own_end,
-    } = argument_in(t, from, stop, t, n.at, n.size)
-    else {
-        return Matched::Nothing;
-    };
-    if BITS <= number {
-        return Matched::Nothing;
+    let a = argument_in(t, from, stop, t, n.at, n.size)?;
+    if BITS <= a.number {
+        return None;
     }
-    if is_alike(t, start, end, own, own_end) {
-        return Matched::Argument(number as u32);
+    if is_alike(t, start, end, a.start, a.end) {
+        return Some(a.number as u32);
     }
-    Matched::Nothing
+    None
 }
 
 const MOST_MARKED: u32 = 31;
@@ -184,14 +162,13 @@ fn are_extras_kept(t: &[u8], from: usize, stop: usize, marks: u32) -> bool
     let mut i = from;
     let mut k = 0;
     loop {
-        let FieldFound::Found { tag: _, start, end } = table_members::next_argument(t, i, stop)
-        else {
+        let Some(f) = table_members::next_argument(t, i, stop) else {
             return true;
         };
-        if is_loose(t, start, end, marks, k) {
+        if is_loose(t, f.start, f.end, marks, k) {
             return false;
         }
-        i = end;
+        i = f.end;
         k += 1;
     }
 }
@@ -204,19 +181,14 @@ fn are_arguments_kept(t: &[u8], at: usize, end: usize, from: usize, stop: usize)
     let mut i = at;
     let mut marks = 0;
     loop {
-        let FieldFound::Found {
-            tag: _,
-            start,
-            end: to,
-        } = table_members::next_argument(t, i, end)
-        else {
+        let Some(f) = table_members::next_argument(t, i, end) else {
             return are_extras_kept(t, from, stop, marks);
         };
-        let Matched::Argument(k) = matching(t, start, to, from, stop) else {
+        let Some(k) = matching(t, f.start, f.end, from, stop) else {
             return false;
         };
         marks = marks | (1 << k);
-        i = to;
+        i = f.end;
     }
 }
 
@@ -259,18 +231,13 @@ fn is_field_kept(
         return false;
     }
     let n = table_members::name_in(t, start, end);
-    let FieldFound::Found {
-        tag: own_tag,
-        start: own,
-        end: own_end,
-    } = table_listing::find_listed(t, listed, from, stop, t, n.at, n.size)
-    else {
+    let Some(f) = table_listing::find_listed(t, listed, from, stop, t, n.at, n.size) else {
         return false;
     };
-    if own_tag != TAG_FIELD {
+    if f.tag != TAG_FIELD {
         return false;
     }
-    is_own_kept(t, book, bits, start, end, own, own_end)
+    is_own_kept(t, book, bits, start, end, f.start, f.end)
 }
 
 // The same of all the fields of the interface whose content stands from `at` up to `end`.
@@ -289,18 +256,13 @@ fn is_interface_kept(
 {
     let mut i = at;
     loop {
-        let FieldFound::Found {
-            tag,
-            start,
-            end: to,
-        } = table_members::next_member(t, i, end)
-        else {
+        let Some(f) = table_members::next_member(t, i, end) else {
             return true;
         };
-        if !is_field_kept(t, book, bits, listed, tag, start, to, from, stop) {
+        if !is_field_kept(t, book, bits, listed, f.tag, f.start, f.end, from, stop) {
             return false;
         }
-        i = to;
+        i = f.end;
     }
 }
 
@@ -343,17 +305,12 @@ pub fn is_all_kept(t: &[u8], book: &[u32], bits: &[u32], listed: &[u32], d: usiz
     let stop = table_book::end_of(book, d);
     let mut i = from;
     loop {
-        let FieldFound::Found {
-            tag: _,
-            start,
-            end: to,
-        } = table_members::next_implemented(t, i, stop)
-        else {
+        let Some(f) = table_members::next_implemented(t, i, stop) else {
             return true;
         };
-        if !is_name_kept(t, book, bits, listed, start, to - start, from, stop) {
+        if !is_name_kept(t, book, bits, listed, f.start, f.end - f.start, from, stop) {
             return false;
         }
-        i = to;
+        i = f.end;
     }
 }

@@ -1,4 +1,5 @@
-// The schema rules 13 to 15 at the arguments of one field and another's of the same names, by the rule's number: the first place, or none.
+// The schema rules 13 to 15 at the arguments of one field and another's of the same names, by the rule's number: Err has the first place that
+// breaks it; Ok: none does.
 // Of the table nothing is asked but its sizes.
 #![tactic(auto)]
 
@@ -15,8 +16,7 @@ ghost use Rattle.table_rules_13_15.specs.Asked.{failing, arguments_asked};
 
 use paper::{WRAP_BASE, WRAP_NON_NULL};
 use paper_table::{RULE_ARGUMENT_EXTRA, RULE_ARGUMENT_MISSING, RULE_ARGUMENT_TYPE};
-use table_members::FieldFound;
-use table_places::PlaceRead;
+use table_places::Place;
 
 // Does the argument with this content break the rule, where the other field has none of its name?
 fn is_alone_wrong(t: &[u8], rule: u32, start: usize, end: usize) -> bool
@@ -55,15 +55,10 @@ fn is_wrong(t: &[u8], rule: u32, start: usize, end: usize, from: usize, stop: us
     ensures { result ≡ failing rule (argument_from t.now start end) (find (argument_named (argument_from t.now start end).name) (arguments_in t.now from stop)) }
 {
     let n = table_members::name_in(t, start, end);
-    let FieldFound::Found {
-        tag: _,
-        start: own,
-        end: own_end,
-    } = table_members::find_argument(t, from, stop, t, n.at, n.size)
-    else {
+    let Some(f) = table_members::find_argument(t, from, stop, t, n.at, n.size) else {
         return is_alone_wrong(t, rule, start, end);
     };
-    is_beside_wrong(t, rule, start, end, own, own_end)
+    is_beside_wrong(t, rule, start, end, f.start, f.end)
 }
 
 // The first of the arguments from `at` up to `end` that breaks the rule.
@@ -76,29 +71,24 @@ pub fn first_wrong(
     stop: usize,
     member: u32,
     part: u32,
-) -> PlaceRead
+) -> Result<(), Place>
     requires { Bounds t.now at end × Bounds t.now from stop × (all_of slim_argument (arguments_in t.now at end) ≡ true) × (all_of slim_argument (arguments_in t.now from stop) ≡ true) }
     ensures { result ≡ placed (head? (arguments_asked rule member part (arguments_in t.now at end) (arguments_in t.now from stop))) }
 {
     let mut i = at;
     let mut a = 0;
     loop {
-        let FieldFound::Found {
-            tag: _,
-            start,
-            end: to,
-        } = table_members::next_argument(t, i, end)
-        else {
-            return PlaceRead::Kept;
+        let Some(f) = table_members::next_argument(t, i, end) else {
+            return Ok(());
         };
-        if is_wrong(t, rule, start, to, from, stop) {
-            return PlaceRead::At {
+        if is_wrong(t, rule, f.start, f.end, from, stop) {
+            return Err(Place {
                 member: member,
                 part: part,
                 argument: a,
-            };
+            });
         }
-        i = to;
+        i = f.end;
         a += 1;
     }
 }

@@ -1,4 +1,4 @@
-// The schema rules 1 to 10 and 16 on one definition of a table: the first place that breaks the rule, if any.
+// The schema rules 1 to 10 and 16 on one definition of a table: Err has the first place that breaks the rule; Ok: none does.
 // Nothing is asked of the table but its sizes.
 #![tactic(auto)]
 
@@ -30,8 +30,8 @@ use paper_table::{
     RULE_NAME_REPEATED, RULE_NO_TYPE, RULE_NOT_OBJECT_OR_INTERFACE, RULE_RESERVED_MEMBER,
     RULE_ROOT,
 };
-use table_members::{FieldFound, Name};
-use table_places::PlaceRead;
+use table_members::Name;
+use table_places::Place;
 
 // Definition i's tag.
 fn tag_of(t: &[u8], book: &[u32], i: usize) -> u32
@@ -53,21 +53,21 @@ fn name_of(t: &[u8], book: &[u32], i: usize) -> Name
 }
 
 // The definition itself, if it is broken.
-fn whole(broken: bool) -> PlaceRead
+fn whole(broken: bool) -> Result<(), Place>
     ensures { result ≡ placed (head? (only_if broken whole_of)) }
 {
     if broken {
-        return PlaceRead::At {
+        return Err(Place {
             member: NO_PLACE,
             part: NO_PLACE,
             argument: NO_PLACE,
-        };
+        });
     }
-    PlaceRead::Kept
+    Ok(())
 }
 
 // The first member or argument of definition i that breaks the rule.
-fn members_of(t: &[u8], book: &[u32], rule: u32, i: usize) -> PlaceRead
+fn members_of(t: &[u8], book: &[u32], rule: u32, i: usize) -> Result<(), Place>
     requires { Booked t.now book.now × (i < count_in book.now) }
     ensures { result ≡ placed (head? (members_at rule (table_of t.now) (definition_on t.now i).members)) }
 {
@@ -81,7 +81,7 @@ fn members_of(t: &[u8], book: &[u32], rule: u32, i: usize) -> PlaceRead
 }
 
 // The first name that definition i implements and that breaks the rule.
-fn implemented_of(t: &[u8], book: &[u32], rule: u32, i: usize) -> PlaceRead
+fn implemented_of(t: &[u8], book: &[u32], rule: u32, i: usize) -> Result<(), Place>
     requires { Booked t.now book.now × (i < count_in book.now) }
     ensures { result ≡ placed (head? (implemented_at rule (table_of t.now) (definition_on t.now i).implements)) }
 {
@@ -95,7 +95,7 @@ fn implemented_of(t: &[u8], book: &[u32], rule: u32, i: usize) -> PlaceRead
 }
 
 // 1. Type or directive name begins `__`.
-pub fn reserved_name(t: &[u8], book: &[u32], i: usize) -> PlaceRead
+pub fn reserved_name(t: &[u8], book: &[u32], i: usize) -> Result<(), Place>
     requires { Booked t.now book.now × (i < count_in book.now) }
     ensures { result ≡ placed (head? (reserved_name (table_of t.now) i (definition_on t.now i))) }
 {
@@ -128,7 +128,7 @@ fn is_directive_before(t: &[u8], book: &[u32], i: usize) -> bool
 }
 
 // 2. Name already known or defined before, types and directives apart.
-pub fn name_known(t: &[u8], book: &[u32], i: usize) -> PlaceRead
+pub fn name_known(t: &[u8], book: &[u32], i: usize) -> Result<(), Place>
     requires { Booked t.now book.now × (i < count_in book.now) }
     ensures { result ≡ placed (head? (name_known (table_of t.now) i (definition_on t.now i))) }
 {
@@ -139,7 +139,7 @@ pub fn name_known(t: &[u8], book: &[u32], i: usize) -> PlaceRead
     if tag == RECORD_DIRECTIVE {
         return whole(is_directive_before(t, book, i));
     }
-    PlaceRead::Kept
+    Ok(())
 }
 
 // Has definition i no member?
@@ -147,49 +147,39 @@ fn is_empty(t: &[u8], book: &[u32], i: usize) -> bool
     requires { Booked t.now book.now × (i < count_in book.now) }
     ensures { result ≡ eqb (length (definition_on t.now i).members) 0 }
 {
-    let FieldFound::Found {
-        tag: _,
-        start: _,
-        end: _,
-    } = table_members::next_member(
-        t,
-        table_book::start_of(book, i),
-        table_book::end_of(book, i),
-    )
-    else {
-        return true;
-    };
-    false
+    let start = table_book::start_of(book, i);
+    let end = table_book::end_of(book, i);
+    table_members::next_member(t, start, end).is_none()
 }
 
 // 3. A type other than a scalar without members.
-pub fn no_members(t: &[u8], book: &[u32], i: usize) -> PlaceRead
+pub fn no_members(t: &[u8], book: &[u32], i: usize) -> Result<(), Place>
     requires { Booked t.now book.now × (i < count_in book.now) }
     ensures { result ≡ placed (head? (no_members (table_of t.now) i (definition_on t.now i))) }
 {
     let tag = tag_of(t, book, i);
     if tag < RECORD_OBJECT {
-        return PlaceRead::Kept;
+        return Ok(());
     }
     if RECORD_INPUT_OBJECT < tag {
-        return PlaceRead::Kept;
+        return Ok(());
     }
     whole(is_empty(t, book, i))
 }
 
 // 4. Member or argument repeats an earlier name beside it.
-pub fn name_repeated(t: &[u8], book: &[u32], i: usize) -> PlaceRead
+pub fn name_repeated(t: &[u8], book: &[u32], i: usize) -> Result<(), Place>
     requires { Booked t.now book.now × (i < count_in book.now) }
     ensures { result ≡ placed (head? (name_repeated (table_of t.now) i (definition_on t.now i))) }
 {
     if tag_of(t, book, i) == RECORD_ROOTS {
-        return PlaceRead::Kept;
+        return Ok(());
     }
     members_of(t, book, RULE_NAME_REPEATED, i)
 }
 
 // 5. Object or interface field, or its argument, begins `__`.
-pub fn reserved_member(t: &[u8], book: &[u32], i: usize) -> PlaceRead
+pub fn reserved_member(t: &[u8], book: &[u32], i: usize) -> Result<(), Place>
     requires { Booked t.now book.now × (i < count_in book.now) }
     ensures { result ≡ placed (head? (reserved_member (table_of t.now) i (definition_on t.now i))) }
 {
@@ -200,22 +190,22 @@ pub fn reserved_member(t: &[u8], book: &[u32], i: usize) -> PlaceRead
     if tag == RECORD_INTERFACE {
         return members_of(t, book, RULE_RESERVED_MEMBER, i);
     }
-    PlaceRead::Kept
+    Ok(())
 }
 
 // 6. Enum value `true`, `false`, `null`.
-pub fn enum_value(t: &[u8], book: &[u32], i: usize) -> PlaceRead
+pub fn enum_value(t: &[u8], book: &[u32], i: usize) -> Result<(), Place>
     requires { Booked t.now book.now × (i < count_in book.now) }
     ensures { result ≡ placed (head? (enum_value (table_of t.now) i (definition_on t.now i))) }
 {
     if tag_of(t, book, i) == RECORD_ENUM {
         return members_of(t, book, RULE_ENUM_VALUE, i);
     }
-    PlaceRead::Kept
+    Ok(())
 }
 
 // 7. Reference to no type.
-pub fn no_type(t: &[u8], book: &[u32], i: usize) -> PlaceRead
+pub fn no_type(t: &[u8], book: &[u32], i: usize) -> Result<(), Place>
     requires { Booked t.now book.now × (i < count_in book.now) }
     ensures { result ≡ placed (head? (no_type (table_of t.now) i (definition_on t.now i))) }
 {
@@ -223,7 +213,7 @@ pub fn no_type(t: &[u8], book: &[u32], i: usize) -> PlaceRead
 }
 
 // 8. Field type with base input object; argument or input field type with base object, interface or union.
-pub fn wrong_base(t: &[u8], book: &[u32], i: usize) -> PlaceRead
+pub fn wrong_base(t: &[u8], book: &[u32], i: usize) -> Result<(), Place>
     requires { Booked t.now book.now × (i < count_in book.now) }
     ensures { result ≡ placed (head? (wrong_base (table_of t.now) i (definition_on t.now i))) }
 {
@@ -231,7 +221,7 @@ pub fn wrong_base(t: &[u8], book: &[u32], i: usize) -> PlaceRead
 }
 
 // 9. Union member not an object, implemented name not an interface.
-pub fn not_object_or_interface(t: &[u8], book: &[u32], i: usize) -> PlaceRead
+pub fn not_object_or_interface(t: &[u8], book: &[u32], i: usize) -> Result<(), Place>
     requires { Booked t.now book.now × (i < count_in book.now) }
     ensures { result ≡ placed (head? (not_object_or_interface (table_of t.now) i (definition_on t.now i))) }
 {
@@ -242,7 +232,7 @@ pub fn not_object_or_interface(t: &[u8], book: &[u32], i: usize) -> PlaceRead
 }
 
 // 10. Interface implemented twice.
-pub fn implemented_twice(t: &[u8], book: &[u32], i: usize) -> PlaceRead
+pub fn implemented_twice(t: &[u8], book: &[u32], i: usize) -> Result<(), Place>
     requires { Booked t.now book.now × (i < count_in book.now) }
     ensures { result ≡ placed (head? (implemented_twice (table_of t.now) i (definition_on t.now i))) }
 {
@@ -250,12 +240,12 @@ pub fn implemented_twice(t: &[u8], book: &[u32], i: usize) -> PlaceRead
 }
 
 // 16. A root isn't an object type: at record 8.
-pub fn root_not_object(t: &[u8], book: &[u32], i: usize) -> PlaceRead
+pub fn root_not_object(t: &[u8], book: &[u32], i: usize) -> Result<(), Place>
     requires { Booked t.now book.now × (i < count_in book.now) }
     ensures { result ≡ placed (head? (root_not_object (table_of t.now) i (definition_on t.now i))) }
 {
     if tag_of(t, book, i) == RECORD_ROOTS {
         return members_of(t, book, RULE_ROOT, i);
     }
-    PlaceRead::Kept
+    Ok(())
 }

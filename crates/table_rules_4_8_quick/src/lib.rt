@@ -12,7 +12,6 @@ ghost use Rattle.table_types.specs.Booked.{Booked, definition_on};
 ghost use Rattle.table_rules_4_8_quick.specs.Sound.{EveryFrom, member_name, argument_name, Before, ArgumentSound, BaseSound, MemberSound, Sound, InputTag, cells, tail_limit, tail_at, cell_of, member_mark, Noted, Told};
 
 use paper_table::{RECORD_INPUT_OBJECT, TAG_ARGUMENT, TAG_FIELD};
-use table_members::FieldFound;
 
 // the tags of meant types
 const NO_TYPE: u32 = 0;
@@ -178,18 +177,13 @@ fn are_arguments_sound(
     let mut i = first;
     let mut a = 0;
     loop {
-        let FieldFound::Found {
-            tag: _,
-            start: from,
-            end: stop,
-        } = table_members::next_argument(t, i, end)
-        else {
+        let Some(f) = table_members::next_argument(t, i, end) else {
             return true;
         };
-        if !is_argument_sound(t, book, seen, mark, first, end, a, from, stop) {
+        if !is_argument_sound(t, book, seen, mark, first, end, a, f.start, f.end) {
             return false;
         }
-        i = stop;
+        i = f.end;
         a += 1;
     }
 }
@@ -265,18 +259,13 @@ fn are_members_sound(
     let mut i = from;
     let mut m = 0;
     loop {
-        let FieldFound::Found {
-            tag,
-            start,
-            end: stop,
-        } = table_members::next_member(t, i, end)
-        else {
+        let Some(f) = table_members::next_member(t, i, end) else {
             return true;
         };
-        if !is_member_sound(t, book, seen, others, from, end, m, tag, start, stop) {
+        if !is_member_sound(t, book, seen, others, from, end, m, f.tag, f.start, f.end) {
             return false;
         }
-        i = stop;
+        i = f.end;
         m += 1;
     }
 }

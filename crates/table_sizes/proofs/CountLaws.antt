@@ -20,21 +20,21 @@ use Rattle.paper_table.specs.TableSizes.{Room, room, is_over, less_room, room_in
 use Rattle.paper_table.proofs.ListsLaws.{head_nil}
 use Rattle.paper_table.proofs.HolderLaws.{over_on, over_here, over_inside}
 use Rattle.paper_table.proofs.Rising.{counts_first}
-use Rattle.table_fields.specs.declared.FieldRead.TheVariants.{Field, Cut}
+use Rattle.std.specs.Prelude.{Some, None, Result, Ok, Err}
+use Rattle.table_fields.specs.declared.Field.{Field}
 use Rattle.table_fields.specs.Fields.{field_at}
 use Rattle.table_fields.proofs.FieldLaws.{field_lies, pieces_read, pieces_torn, pieces_none}
 use Rattle.table_framing.specs.declared.Holding.{Holding}
 use Rattle.table_framing.specs.declared.Holding.TheVariants.{Name, Reference, Fields, Nothing}
 use Rattle.table_framing.specs.Holders.{Holder, HoldsAs}
 use Rattle.table_framing.specs.contracts.Holding.{the_type}
-use Rattle.table_rooms.specs.declared.Counted.{Counted}
-use Rattle.table_rooms.specs.declared.Counted.TheVariants.{Within, Over}
+use Prim.{Unit, tt}
 use Rattle.table_rooms.specs.Rooms.{told_over, between, room_for, rest_room, rooms_of}
 use Rattle.table_rooms.proofs.RoomLaws.{told_within, told_over_is, pred_is, under_one, under_none, less_none, or_true, or_false, room_over, room_less, room_start}
 use Rattle.table_sizes.specs.Counts.{leaf_overs, record_by}
 
 -- no deeper
-pub over_deep : (depth at tag : ℕ) (s : List ℕ) → depth ≡ 0 → Within ≡ told_over (head? (overs depth at tag s))
+pub over_deep : (depth at tag : ℕ) (s : List ℕ) → depth ≡ 0 → Ok tt ≡ told_over (head? (overs depth at tag s))
 unfolding overs
 over_deep depth at tag s e = rw e
 
@@ -45,11 +45,11 @@ deeper (suc d) at tag s n = let e : suc d - 1 ≡ d = omega arith in rw e
 
 -- a name, or no deeper
 module _ (depth tag : ℕ) {r : Bool} (e : r ≡ eqb tag tag_name || eqb depth 0) where
-  pub over_plain : (at : ℕ) (s : List ℕ) → r ≡ true → Within ≡ told_over (head? (overs depth at tag s))
+  pub over_plain : (at : ℕ) (s : List ℕ) → r ≡ true → Ok tt ≡ told_over (head? (overs depth at tag s))
   unfolding overs overs_by look_up contents
   over_plain at s p = go (eqb tag tag_name) refl depth refl
     where
-      go : (b : Bool) → eqb tag tag_name ≡ b → (n : ℕ) → depth ≡ n → Within ≡ told_over (head? (overs depth at tag s))
+      go : (b : Bool) → eqb tag tag_name ≡ b → (n : ℕ) → depth ≡ n → Ok tt ≡ told_over (head? (overs depth at tag s))
       go b q zero z = over_deep depth at tag s z
       go true q (suc n) z = rw (z, eqb-true tag tag_name q)
       go false q (suc n) z =
@@ -94,53 +94,53 @@ counting_start t at tag end depth first second from to others n a q h = record {
 }
 
 module _ (t : List ℕ) (at tag end depth names others i : ℕ) (w : end ≤ length t) (o : Counting t at tag end depth names others i) where
-  pub counting_end : end ≤ i → Within ≡ told_over (head? (overs depth at tag (slice (at + 3) end t)))
+  pub counting_end : end ≤ i → Ok tt ≡ told_over (head? (overs depth at tag (slice (at + 3) end t)))
   unfolding overs_in
   counting_end h = ap told_over (rw (pieces_none t i end h w) at o.rest)
 
-  pub counting_torn : i < end → field_at t i end ≡ Cut → Within ≡ told_over (head? (overs depth at tag (slice (at + 3) end t)))
+  pub counting_torn : i < end → field_at t i end ≡ None → Ok tt ≡ told_over (head? (overs depth at tag (slice (at + 3) end t)))
   unfolding overs_in
   counting_torn h q = ap told_over (rw (pieces_torn t i end w h q) at o.rest)
 
-  module _ (h : i < end) (k a e : ℕ) (q : field_at t i end ≡ Field k a e) (n : ℕ) (p : n ≡ room_for tag k) where
+  module _ (h : i < end) (it : Field) (q : field_at t i end ≡ Some it) (n : ℕ) (p : n ≡ room_for tag it.tag) where
     split : overs_in (overs (depth - 1)) (rooms_of tag names others) (house_fields i (slice i end t)) ≡
-        overs_in (overs (depth - 1)) (rooms_of tag names others) (house_field i k (slice a e t) ∷ house_fields e (slice e end t))
-    split = ap (overs_in (overs (depth - 1)) (rooms_of tag names others)) (pieces_read t i end w h k a e q)
+        overs_in (overs (depth - 1)) (rooms_of tag names others) (house_field i it.tag (slice it.start it.end t) ∷ house_fields it.end (slice it.end end t))
+    split = ap (overs_in (overs (depth - 1)) (rooms_of tag names others)) (pieces_read t i end w h it q)
 
-    content : slice (i + 3) e t ≡ slice a e t
-    content = let l = field_lies t i end k a e o.order q in rw l.begins
+    content : slice (i + 3) it.end t ≡ slice it.start it.end t
+    content = let l = field_lies t i end it o.order q in rw l.begins
 
-    full : (b : Bool) → ltb names (n % 2) || ltb others (n / 2) ≡ b → any_of (is_over k) (rooms_of tag names others) ≡ b
-    full b f = room_over names others k tag n p ∙ f
+    full : (b : Bool) → ltb names (n % 2) || ltb others (n / 2) ≡ b → any_of (is_over it.tag) (rooms_of tag names others) ≡ b
+    full b f = room_over names others it.tag tag n p ∙ f
 
-    here : ltb names (n % 2) || ltb others (n / 2) ≡ true → Over i ≡ told_over (head? (overs depth at tag (slice (at + 3) end t)))
-    here f = ap told_over (sym (over_here (overs (depth - 1)) (rooms_of tag names others) i k (slice a e t) (house_fields e (slice e end t)) (full true f)) ∙ sym (ap head? split) ∙ o.rest)
+    here : ltb names (n % 2) || ltb others (n / 2) ≡ true → Err i ≡ told_over (head? (overs depth at tag (slice (at + 3) end t)))
+    here f = ap told_over (sym (over_here (overs (depth - 1)) (rooms_of tag names others) i it.tag (slice it.start it.end t) (house_fields it.end (slice it.end end t)) (full true f)) ∙ sym (ap head? split) ∙ o.rest)
 
-    pub counting_names : names < n % 2 → Over i ≡ told_over (head? (overs depth at tag (slice (at + 3) end t)))
+    pub counting_names : names < n % 2 → Err i ≡ told_over (head? (overs depth at tag (slice (at + 3) end t)))
     counting_names l = here (rw (lt-ltb names (n % 2) l))
 
-    pub counting_others : others < n / 2 → Over i ≡ told_over (head? (overs depth at tag (slice (at + 3) end t)))
+    pub counting_others : others < n / 2 → Err i ≡ told_over (head? (overs depth at tag (slice (at + 3) end t)))
     counting_others l = here (rw (lt-ltb others (n / 2) l) (or_true (ltb names (n % 2))))
 
     module _ (l : n % 2 ≤ names) (m : n / 2 ≤ others) where
-      left : any_of (is_over k) (rooms_of tag names others) ≡ false
+      left : any_of (is_over it.tag) (rooms_of tag names others) ≡ false
       left = full false (rw (le-ltb names (n % 2) l, le-ltb others (n / 2) m))
 
-      pub counting_inside : (x : Counted) (v : ℕ) → x ≡ told_over (head? (overs (depth - 1) i k (slice (i + 3) e t))) → x ≡ Over v
+      pub counting_inside : (x : Result (Unit {0}) ℕ) (v : ℕ) → x ≡ told_over (head? (overs (depth - 1) i it.tag (slice (i + 3) it.end t))) → x ≡ Err v
           → x ≡ told_over (head? (overs depth at tag (slice (at + 3) end t)))
       counting_inside x v g z =
-          let y : head? (overs (depth - 1) i k (slice a e t)) ≡ some v = rw content at (told_over_is (head? (overs (depth - 1) i k (slice (i + 3) e t))) v (sym g ∙ z)) in
-          z ∙ ap told_over (sym (over_inside (overs (depth - 1)) (rooms_of tag names others) i k (slice a e t) (house_fields e (slice e end t)) v left y) ∙ sym (ap head? split) ∙ o.rest)
+          let y : head? (overs (depth - 1) i it.tag (slice it.start it.end t)) ≡ some v = rw content at (told_over_is (head? (overs (depth - 1) i it.tag (slice (i + 3) it.end t))) v (sym g ∙ z)) in
+          z ∙ ap told_over (sym (over_inside (overs (depth - 1)) (rooms_of tag names others) i it.tag (slice it.start it.end t) (house_fields it.end (slice it.end end t)) v left y) ∙ sym (ap head? split) ∙ o.rest)
 
-      pub counting_on : (x : Counted) → x ≡ told_over (head? (overs (depth - 1) i k (slice (i + 3) e t))) → x ≡ Within
-          → Counting t at tag end depth (names - n % 2) (others - n / 2) e
+      pub counting_on : (x : Result (Unit {0}) ℕ) → x ≡ told_over (head? (overs (depth - 1) i it.tag (slice (i + 3) it.end t))) → x ≡ Ok tt
+          → Counting t at tag end depth (names - n % 2) (others - n / 2) it.end
       counting_on x g z =
-          let y : overs (depth - 1) i k (slice a e t) ≡ [] = head_nil (overs (depth - 1) i k (slice a e t)) (rw content at (told_within (head? (overs (depth - 1) i k (slice (i + 3) e t))) (sym g ∙ z))) in
-          let f = field_lies t i end k a e o.order q in
+          let y : overs (depth - 1) i it.tag (slice it.start it.end t) ≡ [] = head_nil (overs (depth - 1) i it.tag (slice it.start it.end t)) (rw content at (told_within (head? (overs (depth - 1) i it.tag (slice (i + 3) it.end t))) (sym g ∙ z))) in
+          let f = field_lies t i end it o.order q in
           record {
             rest =
-                ap (λ (rs : List Room). head? (overs_in (overs (depth - 1)) rs (house_fields e (slice e end t)))) (sym (room_less names others k tag n p))
-                ∙ sym (ap head? (split ∙ over_on (overs (depth - 1)) (rooms_of tag names others) i k (slice a e t) (house_fields e (slice e end t)) left y)) ∙ o.rest;
+                ap (λ (rs : List Room). head? (overs_in (overs (depth - 1)) rs (house_fields it.end (slice it.end end t)))) (sym (room_less names others it.tag tag n p))
+                ∙ sym (ap head? (split ∙ over_on (overs (depth - 1)) (rooms_of tag names others) i it.tag (slice it.start it.end t) (house_fields it.end (slice it.end end t)) left y)) ∙ o.rest;
             begins = omega (arith, o.begins, f.begins, f.order);
             order = f.within;
           }
@@ -157,55 +157,55 @@ recording_start t = record {
 }
 
 module _ (t : List ℕ) (left i : ℕ) (o : Recording t left i) where
-  pub recording_end : length t ≤ i → Within ≡ told_over (counts_offset t)
+  pub recording_end : length t ≤ i → Ok tt ≡ told_over (counts_offset t)
   unfolding overs_in
   recording_end h = ap told_over (rw (pieces_none t i (length t) h (le_refl (length t))) at o.rest)
 
-  pub recording_torn : i < length t → field_at t i (length t) ≡ Cut → Within ≡ told_over (counts_offset t)
+  pub recording_torn : i < length t → field_at t i (length t) ≡ None → Ok tt ≡ told_over (counts_offset t)
   unfolding overs_in
   recording_torn h q = ap told_over (rw (pieces_torn t i (length t) (le_refl (length t)) h q) at o.rest)
 
-  module _ (h : i < length t) (k a e : ℕ) (q : field_at t i (length t) ≡ Field k a e) (n : ℕ) (p : n ≡ record_by k) where
+  module _ (h : i < length t) (it : Field) (q : field_at t i (length t) ≡ Some it) (n : ℕ) (p : n ≡ record_by it.tag) where
     abbrev rooms : List Room
     rooms = room tag_scalar tag_roots left ∷ []
 
-    split_table : overs_in (overs most_deep) rooms (house_fields i (slice i (length t) t)) ≡ overs_in (overs most_deep) rooms (house_field i k (slice a e t) ∷ house_fields e (slice e (length t) t))
-    split_table = ap (overs_in (overs most_deep) rooms) (pieces_read t i (length t) (le_refl (length t)) h k a e q)
+    split_table : overs_in (overs most_deep) rooms (house_fields i (slice i (length t) t)) ≡ overs_in (overs most_deep) rooms (house_field i it.tag (slice it.start it.end t) ∷ house_fields it.end (slice it.end (length t) t))
+    split_table = ap (overs_in (overs most_deep) rooms) (pieces_read t i (length t) (le_refl (length t)) h it q)
 
-    content_table : slice (i + 3) e t ≡ slice a e t
-    content_table = let l = field_lies t i (length t) k a e o.order q in rw l.begins
+    content_table : slice (i + 3) it.end t ≡ slice it.start it.end t
+    content_table = let l = field_lies t i (length t) it o.order q in rw l.begins
 
-    full_table : (b : Bool) → ltb left n ≡ b → any_of (is_over k) rooms ≡ b
+    full_table : (b : Bool) → ltb left n ≡ b → any_of (is_over it.tag) rooms ≡ b
     unfolding any_of
-    full_table b f = go (between tag_scalar tag_roots k) ∙ rw (← p) f
+    full_table b f = go (between tag_scalar tag_roots it.tag) ∙ rw (← p) f
       where
         go : (x : Bool) → x && eqb left 0 || false ≡ ltb left (cond x 1 0)
         go true = or_false (eqb left 0) ∙ sym (under_one left)
         go false = sym (under_none left)
 
-    less_table : ◌≡◌ {A = List Room} (map (less_room k) rooms) (room tag_scalar tag_roots (left - n) ∷ [])
-    less_table = rw p (go (between tag_scalar tag_roots k))
+    less_table : ◌≡◌ {A = List Room} (map (less_room it.tag) rooms) (room tag_scalar tag_roots (left - n) ∷ [])
+    less_table = rw p (go (between tag_scalar tag_roots it.tag))
       where
         go : (x : Bool) → ◌≡◌ {A = List Room} (room tag_scalar tag_roots (cond x (pred left) left) ∷ []) (room tag_scalar tag_roots (left - cond x 1 0) ∷ [])
         go true = rw (pred_is left)
         go false = rw (less_none left)
 
-    pub recording_over : left < n → Over i ≡ told_over (counts_offset t)
-    recording_over l = ap told_over (sym (over_here (overs most_deep) rooms i k (slice a e t) (house_fields e (slice e (length t) t)) (full_table true (lt-ltb left n l))) ∙ sym (ap head? split_table) ∙ o.rest)
+    pub recording_over : left < n → Err i ≡ told_over (counts_offset t)
+    recording_over l = ap told_over (sym (over_here (overs most_deep) rooms i it.tag (slice it.start it.end t) (house_fields it.end (slice it.end (length t) t)) (full_table true (lt-ltb left n l))) ∙ sym (ap head? split_table) ∙ o.rest)
 
     module _ (l : n ≤ left) where
-      pub recording_inside : (x : Counted) (v : ℕ) → x ≡ told_over (head? (overs most_deep i k (slice (i + 3) e t))) → x ≡ Over v → x ≡ told_over (counts_offset t)
+      pub recording_inside : (x : Result (Unit {0}) ℕ) (v : ℕ) → x ≡ told_over (head? (overs most_deep i it.tag (slice (i + 3) it.end t))) → x ≡ Err v → x ≡ told_over (counts_offset t)
       recording_inside x v g z =
-          let y : head? (overs most_deep i k (slice a e t)) ≡ some v = rw content_table at (told_over_is (head? (overs most_deep i k (slice (i + 3) e t))) v (sym g ∙ z)) in
-          z ∙ ap told_over (sym (over_inside (overs most_deep) rooms i k (slice a e t) (house_fields e (slice e (length t) t)) v (full_table false (le-ltb left n l)) y) ∙ sym (ap head? split_table) ∙ o.rest)
+          let y : head? (overs most_deep i it.tag (slice it.start it.end t)) ≡ some v = rw content_table at (told_over_is (head? (overs most_deep i it.tag (slice (i + 3) it.end t))) v (sym g ∙ z)) in
+          z ∙ ap told_over (sym (over_inside (overs most_deep) rooms i it.tag (slice it.start it.end t) (house_fields it.end (slice it.end (length t) t)) v (full_table false (le-ltb left n l)) y) ∙ sym (ap head? split_table) ∙ o.rest)
 
-      pub recording_on : (x : Counted) → x ≡ told_over (head? (overs most_deep i k (slice (i + 3) e t))) → x ≡ Within → Recording t (left - n) e
+      pub recording_on : (x : Result (Unit {0}) ℕ) → x ≡ told_over (head? (overs most_deep i it.tag (slice (i + 3) it.end t))) → x ≡ Ok tt → Recording t (left - n) it.end
       recording_on x g z =
-          let y : overs most_deep i k (slice a e t) ≡ [] = head_nil (overs most_deep i k (slice a e t)) (rw content_table at (told_within (head? (overs most_deep i k (slice (i + 3) e t))) (sym g ∙ z))) in
-          let f = field_lies t i (length t) k a e o.order q in
+          let y : overs most_deep i it.tag (slice it.start it.end t) ≡ [] = head_nil (overs most_deep i it.tag (slice it.start it.end t)) (rw content_table at (told_within (head? (overs most_deep i it.tag (slice (i + 3) it.end t))) (sym g ∙ z))) in
+          let f = field_lies t i (length t) it o.order q in
           record {
             rest =
-                ap (λ (rs : List Room). head? (overs_in (overs most_deep) rs (house_fields e (slice e (length t) t)))) (sym less_table)
-                ∙ sym (ap head? (split_table ∙ over_on (overs most_deep) rooms i k (slice a e t) (house_fields e (slice e (length t) t)) (full_table false (le-ltb left n l)) y)) ∙ o.rest;
+                ap (λ (rs : List Room). head? (overs_in (overs most_deep) rs (house_fields it.end (slice it.end (length t) t)))) (sym less_table)
+                ∙ sym (ap head? (split_table ∙ over_on (overs most_deep) rooms i it.tag (slice it.start it.end t) (house_fields it.end (slice it.end (length t) t)) (full_table false (le-ltb left n l)) y)) ∙ o.rest;
             order = f.within;
           }

@@ -11,25 +11,25 @@ ghost use Rattle.table_rooms.specs.Rooms.{told_over};
 ghost use Rattle.table_sizes.specs.Counts.{leaf_overs, record_by};
 
 use paper_table::{MOST_IMPLEMENTED, MOST_RECORDS, TAG_NAME, TAG_ROOTS, TAG_SCALAR};
-use table_fields::{FieldRead, read_field};
+use table_fields::read_field;
 use table_framing::{Holding, MOST_DEEP, content_of};
-use table_rooms::{Counted, rest_room, room_of, wrapper_over};
+use table_rooms::{rest_room, room_of, wrapper_over};
 
-// What is over in a content that is no fields.
-fn leaf_over(t: &[u8], start: usize, end: usize, h: Holding) -> Counted
+// What is over in a content that is no fields: Err has the offset of the first.
+fn leaf_over(t: &[u8], start: usize, end: usize, h: Holding) -> Result<(), u32>
     requires { Bounds t.now start end }
     ensures { result ≡ told_over (head? (leaf_overs h start (slice start end t.now))) }
 {
     match h {
-        Holding::Name => Counted::Within,
+        Holding::Name => Ok(()),
         Holding::Reference => wrapper_over(t, start, end),
         Holding::Fields {
             first: _,
             second: _,
             from: _,
             to: _,
-        } => Counted::Within,
-        Holding::Nothing => Counted::Within,
+        } => Ok(()),
+        Holding::Nothing => Ok(()),
     }
 }
 
@@ -43,13 +43,13 @@ fn is_plain(tag: u8, depth: u32) -> bool
     depth == 0
 }
 
-// The field whose tag stands at `at` and whose content ends at `end`; fields stand in it `depth` deep at most.
-fn first_over(t: &[u8], at: usize, tag: u8, end: usize, depth: u32) -> Counted
+// The field whose tag stands at `at` and whose content ends at `end`; fields stand in it `depth` deep at most. Err has the offset of its first over a size.
+fn first_over(t: &[u8], at: usize, tag: u8, end: usize, depth: u32) -> Result<(), u32>
     requires { Bounds t.now (at + 3) end }
     ensures { result ≡ told_over (head? (overs depth at tag (slice (at + 3) end t.now))) }
 {
     if is_plain(tag, depth) {
-        return Counted::Within;
+        return Ok(());
     }
     let h = content_of(tag);
     let Holding::Fields {
@@ -65,30 +65,22 @@ fn first_over(t: &[u8], at: usize, tag: u8, end: usize, depth: u32) -> Counted
     let mut rest = rest_room(tag);
     let mut i = at + 3;
     while i < end {
-        let FieldRead::Field {
-            tag: k,
-            start: _,
-            end: e,
-        } = read_field(t, i, end)
-        else {
-            return Counted::Within;
+        let Some(f) = read_field(t, i, end) else {
+            return Ok(());
         };
-        let n = room_of(tag, k);
+        let n = room_of(tag, f.tag);
         if names < n % 2 {
-            return Counted::Over(i as u32);
+            return Err(i as u32);
         }
         if rest < n / 2 {
-            return Counted::Over(i as u32);
+            return Err(i as u32);
         }
-        let w = first_over(t, i, k, e, depth - 1);
-        let Counted::Within = w else {
-            return w;
-        };
+        first_over(t, i, f.tag, f.end, depth - 1)?;
         names -= n % 2;
         rest -= n / 2;
-        i = e;
+        i = f.end;
     }
-    Counted::Within
+    Ok(())
 }
 
 fn is_record(k: u8) -> u32
@@ -103,32 +95,24 @@ fn is_record(k: u8) -> u32
     0
 }
 
-// Refusal 8: the first over a size.
-pub fn over(t: &[u8]) -> Counted
+// Refusal 8: Err has the offset of the first over a size.
+pub fn over(t: &[u8]) -> Result<(), u32>
     requires { length t.now ≤ most_table }
     ensures { result ≡ told_over (counts_offset t.now) }
 {
     let mut left = MOST_RECORDS;
     let mut i = 0;
     while i < t.len() {
-        let FieldRead::Field {
-            tag: k,
-            start: _,
-            end: e,
-        } = read_field(t, i, t.len())
-        else {
-            return Counted::Within;
+        let Some(f) = read_field(t, i, t.len()) else {
+            return Ok(());
         };
-        let n = is_record(k);
+        let n = is_record(f.tag);
         if left < n {
-            return Counted::Over(i as u32);
+            return Err(i as u32);
         }
-        let w = first_over(t, i, k, e, MOST_DEEP);
-        let Counted::Within = w else {
-            return w;
-        };
+        first_over(t, i, f.tag, f.end, MOST_DEEP)?;
         left -= n;
-        i = e;
+        i = f.end;
     }
-    Counted::Within
+    Ok(())
 }

@@ -13,7 +13,8 @@ use Rattle.paper_table.specs.Lists.{gather}
 use Rattle.paper_table.specs.House.{house_field, cut, house_fields}
 use Rattle.paper_table.specs.Types.{Definition, definition_of, table_of, name_in, blank_definition, tag_nothing}
 use Rattle.table_fields.specs.Fields.{field_at}
-use Rattle.table_fields.specs.declared.FieldRead.TheVariants.{Field, Cut}
+use Rattle.std.specs.Prelude.{Some, None}
+use Rattle.table_fields.specs.declared.Field.{Field}
 use Rattle.table_fields.proofs.FieldLaws.{field_lies}
 use Rattle.table_book.specs.Book.{room, cell_name, cell_size, cell_start, cell_end, cell_count, book_size, count_in, key_at, keys_of, Held, Linked, no_key}
 use Rattle.table_book.proofs.Keys.{keys_count, keys_at, count_kept}
@@ -155,27 +156,27 @@ module _ (t book : List ℕ) (at i : ℕ) (r : Recording t book at i) where
   pub recording_end : length t ≤ at → Recorded t book i
   recording_end l = recorded_at (nothing_left (table_of t) i r.count (r.rest ∙ gather_none definition_of definition_cut t at (length t) (omega arith) l))
 
-  pub recording_torn : at < length t → field_at t at (length t) ≡ Cut → Recorded t book i
+  pub recording_torn : at < length t → field_at t at (length t) ≡ None → Recorded t book i
   recording_torn l q = recorded_at (nothing_left (table_of t) i r.count (r.rest ∙ gather_torn definition_of definition_cut t at (length t) (omega arith) l q))
 
-  module _ (l : at < length t) (tag start stop : ℕ) (q : field_at t at (length t) ≡ Field tag start stop) where
+  module _ (l : at < length t) (it : Field) (q : field_at t at (length t) ≡ Some it) where
     abbrev d : Definition
-    d = definition_from t tag start stop
+    d = definition_from t it.tag it.start it.end
 
-    next_is : drop i (table_of t) ≡ d ∷ gather definition_of (fields_in t stop (length t))
+    next_is : drop i (table_of t) ≡ d ∷ gather definition_of (fields_in t it.end (length t))
     next_is =
-        let f = field_lies t at (length t) tag start stop (omega arith) q in
-        r.rest ∙ gather_field definition_of definition_cut t at (length t) (omega arith) l tag start stop q
-        ∙ ap (λ (m : List Definition). m ++ gather definition_of (fields_in t stop (length t))) (definition_is t at tag start stop f.begins)
+        let f = field_lies t at (length t) it (omega arith) q in
+        r.rest ∙ gather_field definition_of definition_cut t at (length t) (omega arith) l it q
+        ∙ ap (λ (m : List Definition). m ++ gather definition_of (fields_in t it.end (length t))) (definition_is t at it.tag it.start it.end f.begins)
 
     pub next_below : i < length (table_of t)
     next_below =
-        let k : length (drop i (table_of t)) ≡ suc (length (gather definition_of (fields_in t stop (length t)))) = ap length next_is in
+        let k : length (drop i (table_of t)) ≡ suc (length (gather definition_of (fields_in t it.end (length t)))) = ap length next_is in
         omega (arith, k, length-drop i (table_of t))
 
-    pub next_bounds : (start ≤ stop) × (stop ≤ length t) × (at < stop)
+    pub next_bounds : (it.start ≤ it.end) × (it.end ≤ length t) × (at < it.end)
     next_bounds =
-        let f = field_lies t at (length t) tag start stop (omega arith) q in
+        let f = field_lies t at (length t) it (omega arith) q in
         (f.order, f.within, omega (arith, f.begins, f.order))
 
     here : definition_on t i ≡ d
@@ -184,10 +185,10 @@ module _ (t book : List ℕ) (at i : ℕ) (r : Recording t book at i) where
         ap (λ (k : ℕ). get_or (table_of t) k (blank_definition tag_nothing)) (sym z) ∙ sym (get_or-drop i (table_of t) 0 (blank_definition tag_nothing))
         ∙ ap (λ (m : List Definition). get_or m 0 (blank_definition tag_nothing)) next_is
 
-    behind : drop (i + 1) (table_of t) ≡ gather definition_of (fields_in t stop (length t))
+    behind : drop (i + 1) (table_of t) ≡ gather definition_of (fields_in t it.end (length t))
     behind = sym (drop-drop 1 i (table_of t)) ∙ ap (drop 1) next_is
 
-    pub recording_more : (book' : List ℕ) → Entering t book book' i tag start stop → Recording t book' stop (i + 1)
+    pub recording_more : (book' : List ℕ) → Entering t book book' i it.tag it.start it.end → Recording t book' it.end (i + 1)
     recording_more book' e = record {
       cells = e.cells ∙ r.cells;
       count = omega (arith, next_below);

@@ -16,8 +16,7 @@ use paper_table::{
     RECORD_SCALAR, RECORD_UNION,
 };
 use table_book::{CELL_COUNT, CELL_END, CELL_NAME, CELL_SIZE, CELL_START};
-use table_fields::FieldRead;
-use table_members::{FieldFound, TypeRead};
+use table_members::TypeRead;
 
 // What a name means: a built-in scalar, the type that is the table's definition of a number, or nothing.
 #[derive(Clone, Copy)]
@@ -65,17 +64,12 @@ fn records(t: &[u8], book: &mut [u32]) -> usize
     let mut at = 0;
     let mut i = 0;
     while at < end {
-        let FieldRead::Field {
-            tag,
-            start,
-            end: stop,
-        } = table_fields::read_field(t, at, end)
-        else {
+        let Some(f) = table_fields::read_field(t, at, end) else {
             return i;
         };
-        enter(t, book, i, tag, start, stop);
+        enter(t, book, i, f.tag, f.start, f.end);
         i += 1;
-        at = stop;
+        at = f.end;
     }
     i
 }
@@ -137,14 +131,12 @@ pub fn first_roots(t: &[u8], book: &[u32]) -> usize
     ensures { result ≡ first_at is_roots (table_of t.now) }
 {
     let count = table_book::count_of(book);
-    let mut i = 0;
-    while i < count {
+    for i in 0..count {
         if table_book::kind_of(book, i) == RECORD_ROOTS {
             return i;
         }
-        i += 1;
     }
-    i
+    count
 }
 
 // The number of the type `Query`, the only root where there is no record 8; the count of definitions if there is none.
@@ -200,15 +192,7 @@ pub fn has_member(t: &[u8], start: usize, end: usize, s: &[u8], at: usize, n: us
     requires { Bounds t.now start end × (at + n ≤ length s.now) }
     ensures { result ≡ any_of (member_named (part s.now at n)) (members_in t.now start end) }
 {
-    let FieldFound::Found {
-        tag: _,
-        start: _,
-        end: _,
-    } = table_members::find_member(t, start, end, s, at, n)
-    else {
-        return false;
-    };
-    true
+    table_members::find_member(t, start, end, s, at, n).is_some()
 }
 
 // Entry i's kind; 0 if there is no such entry.

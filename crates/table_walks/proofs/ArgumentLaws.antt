@@ -13,7 +13,8 @@ use Rattle.paper_table.specs.Places.{Place, argument_at}
 use Rattle.paper_table.proofs.ListsLaws.{each_from_nil}
 use Rattle.table_members.specs.Members.{arguments_in, input_from, member_from}
 use Rattle.table_places.specs.Placed.{placed}
-use Rattle.table_places.specs.declared.PlaceRead.TheVariants.{Kept}
+use Prim.{tt}
+use Rattle.std.specs.Prelude.{Ok}
 use Rattle.table_faults.specs.Faults.{argument_fails}
 use Rattle.table_walks.specs.Walks.{arguments_at}
 
@@ -34,7 +35,7 @@ module _ (rule : ℕ) (t : Table) (m : ℕ) (s : List ℕ) (tag start end : ℕ)
       go true = refl
       go false = refl
 
-  pub other_arguments : (tag ≡ tag_field → ⊥) → Kept ≡ placed (head? (arguments_at rule t m (member_from s tag start end)))
+  pub other_arguments : (tag ≡ tag_field → ⊥) → Ok tt ≡ placed (head? (arguments_at rule t m (member_from s tag start end)))
   other_arguments f =
       sym (ap (λ (xs : List Argument). placed (head? (each (argument_faults rule t (member_from s tag start end).arguments m) xs))) (no_arguments f)
       ∙ ap (λ (ps : List Place). placed (head? ps)) (each_from_nil 0 (argument_faults rule t (member_from s tag start end).arguments m)))

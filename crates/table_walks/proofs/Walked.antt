@@ -9,32 +9,30 @@ use Rattle.paper_table.specs.Lists.{each_from, each, only_if}
 use Rattle.paper_table.specs.Places.{Place}
 use Rattle.paper_table.proofs.ListsLaws.{head_right, each_from_nil, each_from_cons}
 use Rattle.table_members.specs.Members.{First}
-use Rattle.table_places.specs.Placed.{placed}
-use Rattle.table_places.specs.declared.PlaceRead.{PlaceRead}
-use Rattle.table_places.specs.declared.PlaceRead.TheVariants.{At, Kept}
+use Rattle.table_places.specs.Placed.{placed, code_place}
+use Prim.{tt}
+use Rattle.std.specs.Prelude.{Ok, Err}
+use Rattle.table_places.specs.declared.Place.{Place as CodePlace}
 
--- Kept is said of no place
-pub kept_none : (o : Option Place) → Kept ≡ placed o → o ≡ none
+-- Ok is said of no place
+pub kept_none : (o : Option Place) → Ok tt ≡ placed o → o ≡ none
 kept_none none e = refl
-kept_none (some q) e = let z : Kept ≡ At q.member q.part q.argument = e in cc
+kept_none (some q) e = let z : Ok tt ≡ Err (code_place q) = e in cc
 
 -- a test's place
-pub only_true : (b : Bool) (q : Place) → b ≡ true → At q.member q.part q.argument ≡ placed (head? (only_if b q))
+pub only_true : (b : Bool) (q : Place) → b ≡ true → Err (code_place q) ≡ placed (head? (only_if b q))
 only_true b q e = rw e refl
 
-pub only_false : (b : Bool) (q : Place) → b ≡ false → Kept ≡ placed (head? (only_if b q))
+pub only_false : (b : Bool) (q : Place) → b ≡ false → Ok tt ≡ placed (head? (only_if b q))
 only_false b q e = rw e refl
 
 -- places of two lists: the first's, or else the second's
-pub placed_left : (xs ys : List Place) (m p a : ℕ) → At m p a ≡ placed (head? xs) → At m p a ≡ placed (head? (xs ++ ys))
-placed_left [] ys m p a e = let z : At m p a ≡ Kept = e in cc
-placed_left (x ∷ xs) ys m p a e = e
+pub placed_left : (xs ys : List Place) (x : CodePlace) → Err x ≡ placed (head? xs) → Err x ≡ placed (head? (xs ++ ys))
+placed_left [] ys x e = let z : Err x ≡ Ok tt = e in cc
+placed_left (q ∷ xs) ys x e = e
 
-pub placed_right : (xs ys : List Place) → Kept ≡ placed (head? xs) → placed (head? (xs ++ ys)) ≡ placed (head? ys)
+pub placed_right : (xs ys : List Place) → Ok tt ≡ placed (head? xs) → placed (head? (xs ++ ys)) ≡ placed (head? ys)
 placed_right xs ys e = ap placed (head_right xs ys (kept_none (head? xs) e))
-
-pub told_left : (xs ys : List Place) (r : PlaceRead) (m p a : ℕ) → r ≡ placed (head? xs) → r ≡ At m p a → r ≡ placed (head? (xs ++ ys))
-told_left xs ys r m p a e f = f ∙ placed_left xs ys m p a (sym f ∙ e)
 
 -- what a walk at i knows, where m were met: what is met first from there on is what is met first of all
 pub record Walking {A : Type 0} (f : ℕ → A → List Place) (at end i m : ℕ) (all left : List A) : Type 0 where
@@ -47,20 +45,17 @@ module _ {A : Type 0} (f : ℕ → A → List Place) where
   walking_start at end all h = record { begun = omega arith; within = h; same = refl }
 
   module _ (at end i m : ℕ) (all left : List A) (w : Walking f at end i m all left) where
-    pub walking_end : left ≡ [] → Kept ≡ placed (head? (each f all))
+    pub walking_end : left ≡ [] → Ok tt ≡ placed (head? (each f all))
     walking_end e = sym (w.same ∙ ap (λ (xs : List A). placed (head? (each_from m f xs))) e ∙ ap (λ (ps : List Place). placed (head? ps)) (each_from_nil m f))
 
     module _ (start stop : ℕ) (one : A) (others : List A) (n : First i end start stop left one others) where
       opened : placed (head? (each f all)) ≡ placed (head? (f m one ++ each_from (suc m) f others))
       opened = w.same ∙ ap (λ (xs : List A). placed (head? (each_from m f xs))) n.all_are ∙ ap (λ (ps : List Place). placed (head? ps)) (each_from_cons m f one others)
 
-      pub walking_here : (k p a : ℕ) → At k p a ≡ placed (head? (f m one)) → At k p a ≡ placed (head? (each f all))
-      walking_here k p a e = placed_left (f m one) (each_from (suc m) f others) k p a e ∙ sym opened
+      pub walking_here : (x : CodePlace) → Err x ≡ placed (head? (f m one)) → Err x ≡ placed (head? (each f all))
+      walking_here x e = placed_left (f m one) (each_from (suc m) f others) x e ∙ sym opened
 
-      pub walking_told : (r : PlaceRead) (k p a : ℕ) → r ≡ placed (head? (f m one)) → r ≡ At k p a → r ≡ placed (head? (each f all))
-      walking_told r k p a e g = g ∙ walking_here k p a (sym g ∙ e)
-
-      pub walking_on : Kept ≡ placed (head? (f m one)) → Walking f at end stop (m + 1) all others
+      pub walking_on : Ok tt ≡ placed (head? (f m one)) → Walking f at end stop (m + 1) all others
       walking_on e = record {
         begun = omega (arith, w.begun, n.lies.begins, n.lies.order);
         within = n.lies.within;

@@ -1,4 +1,5 @@
-// The first member, argument or implemented name of a record that breaks a schema rule; a member's arguments come before itself.
+// The first member, argument or implemented name of a record that breaks a schema rule; a member's arguments come before itself. Err has
+// its place; Ok: there is none.
 // Nothing is asked of the table but its sizes.
 #![tactic(auto)]
 
@@ -13,8 +14,7 @@ ghost use Rattle.table_types.specs.Booked.{Booked};
 ghost use Rattle.table_walks.specs.Walks.{arguments_at, member_and_arguments_at, members_at, implemented_at};
 
 use paper_table::{NO_PLACE, TAG_FIELD};
-use table_members::FieldFound;
-use table_places::PlaceRead;
+use table_places::Place;
 
 // The first argument that breaks the rule, of the member with this tag and content, its number m.
 fn arguments_place(
@@ -25,32 +25,27 @@ fn arguments_place(
     tag: u8,
     start: usize,
     end: usize,
-) -> PlaceRead
+) -> Result<(), Place>
     requires { Booked t.now book.now × Bounds t.now start end }
     ensures { result ≡ placed (head? (arguments_at rule (table_of t.now) m (member_from t.now tag start end))) }
 {
     if tag != TAG_FIELD {
-        return PlaceRead::Kept;
+        return Ok(());
     }
     let mut i = start;
     let mut a = 0;
     loop {
-        let FieldFound::Found {
-            tag: _,
-            start: from,
-            end: stop,
-        } = table_members::next_argument(t, i, end)
-        else {
-            return PlaceRead::Kept;
+        let Some(f) = table_members::next_argument(t, i, end) else {
+            return Ok(());
         };
-        if table_faults::is_argument_broken(t, book, rule, start, end, a, from, stop) {
-            return PlaceRead::At {
+        if table_faults::is_argument_broken(t, book, rule, start, end, a, f.start, f.end) {
+            return Err(Place {
                 member: m,
                 part: NO_PLACE,
                 argument: a,
-            };
+            });
         }
-        i = stop;
+        i = f.end;
         a += 1;
     }
 }
@@ -66,73 +61,69 @@ fn member_place(
     tag: u8,
     start: usize,
     stop: usize,
-) -> PlaceRead
+) -> Result<(), Place>
     requires { Booked t.now book.now × Bounds t.now from end × Bounds t.now start stop }
     ensures { result ≡ placed (head? (member_and_arguments_at rule (table_of t.now) (members_in t.now from end) m (member_from t.now tag start stop))) }
 {
-    let p = arguments_place(t, book, rule, m, tag, start, stop);
-    let PlaceRead::Kept = p else {
-        return p;
-    };
+    arguments_place(t, book, rule, m, tag, start, stop)?;
     if table_faults::is_member_broken(t, book, rule, from, end, m, tag, start, stop) {
-        return PlaceRead::At {
+        return Err(Place {
             member: m,
             part: NO_PLACE,
             argument: NO_PLACE,
-        };
+        });
     }
-    PlaceRead::Kept
+    Ok(())
 }
 
 // The same of a record's members.
-pub fn members_place(t: &[u8], book: &[u32], rule: u32, from: usize, end: usize) -> PlaceRead
+pub fn members_place(
+    t: &[u8],
+    book: &[u32],
+    rule: u32,
+    from: usize,
+    end: usize,
+) -> Result<(), Place>
     requires { Booked t.now book.now × Bounds t.now from end }
     ensures { result ≡ placed (head? (members_at rule (table_of t.now) (members_in t.now from end))) }
 {
     let mut i = from;
     let mut m = 0;
     loop {
-        let FieldFound::Found {
-            tag,
-            start,
-            end: stop,
-        } = table_members::next_member(t, i, end)
-        else {
-            return PlaceRead::Kept;
+        let Some(f) = table_members::next_member(t, i, end) else {
+            return Ok(());
         };
-        let p = member_place(t, book, rule, from, end, m, tag, start, stop);
-        let PlaceRead::Kept = p else {
-            return p;
-        };
-        i = stop;
+        member_place(t, book, rule, from, end, m, f.tag, f.start, f.end)?;
+        i = f.end;
         m += 1;
     }
 }
 
 // The first implemented name that breaks the rule.
-pub fn implemented_place(t: &[u8], book: &[u32], rule: u32, from: usize, end: usize) -> PlaceRead
+pub fn implemented_place(
+    t: &[u8],
+    book: &[u32],
+    rule: u32,
+    from: usize,
+    end: usize,
+) -> Result<(), Place>
     requires { Booked t.now book.now × Bounds t.now from end }
     ensures { result ≡ placed (head? (implemented_at rule (table_of t.now) (implemented_in t.now from end))) }
 {
     let mut i = from;
     let mut m = 0;
     loop {
-        let FieldFound::Found {
-            tag: _,
-            start,
-            end: stop,
-        } = table_members::next_implemented(t, i, end)
-        else {
-            return PlaceRead::Kept;
+        let Some(f) = table_members::next_implemented(t, i, end) else {
+            return Ok(());
         };
-        if table_bases::is_implemented_broken(t, book, rule, from, end, m, start, stop) {
-            return PlaceRead::At {
+        if table_bases::is_implemented_broken(t, book, rule, from, end, m, f.start, f.end) {
+            return Err(Place {
                 member: m,
                 part: NO_PLACE,
                 argument: NO_PLACE,
-            };
+            });
         }
-        i = stop;
+        i = f.end;
         m += 1;
     }
 }

@@ -7,23 +7,23 @@ ghost use Rattle.paper.specs.Language.{Document};
 ghost use Rattle.paper.specs.Calls.{Parsed};
 ghost use Rattle.text_answer.specs.Parsing.{Filled};
 
-use call_buffers::Sizes;
-use paper::{REFUSE_BUFFER, REPORT_SIZE, ROW_SIZE, ROWS_SIZE};
-use text_cursor::Read;
+use paper::{REFUSE_BUFFER, REPORT_SIZE, ROW_SIZE, ROWS_SIZE, Refusal};
+use text_cursor::Cursor;
 
-// Reads a document into rows of the fixed size, and clears what it does not use.
-pub fn parse(s: &[u8], rows: &mut [u32]) -> Read
+// Reads a document into rows of the fixed size, and clears what it does not use: Ok with the cursor past it, which counts the rows, or Err with
+// the refusal.
+pub fn parse(s: &[u8], rows: &mut [u32]) -> Result<Cursor, Refusal>
     requires { (length s.now ≤ most_text) × (length rows.old ≡ rows_size) }
     ensures { Filled Document s.now rows.old rows.new result }
 {
     let r = text_documents::document(s, rows);
     match r {
-        Read::Done(c) => {
+        Ok(c) => {
             let n = c.rows;
             call_buffers::clear(rows, ROW_SIZE * (n as usize));
             r
         }
-        Read::Refused(_) => {
+        Err(_) => {
             call_buffers::clear(rows, 0);
             r
         }
@@ -39,10 +39,10 @@ pub fn answer(document: &[u8], rows: &mut [u32], report: &mut [u32]) -> u32
     }
     let s = call_buffers::sizes_met(rows.len(), document.len(), 0);
     match s {
-        Sizes::Met => {
+        Ok(()) => {
             let r = parse(document, &mut rows[..ROWS_SIZE]);
             call_endings::tell_read(r, report)
         }
-        Sizes::Unmet(why) => call_report::tell_refusal(report, why),
+        Err(why) => call_report::tell_refusal(report, why),
     }
 }

@@ -7,6 +7,7 @@ use mathlib.Core.Logic.{◌⊎◌, inl, inr}
 use Prim.Native.Nat.{ℕ, suc, ◌+◌, ◌-◌, ◌≤◌}
 use native.Mathlib.Omega.{arith}
 use lib.ListN.{length}
+use Rattle.std.specs.Prelude.{Result, Ok, Err}
 use Rattle.paper.specs.Grammar.{nt, tm, act}
 use Rattle.paper.specs.Numbers.{most_text, most_rows}
 use Rattle.paper.specs.Language.{language, the, paren_l, paren_r, colon, named, end, Name, Arguments?, Arguments, Argument+, Argument*, Argument, Value, n_other}
@@ -20,8 +21,6 @@ use Rattle.paper.proofs.Tables.{factored}
 use Rattle.paper.proofs.Going.{Stack, st, Out, halt, go, start_in}
 use Rattle.text_scan.specs.Head.{head_of, kind_of}
 use Rattle.text_cursor.specs.declared.Cursor.{Cursor}
-use Rattle.text_cursor.specs.declared.Read.{Read}
-use Rattle.text_cursor.specs.declared.Read.TheVariants.{Done, Refused}
 use Rattle.text_cursor.specs.Reader.{Looks, moved_to, at, Ready, Went, Halts, Said}
 use Rattle.text_cursor.proofs.Steps.{first, null, refuse, lacks, opening, closing, too_deep, is, not_is, refuses, refuses_end}
 use Rattle.text_cursor.proofs.Cells.{row_opens, name_told}
@@ -117,12 +116,12 @@ module _ (s rows : List ℕ) (c : Cursor) (parent left : ℕ) (a : Ready s rows 
         opens s c a.within a.looks rows c.rows o left q σ e
         ∙ opening s c a.within a.looks rows c.rows o left q (nt Argument+ ∷ tm (the paren_r) ∷ σ) (the paren_l) paren_l e tt tt (left - 1) (omega arith) a.few f
 
-    pub bad_said : (left ≡ 0 → ⊥) → (r : Read) → r ≡ moved_to c.end c.rows (head_of (from s c.end)) → (x : Refusal) → r ≡ Refused x → Halts s rows c parent left arguments_stack x
+    pub bad_said : (left ≡ 0 → ⊥) → (r : Result Cursor Refusal) → r ≡ moved_to c.end c.rows (head_of (from s c.end)) → (x : Refusal) → r ≡ Err x → Halts s rows c parent left arguments_stack x
     bad_said z r m x y σ o q p f =
         opened_at z σ o q f ∙ moved_halts s c.end c.rows r x m y (st rows c.rows o c.end (left - 1) q) (nt Argument+ ∷ tm (the paren_r) ∷ σ)
 
     -- the loop: at each turn an argument is to be read
-    pub turn_first : (left ≡ 0 → ⊥) → (d : Cursor) (r : Read) → r ≡ moved_to c.end c.rows (head_of (from s c.end)) → r ≡ Done d →
+    pub turn_first : (left ≡ 0 → ⊥) → (d : Cursor) (r : Result Cursor Refusal) → r ≡ moved_to c.end c.rows (head_of (from s c.end)) → r ≡ Ok d →
         Passed 0 s rows rows c d parent left (left - 1) shut shut arguments_stack one_more
     turn_first z d r m y =
         let x = next s c d c.rows a.within a.looks r m y in
@@ -146,12 +145,12 @@ module _ (s rows rows₁ : List ℕ) (c d : Cursor) (parent left₀ left : ℕ) 
   turn_ready h p = record { short = h; size = i.size; within = i.within; few = i.few; looks = i.looks; below = p }
 
   -- with the argument read, or refused
-  module _ (rows₂ : List ℕ) (r : Read) (v : Said 1 s rows₁ rows₂ d parent (left - 1) (entry_stack 6 false) r) where
-    pub turn_stops : (x : Refusal) → r ≡ Refused x → Halts s rows c parent left₀ α x
+  module _ (rows₂ : List ℕ) (r : Result Cursor Refusal) (v : Said 1 s rows₁ rows₂ d parent (left - 1) (entry_stack 6 false) r) where
+    pub turn_stops : (x : Refusal) → r ≡ Err x → Halts s rows c parent left₀ α x
     turn_stops x e σ o q p f =
         i.goes σ o q p f ∙ said_halts 1 s rows₁ rows₂ d parent (left - 1) (entry_stack 6 false) r x v e (nt Argument* ∷ tm (the paren_r) ∷ σ) o q p f
 
-    module _ (b : Cursor) (e : r ≡ Done b) where
+    module _ (b : Cursor) (e : r ≡ Ok b) where
       pub turn_read : Went 1 s rows₁ rows₂ d b parent (left - 1) (entry_stack 6 false)
       turn_read = said_went 1 s rows₁ rows₂ d b parent (left - 1) (entry_stack 6 false) r v e
 
@@ -171,7 +170,7 @@ module _ (s rows rows₁ : List ℕ) (c d : Cursor) (parent left₀ left : ℕ) 
           }
 
 -- they end, behind b
-module _ (s rows rows₁ rows₂ : List ℕ) (c d b : Cursor) (parent left : ℕ) (i : Passed 0 s rows rows₁ c d parent left (left - 1) shut shut arguments_stack one_more) (r : Read) (v : Said 1 s rows₁ rows₂ d parent (left - 1) (entry_stack 6 false) r) (e : r ≡ Done b) (z : left ≡ 0 → ⊥) (k : b.kind ≡ kind_of paren_r) where
+module _ (s rows rows₁ rows₂ : List ℕ) (c d b : Cursor) (parent left : ℕ) (i : Passed 0 s rows rows₁ c d parent left (left - 1) shut shut arguments_stack one_more) (r : Result Cursor Refusal) (v : Said 1 s rows₁ rows₂ d parent (left - 1) (entry_stack 6 false) r) (e : r ≡ Ok b) (z : left ≡ 0 → ⊥) (k : b.kind ≡ kind_of paren_r) where
   read : Went 1 s rows₁ rows₂ d b parent (left - 1) (entry_stack 6 false)
   read = said_went 1 s rows₁ rows₂ d b parent (left - 1) (entry_stack 6 false) r v e
 
@@ -182,7 +181,7 @@ module _ (s rows rows₁ rows₂ : List ℕ) (c d b : Cursor) (parent left : ℕ
       ∙ closes_with s b read.within read.looks rows₂ b.rows o (left - 1) q σ k read.few f
       ∙ ap (λ (m : ℕ). go (st rows₂ b.rows o b.end m q) σ (from s b.end)) (omega arith)
 
-  pub turn_ends : (t : Read) → t ≡ moved_to b.end b.rows (head_of (from s b.end)) → Said 0 s rows rows₂ c parent left arguments_stack t
+  pub turn_ends : (t : Result Cursor Refusal) → t ≡ moved_to b.end b.rows (head_of (from s b.end)) → Said 0 s rows rows₂ c parent left arguments_stack t
   turn_ends t m =
       let l = lies s b read.within read.looks in
       moved_said 0 s rows rows₂ c parent left arguments_stack b.end b.rows read.size l.2 read.few (omega (arith, i.on, read.on)) end_at t m

@@ -6,6 +6,7 @@ use mathlib.Core.List.{List, ◌∷◌}
 use Prim.Native.Nat.{ℕ, ◌+◌, ◌-◌}
 use native.Mathlib.Omega.{arith}
 use lib.ListN.{length}
+use Rattle.std.specs.Prelude.{Result, Ok, Err}
 use Rattle.paper.specs.Grammar.{nt, act}
 use Rattle.paper.specs.Numbers.{most_rows}
 use Rattle.paper.specs.Rows.{top}
@@ -18,8 +19,6 @@ use Rattle.paper.proofs.Tables.{factored}
 use Rattle.paper.proofs.Going.{Stack, st, go}
 use Rattle.text_scan.specs.Head.{head_of, kind_of}
 use Rattle.text_cursor.specs.declared.Cursor.{Cursor}
-use Rattle.text_cursor.specs.declared.Read.{Read}
-use Rattle.text_cursor.specs.declared.Read.TheVariants.{Done, Refused}
 use Rattle.text_cursor.specs.Reader.{moved_to, at, Ready, Halts, Said}
 use Rattle.paper.specs.Language.{language, the, any_name, n_on, row, kind, end, Name, NamedType, TypeCondition, n_other}
 use Rattle.text_cursor.proofs.Steps.{first, refuse, too_many_rows, is, not_is, refuses, refuses_end}
@@ -38,12 +37,12 @@ module _ (s rows : List ℕ) (c : Cursor) (parent left : ℕ) (a : Ready s rows 
       word_first s c a.within a.looks e.0 rows c.rows o left q σ TypeCondition (Memᴰ.head refl) is_on (on_is s c e) tt
       ∙ word_taken s c a.within a.looks e.0 rows c.rows o left q (act row ∷ act (kind 9 0) ∷ nt NamedType ∷ act end ∷ σ) (the n_on) is_on (on_is s c e) tt a.few f
 
-  module _ (r : Read) (m : r ≡ moved_to c.end c.rows (head_of (from s c.end))) where
-    pub condition_bad : (x : Refusal) → r ≡ Refused x → Halts s rows c parent left condition_stack x
+  module _ (r : Result Cursor Refusal) (m : r ≡ moved_to c.end c.rows (head_of (from s c.end))) where
+    pub condition_bad : (x : Refusal) → r ≡ Err x → Halts s rows c parent left condition_stack x
     condition_bad x y σ o q p f =
         past_on σ o q f ∙ moved_halts s c.end c.rows r x m y (st rows c.rows o c.end left q) (act row ∷ act (kind 9 0) ∷ nt NamedType ∷ act end ∷ σ)
 
-    module _ (name : Cursor) (y : r ≡ Done name) where
+    module _ (name : Cursor) (y : r ≡ Ok name) where
       pub condition_name : Next s c name c.rows
       condition_name = next s c name c.rows a.within a.looks r m y
 
@@ -93,7 +92,7 @@ module _ (s rows : List ℕ) (c : Cursor) (parent left : ℕ) (a : Ready s rows 
               ∙ ap (λ (v : ℕ). go (st (put rows v 9 name.start name.end parent name.start (name.end - name.start) 0) (v + 1) o name.end left q) σ (from s name.end)) condition_name.rows
               ∙ ap (λ (v : List ℕ). go (st v (c.rows + 1) o name.end left q) σ (from s name.end)) (sym w)
 
-          pub condition_said : (t : Read) → t ≡ moved_to name.end (c.rows + 1) (head_of (from s name.end)) → Said 1 s rows rows₁ c parent left condition_stack t
+          pub condition_said : (t : Result Cursor Refusal) → t ≡ moved_to name.end (c.rows + 1) (head_of (from s name.end)) → Said 1 s rows rows₁ c parent left condition_stack t
           condition_said t m' =
               let b = lies s c a.within a.looks in
               let b' = lies s name condition_name.within condition_name.looks in

@@ -7,6 +7,7 @@ use mathlib.Core.Logic.{◌⊎◌, inl, inr}
 use Prim.Native.Nat.{ℕ, ◌+◌, ◌-◌, ◌*◌, ◌≤◌, ◌<◌}
 use native.Mathlib.Omega.{arith}
 use lib.ListN.{length, set, length-set}
+use Rattle.std.specs.Prelude.{Result, Ok, Err}
 use Rattle.paper.specs.Grammar.{nt, tm, act}
 use Rattle.paper.specs.Numbers.{most_text, most_rows, rows_size}
 use Rattle.paper.specs.Rows.{top}
@@ -19,8 +20,6 @@ use Rattle.paper.proofs.Tables.{factored}
 use Rattle.paper.proofs.Going.{Stack, st, Out, go}
 use Rattle.text_scan.specs.Head.{head_of, kind_of}
 use Rattle.text_cursor.specs.declared.Cursor.{Cursor}
-use Rattle.text_cursor.specs.declared.Read.{Read}
-use Rattle.text_cursor.specs.declared.Read.TheVariants.{Done, Refused}
 use Rattle.text_cursor.specs.Reader.{Looks, moved_to, at, Ready, Went, Halts, Said}
 use Rattle.paper.specs.Language.{language, the, at_sign, named, end, Name, Arguments?, Directives?, Directives, Directive+, Directive*, Directive, n_other, paren_l}
 use Rattle.text_cursor.proofs.Steps.{first, null, plain, too_many_rows, is, not_is}
@@ -61,13 +60,13 @@ module _ (s rows : List ℕ) (c : Cursor) (parent left : ℕ) (a : Ready s rows 
         ∙ plain s c a.within a.looks (put rows c.rows 7 c.start 0 parent 0 0 0) (c.rows + 1) (c.rows ∷ o) left q (act named ∷ nt Name ∷ rest σ) (the at_sign) at_sign e tt tt (omega (arith, directive_room)) f
 
     -- what stands behind the @
-    module _ (r : Read) (m : r ≡ moved_to c.end (c.rows + 1) (head_of (from s c.end))) where
-      pub directive_bad : (x : Refusal) → r ≡ Refused x → Halts s rows c parent left directive_stack x
+    module _ (r : Result Cursor Refusal) (m : r ≡ moved_to c.end (c.rows + 1) (head_of (from s c.end))) where
+      pub directive_bad : (x : Refusal) → r ≡ Err x → Halts s rows c parent left directive_stack x
       directive_bad x y σ o q p f =
           at_sign_is σ o q p f
           ∙ moved_halts s c.end (c.rows + 1) r x m y (st (put rows c.rows 7 c.start 0 parent 0 0 0) (c.rows + 1) (c.rows ∷ o) c.end left q) (act named ∷ nt Name ∷ rest σ)
 
-      module _ (name : Cursor) (y : r ≡ Done name) where
+      module _ (name : Cursor) (y : r ≡ Ok name) where
         pub directive_name : Next s c name (c.rows + 1)
         directive_name = next s c name (c.rows + 1) a.within a.looks r m y
 
@@ -95,12 +94,12 @@ module _ (s rows : List ℕ) (c : Cursor) (parent left : ℕ) (a : Ready s rows 
               ∙ ap (λ (v : List ℕ). go (st v name.rows (c.rows ∷ o) name.end left q) (rest σ) (from s name.end)) (sym w)
               ∙ ap (λ (v : ℕ). go (st rows₁ v (c.rows ∷ o) name.end left q) (rest σ) (from s name.end)) directive_name.rows
 
-          module _ (t : Read) (m' : t ≡ moved_to name.end (c.rows + 1) (head_of (from s name.end))) where
-            pub directive_bad_behind : (x : Refusal) → t ≡ Refused x → Halts s rows c parent left directive_stack x
+          module _ (t : Result Cursor Refusal) (m' : t ≡ moved_to name.end (c.rows + 1) (head_of (from s name.end))) where
+            pub directive_bad_behind : (x : Refusal) → t ≡ Err x → Halts s rows c parent left directive_stack x
             directive_bad_behind x y' σ o q p f =
                 past_name σ o q p f ∙ moved_halts s name.end (c.rows + 1) t x m' y' (st rows₁ (c.rows + 1) (c.rows ∷ o) name.end left q) (rest σ)
 
-            module _ (b : Cursor) (y' : t ≡ Done b) where
+            module _ (b : Cursor) (y' : t ≡ Ok b) where
               behind : Next s name b (c.rows + 1)
               behind = next s name b (c.rows + 1) directive_name.within directive_name.looks t m' y'
 
@@ -119,11 +118,11 @@ module _ (s rows : List ℕ) (c : Cursor) (parent left : ℕ) (a : Ready s rows 
               to_arguments σ o q p f = past_name σ o q p f ∙ next_at s name b (c.rows + 1) behind rows₁ (c.rows ∷ o) left q (rest σ)
 
               -- with its arguments read
-              module _ (rows₂ : List ℕ) (u : Read) (v : Said 0 s rows₁ rows₂ b c.rows left arguments_stack u) where
-                pub directive_stops : (x : Refusal) → u ≡ Refused x → Halts s rows c parent left directive_stack x
+              module _ (rows₂ : List ℕ) (u : Result Cursor Refusal) (v : Said 0 s rows₁ rows₂ b c.rows left arguments_stack u) where
+                pub directive_stops : (x : Refusal) → u ≡ Err x → Halts s rows c parent left directive_stack x
                 directive_stops x i σ o q p f = to_arguments σ o q p f ∙ said_halts 0 s rows₁ rows₂ b c.rows left arguments_stack u x v i (act end ∷ σ) (c.rows ∷ o) q refl f
 
-                module _ (d : Cursor) (i : u ≡ Done d) where
+                module _ (d : Cursor) (i : u ≡ Ok d) where
                   pub directive_read : Went 0 s rows₁ rows₂ b d c.rows left arguments_stack
                   directive_read = said_went 0 s rows₁ rows₂ b d c.rows left arguments_stack u v i
 
@@ -147,7 +146,7 @@ module _ (s rows : List ℕ) (c : Cursor) (parent left : ℕ) (a : Ready s rows 
 
               -- without arguments
               pub directive_bare : (b.kind ≡ kind_of paren_l → ⊥) → (rows₃ : List ℕ) → rows₃ ≡ set rows₁ (7 * c.rows + 2) b.stop → Went 1 s rows rows₃ c b parent left directive_stack
-              directive_bare i = directive_ends rows₁ (Done b) (none_said s rows₁ b c.rows left directive_ready i) b refl
+              directive_bare i = directive_ends rows₁ (Ok b) (none_said s rows₁ b c.rows left directive_ready i) b refl
 
 -- DIRECTIVES, OR NONE
 module _ (s : List ℕ) (c : Cursor) (h : c.stop ≤ length s) (l : Looks s c) (cells : List ℕ) (n : ℕ) (o : List ℕ) (left : ℕ) (q : Counts) where
@@ -197,14 +196,14 @@ module _ (s rows rows₁ : List ℕ) (c d : Cursor) (parent left : ℕ) (i : Pas
         goes = λ σ o q p f. i.goes σ o q p f ∙ no_more s d i.within i.looks rows₁ d.rows o left q σ e;
       }
 
-  module _ (e : d.kind ≡ kind_of at_sign) (rows₂ : List ℕ) (r : Read) (v : Said 1 s rows₁ rows₂ d parent left directive_stack r) where
+  module _ (e : d.kind ≡ kind_of at_sign) (rows₂ : List ℕ) (r : Result Cursor Refusal) (v : Said 1 s rows₁ rows₂ d parent left directive_stack r) where
     to_directive : (σ : Stack) (o : List ℕ) (q : Counts) → top o ≡ parent → over_counts q ≡ false → at s rows c o left q (nt Directives? ∷ σ) ≡ at s rows₁ d o left q (nt Directive ∷ nt Directive* ∷ σ)
     to_directive σ o q p f = i.goes σ o q p f ∙ one_more s d i.within i.looks rows₁ d.rows o left q σ e
 
-    pub turn_stops : (x : Refusal) → r ≡ Refused x → Halts s rows c parent left directives_stack x
+    pub turn_stops : (x : Refusal) → r ≡ Err x → Halts s rows c parent left directives_stack x
     turn_stops x y σ o q p f = to_directive σ o q p f ∙ said_halts 1 s rows₁ rows₂ d parent left directive_stack r x v y (nt Directive* ∷ σ) o q p f
 
-    module _ (next' : Cursor) (y : r ≡ Done next') where
+    module _ (next' : Cursor) (y : r ≡ Ok next') where
       pub turn_read : Went 1 s rows₁ rows₂ d next' parent left directive_stack
       turn_read = said_went 1 s rows₁ rows₂ d next' parent left directive_stack r v y
 

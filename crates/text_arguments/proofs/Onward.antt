@@ -9,6 +9,7 @@ use native.Mathlib.Omega.{arith}
 use lib.Dec.{eqb}
 use borrow.Author.Tests.{eqb-true, eqb-false}
 use lib.ListN.{length}
+use Rattle.std.specs.Prelude.{Result, Ok, Err}
 use Rattle.paper.specs.Grammar.{nt, act}
 use Rattle.paper.specs.Numbers.{most_text, most_rows, rows_size}
 use Rattle.paper.specs.Language.{Class, any_name, Name, language, row, kind, named, n_other}
@@ -23,8 +24,6 @@ use Rattle.paper.proofs.Going.{Stack, st, halt, go, stop_in}
 use Rattle.text_scan.specs.Head.{head_of, kind_of}
 use Rattle.text_tokens.proofs.KindLaws.{kind_some}
 use Rattle.text_cursor.specs.declared.Cursor.{Cursor}
-use Rattle.text_cursor.specs.declared.Read.{Read}
-use Rattle.text_cursor.specs.declared.Read.TheVariants.{Done, Refused}
 use Rattle.text_cursor.specs.Reader.{Looks, moved_to, at, Ready, Went, Halts, Said}
 use Rattle.text_leaves.proofs.MovedLaws.{start_in_is, stop_in_is, moved_done}
 use Rattle.text_arguments.specs.Passed.{Passed, Passes, shut}
@@ -51,7 +50,7 @@ has_bytes s c h l x e = go' (front s c h l)
     go' (a_token k d f i j m) = j
     go' (the_end d f i j) = let w : ⊥ = omega (arith, kind_some x) in absurd w
 
-pub next : (s : List ℕ) (c d : Cursor) (m : ℕ) → c.stop ≤ length s → Looks s c → (r : Read) → r ≡ moved_to c.end m (head_of (from s c.end)) → r ≡ Done d → Next s c d m
+pub next : (s : List ℕ) (c d : Cursor) (m : ℕ) → c.stop ≤ length s → Looks s c → (r : Result Cursor Refusal) → r ≡ moved_to c.end m (head_of (from s c.end)) → r ≡ Ok d → Next s c d m
 next s c d m h l r q e =
     let z = moved_done s c.end m r d q e in
     let b = lies s c h l in
@@ -80,11 +79,11 @@ same x y = by_test (eqb x y) refl
     by_test false e = inr (eqb-false x y e)
 
 -- what a reader said, where its answer is known
-pub said_went : (gain : ℕ) (s rows rows' : List ℕ) (c d : Cursor) (parent left : ℕ) (α : Stack) (r : Read) → Said gain s rows rows' c parent left α r → r ≡ Done d → Went gain s rows rows' c d parent left α
-said_went gain s rows rows' c d parent left α r v e = subst (λ (x : Read). Said gain s rows rows' c parent left α x) e v
+pub said_went : (gain : ℕ) (s rows rows' : List ℕ) (c d : Cursor) (parent left : ℕ) (α : Stack) (r : Result Cursor Refusal) → Said gain s rows rows' c parent left α r → r ≡ Ok d → Went gain s rows rows' c d parent left α
+said_went gain s rows rows' c d parent left α r v e = subst (λ (x : Result Cursor Refusal). Said gain s rows rows' c parent left α x) e v
 
-pub said_halts : (gain : ℕ) (s rows rows' : List ℕ) (c : Cursor) (parent left : ℕ) (α : Stack) (r : Read) (x : Refusal) → Said gain s rows rows' c parent left α r → r ≡ Refused x → Halts s rows c parent left α x
-said_halts gain s rows rows' c parent left α r x v e = subst (λ (y : Read). Said gain s rows rows' c parent left α y) e v
+pub said_halts : (gain : ℕ) (s rows rows' : List ℕ) (c : Cursor) (parent left : ℕ) (α : Stack) (r : Result Cursor Refusal) (x : Refusal) → Said gain s rows rows' c parent left α r → r ≡ Err x → Halts s rows c parent left α x
+said_halts gain s rows rows' c parent left α r x v e = subst (λ (y : Result Cursor Refusal). Said gain s rows rows' c parent left α y) e v
 
 -- a row begins at the token looked at
 pub opened_row : (s : List ℕ) (c : Cursor) → Looks s c → (cells : List ℕ) (n : ℕ) (o : List ℕ) (parent left : ℕ) (q : Counts) (σ : Stack) (k x : ℕ) → top o ≡ parent →
@@ -129,9 +128,9 @@ pub went_past : (gain : ℕ) (s rows rows' : List ℕ) (c d : Cursor) (parent le
 went_past gain s rows rows' c d parent left α w = (lies s d w.within w.looks).2
 
 -- the same of a reader that begins or stops in the middle of a production
-module _ (gain : ℕ) (s rows rows' : List ℕ) (c : Cursor) (parent left : ℕ) (f g : List ℕ → List ℕ) (α β : Stack) (r : Read) (v : Passes gain s rows rows' c parent left f g α β r) where
-  pub passes_went : (d : Cursor) → r ≡ Done d → Passed gain s rows rows' c d parent left left f g α β
-  passes_went d e = subst (λ (x : Read). Passes gain s rows rows' c parent left f g α β x) e v
+module _ (gain : ℕ) (s rows rows' : List ℕ) (c : Cursor) (parent left : ℕ) (f g : List ℕ → List ℕ) (α β : Stack) (r : Result Cursor Refusal) (v : Passes gain s rows rows' c parent left f g α β r) where
+  pub passes_went : (d : Cursor) → r ≡ Ok d → Passed gain s rows rows' c d parent left left f g α β
+  passes_went d e = subst (λ (x : Result Cursor Refusal). Passes gain s rows rows' c parent left f g α β x) e v
 
-  pub passes_halts : (x : Refusal) → r ≡ Refused x → (σ : Stack) (o : List ℕ) (q : Counts) → top (f o) ≡ parent → over_counts q ≡ false → at s rows c (f o) left q (α ++ σ) ≡ halt x
-  passes_halts x e = subst (λ (y : Read). Passes gain s rows rows' c parent left f g α β y) e v
+  pub passes_halts : (x : Refusal) → r ≡ Err x → (σ : Stack) (o : List ℕ) (q : Counts) → top (f o) ≡ parent → over_counts q ≡ false → at s rows c (f o) left q (α ++ σ) ≡ halt x
+  passes_halts x e = subst (λ (y : Result Cursor Refusal). Passes gain s rows rows' c parent left f g α β y) e v

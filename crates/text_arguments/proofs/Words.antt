@@ -20,8 +20,8 @@ use Rattle.paper_theory.proofs.Test.{all, implies, implies_out, all_at}
 use Rattle.paper.proofs.Tables.{graphql, factored, all_c, at_c}
 use Rattle.paper_theory.proofs.Checked.{fits}
 use Rattle.paper.proofs.Going.{Stack, State, st, Out, go, goes}
-use Rattle.text_scan.specs.Head.{head_of, kind_of, word_of, word_number}
-use Rattle.text_scan.specs.declared.TokenRead.TheVariants.{Token}
+use Rattle.text_scan.specs.Head.{head_of, kind_of, word_of, word_number, token_read}
+use Rattle.text_scan.proofs.TokenLaws.{token_parts}
 use Rattle.text_cursor.specs.declared.Cursor.{Cursor}
 use Rattle.text_cursor.specs.Reader.{Looks}
 use Rattle.text_cursor.proofs.Steps.{token_of, is}
@@ -38,9 +38,9 @@ by_word f g h k x w e d t =
 at_name : (s : List ℕ) (c : Cursor) → c.stop ≤ length s → Looks s c → c.kind ≡ kind_of n_other →
     (kind_of (name_class (bytes_at s c)) ≡ 1) × (from s c.stop ≡ token (token_of (name_class (bytes_at s c)) c.start c.end) (from s c.end))
 at_name s c h l e =
-    let f : from s c.stop ≡ token (token_of (name_class (bytes_at s c)) c.start c.end) (from s c.end) = head_name s c.stop c.start c.end h (l ∙ ap (λ (k : ℕ). Token k c.start c.end) e) in
-    let q : Token (kind_of (name_class (bytes_at s c))) c.start c.end ≡ Token c.kind c.start c.end = ap head_of (sym f) ∙ l in
-    ((cc), f)
+    let f : from s c.stop ≡ token (token_of (name_class (bytes_at s c)) c.start c.end) (from s c.end) = head_name s c.stop c.start c.end h (l ∙ ap (λ (k : ℕ). token_read k c.start c.end) e) in
+    let q : token_read (kind_of (name_class (bytes_at s c))) c.start c.end ≡ token_read c.kind c.start c.end = ap head_of (sym f) ∙ l in
+    ((token_parts _ _ _ _ q).0 ∙ e, f)
 
 class_first : (S : State) (σ : Stack) (p : Part) {α : Stack} (k : Class) (a e : ℕ) (t : Text) → Memᴰ α (factored p) → T (fst graphql α k) →
     go S (nt p ∷ σ) (token (token_of k a e) t) ≡ go S (α ++ σ) (token (token_of k a e) t)

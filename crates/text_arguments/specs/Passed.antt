@@ -1,12 +1,11 @@
 -- A reader that begins or stops in the middle of a production: an equation of the machine `go`, for every stack behind.
-use Rattle.std.specs.Prelude.{◌≡◌, false, List, ◌∷◌, ◌++◌, ℕ, ◌+◌, ◌≤◌, length}
+use Rattle.std.specs.Prelude.{◌≡◌, false, List, ◌∷◌, ◌++◌, ℕ, ◌+◌, ◌≤◌, length, Result, Ok, Err}
 use Rattle.paper.specs.Numbers.{most_rows, rows_size}
 use Rattle.paper.specs.Rows.{top}
 use Rattle.paper.specs.Sizes.{Counts, over_counts}
+use Rattle.paper.specs.declared.Refusal.{Refusal}
 use Rattle.paper.proofs.Going.{Stack, halt}
 use Rattle.text_cursor.specs.declared.Cursor.{Cursor}
-use Rattle.text_cursor.specs.declared.Read.{Read}
-use Rattle.text_cursor.specs.declared.Read.TheVariants.{Done, Refused}
 use Rattle.text_cursor.specs.Reader.{Looks, at}
 
 -- the open rows, of which row n is the innermost, or not open
@@ -25,6 +24,6 @@ pub record Passed (gain : ℕ) (s rows rows' : List ℕ) (c d : Cursor) (parent 
   pub on : gain + c.stop ≤ d.stop
   pub goes : (σ : Stack) (o : List ℕ) (q : Counts) → top (f o) ≡ parent → over_counts q ≡ false → at s rows c (f o) left q (α ++ σ) ≡ at s rows' d (g o) left' q (β ++ σ)
 
-abbrev pub Passes : ℕ → List ℕ → List ℕ → List ℕ → Cursor → ℕ → ℕ → (List ℕ → List ℕ) → (List ℕ → List ℕ) → Stack → Stack → Read → Type 0
-Passes gain s rows rows' c parent left f g α β (Done d) = Passed gain s rows rows' c d parent left left f g α β
-Passes gain s rows rows' c parent left f g α β (Refused r) = (σ : Stack) (o : List ℕ) (q : Counts) → top (f o) ≡ parent → over_counts q ≡ false → at s rows c (f o) left q (α ++ σ) ≡ halt r
+abbrev pub Passes : ℕ → List ℕ → List ℕ → List ℕ → Cursor → ℕ → ℕ → (List ℕ → List ℕ) → (List ℕ → List ℕ) → Stack → Stack → Result Cursor Refusal → Type 0
+Passes gain s rows rows' c parent left f g α β (Ok d) = Passed gain s rows rows' c d parent left left f g α β
+Passes gain s rows rows' c parent left f g α β (Err r) = (σ : Stack) (o : List ℕ) (q : Counts) → top (f o) ≡ parent → over_counts q ≡ false → at s rows c (f o) left q (α ++ σ) ≡ halt r

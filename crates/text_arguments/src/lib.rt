@@ -1,4 +1,4 @@
-// Reads arguments, directives and type conditions, and writes their rows.
+// Reads arguments, directives and type conditions, and writes their rows. Each answers Ok with the cursor past what it read, or Err with the refusal.
 #![tactic(auto)]
 
 ghost use Rattle.std.specs.Prelude.{◌≡◌};
@@ -8,29 +8,28 @@ ghost use Rattle.text_cursor.specs.Reader.{Ready, Said};
 ghost use Rattle.text_arguments.specs.Arguments.{AtOn, arguments_stack, directive_stack, directives_stack, condition_stack};
 
 use paper::{KIND_ARGUMENT, KIND_DIRECTIVE, KIND_TYPE_REFERENCE, MOST_ROWS, Refusal};
-use text_cursor::{Cursor, Read, no_going, put_end, put_row};
+use text_cursor::{Cursor, no_going, put_end, put_row};
 use text_scan::{TOKEN_AT, TOKEN_NAME, TOKEN_PAREN_CLOSE, TOKEN_PAREN_OPEN};
 use text_values::entry;
 
 // Arguments, at their (
-pub fn arguments(s: &[u8], rows: &mut [u32], c: Cursor, parent: u32, left: u32) -> Read
+pub fn arguments(
+    s: &[u8],
+    rows: &mut [u32],
+    c: Cursor,
+    parent: u32,
+    left: u32,
+) -> Result<Cursor, Refusal>
     requires { Ready s.now rows.old c parent × (c.kind ≡ kind_of paren_l) }
     ensures { Said 0 s.now rows.old rows.new c parent left arguments_stack result }
 {
     if left == 0 {
-        return Read::Refused(Refusal::TooDeep(c.start));
+        return Err(Refusal::TooDeep(c.start));
     }
     let n = c.rows;
-    let r = c.past(s, n);
-    let Read::Done(first) = r else {
-        return r;
-    };
-    let mut d = first;
+    let mut d = c.past(s, n)?;
     loop {
-        let t = entry(s, rows, d, parent, left - 1, KIND_ARGUMENT, false);
-        let Read::Done(next) = t else {
-            return t;
-        };
+        let next = entry(s, rows, d, parent, left - 1, KIND_ARGUMENT, false)?;
         if next.kind == TOKEN_PAREN_CLOSE {
             let m = next.rows;
             return next.past(s, m);
@@ -40,18 +39,21 @@ pub fn arguments(s: &[u8], rows: &mut [u32], c: Cursor, parent: u32, left: u32) 
 }
 
 // Directive, at its @
-fn directive(s: &[u8], rows: &mut [u32], c: Cursor, parent: u32, left: u32) -> Read
+fn directive(
+    s: &[u8],
+    rows: &mut [u32],
+    c: Cursor,
+    parent: u32,
+    left: u32,
+) -> Result<Cursor, Refusal>
     requires { Ready s.now rows.old c parent × (c.kind ≡ kind_of at_sign) }
     ensures { Said 1 s.now rows.old rows.new c parent left directive_stack result }
 {
     let n = c.rows;
     if n == MOST_ROWS {
-        return Read::Refused(Refusal::TooManyRows(c.start));
+        return Err(Refusal::TooManyRows(c.start));
     }
-    let r = c.past(s, n + 1);
-    let Read::Done(name) = r else {
-        return r;
-    };
+    let name = c.past(s, n + 1)?;
     if name.kind != TOKEN_NAME {
         return no_going(name);
     }
@@ -66,55 +68,55 @@ fn directive(s: &[u8], rows: &mut [u32], c: Cursor, parent: u32, left: u32) -> R
         name.end - name.start,
         0,
     );
-    let t = name.past(s, n + 1);
-    let Read::Done(first) = t else {
-        return t;
-    };
+    let first = name.past(s, n + 1)?;
     if first.kind != TOKEN_PAREN_OPEN {
         put_end(rows, n, first.stop);
-        return t;
+        return Ok(first);
     }
-    let u = arguments(s, rows, first, n, left);
-    let Read::Done(d) = u else {
-        return u;
-    };
+    let d = arguments(s, rows, first, n, left)?;
     put_end(rows, n, d.stop);
-    u
+    Ok(d)
 }
 
 // Directives, at their first @
-pub fn directives(s: &[u8], rows: &mut [u32], c: Cursor, parent: u32, left: u32) -> Read
+pub fn directives(
+    s: &[u8],
+    rows: &mut [u32],
+    c: Cursor,
+    parent: u32,
+    left: u32,
+) -> Result<Cursor, Refusal>
     requires { Ready s.now rows.old c parent × (c.kind ≡ kind_of at_sign) }
     ensures { Said 0 s.now rows.old rows.new c parent left directives_stack result }
 {
     let mut d = c;
     loop {
-        let r = directive(s, rows, d, parent, left);
-        let Read::Done(next) = r else {
-            return r;
-        };
+        let next = directive(s, rows, d, parent, left)?;
         if next.kind != TOKEN_AT {
-            return r;
+            return Ok(next);
         }
         d = next;
     }
 }
 
 // TypeCondition, at its `on`
-pub fn condition(s: &[u8], rows: &mut [u32], c: Cursor, parent: u32, left: u32) -> Read
+pub fn condition(
+    s: &[u8],
+    rows: &mut [u32],
+    c: Cursor,
+    parent: u32,
+    left: u32,
+) -> Result<Cursor, Refusal>
     requires { Ready s.now rows.old c parent × AtOn s.now c }
     ensures { Said 1 s.now rows.old rows.new c parent left condition_stack result }
 {
     let n = c.rows;
-    let r = c.past(s, n);
-    let Read::Done(name) = r else {
-        return r;
-    };
+    let name = c.past(s, n)?;
     if name.kind != TOKEN_NAME {
         return no_going(name);
     }
     if n == MOST_ROWS {
-        return Read::Refused(Refusal::TooManyRows(name.start));
+        return Err(Refusal::TooManyRows(name.start));
     }
     put_row(
         rows,

@@ -1,3 +1,4 @@
 pub mod ReaderLaws
 pub mod Steps
 pub mod Cells
+pub mod Exits

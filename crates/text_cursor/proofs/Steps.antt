@@ -9,6 +9,7 @@ use native.Mathlib.Omega.{arith}
 use lib.Dec.{T, eqb, ltb}
 use lib.ListN.{length}
 use borrow.Author.Tests.{eq-eqb, ne_eqb, le-ltb, lt-ltb}
+use Rattle.std.specs.Prelude.{Err}
 use Rattle.paper.specs.Grammar.{nt, tm}
 use Rattle.paper.specs.Numbers.{most_rows}
 use Rattle.paper.specs.Language.{Class, Terminal, hits, Part}
@@ -25,8 +26,8 @@ use Rattle.paper.proofs.Tables.{graphql, factored, all_c, at_c}
 use Rattle.paper.specs.Language.{num_c}
 use Rattle.paper_theory.proofs.Checked.{fits}
 use Rattle.paper.proofs.Going.{Stack, State, st, Out, halt, go, goes, heed, deep, many, marked}
-use Rattle.text_scan.specs.Head.{head_of, kind_of}
-use Rattle.text_scan.specs.declared.TokenRead.TheVariants.{Token, Bad}
+use Rattle.text_scan.specs.Head.{head_of, kind_of, token_read}
+use Rattle.text_scan.proofs.TokenLaws.{token_parts}
 use Rattle.text_tokens.proofs.KindLaws.{kind_some}
 use Rattle.text_cursor.specs.declared.Cursor.{Cursor}
 use Rattle.text_cursor.specs.Reader.{Looks}
@@ -62,14 +63,15 @@ pub front : (s : List ℕ) (c : Cursor) → c.stop ≤ length s → Looks s c �
 front s c h l = go' (from s c.stop) refl
   where
     go' : (t : Text) → from s c.stop ≡ t → Front s c
-    go' (at_end n) e = let q : Token 0 n n ≡ Token c.kind c.start c.end = ap head_of (sym e) ∙ l in let z = from_over s c.stop n h e in the_end (cc) (e ∙ ap at_end (cc)) (cc) (cc)
-    go' (bad n) e = let q : Bad n ≡ Token c.kind c.start c.end = ap head_of (sym e) ∙ l in let z : ◌≡◌ {A = ℕ} 0 1 = cc in let w : ⊥ = omega arith in absurd w
+    go' (at_end n) e = let q : token_read 0 n n ≡ token_read c.kind c.start c.end = ap head_of (sym e) ∙ l in let u = token_parts _ _ _ _ q in let z = from_over s c.stop n h e in the_end (sym u.0) (e ∙ ap at_end u.1) (cc) (sym u.2 ∙ u.1)
+    go' (bad n) e = let q : Err n ≡ token_read c.kind c.start c.end = ap head_of (sym e) ∙ l in let z : ◌≡◌ {A = ℕ} 0 1 = cc in let w : ⊥ = omega arith in absurd w
     go' (token k t) e =
-        let q : Token (kind_of k.class) k.start k.stop ≡ Token c.kind c.start c.end = ap head_of (sym e) ∙ l in
-        let b : k.start ≡ c.start = cc in
-        let d : k.stop ≡ c.end = cc in
+        let q : token_read (kind_of k.class) k.start k.stop ≡ token_read c.kind c.start c.end = ap head_of (sym e) ∙ l in
+        let u = token_parts _ _ _ _ q in
+        let b : k.start ≡ c.start = u.1 in
+        let d : k.stop ≡ c.end = u.2 in
         let z = from_token s c.stop k t h e in
-        a_token k.class (cc)
+        a_token k.class u.0
         (e ∙ ap (λ (u : Text). token k u) z.3 ∙ ap (λ (v : ℕ). token k (from s v)) d ∙ ap (λ (v : ℕ). token (token_of k.class v k.stop) (from s c.end)) b ∙ ap (λ (v : ℕ). token (token_of k.class c.start v) (from s c.end)) d)
         (omega (arith, z.0)) (omega (arith, z.1)) (omega (arith, z.2))
 

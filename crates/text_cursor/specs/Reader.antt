@@ -1,5 +1,5 @@
 -- What a reader asks and answers: an equation of the machine `go`, for every stack behind what it reads.
-use Rattle.std.specs.Prelude.{◌≡◌, false, List, ◌++◌, ℕ, ◌+◌, ◌≤◌, length}
+use Rattle.std.specs.Prelude.{◌≡◌, false, List, ◌++◌, ℕ, ◌+◌, ◌≤◌, length, Result, Ok, Err}
 use Rattle.paper.specs.Numbers.{most_text, most_rows, rows_size}
 use Rattle.paper.specs.Rows.{top}
 use Rattle.paper.specs.Sizes.{Counts, over_counts}
@@ -7,16 +7,13 @@ use Rattle.paper.specs.declared.Refusal.{Refusal}
 use Rattle.paper.specs.declared.Refusal.TheVariants.{NoToken, NoGoing}
 use Rattle.paper.proofs.Lexing.{from}
 use Rattle.paper.proofs.Going.{Stack, st, Out, halt, go}
-use Rattle.text_scan.specs.Head.{head_of}
-use Rattle.text_scan.specs.declared.TokenRead.{TokenRead}
-use Rattle.text_scan.specs.declared.TokenRead.TheVariants.{Token, Bad}
+use Rattle.text_scan.specs.Head.{head_of, token_read}
+use Rattle.text_scan.specs.declared.Token.{Token}
 use Rattle.text_cursor.specs.declared.Cursor.{Cursor}
-use Rattle.text_cursor.specs.declared.Read.{Read}
-use Rattle.text_cursor.specs.declared.Read.TheVariants.{Done, Refused}
 
 -- the cursor looks at the first token from its `stop` on
 abbrev pub Looks : List ℕ → Cursor → Type 0
-Looks s c = head_of (from s c.stop) ≡ Token c.kind c.start c.end
+Looks s c = head_of (from s c.stop) ≡ token_read c.kind c.start c.end
 
 -- what a reader asks: a text and rows of their sizes, a cursor that looks at its token, and a parent's number
 pub record Ready (s rows : List ℕ) (c : Cursor) (parent : ℕ) : Type 0 where
@@ -28,21 +25,21 @@ pub record Ready (s rows : List ℕ) (c : Cursor) (parent : ℕ) : Type 0 where
   pub below : parent ≤ most_rows
 
 -- a token's places are those of a text
-abbrev pub Within : TokenRead → Type 0
-Within (Token k a e) = a ≤ most_text
-Within (Bad o) = o ≤ most_text
+abbrev pub Within : Result Token ℕ → Type 0
+Within (Ok t) = t.start ≤ most_text
+Within (Err o) = o ≤ most_text
 
-abbrev pub located_of : TokenRead → Read
-located_of (Token k a e) = Refused (NoGoing a)
-located_of (Bad o) = Refused (NoToken o)
+abbrev pub located_of : Result Token ℕ → Result Cursor Refusal
+located_of (Ok t) = Err (NoGoing t.start)
+located_of (Err o) = Err (NoToken o)
 
-abbrev pub no_going_of : Cursor → Read
-no_going_of c = Refused (NoGoing c.start)
+abbrev pub no_going_of : Cursor → Result Cursor Refusal
+no_going_of c = Err (NoGoing c.start)
 
 -- the cursor that looks at the first token from `stop` on
-abbrev pub moved_to : ℕ → ℕ → TokenRead → Read
-moved_to stop rows (Token k a e) = Done (record { kind = k; start = a; end = e; stop = stop; rows = rows })
-moved_to stop rows (Bad o) = Refused (NoToken o)
+abbrev pub moved_to : ℕ → ℕ → Result Token ℕ → Result Cursor Refusal
+moved_to stop rows (Ok t) = Ok (record { kind = t.kind; start = t.start; end = t.end; stop = stop; rows = rows })
+moved_to stop rows (Err o) = Err (NoToken o)
 
 -- where the machine is: at the cursor, with these rows, open rows, levels and counts, and this stack
 abbrev pub at : List ℕ → List ℕ → Cursor → List ℕ → ℕ → Counts → Stack → Out
@@ -61,6 +58,6 @@ pub record Went (gain : ℕ) (s rows rows' : List ℕ) (c d : Cursor) (parent le
 abbrev pub Halts : List ℕ → List ℕ → Cursor → ℕ → ℕ → Stack → Refusal → Type 0
 Halts s rows c parent left α r = (σ : Stack) (o : List ℕ) (q : Counts) → top o ≡ parent → over_counts q ≡ false → at s rows c o left q (α ++ σ) ≡ halt r
 
-abbrev pub Said : ℕ → List ℕ → List ℕ → List ℕ → Cursor → ℕ → ℕ → Stack → Read → Type 0
-Said gain s rows rows' c parent left α (Done d) = Went gain s rows rows' c d parent left α
-Said gain s rows rows' c parent left α (Refused r) = Halts s rows c parent left α r
+abbrev pub Said : ℕ → List ℕ → List ℕ → List ℕ → Cursor → ℕ → ℕ → Stack → Result Cursor Refusal → Type 0
+Said gain s rows rows' c parent left α (Ok d) = Went gain s rows rows' c d parent left α
+Said gain s rows rows' c parent left α (Err r) = Halts s rows c parent left α r

@@ -1,4 +1,5 @@
-// What every reader shares: the cursor, the answer, and the rows in the lent numbers.
+// What every reader shares: the cursor, and the rows in the lent numbers. A reader answers Ok with the cursor past what it read, or Err with
+// the refusal.
 #![tactic(auto)]
 
 ghost use Rattle.std.specs.Prelude.{◌≡◌, [], ◌∷◌, ◌+◌, ◌*◌, ◌≤◌, ◌<◌, length, set};
@@ -9,7 +10,7 @@ ghost use Rattle.text_scan.specs.Head.{head_of};
 ghost use Rattle.text_cursor.specs.Reader.{Within, located_of, moved_to, no_going_of};
 
 use paper::{ROW_SIZE, Refusal};
-use text_scan::TokenRead;
+use text_scan::Token;
 
 // The token looked at, where the last one taken ended, and how many rows there are.
 #[derive(Clone, Copy)]
@@ -21,54 +22,43 @@ pub struct Cursor {
     pub rows: u32,
 }
 
-// What a reader answers: the cursor past what it read, or why it refuses.
-#[derive(Clone, Copy)]
-pub enum Read {
-    Done(Cursor),
-    Refused(Refusal),
-}
-
-// The refusal of a token with which nothing goes on, or of bytes that are none.
-pub fn located(t: TokenRead) -> Read
+// Err with the refusal of a token with which nothing goes on, or of bytes that are none; never Ok.
+pub fn located(t: Result<Token, usize>) -> Result<Cursor, Refusal>
     requires { Within t }
     ensures { result ≡ located_of t }
 {
     match t {
-        TokenRead::Token {
-            kind: _,
-            start,
-            end: _,
-        } => Read::Refused(Refusal::NoGoing(start as u32)),
-        TokenRead::Bad(at) => Read::Refused(Refusal::NoToken(at as u32)),
+        Ok(token) => Err(Refusal::NoGoing(token.start as u32)),
+        Err(at) => Err(Refusal::NoToken(at as u32)),
     }
 }
 
 impl Cursor {
-    // The cursor past its token, at the next one, with `rows` rows.
-    pub fn past(self, s: &[u8], rows: u32) -> Read
+    // Ok with the cursor past its token, at the next one, with `rows` rows; or Err where bytes start none.
+    pub fn past(self, s: &[u8], rows: u32) -> Result<Cursor, Refusal>
         requires { (length s.now ≤ most_text) × (self.end ≤ length s.now) }
         ensures { result ≡ moved_to self.end rows (head_of (from s.now self.end)) }
     {
         let stop = self.end;
         let t = text_tokens::next(s, stop as usize);
-        let TokenRead::Token { kind, start, end } = t else {
+        let Ok(token) = t else {
             return located(t);
         };
-        Read::Done(Cursor {
-            kind: kind,
-            start: start as u32,
-            end: end as u32,
+        Ok(Cursor {
+            kind: token.kind,
+            start: token.start as u32,
+            end: token.end as u32,
             stop: stop,
             rows: rows,
         })
     }
 }
 
-// No text goes on with the token looked at.
-pub fn no_going(c: Cursor) -> Read
+// Err: no text goes on with the token looked at; never Ok.
+pub fn no_going(c: Cursor) -> Result<Cursor, Refusal>
     ensures { result ≡ no_going_of c }
 {
-    Read::Refused(Refusal::NoGoing(c.start))
+    Err(Refusal::NoGoing(c.start))
 }
 
 // Writes row n.

@@ -6,10 +6,12 @@ use Prim.Native.Nat.{ℕ, suc, ◌+◌, ◌≤◌}
 use native.Mathlib.Omega.{arith}
 use lib.Dec.{eqb}
 use borrow.Author.Tests.{eqb-false, eq-eqb, ne_eqb}
+use Rattle.std.specs.Prelude.{Result, Ok, Err}
 use Rattle.paper.specs.Numbers.{most_levels, no_parent}
 use Rattle.paper.specs.Language.{language, Definition, brace_l}
 use Rattle.paper.specs.Sizes.{Counts}
 use Rattle.paper.specs.declared.Refusal.TheVariants.{NoGoing}
+use Rattle.paper.specs.declared.Refusal.{Refusal}
 use Rattle.paper.proofs.Lexing.{from}
 use Rattle.paper.proofs.Machine.{choose}
 use Rattle.paper.proofs.Tables.{factored}
@@ -17,8 +19,6 @@ use Rattle.paper.proofs.Going.{Stack, st, halt}
 use Rattle.text_scan.specs.Head.{kind_of}
 use Rattle.text_cursor.specs.Reader.{Ready, at, no_going_of}
 use Rattle.text_cursor.specs.declared.Cursor.{Cursor}
-use Rattle.text_cursor.specs.declared.Read.{Read}
-use Rattle.text_cursor.specs.declared.Read.TheVariants.{Done, Refused}
 use Rattle.text_cursor.proofs.Steps.{is, refuse, refuses, refuses_end}
 use Rattle.text_variables.specs.Counted.{CountedSaid, stays, any_counts, fragments_are, same_fragments, fragments_become}
 use Rattle.text_documents.specs.Words.{word_at, fragments_after, AtType, AtFragment}
@@ -50,20 +50,20 @@ pub at_fragment : (s : List ℕ) (c : Cursor) → word_at s c ≡ 4 → AtFragme
 at_fragment s c h = word_name s c 3 h
 
 module _ (s rows rows' : List ℕ) (c : Cursor) (before : ℕ) where
-  pub definition_operation : fragments_after s c before ≡ before → (r : Read) → CountedSaid 1 s rows rows' c no_parent most_levels one_definition stays any_counts same_fragments r →
+  pub definition_operation : fragments_after s c before ≡ before → (r : Result Cursor Refusal) → CountedSaid 1 s rows rows' c no_parent most_levels one_definition stays any_counts same_fragments r →
       CountedSaid 1 s rows rows' c no_parent most_levels one_definition stays (fragments_are before) (fragments_become (fragments_after s c before)) r
-  definition_operation e (Done d) w =
+  definition_operation e (Ok d) w =
       record { size = w.size; within = w.within; few = w.few; looks = w.looks; on = w.on; goes = λ σ o q t f m. (let y = w.goes σ o q t f tt in (y.0, y.1, y.2 ∙ m ∙ sym e, y.3)) }
-  definition_operation e (Refused x) w = λ σ o q t f m. w σ o q t f tt
+  definition_operation e (Err x) w = λ σ o q t f m. w σ o q t f tt
 
-  pub definition_fragment : word_at s c ≡ 4 → (r : Read) → CountedSaid 1 s rows rows' c no_parent most_levels one_definition stays (fragments_are before) (fragments_become (before + 1)) r →
+  pub definition_fragment : word_at s c ≡ 4 → (r : Result Cursor Refusal) → CountedSaid 1 s rows rows' c no_parent most_levels one_definition stays (fragments_are before) (fragments_become (before + 1)) r →
       CountedSaid 1 s rows rows' c no_parent most_levels one_definition stays (fragments_are before) (fragments_become (fragments_after s c before)) r
-  definition_fragment h (Done d) w =
+  definition_fragment h (Ok d) w =
       record { size = w.size; within = w.within; few = w.few; looks = w.looks; on = w.on; goes = λ σ o q t f m. (let y = w.goes σ o q t f m in (y.0, y.1, y.2 ∙ sym (after_fragment s c before h), y.3)) }
-  definition_fragment h (Refused x) w = w
+  definition_fragment h (Err x) w = w
 
   -- no definition begins so
-  pub definition_none : Ready s rows c no_parent → (c.kind ≡ kind_of brace_l → ⊥) → (word_at s c ≡ 1 → ⊥) → (word_at s c ≡ 4 → ⊥) → (word_at s c ≡ 2 → ⊥) → (word_at s c ≡ 3 → ⊥) → (r : Read) → r ≡ no_going_of c →
+  pub definition_none : Ready s rows c no_parent → (c.kind ≡ kind_of brace_l → ⊥) → (word_at s c ≡ 1 → ⊥) → (word_at s c ≡ 4 → ⊥) → (word_at s c ≡ 2 → ⊥) → (word_at s c ≡ 3 → ⊥) → (r : Result Cursor Refusal) → r ≡ no_going_of c →
       CountedSaid 1 s rows rows' c no_parent most_levels one_definition stays (fragments_are before) (fragments_become (fragments_after s c before)) r
   unfolding factored language choose refuses refuses_end
   definition_none g h i₁ i₄ i₂ i₃ r e = rw e (λ σ o q t f m. by σ o q (eqb c.kind 0) refl)

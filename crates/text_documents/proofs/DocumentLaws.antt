@@ -7,6 +7,7 @@ use Prim.Native.Nat.{ℕ, ◌≤◌}
 use native.Mathlib.Omega.{arith}
 use lib.Dec.{T}
 use lib.ListN.{length}
+use Rattle.std.specs.Prelude.{Result, Ok, Err}
 use Rattle.paper.specs.Grammar.{nt, act}
 use Rattle.paper.specs.Numbers.{most_text, most_levels, most_rows, rows_size, no_parent, kind_object}
 use Rattle.paper.specs.Language.{Class, num_c, Part, language, row, kind, end, Document, Definition+, Definition*, Definition, VariablesText, ConstValue, ConstObjectValue, brace_l}
@@ -23,8 +24,6 @@ use Rattle.paper.proofs.Going.{Stack, State, st, start, whole, halt, go}
 use Rattle.text_scan.specs.Head.{head_of, word_number, kind_of}
 use Rattle.text_cursor.specs.Reader.{Looks, Ready, at, moved_to, no_going_of, Went, Said}
 use Rattle.text_cursor.specs.declared.Cursor.{Cursor}
-use Rattle.text_cursor.specs.declared.Read.{Read}
-use Rattle.text_cursor.specs.declared.Read.TheVariants.{Done, Refused}
 use Rattle.text_cursor.proofs.Steps.{is, not_is, token_of, Front, a_token, the_end, front, front_token, first, refuse, refuses, refuses_end}
 use Rattle.text_leaves.specs.Stacks.{value_stack}
 use Rattle.text_references.proofs.MovedLaws.{Next, next_of, moved_halts}
@@ -102,10 +101,10 @@ pub record Defined (s rows₀ rows : List ℕ) (c₀ c : Cursor) (fragments : �
   pub told : counts.fragments ≡ fragments
   pub goes : at s rows₀ c₀ [] most_levels no_counts more_stack ≡ at s rows c [] most_levels counts more_stack
 
-pub begin_halts : (s rows rows' : List ℕ) (p : Part) (r : Read) → r ≡ moved_to 0 0 (head_of (from s 0)) → (x : Refusal) → r ≡ Refused x → Ended p s rows rows' r
+pub begin_halts : (s rows rows' : List ℕ) (p : Part) (r : Result Cursor Refusal) → r ≡ moved_to 0 0 (head_of (from s 0)) → (x : Refusal) → r ≡ Err x → Ended p s rows rows' r
 begin_halts s rows rows' p r e x y = rw y (moved_halts s 0 0 r x e y (start rows) (nt p ∷ []))
 
-module _ (s rows : List ℕ) (short : length s ≤ most_text) (size : length rows ≡ rows_size) (r : Read) (e : r ≡ moved_to 0 0 (head_of (from s 0))) (c₀ : Cursor) (y : r ≡ Done c₀) where
+module _ (s rows : List ℕ) (short : length s ≤ most_text) (size : length rows ≡ rows_size) (r : Result Cursor Refusal) (e : r ≡ moved_to 0 0 (head_of (from s 0))) (c₀ : Cursor) (y : r ≡ Ok c₀) where
   next : Next s 0 0 c₀
   next = next_of s 0 0 r c₀ e y
 
@@ -126,16 +125,16 @@ module _ (s rows : List ℕ) (short : length s ≤ most_text) (size : length row
     pub defined_ready : Ready s rows₁ c no_parent
     defined_ready = record { short = short; size = w.size; within = w.within; few = w.few; looks = w.looks; below = omega arith }
 
-    abbrev Told : List ℕ → Read → Type 0
+    abbrev Told : List ℕ → Result Cursor Refusal → Type 0
     Told rows₂ u = CountedSaid 1 s rows₁ rows₂ c no_parent most_levels one_definition stays (fragments_are fragments) (fragments_become (fragments_after s c fragments)) u
 
-    pub defined_stop : (rows₂ rows' : List ℕ) (u : Read) → Told rows₂ u → (x : Refusal) → u ≡ Refused x → Ended Document s rows rows' u
+    pub defined_stop : (rows₂ rows' : List ℕ) (u : Result Cursor Refusal) → Told rows₂ u → (x : Refusal) → u ≡ Err x → Ended Document s rows rows' u
     defined_stop rows₂ rows' u z x i =
         rw i (document_at ∙ w.goes
         ∙ counted_halts 1 s rows₁ rows₂ c no_parent most_levels one_definition u stays (fragments_are fragments) (fragments_become (fragments_after s c fragments)) z x i (nt Definition* ∷ []) [] w.counts refl w.fine w.told)
 
     module _ (rows₂ : List ℕ) (d : Cursor) (z : Counted 1 s rows₁ rows₂ c d no_parent most_levels one_definition stays (fragments_are fragments) (fragments_become (fragments_after s c fragments))) where
-      pub defined_all : d.kind ≡ 0 → Ended Document s rows rows₂ (Done d)
+      pub defined_all : d.kind ≡ 0 → Ended Document s rows rows₂ (Ok d)
       defined_all k =
           let v = z.goes (nt Definition* ∷ []) [] w.counts refl w.fine w.told in
           (st rows₂ d.rows [] d.stop most_levels v.0, document_at ∙ w.goes ∙ v.3 ∙ ends v.0 (front s d z.within z.looks), refl, refl)
@@ -161,7 +160,7 @@ module _ (s rows : List ℕ) (short : length s ≤ most_text) (size : length row
           }
 
   -- A VARIABLES TEXT
-  pub text_none : (rows' : List ℕ) → (c₀.kind ≡ kind_of brace_l → ⊥) → (u : Read) → u ≡ no_going_of c₀ → Ended VariablesText s rows rows' u
+  pub text_none : (rows' : List ℕ) → (c₀.kind ≡ kind_of brace_l → ⊥) → (u : Result Cursor Refusal) → u ≡ no_going_of c₀ → Ended VariablesText s rows rows' u
   unfolding factored language choose refuses refuses_end
   text_none rows' h u i =
       rw i (start_at VariablesText ∙ refuse s c₀ begin_ready.within begin_ready.looks rows c₀.rows [] most_levels no_counts [] VariablesText (λ y. not (is (kind_of brace_l) y)) (not_is (kind_of brace_l) c₀.kind h) tt tt)
@@ -175,19 +174,19 @@ module _ (s rows : List ℕ) (short : length s ≤ most_text) (size : length row
         ∙ sym (first s c₀ begin_ready.within begin_ready.looks rows c₀.rows [] most_levels no_counts [] ConstValue {α = act row ∷ act (kind kind_object 0) ∷ nt ConstObjectValue ∷ act end ∷ []}
         (Memᴰ.tail (Memᴰ.tail (Memᴰ.tail (Memᴰ.tail (Memᴰ.tail (Memᴰ.tail (Memᴰ.tail (Memᴰ.tail (Memᴰ.head refl))))))))) brace_l h tt)
 
-    pub text_stop : (rows₁ rows' : List ℕ) (u : Read) → Said 1 s rows rows₁ c₀ no_parent most_levels (value_stack true) u → (x : Refusal) → u ≡ Refused x → Ended VariablesText s rows rows' u
+    pub text_stop : (rows₁ rows' : List ℕ) (u : Result Cursor Refusal) → Said 1 s rows rows₁ c₀ no_parent most_levels (value_stack true) u → (x : Refusal) → u ≡ Err x → Ended VariablesText s rows rows' u
     text_stop rows₁ rows' u w x i = rw i (text_at ∙ said_halts 1 s rows rows₁ c₀ no_parent most_levels (value_stack true) u w x i [] [] no_counts refl refl)
 
     module _ (rows₁ : List ℕ) (d : Cursor) (w : Went 1 s rows rows₁ c₀ d no_parent most_levels (value_stack true)) where
       text_ends : go (start rows) (nt VariablesText ∷ []) (from s 0) ≡ at s rows₁ d [] most_levels no_counts []
       text_ends = text_at ∙ w.goes [] [] no_counts refl refl
 
-      pub text_more : (rows' : List ℕ) → (d.kind ≡ 0 → ⊥) → (u : Read) → u ≡ no_going_of d → Ended VariablesText s rows rows' u
+      pub text_more : (rows' : List ℕ) → (d.kind ≡ 0 → ⊥) → (u : Result Cursor Refusal) → u ≡ no_going_of d → Ended VariablesText s rows rows' u
       text_more rows' k u i =
           let f = front_token s d w.within w.looks k in
           rw i (text_ends ∙ rw f.2 (empty_halts (st rows₁ d.rows [] d.stop most_levels no_counts) (token_of f.0 d.start d.end) (from s d.end)))
 
-      pub text_all : d.kind ≡ 0 → Ended VariablesText s rows rows₁ (Done d)
+      pub text_all : d.kind ≡ 0 → Ended VariablesText s rows rows₁ (Ok d)
       unfolding go step
       text_all k = (st rows₁ d.rows [] d.stop most_levels no_counts, text_ends ∙ ends (front s d w.within w.looks), refl, refl)
         where

@@ -8,6 +8,7 @@ use native.Mathlib.Omega.{arith}
 use lib.Dec.{T, eqb}
 use lib.ListN.{length}
 use borrow.Author.Tests.{lt-ltb, le-ltb, eqb-true, eqb-false, eq-eqb, not-false}
+use Rattle.std.specs.Prelude.{Result, Ok, Err}
 use Rattle.paper.proofs.Bools.{eq→t_not as false-T, eq→t as true-T}
 use Rattle.paper.specs.Grammar.{nt, tm, act}
 use Rattle.paper.specs.Numbers.{most_levels, most_rows, most_fragments, no_parent, kind_fragment}
@@ -24,8 +25,6 @@ use Rattle.paper.proofs.Going.{Stack, State, st, halt, go}
 use Rattle.text_scan.specs.Head.{head_of, kind_of, word_number, word_of}
 use Rattle.text_cursor.specs.Reader.{Looks, Ready, at, moved_to, no_going_of, Went, Said}
 use Rattle.text_cursor.specs.declared.Cursor.{Cursor}
-use Rattle.text_cursor.specs.declared.Read.{Read}
-use Rattle.text_cursor.specs.declared.Read.TheVariants.{Done, Refused}
 use Rattle.text_cursor.proofs.Steps.{is, not_is, token_of, refuse, refuses, refuses_end}
 use Rattle.text_cursor.proofs.Cells.{put, put_length, row_opens, name_told}
 use Rattle.text_arguments.specs.Arguments.{bytes_at, AtOn, condition_stack}
@@ -105,13 +104,13 @@ module _ (s : List ℕ) (c : Cursor) (h : c.stop ≤ length s) (l : Looks s c) (
 abbrev name_stack : Stack
 name_stack = nt FragmentName ∷ nt TypeCondition ∷ body_stack
 
-module _ (s rows : List ℕ) (c : Cursor) (n : ℕ) (g : Ready s rows c n) (h : names_fragment s c ≡ true) (r : Read) (e : r ≡ moved_to c.end c.rows (head_of (from s c.end))) where
-  pub from_name_bad : (rows' : List ℕ) (x : Refusal) → r ≡ Refused x → CountedSaid 1 s rows rows' c n most_levels name_stack pop any_counts same_counts r
+module _ (s rows : List ℕ) (c : Cursor) (n : ℕ) (g : Ready s rows c n) (h : names_fragment s c ≡ true) (r : Result Cursor Refusal) (e : r ≡ moved_to c.end c.rows (head_of (from s c.end))) where
+  pub from_name_bad : (rows' : List ℕ) (x : Refusal) → r ≡ Err x → CountedSaid 1 s rows rows' c n most_levels name_stack pop any_counts same_counts r
   from_name_bad rows' x y =
       rw y (λ σ o q t f m. name_taken s c g.within g.looks rows o most_levels q h g.few f (nt TypeCondition ∷ (body_stack ++ σ))
       ∙ moved_halts s c.end c.rows r x e y (st rows c.rows o c.end most_levels q) (nt TypeCondition ∷ (body_stack ++ σ)))
 
-  module _ (d : Cursor) (y : r ≡ Done d) where
+  module _ (d : Cursor) (y : r ≡ Ok d) where
     next : Next s c.end c.rows d
     next = next_of s c.end c.rows r d e y
 
@@ -124,18 +123,18 @@ module _ (s rows : List ℕ) (c : Cursor) (n : ℕ) (g : Ready s rows c n) (h : 
     condition_at : (σ : Stack) (o : List ℕ) (q : Counts) → over_counts q ≡ false → at s rows c o most_levels q (name_stack ++ σ) ≡ at s rows d o most_levels q (nt TypeCondition ∷ (body_stack ++ σ))
     condition_at σ o q f = name_taken s c g.within g.looks rows o most_levels q h g.few f (nt TypeCondition ∷ (body_stack ++ σ)) ∙ rw (next.stop, next.rows) refl
 
-    pub from_name_none : (rows' : List ℕ) → (d.kind ≡ kind_of n_other → ⊥) → (u : Read) → u ≡ no_going_of d → CountedSaid 1 s rows rows' c n most_levels name_stack pop any_counts same_counts u
+    pub from_name_none : (rows' : List ℕ) → (d.kind ≡ kind_of n_other → ⊥) → (u : Result Cursor Refusal) → u ≡ no_going_of d → CountedSaid 1 s rows rows' c n most_levels name_stack pop any_counts same_counts u
     from_name_none rows' k u z = rw z (λ σ o q t f m. condition_at σ o q f ∙ condition_none s d condition_ready.within condition_ready.looks rows o most_levels q k (body_stack ++ σ))
 
-    pub from_name_other : (rows' : List ℕ) → names_fragment s d ≡ true → (u : Read) → u ≡ no_going_of d → CountedSaid 1 s rows rows' c n most_levels name_stack pop any_counts same_counts u
+    pub from_name_other : (rows' : List ℕ) → names_fragment s d ≡ true → (u : Result Cursor Refusal) → u ≡ no_going_of d → CountedSaid 1 s rows rows' c n most_levels name_stack pop any_counts same_counts u
     from_name_other rows' k u z = rw z (λ σ o q t f m. condition_at σ o q f ∙ condition_other s d condition_ready.within condition_ready.looks rows o most_levels q k (body_stack ++ σ))
 
-    pub from_name_stop : (rows₁ rows' : List ℕ) (u : Read) → Said 1 s rows rows₁ d n most_levels condition_stack u → (x : Refusal) → u ≡ Refused x → CountedSaid 1 s rows rows' c n most_levels name_stack pop any_counts same_counts u
+    pub from_name_stop : (rows₁ rows' : List ℕ) (u : Result Cursor Refusal) → Said 1 s rows rows₁ d n most_levels condition_stack u → (x : Refusal) → u ≡ Err x → CountedSaid 1 s rows rows' c n most_levels name_stack pop any_counts same_counts u
     from_name_stop rows₁ rows' u w x z = rw z (λ σ o q t f m. condition_at σ o q f ∙ said_halts 1 s rows rows₁ d n most_levels condition_stack u w x z (body_stack ++ σ) o q t f)
 
-    pub from_name_says : (rows₁ : List ℕ) (b : Cursor) → Went 1 s rows rows₁ d b n most_levels condition_stack → (rows' : List ℕ) (u : Read) → CountedSaid 1 s rows₁ rows' b n most_levels body_stack pop any_counts same_counts u →
+    pub from_name_says : (rows₁ : List ℕ) (b : Cursor) → Went 1 s rows rows₁ d b n most_levels condition_stack → (rows' : List ℕ) (u : Result Cursor Refusal) → CountedSaid 1 s rows₁ rows' b n most_levels body_stack pop any_counts same_counts u →
         CountedSaid 1 s rows rows' c n most_levels name_stack pop any_counts same_counts u
-    from_name_says rows₁ b w rows' (Done a) u =
+    from_name_says rows₁ b w rows' (Ok a) u =
         record {
           size = u.size;
           within = u.within;
@@ -144,7 +143,7 @@ module _ (s rows : List ℕ) (c : Cursor) (n : ℕ) (g : Ready s rows c n) (h : 
           on = omega (arith, next.stop, begins, w.on, u.on);
           goes = λ σ o q t f m. (let z = u.goes σ o q t f tt in (z.0, z.1, z.2, condition_at σ o q f ∙ w.goes (body_stack ++ σ) o q t f ∙ z.3));
         }
-    from_name_says rows₁ b w rows' (Refused x) u = λ σ o q t f m. condition_at σ o q f ∙ w.goes (body_stack ++ σ) o q t f ∙ u σ o q t f tt
+    from_name_says rows₁ b w rows' (Err x) u = λ σ o q t f m. condition_at σ o q f ∙ w.goes (body_stack ++ σ) o q t f ∙ u σ o q t f tt
 
 -- FROM ITS WORD ON
 fragment_text : (s : List ℕ) (c : Cursor) → c.stop ≤ length s → Looks s c → AtFragment s c → from s c.stop ≡ token (token_of n_fragment c.start c.end) (from s c.end)
@@ -202,12 +201,12 @@ module _ (s rows : List ℕ) (c : Cursor) (before : ℕ) (g : Ready s rows c no_
           (class_take n_fragment c.start c.end (from s c.end) first_cells (c.rows + 1) (c.rows ∷ o) c.stop most_levels (kinded kind_fragment q) (act named ∷ (name_stack ++ σ)) (the n_fragment) tt tt tt
           ∙ rw (le-ltb most_rows (c.rows + 1) i, one_more q f m) refl)
 
-      module _ (r : Read) (e : r ≡ moved_to c.end (c.rows + 1) (head_of (from s c.end))) where
-        pub fragment_bad : (rows' : List ℕ) (x : Refusal) → r ≡ Refused x → CountedSaid 1 s rows rows' c no_parent most_levels one_definition stays (fragments_are before) (fragments_become (before + 1)) r
+      module _ (r : Result Cursor Refusal) (e : r ≡ moved_to c.end (c.rows + 1) (head_of (from s c.end))) where
+        pub fragment_bad : (rows' : List ℕ) (x : Refusal) → r ≡ Err x → CountedSaid 1 s rows rows' c no_parent most_levels one_definition stays (fragments_are before) (fragments_become (before + 1)) r
         fragment_bad rows' x y =
             rw y (λ σ o q t f m. fragment_past σ o q t f m ∙ moved_halts s c.end (c.rows + 1) r x e y (st first_cells (c.rows + 1) (c.rows ∷ o) c.end most_levels (kinded kind_fragment q)) (act named ∷ (name_stack ++ σ)))
 
-        module _ (d : Cursor) (y : r ≡ Done d) where
+        module _ (d : Cursor) (y : r ≡ Ok d) where
           abbrev named_cells : List ℕ
           named_cells = put rows c.rows kind_fragment c.start 0 no_parent d.start (d.end - d.start) 0
 
@@ -231,7 +230,7 @@ module _ (s rows : List ℕ) (c : Cursor) (before : ℕ) (g : Ready s rows c no_
               (name_told rows d.rows o d.stop most_levels (kinded kind_fragment q) (name_stack ++ σ) (from s d.stop) c.rows kind_fragment c.start 0 no_parent 0 0 0
               ∙ rw (start_in_is s d word_next.looks, stop_in_is s d word_next.looks) refl)
 
-          pub fragment_nameless : (rows' : List ℕ) → names_fragment s d ≡ false → (u : Read) → u ≡ no_going_of d → CountedSaid 1 s rows rows' c no_parent most_levels one_definition stays (fragments_are before) (fragments_become (before + 1)) u
+          pub fragment_nameless : (rows' : List ℕ) → names_fragment s d ≡ false → (u : Result Cursor Refusal) → u ≡ no_going_of d → CountedSaid 1 s rows rows' c no_parent most_levels one_definition stays (fragments_are before) (fragments_become (before + 1)) u
           fragment_nameless rows' k u z =
               rw z (λ σ o q t f m. name_at σ o q t f m ∙ name_refused s d name_within word_next.looks named_cells (c.rows ∷ o) most_levels (kinded kind_fragment q) k (nt TypeCondition ∷ (body_stack ++ σ)))
 
@@ -243,8 +242,8 @@ module _ (s rows : List ℕ) (c : Cursor) (before : ℕ) (g : Ready s rows c no_
               k,
             )
 
-            pub fragment_says : (rows' : List ℕ) (u : Read) → CountedSaid 1 s rows₁ rows' d c.rows most_levels name_stack pop any_counts same_counts u → CountedSaid 1 s rows rows' c no_parent most_levels one_definition stays (fragments_are before) (fragments_become (before + 1)) u
-            fragment_says rows' (Done b) w =
+            pub fragment_says : (rows' : List ℕ) (u : Result Cursor Refusal) → CountedSaid 1 s rows₁ rows' d c.rows most_levels name_stack pop any_counts same_counts u → CountedSaid 1 s rows rows' c no_parent most_levels one_definition stays (fragments_are before) (fragments_become (before + 1)) u
+            fragment_says rows' (Ok b) w =
                 record {
                   size = w.size;
                   within = w.within;
@@ -255,4 +254,4 @@ module _ (s rows : List ℕ) (c : Cursor) (before : ℕ) (g : Ready s rows c no_
                       let v = w.goes σ (c.rows ∷ o) (kinded kind_fragment q) refl (one_more q f m) tt in
                       (v.0, v.1, ap (λ (p : Counts). p.fragments) v.2 ∙ ap (λ (i : ℕ). i + 1) m, name_at σ o q t f m ∙ rw (sym z) v.3);
                 }
-            fragment_says rows' (Refused x) w = λ σ o q t f m. name_at σ o q t f m ∙ rw (sym z) (w σ (c.rows ∷ o) (kinded kind_fragment q) refl (one_more q f m) tt)
+            fragment_says rows' (Err x) w = λ σ o q t f m. name_at σ o q t f m ∙ rw (sym z) (w σ (c.rows ∷ o) (kinded kind_fragment q) refl (one_more q f m) tt)

@@ -8,6 +8,7 @@ use native.Mathlib.Omega.{arith}
 use lib.Dec.{T}
 use lib.ListN.{length, set, length-set}
 use borrow.Author.Tests.{lt-ltb, le-ltb}
+use Rattle.std.specs.Prelude.{Result, Ok, Err}
 use Rattle.paper.specs.Grammar.{nt, tm, act}
 use Rattle.paper.specs.Numbers.{most_levels, most_rows, no_parent, kind_operation, extra_query}
 use Rattle.paper.specs.Language.{Class, same_c, language, the, hits, any_name, n_query, n_mutation, n_subscription, brace_l, brace_r, row, kind, named, end, Name, Definition, OperationDefinition, OperationType, OperationName?, SelectionSet, Selection+, n_other}
@@ -23,8 +24,6 @@ use Rattle.paper.proofs.Going.{Stack, State, st, go}
 use Rattle.text_scan.specs.Head.{head_of, kind_of, word_number}
 use Rattle.text_cursor.specs.Reader.{Looks, Ready, at, moved_to, Went, Said}
 use Rattle.text_cursor.specs.declared.Cursor.{Cursor}
-use Rattle.text_cursor.specs.declared.Read.{Read}
-use Rattle.text_cursor.specs.declared.Read.TheVariants.{Done, Refused}
 use Rattle.text_cursor.proofs.Steps.{is, not_is, token_of, null, first, plain, too_many_rows_open}
 use Rattle.text_cursor.proofs.Cells.{put, put_length, row_opens, name_told, ends_row}
 use Rattle.text_selections.specs.Selections.{selection_set_stack}
@@ -115,8 +114,8 @@ module _ (s rows : List ℕ) (c : Cursor) (extra : ℕ) (g : Ready s rows c no_p
     -- the rest is read, where the machine is at it
     operation_says : (rows₁ : List ℕ) (d : Cursor) → c.stop ≤ d.stop →
         ((σ : Stack) (o : List ℕ) (q : Counts) → top o ≡ no_parent → over_counts q ≡ false → at s rows c o most_levels q (one_definition ++ σ) ≡ at s rows₁ d (c.rows ∷ o) most_levels (kinded kind_operation q) (rest_stack ++ σ)) →
-        (rows' : List ℕ) (r : Read) → CountedSaid 1 s rows₁ rows' d c.rows most_levels rest_stack pop (variables_are 0) same_fragments r → CountedSaid 1 s rows rows' c no_parent most_levels one_definition stays any_counts same_fragments r
-    operation_says rows₁ d l y rows' (Done b) w =
+        (rows' : List ℕ) (r : Result Cursor Refusal) → CountedSaid 1 s rows₁ rows' d c.rows most_levels rest_stack pop (variables_are 0) same_fragments r → CountedSaid 1 s rows rows' c no_parent most_levels one_definition stays any_counts same_fragments r
+    operation_says rows₁ d l y rows' (Ok b) w =
         record {
           size = w.size;
           within = w.within;
@@ -125,14 +124,14 @@ module _ (s rows : List ℕ) (c : Cursor) (extra : ℕ) (g : Ready s rows c no_p
           on = omega (arith, w.on);
           goes = λ σ o q t f m. (let z = w.goes σ (c.rows ∷ o) (kinded kind_operation q) refl (operation_fine q f) refl in (z.0, z.1, z.2, y σ o q t f ∙ z.3));
         }
-    operation_says rows₁ d l y rows' (Refused x) w = λ σ o q t f m. y σ o q t f ∙ w σ (c.rows ∷ o) (kinded kind_operation q) refl (operation_fine q f) refl
+    operation_says rows₁ d l y rows' (Err x) w = λ σ o q t f m. y σ o q t f ∙ w σ (c.rows ∷ o) (kinded kind_operation q) refl (operation_fine q f) refl
 
-    module _ (r : Read) (e : r ≡ moved_to c.end (c.rows + 1) (head_of (from s c.end))) where
-      pub operation_bad : (rows' : List ℕ) (x : Refusal) → r ≡ Refused x → CountedSaid 1 s rows rows' c no_parent most_levels one_definition stays any_counts same_fragments r
+    module _ (r : Result Cursor Refusal) (e : r ≡ moved_to c.end (c.rows + 1) (head_of (from s c.end))) where
+      pub operation_bad : (rows' : List ℕ) (x : Refusal) → r ≡ Err x → CountedSaid 1 s rows rows' c no_parent most_levels one_definition stays any_counts same_fragments r
       operation_bad rows' x y =
           rw y (λ σ o q t f m. operation_past σ o q t f ∙ moved_halts s c.end (c.rows + 1) r x e y (st first_cells (c.rows + 1) (c.rows ∷ o) c.end most_levels (kinded kind_operation q)) (nt OperationName? ∷ (rest_stack ++ σ)))
 
-      module _ (d : Cursor) (y : r ≡ Done d) where
+      module _ (d : Cursor) (y : r ≡ Ok d) where
         next : Next s c.end (c.rows + 1) d
         next = next_of s c.end (c.rows + 1) r d e y
 
@@ -152,7 +151,7 @@ module _ (s rows : List ℕ) (c : Cursor) (extra : ℕ) (g : Ready s rows c no_p
           omega (arith, g.few, room),
         )
 
-        pub unnamed_says : (d.kind ≡ kind_of n_other → ⊥) → (rows₁ : List ℕ) → rows₁ ≡ first_cells → (rows' : List ℕ) (u : Read) → CountedSaid 1 s rows₁ rows' d c.rows most_levels rest_stack pop (variables_are 0) same_fragments u →
+        pub unnamed_says : (d.kind ≡ kind_of n_other → ⊥) → (rows₁ : List ℕ) → rows₁ ≡ first_cells → (rows' : List ℕ) (u : Result Cursor Refusal) → CountedSaid 1 s rows₁ rows' d c.rows most_levels rest_stack pop (variables_are 0) same_fragments u →
             CountedSaid 1 s rows rows' c no_parent most_levels one_definition stays any_counts same_fragments u
         unfolding factored language choose
         unnamed_says k rows₁ z rows' u w =
@@ -177,12 +176,12 @@ module _ (s rows : List ℕ) (c : Cursor) (extra : ℕ) (g : Ready s rows c no_p
               (first s d name_within next.looks named_cells d.rows (c.rows ∷ o) most_levels (kinded kind_operation q) (rest_stack ++ σ) Name {α = tm any_name ∷ []} (Memᴰ.head refl) n_other k tt
               ∙ plain s d name_within next.looks named_cells d.rows (c.rows ∷ o) most_levels (kinded kind_operation q) (rest_stack ++ σ) any_name n_other k tt tt (omega (arith, next.rows, g.few, room)) (operation_fine q f)))
 
-          module _ (v : Read) (i : v ≡ moved_to d.end (c.rows + 1) (head_of (from s d.end))) where
-            pub operation_bad_2 : (rows' : List ℕ) (x : Refusal) → v ≡ Refused x → CountedSaid 1 s rows rows' c no_parent most_levels one_definition stays any_counts same_fragments v
+          module _ (v : Result Cursor Refusal) (i : v ≡ moved_to d.end (c.rows + 1) (head_of (from s d.end))) where
+            pub operation_bad_2 : (rows' : List ℕ) (x : Refusal) → v ≡ Err x → CountedSaid 1 s rows rows' c no_parent most_levels one_definition stays any_counts same_fragments v
             operation_bad_2 rows' x z =
                 rw z (λ σ o q t f m. named_past σ o q t f ∙ moved_halts s d.end (c.rows + 1) v x i z (st named_cells (c.rows + 1) (c.rows ∷ o) d.end most_levels (kinded kind_operation q)) (rest_stack ++ σ))
 
-            module _ (b : Cursor) (j : v ≡ Done b) where
+            module _ (b : Cursor) (j : v ≡ Ok b) where
               next_2 : Next s d.end (c.rows + 1) b
               next_2 = next_of s d.end (c.rows + 1) v b i j
 
@@ -192,7 +191,7 @@ module _ (s rows : List ℕ) (c : Cursor) (extra : ℕ) (g : Ready s rows c no_p
                 omega (arith, g.few, room),
               )
 
-              pub named_says : (rows₁ : List ℕ) → rows₁ ≡ named_cells → (rows' : List ℕ) (u : Read) → CountedSaid 1 s rows₁ rows' b c.rows most_levels rest_stack pop (variables_are 0) same_fragments u →
+              pub named_says : (rows₁ : List ℕ) → rows₁ ≡ named_cells → (rows' : List ℕ) (u : Result Cursor Refusal) → CountedSaid 1 s rows₁ rows' b c.rows most_levels rest_stack pop (variables_are 0) same_fragments u →
                   CountedSaid 1 s rows rows' c no_parent most_levels one_definition stays any_counts same_fragments u
               named_says rows₁ z rows' u w =
                   operation_says rows₁ b (let p = ahead s d name_within next.looks (λ z. let x : ⊥ = omega (arith, k) in x) in omega (arith, next.stop, next_2.stop, begins, p))
@@ -227,7 +226,7 @@ module _ (s rows : List ℕ) (c : Cursor) (g : Ready s rows c no_parent) (h : c.
     short_at : (σ : Stack) (o : List ℕ) (q : Counts) → top o ≡ no_parent → at s rows c o most_levels q (one_definition ++ σ) ≡ at s rows₁ counted (c.rows ∷ o) most_levels (kinded kind_operation q) (nt SelectionSet ∷ act end ∷ σ)
     short_at σ o q t = short_row σ o q t ∙ rw z refl
 
-    pub short_stop : (rows₂ rows' : List ℕ) (r : Read) → Said 1 s rows₁ rows₂ counted c.rows most_levels selection_set_stack r → (x : Refusal) → r ≡ Refused x →
+    pub short_stop : (rows₂ rows' : List ℕ) (r : Result Cursor Refusal) → Said 1 s rows₁ rows₂ counted c.rows most_levels selection_set_stack r → (x : Refusal) → r ≡ Err x →
         CountedSaid 1 s rows rows' c no_parent most_levels one_definition stays any_counts same_fragments r
     short_stop rows₂ rows' r w x e =
         rw e (λ σ o q t f m. short_at σ o q t ∙ said_halts 1 s rows₁ rows₂ counted c.rows most_levels selection_set_stack r w x e (act end ∷ σ) (c.rows ∷ o) (kinded kind_operation q) refl (operation_fine q f))

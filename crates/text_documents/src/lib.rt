@@ -1,4 +1,4 @@
-// Reads documents and variables texts, and writes their rows.
+// Reads documents and variables texts, and writes their rows. Each answers Ok with the cursor past what it read, or Err with the refusal.
 #![tactic(auto)]
 
 ghost use Rattle.std.specs.Prelude.{◌≡◌, true, [], ◌∷◌, ◌+◌, ◌≤◌, ◌<◌, length};
@@ -19,70 +19,58 @@ use paper::{
     MOST_LEVELS, MOST_ROWS, NO_PARENT, Refusal,
 };
 use text_arguments::{condition, directives};
-use text_cursor::{Cursor, Read, located, no_going, put_end, put_row};
+use text_cursor::{Cursor, located, no_going, put_end, put_row};
 use text_scan::{
-    TOKEN_AT, TOKEN_BRACE_OPEN, TOKEN_END, TOKEN_NAME, TOKEN_PAREN_OPEN, TokenRead, WORD_FRAGMENT,
+    TOKEN_AT, TOKEN_BRACE_OPEN, TOKEN_END, TOKEN_NAME, TOKEN_PAREN_OPEN, WORD_FRAGMENT,
     WORD_MUTATION, WORD_OTHER, WORD_QUERY, WORD_SUBSCRIPTION,
 };
 use text_selections::{names_fragment, selection_set};
 use text_variables::variable_definitions;
 
 // The selection set that ends row n
-fn definition_set(s: &[u8], rows: &mut [u32], c: Cursor, n: u32) -> Read
+fn definition_set(s: &[u8], rows: &mut [u32], c: Cursor, n: u32) -> Result<Cursor, Refusal>
     requires { Ready s.now rows.old c n × (n < most_rows) }
     ensures { CountedSaid 1 s.now rows.old rows.new c n most_levels set_stack pop any_counts same_counts result }
 {
-    let t = selection_set(s, rows, c, n, MOST_LEVELS);
-    let Read::Done(e) = t else {
-        return t;
-    };
+    let e = selection_set(s, rows, c, n, MOST_LEVELS)?;
     put_end(rows, n, e.stop);
-    t
+    Ok(e)
 }
 
 // The body of row n, which it ends: Directives? SelectionSet
-fn definition_body(s: &[u8], rows: &mut [u32], c: Cursor, n: u32) -> Read
+fn definition_body(s: &[u8], rows: &mut [u32], c: Cursor, n: u32) -> Result<Cursor, Refusal>
     requires { Ready s.now rows.old c n × (n < most_rows) }
     ensures { CountedSaid 1 s.now rows.old rows.new c n most_levels body_stack pop any_counts same_counts result }
 {
     if c.kind != TOKEN_AT {
         return definition_set(s, rows, c, n);
     }
-    let r = directives(s, rows, c, n, MOST_LEVELS);
-    let Read::Done(d) = r else {
-        return r;
-    };
+    let d = directives(s, rows, c, n, MOST_LEVELS)?;
     definition_set(s, rows, d, n)
 }
 
 // OperationDefinition behind its name: VariableDefinitions? Directives? SelectionSet
-fn operation_rest(s: &[u8], rows: &mut [u32], c: Cursor, n: u32) -> Read
+fn operation_rest(s: &[u8], rows: &mut [u32], c: Cursor, n: u32) -> Result<Cursor, Refusal>
     requires { Ready s.now rows.old c n × (n < most_rows) }
     ensures { CountedSaid 1 s.now rows.old rows.new c n most_levels (nt VariableDefinitions? ∷ body_stack) pop (variables_are 0) same_fragments result }
 {
     if c.kind != TOKEN_PAREN_OPEN {
         return definition_body(s, rows, c, n);
     }
-    let r = variable_definitions(s, rows, c, n, MOST_LEVELS);
-    let Read::Done(d) = r else {
-        return r;
-    };
+    let d = variable_definitions(s, rows, c, n, MOST_LEVELS)?;
     definition_body(s, rows, d, n)
 }
 
 // OperationDefinition, at its OperationType, whose extra is given
-fn operation(s: &[u8], rows: &mut [u32], c: Cursor, extra: u32) -> Read
+fn operation(s: &[u8], rows: &mut [u32], c: Cursor, extra: u32) -> Result<Cursor, Refusal>
     requires { Ready s.now rows.old c no_parent × AtType s.now c extra }
     ensures { CountedSaid 1 s.now rows.old rows.new c no_parent most_levels (nt Definition ∷ []) stays any_counts same_fragments result }
 {
     let n = c.rows;
     if n == MOST_ROWS {
-        return Read::Refused(Refusal::TooManyRows(c.start));
+        return Err(Refusal::TooManyRows(c.start));
     }
-    let r = c.past(s, n + 1);
-    let Read::Done(d) = r else {
-        return r;
-    };
+    let d = c.past(s, n + 1)?;
     if d.kind != TOKEN_NAME {
         put_row(rows, n, KIND_OPERATION, c.start, 0, NO_PARENT, 0, 0, extra);
         return operation_rest(s, rows, d, n);
@@ -98,21 +86,18 @@ fn operation(s: &[u8], rows: &mut [u32], c: Cursor, extra: u32) -> Read
         d.end - d.start,
         extra,
     );
-    let t = d.past(s, n + 1);
-    let Read::Done(e) = t else {
-        return t;
-    };
+    let e = d.past(s, n + 1)?;
     operation_rest(s, rows, e, n)
 }
 
 // OperationDefinition without its type, at its {
-fn short_operation(s: &[u8], rows: &mut [u32], c: Cursor) -> Read
+fn short_operation(s: &[u8], rows: &mut [u32], c: Cursor) -> Result<Cursor, Refusal>
     requires { Ready s.now rows.old c no_parent × (c.kind ≡ kind_of brace_l) }
     ensures { CountedSaid 1 s.now rows.old rows.new c no_parent most_levels (nt Definition ∷ []) stays any_counts same_fragments result }
 {
     let n = c.rows;
     if n == MOST_ROWS {
-        return Read::Refused(Refusal::TooManyRows(c.start));
+        return Err(Refusal::TooManyRows(c.start));
     }
     put_row(
         rows,
@@ -132,30 +117,24 @@ fn short_operation(s: &[u8], rows: &mut [u32], c: Cursor) -> Read
         stop: c.stop,
         rows: n + 1,
     };
-    let t = selection_set(s, rows, d, n, MOST_LEVELS);
-    let Read::Done(e) = t else {
-        return t;
-    };
+    let e = selection_set(s, rows, d, n, MOST_LEVELS)?;
     put_end(rows, n, e.stop);
-    t
+    Ok(e)
 }
 
 // FragmentDefinition, at its `fragment`, the one after `before` others
-fn fragment(s: &[u8], rows: &mut [u32], c: Cursor, before: u32) -> Read
+fn fragment(s: &[u8], rows: &mut [u32], c: Cursor, before: u32) -> Result<Cursor, Refusal>
     requires { Ready s.now rows.old c no_parent × AtFragment s.now c }
     ensures { CountedSaid 1 s.now rows.old rows.new c no_parent most_levels (nt Definition ∷ []) stays (fragments_are before) (fragments_become (before + 1)) result }
 {
     let n = c.rows;
     if n == MOST_ROWS {
-        return Read::Refused(Refusal::TooManyRows(c.start));
+        return Err(Refusal::TooManyRows(c.start));
     }
     if before == MOST_FRAGMENTS {
-        return Read::Refused(Refusal::TooMany(c.start));
+        return Err(Refusal::TooMany(c.start));
     }
-    let r = c.past(s, n + 1);
-    let Read::Done(name) = r else {
-        return r;
-    };
+    let name = c.past(s, n + 1)?;
     if names_fragment(s, name) {
         put_row(
             rows,
@@ -174,25 +153,19 @@ fn fragment(s: &[u8], rows: &mut [u32], c: Cursor, before: u32) -> Read
 }
 
 // FragmentDefinition from its name on: TypeCondition Directives? SelectionSet
-fn fragment_rest(s: &[u8], rows: &mut [u32], c: Cursor, n: u32) -> Read
+fn fragment_rest(s: &[u8], rows: &mut [u32], c: Cursor, n: u32) -> Result<Cursor, Refusal>
     requires { Ready s.now rows.old c n × (n < most_rows) × (names_fragment s.now c ≡ true) }
     ensures { CountedSaid 1 s.now rows.old rows.new c n most_levels (nt FragmentName ∷ nt TypeCondition ∷ body_stack) pop any_counts same_counts result }
 {
     let m = c.rows;
-    let r = c.past(s, m);
-    let Read::Done(d) = r else {
-        return r;
-    };
+    let d = c.past(s, m)?;
     if d.kind != TOKEN_NAME {
         return no_going(d);
     }
     if names_fragment(s, d) {
         return no_going(d);
     }
-    let t = condition(s, rows, d, n, MOST_LEVELS);
-    let Read::Done(e) = t else {
-        return t;
-    };
+    let e = condition(s, rows, d, n, MOST_LEVELS)?;
     definition_body(s, rows, e, n)
 }
 
@@ -208,7 +181,7 @@ fn word_at(s: &[u8], c: Cursor) -> u32
 }
 
 // Definition, after `before` fragments
-fn definition(s: &[u8], rows: &mut [u32], c: Cursor, before: u32) -> Read
+fn definition(s: &[u8], rows: &mut [u32], c: Cursor, before: u32) -> Result<Cursor, Refusal>
     requires { Ready s.now rows.old c no_parent }
     ensures { CountedSaid 1 s.now rows.old rows.new c no_parent most_levels (nt Definition ∷ []) stays (fragments_are before) (fragments_become (fragments_after s.now c before)) result }
 {
@@ -243,42 +216,35 @@ fn fragments_after(s: &[u8], c: Cursor, before: u32) -> u32
 }
 
 // The cursor at the beginning of a text. It scans itself: with two callers `scan` stays apart, and `past` is small enough to be inlined
-fn begin(s: &[u8]) -> Read
+fn begin(s: &[u8]) -> Result<Cursor, Refusal>
     requires { length s.now ≤ most_text }
     ensures { result ≡ moved_to 0 0 (head_of (from s.now 0)) }
 {
     let n = text_tokens::scan(s, 0);
     let t = text_tokens::unpacked(n);
-    let TokenRead::Token { kind, start, end } = t else {
+    let Ok(token) = t else {
         return located(t);
     };
-    Read::Done(Cursor {
-        kind: kind,
-        start: start as u32,
-        end: end as u32,
+    Ok(Cursor {
+        kind: token.kind,
+        start: token.start as u32,
+        end: token.end as u32,
         stop: 0,
         rows: 0,
     })
 }
 
-// Document: the rows are written, and the answer's cursor counts them
-pub fn document(s: &[u8], rows: &mut [u32]) -> Read
+// Document: the rows are written, and the cursor of an Ok counts them
+pub fn document(s: &[u8], rows: &mut [u32]) -> Result<Cursor, Refusal>
     requires { (length s.now ≤ most_text) × (length rows.old ≡ rows_size) }
     ensures { Ended Document s.now rows.old rows.new result }
 {
-    let r = begin(s);
-    let Read::Done(first) = r else {
-        return r;
-    };
-    let mut c = first;
+    let mut c = begin(s)?;
     let mut fragments: u32 = 0;
     loop {
-        let t = definition(s, rows, c, fragments);
-        let Read::Done(next) = t else {
-            return t;
-        };
+        let next = definition(s, rows, c, fragments)?;
         if next.kind == TOKEN_END {
-            return t;
+            return Ok(next);
         }
         fragments = fragments_after(s, c, fragments);
         c = next;
@@ -286,23 +252,17 @@ pub fn document(s: &[u8], rows: &mut [u32]) -> Read
 }
 
 // VariablesText: one constant object value
-pub fn variables_text(s: &[u8], rows: &mut [u32]) -> Read
+pub fn variables_text(s: &[u8], rows: &mut [u32]) -> Result<Cursor, Refusal>
     requires { (length s.now ≤ most_text) × (length rows.old ≡ rows_size) }
     ensures { Ended VariablesText s.now rows.old rows.new result }
 {
-    let r = begin(s);
-    let Read::Done(first) = r else {
-        return r;
-    };
+    let first = begin(s)?;
     if first.kind != TOKEN_BRACE_OPEN {
         return no_going(first);
     }
-    let t = text_values::value(s, rows, first, NO_PARENT, MOST_LEVELS, true);
-    let Read::Done(d) = t else {
-        return t;
-    };
+    let d = text_values::value(s, rows, first, NO_PARENT, MOST_LEVELS, true)?;
     if d.kind != TOKEN_END {
         return no_going(d);
     }
-    t
+    Ok(d)
 }

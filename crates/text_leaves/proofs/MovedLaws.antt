@@ -6,6 +6,7 @@ use mathlib.Core.Logic.{◌≢◌}
 use Prim.Native.Nat.{ℕ, ◌+◌, ◌≤◌, ◌<◌}
 use native.Mathlib.Omega.{arith}
 use lib.ListN.{length}
+use Rattle.std.specs.Prelude.{Result, Ok, Err}
 use Rattle.paper.specs.Numbers.{most_rows, rows_size}
 use Rattle.paper.specs.Tokens.{Text, at_end, bad, token}
 use Rattle.paper.specs.Rows.{top}
@@ -14,12 +15,10 @@ use Rattle.paper.specs.declared.Refusal.{Refusal}
 use Rattle.paper.specs.declared.Refusal.TheVariants.{NoToken}
 use Rattle.paper.proofs.Lexing.{from}
 use Rattle.paper.proofs.Going.{Stack, State, st, halt, go, start_in, stop_in}
-use Rattle.text_scan.specs.Head.{head_of}
-use Rattle.text_scan.specs.declared.TokenRead.{TokenRead}
-use Rattle.text_scan.specs.declared.TokenRead.TheVariants.{Token, Bad}
+use Rattle.text_scan.specs.Head.{head_of, token_read}
+use Rattle.text_scan.specs.declared.Token.{Token}
+use Rattle.text_scan.proofs.TokenLaws.{token_parts}
 use Rattle.text_cursor.specs.declared.Cursor.{Cursor}
-use Rattle.text_cursor.specs.declared.Read.{Read}
-use Rattle.text_cursor.specs.declared.Read.TheVariants.{Done, Refused}
 use Rattle.text_cursor.specs.Reader.{Looks, Ready, moved_to, at, Said}
 use Rattle.text_cursor.proofs.ReaderLaws.{token_lies}
 use Rattle.text_cursor.proofs.Steps.{Front, a_token, the_end, front}
@@ -28,18 +27,18 @@ use Rattle.text_cursor.proofs.Steps.{Front, a_token, the_end, front}
 pub start_in_is : (s : List ℕ) (c : Cursor) → Looks s c → start_in (from s c.stop) ≡ c.start
 start_in_is s c l = cases (from s c.stop) l
   where
-    cases : (t : Text) → head_of t ≡ Token c.kind c.start c.end → start_in t ≡ c.start
-    cases (at_end n) e = cc
+    cases : (t : Text) → head_of t ≡ token_read c.kind c.start c.end → start_in t ≡ c.start
+    cases (at_end n) e = (token_parts _ _ _ _ e).1
     cases (bad n) e = let z : ◌≡◌ {A = ℕ} 0 1 = cc in let w : ⊥ = omega arith in absurd w
-    cases (token k t) e = cc
+    cases (token k t) e = (token_parts _ _ _ _ e).1
 
 pub stop_in_is : (s : List ℕ) (c : Cursor) → Looks s c → stop_in (from s c.stop) ≡ c.end
 stop_in_is s c l = cases (from s c.stop) l
   where
-    cases : (t : Text) → head_of t ≡ Token c.kind c.start c.end → stop_in t ≡ c.end
-    cases (at_end n) e = cc
+    cases : (t : Text) → head_of t ≡ token_read c.kind c.start c.end → stop_in t ≡ c.end
+    cases (at_end n) e = (token_parts _ _ _ _ e).2
     cases (bad n) e = let z : ◌≡◌ {A = ℕ} 0 1 = cc in let w : ⊥ = omega arith in absurd w
-    cases (token k t) e = cc
+    cases (token k t) e = (token_parts _ _ _ _ e).2
 
 -- where that token lies
 pub ready_lies : (s rows : List ℕ) (c : Cursor) (parent : ℕ) → Ready s rows c parent → (c.stop ≤ c.start) × (c.start ≤ c.end) × (c.end ≤ length s)
@@ -59,42 +58,42 @@ pub record Moved (s : List ℕ) (e n : ℕ) (d : Cursor) : Type 0 where
   pub stop : d.stop ≡ e
   pub rows : d.rows ≡ n
 
-pub moved_done : (s : List ℕ) (e n : ℕ) (r : Read) (d : Cursor) → r ≡ moved_to e n (head_of (from s e)) → r ≡ Done d → Moved s e n d
+pub moved_done : (s : List ℕ) (e n : ℕ) (r : Result Cursor Refusal) (d : Cursor) → r ≡ moved_to e n (head_of (from s e)) → r ≡ Ok d → Moved s e n d
 moved_done s e n r d q p = cases (head_of (from s e)) refl
   where
-    cases : (h : TokenRead) → head_of (from s e) ≡ h → Moved s e n d
-    cases (Token k a b) f =
-        let z : Done d ≡ Done (record { kind = k; start = a; end = b; stop = e; rows = n }) = sym p ∙ q ∙ ap (moved_to e n) f in
-        let y : d ≡ record { kind = k; start = a; end = b; stop = e; rows = n } = cc in
+    cases : (h : Result Token ℕ) → head_of (from s e) ≡ h → Moved s e n d
+    cases (Ok t) f =
+        let z : Ok d ≡ Ok (record { kind = t.kind; start = t.start; end = t.end; stop = e; rows = n }) = sym p ∙ q ∙ ap (moved_to e n) f in
+        let y : d ≡ record { kind = t.kind; start = t.start; end = t.end; stop = e; rows = n } = cc in
         record { looks = rw y f; stop = rw y refl; rows = rw y refl }
-    cases (Bad o) f =
-        let z : Done d ≡ Refused (NoToken o) = sym p ∙ q ∙ ap (moved_to e n) f in
+    cases (Err o) f =
+        let z : Ok d ≡ Err (NoToken o) = sym p ∙ q ∙ ap (moved_to e n) f in
         let y : ◌≡◌ {A = ℕ} 0 1 = cc in
         let w : ⊥ = omega arith in
         absurd w
 
 -- bad bytes halt the machine, whatever it expects
-pub moved_halts : (s : List ℕ) (e n : ℕ) (r : Read) (x : Refusal) → r ≡ moved_to e n (head_of (from s e)) → r ≡ Refused x → (S : State) (σ : Stack) → go S σ (from s e) ≡ halt x
+pub moved_halts : (s : List ℕ) (e n : ℕ) (r : Result Cursor Refusal) (x : Refusal) → r ≡ moved_to e n (head_of (from s e)) → r ≡ Err x → (S : State) (σ : Stack) → go S σ (from s e) ≡ halt x
 unfolding go
 moved_halts s e n r x q p S σ = cases (from s e) refl
   where
-    apart : (k a b : ℕ) → head_of (from s e) ≡ Token k a b → ⊥
+    apart : (k a b : ℕ) → head_of (from s e) ≡ token_read k a b → ⊥
     apart k a b f =
-        let z : Refused x ≡ Done (record { kind = k; start = a; end = b; stop = e; rows = n }) = sym p ∙ q ∙ ap (moved_to e n) f in
+        let z : Err x ≡ Ok (record { kind = k; start = a; end = b; stop = e; rows = n }) = sym p ∙ q ∙ ap (moved_to e n) f in
         let y : ◌≡◌ {A = ℕ} 0 1 = cc in
         omega arith
 
     cases : (t : Text) → from s e ≡ t → go S σ (from s e) ≡ halt x
     cases (at_end m) f = absurd (apart 0 m m (ap head_of f))
-    cases (bad m) f = let z : Refused x ≡ Refused (NoToken m) = sym p ∙ q ∙ ap (λ (t : Text). moved_to e n (head_of t)) f in rw f (ap halt (cc))
+    cases (bad m) f = let z : Err x ≡ Err (NoToken m) = sym p ∙ q ∙ ap (λ (t : Text). moved_to e n (head_of t)) f in rw f (ap halt (cc))
     cases (token k t) f = absurd (apart (Rattle.text_scan.specs.Head.kind_of k.class) k.start k.stop (ap head_of f))
 
 -- what a reader says that answers with the cursor past its last token, which ends at e
 module _ (gain : ℕ) (s rows rows' : List ℕ) (c : Cursor) (parent left : ℕ) (α : Stack) (e n : ℕ) (size : length rows' ≡ rows_size) (within : e ≤ length s) (few : n ≤ most_rows) (on : gain + c.stop ≤ e)
     (goes : (σ : Stack) (o : List ℕ) (q : Counts) → top o ≡ parent → over_counts q ≡ false → at s rows c o left q (α ++ σ) ≡ go (st rows' n o e left q) σ (from s e)) where
-  pub moved_said : (r : Read) → r ≡ moved_to e n (head_of (from s e)) → Said gain s rows rows' c parent left α r
-  moved_said (Done d) q =
-      let m = moved_done s e n (Done d) d q refl in
+  pub moved_said : (r : Result Cursor Refusal) → r ≡ moved_to e n (head_of (from s e)) → Said gain s rows rows' c parent left α r
+  moved_said (Ok d) q =
+      let m = moved_done s e n (Ok d) d q refl in
       record {
         size = size;
         within = rw m.stop within;
@@ -103,4 +102,4 @@ module _ (gain : ℕ) (s rows rows' : List ℕ) (c : Cursor) (parent left : ℕ)
         on = rw m.stop on;
         goes = λ σ o k t f. rw (m.stop, m.rows) (goes σ o k t f);
       }
-  moved_said (Refused x) q = λ σ o k t f. goes σ o k t f ∙ moved_halts s e n (Refused x) x q refl (st rows' n o e left k) σ
+  moved_said (Err x) q = λ σ o k t f. goes σ o k t f ∙ moved_halts s e n (Err x) x q refl (st rows' n o e left k) σ

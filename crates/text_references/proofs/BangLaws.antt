@@ -6,6 +6,7 @@ use mathlib.Core.List.{List, [], ◌∷◌}
 use Prim.Native.Nat.{ℕ, suc, ◌+◌, ◌*◌, ◌≤◌, ◌<◌}
 use native.Mathlib.Nat.{zero-add}
 use native.Mathlib.Omega.{arith}
+use Rattle.std.specs.Prelude.{Result, Ok, Err}
 use Rattle.paper.specs.Grammar.{nt, tm, act}
 use Rattle.paper.specs.Numbers.{most_wrappers, kind_type_reference, wrap_non_null}
 use Rattle.paper.specs.Language.{language, the, bang, wrapper, wrap, Bang?}
@@ -19,8 +20,6 @@ use Rattle.paper.proofs.Going.{Stack, st, go}
 use Rattle.text_scan.specs.Head.{head_of, kind_of}
 use Rattle.text_cursor.specs.Reader.{moved_to}
 use Rattle.text_cursor.specs.declared.Cursor.{Cursor}
-use Rattle.text_cursor.specs.declared.Read.{Read}
-use Rattle.text_cursor.specs.declared.Read.TheVariants.{Done, Refused}
 use Rattle.text_cursor.proofs.Steps.{is, not_is, null, first, plain, too_many}
 use Rattle.text_cursor.proofs.Cells.{put, wrapper_counted, wrap_told}
 use Rattle.text_references.specs.declared.Wrapped.{Wrapped}
@@ -68,13 +67,13 @@ module _ (s : List ℕ) (w : Wrapped) {most : ℕ} (ready : Marked s w most) whe
       ∙ plain s w.at ready.seen.within ready.seen.looks (put cells n kind_type_reference a 0 p m z w.extra) w.at.rows (n ∷ o) left (wrapped_by (w.marks + 1) q)
       (act (wrap wrap_non_null) ∷ σ) (the bang) bang h tt tt ready.seen.few (wrapped_fine q (w.marks + 1) f (omega arith))
 
-  module _ (h : w.at.kind ≡ kind_of bang) (k : w.marks < most_wrappers) (r : Read) (e : r ≡ moved_to w.at.end w.at.rows (head_of (from s w.at.end))) where
-    pub bang_bad : (x : Refusal) → r ≡ Refused x → WrapHalts s w bang_stack x
+  module _ (h : w.at.kind ≡ kind_of bang) (k : w.marks < most_wrappers) (r : Result Cursor Refusal) (e : r ≡ moved_to w.at.end w.at.rows (head_of (from s w.at.end))) where
+    pub bang_bad : (x : Refusal) → r ≡ Err x → WrapHalts s w bang_stack x
     bang_bad x y cells n a p m z o left q σ l f =
         bang_past h k cells n a p m z o left q σ f
         ∙ moved_halts s w.at.end w.at.rows r x e y (st (put cells n kind_type_reference a 0 p m z w.extra) w.at.rows (n ∷ o) w.at.end left (wrapped_by (w.marks + 1) q)) (act (wrap wrap_non_null) ∷ σ)
 
-    pub bang_done : (d : Cursor) → r ≡ Done d → Wraps s w (record { at = d; extra = w.extra * 4 + wrap_non_null; marks = w.marks + 1 }) bang_stack 0
+    pub bang_done : (d : Cursor) → r ≡ Ok d → Wraps s w (record { at = d; extra = w.extra * 4 + wrap_non_null; marks = w.marks + 1 }) bang_stack 0
     unfolding four
     bang_done d y =
         let v = next_of s w.at.end w.at.rows r d e y in

@@ -7,6 +7,7 @@ use Prim.Native.Nat.{ℕ, ◌+◌, ◌-◌, ◌≤◌}
 use native.Mathlib.Nat.{zero-add}
 use native.Mathlib.Omega.{arith}
 use lib.ListN.{length}
+use Rattle.std.specs.Prelude.{Result, Ok, Err}
 use Rattle.paper.specs.Grammar.{nt, tm, act}
 use Rattle.paper.specs.Numbers.{most_wrappers, kind_type_reference}
 use Rattle.paper.specs.Language.{language, any_name, named, TypeRef, NamedType, Name, Bang?, n_other}
@@ -18,13 +19,9 @@ use Rattle.paper.proofs.Going.{Stack, st, go}
 use Rattle.text_scan.specs.Head.{head_of, kind_of}
 use Rattle.text_cursor.specs.Reader.{Looks, at, moved_to}
 use Rattle.text_cursor.specs.declared.Cursor.{Cursor}
-use Rattle.text_cursor.specs.declared.Read.{Read}
-use Rattle.text_cursor.specs.declared.Read.TheVariants.{Done, Refused}
 use Rattle.text_cursor.proofs.Steps.{first, plain}
 use Rattle.text_cursor.proofs.Cells.{put, name_told}
 use Rattle.text_references.specs.declared.Wrapped.{Wrapped}
-use Rattle.text_references.specs.declared.TypeRead.{TypeRead}
-use Rattle.text_references.specs.declared.TypeRead.TheVariants.{Typed, Untyped}
 use Rattle.text_references.specs.Types.{wrapped_by, bang_stack, closers, four, most_inside, Seen, Marked, inside, Wraps, Says, unnamed, Named}
 use Rattle.text_references.proofs.CountsLaws.{wrapped_fine}
 use Rattle.text_references.proofs.CloseLaws.{four_mono}
@@ -50,13 +47,13 @@ module _ (s : List ℕ) (c : Cursor) (marks : ℕ) (g : Seen s c) (h : c.kind �
       name_first s c g.within g.looks h cells n a p o left marks q (closers marks ++ σ)
       ∙ plain s c g.within g.looks (put cells n kind_type_reference a 0 p c.start (c.end - c.start) 0) c.rows (n ∷ o) left (wrapped_by marks q) (nt Bang? ∷ (closers marks ++ σ)) any_name n_other h tt tt g.few (wrapped_fine q marks f k)
 
-  module _ (r : Read) (e : r ≡ moved_to c.end c.rows (head_of (from s c.end))) where
-    pub named_bad : (x : Refusal) → r ≡ Refused x → Named s c marks (Untyped x)
+  module _ (r : Result Cursor Refusal) (e : r ≡ moved_to c.end c.rows (head_of (from s c.end))) where
+    pub named_bad : (x : Refusal) → r ≡ Err x → Named s c marks (Err x)
     named_bad x y cells n a p o left q σ l f =
         named_past cells n a p o left q σ f
         ∙ moved_halts s c.end c.rows r x e y (st (put cells n kind_type_reference a 0 p c.start (c.end - c.start) 0) c.rows (n ∷ o) c.end left (wrapped_by marks q)) (nt Bang? ∷ (closers marks ++ σ))
 
-    module _ (d : Cursor) (y : r ≡ Done d) where
+    module _ (d : Cursor) (y : r ≡ Ok d) where
       abbrev bare : Wrapped
       bare = record { at = d; extra = 0; marks = marks }
 
@@ -72,14 +69,14 @@ module _ (s : List ℕ) (c : Cursor) (marks : ℕ) (g : Seen s c) (h : c.kind �
           let v = next_of s c.end c.rows r d e y in
           named_past cells n a p o left q σ f ∙ rw (v.stop, v.rows) refl
 
-      pub named_stop : (t : TypeRead) (x : Refusal) → Says s bare bang_stack 0 t → t ≡ Untyped x → Named s c marks t
+      pub named_stop : (t : Result Wrapped Refusal) (x : Refusal) → Says s bare bang_stack 0 t → t ≡ Err x → Named s c marks t
       named_stop t x b z = rw z (λ cells n a p o left q σ l f.
           named_goes cells n a p o left q σ f
-          ∙ subst (λ (t : TypeRead). Says s bare bang_stack 0 t) z b cells n a p c.start (c.end - c.start) o left q (closers marks ++ σ) l f)
+          ∙ subst (λ (t : Result Wrapped Refusal). Says s bare bang_stack 0 t) z b cells n a p c.start (c.end - c.start) o left q (closers marks ++ σ) l f)
 
-      module _ (t : TypeRead) (w : Wrapped) (b : Says s bare bang_stack 0 t) (z : t ≡ Typed w) where
+      module _ (t : Result Wrapped Refusal) (w : Wrapped) (b : Says s bare bang_stack 0 t) (z : t ≡ Ok w) where
         banged : Wraps s bare w bang_stack 0
-        banged = subst (λ (t : TypeRead). Says s bare bang_stack 0 t) z b
+        banged = subst (λ (t : Result Wrapped Refusal). Says s bare bang_stack 0 t) z b
 
         -- what the closing brackets ask
         pub named_ready : Marked s w (four w.marks) × (marks ≤ most_wrappers)
@@ -88,8 +85,8 @@ module _ (s : List ℕ) (c : Cursor) (marks : ℕ) (g : Seen s c) (h : c.kind �
             let i : 0 + 0 + w.marks ≡ w.marks = omega arith in
             (record { seen = banged.seen; marks = banged.marks; small = rw i at (banged.small 0 (let j : four 0 ≤ four (0 + marks) = four_mono 0 (0 + marks) (omega arith) in omega arith)) }, k)
 
-        pub named_says : (u : TypeRead) → Says s w (closers marks) marks u → Named s c marks u
-        named_says (Typed v) x =
+        pub named_says : (u : Result Wrapped Refusal) → Says s w (closers marks) marks u → Named s c marks u
+        named_says (Ok v) x =
             let y' = next_of s c.end c.rows r d e y in
             let j = ahead s c g.within g.looks (λ z. let x : ⊥ = omega arith in x) in
             record {
@@ -103,7 +100,7 @@ module _ (s : List ℕ) (c : Cursor) (marks : ℕ) (g : Seen s c) (h : c.kind �
                   ∙ x.goes cells n a p c.start (c.end - c.start) o (0 + left) q σ l f
                   ∙ rw (zero-add left) refl;
             }
-        named_says (Untyped x) y' = λ cells n a p o left q σ l f.
+        named_says (Err x) y' = λ cells n a p o left q σ l f.
             named_goes cells n a p o left q σ f
             ∙ banged.goes cells n a p c.start (c.end - c.start) o left q (closers marks ++ σ) l f
             ∙ y' cells n a p c.start (c.end - c.start) o (0 + left) q σ l f

@@ -6,6 +6,7 @@ use Prim.Native.Nat.{ℕ, zero, suc, ◌+◌, ◌-◌, ◌*◌, ◌≤◌, ◌<�
 use native.Mathlib.Nat.{zero-add, suc-add}
 use native.Mathlib.Omega.{arith}
 use lib.ListN.{length}
+use Rattle.std.specs.Prelude.{Result, Ok, Err}
 use Rattle.paper.specs.Grammar.{nt, tm, act}
 use Rattle.paper.specs.Numbers.{most_wrappers, kind_type_reference, wrap_list}
 use Rattle.paper.specs.Language.{the, bracket_r, wrap, Bang?}
@@ -17,13 +18,9 @@ use Rattle.paper.proofs.Going.{Stack, st, go}
 use Rattle.text_scan.specs.Head.{head_of, kind_of}
 use Rattle.text_cursor.specs.Reader.{moved_to}
 use Rattle.text_cursor.specs.declared.Cursor.{Cursor}
-use Rattle.text_cursor.specs.declared.Read.{Read}
-use Rattle.text_cursor.specs.declared.Read.TheVariants.{Done, Refused}
 use Rattle.text_cursor.proofs.Steps.{is, not_is, lacks, closing}
 use Rattle.text_cursor.proofs.Cells.{put, wrap_told}
 use Rattle.text_references.specs.declared.Wrapped.{Wrapped}
-use Rattle.text_references.specs.declared.TypeRead.{TypeRead}
-use Rattle.text_references.specs.declared.TypeRead.TheVariants.{Typed, Untyped}
 use Rattle.text_references.specs.Types.{wrapped_by, bang_stack, closers, four, most_before, most_inside, Marked, inside, Wraps, WrapHalts, Says}
 use Rattle.text_references.proofs.CountsLaws.{wrapped_fine}
 use Rattle.text_references.proofs.MovedLaws.{next_of, moved_halts, ahead}
@@ -43,13 +40,13 @@ module _ (s : List ℕ) (w : Wrapped) (ready : Marked s w most_before) where
         closing s w.at ready.seen.within ready.seen.looks (put cells n kind_type_reference a 0 p m z w.extra) w.at.rows (n ∷ o) left (wrapped_by w.marks q)
         (act (wrap wrap_list) ∷ nt Bang? ∷ σ) (the bracket_r) bracket_r h tt tt ready.seen.few (wrapped_fine q w.marks f ready.marks)
 
-    module _ (r : Read) (e : r ≡ moved_to w.at.end w.at.rows (head_of (from s w.at.end))) where
-      pub close_bad : (x : Refusal) → r ≡ Refused x → WrapHalts s w (closers 1) x
+    module _ (r : Result Cursor Refusal) (e : r ≡ moved_to w.at.end w.at.rows (head_of (from s w.at.end))) where
+      pub close_bad : (x : Refusal) → r ≡ Err x → WrapHalts s w (closers 1) x
       close_bad x y cells n a p m z o left q σ l f =
           close_past cells n a p m z o left q σ f
           ∙ moved_halts s w.at.end w.at.rows r x e y (st (put cells n kind_type_reference a 0 p m z w.extra) w.at.rows (n ∷ o) w.at.end (suc left) (wrapped_by w.marks q)) (act (wrap wrap_list) ∷ nt Bang? ∷ σ)
 
-      module _ (d : Cursor) (y : r ≡ Done d) where
+      module _ (d : Cursor) (y : r ≡ Ok d) where
         abbrev behind : Wrapped
         behind = record { at = d; extra = w.extra * 4 + wrap_list; marks = w.marks }
 
@@ -67,9 +64,9 @@ module _ (s : List ℕ) (w : Wrapped) (ready : Marked s w most_before) where
             ∙ wrap_told cells w.at.rows o w.at.end (suc left) (wrapped_by w.marks q) (nt Bang? ∷ σ) (from s w.at.end) n kind_type_reference a 0 p m z w.extra wrap_list l
             ∙ rw (v.stop, v.rows) refl
 
-        pub close_says : (t : TypeRead) → Says s behind bang_stack 0 t → Says s w (closers 1) 1 t
+        pub close_says : (t : Result Wrapped Refusal) → Says s behind bang_stack 0 t → Says s w (closers 1) 1 t
         unfolding four
-        close_says (Typed u) g =
+        close_says (Ok u) g =
             let v = next_of s w.at.end w.at.rows r d e y in
             let b = ahead s w.at ready.seen.within ready.seen.looks (λ z. let x : ⊥ = omega arith in x) in
             record {
@@ -85,7 +82,7 @@ module _ (s : List ℕ) (w : Wrapped) (ready : Marked s w most_before) where
                   close_goes cells n a p m z o left q σ l f ∙ g.goes cells n a p m z o (suc left) q σ l f
                   ∙ (let i : 0 + suc left ≡ 1 + left = omega arith in ap (λ (x : ℕ). inside s u cells n a p m z o x q σ) i);
             }
-        close_says (Untyped x) g = λ cells n a p m z o left q σ l f. close_goes cells n a p m z o left q σ l f ∙ g cells n a p m z o (suc left) q σ l f
+        close_says (Err x) g = λ cells n a p m z o left q σ l f. close_goes cells n a p m z o left q σ l f ∙ g cells n a p m z o (suc left) q σ l f
 
 -- MORE BRACKETS
 closers_add : (i k : ℕ) → closers (i + k) ≡ closers i ++ closers k
@@ -156,8 +153,8 @@ module _ (s : List ℕ) (w : Wrapped) where
     closed_all opened e = rw e g
 
 -- the answer by its case
-pub says_typed : (s : List ℕ) (w : Wrapped) (α : Stack) (k : ℕ) (t : TypeRead) (v : Wrapped) → Says s w α k t → t ≡ Typed v → Wraps s w v α k
-says_typed s w α k t v g e = subst (λ (t : TypeRead). Says s w α k t) e g
+pub says_typed : (s : List ℕ) (w : Wrapped) (α : Stack) (k : ℕ) (t : Result Wrapped Refusal) (v : Wrapped) → Says s w α k t → t ≡ Ok v → Wraps s w v α k
+says_typed s w α k t v g e = subst (λ (t : Result Wrapped Refusal). Says s w α k t) e g
 
-pub says_untyped : (s : List ℕ) (w : Wrapped) (α : Stack) (k : ℕ) (t : TypeRead) (x : Refusal) → Says s w α k t → t ≡ Untyped x → WrapHalts s w α x
-says_untyped s w α k t x g e = subst (λ (t : TypeRead). Says s w α k t) e g
+pub says_untyped : (s : List ℕ) (w : Wrapped) (α : Stack) (k : ℕ) (t : Result Wrapped Refusal) (x : Refusal) → Says s w α k t → t ≡ Err x → WrapHalts s w α x
+says_untyped s w α k t x g e = subst (λ (t : Result Wrapped Refusal). Says s w α k t) e g

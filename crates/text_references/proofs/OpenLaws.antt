@@ -7,6 +7,7 @@ use Prim.Native.Nat.{ℕ, ◌+◌, ◌-◌, ◌≤◌, ◌<◌}
 use native.Mathlib.Numerals.{add-one}
 use native.Mathlib.Omega.{arith}
 use lib.ListN.{length}
+use Rattle.std.specs.Prelude.{Result, Ok, Err}
 use Rattle.paper.specs.Grammar.{nt, tm, act}
 use Rattle.paper.specs.Numbers.{most_wrappers, wrap_list}
 use Rattle.paper.specs.Language.{language, the, bracket_l, bracket_r, wrapper, wrap, TypeRef, ListType, Bang?}
@@ -19,8 +20,6 @@ use Rattle.paper.proofs.Going.{Stack, st, halt, go}
 use Rattle.text_scan.specs.Head.{head_of, kind_of}
 use Rattle.text_cursor.specs.Reader.{Looks, at, moved_to}
 use Rattle.text_cursor.specs.declared.Cursor.{Cursor}
-use Rattle.text_cursor.specs.declared.Read.{Read}
-use Rattle.text_cursor.specs.declared.Read.TheVariants.{Done, Refused}
 use Rattle.text_cursor.proofs.Steps.{first, opening, too_deep, too_many_open}
 use Rattle.text_cursor.proofs.Cells.{wrapper_counted}
 use Rattle.text_references.specs.Types.{wrapped_by, closers, Seen, Opened}
@@ -85,7 +84,7 @@ module _ (s : List ℕ) (c : Cursor) (left n : ℕ) (d : Cursor) (marks : ℕ) (
         ∙ too_many_open s d g.seen.within g.seen.looks cells d.rows o (left - marks) (wrapped_by (marks + 1) q) (nt TypeRef ∷ tm (the bracket_r) ∷ act (wrap wrap_list) ∷ nt Bang? ∷ (closers marks ++ σ)) (the bracket_l) bracket_l h tt tt
         (left - marks - 1) (omega arith) g.seen.few (wrapped_over q (marks + 1) f (omega arith))
 
-    module _ (l : marks < left) (k : marks < most_wrappers) (r : Read) (e : r ≡ moved_to d.end n (head_of (from s d.end))) where
+    module _ (l : marks < left) (k : marks < most_wrappers) (r : Result Cursor Refusal) (e : r ≡ moved_to d.end n (head_of (from s d.end))) where
       opened_past : (cells o : List ℕ) (q : Counts) (σ : Stack) → over_counts q ≡ false →
           at s cells c o left (wrapped_by 0 q) (nt TypeRef ∷ σ)
           ≡ go (st cells d.rows o d.end (left - (marks + 1)) (wrapped_by (marks + 1) q)) (nt TypeRef ∷ tm (the bracket_r) ∷ act (wrap wrap_list) ∷ nt Bang? ∷ (closers marks ++ σ)) (from s d.end)
@@ -95,12 +94,12 @@ module _ (s : List ℕ) (c : Cursor) (left n : ℕ) (d : Cursor) (marks : ℕ) (
           ∙ opening s d g.seen.within g.seen.looks cells d.rows o (left - marks) (wrapped_by (marks + 1) q) (nt TypeRef ∷ tm (the bracket_r) ∷ act (wrap wrap_list) ∷ nt Bang? ∷ (closers marks ++ σ)) (the bracket_l) bracket_l h tt tt
           (left - (marks + 1)) (omega arith) g.seen.few (wrapped_fine q (marks + 1) f (omega arith))
 
-      pub opened_bad : (x : Refusal) → r ≡ Refused x → OpenHalts s c left x
+      pub opened_bad : (x : Refusal) → r ≡ Err x → OpenHalts s c left x
       opened_bad x y cells o q σ f =
           opened_past cells o q σ f
           ∙ moved_halts s d.end n r x e y (st cells d.rows o d.end (left - (marks + 1)) (wrapped_by (marks + 1) q)) (nt TypeRef ∷ tm (the bracket_r) ∷ act (wrap wrap_list) ∷ nt Bang? ∷ (closers marks ++ σ))
 
-      pub opened_more : (b : Cursor) → r ≡ Done b → Opening s c left n b (marks + 1)
+      pub opened_more : (b : Cursor) → r ≡ Ok b → Opening s c left n b (marks + 1)
       opened_more b y =
           let v = next_of s d.end n r b e y in
           let j = ahead s d g.seen.within g.seen.looks (λ z. let x : ⊥ = omega arith in x) in

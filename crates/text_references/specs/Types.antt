@@ -1,5 +1,5 @@
 -- What the readers of a type reference ask and answer: equations of the machine, which writes the row while its marks are read.
-use Rattle.std.specs.Prelude.{◌≡◌, false, List, [], ◌∷◌, ◌++◌, ℕ, zero, suc, ◌+◌, ◌-◌, ◌*◌, ◌≤◌, ◌<◌, length}
+use Rattle.std.specs.Prelude.{◌≡◌, false, List, [], ◌∷◌, ◌++◌, ℕ, zero, suc, ◌+◌, ◌-◌, ◌*◌, ◌≤◌, ◌<◌, length, Result, Ok, Err}
 use Rattle.paper.specs.Grammar.{nt, tm, act}
 use Rattle.paper.specs.Numbers.{most_text, most_rows, most_wrappers, rows_size, kind_type_reference, wrap_list}
 use Rattle.paper.specs.Language.{the, bracket_r, row, kind, wrap, end, TypeRef, Bang?, bracket_l}
@@ -11,12 +11,8 @@ use Rattle.paper.proofs.Going.{Stack, st, Out, halt, go}
 use Rattle.text_scan.specs.Head.{kind_of}
 use Rattle.text_cursor.specs.Reader.{Looks, at}
 use Rattle.text_cursor.specs.declared.Cursor.{Cursor}
-use Rattle.text_cursor.specs.declared.Read.{Read}
-use Rattle.text_cursor.specs.declared.Read.TheVariants.{Done, Refused}
 use Rattle.text_cursor.proofs.Cells.{put}
 use Rattle.text_references.specs.declared.Wrapped.{Wrapped}
-use Rattle.text_references.specs.declared.TypeRead.{TypeRead}
-use Rattle.text_references.specs.declared.TypeRead.TheVariants.{Typed, Untyped}
 
 -- the counts with k wrappers
 abbrev pub wrapped_by : ℕ → Counts → Counts
@@ -78,9 +74,9 @@ abbrev pub WrapHalts : List ℕ → Wrapped → Stack → Refusal → Type 0
 WrapHalts s w α r = (cells : List ℕ) (n a p m z : ℕ) (o : List ℕ) (left : ℕ) (q : Counts) (σ : Stack) → 7 * n + 7 ≤ length cells → over_counts q ≡ false →
     inside s w cells n a p m z o left q (α ++ σ) ≡ halt r
 
-abbrev pub Says : List ℕ → Wrapped → Stack → ℕ → TypeRead → Type 0
-Says s w α closed (Typed v) = Wraps s w v α closed
-Says s w α closed (Untyped r) = WrapHalts s w α r
+abbrev pub Says : List ℕ → Wrapped → Stack → ℕ → Result Wrapped Refusal → Type 0
+Says s w α closed (Ok v) = Wraps s w v α closed
+Says s w α closed (Err r) = WrapHalts s w α r
 
 -- the brackets are open, and the cursor looks at what is no other
 pub record Opened (s : List ℕ) (c : Cursor) (left : ℕ) (w : Wrapped) : Type 0 where
@@ -93,9 +89,9 @@ pub record Opened (s : List ℕ) (c : Cursor) (left : ℕ) (w : Wrapped) : Type 
   pub goes : (cells o : List ℕ) (q : Counts) (σ : Stack) → over_counts q ≡ false →
       at s cells c o left (wrapped_by 0 q) (nt TypeRef ∷ σ) ≡ at s cells w.at o (left - w.marks) (wrapped_by w.marks q) (nt TypeRef ∷ (closers w.marks ++ σ))
 
-abbrev pub Opens : List ℕ → Cursor → ℕ → TypeRead → Type 0
-Opens s c left (Typed w) = Opened s c left w
-Opens s c left (Untyped r) = (cells o : List ℕ) (q : Counts) (σ : Stack) → over_counts q ≡ false → at s cells c o left (wrapped_by 0 q) (nt TypeRef ∷ σ) ≡ halt r
+abbrev pub Opens : List ℕ → Cursor → ℕ → Result Wrapped Refusal → Type 0
+Opens s c left (Ok w) = Opened s c left w
+Opens s c left (Err r) = (cells o : List ℕ) (q : Counts) (σ : Stack) → over_counts q ≡ false → at s cells c o left (wrapped_by 0 q) (nt TypeRef ∷ σ) ≡ halt r
 
 -- the machine at the name of a type reference, whose row has none yet
 abbrev pub unnamed : List ℕ → Cursor → ℕ → List ℕ → ℕ → ℕ → ℕ → List ℕ → ℕ → Counts → Stack → Out
@@ -110,9 +106,9 @@ pub record Based (s : List ℕ) (c : Cursor) (marks : ℕ) (v : Wrapped) : Type 
   pub goes : (cells : List ℕ) (n a p : ℕ) (o : List ℕ) (left : ℕ) (q : Counts) (σ : Stack) → 7 * n + 7 ≤ length cells → over_counts q ≡ false →
       unnamed s c marks cells n a p o left q σ ≡ inside s v cells n a p c.start (c.end - c.start) o (marks + left) q σ
 
-abbrev pub Named : List ℕ → Cursor → ℕ → TypeRead → Type 0
-Named s c marks (Typed v) = Based s c marks v
-Named s c marks (Untyped r) = (cells : List ℕ) (n a p : ℕ) (o : List ℕ) (left : ℕ) (q : Counts) (σ : Stack) → 7 * n + 7 ≤ length cells → over_counts q ≡ false →
+abbrev pub Named : List ℕ → Cursor → ℕ → Result Wrapped Refusal → Type 0
+Named s c marks (Ok v) = Based s c marks v
+Named s c marks (Err r) = (cells : List ℕ) (n a p : ℕ) (o : List ℕ) (left : ℕ) (q : Counts) (σ : Stack) → 7 * n + 7 ≤ length cells → over_counts q ≡ false →
     unnamed s c marks cells n a p o left q σ ≡ halt r
 
 -- the rest of a type reference behind its opening brackets asks
@@ -133,9 +129,9 @@ pub record Rested (s rows rows' : List ℕ) (w : Wrapped) (parent n start : ℕ)
   pub goes : (o : List ℕ) (left : ℕ) (q : Counts) (σ : Stack) → over_counts q ≡ false →
       unnamed s w.at w.marks rows n start parent o left q (act end ∷ σ) ≡ at s rows' d o (w.marks + left) (wrapped_by wrappers q) σ
 
-abbrev pub RestSaid : List ℕ → List ℕ → List ℕ → Wrapped → ℕ → ℕ → ℕ → Read → Type 0
-RestSaid s rows rows' w parent n start (Done d) = Rested s rows rows' w parent n start d
-RestSaid s rows rows' w parent n start (Refused r) = (o : List ℕ) (left : ℕ) (q : Counts) (σ : Stack) → over_counts q ≡ false → unnamed s w.at w.marks rows n start parent o left q (act end ∷ σ) ≡ halt r
+abbrev pub RestSaid : List ℕ → List ℕ → List ℕ → Wrapped → ℕ → ℕ → ℕ → Result Cursor Refusal → Type 0
+RestSaid s rows rows' w parent n start (Ok d) = Rested s rows rows' w parent n start d
+RestSaid s rows rows' w parent n start (Err r) = (o : List ℕ) (left : ℕ) (q : Counts) (σ : Stack) → over_counts q ≡ false → unnamed s w.at w.marks rows n start parent o left q (act end ∷ σ) ≡ halt r
 
 -- a whole type reference, where no wrapper is counted yet
 pub record TypeWent (s rows rows' : List ℕ) (c d : Cursor) (parent left : ℕ) : Type 0 where
@@ -148,6 +144,6 @@ pub record TypeWent (s rows rows' : List ℕ) (c d : Cursor) (parent left : ℕ)
   pub wrapped : wrappers ≤ most_wrappers
   pub goes : (σ : Stack) (o : List ℕ) (q : Counts) → top o ≡ parent → over_counts q ≡ false → at s rows c o left (wrapped_by 0 q) (type_stack ++ σ) ≡ at s rows' d o left (wrapped_by wrappers q) σ
 
-abbrev pub TypeSaid : List ℕ → List ℕ → List ℕ → Cursor → ℕ → ℕ → Read → Type 0
-TypeSaid s rows rows' c parent left (Done d) = TypeWent s rows rows' c d parent left
-TypeSaid s rows rows' c parent left (Refused r) = (σ : Stack) (o : List ℕ) (q : Counts) → top o ≡ parent → over_counts q ≡ false → at s rows c o left (wrapped_by 0 q) (type_stack ++ σ) ≡ halt r
+abbrev pub TypeSaid : List ℕ → List ℕ → List ℕ → Cursor → ℕ → ℕ → Result Cursor Refusal → Type 0
+TypeSaid s rows rows' c parent left (Ok d) = TypeWent s rows rows' c d parent left
+TypeSaid s rows rows' c parent left (Err r) = (σ : Stack) (o : List ℕ) (q : Counts) → top o ≡ parent → over_counts q ≡ false → at s rows c o left (wrapped_by 0 q) (type_stack ++ σ) ≡ halt r

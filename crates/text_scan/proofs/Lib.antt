@@ -6,3 +6,4 @@ pub mod PartLaws
 pub mod CharacterRuns
 pub mod CharacterScan
 pub mod RunScan
+pub mod TokenLaws

@@ -7,6 +7,7 @@ use Prim.Native.Nat.{ℕ, suc, ◌+◌}
 use native.Mathlib.Nat.{zero-add}
 use native.Mathlib.Omega.{arith}
 use lib.ListN.{drop}
+use Rattle.std.specs.Prelude.{Err}
 use Rattle.paper.specs.Grammar.{Sym, nt, act, Ev, tok, mark}
 use Rattle.paper.specs.Lexical.{Lex, Set, What, Piece, hits_byte}
 use Rattle.paper.specs.Tokens.{what_of}
@@ -15,7 +16,6 @@ use Rattle.paper.proofs.Longest.{scan}
 use Rattle.paper.proofs.LexTables.{lexer}
 use Rattle.text_scan.specs.Piece.{piece_at, token_here, as_token, ignored_here, as_ignored}
 use Rattle.text_scan.specs.Run.{run_of}
-use Rattle.text_scan.specs.declared.TokenRead.TheVariants.{Bad}
 
 abbrev pub Stack : Type 0
 Stack = List (Sym Lex Set What)
@@ -95,7 +95,7 @@ module _ (bs : List ℕ) where
   unfolding token_here piece_at
   read_token r at = rw (r.scans, r.what)
 
-  pub nothing_token : Nothing (nt Piece ∷ []) bs → (at : ℕ) → token_here at bs ≡ Bad at
+  pub nothing_token : Nothing (nt Piece ∷ []) bs → (at : ℕ) → token_here at bs ≡ Err at
   unfolding token_here piece_at
   nothing_token z at = rw z.scans
 

@@ -3,13 +3,11 @@
 use mathlib.Core.Path.{◌≡◌, refl, sym, ap, ◌∙◌}
 use mathlib.Core.Bool.{Bool, true, false, ◌&&◌, cond}
 use mathlib.Core.List.{List, [], ◌∷◌}
-use Prim.Native.Nat.{ℕ, suc, ◌+◌, ◌-◌, ◌<◌, ◌≤◌}
+use Prim.Native.Nat.{ℕ, suc, ◌-◌, ◌≤◌}
 use native.Mathlib.Omega.{arith}
-use native.Mathlib.Numerals.{add-one}
 use lib.Dec.{eqb}
-use lib.ListN.{length, take, drop, get_or, length-drop, drop_of_length-le}
-use lib.Seq.{drop-cons, length-take-le}
-use borrow.Author.Tests.{eq-eqb, ne_eqb}
+use lib.ListN.{length, take, drop, length-drop}
+use lib.Seq.{length-take-le}
 use Rattle.paper.specs.Language.{n_query, n_mutation, n_subscription, n_fragment, n_on, n_true, n_false, n_null, n_other}
 use Rattle.paper.specs.Tokens.{same, or_else}
 use Rattle.text_scan.specs.Head.{word_number, word_of}
@@ -24,35 +22,6 @@ same_long (x ∷ xs) (y ∷ ys) h = go (eqb x y) (same_long xs ys (λ e. h (ap s
     go : (b : Bool) → same xs ys ≡ false → b && same xs ys ≡ false
     go true q = q
     go false q = refl
-
--- whether the bytes of s from `at` on are those of w, from the i-th on
-abbrev pub same_from : List ℕ → ℕ → List ℕ → ℕ → Bool
-same_from s at w i = same (take (length w - i) (drop (at + i) s)) (drop i w)
-
-module _ (s w : List ℕ) (at i : ℕ) (within : at + length w ≤ length s) (h : i < length w) where
-  same_step : same_from s at w i ≡ eqb (get_or s (at + i) 0) (get_or w i 0) && same_from s at w (i + 1)
-  same_step =
-      let n : length w - i ≡ suc (length w - (i + 1)) = omega arith in
-      let k : at + (i + 1) ≡ suc (at + i) = omega arith in
-      rw (drop-cons w i 0 h, drop-cons s (at + i) 0 (omega arith), n, k, add-one i)
-
-  pub same_more : get_or s (at + i) 0 ≡ get_or w i 0 → same_from s at w (i + 1) ≡ same_from s at w i
-  same_more e = sym (same_step ∙ rw (eq-eqb _ _ e))
-
-  pub same_stop : (get_or s (at + i) 0 ≡ get_or w i 0 → ⊥) → false ≡ same_from s at w i
-  same_stop e = sym (same_step ∙ rw (ne_eqb _ _ e))
-
-pub same_whole : (s w : List ℕ) (at : ℕ) → same_from s at w 0 ≡ same (take (length w) (drop at s)) w
-same_whole s w at =
-    let n : length w - 0 ≡ length w = omega arith in
-    let k : at + 0 ≡ at = omega arith in
-    rw (n, k)
-
-pub same_all : (s w : List ℕ) (at i : ℕ) → length w ≡ i → true ≡ same_from s at w i
-same_all s w at i e =
-    let n : length w - i ≡ 0 = omega arith in
-    let l : length w ≤ i = omega arith in
-    rw (n, drop_of_length-le w l)
 
 abbrev pub a_query : List ℕ
 a_query = 113 ∷ 117 ∷ 101 ∷ 114 ∷ 121 ∷ []

@@ -1,9 +1,8 @@
 -- What the token reader answers, told by the text: the first of its tokens.
-use Rattle.std.specs.Prelude.{List, ℕ}
+use Rattle.text_scan.specs.declared.Token.{Token}
+use Rattle.std.specs.Prelude.{List, ℕ, Result, Err, Ok}
 use Rattle.paper.specs.Language.{Class, bang, dollar, paren_l, paren_r, spread, colon, equals, at_sign, bracket_l, bracket_r, brace_l, bar, brace_r, n_query, n_mutation, n_subscription, n_fragment, n_on, n_true, n_false, n_null, n_other, int, float, string}
 use Rattle.paper.specs.Tokens.{Text, at_end, bad, token, name_class}
-use Rattle.text_scan.specs.declared.TokenRead.{TokenRead}
-use Rattle.text_scan.specs.declared.TokenRead.TheVariants.{Token, Bad}
 
 -- the number by which the code knows a class: all names are one kind, and a punctuator of one byte has that byte
 abbrev pub kind_of : Class → ℕ
@@ -64,8 +63,12 @@ word_number brace_r = 0
 unfoldable pub word_of : List ℕ → ℕ
 word_of w = word_number (name_class w)
 
+-- the answer with this token
+abbrev pub token_read : ℕ → ℕ → ℕ → Result Token ℕ
+token_read k a e = Ok (record { kind = k; start = a; end = e })
+
 -- the first token, or the end, or the bad bytes
-abbrev pub head_of : Text → TokenRead
-head_of (at_end n) = Token 0 n n
-head_of (bad n) = Bad n
-head_of (token k t) = Token (kind_of k.class) k.start k.stop
+abbrev pub head_of : Text → Result Token ℕ
+head_of (at_end n) = token_read 0 n n
+head_of (bad n) = Err n
+head_of (token k t) = token_read (kind_of k.class) k.start k.stop

@@ -1,4 +1,4 @@
-// The parts of strings and comments; words; and what the token reader answers.
+// The parts of strings and comments; words; and tokens.
 #![tactic(auto)]
 
 ghost use Rattle.std.specs.Prelude.{◌≡◌, ◌+◌, ◌-◌, ◌≤◌, ◌<◌, length, take, drop};
@@ -10,11 +10,13 @@ ghost use Rattle.text_scan.specs.Parts.{four_hex, escaped_size, with_one, part_s
 
 use text_characters::character;
 
-// What stands at a place: a token, or bytes that start none (also a string or a comment with bad text).
+// A token: its kind, and where it starts and ends. A reader of tokens answers Ok with the one at a place, or Err with the offset of bytes that
+// start none (also of a string or a comment with bad text).
 #[derive(Clone, Copy)]
-pub enum TokenRead {
-    Token { kind: u32, start: usize, end: usize },
-    Bad(usize),
+pub struct Token {
+    pub kind: u32,
+    pub start: usize,
+    pub end: usize,
 }
 
 // The kinds of tokens; at the end of the text stands one of no bytes. A punctuator of one byte has that byte for its kind.
@@ -214,14 +216,7 @@ pub fn begins(s: &[u8], at: usize, w: &[u8]) -> bool
     requires { at + length w.now ≤ length s.now }
     ensures { result ≡ same (take (length w.now) (drop at s.now)) w.now }
 {
-    let mut i = 0;
-    while i < w.len() {
-        if s[at + i] != w[i] {
-            return false;
-        }
-        i += 1;
-    }
-    true
+    &s[at..at + w.len()] == w
 }
 
 // Which of the words the name from `start` to `end` is.

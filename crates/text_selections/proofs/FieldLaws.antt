@@ -6,6 +6,7 @@ use mathlib.Core.List.{List, [], ◌∷◌, ◌++◌}
 use Prim.Native.Nat.{ℕ, ◌+◌, ◌-◌, ◌*◌, ◌≤◌, ◌<◌}
 use native.Mathlib.Omega.{arith}
 use lib.ListN.{length, set, length-set}
+use Rattle.std.specs.Prelude.{Result, Ok, Err}
 use Rattle.paper.specs.Grammar.{nt, act}
 use Rattle.paper.specs.Numbers.{most_text, most_rows, rows_size}
 use Rattle.paper.specs.Rows.{top}
@@ -18,8 +19,6 @@ use Rattle.paper.proofs.Tables.{factored}
 use Rattle.paper.proofs.Going.{Stack, st, go}
 use Rattle.text_scan.specs.Head.{head_of, kind_of}
 use Rattle.text_cursor.specs.declared.Cursor.{Cursor}
-use Rattle.text_cursor.specs.declared.Read.{Read}
-use Rattle.text_cursor.specs.declared.Read.TheVariants.{Done, Refused}
 use Rattle.text_cursor.specs.Reader.{moved_to, at, Ready, Went, Halts, Said}
 use Rattle.paper.specs.Language.{language, the, any_name, colon, named, end, Name, Field, AliasRest, Arguments?, Directives?, SelectionSet?, Selection, at_sign, brace_l, n_other, paren_l}
 use Rattle.text_cursor.proofs.Steps.{first, null, plain, too_many_rows, is, not_is}
@@ -33,19 +32,19 @@ use Rattle.text_arguments.proofs.Onward.{Next, lies, has_bytes, next, next_at, n
 use Rattle.text_selections.specs.Selections.{selection_stack, body_stack, field_stack, alias_stack, field_rest_stack, field_end_stack, field_begun, AliasSaid, HeadSaid}
 
 -- ARGUMENTS, THEN DIRECTIVES, of the row n
-module _ (s rows rows₁ : List ℕ) (c : Cursor) (n left : ℕ) (r : Read) (v : Said 0 s rows rows₁ c n left arguments_stack r) where
-  pub rest_stops : (x : Refusal) → r ≡ Refused x → Halts s rows c n left field_rest_stack x
+module _ (s rows rows₁ : List ℕ) (c : Cursor) (n left : ℕ) (r : Result Cursor Refusal) (v : Said 0 s rows rows₁ c n left arguments_stack r) where
+  pub rest_stops : (x : Refusal) → r ≡ Err x → Halts s rows c n left field_rest_stack x
   rest_stops x e σ o q p f = said_halts 0 s rows rows₁ c n left arguments_stack r x v e (nt Directives? ∷ σ) o q p f
 
-  module _ (d : Cursor) (e : r ≡ Done d) where
+  module _ (d : Cursor) (e : r ≡ Ok d) where
     rest_read : Went 0 s rows rows₁ c d n left arguments_stack
     rest_read = said_went 0 s rows rows₁ c d n left arguments_stack r v e
 
     pub rest_ready : length s ≤ most_text → n ≤ most_rows → Ready s rows₁ d n
     rest_ready h p = record { short = h; size = rest_read.size; within = rest_read.within; few = rest_read.few; looks = rest_read.looks; below = p }
 
-    pub rest_said : (rows₂ : List ℕ) (t : Read) → Said 0 s rows₁ rows₂ d n left directives_stack t → Said 0 s rows rows₂ c n left field_rest_stack t
-    rest_said rows₂ (Done u) w =
+    pub rest_said : (rows₂ : List ℕ) (t : Result Cursor Refusal) → Said 0 s rows₁ rows₂ d n left directives_stack t → Said 0 s rows rows₂ c n left field_rest_stack t
+    rest_said rows₂ (Ok u) w =
         record {
           size = w.size;
           within = w.within;
@@ -54,17 +53,17 @@ module _ (s rows rows₁ : List ℕ) (c : Cursor) (n left : ℕ) (r : Read) (v :
           on = omega (arith, rest_read.on, w.on);
           goes = λ σ o q p f. rest_read.goes (nt Directives? ∷ σ) o q p f ∙ w.goes σ o q p f;
         }
-    rest_said rows₂ (Refused x) w = λ σ o q p f. rest_read.goes (nt Directives? ∷ σ) o q p f ∙ w σ o q p f
+    rest_said rows₂ (Err x) w = λ σ o q p f. rest_read.goes (nt Directives? ∷ σ) o q p f ∙ w σ o q p f
 
     pub rest_undirected : length s ≤ most_text → n ≤ most_rows → (d.kind ≡ kind_of at_sign → ⊥) → Went 0 s rows rows₁ c d n left field_rest_stack
-    rest_undirected h p k = rest_said rows₁ (Done d) (no_directives s rows₁ d n left (rest_ready h p) k)
+    rest_undirected h p k = rest_said rows₁ (Ok d) (no_directives s rows₁ d n left (rest_ready h p) k)
 
 -- without arguments
-pub rest_bare : (s rows : List ℕ) (c : Cursor) (n left : ℕ) → Ready s rows c n → (c.kind ≡ kind_of paren_l → ⊥) → (rows₂ : List ℕ) (t : Read) → Said 0 s rows rows₂ c n left directives_stack t → Said 0 s rows rows₂ c n left field_rest_stack t
-rest_bare s rows c n left a k = rest_said s rows rows c n left (Done c) (none_said s rows c n left a k) c refl
+pub rest_bare : (s rows : List ℕ) (c : Cursor) (n left : ℕ) → Ready s rows c n → (c.kind ≡ kind_of paren_l → ⊥) → (rows₂ : List ℕ) (t : Result Cursor Refusal) → Said 0 s rows rows₂ c n left directives_stack t → Said 0 s rows rows₂ c n left field_rest_stack t
+rest_bare s rows c n left a k = rest_said s rows rows c n left (Ok c) (none_said s rows c n left a k) c refl
 
 pub rest_none : (s rows : List ℕ) (c : Cursor) (n left : ℕ) → Ready s rows c n → (c.kind ≡ kind_of paren_l → ⊥) → (c.kind ≡ kind_of at_sign → ⊥) → Went 0 s rows rows c c n left field_rest_stack
-rest_none s rows c n left a k i = rest_bare s rows c n left a k rows (Done c) (no_directives s rows c n left a i)
+rest_none s rows c n left a k i = rest_bare s rows c n left a k rows (Ok c) (no_directives s rows c n left a i)
 
 -- FROM THE COLON OF AN ALIAS ON: row n begins at `start`, and its name is told again
 module _ (s rows : List ℕ) (c : Cursor) (parent left n start : ℕ) (a : Ready s rows c n) (e : c.kind ≡ kind_of colon) (k : c.rows ≡ n + 1) where
@@ -79,12 +78,12 @@ module _ (s rows : List ℕ) (c : Cursor) (parent left n start : ℕ) (a : Ready
       ∙ plain s c a.within a.looks (field_begun rows n start parent m z) c.rows (n ∷ o) left q (named_again σ) (the colon) colon e tt tt a.few f
       ∙ ap (λ (u : ℕ). go (st (field_begun rows n start parent m z) u (n ∷ o) c.end left q) (named_again σ) (from s c.end)) k
 
-  module _ (r : Read) (w : r ≡ moved_to c.end (n + 1) (head_of (from s c.end))) where
-    pub alias_bad : (rows' : List ℕ) (x : Refusal) → r ≡ Refused x → AliasSaid s rows rows' c parent left n start (Refused x)
+  module _ (r : Result Cursor Refusal) (w : r ≡ moved_to c.end (n + 1) (head_of (from s c.end))) where
+    pub alias_bad : (rows' : List ℕ) (x : Refusal) → r ≡ Err x → AliasSaid s rows rows' c parent left n start (Err x)
     alias_bad rows' x y m z σ o q p f =
         past_colon m z σ o q f ∙ moved_halts s c.end (n + 1) r x w y (st (field_begun rows n start parent m z) (n + 1) (n ∷ o) c.end left q) (named_again σ)
 
-    module _ (name : Cursor) (y : r ≡ Done name) where
+    module _ (name : Cursor) (y : r ≡ Ok name) where
       pub alias_name : Next s c name (n + 1)
       alias_name = next s c name (n + 1) a.within a.looks r w y
 
@@ -96,7 +95,7 @@ module _ (s rows : List ℕ) (c : Cursor) (parent left n start : ℕ) (a : Ready
           ∙ next_at s c name (n + 1) alias_name (field_begun rows n start parent m z) (n ∷ o) left q (named_again σ)
           ∙ named_row s name alias_name.looks rows name.rows o left q (nt Name ∷ nt Arguments? ∷ nt Directives? ∷ σ) n 3 start 0 parent m z 0
 
-      pub alias_nameless : (name.kind ≡ kind_of n_other → ⊥) → (rows' : List ℕ) → AliasSaid s rows rows' c parent left n start (Refused (NoGoing name.start))
+      pub alias_nameless : (name.kind ≡ kind_of n_other → ⊥) → (rows' : List ℕ) → AliasSaid s rows rows' c parent left n start (Err (NoGoing name.start))
       alias_nameless i rows' m z σ o q p f =
           to_name m z σ o q f ∙ name_lacks s name alias_name.within alias_name.looks _ name.rows (n ∷ o) left q (nt Arguments? ∷ nt Directives? ∷ σ) i
 
@@ -111,12 +110,12 @@ module _ (s rows : List ℕ) (c : Cursor) (parent left n start : ℕ) (a : Ready
             ∙ ap (λ (u : ℕ). go (st (field_begun rows n start parent name.start (name.end - name.start)) u (n ∷ o) name.end left q) (field_rest_stack ++ σ) (from s name.end)) alias_name.rows
             ∙ ap (λ (u : List ℕ). go (st u (n + 1) (n ∷ o) name.end left q) (field_rest_stack ++ σ) (from s name.end)) (sym j)
 
-        module _ (t : Read) (w' : t ≡ moved_to name.end (n + 1) (head_of (from s name.end))) where
-          pub alias_bad_behind : (rows' : List ℕ) (x : Refusal) → t ≡ Refused x → AliasSaid s rows rows' c parent left n start (Refused x)
+        module _ (t : Result Cursor Refusal) (w' : t ≡ moved_to name.end (n + 1) (head_of (from s name.end))) where
+          pub alias_bad_behind : (rows' : List ℕ) (x : Refusal) → t ≡ Err x → AliasSaid s rows rows' c parent left n start (Err x)
           alias_bad_behind rows' x y' m z σ o q p f =
               past_name m z σ o q f ∙ moved_halts s name.end (n + 1) t x w' y' (st rows₁ (n + 1) (n ∷ o) name.end left q) (field_rest_stack ++ σ)
 
-          module _ (b : Cursor) (y' : t ≡ Done b) where
+          module _ (b : Cursor) (y' : t ≡ Ok b) where
             behind : Next s name b (n + 1)
             behind = next s name b (n + 1) alias_name.within alias_name.looks t w' y'
 
@@ -135,9 +134,9 @@ module _ (s rows : List ℕ) (c : Cursor) (parent left n start : ℕ) (a : Ready
                 at s (field_begun rows n start parent m z) c (n ∷ o) left q (alias_stack ++ σ) ≡ at s rows₁ b (n ∷ o) left q (field_rest_stack ++ σ)
             to_rest m z σ o q f = past_name m z σ o q f ∙ next_at s name b (n + 1) behind rows₁ (n ∷ o) left q (field_rest_stack ++ σ)
 
-            pub alias_said : (rows₂ : List ℕ) (u : Read) → Said 0 s rows₁ rows₂ b n left field_rest_stack u → AliasSaid s rows rows₂ c parent left n start u
-            alias_said rows₂ (Refused x) v m z = λ σ o q p f. to_rest m z σ o q f ∙ v σ (n ∷ o) q refl f
-            alias_said rows₂ (Done d) v m z =
+            pub alias_said : (rows₂ : List ℕ) (u : Result Cursor Refusal) → Said 0 s rows₁ rows₂ b n left field_rest_stack u → AliasSaid s rows rows₂ c parent left n start u
+            alias_said rows₂ (Err x) v m z = λ σ o q p f. to_rest m z σ o q f ∙ v σ (n ∷ o) q refl f
+            alias_said rows₂ (Ok d) v m z =
                 let l = lies s c a.within a.looks in
                 let l' = lies s name alias_name.within alias_name.looks in
                 record {
@@ -178,12 +177,12 @@ module _ (s rows : List ℕ) (c : Cursor) (parent left : ℕ) (a : Ready s rows 
     past_first σ o q p f =
         begins σ o q p ∙ name_taken s c a.within a.looks begun (c.rows + 1) (c.rows ∷ o) left q (alias_stack ++ (field_end_stack ++ σ)) e (omega (arith, head_room)) f
 
-    module _ (r : Read) (w : r ≡ moved_to c.end (c.rows + 1) (head_of (from s c.end))) where
-      pub head_bad : (x : Refusal) → r ≡ Refused x → Halts s rows c parent left field_stack x
+    module _ (r : Result Cursor Refusal) (w : r ≡ moved_to c.end (c.rows + 1) (head_of (from s c.end))) where
+      pub head_bad : (x : Refusal) → r ≡ Err x → Halts s rows c parent left field_stack x
       head_bad x y σ o q p f =
           past_first σ o q p f ∙ moved_halts s c.end (c.rows + 1) r x w y (st begun (c.rows + 1) (c.rows ∷ o) c.end left q) (alias_stack ++ (field_end_stack ++ σ))
 
-      module _ (b : Cursor) (y : r ≡ Done b) where
+      module _ (b : Cursor) (y : r ≡ Ok b) where
         head_next : Next s c b (c.rows + 1)
         head_next = next s c b (c.rows + 1) a.within a.looks r w y
 
@@ -202,9 +201,9 @@ module _ (s rows : List ℕ) (c : Cursor) (parent left : ℕ) (a : Ready s rows 
         to_second σ o q p f = past_first σ o q p f ∙ next_at s c b (c.rows + 1) head_next begun (c.rows ∷ o) left q (alias_stack ++ (field_end_stack ++ σ))
 
         -- with an alias
-        pub head_aliased : (rows₂ : List ℕ) (u : Read) → AliasSaid s rows rows₂ b parent left c.rows c.start u → HeadSaid s rows rows₂ c parent left u
-        head_aliased rows₂ (Refused x) v = λ σ o q p f. to_second σ o q p f ∙ v c.start (c.end - c.start) (field_end_stack ++ σ) o q refl f
-        head_aliased rows₂ (Done d) v =
+        pub head_aliased : (rows₂ : List ℕ) (u : Result Cursor Refusal) → AliasSaid s rows rows₂ b parent left c.rows c.start u → HeadSaid s rows rows₂ c parent left u
+        head_aliased rows₂ (Err x) v = λ σ o q p f. to_second σ o q p f ∙ v c.start (c.end - c.start) (field_end_stack ++ σ) o q refl f
+        head_aliased rows₂ (Ok d) v =
             let g = v c.start (c.end - c.start) in
             let l = lies s c a.within a.looks in (
               head_room,
@@ -227,10 +226,10 @@ module _ (s rows : List ℕ) (c : Cursor) (parent left : ℕ) (a : Ready s rows 
             ∙ null s b head_next.within head_next.looks begun b.rows (c.rows ∷ o) left q (field_rest_stack ++ (field_end_stack ++ σ)) AliasRest (Memᴰ.head refl) tt refl (λ (u : ℕ). not (is (kind_of colon) u))
             (not_is (kind_of colon) b.kind i) tt
 
-        pub head_plain : (b.kind ≡ kind_of colon → ⊥) → (rows₁ : List ℕ) → rows₁ ≡ begun → (rows₂ : List ℕ) (u : Read) → Said 0 s rows₁ rows₂ b c.rows left field_rest_stack u → HeadSaid s rows rows₂ c parent left u
-        head_plain i rows₁ j rows₂ (Refused x) v =
+        pub head_plain : (b.kind ≡ kind_of colon → ⊥) → (rows₁ : List ℕ) → rows₁ ≡ begun → (rows₂ : List ℕ) (u : Result Cursor Refusal) → Said 0 s rows₁ rows₂ b c.rows left field_rest_stack u → HeadSaid s rows rows₂ c parent left u
+        head_plain i rows₁ j rows₂ (Err x) v =
             λ σ o q p f. no_alias i σ o q p f ∙ ap (λ (t : List ℕ). at s t b (c.rows ∷ o) left q (field_rest_stack ++ (field_end_stack ++ σ))) (sym j) ∙ v (field_end_stack ++ σ) (c.rows ∷ o) q refl f
-        head_plain i rows₁ j rows₂ (Done d) v =
+        head_plain i rows₁ j rows₂ (Ok d) v =
             let l = lies s c a.within a.looks in (
               head_room,
               record {
@@ -248,13 +247,13 @@ module _ (s rows : List ℕ) (c : Cursor) (parent left : ℕ) (a : Ready s rows 
             )
 
 -- A FIELD, by its head
-module _ (s rows rows₁ : List ℕ) (c : Cursor) (parent left : ℕ) (r : Read) (v : HeadSaid s rows rows₁ c parent left r) where
-  pub field_stops : (x : Refusal) → r ≡ Refused x → Halts s rows c parent left field_stack x
-  field_stops x e = subst (λ (y : Read). HeadSaid s rows rows₁ c parent left y) e v
+module _ (s rows rows₁ : List ℕ) (c : Cursor) (parent left : ℕ) (r : Result Cursor Refusal) (v : HeadSaid s rows rows₁ c parent left r) where
+  pub field_stops : (x : Refusal) → r ≡ Err x → Halts s rows c parent left field_stack x
+  field_stops x e = subst (λ (y : Result Cursor Refusal). HeadSaid s rows rows₁ c parent left y) e v
 
-  module _ (d : Cursor) (e : r ≡ Done d) where
+  module _ (d : Cursor) (e : r ≡ Ok d) where
     pub field_read : (c.rows < most_rows) × Passed 1 s rows rows₁ c d parent left left shut (opened c.rows) field_stack field_end_stack
-    field_read = subst (λ (y : Read). HeadSaid s rows rows₁ c parent left y) e v
+    field_read = subst (λ (y : Result Cursor Refusal). HeadSaid s rows rows₁ c parent left y) e v
 
     pub field_ready : length s ≤ most_text → Ready s rows₁ d c.rows
     field_ready h = let g = field_read.1 in record { short = h; size = g.size; within = g.within; few = g.few; looks = g.looks; below = omega (arith, field_read.0) }
@@ -267,9 +266,9 @@ module _ (s rows rows₁ : List ℕ) (c : Cursor) (parent left : ℕ) (r : Read)
           field_read.1.goes σ o q p f
           ∙ first s d field_read.1.within field_read.1.looks rows₁ d.rows (c.rows ∷ o) left q (act end ∷ σ) SelectionSet? (Memᴰ.tail (Memᴰ.head refl)) brace_l k tt
 
-      pub field_set : (rows₂ : List ℕ) (t : Read) → Passes 1 s rows₁ rows₂ d c.rows left (opened c.rows) shut body_stack [] t → Said 1 s rows rows₂ c parent left field_stack t
-      field_set rows₂ (Refused x) u = λ σ o q p f. to_set σ o q p f ∙ u σ o q refl f
-      field_set rows₂ (Done b) u =
+      pub field_set : (rows₂ : List ℕ) (t : Result Cursor Refusal) → Passes 1 s rows₁ rows₂ d c.rows left (opened c.rows) shut body_stack [] t → Said 1 s rows rows₂ c parent left field_stack t
+      field_set rows₂ (Err x) u = λ σ o q p f. to_set σ o q p f ∙ u σ o q refl f
+      field_set rows₂ (Ok b) u =
           record {
             size = u.size;
             within = u.within;
@@ -299,10 +298,10 @@ module _ (s rows rows₁ : List ℕ) (c : Cursor) (parent left : ℕ) (r : Read)
         }
 
 -- a selection that begins with a name is a field
-pub field_selected : (s rows rows₁ : List ℕ) (c : Cursor) (parent left : ℕ) → Ready s rows c parent → c.kind ≡ kind_of n_other → (r : Read) → Said 1 s rows rows₁ c parent left field_stack r → Said 1 s rows rows₁ c parent left selection_stack r
+pub field_selected : (s rows rows₁ : List ℕ) (c : Cursor) (parent left : ℕ) → Ready s rows c parent → c.kind ≡ kind_of n_other → (r : Result Cursor Refusal) → Said 1 s rows rows₁ c parent left field_stack r → Said 1 s rows rows₁ c parent left selection_stack r
 unfolding factored language
-field_selected s rows rows₁ c parent left a e (Refused x) v = λ σ o q p f. first s c a.within a.looks rows c.rows o left q σ Selection (Memᴰ.head refl) n_other e tt ∙ v σ o q p f
-field_selected s rows rows₁ c parent left a e (Done d) v =
+field_selected s rows rows₁ c parent left a e (Err x) v = λ σ o q p f. first s c a.within a.looks rows c.rows o left q σ Selection (Memᴰ.head refl) n_other e tt ∙ v σ o q p f
+field_selected s rows rows₁ c parent left a e (Ok d) v =
     record {
       size = v.size;
       within = v.within;

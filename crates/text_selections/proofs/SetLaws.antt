@@ -7,6 +7,7 @@ use mathlib.Core.Logic.{◌⊎◌, inl, inr}
 use Prim.Native.Nat.{ℕ, suc, ◌+◌, ◌-◌, ◌*◌, ◌≤◌}
 use native.Mathlib.Omega.{arith}
 use lib.ListN.{length, set, length-set}
+use Rattle.std.specs.Prelude.{Result, Ok, Err}
 use Rattle.paper.specs.Grammar.{nt, tm, act}
 use Rattle.paper.specs.Numbers.{most_text, most_rows}
 use Rattle.paper.specs.Rows.{top}
@@ -19,8 +20,6 @@ use Rattle.paper.proofs.Tables.{factored}
 use Rattle.paper.proofs.Going.{Stack, st, Out, halt, go}
 use Rattle.text_scan.specs.Head.{head_of, kind_of}
 use Rattle.text_cursor.specs.declared.Cursor.{Cursor}
-use Rattle.text_cursor.specs.declared.Read.{Read}
-use Rattle.text_cursor.specs.declared.Read.TheVariants.{Done, Refused}
 use Rattle.text_cursor.specs.Reader.{Looks, moved_to, at, Ready, Went, Halts, Said}
 use Rattle.paper.specs.Language.{language, the, brace_l, brace_r, end, SelectionSet, Selection+, Selection*, Selection, n_other, spread}
 use Rattle.text_cursor.proofs.Steps.{first, null, refuse, lacks, opening, closing, too_deep, is, not_is, not_two, refuses, refuses_end}
@@ -108,12 +107,12 @@ module _ (s rows : List ℕ) (c : Cursor) (parent left : ℕ) (a : Ready s rows 
         opens s c a.within a.looks rows c.rows o left q σ e
         ∙ opening s c a.within a.looks rows c.rows o left q (nt Selection+ ∷ tm (the brace_r) ∷ σ) (the brace_l) brace_l e tt tt (left - 1) (omega arith) a.few f
 
-    pub set_bad : (left ≡ 0 → ⊥) → (r : Read) → r ≡ moved_to c.end c.rows (head_of (from s c.end)) → (x : Refusal) → r ≡ Refused x → Halts s rows c parent left selection_set_stack x
+    pub set_bad : (left ≡ 0 → ⊥) → (r : Result Cursor Refusal) → r ≡ moved_to c.end c.rows (head_of (from s c.end)) → (x : Refusal) → r ≡ Err x → Halts s rows c parent left selection_set_stack x
     set_bad z r m x y σ o q p f =
         opened_at z σ o q f ∙ moved_halts s c.end c.rows r x m y (st rows c.rows o c.end (left - 1) q) (nt Selection+ ∷ tm (the brace_r) ∷ σ)
 
     -- the loop: at each turn a selection is to be read
-    pub turn_first : (left ≡ 0 → ⊥) → (d : Cursor) (r : Read) → r ≡ moved_to c.end c.rows (head_of (from s c.end)) → r ≡ Done d →
+    pub turn_first : (left ≡ 0 → ⊥) → (d : Cursor) (r : Result Cursor Refusal) → r ≡ moved_to c.end c.rows (head_of (from s c.end)) → r ≡ Ok d →
         Passed 1 s rows rows c d parent left (left - 1) shut shut selection_set_stack one_more
     turn_first z d r m y =
         let x = next s c d c.rows a.within a.looks r m y in
@@ -137,11 +136,11 @@ module _ (gain : ℕ) (s rows rows₁ : List ℕ) (c d : Cursor) (parent left₀
   turn_ready h p = record { short = h; size = i.size; within = i.within; few = i.few; looks = i.looks; below = p }
 
   -- with the selection read, or refused
-  module _ (rows₂ : List ℕ) (r : Read) (v : Said 1 s rows₁ rows₂ d parent (left - 1) selection_stack r) where
-    pub turn_stops : (x : Refusal) → r ≡ Refused x → Halts s rows c parent left₀ α x
+  module _ (rows₂ : List ℕ) (r : Result Cursor Refusal) (v : Said 1 s rows₁ rows₂ d parent (left - 1) selection_stack r) where
+    pub turn_stops : (x : Refusal) → r ≡ Err x → Halts s rows c parent left₀ α x
     turn_stops x e σ o q p f = i.goes σ o q p f ∙ said_halts 1 s rows₁ rows₂ d parent (left - 1) selection_stack r x v e (nt Selection* ∷ tm (the brace_r) ∷ σ) o q p f
 
-    module _ (b : Cursor) (e : r ≡ Done b) where
+    module _ (b : Cursor) (e : r ≡ Ok b) where
       pub turn_read : Went 1 s rows₁ rows₂ d b parent (left - 1) selection_stack
       turn_read = said_went 1 s rows₁ rows₂ d b parent (left - 1) selection_stack r v e
 
@@ -161,7 +160,7 @@ module _ (gain : ℕ) (s rows rows₁ : List ℕ) (c d : Cursor) (parent left₀
           }
 
 -- it ends, behind b
-module _ (s rows rows₁ rows₂ : List ℕ) (c d b : Cursor) (parent left : ℕ) (i : Passed 1 s rows rows₁ c d parent left (left - 1) shut shut selection_set_stack one_more) (r : Read) (v : Said 1 s rows₁ rows₂ d parent (left - 1) selection_stack r) (e : r ≡ Done b) (z : left ≡ 0 → ⊥) (k : b.kind ≡ kind_of brace_r) where
+module _ (s rows rows₁ rows₂ : List ℕ) (c d b : Cursor) (parent left : ℕ) (i : Passed 1 s rows rows₁ c d parent left (left - 1) shut shut selection_set_stack one_more) (r : Result Cursor Refusal) (v : Said 1 s rows₁ rows₂ d parent (left - 1) selection_stack r) (e : r ≡ Ok b) (z : left ≡ 0 → ⊥) (k : b.kind ≡ kind_of brace_r) where
   read : Went 1 s rows₁ rows₂ d b parent (left - 1) selection_stack
   read = said_went 1 s rows₁ rows₂ d b parent (left - 1) selection_stack r v e
 
@@ -172,17 +171,17 @@ module _ (s rows rows₁ rows₂ : List ℕ) (c d b : Cursor) (parent left : ℕ
       ∙ closes_with s b read.within read.looks rows₂ b.rows o (left - 1) q σ k read.few f
       ∙ ap (λ (m : ℕ). go (st rows₂ b.rows o b.end m q) σ (from s b.end)) (omega arith)
 
-  pub turn_ends : (t : Read) → t ≡ moved_to b.end b.rows (head_of (from s b.end)) → Said 1 s rows rows₂ c parent left selection_set_stack t
+  pub turn_ends : (t : Result Cursor Refusal) → t ≡ moved_to b.end b.rows (head_of (from s b.end)) → Said 1 s rows rows₂ c parent left selection_set_stack t
   turn_ends t m =
       let l = lies s b read.within read.looks in
       moved_said 1 s rows rows₂ c parent left selection_set_stack b.end b.rows read.size l.2 read.few (omega (arith, i.on, read.on)) end_at t m
 
 -- THE SET THAT ENDS ROW n
-module _ (s rows rows₁ : List ℕ) (c : Cursor) (n left : ℕ) (r : Read) (v : Said 1 s rows rows₁ c n left selection_set_stack r) where
-  pub body_stops : (x : Refusal) → r ≡ Refused x → (σ : Stack) (o : List ℕ) (q : Counts) → top (opened n o) ≡ n → over_counts q ≡ false → at s rows c (opened n o) left q (body_stack ++ σ) ≡ halt x
+module _ (s rows rows₁ : List ℕ) (c : Cursor) (n left : ℕ) (r : Result Cursor Refusal) (v : Said 1 s rows rows₁ c n left selection_set_stack r) where
+  pub body_stops : (x : Refusal) → r ≡ Err x → (σ : Stack) (o : List ℕ) (q : Counts) → top (opened n o) ≡ n → over_counts q ≡ false → at s rows c (opened n o) left q (body_stack ++ σ) ≡ halt x
   body_stops x e σ o q p f = said_halts 1 s rows rows₁ c n left selection_set_stack r x v e (act end ∷ σ) (n ∷ o) q refl f
 
-  module _ (d : Cursor) (e : r ≡ Done d) where
+  module _ (d : Cursor) (e : r ≡ Ok d) where
     pub body_read : Went 1 s rows rows₁ c d n left selection_set_stack
     body_read = said_went 1 s rows rows₁ c d n left selection_set_stack r v e
 

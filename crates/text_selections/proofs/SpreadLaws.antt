@@ -9,6 +9,7 @@ use native.Mathlib.Omega.{arith}
 use lib.Dec.{T, eqb, eqb→eq}
 use borrow.Author.Tests.{eqb-true, eq-eqb, ne_eqb}
 use lib.ListN.{length, set, length-set}
+use Rattle.std.specs.Prelude.{Result, Ok, Err}
 use Rattle.paper.specs.Grammar.{nt, tm, act}
 use Rattle.paper.specs.Numbers.{most_rows}
 use Rattle.paper.specs.Rows.{top}
@@ -22,8 +23,6 @@ use Rattle.paper.proofs.Tables.{factored}
 use Rattle.paper.proofs.Going.{Stack, st, go}
 use Rattle.text_scan.specs.Head.{head_of, kind_of}
 use Rattle.text_cursor.specs.declared.Cursor.{Cursor}
-use Rattle.text_cursor.specs.declared.Read.{Read}
-use Rattle.text_cursor.specs.declared.Read.TheVariants.{Done, Refused}
 use Rattle.text_cursor.specs.Reader.{moved_to, at, Ready, Went, Halts, Said}
 use Rattle.paper.specs.Language.{language, the, spread, name_but_on, kind, named, end, Selection, SpreadRest, FragmentName, TypeCondition?, TypeCondition, Directives?, at_sign, brace_l, n_other}
 use Rattle.text_scan.specs.Head.{word_of}
@@ -76,15 +75,15 @@ module _ (s rows : List ℕ) (c : Cursor) (parent left n start : ℕ) (a : Ready
       ∙ word_taken s c a.within a.looks i.0 told c.rows (n ∷ o) left q (nt Directives? ∷ act end ∷ σ) name_but_on is_no_on (no_on_is s c i.1) tt a.few f
 
   -- with its row written
-  module _ (rows₁ : List ℕ) (j : rows₁ ≡ told) (r : Read) (w : r ≡ moved_to c.end c.rows (head_of (from s c.end))) where
+  module _ (rows₁ : List ℕ) (j : rows₁ ≡ told) (r : Result Cursor Refusal) (w : r ≡ moved_to c.end c.rows (head_of (from s c.end))) where
     row_past : (σ : Stack) (o : List ℕ) (q : Counts) → over_counts q ≡ false →
         at s (spread_begun rows n start parent) c (n ∷ o) left q (spread_stack ++ σ) ≡ go (st rows₁ c.rows (n ∷ o) c.end left q) (nt Directives? ∷ act end ∷ σ) (from s c.end)
     row_past σ o q f = past_name σ o q f ∙ ap (λ (u : List ℕ). go (st u c.rows (n ∷ o) c.end left q) (nt Directives? ∷ act end ∷ σ) (from s c.end)) (sym j)
 
-    pub named_bad : (x : Refusal) → r ≡ Refused x → (rows' : List ℕ) → Passes 1 s (spread_begun rows n start parent) rows' c n left (opened n) shut spread_stack [] (Refused x)
+    pub named_bad : (x : Refusal) → r ≡ Err x → (rows' : List ℕ) → Passes 1 s (spread_begun rows n start parent) rows' c n left (opened n) shut spread_stack [] (Err x)
     named_bad x y rows' σ o q p f = row_past σ o q f ∙ moved_halts s c.end c.rows r x w y (st rows₁ c.rows (n ∷ o) c.end left q) (nt Directives? ∷ act end ∷ σ)
 
-    module _ (b : Cursor) (y : r ≡ Done b) where
+    module _ (b : Cursor) (y : r ≡ Ok b) where
       behind : Next s c b c.rows
       behind = next s c b c.rows a.within a.looks r w y
 
@@ -102,11 +101,11 @@ module _ (s rows : List ℕ) (c : Cursor) (parent left n start : ℕ) (a : Ready
       to_directives : (σ : Stack) (o : List ℕ) (q : Counts) → over_counts q ≡ false → at s (spread_begun rows n start parent) c (n ∷ o) left q (spread_stack ++ σ) ≡ at s rows₁ b (n ∷ o) left q (nt Directives? ∷ act end ∷ σ)
       to_directives σ o q f = row_past σ o q f ∙ next_at s c b c.rows behind rows₁ (n ∷ o) left q (nt Directives? ∷ act end ∷ σ)
 
-      module _ (rows₂ : List ℕ) (t : Read) (v : Said 0 s rows₁ rows₂ b n left directives_stack t) where
-        pub named_stops : (x : Refusal) → t ≡ Refused x → (rows' : List ℕ) → Passes 1 s (spread_begun rows n start parent) rows' c n left (opened n) shut spread_stack [] (Refused x)
+      module _ (rows₂ : List ℕ) (t : Result Cursor Refusal) (v : Said 0 s rows₁ rows₂ b n left directives_stack t) where
+        pub named_stops : (x : Refusal) → t ≡ Err x → (rows' : List ℕ) → Passes 1 s (spread_begun rows n start parent) rows' c n left (opened n) shut spread_stack [] (Err x)
         named_stops x i rows' σ o q p f = to_directives σ o q f ∙ said_halts 0 s rows₁ rows₂ b n left directives_stack t x v i (act end ∷ σ) (n ∷ o) q refl f
 
-        module _ (d : Cursor) (i : t ≡ Done d) where
+        module _ (d : Cursor) (i : t ≡ Ok d) where
           pub named_read : Went 0 s rows₁ rows₂ b d n left directives_stack
           named_read = said_went 0 s rows₁ rows₂ b d n left directives_stack t v i
 
@@ -129,7 +128,7 @@ module _ (s rows : List ℕ) (c : Cursor) (parent left n start : ℕ) (a : Ready
 
       -- without directives
       pub named_bare : (b.kind ≡ kind_of at_sign → ⊥) → (rows₃ : List ℕ) → rows₃ ≡ set rows₁ (7 * n + 2) b.stop → Passed 1 s (spread_begun rows n start parent) rows₃ c b n left left (opened n) shut spread_stack []
-      named_bare i = named_ends rows₁ (Done b) (no_directives s rows₁ b n left named_ready i) b refl
+      named_bare i = named_ends rows₁ (Ok b) (no_directives s rows₁ b n left named_ready i) b refl
 
 -- AN INLINE FRAGMENT'S HEAD, behind its dots; row n begins at `start`
 module _ (s rows : List ℕ) (c : Cursor) (parent left n start : ℕ) (a : Ready s rows c n) (e : names_fragment s c ≡ false) (rows₁ : List ℕ) (j : rows₁ ≡ put rows n 5 start 0 parent 0 0 0) where
@@ -167,20 +166,20 @@ module _ (s rows : List ℕ) (c : Cursor) (parent left n start : ℕ) (a : Ready
         ∙ told_as σ o q
         ∙ word_first s c a.within a.looks k rows₁ c.rows (n ∷ o) left q (nt Directives? ∷ body_stack ++ σ) TypeCondition? (Memᴰ.tail (Memᴰ.head refl)) is_on (on_is s c inline_on) tt
 
-    module _ (rows₂ : List ℕ) (r : Read) (v : Said 1 s rows₁ rows₂ c n left condition_stack r) where
-      pub inline_stops : (x : Refusal) → r ≡ Refused x → (rows' : List ℕ) → Passes 0 s (spread_begun rows n start parent) rows' c n left (opened n) (opened n) spread_stack body_stack (Refused x)
+    module _ (rows₂ : List ℕ) (r : Result Cursor Refusal) (v : Said 1 s rows₁ rows₂ c n left condition_stack r) where
+      pub inline_stops : (x : Refusal) → r ≡ Err x → (rows' : List ℕ) → Passes 0 s (spread_begun rows n start parent) rows' c n left (opened n) (opened n) spread_stack body_stack (Err x)
       inline_stops x i rows' σ o q p f = to_condition σ o q ∙ said_halts 1 s rows₁ rows₂ c n left condition_stack r x v i (nt Directives? ∷ body_stack ++ σ) (n ∷ o) q refl f
 
-      module _ (d : Cursor) (i : r ≡ Done d) where
+      module _ (d : Cursor) (i : r ≡ Ok d) where
         inline_read : Went 1 s rows₁ rows₂ c d n left condition_stack
         inline_read = said_went 1 s rows₁ rows₂ c d n left condition_stack r v i
 
         pub inline_ready_behind : Ready s rows₂ d n
         inline_ready_behind = let g = inline_read in record { short = a.short; size = g.size; within = g.within; few = g.few; looks = g.looks; below = a.below }
 
-        pub inline_said : (rows₃ : List ℕ) (t : Read) → Said 0 s rows₂ rows₃ d n left directives_stack t → Passes 0 s (spread_begun rows n start parent) rows₃ c n left (opened n) (opened n) spread_stack body_stack t
-        inline_said rows₃ (Refused x) u = λ σ o q p f. to_condition σ o q ∙ inline_read.goes (nt Directives? ∷ body_stack ++ σ) (n ∷ o) q refl f ∙ u (body_stack ++ σ) (n ∷ o) q refl f
-        inline_said rows₃ (Done b) u =
+        pub inline_said : (rows₃ : List ℕ) (t : Result Cursor Refusal) → Said 0 s rows₂ rows₃ d n left directives_stack t → Passes 0 s (spread_begun rows n start parent) rows₃ c n left (opened n) (opened n) spread_stack body_stack t
+        inline_said rows₃ (Err x) u = λ σ o q p f. to_condition σ o q ∙ inline_read.goes (nt Directives? ∷ body_stack ++ σ) (n ∷ o) q refl f ∙ u (body_stack ++ σ) (n ∷ o) q refl f
+        inline_said rows₃ (Ok b) u =
             record {
               size = u.size;
               within = u.within;
@@ -191,7 +190,7 @@ module _ (s rows : List ℕ) (c : Cursor) (parent left n start : ℕ) (a : Ready
             }
 
         pub inline_undirected : (d.kind ≡ kind_of at_sign → ⊥) → Passed 0 s (spread_begun rows n start parent) rows₂ c d n left left (opened n) (opened n) spread_stack body_stack
-        inline_undirected k' = inline_said rows₂ (Done d) (no_directives s rows₂ d n left inline_ready_behind k')
+        inline_undirected k' = inline_said rows₂ (Ok d) (no_directives s rows₂ d n left inline_ready_behind k')
 
   -- without
   module _ (k : c.kind ≡ kind_of n_other → ⊥) where
@@ -219,9 +218,9 @@ module _ (s rows : List ℕ) (c : Cursor) (parent left n start : ℕ) (a : Ready
             first s c a.within a.looks (spread_begun rows n start parent) c.rows (n ∷ o) left q σ SpreadRest (Memᴰ.tail (Memᴰ.head refl)) at_sign f tt ∙ told_as σ o q ∙ no_condition σ o q
         by_sign (inr f) = by_brace f (same c.kind (kind_of brace_l))
 
-    pub inline_plain : (rows₂ : List ℕ) (t : Read) → Said 0 s rows₁ rows₂ c n left directives_stack t → Passes 0 s (spread_begun rows n start parent) rows₂ c n left (opened n) (opened n) spread_stack body_stack t
-    inline_plain rows₂ (Refused x) u = λ σ o q p f. to_directives' σ o q ∙ u (body_stack ++ σ) (n ∷ o) q refl f
-    inline_plain rows₂ (Done b) u =
+    pub inline_plain : (rows₂ : List ℕ) (t : Result Cursor Refusal) → Said 0 s rows₁ rows₂ c n left directives_stack t → Passes 0 s (spread_begun rows n start parent) rows₂ c n left (opened n) (opened n) spread_stack body_stack t
+    inline_plain rows₂ (Err x) u = λ σ o q p f. to_directives' σ o q ∙ u (body_stack ++ σ) (n ∷ o) q refl f
+    inline_plain rows₂ (Ok b) u =
         record {
           size = u.size;
           within = u.within;
@@ -232,7 +231,7 @@ module _ (s rows : List ℕ) (c : Cursor) (parent left n start : ℕ) (a : Ready
         }
 
     pub inline_bare : (c.kind ≡ kind_of at_sign → ⊥) → Passed 0 s (spread_begun rows n start parent) rows₁ c c n left left (opened n) (opened n) spread_stack body_stack
-    inline_bare i = inline_plain rows₁ (Done c) (no_directives s rows₁ c n left inline_ready i)
+    inline_bare i = inline_plain rows₁ (Ok c) (no_directives s rows₁ c n left inline_ready i)
 
 -- EITHER, at its dots
 module _ (s rows : List ℕ) (c : Cursor) (parent left : ℕ) (a : Ready s rows c parent) (e : c.kind ≡ kind_of spread) where
@@ -259,11 +258,11 @@ module _ (s rows : List ℕ) (c : Cursor) (parent left : ℕ) (a : Ready s rows 
         at s rows c o left q (nt Selection ∷ σ) ≡ go (st begun (c.rows + 1) (c.rows ∷ o) c.end left q) (nt SpreadRest ∷ σ) (from s c.end)
     past_dots σ o q p f = begins σ o q p ∙ plain s c a.within a.looks begun (c.rows + 1) (c.rows ∷ o) left q (nt SpreadRest ∷ σ) (the spread) spread e tt tt (omega (arith, spread_room)) f
 
-    module _ (r : Read) (w : r ≡ moved_to c.end (c.rows + 1) (head_of (from s c.end))) where
-      pub spread_bad : (x : Refusal) → r ≡ Refused x → Halts s rows c parent left selection_stack x
+    module _ (r : Result Cursor Refusal) (w : r ≡ moved_to c.end (c.rows + 1) (head_of (from s c.end))) where
+      pub spread_bad : (x : Refusal) → r ≡ Err x → Halts s rows c parent left selection_stack x
       spread_bad x y σ o q p f = past_dots σ o q p f ∙ moved_halts s c.end (c.rows + 1) r x w y (st begun (c.rows + 1) (c.rows ∷ o) c.end left q) (nt SpreadRest ∷ σ)
 
-      module _ (b : Cursor) (y : r ≡ Done b) where
+      module _ (b : Cursor) (y : r ≡ Ok b) where
         spread_next : Next s c b (c.rows + 1)
         spread_next = next s c b (c.rows + 1) a.within a.looks r w y
 
@@ -279,9 +278,9 @@ module _ (s rows : List ℕ) (c : Cursor) (parent left : ℕ) (a : Ready s rows 
         to_rest : (σ : Stack) (o : List ℕ) (q : Counts) → top o ≡ parent → over_counts q ≡ false → at s rows c o left q (nt Selection ∷ σ) ≡ at s begun b (c.rows ∷ o) left q (nt SpreadRest ∷ σ)
         to_rest σ o q p f = past_dots σ o q p f ∙ next_at s c b (c.rows + 1) spread_next begun (c.rows ∷ o) left q (nt SpreadRest ∷ σ)
 
-        pub spread_named : (rows₁ : List ℕ) (t : Read) → Passes 1 s begun rows₁ b c.rows left (opened c.rows) shut spread_stack [] t → Said 1 s rows rows₁ c parent left selection_stack t
-        spread_named rows₁ (Refused x) v = λ σ o q p f. to_rest σ o q p f ∙ v σ o q refl f
-        spread_named rows₁ (Done d) v =
+        pub spread_named : (rows₁ : List ℕ) (t : Result Cursor Refusal) → Passes 1 s begun rows₁ b c.rows left (opened c.rows) shut spread_stack [] t → Said 1 s rows rows₁ c parent left selection_stack t
+        spread_named rows₁ (Err x) v = λ σ o q p f. to_rest σ o q p f ∙ v σ o q refl f
+        spread_named rows₁ (Ok d) v =
             let l = lies s c a.within a.looks in
             record {
               size = v.size;
@@ -292,20 +291,20 @@ module _ (s rows : List ℕ) (c : Cursor) (parent left : ℕ) (a : Ready s rows 
               goes = λ σ o q p f. to_rest σ o q p f ∙ v.goes σ o q refl f;
             }
 
-        module _ (rows₁ : List ℕ) (t : Read) (v : Passes 0 s begun rows₁ b c.rows left (opened c.rows) (opened c.rows) spread_stack body_stack t) where
-          pub spread_stops : (x : Refusal) → t ≡ Refused x → Halts s rows c parent left selection_stack x
+        module _ (rows₁ : List ℕ) (t : Result Cursor Refusal) (v : Passes 0 s begun rows₁ b c.rows left (opened c.rows) (opened c.rows) spread_stack body_stack t) where
+          pub spread_stops : (x : Refusal) → t ≡ Err x → Halts s rows c parent left selection_stack x
           spread_stops x i σ o q p f = to_rest σ o q p f ∙ passes_halts 0 s begun rows₁ b c.rows left (opened c.rows) (opened c.rows) spread_stack body_stack t v x i σ o q refl f
 
-          module _ (d : Cursor) (i : t ≡ Done d) where
+          module _ (d : Cursor) (i : t ≡ Ok d) where
             spread_head : Passed 0 s begun rows₁ b d c.rows left left (opened c.rows) (opened c.rows) spread_stack body_stack
             spread_head = passes_went 0 s begun rows₁ b c.rows left (opened c.rows) (opened c.rows) spread_stack body_stack t v d i
 
             pub spread_set_ready : Ready s rows₁ d c.rows
             spread_set_ready = let g = spread_head in record { short = a.short; size = g.size; within = g.within; few = g.few; looks = g.looks; below = a.few }
 
-            pub spread_set : (rows₂ : List ℕ) (u : Read) → Passes 1 s rows₁ rows₂ d c.rows left (opened c.rows) shut body_stack [] u → Said 1 s rows rows₂ c parent left selection_stack u
-            spread_set rows₂ (Refused x) g = λ σ o q p f. to_rest σ o q p f ∙ spread_head.goes σ o q refl f ∙ g σ o q refl f
-            spread_set rows₂ (Done h) g =
+            pub spread_set : (rows₂ : List ℕ) (u : Result Cursor Refusal) → Passes 1 s rows₁ rows₂ d c.rows left (opened c.rows) shut body_stack [] u → Said 1 s rows rows₂ c parent left selection_stack u
+            spread_set rows₂ (Err x) g = λ σ o q p f. to_rest σ o q p f ∙ spread_head.goes σ o q refl f ∙ g σ o q refl f
+            spread_set rows₂ (Ok h) g =
                 let l = lies s c a.within a.looks in
                 record {
                   size = g.size;

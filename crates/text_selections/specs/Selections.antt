@@ -1,13 +1,12 @@
 -- The symbols that the readers of selections read, and what they ask of their tokens.
-use Rattle.std.specs.Prelude.{Bool, ◌&&◌, not, List, [], ◌∷◌, ℕ, ◌<◌, eqb}
+use Rattle.std.specs.Prelude.{Bool, ◌&&◌, not, List, [], ◌∷◌, ℕ, ◌<◌, eqb, Result, Ok, Err}
 use Rattle.paper.specs.Grammar.{nt, act}
 use Rattle.paper.specs.Numbers.{most_rows, kind_field}
 use Rattle.paper.specs.Language.{end, SelectionSet, SelectionSet?, Selection, Field, AliasRest, SpreadRest, Arguments?, Directives?, n_other}
+use Rattle.paper.specs.declared.Refusal.{Refusal}
 use Rattle.paper.proofs.Going.{Stack}
 use Rattle.text_scan.specs.Head.{word_of, kind_of}
 use Rattle.text_cursor.specs.declared.Cursor.{Cursor}
-use Rattle.text_cursor.specs.declared.Read.{Read}
-use Rattle.text_cursor.specs.declared.Read.TheVariants.{Done, Refused}
 use Rattle.text_cursor.specs.Reader.{Halts}
 use Rattle.text_cursor.proofs.Cells.{put}
 use Rattle.text_arguments.specs.Arguments.{bytes_at}
@@ -52,10 +51,10 @@ abbrev pub spread_begun : List ℕ → ℕ → ℕ → ℕ → List ℕ
 spread_begun rows n start parent = put rows n 0 start 0 parent 0 0 0
 
 -- a field is read from the colon of its alias on, whatever its first name was
-abbrev pub AliasSaid : List ℕ → List ℕ → List ℕ → Cursor → ℕ → ℕ → ℕ → ℕ → Read → Type 0
+abbrev pub AliasSaid : List ℕ → List ℕ → List ℕ → Cursor → ℕ → ℕ → ℕ → ℕ → Result Cursor Refusal → Type 0
 AliasSaid s rows rows' c parent left n start r = (m z : ℕ) → Passes 1 s (field_begun rows n start parent m z) rows' c n left (opened n) (opened n) alias_stack [] r
 
 -- a field's head is read: its row is open
-abbrev pub HeadSaid : List ℕ → List ℕ → List ℕ → Cursor → ℕ → ℕ → Read → Type 0
-HeadSaid s rows rows' c parent left (Done d) = (c.rows < most_rows) × Passed 1 s rows rows' c d parent left left shut (opened c.rows) field_stack field_end_stack
-HeadSaid s rows rows' c parent left (Refused x) = Halts s rows c parent left field_stack x
+abbrev pub HeadSaid : List ℕ → List ℕ → List ℕ → Cursor → ℕ → ℕ → Result Cursor Refusal → Type 0
+HeadSaid s rows rows' c parent left (Ok d) = (c.rows < most_rows) × Passed 1 s rows rows' c d parent left left shut (opened c.rows) field_stack field_end_stack
+HeadSaid s rows rows' c parent left (Err x) = Halts s rows c parent left field_stack x

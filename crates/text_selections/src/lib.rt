@@ -1,4 +1,5 @@
 // Reads selection sets, with their fields, fragment spreads and inline fragments, and writes their rows.
+// Each answers Ok with the cursor past what it read, or Err with the refusal.
 #![tactic(auto)]
 
 ghost use Rattle.std.specs.Prelude.{◌≡◌, true, false, [], ◌+◌, ◌≤◌, ◌<◌, length};
@@ -11,25 +12,28 @@ ghost use Rattle.text_selections.specs.Selections.{names_fragment, selection_set
 
 use paper::{KIND_FIELD, KIND_INLINE, KIND_SPREAD, MOST_ROWS, Refusal};
 use text_arguments::{arguments, condition, directives};
-use text_cursor::{Cursor, Read, no_going, put_end, put_row};
+use text_cursor::{Cursor, no_going, put_end, put_row};
 use text_scan::{
     TOKEN_AT, TOKEN_BRACE_CLOSE, TOKEN_BRACE_OPEN, TOKEN_COLON, TOKEN_NAME, TOKEN_PAREN_OPEN,
     TOKEN_SPREAD, WORD_ON,
 };
 
 // Field up to its selection set, at its first name: Alias? Name Arguments? Directives?
-fn field_head(s: &[u8], rows: &mut [u32], c: Cursor, parent: u32, left: u32) -> Read
+fn field_head(
+    s: &[u8],
+    rows: &mut [u32],
+    c: Cursor,
+    parent: u32,
+    left: u32,
+) -> Result<Cursor, Refusal>
     requires { Ready s.now rows.old c parent × (c.kind ≡ kind_of n_other) }
     ensures { HeadSaid s.now rows.old rows.new c parent left result }
 {
     let n = c.rows;
     if n == MOST_ROWS {
-        return Read::Refused(Refusal::TooManyRows(c.start));
+        return Err(Refusal::TooManyRows(c.start));
     }
-    let r = c.past(s, n + 1);
-    let Read::Done(after) = r else {
-        return r;
-    };
+    let after = c.past(s, n + 1)?;
     if after.kind == TOKEN_COLON {
         return aliased(s, rows, after, parent, left, n, c.start);
     }
@@ -56,14 +60,11 @@ fn aliased(
     left: u32,
     n: u32,
     start: u32,
-) -> Read
+) -> Result<Cursor, Refusal>
     requires { Ready s.now rows.old c n × (c.kind ≡ kind_of colon) × (c.rows ≡ n + 1) }
     ensures { AliasSaid s.now rows.old rows.new c parent left n start result }
 {
-    let r = c.past(s, n + 1);
-    let Read::Done(name) = r else {
-        return r;
-    };
+    let name = c.past(s, n + 1)?;
     if name.kind != TOKEN_NAME {
         return no_going(name);
     }
@@ -78,32 +79,26 @@ fn aliased(
         name.end - name.start,
         0,
     );
-    let t = name.past(s, n + 1);
-    let Read::Done(after) = t else {
-        return t;
-    };
+    let after = name.past(s, n + 1)?;
     field_rest(s, rows, after, n, left)
 }
 
 // Arguments? Directives?
-fn field_rest(s: &[u8], rows: &mut [u32], c: Cursor, n: u32, left: u32) -> Read
+fn field_rest(s: &[u8], rows: &mut [u32], c: Cursor, n: u32, left: u32) -> Result<Cursor, Refusal>
     requires { Ready s.now rows.old c n }
     ensures { Said 0 s.now rows.old rows.new c n left field_rest_stack result }
 {
     if c.kind == TOKEN_PAREN_OPEN {
-        let r = arguments(s, rows, c, n, left);
-        let Read::Done(d) = r else {
-            return r;
-        };
+        let d = arguments(s, rows, c, n, left)?;
         if d.kind == TOKEN_AT {
             return directives(s, rows, d, n, left);
         }
-        return r;
+        return Ok(d);
     }
     if c.kind == TOKEN_AT {
         return directives(s, rows, c, n, left);
     }
-    Read::Done(c)
+    Ok(c)
 }
 
 // FragmentSpread, from its name on, at which the cursor stands; row n begins at `start`
@@ -115,7 +110,7 @@ fn named_spread(
     left: u32,
     n: u32,
     start: u32,
-) -> Read
+) -> Result<Cursor, Refusal>
     requires { Ready s.now rows.old c n × (names_fragment s.now c ≡ true) × (c.rows ≡ n + 1) }
     ensures { Passes 1 s.now (spread_begun rows.old n start parent) rows.new c n left (opened n) shut spread_stack [] result }
 {
@@ -131,20 +126,14 @@ fn named_spread(
         0,
     );
     let m = c.rows;
-    let r = c.past(s, m);
-    let Read::Done(after) = r else {
-        return r;
-    };
+    let after = c.past(s, m)?;
     if after.kind != TOKEN_AT {
         put_end(rows, n, after.stop);
-        return r;
+        return Ok(after);
     }
-    let t = directives(s, rows, after, n, left);
-    let Read::Done(d) = t else {
-        return t;
-    };
+    let d = directives(s, rows, after, n, left)?;
     put_end(rows, n, d.stop);
-    t
+    Ok(d)
 }
 
 // InlineFragment, from behind its dots up to its selection set: TypeCondition? Directives?; row n begins at `start`
@@ -156,30 +145,33 @@ fn inline_head(
     left: u32,
     n: u32,
     start: u32,
-) -> Read
+) -> Result<Cursor, Refusal>
     requires { Ready s.now rows.old c n × (names_fragment s.now c ≡ false) × (c.rows ≡ n + 1) }
     ensures { Passes 0 s.now (spread_begun rows.old n start parent) rows.new c n left (opened n) (opened n) spread_stack body_stack result }
 {
     put_row(rows, n, KIND_INLINE, start, 0, parent, 0, 0, 0);
     if c.kind == TOKEN_NAME {
-        let r = condition(s, rows, c, n, left);
-        let Read::Done(d) = r else {
-            return r;
-        };
+        let d = condition(s, rows, c, n, left)?;
         if d.kind == TOKEN_AT {
             return directives(s, rows, d, n, left);
         }
-        return r;
+        return Ok(d);
     }
     if c.kind == TOKEN_AT {
         return directives(s, rows, c, n, left);
     }
-    Read::Done(c)
+    Ok(c)
 }
 
 // SelectionSet; no other token than { goes on
 #[cycle(body_field_selection_selection_set_spread)]
-pub fn selection_set(s: &[u8], rows: &mut [u32], c: Cursor, parent: u32, left: u32) -> Read
+pub fn selection_set(
+    s: &[u8],
+    rows: &mut [u32],
+    c: Cursor,
+    parent: u32,
+    left: u32,
+) -> Result<Cursor, Refusal>
     requires { Ready s.now rows.old c parent }
     ensures { Said 1 s.now rows.old rows.new c parent left selection_set_stack result }
 {
@@ -187,19 +179,12 @@ pub fn selection_set(s: &[u8], rows: &mut [u32], c: Cursor, parent: u32, left: u
         return no_going(c);
     }
     if left == 0 {
-        return Read::Refused(Refusal::TooDeep(c.start));
+        return Err(Refusal::TooDeep(c.start));
     }
     let n = c.rows;
-    let r = c.past(s, n);
-    let Read::Done(first) = r else {
-        return r;
-    };
-    let mut d = first;
+    let mut d = c.past(s, n)?;
     loop {
-        let t = selection(s, rows, d, parent, left - 1);
-        let Read::Done(next) = t else {
-            return t;
-        };
+        let next = selection(s, rows, d, parent, left - 1)?;
         if next.kind == TOKEN_BRACE_CLOSE {
             let m = next.rows;
             return next.past(s, m);
@@ -210,7 +195,13 @@ pub fn selection_set(s: &[u8], rows: &mut [u32], c: Cursor, parent: u32, left: u
 
 // Selection
 #[cycle(body_field_selection_selection_set_spread)]
-fn selection(s: &[u8], rows: &mut [u32], c: Cursor, parent: u32, left: u32) -> Read
+fn selection(
+    s: &[u8],
+    rows: &mut [u32],
+    c: Cursor,
+    parent: u32,
+    left: u32,
+) -> Result<Cursor, Refusal>
     requires { Ready s.now rows.old c parent }
     ensures { Said 1 s.now rows.old rows.new c parent left selection_stack result }
 {
@@ -225,43 +216,34 @@ fn selection(s: &[u8], rows: &mut [u32], c: Cursor, parent: u32, left: u32) -> R
 
 // Field, at its first name
 #[cycle(body_field_selection_selection_set_spread)]
-fn field(s: &[u8], rows: &mut [u32], c: Cursor, parent: u32, left: u32) -> Read
+fn field(s: &[u8], rows: &mut [u32], c: Cursor, parent: u32, left: u32) -> Result<Cursor, Refusal>
     requires { Ready s.now rows.old c parent × (c.kind ≡ kind_of n_other) }
     ensures { Said 1 s.now rows.old rows.new c parent left field_stack result }
 {
     let n = c.rows;
-    let r = field_head(s, rows, c, parent, left);
-    let Read::Done(head) = r else {
-        return r;
-    };
+    let head = field_head(s, rows, c, parent, left)?;
     if head.kind == TOKEN_BRACE_OPEN {
         return body(s, rows, head, n, left);
     }
     put_end(rows, n, head.stop);
-    r
+    Ok(head)
 }
 
 // FragmentSpread or InlineFragment, at its dots
 #[cycle(body_field_selection_selection_set_spread)]
-fn spread(s: &[u8], rows: &mut [u32], c: Cursor, parent: u32, left: u32) -> Read
+fn spread(s: &[u8], rows: &mut [u32], c: Cursor, parent: u32, left: u32) -> Result<Cursor, Refusal>
     requires { Ready s.now rows.old c parent × (c.kind ≡ kind_of spread) }
     ensures { Said 1 s.now rows.old rows.new c parent left selection_stack result }
 {
     let n = c.rows;
     if n == MOST_ROWS {
-        return Read::Refused(Refusal::TooManyRows(c.start));
+        return Err(Refusal::TooManyRows(c.start));
     }
-    let r = c.past(s, n + 1);
-    let Read::Done(d) = r else {
-        return r;
-    };
+    let d = c.past(s, n + 1)?;
     if names_fragment(s, d) {
         return named_spread(s, rows, d, parent, left, n, c.start);
     }
-    let t = inline_head(s, rows, d, parent, left, n, c.start);
-    let Read::Done(e) = t else {
-        return t;
-    };
+    let e = inline_head(s, rows, d, parent, left, n, c.start)?;
     body(s, rows, e, n, left)
 }
 
@@ -278,14 +260,11 @@ pub fn names_fragment(s: &[u8], c: Cursor) -> bool
 
 // The selection set that ends row n
 #[cycle(body_field_selection_selection_set_spread)]
-fn body(s: &[u8], rows: &mut [u32], c: Cursor, n: u32, left: u32) -> Read
+fn body(s: &[u8], rows: &mut [u32], c: Cursor, n: u32, left: u32) -> Result<Cursor, Refusal>
     requires { Ready s.now rows.old c n × (n < most_rows) }
     ensures { Passes 1 s.now rows.old rows.new c n left (opened n) shut body_stack [] result }
 {
-    let r = selection_set(s, rows, c, n, left);
-    let Read::Done(d) = r else {
-        return r;
-    };
+    let d = selection_set(s, rows, c, n, left)?;
     put_end(rows, n, d.stop);
-    r
+    Ok(d)
 }

@@ -10,6 +10,7 @@ use native.Mathlib.Omega.{arith}
 use lib.ListN.{length, drop, get_or, drop_of_length-le}
 use lib.Seq.{drop-drop}
 use borrow.Author.Tests.{ne_eqb}
+use Rattle.std.specs.Prelude.{Result, Err}
 use Rattle.paper.specs.Grammar.{nt}
 use Rattle.paper.specs.Language.{string}
 use Rattle.paper.specs.Lexical.{What, is, comment, lexical, Piece}
@@ -20,8 +21,8 @@ use Rattle.paper.proofs.LexTables.{lexer, lex_factored}
 use Rattle.text_scan.specs.Piece.{piece_at, as_token, token_of, token_here, as_ignored, ignored_of, ignored_here}
 use Rattle.text_characters.specs.Characters.{character_size}
 use Rattle.text_scan.specs.Parts.{Runs, none_yet, one_more, Ended, part_size}
-use Rattle.text_scan.specs.declared.TokenRead.{TokenRead}
-use Rattle.text_scan.specs.declared.TokenRead.TheVariants.{Token, Bad}
+use Rattle.text_scan.specs.declared.Token.{Token}
+use Rattle.text_scan.specs.Head.{token_read}
 use Rattle.text_characters.proofs.ByteLaws.{front}
 use Rattle.text_scan.proofs.ReadLaws.{Stack}
 use Rattle.text_scan.proofs.ScanLaws.{Seen, seen, more, grow, or_none, scan_took}
@@ -49,8 +50,8 @@ module _ (f : List ℕ → ℕ) (σ : Stack) (law : (bs : List ℕ) (n : ℕ) �
             grow_add (k - from) (suc n) (seen (scan lexer σ (drop i s))) ∙ ap (λ (x : ℕ). grow x (seen (scan lexer σ (drop i s)))) (sym m),
       )
 
-abbrev token_seen : ℕ → Seen → TokenRead
-token_seen at none = Bad at
+abbrev token_seen : ℕ → Seen → Result Token ℕ
+token_seen at none = Err at
 token_seen at (some m) = as_token m.1 at m.0
 
 token_seen_is : (at : ℕ) (o : Option (Match ℕ What)) → token_of at o ≡ token_seen at (seen o)
@@ -85,24 +86,24 @@ module _ (s : List ℕ) (at e : ℕ) (h : at < length s) (q : get_or s at 0 ≡ 
       rw (front s at h, q)
       (token_seen_is at (piece_at (34 ∷ drop (at + 1) s)) ∙ ap (token_seen at) (piece_string (drop (at + 1) s)) ∙ ap (λ o. token_seen at (more o)) runs_to.1)
 
-  pub string_found : e < length s → get_or s e 0 ≡ 34 → Token 4 at (e + 1) ≡ token_here at (drop at s)
+  pub string_found : e < length s → get_or s e 0 ≡ 34 → token_read 4 at (e + 1) ≡ token_here at (drop at s)
   string_found l z =
       sym (token_string ∙
       ap (λ o. token_seen at (more (grow (e - (at + 1)) o))) (ap (λ l. seen (scan lexer in_string l)) (front s e l ∙ ap (λ (b : ℕ). b ∷ drop (e + 1) s) z) ∙ string_quote (drop (e + 1) s)) ∙
       ap (λ o. token_seen at (more o)) (grow_some (e - (at + 1)) 1 (is string)) ∙
-      ap (λ (n : ℕ). Token 4 at n) (let k = runs_to.0 in omega arith))
+      ap (λ (n : ℕ). token_read 4 at n) (let k = runs_to.0 in omega arith))
 
   none_grows : (n : ℕ) → grow n none ≡ none
   none_grows zero = refl
   none_grows (suc n) = ap more (none_grows n)
 
-  bad_string : seen (scan lexer in_string (drop e s)) ≡ none → Bad at ≡ token_here at (drop at s)
+  bad_string : seen (scan lexer in_string (drop e s)) ≡ none → Err at ≡ token_here at (drop at s)
   bad_string z = sym (token_string ∙ ap (λ o. token_seen at (more (grow (e - (at + 1)) o))) z ∙ ap (λ o. token_seen at (more o)) (none_grows (e - (at + 1))))
 
-  pub string_other : e < length s → (get_or s e 0 ≡ 34 → ⊥) → Bad at ≡ token_here at (drop at s)
+  pub string_other : e < length s → (get_or s e 0 ≡ 34 → ⊥) → Err at ≡ token_here at (drop at s)
   string_other l z = bad_string (ap (λ l. seen (scan lexer in_string l)) (front s e l) ∙ string_stop (get_or s e 0) (drop (e + 1) s) (sym (ap part_size (front s e l)) ∙ d.stops) z)
 
-  pub string_unended : length s ≤ e → Bad at ≡ token_here at (drop at s)
+  pub string_unended : length s ≤ e → Err at ≡ token_here at (drop at s)
   string_unended l = bad_string (ap (λ l. seen (scan lexer in_string l)) (drop_of_length-le s l) ∙ string_end)
 
 -- the comment at i, whose characters end at e

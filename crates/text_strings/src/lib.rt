@@ -4,24 +4,24 @@
 ghost use Rattle.std.specs.Prelude.{◌≡◌, ◌<◌, length, drop, get_or};
 ghost use Rattle.text_scan.specs.Piece.{token_here, ignored_here};
 
-use text_scan::{TOKEN_STRING, TokenRead, comment_end, string_end};
+use text_scan::{TOKEN_STRING, Token, comment_end, string_end};
 
-// The string whose quote stands at `at`.
-pub fn string(s: &[u8], at: usize) -> TokenRead
+// Ok with the string whose quote stands at `at`, or Err with `at`.
+pub fn string(s: &[u8], at: usize) -> Result<Token, usize>
     requires { (at < length s.now) × (get_or s.now at 0 ≡ 34) }
     ensures { result ≡ token_here at (drop at s.now) }
 {
     let e = string_end(s, at + 1);
     if e < s.len() {
         if s[e] == b'"' {
-            return TokenRead::Token {
+            return Ok(Token {
                 kind: TOKEN_STRING,
                 start: at,
                 end: e + 1,
-            };
+            });
         }
     }
-    TokenRead::Bad(at)
+    Err(at)
 }
 
 // The size of the comment whose # stands at i, or 0 where it has bad text.

@@ -11,16 +11,16 @@ use borrow.Author.Tests.{leb-true, eq-eqb, ne_eqb}
 use lib.Dec.{leb, ltb, eqb}
 use lib.ListN.{length, get_or, drop}
 use lib.Seq.{drop-drop}
+use Rattle.std.specs.Prelude.{Err}
 use Rattle.paper.specs.Grammar.{nt, act, tok}
 use Rattle.paper.specs.Language.{Class, int, float}
 use Rattle.paper.specs.Lexical.{What, is, Piece, Digit*, Digit+, Sign?, UnsignedPart, span, letter, digit, dot, e, sign, zero, lexical, hits_byte}
 use Rattle.paper.proofs.Machine.{took, refused, step, enter, choose}
 use Rattle.paper.proofs.LexTables.{lexer, lex_factored}
-use Rattle.text_scan.specs.Head.{kind_of}
+use Rattle.text_scan.specs.Head.{kind_of, token_read}
 use Rattle.text_scan.specs.Piece.{as_token, token_here}
 use Rattle.text_scan.specs.Run.{run_of, starts_with, fraction_size, sign_size, exponent_size, whole_size}
 use Rattle.text_tokens.specs.Skip.{is_punctuator}
-use Rattle.text_scan.specs.declared.TokenRead.TheVariants.{Token, Bad}
 use Rattle.text_characters.proofs.ByteLaws.{front}
 use Rattle.text_tokens.proofs.RunLaws.{run_yes, starts_at}
 use Rattle.text_scan.proofs.ReadLaws.{Stack, Read, Nothing, read_size, read_take, read_end, read_stop, read_back, read_mark, read_run, read_alike, nothing_alike, alike_byte, alike_end, nothing_take, nothing_refused, nothing_end, read_token, nothing_token}
@@ -255,7 +255,7 @@ module _ (s : List ℕ) (at d : ℕ) (h : at < length s) where
 
   -- no digit: no number, and nothing else that is a token
   pub number_bad : get_or s at 0 < 256 → hits_byte letter (get_or s at 0) ≡ false → is_punctuator (get_or s at 0) ≡ false → (get_or s at 0 ≡ 34 → ⊥) → (get_or s at 0 ≡ 46 → ⊥) →
-      Behind s at d → starts_with digit (drop d s) ≡ false → Bad at ≡ token_here at (drop at s)
+      Behind s at d → starts_with digit (drop d s) ≡ false → Err at ≡ token_here at (drop at s)
   number_bad b l p x y (inl z) q =
       sym (rw (front s at h, z.0) (nothing_token (45 ∷ drop (at + 1) s) (nothing_take minus end_piece (signed_none (drop (at + 1) s) (rw z.1 at q))) at))
   number_bad b l p x y (inr z) q =
@@ -273,14 +273,14 @@ module _ (s : List ℕ) (at d : ℕ) (h : at < length s) where
     size_at : k ≡ d + number_size (drop d s)
     size_at = rw behind (omega (arith, rest_at))
 
-    token_at : (c : Class) → number_what (drop d s) ≡ is c → starts_with digit (drop d s) ≡ true → Behind s at d → Token (kind_of c) at k ≡ token_here at (drop at s)
+    token_at : (c : Class) → number_what (drop d s) ≡ is c → starts_with digit (drop d s) ≡ true → Behind s at d → token_read (kind_of c) at k ≡ token_here at (drop at s)
     token_at c e q z =
         let l : at + (k - at) ≡ k = omega (arith, behind_low z, size_at) in
         let r = read_token (drop at s) (number_read (k - at) q (l ∙ size_at) z) at in
-        sym (r ∙ ap (λ (v : What). as_token v at (k - at)) e ∙ ap (λ (i : ℕ). Token (kind_of c) at i) l)
+        sym (r ∙ ap (λ (v : What). as_token v at (k - at)) e ∙ ap (λ (i : ℕ). token_read (kind_of c) at i) l)
 
-    pub number_int : starts_with digit (drop d s) ≡ true → Behind s at d → k ≡ w → Token 2 at k ≡ token_here at (drop at s)
+    pub number_int : starts_with digit (drop d s) ≡ true → Behind s at d → k ≡ w → token_read 2 at k ≡ token_here at (drop at s)
     number_int q z e = token_at int (rw (behind, eq-eqb (rest_size (drop w s)) 0 (omega (arith, rest_at)))) q z
 
-    pub number_float : starts_with digit (drop d s) ≡ true → Behind s at d → (k ≡ w → ⊥) → Token 3 at k ≡ token_here at (drop at s)
+    pub number_float : starts_with digit (drop d s) ≡ true → Behind s at d → (k ≡ w → ⊥) → token_read 3 at k ≡ token_here at (drop at s)
     number_float q z e = token_at float (rw (behind, ne_eqb (rest_size (drop w s)) 0 (λ n. e (rest_at ∙ omega arith)))) q z

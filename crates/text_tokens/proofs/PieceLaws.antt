@@ -8,16 +8,16 @@ use native.Mathlib.Omega.{arith}
 use borrow.Author.Tests.{ne_eqb, eqb-true, eqb-false}
 use lib.Dec.{eqb}
 use lib.ListN.{length, get_or, drop, length-drop}
+use Rattle.std.specs.Prelude.{Err}
 use Rattle.paper.specs.Grammar.{nt, tm, act, tok}
 use Rattle.paper.specs.Language.{Class, bang, dollar, paren_l, paren_r, spread, colon, equals, at_sign, bracket_l, bracket_r, brace_l, bar, brace_r, n_other}
 use Rattle.paper.specs.Lexical.{Set, What, span, is, ignored, Piece, letter, letter_or_digit, lexical, hits_byte}
 use Rattle.paper.proofs.Machine.{took, step, enter, choose}
 use Rattle.paper.proofs.LexTables.{lexer, lex_factored}
-use Rattle.text_scan.specs.Head.{kind_of}
+use Rattle.text_scan.specs.Head.{kind_of, token_read}
 use Rattle.text_scan.specs.Piece.{token_here, ignored_here}
 use Rattle.text_scan.specs.Run.{run_of}
 use Rattle.text_tokens.specs.Skip.{among, punctuators, is_punctuator, blanks, is_blank}
-use Rattle.text_scan.specs.declared.TokenRead.TheVariants.{Token, Bad}
 use Rattle.text_characters.proofs.ByteLaws.{front, bytes_agree}
 use Rattle.text_tokens.proofs.NumberParts.{miss_one}
 use Rattle.text_scan.proofs.ReadLaws.{Stack, Read, Nothing, read_take, read_mark, read_run, nothing_take, nothing_refused, nothing_end, read_token, nothing_token, read_ignored, nothing_ignored}
@@ -25,7 +25,7 @@ use Rattle.text_tokens.proofs.StepLaws.{taken, missed, end_tm, end_piece, repeat
 use Rattle.text_tokens.proofs.WhatLaws.{blank, kept_byte}
 
 -- a name goes to the last of its characters
-pub name_here : (b at : ℕ) (bs : List ℕ) → hits_byte letter b ≡ true → token_here at (b ∷ bs) ≡ Token 1 at (at + suc (run_of letter_or_digit bs + 0))
+pub name_here : (b at : ℕ) (bs : List ℕ) → hits_byte letter b ≡ true → token_here at (b ∷ bs) ≡ token_read 1 at (at + suc (run_of letter_or_digit bs + 0))
 name_here b at bs h = read_token (b ∷ bs) (read_take (step_letter b h) (read_run repeats_name (act (is n_other) ∷ []) bs 0 (is n_other) (read_mark (is n_other) (drop (run_of letter_or_digit bs) bs)))) at
 
 -- a fact of each number of a list, at one that is among them
@@ -68,9 +68,9 @@ marks b h =
       ),
     ) b h
 
-pub mark_here : (b at : ℕ) (bs : List ℕ) → is_punctuator b ≡ true → token_here at (b ∷ bs) ≡ Token b at (at + 1)
+pub mark_here : (b at : ℕ) (bs : List ℕ) → is_punctuator b ≡ true → token_here at (b ∷ bs) ≡ token_read b at (at + 1)
 unfolding Mark
-mark_here b at bs h = let m = marks b h in read_token (b ∷ bs) (read_take m.2 (read_mark (is m.0) bs)) at ∙ ap (λ (k : ℕ). Token k at (at + 1)) m.1
+mark_here b at bs h = let m = marks b h in read_token (b ∷ bs) (read_take m.2 (read_mark (is m.0) bs)) at ∙ ap (λ (k : ℕ). token_read k at (at + 1)) m.1
 
 -- a byte that is ignored by itself
 Blank : ℕ → Type 0
@@ -144,16 +144,16 @@ module _ (s : List ℕ) (i : ℕ) (h : i < length s) where
   short : length s - i < 3 → length (drop (i + 1) s) < 2
   short l = simp length-drop (omega arith)
 
-  pub spread_short : get_or s i 0 ≡ 46 → length s - i < 3 → Bad i ≡ token_here i (drop i s)
+  pub spread_short : get_or s i 0 ≡ 46 → length s - i < 3 → Err i ≡ token_here i (drop i s)
   spread_short q l = sym (rw (from_at 46 q) (nothing_token (46 ∷ drop (i + 1) s) (nothing_take dots end_piece (two_short 46 46 (is spread) (drop (i + 1) s) (short l))) i))
 
-  pub spread_yes : get_or s i 0 ≡ 46 → 3 ≤ length s - i → At 1 ≡ 46 → At 2 ≡ 46 → Token 5 i (i + 3) ≡ token_here i (drop i s)
+  pub spread_yes : get_or s i 0 ≡ 46 → 3 ≤ length s - i → At 1 ≡ 46 → At 2 ≡ 46 → token_read 5 i (i + 3) ≡ token_here i (drop i s)
   spread_yes q l a b = sym (rw (from_at 46 q, next_at (omega arith), third_at (omega arith), a, b) (read_token _ (read_take dots (two_yes 46 46 (is spread) (drop (i + 2 + 1) s) refl refl)) i))
 
-  pub spread_third : get_or s i 0 ≡ 46 → 3 ≤ length s - i → At 1 ≡ 46 → (At 2 ≡ 46 → ⊥) → Bad i ≡ token_here i (drop i s)
+  pub spread_third : get_or s i 0 ≡ 46 → 3 ≤ length s - i → At 1 ≡ 46 → (At 2 ≡ 46 → ⊥) → Err i ≡ token_here i (drop i s)
   spread_third q l a b = sym (rw (from_at 46 q, next_at (omega arith), third_at (omega arith), a) (nothing_token _ (nothing_take dots end_piece (two_second 46 46 (is spread) (At 2) (drop (i + 2 + 1) s) refl b)) i))
 
-  pub spread_second : get_or s i 0 ≡ 46 → 3 ≤ length s - i → (At 1 ≡ 46 → ⊥) → Bad i ≡ token_here i (drop i s)
+  pub spread_second : get_or s i 0 ≡ 46 → 3 ≤ length s - i → (At 1 ≡ 46 → ⊥) → Err i ≡ token_here i (drop i s)
   spread_second q l a = sym (rw (from_at 46 q, next_at (omega arith)) (nothing_token _ (nothing_take dots end_piece (two_first 46 46 (is spread) (At 1) (drop (i + 1 + 1) s) a)) i))
 
   pub order_short : get_or s i 0 ≡ 239 → length s - i < 3 → 0 ≡ ignored_here (drop i s)
@@ -187,8 +187,8 @@ module _ (s : List ℕ) (i : ℕ) (h : i < length s) where
       sym (rw (front s i h) (kept_byte (get_or s i 0) l (sym q ∙ n) (drop (i + 1) s)))
 
   -- a name and a punctuator at a place
-  pub name_at : (e : ℕ) → hits_byte letter (get_or s i 0) ≡ true → e ≡ i + 1 + run_of letter_or_digit (drop (i + 1) s) → Token 1 i e ≡ token_here i (drop i s)
-  name_at e q z = sym (rw (front s i h) (name_here (get_or s i 0) i (drop (i + 1) s) q ∙ ap (λ (k : ℕ). Token 1 i k) (omega arith)))
+  pub name_at : (e : ℕ) → hits_byte letter (get_or s i 0) ≡ true → e ≡ i + 1 + run_of letter_or_digit (drop (i + 1) s) → token_read 1 i e ≡ token_here i (drop i s)
+  name_at e q z = sym (rw (front s i h) (name_here (get_or s i 0) i (drop (i + 1) s) q ∙ ap (λ (k : ℕ). token_read 1 i k) (omega arith)))
 
-  pub mark_at : is_punctuator (get_or s i 0) ≡ true → Token (get_or s i 0) i (i + 1) ≡ token_here i (drop i s)
+  pub mark_at : is_punctuator (get_or s i 0) ≡ true → token_read (get_or s i 0) i (i + 1) ≡ token_here i (drop i s)
   mark_at q = sym (rw (front s i h) (mark_here (get_or s i 0) i (drop (i + 1) s) q))

@@ -6,6 +6,7 @@ use mathlib.Core.Option.{Option, none, some}
 use Prim.Native.Nat.{ℕ, ◌<◌}
 use native.Mathlib.Omega.{arith}
 use lib.Dec.{T, eqb, eqb→eq}
+use Rattle.std.specs.Prelude.{Err}
 use Rattle.paper.specs.Grammar.{nt, tm, act, Ev, tok, mark, Derives, done, take, note, by}
 use Rattle.paper.specs.Language.{int, float}
 use Rattle.paper.specs.Lexical.{Lex, Set, What, is, ignored, comment, Piece, Number, NumberRest, lexical, hits_byte, letter, digit, span}
@@ -20,7 +21,6 @@ use Rattle.paper.proofs.LexTables.{lexer, lex_factored, all_l, num_l, at_l, same
 use Rattle.paper_theory.proofs.LexChecked.{fits_l, follow_l}
 use Rattle.text_scan.specs.Piece.{piece_at, token_here, token_of, as_token, ignored_here, ignored_of, as_ignored}
 use Rattle.text_tokens.specs.Skip.{is_punctuator}
-use Rattle.text_scan.specs.declared.TokenRead.TheVariants.{Bad}
 use Rattle.text_characters.proofs.ByteLaws.{from_all}
 use Rattle.text_scan.proofs.ReadLaws.{Stack}
 use Rattle.text_tokens.proofs.StepLaws.{end_piece}
@@ -149,16 +149,16 @@ abbrev pub no_token : What → Bool
 no_token w = not (is_token w)
 
 -- no token begins so
-pub not_token : (b at : ℕ) (bs : List ℕ) → T (good_step no_token (step lexer (nt Piece ∷ []) (some b))) → token_here at (b ∷ bs) ≡ Bad at
+pub not_token : (b at : ℕ) (bs : List ℕ) → T (good_step no_token (step lexer (nt Piece ∷ []) (some b))) → token_here at (b ∷ bs) ≡ Err at
 unfolding token_here piece_at
 not_token b at bs h = go (scan lexer (nt Piece ∷ []) (b ∷ bs)) refl
   where
-    by_what : (w : What) (n : ℕ) → T (no_token w) → as_token w at n ≡ Bad at
+    by_what : (w : What) (n : ℕ) → T (no_token w) → as_token w at n ≡ Err at
     by_what (is c) n t = absurd t
     by_what ignored n t = refl
     by_what comment n t = refl
 
-    go : (o : Option (Match ℕ What)) → scan lexer (nt Piece ∷ []) (b ∷ bs) ≡ o → token_of at o ≡ Bad at
+    go : (o : Option (Match ℕ What)) → scan lexer (nt Piece ∷ []) (b ∷ bs) ≡ o → token_of at o ≡ Err at
     go none e = refl
     go (some m) e = by_what (what_of m.events) m.size (piece_good no_token b bs h m e)
 
@@ -180,7 +180,7 @@ not_ignored b bs h = go (scan lexer (nt Piece ∷ []) (b ∷ bs)) refl
 abbrev begins_token : ℕ → Bool
 begins_token b = hits_byte letter b || (hits_byte digit b || (is_punctuator b || (eqb b 34 || (eqb b 46 || eqb b 45))))
 
-pub bad_byte : (b : ℕ) → b < 256 → T (not (begins_token b)) → (at : ℕ) (bs : List ℕ) → token_here at (b ∷ bs) ≡ Bad at
+pub bad_byte : (b : ℕ) → b < 256 → T (not (begins_token b)) → (at : ℕ) (bs : List ℕ) → token_here at (b ∷ bs) ≡ Err at
 unfolding step enter choose lex_factored lexical is_punctuator
 bad_byte b h t at bs =
     not_token b at bs (implies_out (not (begins_token b)) (good_step no_token (step lexer (nt Piece ∷ []) (some b)))

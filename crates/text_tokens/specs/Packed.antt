@@ -1,7 +1,7 @@
 -- What the token reader answers, in one number: a kind, and below it a start and an end of 16 bits each.
-use Rattle.std.specs.Prelude.{cond, ℕ, ◌+◌, ◌*◌, ◌/◌, ◌%◌, ◌<◌, eqb}
-use Rattle.text_scan.specs.declared.TokenRead.{TokenRead}
-use Rattle.text_scan.specs.declared.TokenRead.TheVariants.{Token, Bad}
+use Rattle.text_scan.specs.declared.Token.{Token}
+use Rattle.text_scan.specs.Head.{token_read}
+use Rattle.std.specs.Prelude.{cond, ℕ, ◌+◌, ◌*◌, ◌/◌, ◌%◌, ◌<◌, eqb, Result, Ok, Err}
 
 -- one more than a place may be
 abbrev pub places : ℕ
@@ -16,13 +16,13 @@ abbrev pub no_kind : ℕ
 no_kind = 127
 
 -- an answer that one number holds
-abbrev pub Fits : TokenRead → Type 0
-Fits (Token k a e) = (k < no_kind) × (a < places) × (e < places)
-Fits (Bad o) = o < places
+abbrev pub Fits : Result Token ℕ → Type 0
+Fits (Ok t) = (t.kind < no_kind) × (t.start < places) × (t.end < places)
+Fits (Err o) = o < places
 
-abbrev pub packed_of : TokenRead → ℕ
-packed_of (Token k a e) = k * two_places + a * places + e
-packed_of (Bad o) = no_kind * two_places + o * places
+abbrev pub packed_of : Result Token ℕ → ℕ
+packed_of (Ok t) = t.kind * two_places + t.start * places + t.end
+packed_of (Err o) = no_kind * two_places + o * places
 
-unfoldable pub unpacked_of : ℕ → TokenRead
-unpacked_of n = cond (eqb (n / two_places) no_kind) (Bad (n / places % places)) (Token (n / two_places) (n / places % places) (n % places))
+unfoldable pub unpacked_of : ℕ → Result Token ℕ
+unpacked_of n = cond (eqb (n / two_places) no_kind) (Err (n / places % places)) (token_read (n / two_places) (n / places % places) (n % places))

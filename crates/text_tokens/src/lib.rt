@@ -1,4 +1,4 @@
-// Reads one token of a text at a time, by longest match.
+// Reads one token of a text at a time, by longest match: Ok with the token, or Err with the offset of bytes that start none.
 #![tactic(auto)]
 
 ghost use Rattle.std.specs.Prelude.{◌≡◌, ◌+◌, ◌-◌, ◌≤◌, ◌<◌, false, cond, length, take, drop, get_or};
@@ -12,7 +12,7 @@ ghost use Rattle.text_tokens.specs.Packed.{Fits, packed_of, unpacked_of};
 ghost use Rattle.text_tokens.specs.Skip.{Other, Numeric, is_punctuator, is_blank};
 
 use text_characters::{in_name, starts_name};
-use text_scan::{TOKEN_END, TOKEN_FLOAT, TOKEN_INT, TOKEN_NAME, TOKEN_SPREAD, TokenRead};
+use text_scan::{TOKEN_END, TOKEN_FLOAT, TOKEN_INT, TOKEN_NAME, TOKEN_SPREAD, Token};
 use text_strings::{comment, string};
 
 // A token in one number: its kind, above two places of 16 bits; and what stands for the kind where there is none.
@@ -92,15 +92,12 @@ pub fn name_end(s: &[u8], from: usize) -> usize
     requires { from ≤ length s.now }
     ensures { result ≡ from + run_of letter_or_digit (drop from s.now) }
 {
-    let mut i = from;
-    while i < s.len() {
-        if in_name(s[i]) {
-            i += 1;
-        } else {
+    for i in from..s.len() {
+        if !in_name(s[i]) {
             return i;
         }
     }
-    i
+    s.len()
 }
 
 // One past the last of the digits that stand from `from` on.
@@ -108,15 +105,12 @@ pub fn digits_end(s: &[u8], from: usize) -> usize
     requires { from ≤ length s.now }
     ensures { result ≡ from + run_of digit (drop from s.now) }
 {
-    let mut i = from;
-    while i < s.len() {
-        if is_digit(s[i]) {
-            i += 1;
-        } else {
+    for i in from..s.len() {
+        if !is_digit(s[i]) {
             return i;
         }
     }
-    i
+    s.len()
 }
 
 // Whether a digit stands at i.
@@ -194,7 +188,7 @@ pub fn whole_end(s: &[u8], i: usize) -> usize
 }
 
 // The number at `at`, where no name, punctuator or string stands.
-pub fn number(s: &[u8], at: usize) -> TokenRead
+pub fn number(s: &[u8], at: usize) -> Result<Token, usize>
     requires { Numeric s.now at }
     ensures { result ≡ token_here at (drop at s.now) }
 {
@@ -207,39 +201,39 @@ pub fn number(s: &[u8], at: usize) -> TokenRead
         let f = fraction_end(s, w);
         let e = exponent_end(s, f);
         if e == w {
-            return TokenRead::Token {
+            return Ok(Token {
                 kind: TOKEN_INT,
                 start: at,
                 end: e,
-            };
+            });
         }
-        return TokenRead::Token {
+        return Ok(Token {
             kind: TOKEN_FLOAT,
             start: at,
             end: e,
-        };
+        });
     }
-    TokenRead::Bad(at)
+    Err(at)
 }
 
 // The three dots at `at`.
-pub fn spread(s: &[u8], at: usize) -> TokenRead
+pub fn spread(s: &[u8], at: usize) -> Result<Token, usize>
     requires { (at < length s.now) × (get_or s.now at 0 ≡ 46) }
     ensures { result ≡ token_here at (drop at s.now) }
 {
     if s.len() - at < 3 {
-        return TokenRead::Bad(at);
+        return Err(at);
     }
     if s[at + 1] == b'.' {
         if s[at + 2] == b'.' {
-            return TokenRead::Token {
+            return Ok(Token {
                 kind: TOKEN_SPREAD,
                 start: at,
                 end: at + 3,
-            };
+            });
         }
     }
-    TokenRead::Bad(at)
+    Err(at)
 }
 
 // Whether a byte is a punctuator.
@@ -274,7 +268,7 @@ pub fn is_punctuator(b: u8) -> bool
 }
 
 // The string, spread or number at `at`, where no name and no punctuator of one byte stands.
-fn other(s: &[u8], at: usize) -> TokenRead
+fn other(s: &[u8], at: usize) -> Result<Token, usize>
     requires { Other s.now at }
     ensures { result ≡ token_here at (drop at s.now) }
 {
@@ -289,7 +283,7 @@ fn other(s: &[u8], at: usize) -> TokenRead
 }
 
 // The token at or after `from`. One loop looks at each byte, in the order in which they are frequent.
-fn first(s: &[u8], from: usize) -> TokenRead
+fn first(s: &[u8], from: usize) -> Result<Token, usize>
     requires { from ≤ length s.now }
     ensures { result ≡ head_of (Rattle.paper.proofs.Lexing.from s.now from) }
 {
@@ -302,18 +296,18 @@ fn first(s: &[u8], from: usize) -> TokenRead
         }
         if starts_name(b) {
             let e = name_end(s, i + 1);
-            return TokenRead::Token {
+            return Ok(Token {
                 kind: TOKEN_NAME,
                 start: i,
                 end: e,
-            };
+            });
         }
         if is_punctuator(b) {
-            return TokenRead::Token {
+            return Ok(Token {
                 kind: b as u32,
                 start: i,
                 end: i + 1,
-            };
+            });
         }
         let n = ignored(s, i);
         if n == 0 {
@@ -321,40 +315,40 @@ fn first(s: &[u8], from: usize) -> TokenRead
         }
         i += n;
     }
-    TokenRead::Token {
+    Ok(Token {
         kind: TOKEN_END,
         start: i,
         end: i,
-    }
+    })
 }
 
 // What stands at a place, in one number.
-fn packed(t: TokenRead) -> u64
+fn packed(t: Result<Token, usize>) -> u64
     requires { Fits t }
     ensures { result ≡ packed_of t }
 {
     match t {
-        TokenRead::Token { kind, start, end } => {
-            kind as u64 * TWO_PLACES + start as u64 * PLACES + end as u64
+        Ok(token) => {
+            token.kind as u64 * TWO_PLACES + token.start as u64 * PLACES + token.end as u64
         }
-        TokenRead::Bad(at) => NO_KIND * TWO_PLACES + at as u64 * PLACES,
+        Err(at) => NO_KIND * TWO_PLACES + at as u64 * PLACES,
     }
 }
 
 // The same, taken out of the number.
-pub fn unpacked(n: u64) -> TokenRead
+pub fn unpacked(n: u64) -> Result<Token, usize>
     ensures { result ≡ unpacked_of n }
 {
     let kind = n / TWO_PLACES;
     let start = n / PLACES % PLACES;
     if kind == NO_KIND {
-        return TokenRead::Bad(start as usize);
+        return Err(start as usize);
     }
-    TokenRead::Token {
+    Ok(Token {
         kind: kind as u32,
         start: start as usize,
         end: (n % PLACES) as usize,
-    }
+    })
 }
 
 // The token at or after `from`, in one number, so that none goes through memory. It has two callers, so that it stays apart and they are inlined.
@@ -366,7 +360,7 @@ pub fn scan(s: &[u8], from: usize) -> u64
 }
 
 // The token at or after `from`.
-pub fn next(s: &[u8], from: usize) -> TokenRead
+pub fn next(s: &[u8], from: usize) -> Result<Token, usize>
     requires { (length s.now ≤ most_text) × (from ≤ length s.now) }
     ensures { result ≡ head_of (Rattle.paper.proofs.Lexing.from s.now from) }
 {

@@ -8,6 +8,7 @@ use native.Mathlib.Omega.{arith}
 use lib.Dec.{T, eqb}
 use lib.ListN.{length, set, length-set}
 use borrow.Author.Tests.{eqb-true, eqb-false}
+use Rattle.std.specs.Prelude.{Result, Ok, Err}
 use Rattle.paper.specs.Grammar.{nt, tm, act}
 use Rattle.paper.specs.Numbers.{most_text, most_rows, rows_size, kind_argument, kind_object_field}
 use Rattle.paper.specs.Language.{the, any_name, named, end, Part, Name, Argument, language, colon, n_other}
@@ -22,8 +23,6 @@ use Rattle.paper.proofs.Tables.{graphql, factored, all_c}
 use Rattle.paper.proofs.Going.{Stack, st, go}
 use Rattle.text_scan.specs.Head.{kind_of}
 use Rattle.text_cursor.specs.declared.Cursor.{Cursor}
-use Rattle.text_cursor.specs.declared.Read.{Read}
-use Rattle.text_cursor.specs.declared.Read.TheVariants.{Done, Refused}
 use Rattle.text_cursor.specs.Reader.{Ready, at, Went, Halts, Said}
 use Rattle.text_cursor.proofs.ReaderLaws.{token_lies}
 use Rattle.text_cursor.proofs.Steps.{is, not_is, first, refuse, lacks, plain, too_many_rows, refuses, refuses_end}
@@ -80,11 +79,11 @@ module _ (s rows : List ℕ) (c : Cursor) (parent : ℕ) (ready : Ready s rows c
           named_goes left b σ o q h
           ∙ plain s c ready.within ready.looks opened (c.rows + 1) (c.rows ∷ o) left q (tm (the colon) ∷ nt (value_part b) ∷ act end ∷ σ) any_name n_other e tt tt (omega (arith, few)) f
 
-      pub entry_bad : (rows' : List ℕ) (r : Read) (x : Refusal) → r ≡ past s c (c.rows + 1) → r ≡ Refused x → SaidNamed s rows rows' c parent K r
+      pub entry_bad : (rows' : List ℕ) (r : Result Cursor Refusal) (x : Refusal) → r ≡ past s c (c.rows + 1) → r ≡ Err x → SaidNamed s rows rows' c parent K r
       entry_bad rows' r x q w = rw w (λ left b σ o y h f. name_goes left b σ o y h f ∙ moved_halts s c.end (c.rows + 1) r x q w (st opened (c.rows + 1) (c.rows ∷ o) c.end left y) (tm (the colon) ∷ nt (value_part b) ∷ act end ∷ σ))
 
       -- at the token that must be the colon
-      module _ (r : Read) (d : Cursor) (q : r ≡ past s c (c.rows + 1)) (w : r ≡ Done d) where
+      module _ (r : Result Cursor Refusal) (d : Cursor) (q : r ≡ past s c (c.rows + 1)) (w : r ≡ Ok d) where
         m : Moved s c.end (c.rows + 1) d
         m = moved_done s c.end (c.rows + 1) r d q w
 
@@ -111,9 +110,9 @@ module _ (s rows : List ℕ) (c : Cursor) (parent : ℕ) (ready : Ready s rows c
               ∙ plain s d within m.looks opened (c.rows + 1) (c.rows ∷ o) left y (nt (value_part b) ∷ act end ∷ σ) (the colon) colon k tt tt (omega (arith, few)) f
 
           -- at the value
-          pub entry_named : (rows' : List ℕ) → rows' ≡ opened → (t : Read) → t ≡ past s d (c.rows + 1) → SaidNamed s rows rows' c parent K t
-          entry_named rows' p (Done g) u =
-              let v = moved_done s d.end (c.rows + 1) (Done g) g u refl in
+          pub entry_named : (rows' : List ℕ) → rows' ≡ opened → (t : Result Cursor Refusal) → t ≡ past s d (c.rows + 1) → SaidNamed s rows rows' c parent K t
+          entry_named rows' p (Ok g) u =
+              let v = moved_done s d.end (c.rows + 1) (Ok g) g u refl in
               record {
                 room = few;
                 size = rw p (put_length rows c.rows K c.start 0 parent c.start (c.end - c.start) 0 ∙ ready.size);
@@ -123,28 +122,28 @@ module _ (s rows : List ℕ) (c : Cursor) (parent : ℕ) (ready : Ready s rows c
                 on = omega (arith, v.stop, colon_lies, m.stop, ready_lies s rows c parent ready);
                 goes = λ left b σ o y h f. colon_goes left b σ o y h f ∙ rw (v.stop, v.rows, p) refl;
               }
-          entry_named rows' p (Refused x) u = λ left b σ o y h f. colon_goes left b σ o y h f ∙ moved_halts s d.end (c.rows + 1) (Refused x) x u refl (st opened (c.rows + 1) (c.rows ∷ o) d.end left y) (nt (value_part b) ∷ act end ∷ σ)
+          entry_named rows' p (Err x) u = λ left b σ o y h f. colon_goes left b σ o y h f ∙ moved_halts s d.end (c.rows + 1) (Err x) x u refl (st opened (c.rows + 1) (c.rows ∷ o) d.end left y) (nt (value_part b) ∷ act end ∷ σ)
 
 -- AN ENTRY, where its name and colon were read
-module _ (s rows : List ℕ) (c : Cursor) (parent left K : ℕ) (b : Bool) (rows₁ : List ℕ) (r : Read) (said : SaidNamed s rows rows₁ c parent K r) where
-  pub entry_refused : (rows' : List ℕ) (x : Refusal) → r ≡ Refused x → Said 1 s rows rows' c parent left (entry_stack K b) r
+module _ (s rows : List ℕ) (c : Cursor) (parent left K : ℕ) (b : Bool) (rows₁ : List ℕ) (r : Result Cursor Refusal) (said : SaidNamed s rows rows₁ c parent K r) where
+  pub entry_refused : (rows' : List ℕ) (x : Refusal) → r ≡ Err x → Said 1 s rows rows' c parent left (entry_stack K b) r
   entry_refused rows' x w = rw w ((subst (SaidNamed s rows rows₁ c parent K) w said) left b)
 
-  module _ (g : Cursor) (w : r ≡ Done g) where
+  module _ (g : Cursor) (w : r ≡ Ok g) where
     pub entry_begun : Named s rows rows₁ c g parent K
     entry_begun = subst (SaidNamed s rows rows₁ c parent K) w said
 
     pub entry_ready : length s ≤ most_text → Ready s rows₁ g c.rows
     entry_ready l = let a = entry_begun in record { short = l; size = a.size; within = a.within; few = a.few; looks = a.looks; below = omega (arith, a.room) }
 
-    module _ (rows₂ : List ℕ) (z : Read) (of-value : Said 1 s rows₁ rows₂ g c.rows left (nt (value_part b) ∷ []) z) where
-      pub entry_stops : (rows' : List ℕ) (x : Refusal) → z ≡ Refused x → Said 1 s rows rows' c parent left (entry_stack K b) z
+    module _ (rows₂ : List ℕ) (z : Result Cursor Refusal) (of-value : Said 1 s rows₁ rows₂ g c.rows left (nt (value_part b) ∷ []) z) where
+      pub entry_stops : (rows' : List ℕ) (x : Refusal) → z ≡ Err x → Said 1 s rows rows' c parent left (entry_stack K b) z
       entry_stops rows' x j = rw j (step (subst (Said 1 s rows₁ rows₂ g c.rows left (nt (value_part b) ∷ [])) j of-value))
         where
           step : Halts s rows₁ g c.rows left (nt (value_part b) ∷ []) x → Halts s rows c parent left (entry_stack K b) x
           step a σ o y h f = entry_begun.goes left b σ o y h f ∙ a (act end ∷ σ) (c.rows ∷ o) y refl f
 
-      module _ (d : Cursor) (j : z ≡ Done d) where
+      module _ (d : Cursor) (j : z ≡ Ok d) where
         value_went : Went 1 s rows₁ rows₂ g d c.rows left (nt (value_part b) ∷ [])
         value_went = subst (Said 1 s rows₁ rows₂ g c.rows left (nt (value_part b) ∷ [])) j of-value
 

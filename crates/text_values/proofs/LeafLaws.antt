@@ -8,6 +8,7 @@ use native.Mathlib.Omega.{arith}
 use lib.Dec.{T}
 use lib.ListN.{length, take, drop}
 use borrow.Author.Tests.{eq-eqb, ne_eqb}
+use Rattle.std.specs.Prelude.{Result}
 use Rattle.paper.specs.Grammar.{nt, tm, act}
 use Rattle.paper.specs.Numbers.{most_rows, kind_integer, kind_float, kind_string, kind_boolean, kind_null, kind_enum, extra_true, extra_false}
 use Rattle.paper.specs.Language.{Class, num_c, Terminal, the, name_but_literal, hits, row, kind, named, end, Part, Value, ConstValue, EnumValue, language, dollar, int, float, string, n_true, n_false, n_null, n_other, bracket_l, brace_l}
@@ -15,6 +16,7 @@ use Rattle.paper.specs.Tokens.{token, name_class}
 use Rattle.paper.specs.Rows.{top}
 use Rattle.paper.specs.Sizes.{Counts, kinded, over_counts, opens_level, closes_level}
 use Rattle.paper.specs.declared.Refusal.TheVariants.{TooManyRows}
+use Rattle.paper.specs.declared.Refusal.{Refusal}
 use Rattle.paper.proofs.Lexing.{from}
 use Rattle.paper_theory.proofs.FromLaws.{from_token}
 use Rattle.paper.proofs.Machine.{fst, choose}
@@ -22,10 +24,9 @@ use Rattle.paper.proofs.Bools.{and_l}
 use Rattle.paper_theory.proofs.Test.{all, implies, implies_out, all_at}
 use Rattle.paper.proofs.Tables.{graphql, factored, all_c, at_c}
 use Rattle.paper.proofs.Going.{Stack, st, go, halt}
-use Rattle.text_scan.specs.Head.{head_of, kind_of, word_of, word_number}
-use Rattle.text_scan.specs.declared.TokenRead.TheVariants.{Token}
+use Rattle.text_scan.specs.Head.{head_of, kind_of, word_of, word_number, token_read}
+use Rattle.text_scan.proofs.TokenLaws.{token_parts}
 use Rattle.text_cursor.specs.declared.Cursor.{Cursor}
-use Rattle.text_cursor.specs.declared.Read.{Read}
 use Rattle.text_cursor.specs.Reader.{Ready, at, Said, no_going_of}
 use Rattle.text_cursor.proofs.Steps.{token_of, front_token, by_kind, is, refuse, refuses, refuses_end}
 use Rattle.text_cursor.proofs.Cells.{put, put_length, row_opens, name_told, row_ends}
@@ -77,7 +78,7 @@ module _ (s rows : List ℕ) (c : Cursor) (parent : ℕ) (ready : Ready s rows c
       (goes : c.rows < most_rows → (σ : Stack) (o : List ℕ) (left : ℕ) (q : Counts) → top o ≡ parent → over_counts q ≡ false →
       at s rows c o left q (nt p ∷ σ) ≡ go (st (put rows c.rows K c.start c.end parent m z x) (c.rows + 1) o c.end left q) σ (from s c.end))
       (halts : c.rows ≡ most_rows → (σ : Stack) (o : List ℕ) (left : ℕ) (q : Counts) → top o ≡ parent → over_counts q ≡ false → at s rows c o left q (nt p ∷ σ) ≡ halt (TooManyRows c.start)) where
-    leaf_said : (left : ℕ) (rows' : List ℕ) (r : Read) → Leaf s rows rows' c parent K m z x r → Said 1 s rows rows' c parent left (nt p ∷ []) r
+    leaf_said : (left : ℕ) (rows' : List ℕ) (r : Result Cursor Refusal) → Leaf s rows rows' c parent K m z x r → Said 1 s rows rows' c parent left (nt p ∷ []) r
     leaf_said left rows' r (full e q) = rw q (λ σ o y h f. halts e σ o left y h f)
     leaf_said left rows' r (wrote e u q) =
         moved_said 1 s rows rows' c parent left (nt p ∷ []) c.end (c.rows + 1)
@@ -92,7 +93,7 @@ module _ (s rows : List ℕ) (c : Cursor) (parent : ℕ) (ready : Ready s rows c
         ∙ row_opens rows c.rows o c.stop left q (tm w ∷ act end ∷ σ) (token (token_of k c.start c.end) (from s c.end)) K x
         ∙ rw (same q, e) refl
 
-    pub literal_said : (left : ℕ) (rows' : List ℕ) (r : Read) → Leaf s rows rows' c parent K 0 0 x r → Said 1 s rows rows' c parent left (nt p ∷ []) r
+    pub literal_said : (left : ℕ) (rows' : List ℕ) (r : Result Cursor Refusal) → Leaf s rows rows' c parent K 0 0 x r → Said 1 s rows rows' c parent left (nt p ∷ []) r
     literal_said left rows' r =
         leaf_said K 0 0 x
         (λ u σ o left q e f.
@@ -114,7 +115,7 @@ module _ (s rows : List ℕ) (c : Cursor) (parent : ℕ) (ready : Ready s rows c
         ∙ class_first (put rows c.rows kind_enum c.start 0 parent c.start (c.end - c.start) 0) (c.rows + 1) (c.rows ∷ o) c.stop left q (act end ∷ σ) k c.start c.end (from s c.end) EnumValue enum_in
         (and_l (hits name_but_literal k) (not (opens_level k) && not (closes_level k)) hit)
 
-    pub enum_said : (left : ℕ) (rows' : List ℕ) (r : Read) → Leaf s rows rows' c parent kind_enum c.start (c.end - c.start) 0 r → Said 1 s rows rows' c parent left (nt p ∷ []) r
+    pub enum_said : (left : ℕ) (rows' : List ℕ) (r : Result Cursor Refusal) → Leaf s rows rows' c parent kind_enum c.start (c.end - c.start) 0 r → Said 1 s rows rows' c parent left (nt p ∷ []) r
     enum_said left rows' r =
         leaf_said kind_enum c.start (c.end - c.start) 0
         (λ u σ o left q e f.
@@ -163,7 +164,7 @@ name_in_is true = Memᴰ.tail (Memᴰ.tail (Memᴰ.tail (Memᴰ.tail (Memᴰ.tai
 name_in_is false = Memᴰ.tail (Memᴰ.tail (Memᴰ.tail (Memᴰ.tail (Memᴰ.tail (Memᴰ.tail (Memᴰ.tail (Memᴰ.head refl)))))))
 
 -- the readers' laws, for a cursor, and rows that the code left
-module _ (s rows rows' : List ℕ) (c : Cursor) (parent : ℕ) (ready : Ready s rows c parent) (r : Read) where
+module _ (s rows rows' : List ℕ) (c : Cursor) (parent : ℕ) (ready : Ready s rows c parent) (r : Result Cursor Refusal) where
   -- a kind of token that is a literal
   module _ (x K : ℕ) (w : Terminal) (mem : (b : Bool) → Memᴰ (literal K 0 w) (factored (value_part b))) (same : (q : Counts) → kinded K q ≡ q) (e : c.kind ≡ suc x)
       (t : T (all (λ k. implies (is (suc x) (kind_of k)) (plain_hit w k)) all_c)) where
@@ -187,10 +188,10 @@ module _ (s rows rows' : List ℕ) (c : Cursor) (parent : ℕ) (ready : Ready s 
     class = name_class (take (c.end - c.start) (drop c.start s))
 
     looks : LooksAt s c class
-    looks = head_name s c.stop c.start c.end ready.within (ready.looks ∙ ap (λ (x : ℕ). Token x c.start c.end) e)
+    looks = head_name s c.stop c.start c.end ready.within (ready.looks ∙ ap (λ (x : ℕ). token_read x c.start c.end) e)
 
     class_kind : kind_of class ≡ 1
-    class_kind = let z : Token (kind_of class) c.start c.end ≡ Token c.kind c.start c.end = ap head_of (sym looks) ∙ ready.looks in let y : kind_of class ≡ c.kind = cc in y ∙ e
+    class_kind = let z : token_read (kind_of class) c.start c.end ≡ token_read c.kind c.start c.end = ap head_of (sym looks) ∙ ready.looks in (token_parts _ _ _ _ z).0 ∙ e
 
     -- one of the words that are values
     module _ (x K X : ℕ) (w : Terminal) (mem : (b : Bool) → Memᴰ (literal K X w) (factored (value_part b))) (same : (q : Counts) → kinded K q ≡ q)

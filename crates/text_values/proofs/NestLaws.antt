@@ -9,6 +9,7 @@ use native.Mathlib.Omega.{arith}
 use lib.Dec.{T}
 use lib.ListN.{length, set, length-set}
 use borrow.Author.Tests.{eq-eqb}
+use Rattle.std.specs.Prelude.{Result, Ok, Err}
 use Rattle.paper.specs.Grammar.{nt, tm, act}
 use Rattle.paper.specs.Numbers.{most_rows, rows_size}
 use Rattle.paper.specs.Language.{Class, Part, the, hits, row, kind, end}
@@ -24,8 +25,6 @@ use Rattle.paper.proofs.Going.{Stack, st, go}
 use Rattle.text_scan.specs.Head.{kind_of}
 use Rattle.text_tokens.proofs.KindLaws.{kind_some}
 use Rattle.text_cursor.specs.declared.Cursor.{Cursor}
-use Rattle.text_cursor.specs.declared.Read.{Read}
-use Rattle.text_cursor.specs.declared.Read.TheVariants.{Done, Refused}
 use Rattle.text_cursor.specs.Reader.{Looks, Ready, at, Went, Halts, Said}
 use Rattle.text_cursor.proofs.ReaderLaws.{token_lies}
 use Rattle.text_cursor.proofs.Steps.{is, not_is, same_bool, first, null, opening, closing, too_deep, too_many_rows_open, refuses_end}
@@ -85,7 +84,7 @@ module _ {p : Part} {K : ℕ} {A B : Class} {inner item star : Part} (N : Nest p
         ∙ opening s c ready.within ready.looks opened (c.rows + 1) (c.rows ∷ o) left q (nt star ∷ tm (the B) ∷ act end ∷ σ) (the A) A e N.opening_hit N.opening_opens (left - 1) (omega arith) (omega (arith, few)) f
 
   -- at the opening mark the code stops where the machine halts
-  pub nest_refused : (rows₀ rows' : List ℕ) (r : Read) (v : Refusal) → Open s rows rows₀ c parent left K r → r ≡ Refused v → Said 1 s rows rows' c parent left (nt p ∷ []) r
+  pub nest_refused : (rows₀ rows' : List ℕ) (r : Result Cursor Refusal) (v : Refusal) → Open s rows rows₀ c parent left K r → r ≡ Err v → Said 1 s rows rows' c parent left (nt p ∷ []) r
   nest_refused rows₀ rows' r v (deep z q) w = rw q (λ σ o y h f.
       begins σ o y h
       ∙ too_deep s c ready.within ready.looks opened (c.rows + 1) (c.rows ∷ o) left y (nt star ∷ tm (the B) ∷ act end ∷ σ) (the A) A e N.opening_hit N.opening_opens z)
@@ -96,12 +95,12 @@ module _ {p : Part} {K : ℕ} {A B : Class} {inner item star : Part} (N : Nest p
       opens_goes z n σ o y h f ∙ moved_halts s c.end (c.rows + 1) r v q w (st opened (c.rows + 1) (c.rows ∷ o) c.end (left - 1) y) (nt star ∷ tm (the B) ∷ act end ∷ σ))
 
   -- or it goes on behind the mark
-  module _ (rows₀ : List ℕ) (r : Read) (d₀ : Cursor) (h₀ : Open s rows rows₀ c parent left K r) (w : r ≡ Done d₀) where
+  module _ (rows₀ : List ℕ) (r : Result Cursor Refusal) (d₀ : Cursor) (h₀ : Open s rows rows₀ c parent left K r) (w : r ≡ Ok d₀) where
     pub nest_entered : (left ≢ 0) × (c.rows < most_rows) × (rows₀ ≡ opened) × Moved s c.end (c.rows + 1) d₀
     nest_entered = cases h₀
       where
-        apart : (v : Refusal) → r ≡ Refused v → ⊥
-        apart v q = let y : Done d₀ ≡ Refused v = sym w ∙ q in let k : ◌≡◌ {A = ℕ} 0 1 = cc in omega arith
+        apart : (v : Refusal) → r ≡ Err v → ⊥
+        apart v q = let y : Ok d₀ ≡ Err v = sym w ∙ q in let k : ◌≡◌ {A = ℕ} 0 1 = cc in omega arith
 
         cases : Open s rows rows₀ c parent left K r → (left ≢ 0) × (c.rows < most_rows) × (rows₀ ≡ opened) × Moved s c.end (c.rows + 1) d₀
         cases (deep z q) = absurd (apart (TooDeep c.start) q)
@@ -150,7 +149,7 @@ module _ {p : Part} {K : ℕ} {A B : Class} {inner item star : Part} (N : Nest p
             back : suc (left - 1) ≡ left
             back = omega (arith, z)
 
-        pub nest_closes : (rows' : List ℕ) (r' : Read) → Close s rows₁ rows' d c.rows r' → Said 1 s rows rows' c parent left (nt p ∷ []) r'
+        pub nest_closes : (rows' : List ℕ) (r' : Result Cursor Refusal) → Close s rows₁ rows' d c.rows r' → Said 1 s rows rows' c parent left (nt p ∷ []) r'
         nest_closes rows' r' v =
             moved_said 1 s rows rows' c parent left (nt p ∷ []) d.end d.rows
             (rw v.ended (length-set rows₁ (7 * c.rows + 2) d.end ∙ i.size)) lies.2 i.few (omega (arith, lies, i.since, m.stop, onward))
@@ -169,7 +168,7 @@ module _ {p : Part} {K : ℕ} {A B : Class} {inner item star : Part} (N : Nest p
             run_more item star (the B) N.more_in N.none_in s d i.within i.looks (λ x. not (is (kind_of B) x)) (not_is (kind_of B) d.kind k) N.item_first N.none_end N.no_item_end (st rows₁ d.rows o d.stop (left - 1) q) σ
             ∙ same (nt star ∷ tm (the B) ∷ σ) o q h f
 
-        pub nest_more : (rows₂ : List ℕ) (t : Read) (f : Cursor) → Said 1 s rows₁ rows₂ d c.rows (left - 1) α t → t ≡ Done f → InNest s rows₀ rows₂ d₀ f c.rows (left - 1) star B
+        pub nest_more : (rows₂ : List ℕ) (t : Result Cursor Refusal) (f : Cursor) → Said 1 s rows₁ rows₂ d c.rows (left - 1) α t → t ≡ Ok f → InNest s rows₀ rows₂ d₀ f c.rows (left - 1) star B
         nest_more rows₂ t f v g = step (subst (Said 1 s rows₁ rows₂ d c.rows (left - 1) α) g v)
           where
             step : Went 1 s rows₁ rows₂ d f c.rows (left - 1) α → InNest s rows₀ rows₂ d₀ f c.rows (left - 1) star B
@@ -183,13 +182,13 @@ module _ {p : Part} {K : ℕ} {A B : Class} {inner item star : Part} (N : Nest p
                   so_far = λ σ o q h l. i.so_far σ o q h l ∙ item_goes σ o q h l ∙ a.goes (nt star ∷ tm (the B) ∷ σ) o q h l;
                 }
 
-        pub nest_less : (rows₂ : List ℕ) (t : Read) (f : Cursor) → Said 1 s rows₁ rows₂ d c.rows (left - 1) α t → t ≡ Done f → length s - f.stop < length s - d.stop
+        pub nest_less : (rows₂ : List ℕ) (t : Result Cursor Refusal) (f : Cursor) → Said 1 s rows₁ rows₂ d c.rows (left - 1) α t → t ≡ Ok f → length s - f.stop < length s - d.stop
         nest_less rows₂ t f v g = step (subst (Said 1 s rows₁ rows₂ d c.rows (left - 1) α) g v)
           where
             step : Went 1 s rows₁ rows₂ d f c.rows (left - 1) α → length s - f.stop < length s - d.stop
             step a = omega (arith, a.on, a.within)
 
-        pub nest_stops : (rows₂ rows' : List ℕ) (t : Read) (x : Refusal) → Said 1 s rows₁ rows₂ d c.rows (left - 1) α t → t ≡ Refused x → Said 1 s rows rows' c parent left (nt p ∷ []) t
+        pub nest_stops : (rows₂ rows' : List ℕ) (t : Result Cursor Refusal) (x : Refusal) → Said 1 s rows₁ rows₂ d c.rows (left - 1) α t → t ≡ Err x → Said 1 s rows rows' c parent left (nt p ∷ []) t
         nest_stops rows₂ rows' t x v g = rw g (step (subst (Said 1 s rows₁ rows₂ d c.rows (left - 1) α) g v))
           where
             step : Halts s rows₁ d c.rows (left - 1) α x → Halts s rows c parent left (nt p ∷ []) x

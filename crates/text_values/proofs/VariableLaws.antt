@@ -7,6 +7,7 @@ use Prim.Native.Nat.{ℕ, ◌+◌, ◌-◌, ◌≤◌, ◌<◌}
 use native.Mathlib.Omega.{arith}
 use lib.ListN.{length}
 use borrow.Author.Tests.{eq-eqb}
+use Rattle.std.specs.Prelude.{Result, Ok, Err}
 use Rattle.paper.specs.Grammar.{nt, tm, act}
 use Rattle.paper.specs.Numbers.{most_rows, kind_variable}
 use Rattle.paper.specs.Language.{the, any_name, row, kind, named, end, Value, ConstValue, Name, language, dollar, n_other}
@@ -20,8 +21,6 @@ use Rattle.paper.proofs.Tables.{factored}
 use Rattle.paper.proofs.Going.{Stack, st, go}
 use Rattle.text_scan.specs.Head.{kind_of}
 use Rattle.text_cursor.specs.declared.Cursor.{Cursor}
-use Rattle.text_cursor.specs.declared.Read.{Read}
-use Rattle.text_cursor.specs.declared.Read.TheVariants.{Done, Refused}
 use Rattle.text_cursor.specs.Reader.{Ready, at, Said, no_going_of}
 use Rattle.text_cursor.proofs.ReaderLaws.{token_lies}
 use Rattle.text_cursor.proofs.Steps.{is, not_is, first, refuse, plain, too_many_rows, refuses, refuses_end, front, Front, a_token, the_end}
@@ -50,7 +49,7 @@ module _ (s rows rows' : List ℕ) (c : Cursor) (parent : ℕ) (ready : Ready s 
       ∙ row_opens rows c.rows o c.stop left q (tm (the dollar) ∷ act named ∷ nt Name ∷ act end ∷ σ) (from s c.stop) kind_variable 0
       ∙ rw (start_in_is s c ready.looks, p) refl
 
-  pub variable_full : c.rows ≡ most_rows → SaidVariable s rows rows c parent (Refused (TooManyRows c.start))
+  pub variable_full : c.rows ≡ most_rows → SaidVariable s rows rows c parent (Err (TooManyRows c.start))
   variable_full n left = λ σ o q p f.
       opens σ o left q p
       ∙ too_many_rows s c ready.within ready.looks opened (c.rows + 1) (c.rows ∷ o) left q (act named ∷ nt Name ∷ act end ∷ σ) (the dollar) dollar e tt tt (omega arith)
@@ -66,11 +65,11 @@ module _ (s rows rows' : List ℕ) (c : Cursor) (parent : ℕ) (ready : Ready s 
         opens σ o left q p
         ∙ plain s c ready.within ready.looks opened (c.rows + 1) (c.rows ∷ o) left q (act named ∷ nt Name ∷ act end ∷ σ) (the dollar) dollar e tt tt (omega (arith, few)) f
 
-    pub variable_bad : (r : Read) (x : Refusal) → r ≡ past s c (c.rows + 1) → r ≡ Refused x → SaidVariable s rows rows c parent r
+    pub variable_bad : (r : Result Cursor Refusal) (x : Refusal) → r ≡ past s c (c.rows + 1) → r ≡ Err x → SaidVariable s rows rows c parent r
     variable_bad r x q p left = rw p (λ σ o y h f. dollar_goes σ o left y h f ∙ moved_halts s c.end (c.rows + 1) r x q p (st opened (c.rows + 1) (c.rows ∷ o) c.end left y) (act named ∷ nt Name ∷ act end ∷ σ))
 
     -- at the token that must be its name
-    module _ (r : Read) (d : Cursor) (q : r ≡ past s c (c.rows + 1)) (p : r ≡ Done d) where
+    module _ (r : Result Cursor Refusal) (d : Cursor) (q : r ≡ past s c (c.rows + 1)) (p : r ≡ Ok d) where
       m : Moved s c.end (c.rows + 1) d
       m = moved_done s c.end (c.rows + 1) r d q p
 
@@ -105,7 +104,7 @@ module _ (s rows rows' : List ℕ) (c : Cursor) (parent : ℕ) (ready : Ready s 
       abbrev whole : List ℕ
       whole = put rows c.rows kind_variable c.start d.end parent d.start (d.end - d.start) 0
 
-      pub variable_said : d.kind ≡ kind_of n_other → rows' ≡ whole → (r' : Read) → r' ≡ past s d (c.rows + 1) → SaidVariable s rows rows' c parent r'
+      pub variable_said : d.kind ≡ kind_of n_other → rows' ≡ whole → (r' : Result Cursor Refusal) → r' ≡ past s d (c.rows + 1) → SaidVariable s rows rows' c parent r'
       variable_said n u r' v left =
           moved_said 1 s rows rows' c parent left (nt Value ∷ []) d.end (c.rows + 1)
           (rw u (put_length rows c.rows kind_variable c.start d.end parent d.start (d.end - d.start) 0 ∙ ready.size)) name_lies.2 (omega (arith, few)) (omega (arith, lies.0, name_lies, m.stop))

@@ -1,4 +1,5 @@
 // Reads values, and the entries of arguments and objects, and writes their rows.
+// Each answers Ok with the cursor past what it read, or Err with the refusal.
 #![tactic(auto)]
 
 ghost use Rattle.std.specs.Prelude.{◌≡◌, ◌≢◌};
@@ -12,7 +13,7 @@ use paper::{
     EXTRA_FALSE, EXTRA_TRUE, KIND_BOOLEAN, KIND_ENUM, KIND_FLOAT, KIND_INTEGER, KIND_LIST,
     KIND_NULL, KIND_OBJECT, KIND_OBJECT_FIELD, KIND_STRING, KIND_VARIABLE, MOST_ROWS, Refusal,
 };
-use text_cursor::{Cursor, Read, no_going, put_end, put_row};
+use text_cursor::{Cursor, no_going, put_end, put_row};
 use text_leaves::{close, enter, leaf};
 use text_scan::{
     TOKEN_BRACE_CLOSE, TOKEN_BRACE_OPEN, TOKEN_BRACKET_CLOSE, TOKEN_BRACKET_OPEN, TOKEN_COLON,
@@ -21,7 +22,7 @@ use text_scan::{
 };
 
 // A name as a value: true, false, null or an enum value.
-fn word_value(s: &[u8], rows: &mut [u32], c: Cursor, parent: u32) -> Read
+fn word_value(s: &[u8], rows: &mut [u32], c: Cursor, parent: u32) -> Result<Cursor, Refusal>
     requires { Ready s.now rows.old c parent × (c.kind ≡ kind_of n_other) }
     ensures { SaidScalar s.now rows.old rows.new c parent result }
 {
@@ -41,7 +42,7 @@ fn word_value(s: &[u8], rows: &mut [u32], c: Cursor, parent: u32) -> Read
 }
 
 // A value of one token, or none at all.
-fn scalar(s: &[u8], rows: &mut [u32], c: Cursor, parent: u32) -> Read
+fn scalar(s: &[u8], rows: &mut [u32], c: Cursor, parent: u32) -> Result<Cursor, Refusal>
     requires { Ready s.now rows.old c parent × (c.kind ≢ kind_of dollar) × (c.kind ≢ kind_of bracket_l) × (c.kind ≢ kind_of brace_l) }
     ensures { SaidScalar s.now rows.old rows.new c parent result }
 {
@@ -62,18 +63,15 @@ fn scalar(s: &[u8], rows: &mut [u32], c: Cursor, parent: u32) -> Read
 }
 
 // Variable: $ Name
-fn variable(s: &[u8], rows: &mut [u32], c: Cursor, parent: u32) -> Read
+fn variable(s: &[u8], rows: &mut [u32], c: Cursor, parent: u32) -> Result<Cursor, Refusal>
     requires { Ready s.now rows.old c parent × (c.kind ≡ kind_of dollar) }
     ensures { SaidVariable s.now rows.old rows.new c parent result }
 {
     let n = c.rows;
     if n == MOST_ROWS {
-        return Read::Refused(Refusal::TooManyRows(c.start));
+        return Err(Refusal::TooManyRows(c.start));
     }
-    let r = c.past(s, n + 1);
-    let Read::Done(name) = r else {
-        return r;
-    };
+    let name = c.past(s, n + 1)?;
     if name.kind != TOKEN_NAME {
         return no_going(name);
     }
@@ -93,7 +91,14 @@ fn variable(s: &[u8], rows: &mut [u32], c: Cursor, parent: u32) -> Read
 
 // Value, or where `constant` Value[Const]
 #[cycle(entry_list_object_value)]
-pub fn value(s: &[u8], rows: &mut [u32], c: Cursor, parent: u32, left: u32, constant: bool) -> Read
+pub fn value(
+    s: &[u8],
+    rows: &mut [u32],
+    c: Cursor,
+    parent: u32,
+    left: u32,
+    constant: bool,
+) -> Result<Cursor, Refusal>
     requires { Ready s.now rows.old c parent }
     ensures { Said 1 s.now rows.old rows.new c parent left (value_stack constant) result }
 {
@@ -115,56 +120,60 @@ pub fn value(s: &[u8], rows: &mut [u32], c: Cursor, parent: u32, left: u32, cons
 
 // ListValue, at its [
 #[cycle(entry_list_object_value)]
-fn list(s: &[u8], rows: &mut [u32], c: Cursor, parent: u32, left: u32, constant: bool) -> Read
+fn list(
+    s: &[u8],
+    rows: &mut [u32],
+    c: Cursor,
+    parent: u32,
+    left: u32,
+    constant: bool,
+) -> Result<Cursor, Refusal>
     requires { Ready s.now rows.old c parent × (c.kind ≡ kind_of bracket_l) }
     ensures { Said 1 s.now rows.old rows.new c parent left (value_stack constant) result }
 {
     let n = c.rows;
-    let r = enter(s, rows, c, parent, left, KIND_LIST);
-    let Read::Done(first) = r else {
-        return r;
-    };
-    let mut d = first;
+    let mut d = enter(s, rows, c, parent, left, KIND_LIST)?;
     loop {
         let kind = d.kind;
         if kind == TOKEN_BRACKET_CLOSE {
             return close(s, rows, d, n);
         }
-        let t = value(s, rows, d, n, left - 1, constant);
-        let Read::Done(next) = t else {
-            return t;
-        };
-        d = next;
+        d = value(s, rows, d, n, left - 1, constant)?;
     }
 }
 
 // ObjectValue, at its {
 #[cycle(entry_list_object_value)]
-fn object(s: &[u8], rows: &mut [u32], c: Cursor, parent: u32, left: u32, constant: bool) -> Read
+fn object(
+    s: &[u8],
+    rows: &mut [u32],
+    c: Cursor,
+    parent: u32,
+    left: u32,
+    constant: bool,
+) -> Result<Cursor, Refusal>
     requires { Ready s.now rows.old c parent × (c.kind ≡ kind_of brace_l) }
     ensures { Said 1 s.now rows.old rows.new c parent left (value_stack constant) result }
 {
     let n = c.rows;
-    let r = enter(s, rows, c, parent, left, KIND_OBJECT);
-    let Read::Done(first) = r else {
-        return r;
-    };
-    let mut d = first;
+    let mut d = enter(s, rows, c, parent, left, KIND_OBJECT)?;
     loop {
         let kind = d.kind;
         if kind == TOKEN_BRACE_CLOSE {
             return close(s, rows, d, n);
         }
-        let t = entry(s, rows, d, n, left - 1, KIND_OBJECT_FIELD, constant);
-        let Read::Done(next) = t else {
-            return t;
-        };
-        d = next;
+        d = entry(s, rows, d, n, left - 1, KIND_OBJECT_FIELD, constant)?;
     }
 }
 
 // Name : of an entry, whose row begins and is of this kind; the cursor comes to the value.
-fn entry_name(s: &[u8], rows: &mut [u32], c: Cursor, parent: u32, kind: u32) -> Read
+fn entry_name(
+    s: &[u8],
+    rows: &mut [u32],
+    c: Cursor,
+    parent: u32,
+    kind: u32,
+) -> Result<Cursor, Refusal>
     requires { Ready s.now rows.old c parent × EntryKind kind }
     ensures { SaidNamed s.now rows.old rows.new c parent kind result }
 {
@@ -173,14 +182,11 @@ fn entry_name(s: &[u8], rows: &mut [u32], c: Cursor, parent: u32, kind: u32) -> 
     }
     let n = c.rows;
     if n == MOST_ROWS {
-        return Read::Refused(Refusal::TooManyRows(c.start));
+        return Err(Refusal::TooManyRows(c.start));
     }
     let size = c.end - c.start;
     put_row(rows, n, kind, c.start, 0, parent, c.start, size, 0);
-    let r = c.past(s, n + 1);
-    let Read::Done(colon) = r else {
-        return r;
-    };
+    let colon = c.past(s, n + 1)?;
     if colon.kind != TOKEN_COLON {
         return no_going(colon);
     }
@@ -197,19 +203,13 @@ pub fn entry(
     left: u32,
     kind: u32,
     constant: bool,
-) -> Read
+) -> Result<Cursor, Refusal>
     requires { Ready s.now rows.old c parent × EntryKind kind }
     ensures { Said 1 s.now rows.old rows.new c parent left (entry_stack kind constant) result }
 {
     let n = c.rows;
-    let r = entry_name(s, rows, c, parent, kind);
-    let Read::Done(first) = r else {
-        return r;
-    };
-    let v = value(s, rows, first, n, left, constant);
-    let Read::Done(d) = v else {
-        return v;
-    };
+    let first = entry_name(s, rows, c, parent, kind)?;
+    let d = value(s, rows, first, n, left, constant)?;
     put_end(rows, n, d.stop);
-    v
+    Ok(d)
 }

@@ -5,31 +5,30 @@ use mathlib.Core.List.{List}
 use Prim.Native.Nat.{ℕ, ◌≤◌, ◌<◌}
 use native.Mathlib.Omega.{arith}
 use lib.ListN.{length}
+use Rattle.std.specs.Prelude.{Result, Ok, Err}
 use Rattle.paper.specs.Numbers.{most_text, most_rows, most_fragments, most_variables, rows_size, kind_operation, kind_fragment, kind_variable_definition}
 use Rattle.paper.specs.Sizes.{Counts, kinded, over_counts}
 use Rattle.paper.specs.declared.Refusal.{Refusal}
 use Rattle.paper.proofs.Going.{Stack}
 use Rattle.text_cursor.specs.Reader.{Ready, Went, Halts, Said}
 use Rattle.text_cursor.specs.declared.Cursor.{Cursor}
-use Rattle.text_cursor.specs.declared.Read.{Read}
-use Rattle.text_cursor.specs.declared.Read.TheVariants.{Done, Refused}
 use Rattle.text_references.proofs.CountsLaws.{fine_parts, parts_fine, over_fragments, over_variables}
 use Rattle.text_references.proofs.MovedLaws.{Next}
 use Rattle.text_variables.specs.Counted.{Counted, CountedHalts, CountedSaid}
 
-module _ (gain : ℕ) (s rows rows' : List ℕ) (c : Cursor) (parent left : ℕ) (α : Stack) (r : Read) where
-  pub said_went : Said gain s rows rows' c parent left α r → (d : Cursor) → r ≡ Done d → Went gain s rows rows' c d parent left α
-  said_went g d e = subst (λ (r : Read). Said gain s rows rows' c parent left α r) e g
+module _ (gain : ℕ) (s rows rows' : List ℕ) (c : Cursor) (parent left : ℕ) (α : Stack) (r : Result Cursor Refusal) where
+  pub said_went : Said gain s rows rows' c parent left α r → (d : Cursor) → r ≡ Ok d → Went gain s rows rows' c d parent left α
+  said_went g d e = subst (λ (r : Result Cursor Refusal). Said gain s rows rows' c parent left α r) e g
 
-  pub said_halts : Said gain s rows rows' c parent left α r → (x : Refusal) → r ≡ Refused x → Halts s rows c parent left α x
-  said_halts g x e = subst (λ (r : Read). Said gain s rows rows' c parent left α r) e g
+  pub said_halts : Said gain s rows rows' c parent left α r → (x : Refusal) → r ≡ Err x → Halts s rows c parent left α x
+  said_halts g x e = subst (λ (r : Result Cursor Refusal). Said gain s rows rows' c parent left α r) e g
 
   module _ (after : List ℕ → List ℕ) (asked : Counts → Type 0) (told : Counts → Counts → Type 0) where
-    pub counted_went : CountedSaid gain s rows rows' c parent left α after asked told r → (d : Cursor) → r ≡ Done d → Counted gain s rows rows' c d parent left α after asked told
-    counted_went g d e = subst (λ (r : Read). CountedSaid gain s rows rows' c parent left α after asked told r) e g
+    pub counted_went : CountedSaid gain s rows rows' c parent left α after asked told r → (d : Cursor) → r ≡ Ok d → Counted gain s rows rows' c d parent left α after asked told
+    counted_went g d e = subst (λ (r : Result Cursor Refusal). CountedSaid gain s rows rows' c parent left α after asked told r) e g
 
-    pub counted_halts : CountedSaid gain s rows rows' c parent left α after asked told r → (x : Refusal) → r ≡ Refused x → CountedHalts s rows c parent left α asked x
-    counted_halts g x e = subst (λ (r : Read). CountedSaid gain s rows rows' c parent left α after asked told r) e g
+    pub counted_halts : CountedSaid gain s rows rows' c parent left α after asked told r → (x : Refusal) → r ≡ Err x → CountedHalts s rows c parent left α asked x
+    counted_halts g x e = subst (λ (r : Result Cursor Refusal). CountedSaid gain s rows rows' c parent left α after asked told r) e g
 
 -- what the next reader asks
 pub went_ready : (gain : ℕ) (s rows rows' : List ℕ) (c d : Cursor) (parent left : ℕ) (α : Stack) → length s ≤ most_text → Went gain s rows rows' c d parent left α → (n : ℕ) → n ≤ most_rows → Ready s rows' d n

@@ -5,6 +5,7 @@ use mathlib.Core.List.Memᴰ
 use mathlib.Core.List.{List, [], ◌∷◌, ◌++◌}
 use Prim.Native.Nat.{ℕ}
 use native.Mathlib.Omega.{arith}
+use Rattle.std.specs.Prelude.{Result, Ok, Err}
 use Rattle.paper.specs.Grammar.{nt, tm}
 use Rattle.paper.specs.Language.{language, the, equals, DefaultValue?, DefaultValue, ConstValue}
 use Rattle.paper.specs.Sizes.{Counts, over_counts}
@@ -16,8 +17,6 @@ use Rattle.paper.proofs.Going.{Stack, st, go}
 use Rattle.text_scan.specs.Head.{head_of, kind_of}
 use Rattle.text_cursor.specs.Reader.{Ready, at, Went, Said, moved_to}
 use Rattle.text_cursor.specs.declared.Cursor.{Cursor}
-use Rattle.text_cursor.specs.declared.Read.{Read}
-use Rattle.text_cursor.specs.declared.Read.TheVariants.{Done, Refused}
 use Rattle.text_cursor.proofs.Steps.{is, not_is, null, first, plain}
 use Rattle.text_leaves.specs.Stacks.{value_stack}
 use Rattle.text_references.proofs.MovedLaws.{next_of, moved_halts, ahead}
@@ -47,11 +46,11 @@ module _ (s rows : List ℕ) (c : Cursor) (parent left : ℕ) (g : Ready s rows 
         ∙ first s c g.within g.looks rows c.rows o left q σ DefaultValue {α = tm (the equals) ∷ nt ConstValue ∷ []} (Memᴰ.head refl) equals h tt
         ∙ plain s c g.within g.looks rows c.rows o left q (nt ConstValue ∷ σ) (the equals) equals h tt tt g.few f
 
-    module _ (r : Read) (e : r ≡ moved_to c.end c.rows (head_of (from s c.end))) where
-      pub default_bad : (rows' : List ℕ) (x : Refusal) → r ≡ Refused x → Said 0 s rows rows' c parent left default_stack r
+    module _ (r : Result Cursor Refusal) (e : r ≡ moved_to c.end c.rows (head_of (from s c.end))) where
+      pub default_bad : (rows' : List ℕ) (x : Refusal) → r ≡ Err x → Said 0 s rows rows' c parent left default_stack r
       default_bad rows' x y = rw y (λ σ o q t f. default_past σ o q f ∙ moved_halts s c.end c.rows r x e y (st rows c.rows o c.end left q) (nt ConstValue ∷ σ))
 
-      module _ (d : Cursor) (y : r ≡ Done d) where
+      module _ (d : Cursor) (y : r ≡ Ok d) where
         pub default_ready : Ready s rows d parent
         default_ready =
             let b = ahead s c g.within g.looks (λ z. let x : ⊥ = omega arith in x) in
@@ -60,8 +59,8 @@ module _ (s rows : List ℕ) (c : Cursor) (parent left : ℕ) (g : Ready s rows 
         default_goes : (σ : Stack) (o : List ℕ) (q : Counts) → over_counts q ≡ false → at s rows c o left q (default_stack ++ σ) ≡ at s rows d o left q (value_stack true ++ σ)
         default_goes σ o q f = let v = next_of s c.end c.rows r d e y in default_past σ o q f ∙ rw (v.stop, v.rows) refl
 
-        pub default_says : (rows' : List ℕ) (t : Read) → Said 1 s rows rows' d parent left (value_stack true) t → Said 0 s rows rows' c parent left default_stack t
-        default_says rows' (Done b) w =
+        pub default_says : (rows' : List ℕ) (t : Result Cursor Refusal) → Said 1 s rows rows' d parent left (value_stack true) t → Said 0 s rows rows' c parent left default_stack t
+        default_says rows' (Ok b) w =
             let v = next_of s c.end c.rows r d e y in
             let a = ahead s c g.within g.looks (λ z. let x : ⊥ = omega arith in x) in
             record {
@@ -72,4 +71,4 @@ module _ (s rows : List ℕ) (c : Cursor) (parent left : ℕ) (g : Ready s rows 
               on = omega (arith, w.on);
               goes = λ σ o q t f. default_goes σ o q f ∙ w.goes σ o q t f;
             }
-        default_says rows' (Refused x) w = λ σ o q t f. default_goes σ o q f ∙ w σ o q t f
+        default_says rows' (Err x) w = λ σ o q t f. default_goes σ o q f ∙ w σ o q t f

@@ -6,6 +6,7 @@ use mathlib.Core.List.{List, [], ◌∷◌, ◌++◌}
 use Prim.Native.Nat.{ℕ, ◌+◌, ◌-◌, ◌≤◌, ◌<◌}
 use native.Mathlib.Omega.{arith}
 use lib.ListN.{length}
+use Rattle.std.specs.Prelude.{Result, Ok, Err}
 use Rattle.paper.specs.Grammar.{nt, tm, act}
 use Rattle.paper.specs.Numbers.{most_rows, kind_variable_definition}
 use Rattle.paper.specs.Language.{language, the, any_name, dollar, colon, named, Name, n_other}
@@ -19,8 +20,6 @@ use Rattle.paper.proofs.Going.{Stack, st, go}
 use Rattle.text_scan.specs.Head.{head_of, kind_of}
 use Rattle.text_cursor.specs.Reader.{Ready, at, moved_to, no_going_of}
 use Rattle.text_cursor.specs.declared.Cursor.{Cursor}
-use Rattle.text_cursor.specs.declared.Read.{Read}
-use Rattle.text_cursor.specs.declared.Read.TheVariants.{Done, Refused}
 use Rattle.text_cursor.proofs.Steps.{is, not_is, first, refuse, refuses, refuses_end, lacks, plain}
 use Rattle.text_cursor.proofs.Cells.{put, put_length, row_opens, name_told}
 use Rattle.text_references.proofs.MovedLaws.{Next, next_of, moved_halts, ahead, end_within, start_in_is, stop_in_is}
@@ -37,13 +36,13 @@ module _ (s rows : List ℕ) (c : Cursor) (parent : ℕ) (g : Ready s rows c par
       ∙ rw (start_in_is s c g.looks, t)
       (plain s c g.within g.looks (put rows c.rows kind_variable_definition c.start 0 parent 0 0 0) (c.rows + 1) (c.rows ∷ o) left (kinded kind_variable_definition q) (act named ∷ nt Name ∷ tm (the colon) ∷ σ) (the dollar) dollar h tt tt (omega arith) (variable_fine q f k))
 
-  module _ (r : Read) (e : r ≡ moved_to c.end (c.rows + 1) (head_of (from s c.end))) where
-    pub head_bad : (rows' : List ℕ) (x : Refusal) → r ≡ Refused x → (left : ℕ) → CountedSaid 1 s rows rows' c parent left head_stack (opens c.rows) one_variable_more variable_begun r
+  module _ (r : Result Cursor Refusal) (e : r ≡ moved_to c.end (c.rows + 1) (head_of (from s c.end))) where
+    pub head_bad : (rows' : List ℕ) (x : Refusal) → r ≡ Err x → (left : ℕ) → CountedSaid 1 s rows rows' c parent left head_stack (opens c.rows) one_variable_more variable_begun r
     head_bad rows' x y left =
         rw y (λ σ o q t f k. dollar_past left σ o q t f k
         ∙ moved_halts s c.end (c.rows + 1) r x e y (st (put rows c.rows kind_variable_definition c.start 0 parent 0 0 0) (c.rows + 1) (c.rows ∷ o) c.end left (kinded kind_variable_definition q)) (act named ∷ nt Name ∷ tm (the colon) ∷ σ))
 
-    module _ (d : Cursor) (y : r ≡ Done d) where
+    module _ (d : Cursor) (y : r ≡ Ok d) where
       -- the row with its name
       abbrev cells : List ℕ
       cells = put rows c.rows kind_variable_definition c.start 0 parent d.start (d.end - d.start) 0
@@ -70,7 +69,7 @@ module _ (s rows : List ℕ) (c : Cursor) (parent : ℕ) (g : Ready s rows c par
           (name_told rows (c.rows + 1) o d.stop left (kinded kind_variable_definition q) (nt Name ∷ tm (the colon) ∷ σ) (from s d.stop) c.rows kind_variable_definition c.start 0 parent 0 0 0
           ∙ rw (start_in_is s d n.looks, stop_in_is s d n.looks, n.rows) refl))
 
-      pub head_nameless : (rows' : List ℕ) → (d.kind ≡ kind_of n_other → ⊥) → (t : Read) → t ≡ no_going_of d → (left : ℕ) → CountedSaid 1 s rows rows' c parent left head_stack (opens c.rows) one_variable_more variable_begun t
+      pub head_nameless : (rows' : List ℕ) → (d.kind ≡ kind_of n_other → ⊥) → (t : Result Cursor Refusal) → t ≡ no_going_of d → (left : ℕ) → CountedSaid 1 s rows rows' c parent left head_stack (opens c.rows) one_variable_more variable_begun t
       unfolding factored language choose refuses refuses_end
       head_nameless rows' k t z left =
           rw z (λ σ o q t f m. name_at left σ o q t f m
@@ -86,12 +85,12 @@ module _ (s rows : List ℕ) (c : Cursor) (parent : ℕ) (g : Ready s rows c par
             ∙ plain s d name_within next.looks cells d.rows (c.rows ∷ o) left (kinded kind_variable_definition q) (tm (the colon) ∷ σ) any_name n_other k tt tt (omega (arith, next.rows)) (variable_fine q f m)
             ∙ rw next.rows refl
 
-        module _ (u : Read) (i : u ≡ moved_to d.end (c.rows + 1) (head_of (from s d.end))) where
-          pub head_bad_2 : (rows' : List ℕ) (x : Refusal) → u ≡ Refused x → (left : ℕ) → CountedSaid 1 s rows rows' c parent left head_stack (opens c.rows) one_variable_more variable_begun u
+        module _ (u : Result Cursor Refusal) (i : u ≡ moved_to d.end (c.rows + 1) (head_of (from s d.end))) where
+          pub head_bad_2 : (rows' : List ℕ) (x : Refusal) → u ≡ Err x → (left : ℕ) → CountedSaid 1 s rows rows' c parent left head_stack (opens c.rows) one_variable_more variable_begun u
           head_bad_2 rows' x z left =
               rw z (λ σ o q t f m. name_past left σ o q t f m ∙ moved_halts s d.end (c.rows + 1) u x i z (st cells (c.rows + 1) (c.rows ∷ o) d.end left (kinded kind_variable_definition q)) (tm (the colon) ∷ σ))
 
-          module _ (b : Cursor) (z : u ≡ Done b) where
+          module _ (b : Cursor) (z : u ≡ Ok b) where
             next_2 : Next s d.end (c.rows + 1) b
             next_2 = next_of s d.end (c.rows + 1) u b i z
 
@@ -105,7 +104,7 @@ module _ (s rows : List ℕ) (c : Cursor) (parent : ℕ) (g : Ready s rows c par
                 at s rows c o left q (head_stack ++ σ) ≡ at s cells b (c.rows ∷ o) left (kinded kind_variable_definition q) (tm (the colon) ∷ σ)
             colon_at left σ o q t f m = let n = next_2 in name_past left σ o q t f m ∙ rw (n.stop, n.rows) refl
 
-            pub head_colonless : (rows' : List ℕ) → (b.kind ≡ kind_of colon → ⊥) → (t : Read) → t ≡ no_going_of b → (left : ℕ) → CountedSaid 1 s rows rows' c parent left head_stack (opens c.rows) one_variable_more variable_begun t
+            pub head_colonless : (rows' : List ℕ) → (b.kind ≡ kind_of colon → ⊥) → (t : Result Cursor Refusal) → t ≡ no_going_of b → (left : ℕ) → CountedSaid 1 s rows rows' c parent left head_stack (opens c.rows) one_variable_more variable_begun t
             head_colonless rows' j t a left =
                 rw a (λ σ o q t f m. colon_at left σ o q t f m
                 ∙ lacks s b colon_within next_2.looks cells b.rows (c.rows ∷ o) left (kinded kind_variable_definition q) σ (the colon) (λ y. not (is (kind_of colon) y)) (not_is (kind_of colon) b.kind j) tt)
@@ -118,11 +117,11 @@ module _ (s rows : List ℕ) (c : Cursor) (parent : ℕ) (g : Ready s rows c par
                   ∙ plain s b colon_within next_2.looks cells b.rows (c.rows ∷ o) left (kinded kind_variable_definition q) σ (the colon) colon j tt tt (omega (arith, next_2.rows)) (variable_fine q f m)
                   ∙ rw next_2.rows refl
 
-              pub head_says : (rows' : List ℕ) → rows' ≡ cells → (a : Read) → a ≡ moved_to b.end (c.rows + 1) (head_of (from s b.end)) → (left : ℕ) →
+              pub head_says : (rows' : List ℕ) → rows' ≡ cells → (a : Result Cursor Refusal) → a ≡ moved_to b.end (c.rows + 1) (head_of (from s b.end)) → (left : ℕ) →
                   CountedSaid 1 s rows rows' c parent left head_stack (opens c.rows) one_variable_more variable_begun a
-              head_says rows' w (Refused x) v left = λ σ o q t f m. colon_past left σ o q t f m ∙ moved_halts s b.end (c.rows + 1) (Refused x) x v refl (st cells (c.rows + 1) (c.rows ∷ o) b.end left (kinded kind_variable_definition q)) σ
-              head_says rows' w (Done a) v left =
-                  let n = next_of s b.end (c.rows + 1) (Done a) a v refl in
+              head_says rows' w (Err x) v left = λ σ o q t f m. colon_past left σ o q t f m ∙ moved_halts s b.end (c.rows + 1) (Err x) x v refl (st cells (c.rows + 1) (c.rows ∷ o) b.end left (kinded kind_variable_definition q)) σ
+              head_says rows' w (Ok a) v left =
+                  let n = next_of s b.end (c.rows + 1) (Ok a) a v refl in
                   let l = ahead s c g.within g.looks (λ z. let x : ⊥ = omega arith in x) in
                   let l' = name_ends in
                   let l'' = colon_end in

@@ -6,6 +6,7 @@ use mathlib.Core.List.{List, [], ◌∷◌, ◌++◌}
 use Prim.Native.Nat.{ℕ, ◌+◌, ◌*◌, ◌≤◌}
 use native.Mathlib.Omega.{arith}
 use lib.ListN.{length, set, length-set}
+use Rattle.std.specs.Prelude.{Result, Ok, Err}
 use Rattle.paper.specs.Grammar.{nt, tm, act}
 use Rattle.paper.specs.Numbers.{most_text, most_rows, most_variables, kind_variable_definition}
 use Rattle.paper.specs.Language.{language, the, dollar, colon, named, end, Name, VariableDefinition, DefaultValue?}
@@ -20,8 +21,6 @@ use Rattle.paper.proofs.Going.{Stack, st, go}
 use Rattle.text_scan.specs.Head.{kind_of}
 use Rattle.text_cursor.specs.Reader.{Ready, at, no_going_of, Said}
 use Rattle.text_cursor.specs.declared.Cursor.{Cursor}
-use Rattle.text_cursor.specs.declared.Read.{Read}
-use Rattle.text_cursor.specs.declared.Read.TheVariants.{Done, Refused}
 use Rattle.text_cursor.proofs.Steps.{is, not_is, first, refuse, refuses, refuses_end, too_many_rows, too_many}
 use Rattle.text_cursor.proofs.Cells.{put, row_opens, ends_row}
 use Rattle.text_references.specs.Types.{wrapped_by, type_stack, TypeWent, TypeSaid}
@@ -39,7 +38,7 @@ abbrev default_end : Stack → Stack
 default_end σ = nt DefaultValue? ∷ act end ∷ σ
 
 module _ (s rows : List ℕ) (c : Cursor) (parent left before : ℕ) (g : Ready s rows c parent) where
-  pub variable_none : (rows' : List ℕ) → (c.kind ≡ kind_of dollar → ⊥) → (r : Read) → r ≡ no_going_of c → CountedSaid 1 s rows rows' c parent left definition_stack stays (variables_are before) (variables_become (before + 1)) r
+  pub variable_none : (rows' : List ℕ) → (c.kind ≡ kind_of dollar → ⊥) → (r : Result Cursor Refusal) → r ≡ no_going_of c → CountedSaid 1 s rows rows' c parent left definition_stack stays (variables_are before) (variables_become (before + 1)) r
   unfolding factored language choose refuses refuses_end
   variable_none rows' h r e = rw e (λ σ o q t f k. refuse s c g.within g.looks rows c.rows o left q σ VariableDefinition (λ y. not (is (kind_of dollar) y)) (not_is (kind_of dollar) c.kind h) tt tt)
 
@@ -74,7 +73,7 @@ module _ (s rows : List ℕ) (c : Cursor) (parent left before : ℕ) (g : Ready 
         one_more : (q : Counts) → over_counts q ≡ false → variables_are before q → one_variable_more q
         one_more q f m = let p = fine_parts q f in omega (arith, p.1, k)
 
-        pub variable_stop : (rows₁ rows' : List ℕ) (r : Read) → CountedSaid 1 s rows rows₁ c parent left head_stack (opens c.rows) one_variable_more variable_begun r → (x : Refusal) → r ≡ Refused x →
+        pub variable_stop : (rows₁ rows' : List ℕ) (r : Result Cursor Refusal) → CountedSaid 1 s rows rows₁ c parent left head_stack (opens c.rows) one_variable_more variable_begun r → (x : Refusal) → r ≡ Err x →
             CountedSaid 1 s rows rows' c parent left definition_stack stays (variables_are before) (variables_become (before + 1)) r
         variable_stop rows₁ rows' r w x e =
             rw e (λ σ o q t f m. variable_first σ o q
@@ -88,7 +87,7 @@ module _ (s rows : List ℕ) (c : Cursor) (parent left before : ℕ) (g : Ready 
               let y = w.goes (type_stack ++ default_end σ) o q t f (one_more q f m) in
               variable_first σ o q ∙ y.3 ∙ ap (λ (q' : Counts). at s rows₁ a (c.rows ∷ o) left q' (type_stack ++ default_end σ)) y.2
 
-          pub variable_stop_2 : (rows₂ rows' : List ℕ) (r : Read) → TypeSaid s rows₁ rows₂ a c.rows left r → (x : Refusal) → r ≡ Refused x →
+          pub variable_stop_2 : (rows₂ rows' : List ℕ) (r : Result Cursor Refusal) → TypeSaid s rows₁ rows₂ a c.rows left r → (x : Refusal) → r ≡ Err x →
               CountedSaid 1 s rows rows' c parent left definition_stack stays (variables_are before) (variables_become (before + 1)) r
           variable_stop_2 rows₂ rows' r u x e =
               rw e (λ σ o q t f m. headed σ o q t f m
@@ -102,13 +101,13 @@ module _ (s rows : List ℕ) (c : Cursor) (parent left before : ℕ) (g : Ready 
             typed_fine : (q : Counts) → over_counts q ≡ false → variables_are before q → over_counts (wrapped_by u.wrappers (kinded kind_variable_definition q)) ≡ false
             typed_fine q f m = wrapped_fine (kinded kind_variable_definition q) u.wrappers (variable_fine q f (one_more q f m)) u.wrapped
 
-            pub variable_stop_3 : (rows₃ rows' : List ℕ) (r : Read) → Said 0 s rows₂ rows₃ b c.rows left (nt DefaultValue? ∷ []) r → (x : Refusal) → r ≡ Refused x →
+            pub variable_stop_3 : (rows₃ rows' : List ℕ) (r : Result Cursor Refusal) → Said 0 s rows₂ rows₃ b c.rows left (nt DefaultValue? ∷ []) r → (x : Refusal) → r ≡ Err x →
                 CountedSaid 1 s rows rows' c parent left definition_stack stays (variables_are before) (variables_become (before + 1)) r
             variable_stop_3 rows₃ rows' r v x e =
                 rw e (λ σ o q t f m. typed σ o q t f m
                 ∙ said_halts 0 s rows₂ rows₃ b c.rows left (nt DefaultValue? ∷ []) r v x e (act end ∷ σ) (c.rows ∷ o) (wrapped_by u.wrappers (kinded kind_variable_definition q)) refl (typed_fine q f m))
 
-            pub variable_done : (rows₃ rows' : List ℕ) (r : Read) → Said 0 s rows₂ rows₃ b c.rows left (nt DefaultValue? ∷ []) r → (d : Cursor) → r ≡ Done d → rows' ≡ set rows₃ (7 * c.rows + 2) d.stop →
+            pub variable_done : (rows₃ rows' : List ℕ) (r : Result Cursor Refusal) → Said 0 s rows₂ rows₃ b c.rows left (nt DefaultValue? ∷ []) r → (d : Cursor) → r ≡ Ok d → rows' ≡ set rows₃ (7 * c.rows + 2) d.stop →
                 Counted 1 s rows rows' c d parent left definition_stack stays (variables_are before) (variables_become (before + 1))
             variable_done rows₃ rows' r v d e z =
                 let y = said_went 0 s rows₂ rows₃ b c.rows left (nt DefaultValue? ∷ []) r v d e in
@@ -130,7 +129,7 @@ module _ (s rows : List ℕ) (c : Cursor) (parent left before : ℕ) (g : Ready 
                 }
 
 -- what the reader of a type reference answers, and what it leaves to the next
-pub type_went : (s rows rows' : List ℕ) (c : Cursor) (parent left : ℕ) (r : Read) → TypeSaid s rows rows' c parent left r → (d : Cursor) → r ≡ Done d → TypeWent s rows rows' c d parent left
+pub type_went : (s rows rows' : List ℕ) (c : Cursor) (parent left : ℕ) (r : Result Cursor Refusal) → TypeSaid s rows rows' c parent left r → (d : Cursor) → r ≡ Ok d → TypeWent s rows rows' c d parent left
 type_went s rows rows' c parent left r g d e = rw e at g
 
 pub type_ready : (s rows rows' : List ℕ) (c d : Cursor) (parent left : ℕ) → length s ≤ most_text → TypeWent s rows rows' c d parent left → (n : ℕ) → n ≤ most_rows → Ready s rows' d n

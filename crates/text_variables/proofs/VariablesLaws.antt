@@ -8,6 +8,7 @@ use native.Mathlib.Omega.{arith}
 use lib.Dec.{eqb}
 use lib.ListN.{length}
 use borrow.Author.Tests.{eqb-true, eqb-false}
+use Rattle.std.specs.Prelude.{Result, Ok, Err}
 use Rattle.paper.specs.Grammar.{nt, tm}
 use Rattle.paper.specs.Numbers.{most_rows, rows_size}
 use Rattle.paper.specs.Language.{language, the, paren_l, paren_r, VariableDefinitions, VariableDefinition+, VariableDefinition*, VariableDefinition, dollar}
@@ -22,8 +23,6 @@ use Rattle.paper.proofs.Going.{Stack, st, go}
 use Rattle.text_scan.specs.Head.{head_of, kind_of}
 use Rattle.text_cursor.specs.Reader.{Looks, Ready, at, moved_to}
 use Rattle.text_cursor.specs.declared.Cursor.{Cursor}
-use Rattle.text_cursor.specs.declared.Read.{Read}
-use Rattle.text_cursor.specs.declared.Read.TheVariants.{Done, Refused}
 use Rattle.text_cursor.proofs.Steps.{is, not_is, first, null, refuse, refuses, refuses_end, lacks, opening, closing, too_deep}
 use Rattle.text_references.proofs.MovedLaws.{next_of, moved_halts, ahead}
 use Rattle.text_variables.specs.Counted.{Counted, CountedHalts, CountedSaid, stays, variables_are, same_fragments}
@@ -91,11 +90,11 @@ module _ (s rows : List ℕ) (c : Cursor) (parent left : ℕ) (g : Ready s rows 
         first s c g.within g.looks rows c.rows o left q σ VariableDefinitions {α = tm (the paren_l) ∷ nt VariableDefinition+ ∷ tm (the paren_r) ∷ []} (Memᴰ.head refl) paren_l h tt
         ∙ opening s c g.within g.looks rows c.rows o left q (nt VariableDefinition+ ∷ tm (the paren_r) ∷ σ) (the paren_l) paren_l h tt tt (left - 1) (omega (arith, k)) g.few f
 
-    module _ (r : Read) (e : r ≡ moved_to c.end c.rows (head_of (from s c.end))) where
-      pub list_bad : (rows' : List ℕ) (x : Refusal) → r ≡ Refused x → CountedSaid 1 s rows rows' c parent left list_stack stays (variables_are 0) same_fragments r
+    module _ (r : Result Cursor Refusal) (e : r ≡ moved_to c.end c.rows (head_of (from s c.end))) where
+      pub list_bad : (rows' : List ℕ) (x : Refusal) → r ≡ Err x → CountedSaid 1 s rows rows' c parent left list_stack stays (variables_are 0) same_fragments r
       list_bad rows' x y = rw y (λ σ o q t f m. list_past σ o q f ∙ moved_halts s c.end c.rows r x e y (st rows c.rows o c.end (left - 1) q) (nt VariableDefinition+ ∷ tm (the paren_r) ∷ σ))
 
-      module _ (d₀ : Cursor) (y : r ≡ Done d₀) where
+      module _ (d₀ : Cursor) (y : r ≡ Ok d₀) where
         pub list_ready : Ready s rows d₀ parent
         list_ready =
             let b = ahead s c g.within g.looks (λ z. let x : ⊥ = omega arith in x) in
@@ -110,7 +109,7 @@ module _ (s rows : List ℕ) (c : Cursor) (parent left : ℕ) (g : Ready s rows 
           pub turn_ready : Ready s rows₁ d parent
           turn_ready = record { short = g.short; size = w.size; within = w.within; few = w.few; looks = w.looks; below = g.below }
 
-          pub turn_stop : (rows₂ rows' : List ℕ) (u : Read) → CountedSaid 1 s rows₁ rows₂ d parent (left - 1) (nt VariableDefinition ∷ []) stays (variables_are i) (variables_become (i + 1)) u → (x : Refusal) → u ≡ Refused x →
+          pub turn_stop : (rows₂ rows' : List ℕ) (u : Result Cursor Refusal) → CountedSaid 1 s rows₁ rows₂ d parent (left - 1) (nt VariableDefinition ∷ []) stays (variables_are i) (variables_become (i + 1)) u → (x : Refusal) → u ≡ Err x →
               CountedSaid 1 s rows rows' c parent left list_stack stays (variables_are 0) same_fragments u
           turn_stop rows₂ rows' u z x j =
               rw j (λ σ o q t f m.
@@ -152,10 +151,10 @@ module _ (s rows : List ℕ) (c : Cursor) (parent left : ℕ) (g : Ready s rows 
                         ∙ (let p : suc (left - 1) ≡ left = omega (arith, k) in ap (λ (l : ℕ). go (st rows₂ b.rows o b.end l y.0) σ (from s b.end)) p),
                   )
 
-              pub list_says : (a : Read) → a ≡ moved_to b.end b.rows (head_of (from s b.end)) → CountedSaid 1 s rows rows₂ c parent left list_stack stays (variables_are 0) same_fragments a
-              list_says (Refused x) v = λ σ o q t f m. let n = closed σ o q t f m in n.3 ∙ moved_halts s b.end b.rows (Refused x) x v refl (st rows₂ b.rows o b.end left n.0) σ
-              list_says (Done a) v =
-                  let n = next_of s b.end b.rows (Done a) a v refl in
+              pub list_says : (a : Result Cursor Refusal) → a ≡ moved_to b.end b.rows (head_of (from s b.end)) → CountedSaid 1 s rows rows₂ c parent left list_stack stays (variables_are 0) same_fragments a
+              list_says (Err x) v = λ σ o q t f m. let n = closed σ o q t f m in n.3 ∙ moved_halts s b.end b.rows (Err x) x v refl (st rows₂ b.rows o b.end left n.0) σ
+              list_says (Ok a) v =
+                  let n = next_of s b.end b.rows (Ok a) a v refl in
                   let n₀ = next_of s c.end c.rows r d₀ e y in
                   let l₀ = ahead s c g.within g.looks (λ z. let x : ⊥ = omega arith in x) in
                   let l = ahead s b z.within z.looks (λ z. let x : ⊥ = omega (arith, j) in x) in

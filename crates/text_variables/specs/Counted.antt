@@ -1,5 +1,5 @@
 -- What the readers of definitions answer. Unlike the readers below them they change the counts, and some begin or end in the middle of a row.
-use Rattle.std.specs.Prelude.{◌≡◌, false, List, ◌∷◌, ◌++◌, ℕ, ◌+◌, ◌≤◌, length}
+use Rattle.std.specs.Prelude.{◌≡◌, false, List, ◌∷◌, ◌++◌, ℕ, ◌+◌, ◌≤◌, length, Result, Ok, Err}
 use Rattle.paper.specs.Numbers.{most_rows, rows_size}
 use Rattle.paper.specs.Rows.{top}
 use Rattle.paper.specs.Sizes.{Counts, over_counts}
@@ -7,8 +7,6 @@ use Rattle.paper.specs.declared.Refusal.{Refusal}
 use Rattle.paper.proofs.Going.{Stack, halt}
 use Rattle.text_cursor.specs.Reader.{Looks, at}
 use Rattle.text_cursor.specs.declared.Cursor.{Cursor}
-use Rattle.text_cursor.specs.declared.Read.{Read}
-use Rattle.text_cursor.specs.declared.Read.TheVariants.{Done, Refused}
 
 -- a reader of the symbols α, which takes `gain` bytes at least: it was at c with `rows` and counts of which `asked` holds; it is at d with
 -- `rows'`, the open rows that `after` gives, and counts to which `told` holds of those before
@@ -24,9 +22,9 @@ pub record Counted (gain : ℕ) (s rows rows' : List ℕ) (c d : Cursor) (parent
 abbrev pub CountedHalts : List ℕ → List ℕ → Cursor → ℕ → ℕ → Stack → (Counts → Type 0) → Refusal → Type 0
 CountedHalts s rows c parent left α asked r = (σ : Stack) (o : List ℕ) (q : Counts) → top o ≡ parent → over_counts q ≡ false → asked q → at s rows c o left q (α ++ σ) ≡ halt r
 
-abbrev pub CountedSaid : ℕ → List ℕ → List ℕ → List ℕ → Cursor → ℕ → ℕ → Stack → (List ℕ → List ℕ) → (Counts → Type 0) → (Counts → Counts → Type 0) → Read → Type 0
-CountedSaid gain s rows rows' c parent left α after asked told (Done d) = Counted gain s rows rows' c d parent left α after asked told
-CountedSaid gain s rows rows' c parent left α after asked told (Refused r) = CountedHalts s rows c parent left α asked r
+abbrev pub CountedSaid : ℕ → List ℕ → List ℕ → List ℕ → Cursor → ℕ → ℕ → Stack → (List ℕ → List ℕ) → (Counts → Type 0) → (Counts → Counts → Type 0) → Result Cursor Refusal → Type 0
+CountedSaid gain s rows rows' c parent left α after asked told (Ok d) = Counted gain s rows rows' c d parent left α after asked told
+CountedSaid gain s rows rows' c parent left α after asked told (Err r) = CountedHalts s rows c parent left α asked r
 
 -- the open rows afterwards
 abbrev pub stays : List ℕ → List ℕ

@@ -1,4 +1,4 @@
-// Reads variable definitions, and writes their rows.
+// Reads variable definitions, and writes their rows. Each answers Ok with the cursor past what it read, or Err with the refusal.
 #![tactic(auto)]
 
 ghost use Rattle.std.specs.Prelude.{◌≡◌, [], ◌∷◌, ℕ, ◌+◌, ◌<◌};
@@ -11,36 +11,36 @@ ghost use Rattle.text_variables.specs.Counted.{CountedSaid, stays, opens, variab
 ghost use Rattle.text_variables.specs.Variables.{one_variable_more, variable_begun, variables_become, head_stack};
 
 use paper::{KIND_VARIABLE_DEFINITION, MOST_ROWS, MOST_VARIABLES, Refusal};
-use text_cursor::{Cursor, Read, no_going, put_end, put_row};
+use text_cursor::{Cursor, no_going, put_end, put_row};
 use text_references::type_reference;
 use text_scan::{TOKEN_COLON, TOKEN_DOLLAR, TOKEN_EQUALS, TOKEN_NAME, TOKEN_PAREN_CLOSE};
 
 // DefaultValue, or none
-fn default_if(s: &[u8], rows: &mut [u32], c: Cursor, parent: u32, left: u32) -> Read
+fn default_if(
+    s: &[u8],
+    rows: &mut [u32],
+    c: Cursor,
+    parent: u32,
+    left: u32,
+) -> Result<Cursor, Refusal>
     requires { Ready s.now rows.old c parent }
     ensures { Said 0 s.now rows.old rows.new c parent left (nt DefaultValue? ∷ []) result }
 {
     if c.kind != TOKEN_EQUALS {
-        return Read::Done(c);
+        return Ok(c);
     }
     let n = c.rows;
-    let r = c.past(s, n);
-    let Read::Done(first) = r else {
-        return r;
-    };
+    let first = c.past(s, n)?;
     text_values::value(s, rows, first, parent, left, true)
 }
 
 // Variable and colon of a variable definition, at its $
-fn variable_head(s: &[u8], rows: &mut [u32], c: Cursor, parent: u32) -> Read
+fn variable_head(s: &[u8], rows: &mut [u32], c: Cursor, parent: u32) -> Result<Cursor, Refusal>
     requires { Ready s.now rows.old c parent × (c.kind ≡ kind_of dollar) × (c.rows < most_rows) }
     ensures { (left : ℕ) → CountedSaid 1 s.now rows.old rows.new c parent left head_stack (opens c.rows) one_variable_more variable_begun result }
 {
     let n = c.rows;
-    let r = c.past(s, n + 1);
-    let Read::Done(name) = r else {
-        return r;
-    };
+    let name = c.past(s, n + 1)?;
     if name.kind != TOKEN_NAME {
         return no_going(name);
     }
@@ -55,10 +55,7 @@ fn variable_head(s: &[u8], rows: &mut [u32], c: Cursor, parent: u32) -> Read
         name.end - name.start,
         0,
     );
-    let t = name.past(s, n + 1);
-    let Read::Done(colon) = t else {
-        return t;
-    };
+    let colon = name.past(s, n + 1)?;
     if colon.kind != TOKEN_COLON {
         return no_going(colon);
     }
@@ -73,7 +70,7 @@ fn variable_definition(
     parent: u32,
     left: u32,
     before: u32,
-) -> Read
+) -> Result<Cursor, Refusal>
     requires { Ready s.now rows.old c parent }
     ensures { CountedSaid 1 s.now rows.old rows.new c parent left (nt VariableDefinition ∷ []) stays (variables_are before) (variables_become (before + 1)) result }
 {
@@ -82,47 +79,37 @@ fn variable_definition(
     }
     let n = c.rows;
     if n == MOST_ROWS {
-        return Read::Refused(Refusal::TooManyRows(c.start));
+        return Err(Refusal::TooManyRows(c.start));
     }
     if before == MOST_VARIABLES {
-        return Read::Refused(Refusal::TooMany(c.start));
+        return Err(Refusal::TooMany(c.start));
     }
-    let r = variable_head(s, rows, c, parent);
-    let Read::Done(first) = r else {
-        return r;
-    };
-    let t = type_reference(s, rows, first, n, left);
-    let Read::Done(after) = t else {
-        return t;
-    };
-    let v = default_if(s, rows, after, n, left);
-    let Read::Done(d) = v else {
-        return v;
-    };
+    let first = variable_head(s, rows, c, parent)?;
+    let after = type_reference(s, rows, first, n, left)?;
+    let d = default_if(s, rows, after, n, left)?;
     put_end(rows, n, d.stop);
-    v
+    Ok(d)
 }
 
 // VariableDefinitions, at their (
-pub fn variable_definitions(s: &[u8], rows: &mut [u32], c: Cursor, parent: u32, left: u32) -> Read
+pub fn variable_definitions(
+    s: &[u8],
+    rows: &mut [u32],
+    c: Cursor,
+    parent: u32,
+    left: u32,
+) -> Result<Cursor, Refusal>
     requires { Ready s.now rows.old c parent × (c.kind ≡ kind_of paren_l) }
     ensures { CountedSaid 1 s.now rows.old rows.new c parent left (nt VariableDefinitions ∷ []) stays (variables_are 0) same_fragments result }
 {
     if left == 0 {
-        return Read::Refused(Refusal::TooDeep(c.start));
+        return Err(Refusal::TooDeep(c.start));
     }
     let n = c.rows;
-    let r = c.past(s, n);
-    let Read::Done(first) = r else {
-        return r;
-    };
-    let mut d = first;
+    let mut d = c.past(s, n)?;
     let mut i: u32 = 0;
     loop {
-        let t = variable_definition(s, rows, d, parent, left - 1, i);
-        let Read::Done(next) = t else {
-            return t;
-        };
+        let next = variable_definition(s, rows, d, parent, left - 1, i)?;
         if next.kind == TOKEN_PAREN_CLOSE {
             let m = next.rows;
             return next.past(s, m);

@@ -8,6 +8,7 @@ use lib.ListN.{length}
 use lib.Dec.{T}
 use denote.Enum.Declared.{tag_of}
 use types.Run.{OneOf}
+use Rattle.std.specs.Prelude.{Result, Ok, Err}
 use Rattle.paper.specs.Numbers.{most_text, rows_size, kind_field, input_document, input_variables}
 use Rattle.paper.specs.Language.{Document, VariablesText}
 use Rattle.paper.specs.Rows.{Row}
@@ -23,16 +24,13 @@ use Rattle.paper_query.specs.Enclosing.{field_at}
 use Rattle.paper_query.specs.DocumentCalls.{read}
 use Rattle.paper_query.specs.Opening.{stops, opens, Opened}
 use Rattle.text_cursor.specs.declared.Cursor.{Cursor}
-use Rattle.text_cursor.specs.declared.Read.{Read}
-use Rattle.text_cursor.specs.declared.Read.TheVariants.{Done, Refused}
 use Rattle.text_documents.specs.Documents.{Ended as TextEnded}
 use Rattle.query_rows.specs.Rowed.{rows_in, doc_of}
 use Rattle.query_rows.proofs.ReadRows.{Taken, ended_taken}
-use Rattle.query_opening.specs.contracts.Start.{the_type}
 use Rattle.query_spreads.proofs.OwnerLaws.{row_within}
 use Rattle.query_opening.specs.Opens.{Ready, Opens, stop_number, stop_shown}
-use Rattle.query_opening.specs.declared.Start.{Start}
-use Rattle.query_opening.specs.declared.Start.TheVariants.{BadTable, BadText as BadDocument, Broken, NoOperation, Open}
+use Rattle.query_opening.specs.declared.NotOpened.{NotOpened}
+use Rattle.query_opening.specs.declared.NotOpened.TheVariants.{BadTable, BadText as BadDocument, Broken, NoOperation}
 use Rattle.query_subtrees.specs.Past.{Pasts}
 use Rattle.query_counts.proofs.FewRows.{taken_variables}
 use Rattle.paper_values.specs.ValueNumbers.{most_coerced}
@@ -45,17 +43,16 @@ use Rattle.value_texts.proofs.TextSpans.{taken_spanned, taken_object}
 use Rattle.value_definitions.proofs.ReadLaws.{taken_treed}
 use Rattle.value_held.specs.Given.{kinds_in}
 use Rattle.value_fields.specs.Wants.{Prepared, Wants}
-use Rattle.value_fields.specs.declared.Wanted.{Wanted}
-use Rattle.value_fields.specs.declared.Wanted.TheVariants.{Field}
+use Rattle.std.proofs.Common.{Option as Maybe, Some, Result, Ok, Err}
+use Rattle.value_fields.specs.declared.Span.{Span}
 use Rattle.value_fields.proofs.AcceptedLaws.{accepted_slim}
 use Rattle.value_fields.proofs.MeantLaws.{opened_operation}
 use Rattle.value_endings.specs.Endings.{ending_of}
-use Rattle.value_endings.specs.declared.Ended.{Ended}
+use Rattle.value_endings.specs.declared.NotCoerced.{NotCoerced}
 use Rattle.value_variables.specs.Variables.{Asked}
 use Rattle.value_results.specs.Results.{Few, FieldServes, result_of, outcome_of}
 use Rattle.value_results.specs.Results.{Gives as Comes}
-use Rattle.value_results.specs.declared.Outcome.{Outcome}
-use Rattle.value_results.specs.declared.Outcome.TheVariants as results
+use Rattle.value_results.specs.declared.RefusedValue.{RefusedValue}
 use Rattle.value_results.specs.declared.Task.{Task}
 use Rattle.value_results.specs.declared.Task.TheVariants.{OfOperation}
 use Rattle.value_answers.specs.Answers.{Stands, Standing, ended_of, Gives, ReadEnd, unread, done, FieldEnd, unreached, reached, OpenEnd, EndFor}
@@ -78,23 +75,23 @@ stands_few t book s rows held out n op st a b = record { few = taken_variables s
 
 -- ---- what comes of the task
 
-same_end : (o : Outcome) (v : List ℕ) → outcome_of o v ≡ ending_of (ended_of o) v
-same_end (results.UpTo at) v = refl
-same_end (results.Refused text row why) v = refl
+same_end : (o : Result ℕ RefusedValue) (v : List ℕ) → outcome_of o v ≡ ending_of (ended_of o) v
+same_end (Ok at) v = refl
+same_end (Err f) v = refl
 
-pub task_ends : {x : Out Tree} {v : List ℕ} {o : Outcome} {e : Ended} → Comes x v o → e ≡ ended_of o → Gives x v e
-task_ends {x} {v} {o} g q = subst (λ (z : Ended). Gives x v z) (sym q) record { same = g.same ∙ same_end o v }
+pub task_ends : {x : Out Tree} {v : List ℕ} {o : Result ℕ RefusedValue} {e : Result ℕ NotCoerced} → Comes x v o → e ≡ ended_of o → Gives x v e
+task_ends {x} {v} {o} g q = subst (λ (z : Result ℕ NotCoerced). Gives x v z) (sym q) record { same = g.same ∙ same_end o v }
 
 -- ---- the variables text
 
-module _ (t : List ℕ) (d : Doc) (op : ℕ) (task : Task) (s1 rows rows1 : List ℕ) (r : Read) (f : TextEnded VariablesText s1 rows rows1 r) where
-  pub text_taken : (c : Cursor) → length s1 ≤ most_text → length rows ≡ rows_size → r ≡ Done c → Taken VariablesText s1 rows1 c.rows
-  text_taken c l e q = ended_taken VariablesText s1 rows rows1 c.rows l e (subst (λ (x : Read). TextEnded VariablesText s1 rows rows1 x) q f)
+module _ (t : List ℕ) (d : Doc) (op : ℕ) (task : Task) (s1 rows rows1 : List ℕ) (r : Result Cursor Refusal) (f : TextEnded VariablesText s1 rows rows1 r) where
+  pub text_taken : (c : Cursor) → length s1 ≤ most_text → length rows ≡ rows_size → r ≡ Ok c → Taken VariablesText s1 rows1 c.rows
+  text_taken c l e q = ended_taken VariablesText s1 rows rows1 c.rows l e (subst (λ (x : Result Cursor Refusal). TextEnded VariablesText s1 rows rows1 x) q f)
 
-  pub text_unread : (z : Refusal) → r ≡ Refused z → ReadEnd t d op task s1 (ends (number_of z) (shown_in_text input_variables z))
-  text_unread z q = unread (tokens_are s1) (going_halt VariablesText (from s1 0) (from_rising s1) rows z (subst (λ (x : Read). TextEnded VariablesText s1 rows rows1 x) q f))
+  pub text_unread : (z : Refusal) → r ≡ Err z → ReadEnd t d op task s1 (ends (number_of z) (shown_in_text input_variables z))
+  text_unread z q = unread (tokens_are s1) (going_halt VariablesText (from s1 0) (from_rising s1) rows z (subst (λ (x : Result Cursor Refusal). TextEnded VariablesText s1 rows rows1 x) q f))
 
-pub text_read : (t : List ℕ) (d : Doc) (op : ℕ) (task : Task) (s1 rows1 v : List ℕ) (n1 : ℕ) (e : Ended) → Taken VariablesText s1 rows1 n1 → Gives (result_of t d op (doc_of s1 rows1 n1) task) v e →
+pub text_read : (t : List ℕ) (d : Doc) (op : ℕ) (task : Task) (s1 rows1 v : List ℕ) (n1 : ℕ) (e : Result ℕ NotCoerced) → Taken VariablesText s1 rows1 n1 → Gives (result_of t d op (doc_of s1 rows1 n1) task) v e →
     ReadEnd t d op task s1 (ending_of e v)
 text_read t d op task s1 rows1 v n1 e tk g =
     subst (ReadEnd t d op task s1) (ap (λ (rs : List Row). ended (result_of t d op (read s1 rs) task)) (sym tk.are) ∙ g.same) (done (tokens_are s1) tk.said)
@@ -104,8 +101,8 @@ text_read t d op task s1 rows1 v n1 e tk g =
 row_there : (d : Doc) (row : ℕ) → T (is kind_field (row_of d row)) → row ≤ count d
 row_there d row f = let l = row_within d (is kind_field) row refl f in omega arith
 
-pub field_serves : (t : List ℕ) (s rows : List ℕ) (n op row : ℕ) (w : Wanted) (start end : ℕ) → Wants t (doc_of s rows n) op row w → w ≡ Field start end → ReachedField (doc_of s rows n) op row × FieldServes t (doc_of s rows n) row start end
-field_serves t s rows n op row w start end h q =
+pub field_serves : (t : List ℕ) (s rows : List ℕ) (n op row : ℕ) (w : Maybe Span) (k : Span) → Wants t (doc_of s rows n) op row w → w ≡ Some k → ReachedField (doc_of s rows n) op row × FieldServes t (doc_of s rows n) row k.start k.end
+field_serves t s rows n op row w k h q =
     let x = subst (Wants t (doc_of s rows n) op row) q h in
     (x.0, record { there = row_there (doc_of s rows n) row x.0.field; holds = x.1 })
 
@@ -138,19 +135,12 @@ module _ (table document name variables rows book : List ℕ) where
   pub ready_standing : {n op : ℕ} → Ready table document name rows book n op → Standing table book document rows n op
   ready_standing r = record { stands = record { accepted = r.accepted.table_right; booked = r.booked; taken = r.taken }; operation = opened_operation r.opened }
 
-  stopped : (o : Start) → OneOf (0 ∷ 1 ∷ 2 ∷ 3 ∷ []) (tag_of the_type o) → Opens table document name rows book o → Opened table document name (stops (stop_number o) (stop_shown o))
-  stopped (BadTable a) f h = h
-  stopped (BadDocument r) f h = h
-  stopped (Broken i k) f h = h
-  stopped NoOperation f h = h
-  stopped (Open n op) f h = absurd (go f)
-    where
-      go : (◌≡◌ {A = ℕ} 4 0) ⊎ ((◌≡◌ {A = ℕ} 4 1) ⊎ ((◌≡◌ {A = ℕ} 4 2) ⊎ (◌≡◌ {A = ℕ} 4 3))) → ⊥
-      go (inl q) = absurd (omega (arith, q))
-      go (inr (inl q)) = absurd (omega (arith, q))
-      go (inr (inr (inl q))) = absurd (omega (arith, q))
-      go (inr (inr (inr q))) = absurd (omega (arith, q))
+  stopped : (o : NotOpened) → Opens table document name rows book (Err o) → Opened table document name (stops (stop_number (Err o)) (stop_shown (Err o)))
+  stopped (BadTable a) h = h
+  stopped (BadDocument r) h = h
+  stopped (Broken i k) h = h
+  stopped NoOperation h = h
 
-  pub not_opened : (call : Call) (o : Start) → OneOf (0 ∷ 1 ∷ 2 ∷ 3 ∷ []) (tag_of the_type o) → Opens table document name rows book o → EndFor call table document name variables (ends (stop_number o) (stop_shown o))
-  not_opened Variables o f h = nothing_opened (stopped o f h)
-  not_opened (Arguments row) o f h = no_operation_opened (stopped o f h)
+  pub not_opened : (call : Call) (o : NotOpened) → Opens table document name rows book (Err o) → EndFor call table document name variables (ends (stop_number (Err o)) (stop_shown (Err o)))
+  not_opened Variables o h = nothing_opened (stopped o h)
+  not_opened (Arguments row) o h = no_operation_opened (stopped o h)

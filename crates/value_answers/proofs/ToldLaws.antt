@@ -4,25 +4,24 @@ use mathlib.Core.List.{List, [], ◌++◌, append-nil}
 use Prim.Native.Nat.{ℕ, ◌-◌, ◌≤◌}
 use native.Mathlib.Omega.{arith}
 use lib.ListN.{length, drop, replicate, drop_of_length-le}
+use Rattle.std.specs.Prelude.{Result, Ok, Err}
 use Rattle.paper.specs.Numbers.{report_size, most_text}
 use Rattle.paper.specs.Refusals.{number_of}
 use Rattle.paper.specs.Calls.{filled, tells}
 use Rattle.paper.specs.declared.Refusal.{Refusal}
 use Rattle.paper_table.specs.TableNumbers.{most_table}
-use Rattle.call_buffers.specs.declared.Sizes.{Sizes}
-use Rattle.call_buffers.specs.declared.Sizes.TheVariants.{Met, Unmet}
 use Rattle.paper_values.specs.ValueNumbers.{most_coerced}
 use Rattle.paper_values.specs.ValueCalls.{Ending, ends, yields, ValueLent, ValueShort, Coerced, short_value, long_document, long_variables, long_table, refused, answered}
 use Rattle.value_endings.specs.Endings.{Asks, Sized, Leaves}
 use Rattle.value_endings.specs.Endings.{short_value as asks-value, long_document as asks-document, long_variables as asks-variables, long_table as asks-table}
 use Rattle.value_answers.specs.Answers.{Ends}
 
-pub sizes_kept : {value document variables table : ℕ} {s : Sizes} → Sized value document variables table s → s ≡ Met → (most_coerced ≤ value) × (document ≤ most_text) × (variables ≤ most_text) × (table ≤ most_table)
+pub sizes_kept : {value document variables table : ℕ} {s : Result (Unit {0}) Refusal} {u : Unit {0}} → Sized value document variables table s → s ≡ Ok u → (most_coerced ≤ value) × (document ≤ most_text) × (variables ≤ most_text) × (table ≤ most_table)
 sizes_kept {value} {document} {variables} {table} a q = subst (Sized value document variables table) q a
 
 module _ (End : Ending → Type 0) (table document variables value report report' : List ℕ) where
   -- a value or an input that does not keep to its size
-  pub sizes_unmet : (s : Sizes) (z : Refusal) (n : ℕ) → report_size ≤ length report → Sized (length value) (length document) (length variables) (length table) s → s ≡ Unmet z →
+  pub sizes_unmet : (s : Result (Unit {0}) Refusal) (z : Refusal) (n : ℕ) → report_size ≤ length report → Sized (length value) (length document) (length variables) (length table) s → s ≡ Err z →
       n ≡ number_of z → report' ≡ tells z report → Coerced End table document variables value report value report' n
   sizes_unmet s z n h a q p e = subst (Coerced End table document variables value report value report') (sym p) (go z (subst (Sized (length value) (length document) (length variables) (length table)) q a) e)
     where

@@ -1,6 +1,6 @@
 -- What a call coerces, and how it ends, as the code's functions ask and answer it.
 -- Assumes nothing.
-use Rattle.std.specs.Prelude.{◌≡◌, List, [], ℕ, length}
+use Rattle.std.specs.Prelude.{◌≡◌, List, [], ℕ, length, Result, Ok, Err}
 use Rattle.paper.specs.Numbers.{kind_operation, input_variables}
 use Rattle.paper.specs.Language.{Document, VariablesText}
 use Rattle.paper.specs.Tokens.{Text, Tokens}
@@ -21,11 +21,10 @@ use Rattle.paper_values.specs.Values.{Tree, Out}
 use Rattle.paper_values.specs.DocumentDues.{ReachedField}
 use Rattle.paper_values.specs.ValueCalls.{Ending, ends, ended, VariablesEnd, ArgumentsEnd}
 use Rattle.value_endings.specs.Endings.{ending_of, Leaves}
-use Rattle.value_endings.specs.declared.Ended.{Ended}
-use Rattle.value_endings.specs.declared.Ended.TheVariants.{Refused, UpTo}
+use Rattle.value_endings.specs.declared.NotCoerced.{NotCoerced}
+use Rattle.value_endings.specs.declared.NotCoerced.TheVariants.{Refused}
 use Rattle.value_results.specs.Results.{result_of}
-use Rattle.value_results.specs.declared.Outcome.{Outcome}
-use Rattle.value_results.specs.declared.Outcome.TheVariants as results
+use Rattle.value_results.specs.declared.RefusedValue.{RefusedValue}
 use Rattle.value_results.specs.declared.Task.{Task}
 use Rattle.value_results.specs.declared.Task.TheVariants.{OfOperation, OfField}
 use Rattle.value_answers.specs.declared.Call.{Call}
@@ -33,12 +32,12 @@ use Rattle.value_answers.specs.declared.Call.TheVariants.{Variables, Arguments}
 
 -- ---- what comes of its task
 
-abbrev pub ended_of : Outcome → Ended
-ended_of (results.UpTo at) = UpTo at
-ended_of (results.Refused text row why) = Refused text row why
+abbrev pub ended_of : Result ℕ RefusedValue → Result ℕ NotCoerced
+ended_of (Ok at) = Ok at
+ended_of (Err f) = Err (Refused f.text f.row f.why)
 
 -- the code ends as this result does, where these bytes stand in the output
-pub record Gives (o : Out Tree) (v : List ℕ) (r : Ended) : Type 0 where
+pub record Gives (o : Out Tree) (v : List ℕ) (r : Result ℕ NotCoerced) : Type 0 where
   pub same : ended o ≡ ending_of r v
 
 -- ---- what is asked

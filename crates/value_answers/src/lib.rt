@@ -7,7 +7,7 @@ ghost use Rattle.std.specs.Prelude.{◌≡◌, ◌≤◌, ◌<◌, length};
 ghost use Rattle.paper.specs.Numbers.{most_text, rows_size, report_size};
 ghost use Rattle.paper.specs.Language.{VariablesText};
 ghost use Rattle.table_book.specs.Book.{book_size};
-ghost use Rattle.query_rows.specs.Rowed.{doc_of, few_rows, room_of};
+ghost use Rattle.query_rows.specs.Rowed.{doc_of, room_of};
 ghost use Rattle.query_rows.proofs.ReadRows.{Taken};
 ghost use Rattle.paper_values.specs.ValueNumbers.{most_coerced};
 ghost use Rattle.paper_values.specs.ValueCalls.{ValueShort, Coerced as CoercedBy, CoercedVariables, CoercedArguments};
@@ -15,16 +15,14 @@ ghost use Rattle.value_endings.specs.Endings.{ending_of};
 ghost use Rattle.value_results.specs.Results.{held_room, result_of, Serves};
 ghost use Rattle.value_answers.specs.Answers.{EndFor, ended_of, Gives, ReadEnd, OpenEnd, Stands, Standing, Ends};
 
-use call_buffers::Sizes;
 use paper::{REFUSE_BUFFER, REPORT_SIZE, ROWS_SIZE};
 use paper_values::MOST_COERCED;
 use query_links::{FEW_ROWS, ROWS};
-use query_opening::Start;
+use query_opening::OpenedOperation;
 use table_book::BOOK_SIZE;
-use text_cursor::Read;
-use value_endings::Ended;
-use value_fields::{Wanted, find_wanted};
-use value_results::{Outcome, Task, put_task};
+use value_endings::NotCoerced;
+use value_fields::{Span, find_wanted};
+use value_results::{RefusedValue, Task, put_task};
 use value_variables::HELD_ROOM;
 
 // What a call coerces: an operation's variables, or the arguments of the field of a row.
@@ -35,20 +33,17 @@ enum Call {
 }
 
 // How a call ends whose task comes to this.
-fn ended(o: Outcome) -> Ended
+fn ended(o: Result<usize, RefusedValue>) -> Result<usize, NotCoerced>
     ensures { result ≡ ended_of o }
 {
     match o {
-        Outcome::UpTo(at) => Ended::UpTo(at),
-        Outcome::Refused { text, row, why } => Ended::Refused {
-            text: text,
-            row: row,
-            why: why,
-        },
+        Ok(at) => Ok(at),
+        Err(RefusedValue { text, row, why }) => Err(NotCoerced::Refused { text, row, why }),
     }
 }
 
 // Does the task and says how the call ends by it; the row past each row's subtree is yet to be found, in lists that are lent.
+// A value up to this place, past the output's end where it is too long, or Err with the reason why there is none.
 fn coerce_with(
     t: &[u8],
     book: &[u32],
@@ -64,7 +59,7 @@ fn coerce_with(
     past1: &mut [u32],
     held: &mut [u32],
     out: &mut [u8],
-) -> Ended
+) -> Result<usize, NotCoerced>
     requires { Stands t.now book.now s.now rows.now n × Serves t.now (doc_of s.now rows.now n) task × Taken VariablesText s1.now rows1.now n1 × (length past.old ≡ room_of n) × (length past1.old ≡ room_of n1) × (length held.old ≡ held_room) × (length out.old ≡ most_coerced) }
     ensures { Gives (result_of t.now (doc_of s.now rows.now n) op (doc_of s1.now rows1.now n1) task) out.new result }
 {
@@ -76,8 +71,8 @@ fn coerce_with(
     ended(o)
 }
 
-// The same with lists of its own, for few rows of the variables text: less is cleared then.
-fn coerce_few(
+// The same with lists of its own, one of this length: few for few rows of the variables text, so that little is cleared.
+fn coerce_in<const ROOM: usize>(
     t: &[u8],
     book: &[u32],
     s: &[u8],
@@ -90,36 +85,11 @@ fn coerce_few(
     rows1: &[u32],
     n1: usize,
     out: &mut [u8],
-) -> Ended
-    requires { Stands t.now book.now s.now rows.now n × Serves t.now (doc_of s.now rows.now n) task × Taken VariablesText s1.now rows1.now n1 × (length past.old ≡ room_of n) × (length out.old ≡ most_coerced) × (n1 ≤ few_rows) }
+) -> Result<usize, NotCoerced>
+    requires { Stands t.now book.now s.now rows.now n × Serves t.now (doc_of s.now rows.now n) task × Taken VariablesText s1.now rows1.now n1 × (length past.old ≡ room_of n) × (length out.old ≡ most_coerced) × (ROOM ≡ room_of n1) }
     ensures { Gives (result_of t.now (doc_of s.now rows.now n) op (doc_of s1.now rows1.now n1) task) out.new result }
 {
-    let mut past1 = [0u32; FEW_ROWS];
-    let mut held = [0u32; HELD_ROOM];
-    coerce_with(
-        t, book, s, rows, n, past, op, task, s1, rows1, n1, &mut past1, &mut held, out,
-    )
-}
-
-// The same for more rows than few.
-fn coerce_many(
-    t: &[u8],
-    book: &[u32],
-    s: &[u8],
-    rows: &[u32],
-    n: usize,
-    past: &mut [u32],
-    op: usize,
-    task: Task,
-    s1: &[u8],
-    rows1: &[u32],
-    n1: usize,
-    out: &mut [u8],
-) -> Ended
-    requires { Stands t.now book.now s.now rows.now n × Serves t.now (doc_of s.now rows.now n) task × Taken VariablesText s1.now rows1.now n1 × (length past.old ≡ room_of n) × (length out.old ≡ most_coerced) × (few_rows < n1) }
-    ensures { Gives (result_of t.now (doc_of s.now rows.now n) op (doc_of s1.now rows1.now n1) task) out.new result }
-{
-    let mut past1 = [0u32; ROWS];
+    let mut past1 = [0u32; ROOM];
     let mut held = [0u32; HELD_ROOM];
     coerce_with(
         t, book, s, rows, n, past, op, task, s1, rows1, n1, &mut past1, &mut held, out,
@@ -139,20 +109,22 @@ fn read_with(
     s1: &[u8],
     rows1: &mut [u32],
     out: &mut [u8],
-) -> Ended
+) -> Result<usize, NotCoerced>
     requires { Stands t.now book.now s.now rows.now n × Serves t.now (doc_of s.now rows.now n) task × (length past.old ≡ room_of n) × (length s1.now ≤ most_text) × (length rows1.old ≡ rows_size) × (length out.old ≡ most_coerced) }
     ensures { ReadEnd t.now (doc_of s.now rows.now n) op task s1.now (ending_of result out.new) }
 {
     let r = text_documents::variables_text(s1, rows1);
     match r {
-        Read::Done(c) => {
+        Ok(c) => {
             let n1 = c.rows as usize;
             if n1 <= FEW_ROWS {
-                return coerce_few(t, book, s, rows, n, past, op, task, s1, rows1, n1, out);
+                return coerce_in::<FEW_ROWS>(
+                    t, book, s, rows, n, past, op, task, s1, rows1, n1, out,
+                );
             }
-            coerce_many(t, book, s, rows, n, past, op, task, s1, rows1, n1, out)
+            coerce_in::<ROWS>(t, book, s, rows, n, past, op, task, s1, rows1, n1, out)
         }
-        Read::Refused(why) => Ended::BadText(why),
+        Err(why) => Err(NotCoerced::BadText(why)),
     }
 }
 
@@ -168,7 +140,7 @@ fn read_text(
     task: Task,
     s1: &[u8],
     out: &mut [u8],
-) -> Ended
+) -> Result<usize, NotCoerced>
     requires { Stands t.now book.now s.now rows.now n × Serves t.now (doc_of s.now rows.now n) task × (length past.old ≡ room_of n) × (length s1.now ≤ most_text) × (length out.old ≡ most_coerced) }
     ensures { ReadEnd t.now (doc_of s.now rows.now n) op task s1.now (ending_of result out.new) }
 {
@@ -176,9 +148,9 @@ fn read_text(
     read_with(t, book, s, rows, n, past, op, task, s1, &mut rows1, out)
 }
 
-// How a call on the opened operation of row op ends, for few rows of the document: a field that is not reached is told before the variables
-// text is read. A list for each count, and not one lent to both: so the search for the field has a frame of its own, gone when the text is read.
-fn end_few(
+// How a call on the opened operation of row op ends, with a list of this length, few for few rows of the document: a field that is not reached is
+// told before the variables text is read. The search for the field has a frame of its own, gone when the text is read.
+fn end_in<const ROOM: usize>(
     table: &[u8],
     book: &[u32],
     document: &[u8],
@@ -188,11 +160,11 @@ fn end_few(
     variables: &[u8],
     call: Call,
     out: &mut [u8],
-) -> Ended
-    requires { Standing table.now book.now document.now rows.now n op × (length variables.now ≤ most_text) × (length out.old ≡ most_coerced) × (n ≤ few_rows) }
+) -> Result<usize, NotCoerced>
+    requires { Standing table.now book.now document.now rows.now n op × (length variables.now ≤ most_text) × (length out.old ≡ most_coerced) × (ROOM ≡ room_of n) }
     ensures { OpenEnd table.now (doc_of document.now rows.now n) op call variables.now (ending_of result out.new) }
 {
-    let mut past = [0u32; FEW_ROWS];
+    let mut past = [0u32; ROOM];
     let Call::Arguments(row) = call else {
         let task = Task::OfOperation;
         return read_text(
@@ -200,52 +172,10 @@ fn end_few(
         );
     };
     let i = row as usize;
-    let w = find_wanted(table, book, document, rows, n, op, i);
-    let Wanted::Field { start, end } = w else {
-        return Ended::NotReached;
+    let Some(Span { start, end }) = find_wanted(table, book, document, rows, n, op, i) else {
+        return Err(NotCoerced::NotReached);
     };
-    let task = Task::OfField {
-        row: i,
-        start: start,
-        end: end,
-    };
-    read_text(
-        table, book, document, rows, n, &mut past, op, task, variables, out,
-    )
-}
-
-// The same for more rows than few.
-fn end_many(
-    table: &[u8],
-    book: &[u32],
-    document: &[u8],
-    rows: &[u32],
-    n: usize,
-    op: usize,
-    variables: &[u8],
-    call: Call,
-    out: &mut [u8],
-) -> Ended
-    requires { Standing table.now book.now document.now rows.now n op × (length variables.now ≤ most_text) × (length out.old ≡ most_coerced) × (few_rows < n) }
-    ensures { OpenEnd table.now (doc_of document.now rows.now n) op call variables.now (ending_of result out.new) }
-{
-    let mut past = [0u32; ROWS];
-    let Call::Arguments(row) = call else {
-        let task = Task::OfOperation;
-        return read_text(
-            table, book, document, rows, n, &mut past, op, task, variables, out,
-        );
-    };
-    let i = row as usize;
-    let w = find_wanted(table, book, document, rows, n, op, i);
-    let Wanted::Field { start, end } = w else {
-        return Ended::NotReached;
-    };
-    let task = Task::OfField {
-        row: i,
-        start: start,
-        end: end,
-    };
+    let task = Task::OfField { row: i, start, end };
     read_text(
         table, book, document, rows, n, &mut past, op, task, variables, out,
     )
@@ -261,18 +191,19 @@ fn end_with(
     variables: &[u8],
     call: Call,
     out: &mut [u8],
-) -> Ended
+) -> Result<usize, NotCoerced>
     requires { ValueShort table.now document.now variables.now × (length book.old ≡ book_size) × (length rows.old ≡ rows_size) × (length out.old ≡ most_coerced) }
     ensures { EndFor call table.now document.now operation.now variables.now (ending_of result out.new) }
 {
-    let o = query_opening::open(table, book, document, operation, rows);
-    let Start::Open(n, op) = o else {
-        return Ended::NotOpened(o);
+    let opened = query_opening::open(table, book, document, operation, rows);
+    let OpenedOperation { n, row: op } = match opened {
+        Ok(o) => o,
+        Err(stop) => return Err(NotCoerced::NotOpened(stop)),
     };
     if n <= FEW_ROWS {
-        return end_few(table, book, document, rows, n, op, variables, call, out);
+        return end_in::<FEW_ROWS>(table, book, document, rows, n, op, variables, call, out);
     }
-    end_many(table, book, document, rows, n, op, variables, call, out)
+    end_in::<ROWS>(table, book, document, rows, n, op, variables, call, out)
 }
 
 // How a call ends.
@@ -283,7 +214,7 @@ fn end_call(
     variables: &[u8],
     call: Call,
     out: &mut [u8],
-) -> Ended
+) -> Result<usize, NotCoerced>
     requires { ValueShort table.now document.now variables.now × (length out.old ≡ most_coerced) }
     ensures { EndFor call table.now document.now operation.now variables.now (ending_of result out.new) }
 {
@@ -328,7 +259,7 @@ fn answer(
     }
     let s = value_endings::sizes_met(value.len(), document.len(), variables.len(), table.len());
     match s {
-        Sizes::Met => tell_call(
+        Ok(()) => tell_call(
             table,
             document,
             operation,
@@ -337,7 +268,7 @@ fn answer(
             &mut value[..MOST_COERCED],
             report,
         ),
-        Sizes::Unmet(why) => call_report::tell_refusal(report, why),
+        Err(why) => call_report::tell_refusal(report, why),
     }
 }
 

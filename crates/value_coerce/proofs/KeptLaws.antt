@@ -23,8 +23,8 @@ use Rattle.paper_values.specs.CoercionRules.{plain_value}
 use Rattle.paper_values.specs.Encoding.{encode}
 use Rattle.paper_values.specs.RowValues.{placed, value_at, value_by, value_of_row}
 use Rattle.value_writing.specs.Writing.{place_of}
-use Rattle.value_kinds.specs.declared.Coerced.{Coerced}
-use Rattle.value_kinds.specs.declared.Coerced.TheVariants.{UpTo}
+use Rattle.std.proofs.Common.{Result, Ok}
+use Rattle.value_kinds.specs.declared.RefusedRow.{RefusedRow}
 use Rattle.value_kinds.specs.Dues.{Told, placed_at}
 use Rattle.value_tokens.proofs.TokenLaws.{value_variable, value_null}
 use Rattle.value_held.specs.Given.{Vars, kinds_in}
@@ -132,7 +132,7 @@ stood_is t vars text i r (Fields ps) e = refl
 stood_is t vars text i r (Token s) e = refl
 
 -- what it stands for, by what it was found to be
-pub stood_as : (t : List ℕ) (vars : Vars) (text i limit from : ℕ) (r : Ref) (o o' : Option Tree) (p p' : List ℕ) (c : Coerced) → o ≡ o' → Told text limit (stood t vars text i r o') from p p' c → Told text limit (stood t vars text i r o) from p p' c
+pub stood_as : (t : List ℕ) (vars : Vars) (text i limit from : ℕ) (r : Ref) (o o' : Option Tree) (p p' : List ℕ) (c : Result ℕ RefusedRow) → o ≡ o' → Told text limit (stood t vars text i r o') from p p' c → Told text limit (stood t vars text i r o) from p p' c
 stood_as t vars text i limit from r o o' p p' c e g = subst (λ (x : Option Tree). Told text limit (stood t vars text i r x) from p p' c) (sym e) g
 
 null_is : (i : At) (r : Ref) (tree : Tree) → null_at i r ≡ Got tree → tree ≡ Null
@@ -140,7 +140,7 @@ null_is i (named n) tree e = cc
 null_is i (list_of r) tree e = cc
 null_is i (non_null r) tree e = absurd (let z : ◌≡◌ {A = ℕ} 0 1 = cc in omega arith)
 
-module _ (t : List ℕ) (vars : Vars) (text there : ℕ) (d : Doc) (n row i limit from : ℕ) (r ref : Ref) (tree : Tree) (p p' : List ℕ) (c : Coerced) (k : Kept t there d n row ref tree) where
+module _ (t : List ℕ) (vars : Vars) (text there : ℕ) (d : Doc) (n row i limit from : ℕ) (r ref : Ref) (tree : Tree) (p p' : List ℕ) (c : Result ℕ RefusedRow) (k : Kept t there d n row ref tree) where
   abbrev Goal : Type 0
   Goal = Told text limit (stood t vars text i r (some tree)) from p p' c
 
@@ -165,7 +165,7 @@ module _ (t : List ℕ) (vars : Vars) (text there : ℕ) (d : Doc) (n row i limi
     pub kept_value : Told there limit (coerce (kinds_in t) (λ m. none) (value_of_row there d row) ref) from p p' c → Goal
     kept_value g = by_tree (subst (λ (o : Out Tree). Told there limit o from p p' c) k.is g)
 
-    pub kept_full : limit < from → from ≤ limit + 1 → c ≡ UpTo from → Goal
+    pub kept_full : limit < from → from ≤ limit + 1 → c ≡ Ok from → Goal
     kept_full l m e = by_tree (from, e, (full (length (encode tree)), λ h. absurd (omega (arith, h, l))))
       where
         full : (x : ℕ) → from ≡ place_of limit (from + x)

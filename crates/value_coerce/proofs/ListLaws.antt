@@ -16,8 +16,8 @@ use Rattle.paper_values.proofs.RowValuesLaws.{items_more}
 use Rattle.value_writing.specs.Writing.{place_of, Put, Room, Closed, Behind}
 use Rattle.value_writing.proofs.PlaceLaws.{place_least, behind_order}
 use Rattle.value_writing.proofs.EncodedLaws.{no_items_put, item_put, list_put}
-use Rattle.value_kinds.specs.declared.Coerced.{Coerced}
-use Rattle.value_kinds.specs.declared.Coerced.TheVariants.{UpTo, Refused}
+use Rattle.std.proofs.Common.{Result, Ok, Err}
+use Rattle.value_kinds.specs.declared.RefusedRow.{RefusedRow}
 use Rattle.value_kinds.specs.Dues.{Told}
 use Rattle.value_entries.specs.Entered.{child_at}
 use Rattle.value_entries.proofs.EntryLaws.{one_less, Next, child_next}
@@ -105,9 +105,9 @@ module _ (t : List ℕ) (vars : Vars) (text : ℕ) (d : Doc) (n k h : ℕ) (r : 
           ∙ ap (λ (y : Out Trees). and_then y (λ (ts : Trees). Got (join_trees (behind g.done x) ts))) (skip (c + 1) c' z);
     }
 
-    pub list_stop : (p' : List ℕ) (y : Coerced) (row why : ℕ) → c < n → parent_of d c ≡ h → Told text limit (coerced t vars text d k c r) at p p' y → y ≡ Refused row why → Told text limit (listed t vars text d n k h r) from p₀ p' y
-    list_stop p' y row why l q a u =
-        let z = told_no text limit at p p' y (coerced t vars text d k c r) row why a u in
+    pub list_stop : (p' : List ℕ) (y : Result ℕ RefusedRow) (f : RefusedRow) → c < n → parent_of d c ≡ h → Told text limit (coerced t vars text d k c r) at p p' y → y ≡ Err f → Told text limit (listed t vars text d n k h r) from p₀ p' y
+    list_stop p' y f l q a u =
+        let z = told_no text limit at p p' y (coerced t vars text d k c r) f a u in
         let o : listed t vars text d n k h r ≡ No z.0 z.1
         = ap (λ (y : Out Trees). and_then y (λ (ts : Trees). Got (Many ts))) (g.rest
         ∙ ap (λ (y : Out Trees). and_then y (λ (ts : Trees). Got (join_trees g.done ts))) (turned l q ∙ ap (λ (y : Out Tree). and_then y (λ (x : Tree). and_then (items_at t vars text d n k h (c + 1) r) (λ (ts : Trees). Got (also x ts)))) z.2)) in
@@ -116,11 +116,11 @@ module _ (t : List ℕ) (vars : Vars) (text : ℕ) (d : Doc) (n k h : ℕ) (r : 
     ended : n ≤ c → items_at t vars text d n k h c r ≡ Got no_more
     ended l = let z : n - c ≡ 0 = omega arith in ap (λ (m : ℕ). coerce_all (kinds_in t) vars (items_from text d (value_at text d k) h m c) r) z ∙ all_none text d (value_at text d k) (kinds_in t) vars h c r
 
-    pub list_end : (p' : List ℕ) (e : ℕ) → n ≤ c → Closed limit from tag_list at p p' e → Told text limit (listed t vars text d n k h r) from p₀ p' (UpTo e)
+    pub list_end : (p' : List ℕ) (e : ℕ) → n ≤ c → Closed limit from tag_list at p p' e → Told text limit (listed t vars text d n k h r) from p₀ p' (Ok e)
     list_end p' e l m =
         let o : listed t vars text d n k h r ≡ Got (Many g.done)
         = ap (λ (y : Out Trees). and_then y (λ (ts : Trees). Got (Many ts))) (g.rest ∙ ap (λ (y : Out Trees). and_then y (λ (ts : Trees). Got (join_trees g.done ts))) (ended l) ∙ ap Got (join_end g.done)) in
-        subst (λ (o : Out Tree). Told text limit o from p₀ p' (UpTo e)) (sym o) (e, refl, list_put limit g.done from (place_of limit (from + 3)) at e p₀ p p' refl g.put m)
+        subst (λ (o : Out Tree). Told text limit o from p₀ p' (Ok e)) (sym o) (e, refl, list_put limit g.done from (place_of limit (from + 3)) at e p₀ p p' refl g.put m)
 
     pub list_behind : Room limit at p → Behind limit from at p
     list_behind w = record { least = w.least; end = w.place; order = λ l. behind_order limit (encode_all g.done) from (place_of limit (from + 3)) at p₀ p refl g.put l; size = w.size }

@@ -19,8 +19,8 @@ use Rattle.table_fields.specs.Wrappers.{pack_of, pack_limit}
 use Rattle.table_fields.proofs.PackLaws.{pack_fits}
 use Rattle.table_book.specs.Book.{part, count_in}
 use Rattle.table_members.specs.Members.{members_in, Typed}
-use Rattle.table_members.specs.declared.FieldFound.{FieldFound}
-use Rattle.table_members.specs.declared.FieldFound.TheVariants.{Found, Nothing}
+use Rattle.std.specs.Prelude.{Option as Answer, Some, None}
+use Rattle.table_fields.specs.declared.Field.{Field}
 use Rattle.table_types.specs.Sizes.{slim_argument, slim_member, Slim}
 use Rattle.table_types.proofs.SlimLaws.{all_head, all_tail, entry_slim}
 use Rattle.table_types.specs.Booked.{Booked, start_in, end_in, definition_on}
@@ -34,9 +34,9 @@ use Rattle.paper_values.specs.Encoding.{encode, encode_pairs}
 use Rattle.value_writing.specs.Writing.{place_of, Put, Room, Closed, Behind}
 use Rattle.value_writing.proofs.PlaceLaws.{place_least, put_as, put_then, put_place, room_after, behind_order}
 use Rattle.value_writing.proofs.EncodedLaws.{no_pairs_put, pair_put, pairs_put, object_put}
-use Rattle.value_kinds.specs.declared.Coerced.{Coerced}
-use Rattle.value_kinds.specs.declared.Coerced.TheVariants.{UpTo, Refused}
-use Rattle.value_kinds.specs.Dues.{Told, placed_at}
+use Rattle.std.proofs.Common.{Result, Ok, Err}
+use Rattle.value_kinds.specs.declared.RefusedRow.{RefusedRow}
+use Rattle.value_kinds.specs.Dues.{refused, Told, placed_at}
 use Rattle.value_entries.specs.Entered.{dues_of, dues_in, dues_by, NextDue, Marks}
 use Rattle.value_held.specs.Given.{Vars, coerced, entries_at, givens_at, ToldPairs}
 use Rattle.value_coerce.specs.Coercing.{slim_due, objected, stepped}
@@ -46,23 +46,23 @@ use Rattle.value_ones.proofs.ToldLaws.{told_up, told_no}
 -- ---- one that is due
 
 module _ (t : List ℕ) (vars : Vars) (text : ℕ) (s held : List ℕ) (many : ℕ) (d : Doc) (n k kind h : ℕ) (δ : Due) (limit from : ℕ) (p : List ℕ) (c : ℕ) (g : Gives s held many d n k kind h δ.name c) (knows : Knows s held many vars) where
-  pub step_lacks : (x : Coerced) → n ≤ c → ToldPairs text limit (missing_due (placed_at text h) δ (Got no_pairs)) from p p x → ToldPairs text limit (stepped t vars text d n k kind h δ) from p p x
+  pub step_lacks : (x : Result ℕ RefusedRow) → n ≤ c → ToldPairs text limit (missing_due (placed_at text h) δ (Got no_pairs)) from p p x → ToldPairs text limit (stepped t vars text d n k kind h δ) from p p x
   step_lacks x l a = subst (λ (o : Option (Ref → Out Tree)). ToldPairs text limit (due_field (missing_due (placed_at text h) δ (Got no_pairs)) δ o (Got no_pairs)) from p p x) (sym (g.none_is l t vars text knows)) a
 
-  module _ (l : c < n) (p₂ : List ℕ) (middle : ℕ) (p₁ : List ℕ) (x : Coerced) (a : Told text limit (coerced t vars text d k (c + 1) δ.type) middle p₁ p₂ x) where
+  module _ (l : c < n) (p₂ : List ℕ) (middle : ℕ) (p₁ : List ℕ) (x : Result ℕ RefusedRow) (a : Told text limit (coerced t vars text d k (c + 1) δ.type) middle p₁ p₂ x) where
     step_is : (o : Out Tree) → coerced t vars text d k (c + 1) δ.type ≡ o → stepped t vars text d n k kind h δ ≡ and_then o (λ (y : Tree). Got (pair δ.name y no_pairs))
     step_is o e = ap (λ (z : Option (Ref → Out Tree)). due_field (missing_due (placed_at text h) δ (Got no_pairs)) δ z (Got no_pairs)) (g.some_is l t vars text knows) ∙ ap (λ (z : Out Tree). and_then z (λ (y : Tree). Got (pair δ.name y no_pairs))) e
 
-    pub step_stop : (row why : ℕ) → x ≡ Refused row why → ToldPairs text limit (stepped t vars text d n k kind h δ) from p p₂ x
-    step_stop row why u =
-        let z = told_no text limit middle p₁ p₂ x (coerced t vars text d k (c + 1) δ.type) row why a u in
+    pub step_stop : (f : RefusedRow) → x ≡ Err f → ToldPairs text limit (stepped t vars text d n k kind h δ) from p p₂ x
+    step_stop f u =
+        let z = told_no text limit middle p₁ p₂ x (coerced t vars text d k (c + 1) δ.type) f a u in
         subst (λ (o : Out Pairs). ToldPairs text limit o from p p₂ x) (sym (step_is (No z.0 z.1) z.2)) (z.3, z.4)
 
-    module _ (at : ℕ) (u : x ≡ UpTo at) (q : Put limit (house_field_bytes tag_name δ.name) (place_of limit (from + 3)) p p₁ middle) where
-      pub step_put : (p₃ : List ℕ) (e : ℕ) → from ≤ limit + 1 → Closed limit from tag_pair at p₂ p₃ e → ToldPairs text limit (stepped t vars text d n k kind h δ) from p p₃ (UpTo e)
+    module _ (at : ℕ) (u : x ≡ Ok at) (q : Put limit (house_field_bytes tag_name δ.name) (place_of limit (from + 3)) p p₁ middle) where
+      pub step_put : (p₃ : List ℕ) (e : ℕ) → from ≤ limit + 1 → Closed limit from tag_pair at p₂ p₃ e → ToldPairs text limit (stepped t vars text d n k kind h δ) from p p₃ (Ok e)
       step_put p₃ e m w =
           let z = told_up text limit middle p₁ p₂ x (coerced t vars text d k (c + 1) δ.type) at a u in
-          subst (λ (o : Out Pairs). ToldPairs text limit o from p p₃ (UpTo e)) (sym (step_is (Got z.0) z.1))
+          subst (λ (o : Out Pairs). ToldPairs text limit o from p p₃ (Ok e)) (sym (step_is (Got z.0) z.1))
           (e, refl, pairs_put limit no_pairs δ.name z.0 from from e p p p₃ (no_pairs_put limit from p m) (pair_put limit δ.name z.0 from (place_of limit (from + 3)) middle at e p p₁ p₂ p₃ refl q z.2 w))
 
       pub step_behind : Room limit (place_of limit (from + 3)) p → length p₁ ≡ length p → length p₂ ≡ length p₁ → Behind limit from at p₂
@@ -115,25 +115,25 @@ pub join_more : (xs ys : Pairs) (o : Out Pairs) → and_then (and_then o (λ (qs
 join_more xs ys (Got zs) = ap Got (sym (join_join xs ys zs))
 join_more xs ys (No i w) = refl
 
-module _ (text limit at : ℕ) (p p' : List ℕ) (x : Coerced) where
-  pub pairs_up : (o : Out Pairs) (e : ℕ) → ToldPairs text limit o at p p' x → x ≡ UpTo e → (ps : Pairs) × (o ≡ Got ps) × Put limit (encode_pairs ps) at p p' e
+module _ (text limit at : ℕ) (p p' : List ℕ) (x : Result ℕ RefusedRow) where
+  pub pairs_up : (o : Out Pairs) (e : ℕ) → ToldPairs text limit o at p p' x → x ≡ Ok e → (ps : Pairs) × (o ≡ Got ps) × Put limit (encode_pairs ps) at p p' e
   pairs_up (Got t) e g u = let z : g.0 ≡ e = same g.0 g.1 in (t, refl, subst (λ (y : ℕ). Put limit (encode_pairs t) at p p' y) z g.2)
     where
-      same : (a : ℕ) → x ≡ UpTo a → a ≡ e
+      same : (a : ℕ) → x ≡ Ok a → a ≡ e
       same a q = cc
   pairs_up (No i w) e g u = absurd (never g.1)
     where
-      never : x ≡ Refused i.row w → ⊥
+      never : x ≡ refused i.row w → ⊥
       never q = let z : ◌≡◌ {A = ℕ} 0 1 = cc in omega arith
 
-  pub pairs_no : (o : Out Pairs) (row why : ℕ) → ToldPairs text limit o at p p' x → x ≡ Refused row why → (i : At) × (w : ℕ) × (o ≡ No i w) × (i.text ≡ text) × (x ≡ Refused i.row w)
-  pairs_no (Got t) row why g u = absurd (never g.0 g.1)
+  pub pairs_no : (o : Out Pairs) (f : RefusedRow) → ToldPairs text limit o at p p' x → x ≡ Err f → (i : At) × (w : ℕ) × (o ≡ No i w) × (i.text ≡ text) × (x ≡ refused i.row w)
+  pairs_no (Got t) f g u = absurd (never g.0 g.1)
     where
-      never : (e : ℕ) → x ≡ UpTo e → ⊥
+      never : (e : ℕ) → x ≡ Ok e → ⊥
       never e q = let z : ◌≡◌ {A = ℕ} 0 1 = cc in omega arith
-  pairs_no (No i w) row why g u = (i, w, refl, g.0, g.1)
+  pairs_no (No i w) f g u = (i, w, refl, g.0, g.1)
 
-  pub pairs_room : (o : Out Pairs) (e : ℕ) → ToldPairs text limit o at p p' x → x ≡ UpTo e → Room limit at p → length p' ≡ length p → Room limit e p'
+  pub pairs_room : (o : Out Pairs) (e : ℕ) → ToldPairs text limit o at p p' x → x ≡ Ok e → Room limit at p → length p' ≡ length p → Room limit e p'
   pairs_room o e g u r l = let z = pairs_up o e g u in room_after limit (encode_pairs z.0) at p p' e r l z.2
 
 -- ---- all that are due
@@ -163,7 +163,7 @@ module _ (t : List ℕ) (vars : Vars) (text : ℕ) (d : Doc) (n k kind h : ℕ) 
       by_step : (o : Out Pairs) → stepped t vars text d n k kind h δ ≡ o → fields_from start ≡ and_then (and_then o (λ (ps : Pairs). and_then (fields_from stop) (λ (qs : Pairs). Got (join_pairs ps qs)))) (λ (ps : Pairs). Got (join_pairs g.done ps))
       by_step o q = g.rest ∙ ap (λ (y : Out Pairs). and_then y (λ (ps : Pairs). Got (join_pairs g.done ps))) (turned ∙ ap (λ (y : Out Pairs). and_then y (λ (ps : Pairs). and_then (fields_from stop) (λ (qs : Pairs). Got (join_pairs ps qs)))) q)
 
-      pub fields_step : (p' : List ℕ) (x : Coerced) (next : ℕ) → ToldPairs text limit (stepped t vars text d n k kind h δ) at p p' x → x ≡ UpTo next → Fielded p' next stop
+      pub fields_step : (p' : List ℕ) (x : Result ℕ RefusedRow) (next : ℕ) → ToldPairs text limit (stepped t vars text d n k kind h δ) at p p' x → x ≡ Ok next → Fielded p' next stop
       fields_step p' x next w u =
           let z = pairs_up text limit at p p' x (stepped t vars text d n k kind h δ) next w u in
           record {
@@ -173,17 +173,17 @@ module _ (t : List ℕ) (vars : Vars) (text : ℕ) (d : Doc) (n k kind h : ℕ) 
             rest = by_step (Got z.0) z.1 ∙ join_more g.done z.0 (fields_from stop);
           }
 
-      pub fields_stop : (p' : List ℕ) (x : Coerced) (row why : ℕ) → ToldPairs text limit (stepped t vars text d n k kind h δ) at p p' x → x ≡ Refused row why →
+      pub fields_stop : (p' : List ℕ) (x : Result ℕ RefusedRow) (f : RefusedRow) → ToldPairs text limit (stepped t vars text d n k kind h δ) at p p' x → x ≡ Err f →
           Told text limit (and_then (fields_from start) (λ (ps : Pairs). Got (Fields ps))) from p₀ p' x
-      fields_stop p' x row why w u =
-          let z = pairs_no text limit at p p' x (stepped t vars text d n k kind h δ) row why w u in
+      fields_stop p' x f w u =
+          let z = pairs_no text limit at p p' x (stepped t vars text d n k kind h δ) f w u in
           subst (λ (o : Out Pairs). Told text limit (and_then o (λ (ps : Pairs). Got (Fields ps))) from p₀ p' x) (sym (by_step (No z.0 z.1) z.2)) (z.3, z.4)
 
-    pub fields_end : (p' : List ℕ) (e : ℕ) → dues a ≡ [] → Closed limit from tag_input at p p' e → Told text limit (and_then (fields_from start) (λ (ps : Pairs). Got (Fields ps))) from p₀ p' (UpTo e)
+    pub fields_end : (p' : List ℕ) (e : ℕ) → dues a ≡ [] → Closed limit from tag_input at p p' e → Told text limit (and_then (fields_from start) (λ (ps : Pairs). Got (Fields ps))) from p₀ p' (Ok e)
     fields_end p' e q m =
         let o : fields_from start ≡ Got g.done
         = g.rest ∙ ap (λ (y : Out Pairs). and_then y (λ (ps : Pairs). Got (join_pairs g.done ps))) (ap (due_fields (missing_due (placed_at text h)) (givens_at t vars text d n k kind h)) q) ∙ ap Got (join_nothing g.done) in
-        subst (λ (y : Out Pairs). Told text limit (and_then y (λ (ps : Pairs). Got (Fields ps))) from p₀ p' (UpTo e)) (sym o)
+        subst (λ (y : Out Pairs). Told text limit (and_then y (λ (ps : Pairs). Got (Fields ps))) from p₀ p' (Ok e)) (sym o)
         (e, refl, object_put limit g.done from (place_of limit (from + 3)) at e p₀ p p' refl g.put m)
 
     pub fields_behind : Room limit at p → Behind limit from at p
@@ -206,8 +206,8 @@ module _ (t : List ℕ) (vars : Vars) (text : ℕ) (d : Doc) (n k kind h : ℕ) 
   abbrev given : Out Tree
   given = and_then (due_fields (missing_due (placed_at text h)) (givens_at t vars text d n k kind h) (dues start)) (λ (ps : Pairs). Got (Fields ps))
 
-  pub object_repeated : Marks n text (repeated_entry [] es) i → i < n → Told text limit (objected t vars text d n k kind h (dues start)) from p p (Refused i reason_repeated)
-  object_repeated m l = subst (λ (o : Option At). Told text limit (unless o reason_repeated (unless (unknown_entry (dues start) es) reason_unknown given)) from p p (Refused i reason_repeated))
+  pub object_repeated : Marks n text (repeated_entry [] es) i → i < n → Told text limit (objected t vars text d n k kind h (dues start)) from p p (refused i reason_repeated)
+  object_repeated m l = subst (λ (o : Option At). Told text limit (unless o reason_repeated (unless (unknown_entry (dues start) es) reason_unknown given)) from p p (refused i reason_repeated))
       (sym (marked n text (repeated_entry [] es) i m l)) (refl, refl)
 
   module _ (m : Marks n text (repeated_entry [] es) i) (l : n ≤ i) (j : ℕ) (w : Marks n text (unknown_entry (dues start) es) j) where
@@ -216,10 +216,10 @@ module _ (t : List ℕ) (vars : Vars) (text : ℕ) (d : Doc) (n k kind h : ℕ) 
         ap (λ (x : Option At). unless x reason_repeated (unless (unknown_entry (dues start) es) reason_unknown given)) (unmarked n text (repeated_entry [] es) i m l)
         ∙ ap (λ (x : Option At). unless x reason_unknown given) q
 
-    pub object_unknown : j < n → Told text limit (objected t vars text d n k kind h (dues start)) from p p (Refused j reason_unknown)
-    object_unknown z = subst (λ (o : Out Tree). Told text limit o from p p (Refused j reason_unknown)) (sym (opened (some (placed_at text j)) (marked n text (unknown_entry (dues start) es) j w z))) (refl, refl)
+    pub object_unknown : j < n → Told text limit (objected t vars text d n k kind h (dues start)) from p p (refused j reason_unknown)
+    object_unknown z = subst (λ (o : Out Tree). Told text limit o from p p (refused j reason_unknown)) (sym (opened (some (placed_at text j)) (marked n text (unknown_entry (dues start) es) j w z))) (refl, refl)
 
-    pub object_fields : n ≤ j → (p' : List ℕ) (x : Coerced) → Told text limit (and_then (fields_from t vars text d n k kind h dues start limit from p start) (λ (ps : Pairs). Got (Fields ps))) from p p' x → Told text limit (objected t vars text d n k kind h (dues start)) from p p' x
+    pub object_fields : n ≤ j → (p' : List ℕ) (x : Result ℕ RefusedRow) → Told text limit (and_then (fields_from t vars text d n k kind h dues start limit from p start) (λ (ps : Pairs). Got (Fields ps))) from p p' x → Told text limit (objected t vars text d n k kind h (dues start)) from p p' x
     object_fields z p' x a = subst (λ (o : Out Tree). Told text limit o from p p' x) (sym (opened none (unmarked n text (unknown_entry (dues start) es) j w z))) a
 
 -- what the members of an entry make due, where its bounds were read
@@ -249,10 +249,10 @@ slim_packs t at l w δ s y =
     let p : pack_of δ.type < pack_limit = pack_fits δ.type (leb-true (wrapperCount δ.type) most_wrappers s) in
     let z : pack_of δ.type ≡ w = (let q = y.packs in omega (arith, p, q)) in (z, omega (arith, p, z))
 
-pub next_found : (kind : ℕ) (t : List ℕ) (at end : ℕ) (f : FieldFound) (tag start stop : ℕ) → NextDue kind t at end f → f ≡ Found tag start stop → NextDue kind t at end (Found tag start stop)
-next_found kind t at end f tag start stop n e = subst (NextDue kind t at end) e n
+pub next_found : (kind : ℕ) (t : List ℕ) (at end : ℕ) (f : Answer Field) (x : Field) → NextDue kind t at end f → f ≡ Some x → NextDue kind t at end (Some x)
+next_found kind t at end f x n e = subst (NextDue kind t at end) e n
 
-pub next_none : (kind : ℕ) (t : List ℕ) (at end : ℕ) (f : FieldFound) → NextDue kind t at end f → f ≡ Nothing → dues_by kind t at end ≡ []
+pub next_none : (kind : ℕ) (t : List ℕ) (at end : ℕ) (f : Answer Field) → NextDue kind t at end f → f ≡ None → dues_by kind t at end ≡ []
 next_none kind t at end f n e = subst (NextDue kind t at end) e n
 
 pub gives_name : (s held : List ℕ) (many : ℕ) (d : Doc) (n k kind h : ℕ) (x y : Name) (c : ℕ) → x ≡ y → Gives s held many d n k kind h x c → Gives s held many d n k kind h y c

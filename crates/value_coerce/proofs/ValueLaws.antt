@@ -23,12 +23,11 @@ use Rattle.paper_values.specs.Coercion.{heads}
 use Rattle.paper_values.specs.CoercionRules.{plain_value, single_value as alone}
 use Rattle.paper_values.specs.RowValues.{placed, items_from, entries_from, value_by, value_at}
 use Rattle.value_leaves.specs.Leaves.{sort_of}
-use Rattle.value_leaves.specs.declared.Wrote.{Wrote}
-use Rattle.value_kinds.specs.declared.Coerced.{Coerced}
-use Rattle.value_kinds.specs.declared.Coerced.TheVariants.{Refused}
+use Rattle.std.proofs.Common.{Result}
+use Rattle.value_kinds.specs.declared.RefusedRow.{RefusedRow}
 use Rattle.value_writing.specs.Writing.{place_of, Room}
 use Rattle.value_writing.proofs.PlaceLaws.{place_least}
-use Rattle.value_kinds.specs.Dues.{Sorted, Fits, DueIs, told, Told, placed_at}
+use Rattle.value_kinds.specs.Dues.{refused, Sorted, Fits, DueIs, told, Told, placed_at}
 use Rattle.value_kinds.proofs.KindLaws.{sort_input}
 use Rattle.value_entries.specs.Entered.{dues_of}
 use Rattle.value_tokens.specs.Spans.{is_object_kind, takes_fields}
@@ -128,7 +127,7 @@ same_base t book r q sort number w v b e δ = record { sorted = subst (λ (x : L
 
 -- ---- what is told, by the ways the code takes
 
-module _ (t book : List ℕ) (vars : Vars) (text : ℕ) (d : Doc) (k i sort number w limit from : ℕ) (p p' : List ℕ) (c : Coerced) (r : Ref) (δ : DueIs t book r sort number w) where
+module _ (t book : List ℕ) (vars : Vars) (text : ℕ) (d : Doc) (k i sort number w limit from : ℕ) (p p' : List ℕ) (c : Result ℕ RefusedRow) (r : Ref) (δ : DueIs t book r sort number w) where
   abbrev Goal : Type 0
   Goal = Told text limit (coerced t vars text d k i r) from p p' c
 
@@ -153,7 +152,7 @@ module _ (t book : List ℕ) (vars : Vars) (text : ℕ) (d : Doc) (k i sort numb
     is_plain = ap plain_value (at_level text d k i q) ∙ row_plain text d (value_at text d (k - 1)) i nv nn
 
     -- the list of a type that is none is refused
-    pub told_kind : (u : ℕ) → pack_of (nullable_of r) ≡ u → (u % 4 ≡ 2 → ⊥) → (u % 4 ≡ 1 → ⊥) → kind_of d i ≡ kind_list → c ≡ Refused i reason_kind → Goal
+    pub told_kind : (u : ℕ) → pack_of (nullable_of r) ≡ u → (u % 4 ≡ 2 → ⊥) → (u % 4 ≡ 1 → ⊥) → kind_of d i ≡ kind_list → c ≡ refused i reason_kind → Goal
     told_kind u e a b l x =
         let z : nullable_of r ≡ named (base_of (nullable_of r)) = pack_named (nullable_of r) (λ (y : pack_of (nullable_of r) % 4 ≡ 2). a (ap (λ (v : ℕ). v % 4) (sym e) ∙ y)) (λ (y : pack_of (nullable_of r) % 4 ≡ 1). b (ap (λ (v : ℕ). v % 4) (sym e) ∙ y)) in
         by_out (No (placed_at text i) reason_kind) (plain_nullable (kinds_in t) vars (value_at text d k i) is_plain r ∙ ap (λ (s : Ref). coerced t vars text d k i s) z
@@ -195,10 +194,10 @@ module _ (t book : List ℕ) (vars : Vars) (text : ℕ) (d : Doc) (k i sort numb
           second true y e = e
           second false y e = absurd (let z : ◌≡◌ {A = ℕ} 0 1 = cc in omega arith)
 
-      pub told_leaf : (l : Wrote) → c ≡ told i l → ((vars : Vars) (text : ℕ) (read : ℕ → Value) (m : Name) → Sorted t book m sort number → Told text limit (coerce (kinds_in t) vars (value_by text d read i) (named m)) from p p' (told i l)) → Goal
+      pub told_leaf : (l : Result ℕ ℕ) → c ≡ told i l → ((vars : Vars) (text : ℕ) (read : ℕ → Value) (m : Name) → Sorted t book m sort number → Told text limit (coerce (kinds_in t) vars (value_by text d read i) (named m)) from p p' (told i l)) → Goal
       told_leaf l e f =
           by_out (coerce (kinds_in t) vars (value_by text d (value_at text d (k - 1)) i) (named (base_of r))) (ap (λ (s : Ref). coerced t vars text d k i s) is_named ∙ ap (λ (v : Value). coerce (kinds_in t) vars v (named (base_of r))) (at_level text d k i q))
-          (subst (λ (x : Coerced). Told text limit (coerce (kinds_in t) vars (value_by text d (value_at text d (k - 1)) i) (named (base_of r))) from p p' x) (sym e) (f vars text (value_at text d (k - 1)) (base_of r) δ.sorted))
+          (subst (λ (x : Result ℕ RefusedRow). Told text limit (coerce (kinds_in t) vars (value_by text d (value_at text d (k - 1)) i) (named (base_of r))) from p p' x) (sym e) (f vars text (value_at text d (k - 1)) (base_of r) δ.sorted))
 
 -- ---- what the calls ask
 

@@ -25,13 +25,12 @@ ghost use Rattle.value_held.specs.Holding.{Kept, Holds, Holding};
 use paper::{KIND_LIST, KIND_NULL, KIND_OBJECT_FIELD, KIND_VARIABLE, WRAP_BASE, WRAP_LIST};
 use paper_table::TAG_NAME;
 use paper_values::{REASON_KIND, REASON_REPEATED, REASON_UNKNOWN, TAG_INPUT, TAG_LIST, TAG_PAIR};
-use table_members::FieldFound;
 use value_entries::{first_child, next_child, next_due};
 use value_held::{
     HELD_ROW, HELD_TEXT, cell_of, due_held, find_again, find_alien, given, held_at, is_null,
     lacking,
 };
-use value_kinds::{Coerced, Due, due_of, of_leaf, put_nothing};
+use value_kinds::{Due, RefusedRow, due_of, of_leaf, put_nothing};
 use value_ones::{close_ones, lists_in, nullable};
 use value_tokens::{put_base, takes_fields};
 use value_writing::{close, place, put_field};
@@ -43,6 +42,7 @@ pub const TEXT_DOCUMENT: u32 = 0;
 pub const ALL_LEVELS: usize = 33;
 
 // Writes the value of row i at the type that is due, with k levels left. The variables are coerced already; `many` is 0 where none has a value.
+// The place past what was written, or Err with the row of this text that is refused.
 #[cycle(bare_field_input_list_object_put_kept_single_value_variable)]
 pub fn value(
     t: &[u8],
@@ -63,7 +63,7 @@ pub fn value(
     out: &mut [u8],
     limit: usize,
     from: usize,
-) -> Coerced
+) -> Result<usize, RefusedRow>
     requires { Ready t.now book.now s.now rows.now n past.now × (i ≤ n) × Fits book.now due.sort due.number due.wrappers × Room limit from out.old × Meant t.now book.now due.sort due.number due.wrappers × Holding t.now book.now s.now rows.now n s1.now rows1.now n1 past1.now held.now many }
     ensures { (text : ℕ) (r : Ref) (ps : Pairs) → DueIs t.now book.now r due.sort due.number due.wrappers → Holds t.now book.now s.now rows.now n s1.now rows1.now n1 held.now 0 many ps →
         Told text limit (coerced t.now (value_in ps) text (doc_of s.now rows.now n) k i r) from out.old out.new result }
@@ -89,10 +89,10 @@ pub fn value(
     }
     let inside = nullable(w);
     if inside % WRAP_BASE != WRAP_LIST {
-        return Coerced::Refused {
+        return Err(RefusedRow {
             row: i,
             why: REASON_KIND,
-        };
+        });
     }
     let items = Due {
         sort: due.sort,
@@ -141,7 +141,7 @@ fn variable(
     out: &mut [u8],
     limit: usize,
     from: usize,
-) -> Coerced
+) -> Result<usize, RefusedRow>
     requires { Ready t.now book.now s.now rows.now n past.now × Room limit from out.old × Holding t.now book.now s.now rows.now n s1.now rows1.now n1 past1.now held.now many }
     ensures { (text : ℕ) (r : Ref) (ps : Pairs) → pack_of r ≡ wrappers → Holds t.now book.now s.now rows.now n s1.now rows1.now n1 held.now 0 many ps →
         Told text limit (stood t.now (value_in ps) text i r (value_in ps (name_of (doc_of s.now rows.now n) i))) from out.old out.new result }
@@ -180,7 +180,7 @@ fn put_kept(
     out: &mut [u8],
     limit: usize,
     from: usize,
-) -> Coerced
+) -> Result<usize, RefusedRow>
     requires { Ready t.now book.now s.now rows.now n past.now × (row ≤ n) × Fits book.now due.sort due.number due.wrappers × Room limit from out.old × Meant t.now book.now due.sort due.number due.wrappers }
     ensures { (vars : Vars) (text there : ℕ) (r ref : Ref) (tree : Tree) → pack_of r ≡ outer → DueIs t.now book.now ref due.sort due.number due.wrappers →
         Kept t.now there (doc_of s.now rows.now n) n row ref tree → Told text limit (stood t.now vars text i r (some tree)) from out.old out.new result }
@@ -189,7 +189,7 @@ fn put_kept(
         return put_nothing(out, limit, from, i, outer);
     }
     if limit < from {
-        return Coerced::UpTo(from);
+        return Ok(from);
     }
     value(
         t, book, s, rows, n, past, row, ALL_LEVELS, due, s, rows, n, past, held, 0, out, limit,
@@ -219,20 +219,17 @@ fn single(
     out: &mut [u8],
     limit: usize,
     from: usize,
-) -> Coerced
+) -> Result<usize, RefusedRow>
     requires { Ready t.now book.now s.now rows.now n past.now × (i ≤ n) × Fits book.now due.sort due.number due.wrappers × Room limit from out.old × Meant t.now book.now due.sort due.number due.wrappers × Holding t.now book.now s.now rows.now n s1.now rows1.now n1 past1.now held.now many × Alone (row_in rows.now n i).kind k }
     ensures { (text : ℕ) (r : Ref) (ps : Pairs) → DueIs t.now book.now r due.sort due.number due.wrappers → Holds t.now book.now s.now rows.now n s1.now rows1.now n1 held.now 0 many ps →
         Told text limit (coerced t.now (value_in ps) text (doc_of s.now rows.now n) k i r) from out.old out.new result }
 {
     let m = lists_in(due.wrappers);
     let first = place(limit, from, 3 * m);
-    let r = bare(
+    let at = bare(
         t, book, s, rows, n, past, i, k, due, s1, rows1, n1, past1, held, many, out, limit, first,
-    );
-    let Coerced::UpTo(at) = r else {
-        return r;
-    };
-    Coerced::UpTo(close_ones(out, limit, from, m, at))
+    )?;
+    Ok(close_ones(out, limit, from, m, at))
 }
 
 // Writes such a value at the type without its wrappers.
@@ -256,7 +253,7 @@ fn bare(
     out: &mut [u8],
     limit: usize,
     from: usize,
-) -> Coerced
+) -> Result<usize, RefusedRow>
     requires { Ready t.now book.now s.now rows.now n past.now × (i ≤ n) × Fits book.now due.sort due.number due.wrappers × Room limit from out.old × Holding t.now book.now s.now rows.now n s1.now rows1.now n1 past1.now held.now many × Alone (row_in rows.now n i).kind k }
     ensures { (text : ℕ) (r : Ref) (ps : Pairs) → DueIs t.now book.now r due.sort due.number 0 → Holds t.now book.now s.now rows.now n s1.now rows1.now n1 held.now 0 many ps →
         Told text limit (coerced t.now (value_in ps) text (doc_of s.now rows.now n) k i r) from out.old out.new result }
@@ -295,7 +292,7 @@ fn input(
     out: &mut [u8],
     limit: usize,
     from: usize,
-) -> Coerced
+) -> Result<usize, RefusedRow>
     requires { Ready t.now book.now s.now rows.now n past.now × (i ≤ n) × Fits book.now due.sort due.number due.wrappers × Room limit from out.old × Holding t.now book.now s.now rows.now n s1.now rows1.now n1 past1.now held.now many × Alone (row_in rows.now n i).kind k × (takes_fields (row_in rows.now n i).kind due.sort ≡ true) }
     ensures { (text : ℕ) (r : Ref) (ps : Pairs) → DueIs t.now book.now r due.sort due.number 0 → Holds t.now book.now s.now rows.now n s1.now rows1.now n1 held.now 0 many ps →
         Told text limit (coerced t.now (value_in ps) text (doc_of s.now rows.now n) k i r) from out.old out.new result }
@@ -348,7 +345,7 @@ fn list(
     out: &mut [u8],
     limit: usize,
     from: usize,
-) -> Coerced
+) -> Result<usize, RefusedRow>
     requires { Ready t.now book.now s.now rows.now n past.now × (h < n) × Fits book.now due.sort due.number due.wrappers × Room limit from out.old × Meant t.now book.now due.sort due.number due.wrappers × Holding t.now book.now s.now rows.now n s1.now rows1.now n1 past1.now held.now many }
     ensures { (text : ℕ) (r : Ref) (ps : Pairs) → DueIs t.now book.now r due.sort due.number due.wrappers → Holds t.now book.now s.now rows.now n s1.now rows1.now n1 held.now 0 many ps →
         Told text limit (listed t.now (value_in ps) text (doc_of s.now rows.now n) n k h r) from out.old out.new result }
@@ -356,16 +353,12 @@ fn list(
     let mut at = place(limit, from, 3);
     let mut c = first_child(s, rows, n, past, h);
     while c < n {
-        let r = value(
+        at = value(
             t, book, s, rows, n, past, c, k, due, s1, rows1, n1, past1, held, many, out, limit, at,
-        );
-        let Coerced::UpTo(next) = r else {
-            return r;
-        };
-        at = next;
+        )?;
         c = next_child(s, rows, n, past, h, c);
     }
-    Coerced::UpTo(close(out, limit, from, TAG_LIST, at))
+    Ok(close(out, limit, from, TAG_LIST, at))
 }
 
 // Writes the entries of this kind of row h as an object of what the content from `start` up to `end` makes due, with k levels left for each
@@ -392,45 +385,36 @@ pub fn object(
     out: &mut [u8],
     limit: usize,
     from: usize,
-) -> Coerced
+) -> Result<usize, RefusedRow>
     requires { Ready t.now book.now s.now rows.now n past.now × (h ≤ n) × Bounds t.now start end × (all_of slim_due (dues_by kind t.now start end) ≡ true) × Room limit from out.old × Holding t.now book.now s.now rows.now n s1.now rows1.now n1 past1.now held.now many }
     ensures { (text : ℕ) (ps : Pairs) → Holds t.now book.now s.now rows.now n s1.now rows1.now n1 held.now 0 many ps →
         Told text limit (objected t.now (value_in ps) text (doc_of s.now rows.now n) n k kind h (dues_by kind t.now start end)) from out.old out.new result }
 {
     let again = find_again(s, rows, n, past, h, kind);
     if again < n {
-        return Coerced::Refused {
+        return Err(RefusedRow {
             row: again,
             why: REASON_REPEATED,
-        };
+        });
     }
     let alien = find_alien(t, start, end, s, rows, n, past, h, kind);
     if alien < n {
-        return Coerced::Refused {
+        return Err(RefusedRow {
             row: alien,
             why: REASON_UNKNOWN,
-        };
+        });
     }
     let mut at = place(limit, from, 3);
     let mut p = start;
     loop {
-        let FieldFound::Found {
-            tag,
-            start: a,
-            end: e,
-        } = next_due(t, p, end, kind)
-        else {
-            return Coerced::UpTo(close(out, limit, from, TAG_INPUT, at));
+        let Some(f) = next_due(t, p, end, kind) else {
+            return Ok(close(out, limit, from, TAG_INPUT, at));
         };
-        let r = field(
-            t, book, s, rows, n, past, h, k, kind, tag, a, e, s1, rows1, n1, past1, held, many,
-            out, limit, at,
-        );
-        let Coerced::UpTo(next) = r else {
-            return r;
-        };
-        at = next;
-        p = e;
+        at = field(
+            t, book, s, rows, n, past, h, k, kind, f.tag, f.start, f.end, s1, rows1, n1, past1,
+            held, many, out, limit, at,
+        )?;
+        p = f.end;
     }
 }
 
@@ -458,7 +442,7 @@ fn field(
     out: &mut [u8],
     limit: usize,
     from: usize,
-) -> Coerced
+) -> Result<usize, RefusedRow>
     requires { Ready t.now book.now s.now rows.now n past.now × (h ≤ n) × Bounds t.now start end × (slim_due (due_of (member_from t.now tag start end)) ≡ true) × Room limit from out.old × Holding t.now book.now s.now rows.now n s1.now rows1.now n1 past1.now held.now many }
     ensures { (text : ℕ) (ps : Pairs) → Holds t.now book.now s.now rows.now n s1.now rows1.now n1 held.now 0 many ps →
         ToldPairs text limit (stepped t.now (value_in ps) text (doc_of s.now rows.now n) n k kind h (due_of (member_from t.now tag start end))) from out.old out.new result }
@@ -476,7 +460,7 @@ fn field(
     let at = name.at;
     let stop = at + name.size;
     let middle = put_field(out, limit, first, TAG_NAME, &t[at..stop]);
-    let r = value(
+    let e = value(
         t,
         book,
         s,
@@ -495,9 +479,6 @@ fn field(
         out,
         limit,
         middle,
-    );
-    let Coerced::UpTo(e) = r else {
-        return r;
-    };
-    Coerced::UpTo(close(out, limit, from, TAG_PAIR, e))
+    )?;
+    Ok(close(out, limit, from, TAG_PAIR, e))
 }

@@ -22,7 +22,7 @@ use Rattle.query_subtrees.specs.Past.{leaves, past_of, Nested}
 use Rattle.query_subtrees.proofs.Hops.{leaves_before}
 use Rattle.query_subtrees.proofs.PastLaws.{past_after, past_child}
 use Rattle.value_definitions.specs.Definitions.{is_default, is_declared, told}
-use Rattle.value_definitions.specs.declared.Default.TheVariants.{Row as At, Nothing}
+use Rattle.std.proofs.Common.{Some, None}
 
 -- the search stands at row j
 pub record Seeks (p : Row → Bool) (v : ℕ) (rows : List ℕ) (n j : ℕ) : Type 0 where
@@ -101,8 +101,8 @@ declared_is v r h = rw (eq-eqb r.kind kind_type_reference h)
 
 -- the default of a definition
 module _ (s rows : List ℕ) (n v i : ℕ) (e : i ≡ first_at (is_default v) (rows_in rows n)) where
-  pub default_row_is : i < n → At i ≡ told (default_row (doc_of s rows n) v)
+  pub default_row_is : i < n → Some i ≡ told (default_row (doc_of s rows n) v)
   default_row_is h = rw (← e, rows_count rows n, lt-ltb i n h) refl
 
-  pub default_none : n ≤ i → Nothing ≡ told (default_row (doc_of s rows n) v)
+  pub default_none : n ≤ i → None ≡ told (default_row (doc_of s rows n) v)
   default_none h = rw (← e, rows_count rows n, le-ltb i n h) refl

@@ -18,13 +18,6 @@ use query_rows::{extra_of, kind_of, name_of, parent_of, size_of};
 use query_subtrees::past_of;
 use value_kinds::{Due, due_of};
 
-// The row of a definition's default, if it has one.
-#[derive(Clone, Copy)]
-pub enum Default {
-    Row(usize),
-    Nothing,
-}
-
 fn wide(x: u32) -> usize
     ensures { result ≡ x }
 {
@@ -62,16 +55,16 @@ fn first_default(s: &[u8], rows: &[u32], n: usize, past: &[u32], v: usize) -> us
     n
 }
 
-// The default of the definition at row v.
-pub fn default_of(s: &[u8], rows: &[u32], n: usize, past: &[u32], v: usize) -> Default
+// The row of the default of the definition at row v; None if it has none.
+pub fn default_of(s: &[u8], rows: &[u32], n: usize, past: &[u32], v: usize) -> Option<usize>
     requires { Treed s.now rows.now n past.now × (v < n) }
     ensures { result ≡ told (default_row (doc_of s.now rows.now n) v) }
 {
     let i = first_default(s, rows, n, past, v);
     if i < n {
-        return Default::Row(i);
+        return Some(i);
     }
-    Default::Nothing
+    None
 }
 
 // Is row j a type reference right below row v?

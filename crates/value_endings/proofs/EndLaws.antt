@@ -14,7 +14,8 @@ use Rattle.call_buffers.specs.Buffers.{cleared}
 use Rattle.paper_values.specs.ValueNumbers.{most_coerced}
 use Rattle.paper_values.specs.ValueCalls.{ends, yields}
 use Rattle.value_endings.specs.Endings.{written_of, end_number, end_shown, ending_of, Leaves}
-use Rattle.value_endings.specs.declared.Ended.{Ended}
+use Rattle.std.proofs.Common.{Result, Err}
+use Rattle.value_endings.specs.declared.NotCoerced.{NotCoerced}
 
 -- a value of its fixed size, cleared from a place on
 pub cleared_filled : (v : List ℕ) (at : ℕ) → length v ≡ most_coerced → at ≤ most_coerced → cleared at v ≡ filled most_coerced (take at v) v
@@ -25,13 +26,17 @@ cleared_filled v at l h =
     ∙ sym (ap (λ (z : List ℕ). (take at v ++ replicate (most_coerced - length (take at v)) 0) ++ z) (drop_of_length-le v {i = most_coerced} (omega (arith, l))) ∙ append-nil (take at v ++ replicate (most_coerced - length (take at v)) 0))
 
 -- by the variant that it is
-pub end_told : (e z : Ended) (old new : List ℕ) (n : ℕ) → e ≡ z → n ≡ end_number z → new ≡ filled report_size (end_number z ∷ end_shown z) old →
+pub end_told : (e z : Result ℕ NotCoerced) (old new : List ℕ) (n : ℕ) → e ≡ z → n ≡ end_number z → new ≡ filled report_size (end_number z ∷ end_shown z) old →
     (n ≡ end_number e) × (new ≡ filled report_size (end_number e ∷ end_shown e) old)
-end_told e z old new n q a b = subst (λ (y : Ended). (n ≡ end_number y) × (new ≡ filled report_size (end_number y ∷ end_shown y) old)) (sym q) (a, b)
+end_told e z old new n q a b = subst (λ (y : Result ℕ NotCoerced). (n ≡ end_number y) × (new ≡ filled report_size (end_number y ∷ end_shown y) old)) (sym q) (a, b)
+
+pub end_refused : (e : Result ℕ NotCoerced) (f z : NotCoerced) (old new : List ℕ) (n : ℕ) → e ≡ Err f → f ≡ z → n ≡ end_number (Err z) → new ≡ filled report_size (end_number (Err z) ∷ end_shown (Err z)) old →
+    (n ≡ end_number e) × (new ≡ filled report_size (end_number e ∷ end_shown e) old)
+end_refused e f z old new n p q = end_told e (Err z) old new n (p ∙ ap Err q)
 
 -- ---- the whole
 
-module _ (e : Ended) (value report value' report' : List ℕ) (l : length value ≡ most_coerced) (at : ℕ) (w : at ≡ written_of e) where
+module _ (e : Result ℕ NotCoerced) (value report value' report' : List ℕ) (l : length value ≡ most_coerced) (at : ℕ) (w : at ≡ written_of e) where
   by_test : (b : Bool) → leb (written_of e) most_coerced ≡ b → (n : ℕ) → Leaves (cond b (yields (take (written_of e) value)) (ends (end_number e) (end_shown e))) value report value' report' n →
       Leaves (ending_of e value) value report value' report' n
   by_test b q n h = subst (λ (z : Bool). Leaves (cond z (yields (take (written_of e) value)) (ends (end_number e) (end_shown e))) value report value' report' n) (sym q) h

@@ -9,8 +9,8 @@ use Rattle.paper_table.specs.TableNumbers.{tag_argument}
 use Rattle.paper_table.specs.Lists.{any_of, gather}
 use Rattle.paper_table.specs.Types.{Argument, Member, member_named, argument_named}
 use Rattle.table_members.specs.Members.{First, members_in, arguments_in, member_from, argument_from, NextMember}
-use Rattle.table_members.specs.declared.FieldFound.{FieldFound}
-use Rattle.table_members.specs.declared.FieldFound.TheVariants.{Found, Nothing}
+use Rattle.std.specs.Prelude.{Option, Some, None}
+use Rattle.table_fields.specs.declared.Field.{Field}
 use Rattle.table_book.specs.Book.{part}
 use Rattle.paper_values.specs.Values.{Name, Due}
 use Rattle.paper_values.specs.Kinds.{due_of, due_argument}
@@ -45,24 +45,24 @@ module _ (kind : ℕ) (t : List ℕ) where
   due_member start end x e = sym (ap (any_of (due_named x)) (by_members start end e) ∙ member_names x (members_in t start end))
 
   -- one by one
-  pub next_argument : (at end start stop : ℕ) → kind ≡ kind_argument → First at end start stop (arguments_in t at end) (argument_from t start stop) (arguments_in t stop end) → NextDue kind t at end (Found tag_argument start stop)
+  pub next_argument : (at end start stop : ℕ) → kind ≡ kind_argument → First at end start stop (arguments_in t at end) (argument_from t start stop) (arguments_in t stop end) → NextDue kind t at end (Some (record { tag = tag_argument; start = start; end = stop }))
   unfolding gather member_from
   next_argument at end start stop e f = record {
     lies = f.lies;
     all_are = by_arguments at end e ∙ ap dues_of_arguments f.all_are ∙ ap (λ (ds : List Due). due_argument (argument_from t start stop) ∷ ds) (sym (by_arguments stop end e));
   }
 
-  pub no_argument : (at end : ℕ) → kind ≡ kind_argument → arguments_in t at end ≡ [] → NextDue kind t at end Nothing
+  pub no_argument : (at end : ℕ) → kind ≡ kind_argument → arguments_in t at end ≡ [] → NextDue kind t at end None
   unfolding gather
   no_argument at end e f = by_arguments at end e ∙ ap dues_of_arguments f
 
-  pub next_member : (at end : ℕ) → (kind ≡ kind_argument → ⊥) → (x : FieldFound) → NextMember t at end x → NextDue kind t at end x
+  pub next_member : (at end : ℕ) → (kind ≡ kind_argument → ⊥) → (x : Option Field) → NextMember t at end x → NextDue kind t at end x
   unfolding gather
-  next_member at end e (Found tag start stop) f = record {
+  next_member at end e (Some it) f = record {
     lies = f.lies;
-    all_are = by_members at end e ∙ ap dues_of f.all_are ∙ ap (λ (ds : List Due). due_of (member_from t tag start stop) ∷ ds) (sym (by_members stop end e));
+    all_are = by_members at end e ∙ ap dues_of f.all_are ∙ ap (λ (ds : List Due). due_of (member_from t it.tag it.start it.end) ∷ ds) (sym (by_members it.end end e));
   }
-  next_member at end e Nothing f = by_members at end e ∙ ap dues_of f
+  next_member at end e None f = by_members at end e ∙ ap dues_of f
 
 -- a name whose place was read
 pub due_here : (ds : List Due) (s : List ℕ) (at at' l l' : ℕ) (b : Bool) → at ≡ at' → l ≡ l' → b ≡ any_of (due_named (part s at l)) ds → b ≡ any_of (due_named (part s at' l')) ds

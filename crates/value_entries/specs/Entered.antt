@@ -1,14 +1,13 @@
 -- Entries and items by their rows.
 -- Assumes nothing.
-use Rattle.std.specs.Prelude.{◌≡◌, Bool, ◌&&◌, cond, List, [], ◌∷◌, ℕ, zero, suc, ◌+◌, ◌<◌, eqb}
-use Rattle.std.proofs.Math.Option.{Option, none, some}
+use Rattle.std.specs.Prelude.{◌≡◌, Bool, ◌&&◌, cond, Option, Some, None, List, [], ◌∷◌, ℕ, zero, suc, ◌+◌, ◌<◌, eqb}
+use Rattle.std.proofs.Math.Option.{Option as Optional, none, some}
 use Rattle.paper.specs.Numbers.{kind_argument}
 use Rattle.paper.specs.Tokens.{same}
 use Rattle.paper_table.specs.Lists.{gather}
 use Rattle.paper_table.specs.Types.{Member}
 use Rattle.paper_query.specs.Constructs.{Doc, kind_of, parent_of, name_of}
-use Rattle.table_members.specs.declared.FieldFound.{FieldFound}
-use Rattle.table_members.specs.declared.FieldFound.TheVariants.{Found, Nothing}
+use Rattle.table_fields.specs.declared.Field.{Field}
 use Rattle.table_members.specs.Members.{First, members_in, arguments_in, member_from}
 use Rattle.query_rows.specs.Rowed.{rows_in, Rowed}
 use Rattle.query_subtrees.specs.Past.{Pasts, Nested}
@@ -55,11 +54,11 @@ abbrev pub due_named : Name → Due → Bool
 due_named x d = same x d.name
 
 -- the first that is due from `at` on was found there, by the tag and content of an argument or a member
-abbrev pub NextDue : ℕ → List ℕ → ℕ → ℕ → FieldFound → Type 0
-NextDue kind t at end (Found tag start stop) = First at end start stop (dues_by kind t at end) (due_of (member_from t tag start stop)) (dues_by kind t stop end)
-NextDue kind t at end Nothing = dues_by kind t at end ≡ []
+abbrev pub NextDue : ℕ → List ℕ → ℕ → ℕ → Option Field → Type 0
+NextDue kind t at end (Some f) = First at end f.start f.end (dues_by kind t at end) (due_of (member_from t f.tag f.start f.end)) (dues_by kind t f.end end)
+NextDue kind t at end None = dues_by kind t at end ≡ []
 
 -- the row r of this text, if there is one, or n
-abbrev pub Marks : ℕ → ℕ → Option At → ℕ → Type 0
+abbrev pub Marks : ℕ → ℕ → Optional At → ℕ → Type 0
 Marks n text none r = r ≡ n
 Marks n text (some e) r = (r < n) × (e ≡ record { text = text; row = r })

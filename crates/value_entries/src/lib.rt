@@ -19,7 +19,7 @@ ghost use Rattle.value_entries.specs.Entered.{Treed, is_entry, names_before, ent
 use paper::KIND_ARGUMENT;
 use paper_table::TAG_ARGUMENT;
 use query_subtrees::past_of;
-use table_members::FieldFound;
+use table_fields::Field;
 
 // The first row right below row h; n if there is none.
 pub fn first_child(s: &[u8], rows: &[u32], n: usize, past: &[u32], h: usize) -> usize
@@ -121,15 +121,7 @@ fn has_argument(t: &[u8], start: usize, end: usize, s: &[u8], at: usize, l: usiz
     requires { Bounds t.now start end × (at + l ≤ length s.now) }
     ensures { result ≡ any_of (argument_named (part s.now at l)) (arguments_in t.now start end) }
 {
-    let FieldFound::Found {
-        tag: _,
-        start: _,
-        end: _,
-    } = table_members::find_argument(t, start, end, s, at, l)
-    else {
-        return false;
-    };
-    true
+    table_members::find_argument(t, start, end, s, at, l).is_some()
 }
 
 // Does this content make due, for entries of this kind, something whose name is the l bytes of s from `at` on?
@@ -143,27 +135,20 @@ fn has_due(t: &[u8], start: usize, end: usize, kind: u32, s: &[u8], at: usize, l
     table_types::has_member(t, start, end, s, at, l)
 }
 
-// The next that this content makes due, from `at` on, for entries of this kind: an argument, or a member.
-pub fn next_due(t: &[u8], at: usize, end: usize, kind: u32) -> FieldFound
+// The next that this content makes due, from `at` on, for entries of this kind: an argument, or a member; none if there is no more.
+pub fn next_due(t: &[u8], at: usize, end: usize, kind: u32) -> Option<Field>
     requires { Bounds t.now at end }
     ensures { NextDue kind t.now at end result }
 {
     if kind != KIND_ARGUMENT {
         return table_members::next_member(t, at, end);
     }
-    let FieldFound::Found {
-        tag: _,
-        start: from,
-        end: to,
-    } = table_members::next_argument(t, at, end)
-    else {
-        return FieldFound::Nothing;
-    };
-    FieldFound::Found {
+    let f = table_members::next_argument(t, at, end)?;
+    Some(Field {
         tag: TAG_ARGUMENT,
-        start: from,
-        end: to,
-    }
+        start: f.start,
+        end: f.end,
+    })
 }
 
 // Is row c an entry of a name that nothing has that this content makes due?

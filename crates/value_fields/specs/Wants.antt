@@ -1,7 +1,7 @@
 -- What is asked of a table and a document, and what is answered of one of its rows.
 -- States: 01, "Coercion": "Another then coerces one field's arguments, as an input object of their definitions", "a row that is no field the operation reaches is 12".
 -- Assumes nothing.
-use Rattle.std.specs.Prelude.{◌≡◌, true, List, [], ◌∷◌, ℕ, ◌≤◌, ◌<◌, length}
+use Rattle.std.specs.Prelude.{◌≡◌, true, List, [], ◌∷◌, ℕ, ◌≤◌, ◌<◌, length, Option as Maybe, Some, None}
 use Rattle.paper.specs.Numbers.{kind_operation}
 use Rattle.paper_table.specs.TableNumbers.{most_table, tag_field}
 use Rattle.paper_table.specs.Lists.{all_of, gather}
@@ -19,8 +19,7 @@ use Rattle.query_types.specs.Coded.{type_coded}
 use Rattle.query_fields.specs.Kept.{Fielded}
 use Rattle.paper_values.specs.Kinds.{due_argument}
 use Rattle.paper_values.specs.DocumentDues.{argument_dues, ReachedField}
-use Rattle.value_fields.specs.declared.Wanted.{Wanted}
-use Rattle.value_fields.specs.declared.Wanted.TheVariants.{Field, NotReached}
+use Rattle.value_fields.specs.declared.Span.{Span}
 
 -- what an accepted table's fields have: few wrappers, and right members of objects and interfaces
 pub record Known (t : List ℕ) : Type 0 where
@@ -53,6 +52,6 @@ pub record Prepared (t book s rows : List ℕ) (n op : ℕ) : Type 0 where
   pub operation : (row_in rows n op).kind ≡ kind_operation
 
 -- the row is a field that the operation reaches, and there are its arguments; or it is none
-abbrev pub Wants : List ℕ → Doc → ℕ → ℕ → Wanted → Type 0
-Wants t d op row (Field start end) = ReachedField d op row × Holds t (field_at (table_of t) d row) start end
-Wants t d op row NotReached = ReachedField d op row → ⊥
+abbrev pub Wants : List ℕ → Doc → ℕ → ℕ → Maybe Span → Type 0
+Wants t d op row (Some c) = ReachedField d op row × Holds t (field_at (table_of t) d row) c.start c.end
+Wants t d op row None = ReachedField d op row → ⊥

@@ -11,7 +11,7 @@ ghost use Rattle.paper_query.specs.Reaching.{Reaches};
 ghost use Rattle.table_fields.specs.Fields.{Bounds};
 ghost use Rattle.table_book.specs.Book.{part};
 ghost use Rattle.table_types.specs.Booked.{Booked};
-ghost use Rattle.query_rows.specs.Rowed.{row_in, doc_of, Rowed, Decides, few_rows, room_of};
+ghost use Rattle.query_rows.specs.Rowed.{row_in, doc_of, Rowed, Decides, room_of};
 ghost use Rattle.query_links.specs.Links.{firsts_size, kinds_size};
 ghost use Rattle.query_spreads.specs.Owners.{Defines, Owned};
 ghost use Rattle.query_types.specs.Coded.{type_coded, TypeKnown};
@@ -24,20 +24,12 @@ use paper_table::TAG_UNION;
 use query_links::{FEW_ROWS, FIRSTS, KINDS, ROWS};
 use query_rows::{kind_of, name_of, parent_of, size_of};
 use query_types::NO_TYPE;
-use table_members::FieldFound;
-
-// Where the arguments of a field stand in the table: the content that they are in.
-#[derive(Clone, Copy)]
-pub enum Wanted {
-    Field { start: usize, end: usize },
-    NotReached,
-}
 
 // A part of the table: a member's content. Of a field that is no member it is empty, and begins at 0.
 #[derive(Clone, Copy)]
-struct Span {
-    start: usize,
-    end: usize,
+pub struct Span {
+    pub start: usize,
+    pub end: usize,
 }
 
 // Does the operation reach row i? By a search over spreads, where the definition of each row is known.
@@ -94,49 +86,19 @@ fn reach_with(
     )
 }
 
-// The same for few rows, in room for few.
-fn reach_few(s: &[u8], rows: &[u32], n: usize, op: usize, i: usize) -> bool
-    requires { Rowed s.now rows.now n × Defines (doc_of s.now rows.now n) op × (i < n) × (n ≤ few_rows) }
+// The same in lists of this length: few for few rows, so that little is cleared.
+fn reach_in<const ROOM: usize>(s: &[u8], rows: &[u32], n: usize, op: usize, i: usize) -> bool
+    requires { Rowed s.now rows.now n × Defines (doc_of s.now rows.now n) op × (i < n) × (ROOM ≡ room_of n) }
     ensures { Decides result (Reaches (doc_of s.now rows.now n) op i) }
 {
-    let mut owner = [0u16; FEW_ROWS];
+    let mut owner = [0u16; ROOM];
     let mut firstk = [0u16; KINDS];
-    let mut nextk = [0u16; FEW_ROWS];
-    let mut target = [0u16; FEW_ROWS];
-    let mut first = [0u16; FEW_ROWS];
-    let mut next = [0u16; FEW_ROWS];
-    let mut mark = [0u16; FEW_ROWS];
-    let mut stack = [0u16; FEW_ROWS];
-    reach_with(
-        s,
-        rows,
-        n,
-        &mut owner,
-        &mut firstk,
-        &mut nextk,
-        &mut target,
-        &mut first,
-        &mut next,
-        &mut mark,
-        &mut stack,
-        op,
-        i,
-    )
-}
-
-// The same for more rows than few.
-fn reach_many(s: &[u8], rows: &[u32], n: usize, op: usize, i: usize) -> bool
-    requires { Rowed s.now rows.now n × Defines (doc_of s.now rows.now n) op × (i < n) × (few_rows < n) }
-    ensures { Decides result (Reaches (doc_of s.now rows.now n) op i) }
-{
-    let mut owner = [0u16; ROWS];
-    let mut firstk = [0u16; KINDS];
-    let mut nextk = [0u16; ROWS];
-    let mut target = [0u16; ROWS];
-    let mut first = [0u16; ROWS];
-    let mut next = [0u16; ROWS];
-    let mut mark = [0u16; ROWS];
-    let mut stack = [0u16; ROWS];
+    let mut nextk = [0u16; ROOM];
+    let mut target = [0u16; ROOM];
+    let mut first = [0u16; ROOM];
+    let mut next = [0u16; ROOM];
+    let mut mark = [0u16; ROOM];
+    let mut stack = [0u16; ROOM];
     reach_with(
         s,
         rows,
@@ -160,9 +122,9 @@ fn is_reached(s: &[u8], rows: &[u32], n: usize, op: usize, i: usize) -> bool
     ensures { Decides result (Reaches (doc_of s.now rows.now n) op i) }
 {
     if n <= FEW_ROWS {
-        return reach_few(s, rows, n, op, i);
+        return reach_in::<FEW_ROWS>(s, rows, n, op, i);
     }
-    reach_many(s, rows, n, op, i)
+    reach_in::<ROWS>(s, rows, n, op, i)
 }
 
 // The content of the field of a name, of the object or interface that is definition k; a union has none.
@@ -173,7 +135,7 @@ fn find_content(t: &[u8], book: &[u32], k: usize, s: &[u8], at: usize, n: usize)
     if table_book::kind_of(book, k) == TAG_UNION as u32 {
         return Span { start: 0, end: 0 };
     }
-    let FieldFound::Found { tag: _, start, end } = table_members::find_member(
+    let Some(f) = table_members::find_member(
         t,
         table_book::start_of(book, k),
         table_book::end_of(book, k),
@@ -184,8 +146,8 @@ fn find_content(t: &[u8], book: &[u32], k: usize, s: &[u8], at: usize, n: usize)
         return Span { start: 0, end: 0 };
     };
     Span {
-        start: start,
-        end: end,
+        start: f.start,
+        end: f.end,
     }
 }
 
@@ -300,23 +262,20 @@ fn content_with(
     content_at(t, book, s, rows, n, i, above)
 }
 
-// The same for few rows, in room for few.
-fn content_few(t: &[u8], book: &[u32], s: &[u8], rows: &[u32], n: usize, i: usize) -> Span
-    requires { Known t.now × Booked t.now book.now × Rowed s.now rows.now n × (n ≤ few_rows) }
+// The same in lists of this length: few for few rows, so that little is cleared.
+fn content_sized<const ROOM: usize>(
+    t: &[u8],
+    book: &[u32],
+    s: &[u8],
+    rows: &[u32],
+    n: usize,
+    i: usize,
+) -> Span
+    requires { Known t.now × Booked t.now book.now × Rowed s.now rows.now n × (ROOM ≡ room_of n) }
     ensures { Holds t.now (field_at (table_of t.now) (doc_of s.now rows.now n) i) result.start result.end }
 {
     let mut first = [0u16; FIRSTS];
-    let mut next = [0u16; FEW_ROWS];
-    content_with(t, book, s, rows, n, &mut first, &mut next, i)
-}
-
-// The same for more rows than few.
-fn content_many(t: &[u8], book: &[u32], s: &[u8], rows: &[u32], n: usize, i: usize) -> Span
-    requires { Known t.now × Booked t.now book.now × Rowed s.now rows.now n × (few_rows < n) }
-    ensures { Holds t.now (field_at (table_of t.now) (doc_of s.now rows.now n) i) result.start result.end }
-{
-    let mut first = [0u16; FIRSTS];
-    let mut next = [0u16; ROWS];
+    let mut next = [0u16; ROOM];
     content_with(t, book, s, rows, n, &mut first, &mut next, i)
 }
 
@@ -326,12 +285,13 @@ fn content_of(t: &[u8], book: &[u32], s: &[u8], rows: &[u32], n: usize, i: usize
     ensures { Holds t.now (field_at (table_of t.now) (doc_of s.now rows.now n) i) result.start result.end }
 {
     if n <= FEW_ROWS {
-        return content_few(t, book, s, rows, n, i);
+        return content_sized::<FEW_ROWS>(t, book, s, rows, n, i);
     }
-    content_many(t, book, s, rows, n, i)
+    content_sized::<ROWS>(t, book, s, rows, n, i)
 }
 
-// Whether a row, of any number, is a field that the operation of row op reaches; and if so, where its arguments stand.
+// Where the arguments of the field of a row, of any number, stand in the table: the content that they are in.
+// None where the row is no field that the operation of row op reaches.
 pub fn find_wanted(
     t: &[u8],
     book: &[u32],
@@ -340,19 +300,15 @@ pub fn find_wanted(
     n: usize,
     op: usize,
     row: usize,
-) -> Wanted
+) -> Option<Span>
     requires { Prepared t.now book.now s.now rows.now n op }
     ensures { Wants t.now (doc_of s.now rows.now n) op row result }
 {
     if kind_of(rows, n, row) != KIND_FIELD {
-        return Wanted::NotReached;
+        return None;
     }
     if !is_reached(s, rows, n, op, row) {
-        return Wanted::NotReached;
+        return None;
     }
-    let c = content_of(t, book, s, rows, n, row);
-    Wanted::Field {
-        start: c.start,
-        end: c.end,
-    }
+    Some(content_of(t, book, s, rows, n, row))
 }

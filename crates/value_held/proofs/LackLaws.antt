@@ -12,8 +12,8 @@ use Rattle.paper_values.specs.ValueNumbers.{reason_missing}
 use Rattle.paper_values.specs.Values.{Due, no_pairs, Got, No}
 use Rattle.paper_values.specs.Computed.{missing_due}
 use Rattle.value_writing.proofs.EncodedLaws.{no_pairs_put}
-use Rattle.value_kinds.specs.declared.Coerced.TheVariants.{UpTo, Refused}
-use Rattle.value_kinds.specs.Dues.{placed_at}
+use Rattle.std.proofs.Common.{Ok}
+use Rattle.value_kinds.specs.Dues.{placed_at, refused}
 use Rattle.value_held.specs.Given.{ToldPairs}
 use mathlib.Core.Logic.{◌⊎◌, inl, inr}
 use lib.Dec.{eqb}
@@ -32,11 +32,11 @@ lack_not (list_of r) e = refl
 lack_not (non_null r) e = absurd (e (omega arith))
 
 module _ (text limit from h w : ℕ) (δ : Due) (p : List ℕ) (e : pack_of δ.type ≡ w) where
-  pub lack_refused : w % 4 ≡ 2 → ToldPairs text limit (missing_due (placed_at text h) δ (Got no_pairs)) from p p (Refused h reason_missing)
-  lack_refused q = subst (λ (b : Bool). ToldPairs text limit (cond b (No (placed_at text h) reason_missing) (Got no_pairs)) from p p (Refused h reason_missing)) (sym (lack_is δ.type (ap (λ (x : ℕ). x % 4) e ∙ q))) (refl, refl)
+  pub lack_refused : w % 4 ≡ 2 → ToldPairs text limit (missing_due (placed_at text h) δ (Got no_pairs)) from p p (refused h reason_missing)
+  lack_refused q = subst (λ (b : Bool). ToldPairs text limit (cond b (No (placed_at text h) reason_missing) (Got no_pairs)) from p p (refused h reason_missing)) (sym (lack_is δ.type (ap (λ (x : ℕ). x % 4) e ∙ q))) (refl, refl)
 
-  pub lack_nothing : (w % 4 ≡ 2 → ⊥) → from ≤ limit + 1 → ToldPairs text limit (missing_due (placed_at text h) δ (Got no_pairs)) from p p (UpTo from)
-  lack_nothing q l = subst (λ (b : Bool). ToldPairs text limit (cond b (No (placed_at text h) reason_missing) (Got no_pairs)) from p p (UpTo from)) (sym (lack_not δ.type (λ (z : pack_of δ.type % 4 ≡ 2). q (ap (λ (x : ℕ). x % 4) (sym e) ∙ z))))
+  pub lack_nothing : (w % 4 ≡ 2 → ⊥) → from ≤ limit + 1 → ToldPairs text limit (missing_due (placed_at text h) δ (Got no_pairs)) from p p (Ok from)
+  lack_nothing q l = subst (λ (b : Bool). ToldPairs text limit (cond b (No (placed_at text h) reason_missing) (Got no_pairs)) from p p (Ok from)) (sym (lack_not δ.type (λ (z : pack_of δ.type % 4 ≡ 2). q (ap (λ (x : ℕ). x % 4) (sym e) ∙ z))))
       (from, refl, no_pairs_put limit from p l)
 
 -- the value of a row is null or a variable, or it is neither

@@ -1,6 +1,6 @@
 -- What is ready to be coerced; the values of variables, and the entries that are given where these have them.
 -- Assumes nothing.
-use Rattle.std.specs.Prelude.{◌≡◌, Bool, true, false, ◌&&◌, List, ℕ, zero, suc, ◌+◌, ◌-◌, eqb}
+use Rattle.std.specs.Prelude.{◌≡◌, Bool, true, false, ◌&&◌, List, ℕ, zero, suc, ◌+◌, ◌-◌, eqb, Result, Ok}
 use Rattle.std.proofs.Math.Option.{Option, none, some}
 use Rattle.paper.specs.Numbers.{kind_variable}
 use Rattle.paper_table.specs.References.{Ref}
@@ -14,8 +14,8 @@ use Rattle.paper_values.specs.Computed.{Given, coerce, givens}
 use Rattle.paper_values.specs.Encoding.{encode_pairs}
 use Rattle.paper_values.specs.RowValues.{entries_from, value_at}
 use Rattle.value_writing.specs.Writing.{Put}
-use Rattle.value_kinds.specs.declared.Coerced.{Coerced}
-use Rattle.value_kinds.specs.declared.Coerced.TheVariants.{UpTo, Refused}
+use Rattle.value_kinds.specs.Dues.{refused}
+use Rattle.value_kinds.specs.declared.RefusedRow.{RefusedRow}
 use Rattle.value_entries.specs.Entered.{Treed}
 use Rattle.value_tokens.specs.Spans.{Spanned}
 
@@ -56,6 +56,6 @@ abbrev pub givens_at : List ℕ → Vars → ℕ → Doc → ℕ → ℕ → ℕ
 givens_at t vars text d n k kind h = givens (kinds_in t) vars (entries_at text d n k kind h)
 
 -- what a writer of pairs answers
-abbrev pub ToldPairs : ℕ → ℕ → Out Pairs → ℕ → List ℕ → List ℕ → Coerced → Type 0
-ToldPairs text limit (Got ps) from p p' c = (e : ℕ) × (c ≡ UpTo e) × Put limit (encode_pairs ps) from p p' e
-ToldPairs text limit (No i why) from p p' c = (i.text ≡ text) × (c ≡ Refused i.row why)
+abbrev pub ToldPairs : ℕ → ℕ → Out Pairs → ℕ → List ℕ → List ℕ → Result ℕ RefusedRow → Type 0
+ToldPairs text limit (Got ps) from p p' c = (e : ℕ) × (c ≡ Ok e) × Put limit (encode_pairs ps) from p p' e
+ToldPairs text limit (No i why) from p p' c = (i.text ≡ text) × (c ≡ refused i.row why)

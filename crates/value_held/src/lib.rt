@@ -21,7 +21,7 @@ ghost use Rattle.value_held.specs.Holding.{Names, Knows, Gives, held_from};
 use paper::{KIND_NULL, KIND_VARIABLE, ROW_SIZE, WRAP_BASE, WRAP_NON_NULL};
 use paper_values::REASON_MISSING;
 use value_entries::{find_entry, first_repeated, first_unknown};
-use value_kinds::{Coerced, Due};
+use value_kinds::{Due, RefusedRow};
 
 // The numbers held of a variable: where its name starts, and its size; the text of its value, and the value's row there; sort, number and
 // wrappers of its type.
@@ -65,16 +65,14 @@ fn find_held(s: &[u8], held: &[u32], many: usize, at: usize, l: usize) -> usize
     requires { Names s.now held.now many × (at + l ≤ length s.now) }
     ensures { result ≡ held_from s.now held.now (part s.now at l) many 0 }
 {
-    let mut j = 0;
-    while j < many {
+    for j in 0..many {
         let a = cell_of(held, many, j, HELD_NAME) as usize;
         let size = cell_of(held, many, j, HELD_SIZE) as usize;
         if table_book::is_text(s, at, l, s, a, size) {
             return j;
         }
-        j += 1;
     }
-    j
+    many
 }
 
 // The variable that row i names; as many as there are if it has no value.
@@ -172,18 +170,18 @@ pub fn find_alien(
     first_unknown(t, start, end, s, rows, n, past, h, kind)
 }
 
-// Nothing is given for what is due in row h.
-pub fn lacking(limit: usize, from: usize, h: usize, wrappers: u32) -> Coerced
+// Nothing is given for what is due in row h: nothing is written, or Err where it is required.
+pub fn lacking(limit: usize, from: usize, h: usize, wrappers: u32) -> Result<usize, RefusedRow>
     requires { from ≤ limit + 1 }
     ensures { (text : ℕ) (what : Dues) (p : List ℕ) → pack_of what.type ≡ wrappers → ToldPairs text limit (missing_due (placed_at text h) what (Got no_pairs)) from p p result }
 {
     if wrappers % WRAP_BASE == WRAP_NON_NULL {
-        return Coerced::Refused {
+        return Err(RefusedRow {
             row: h,
             why: REASON_MISSING,
-        };
+        });
     }
-    Coerced::UpTo(from)
+    Ok(from)
 }
 
 // Is the constant of this row no more than null? A variable has no value in a constant.

@@ -4,6 +4,7 @@ use mathlib.Core.List.{List, []}
 use Prim.Native.Nat.{ℕ, zero, suc, ◌+◌, ◌-◌, ◌*◌, ◌≤◌, ◌<◌}
 use native.Mathlib.Omega.{arith}
 use lib.ListN.{length}
+use Rattle.std.proofs.Common.{Result, Ok, Err}
 use Rattle.table_fields.specs.Wrappers.{pack_limit}
 use Rattle.paper_values.specs.ValueNumbers.{tag_list}
 use Rattle.paper_values.specs.Values.{At, Tree, Many, no_more, also, Out, Got, No, and_then}
@@ -11,8 +12,7 @@ use Rattle.paper_values.specs.Encoding.{encode}
 use Rattle.value_writing.specs.Writing.{most_limit, place_of, Room, Closed, Behind}
 use Rattle.value_writing.proofs.PlaceLaws.{place_in, place_add, place_back, place_least, put_none, put_place}
 use Rattle.value_writing.proofs.EncodedLaws.{no_items_put, item_put, list_put}
-use Rattle.value_kinds.specs.declared.Coerced.{Coerced}
-use Rattle.value_kinds.specs.declared.Coerced.TheVariants.{UpTo, Refused}
+use Rattle.value_kinds.specs.declared.RefusedRow.{RefusedRow}
 use Rattle.value_kinds.specs.Dues.{Told}
 use Rattle.value_ones.specs.Ones.{ones, Inside}
 use Rattle.value_ones.proofs.ToldLaws.{told_up, told_no}
@@ -32,18 +32,18 @@ module _ (limit from : ℕ) where
 
   module _ (text : ℕ) (p : List ℕ) where
     -- a list of one around what was told
-    pub one_more : (o : Out Tree) (first at here e : ℕ) (d d' : List ℕ) → first ≡ place_of limit (here + 3) → Told text limit o first p d (UpTo at) → Closed limit here tag_list at d d' e →
-        Told text limit (and_then o (λ x. Got (Many (also x no_more)))) here p d' (UpTo e)
+    pub one_more : (o : Out Tree) (first at here e : ℕ) (d d' : List ℕ) → first ≡ place_of limit (here + 3) → Told text limit o first p d (Ok at) → Closed limit here tag_list at d d' e →
+        Told text limit (and_then o (λ x. Got (Many (also x no_more)))) here p d' (Ok e)
     one_more o first at here e d d' f g m =
-        let z = told_up text limit first p d (UpTo at) o at g refl in
-        subst (λ (y : Out Tree). Told text limit y here p d' (UpTo e)) (sym (ap (λ (y : Out Tree). and_then y (λ x. Got (Many (also x no_more)))) z.1))
+        let z = told_up text limit first p d (Ok at) o at g refl in
+        subst (λ (y : Out Tree). Told text limit y here p d' (Ok e)) (sym (ap (λ (y : Out Tree). and_then y (λ x. Got (Many (also x no_more)))) z.1))
         (e, refl, list_put limit (also z.0 no_more) here first at e p d d' f (item_put limit no_more z.0 first first at p p d (no_items_put limit first p (place_least limit (here + 3) first f)) z.2) m)
 
-    pub ones_more : (o : Out Tree) (m j at e : ℕ) (d d' : List ℕ) → 0 < j → j ≤ m → Told text limit (ones (m - j) o) (head_at j) p d (UpTo at) → Closed limit (head_at (j - 1)) tag_list at d d' e →
-        Told text limit (ones (m - (j - 1)) o) (head_at (j - 1)) p d' (UpTo e)
+    pub ones_more : (o : Out Tree) (m j at e : ℕ) (d d' : List ℕ) → 0 < j → j ≤ m → Told text limit (ones (m - j) o) (head_at j) p d (Ok at) → Closed limit (head_at (j - 1)) tag_list at d d' e →
+        Told text limit (ones (m - (j - 1)) o) (head_at (j - 1)) p d' (Ok e)
     ones_more o m j at e d d' h l g c =
         let z : m - (j - 1) ≡ suc (m - j) = omega arith in let y : j ≡ j - 1 + 1 = omega arith in
-        subst (λ (x : ℕ). Told text limit (ones x o) (head_at (j - 1)) p d' (UpTo e)) (sym z)
+        subst (λ (x : ℕ). Told text limit (ones x o) (head_at (j - 1)) p d' (Ok e)) (sym z)
         (one_more (ones (m - j) o) (head_at j) at (head_at (j - 1)) e d d' (ap head_at y ∙ head_next (j - 1)) g c)
 
   pub head_behind : (j at : ℕ) (d : List ℕ) → 0 < j → limit ≤ most_limit → at ≤ limit + 1 → (at ≤ limit → from + 3 * j ≤ at) → length d ≡ limit → Behind limit (head_at (j - 1)) at d
@@ -56,21 +56,21 @@ module _ (limit from : ℕ) where
 
 -- ---- around the loop
 
-module _ (text limit from m : ℕ) (o : Out Tree) (p d : List ℕ) (x : Coerced) (first : ℕ) (f : first ≡ place_of limit (from + 3 * m)) (g : Told text limit o first p d x) where
+module _ (text limit from m : ℕ) (o : Out Tree) (p d : List ℕ) (x : Result ℕ RefusedRow) (first : ℕ) (f : first ≡ place_of limit (from + 3 * m)) (g : Told text limit o first p d x) where
   -- a refusal inside is one of the whole
   ones_no : (m : ℕ) (i : At) (w : ℕ) → ones m (No i w) ≡ No i w
   ones_no zero i w = refl
   ones_no (suc m) i w = ap (λ (o : Out Tree). and_then o (λ x. Got (Many (also x no_more)))) (ones_no m i w)
 
-  pub ones_stop : (row why : ℕ) → x ≡ Refused row why → Told text limit (ones m o) from p d x
-  ones_stop row why u =
-      let z = told_no text limit first p d x o row why g u in
+  pub ones_stop : (e : RefusedRow) → x ≡ Err e → Told text limit (ones m o) from p d x
+  ones_stop e u =
+      let z = told_no text limit first p d x o e g u in
       subst (λ (y : Out Tree). Told text limit y from p d x) (sym (ap (ones m) z.2 ∙ ones_no m z.0 z.1)) (z.3, z.4)
 
-  pub ones_told : (at : ℕ) → x ≡ UpTo at → Told text limit o (place_of limit (from + 3 * m)) p d (UpTo at)
-  ones_told at u = subst (λ (y : ℕ). Told text limit o y p d (UpTo at)) f (subst (λ (y : Coerced). Told text limit o first p d y) u g)
+  pub ones_told : (at : ℕ) → x ≡ Ok at → Told text limit o (place_of limit (from + 3 * m)) p d (Ok at)
+  ones_told at u = subst (λ (y : ℕ). Told text limit o y p d (Ok at)) f (subst (λ (y : Result ℕ RefusedRow). Told text limit o first p d y) u g)
 
-  pub ones_inside : (at : ℕ) → x ≡ UpTo at → m < pack_limit → Room limit from p → length d ≡ length p → Inside limit from m at d
+  pub ones_inside : (at : ℕ) → x ≡ Ok at → m < pack_limit → Room limit from p → length d ≡ length p → Inside limit from m at d
   ones_inside at u few r s =
       let z = told_up text limit first p d x o at g u in record {
         least = r.least;

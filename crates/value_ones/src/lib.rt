@@ -1,13 +1,12 @@
 // The wrappers of a type: how many are lists, and those without Non-Null outside; and the heads of lists of one, each in the other.
 #![tactic(auto)]
 
-ghost use Rattle.std.specs.Prelude.{◌≡◌, List, ℕ, ◌+◌, ◌*◌, ◌%◌, ◌≤◌, ◌<◌};
+ghost use Rattle.std.specs.Prelude.{◌≡◌, List, ℕ, ◌+◌, ◌*◌, ◌%◌, ◌≤◌, ◌<◌, Ok};
 ghost use Rattle.paper_table.specs.References.{Ref};
 ghost use Rattle.table_fields.specs.Wrappers.{pack_of, pack_limit};
 ghost use Rattle.paper_values.specs.Values.{Tree, Out};
 ghost use Rattle.value_writing.specs.Writing.{place_of};
 ghost use Rattle.value_kinds.specs.Dues.{Told};
-ghost use Rattle.value_kinds.specs.declared.Coerced.TheVariants.{UpTo};
 ghost use Rattle.value_ones.specs.Ones.{Inside, lists_of, nullable_of, ones};
 
 use paper::{WRAP_BASE, WRAP_NON_NULL};
@@ -42,12 +41,10 @@ pub fn nullable(wrappers: u32) -> u32
 // Puts the heads of m lists of one, each in the other, before what was written behind their bytes from `from` on, up to `at`.
 pub fn close_ones(out: &mut [u8], limit: usize, from: usize, m: usize, at: usize) -> usize
     requires { Inside limit from m at out.old }
-    ensures { (text : ℕ) (o : Out Tree) (p : List ℕ) → Told text limit o (place_of limit (from + 3 * m)) p out.old (UpTo at) → Told text limit (ones m o) from p out.new (UpTo result) }
+    ensures { (text : ℕ) (o : Out Tree) (p : List ℕ) → Told text limit o (place_of limit (from + 3 * m)) p out.old (Ok at) → Told text limit (ones m o) from p out.new (Ok result) }
 {
     let mut e = at;
-    let mut j = m;
-    while 0 < j {
-        j -= 1;
+    for j in (0..m).rev() {
         let head = place(limit, from, 3 * j);
         e = close(out, limit, head, TAG_LIST, e);
     }

@@ -1,6 +1,6 @@
 -- What is coerced, and what comes of it, as the code's functions ask and answer it.
 -- Assumes nothing.
-use Rattle.std.specs.Prelude.{◌≡◌, cond, List, [], ◌∷◌, ℕ, ◌+◌, ◌≤◌, length, take, leb}
+use Rattle.std.specs.Prelude.{◌≡◌, cond, List, [], ◌∷◌, ℕ, ◌+◌, ◌≤◌, length, take, leb, Result, Ok, Err}
 use Rattle.paper.specs.Numbers.{most_variables, input_document}
 use Rattle.paper_table.specs.Types.{table_of}
 use Rattle.paper_query.specs.Constructs.{Doc, count}
@@ -16,8 +16,7 @@ use Rattle.value_held.specs.Given.{kinds_in}
 use Rattle.value_fields.specs.Wants.{Holds}
 use Rattle.value_results.specs.declared.Task.{Task}
 use Rattle.value_results.specs.declared.Task.TheVariants.{OfOperation, OfField}
-use Rattle.value_results.specs.declared.Outcome.{Outcome}
-use Rattle.value_results.specs.declared.Outcome.TheVariants.{Refused, UpTo}
+use Rattle.value_results.specs.declared.RefusedValue.{RefusedValue}
 
 -- ---- results
 
@@ -40,21 +39,21 @@ result_of t d op d1 OfOperation = as_object (coerced_variables t d op d1)
 result_of t d op d1 (OfField row start end) = and_then (coerced_variables t d op d1) (argued t d row)
 
 -- up to where a value is written; one past its end where there is none
-abbrev pub written_of : Outcome → ℕ
-written_of (UpTo at) = at
-written_of (Refused text row why) = most_coerced + 1
+abbrev pub written_of : Result ℕ RefusedValue → ℕ
+written_of (Ok at) = at
+written_of (Err f) = most_coerced + 1
 
 -- the number of a refusal, and what it shows; a value that is not refused is too long
-abbrev pub refusal_of : Outcome → Ending
-refusal_of (UpTo at) = ends refuse_too_long []
-refusal_of (Refused text row why) = ends refuse_value (text ∷ row ∷ why ∷ [])
+abbrev pub refusal_of : Result ℕ RefusedValue → Ending
+refusal_of (Ok at) = ends refuse_too_long []
+refusal_of (Err f) = ends refuse_value (f.text ∷ f.row ∷ f.why ∷ [])
 
 -- how the call ends by it, where these bytes stand in the output
-abbrev pub outcome_of : Outcome → List ℕ → Ending
+abbrev pub outcome_of : Result ℕ RefusedValue → List ℕ → Ending
 outcome_of r v = cond (leb (written_of r) most_coerced) (yields (take (written_of r) v)) (refusal_of r)
 
 -- the code comes to this result, where these bytes stand in the output
-pub record Gives (o : Out Tree) (v : List ℕ) (r : Outcome) : Type 0 where
+pub record Gives (o : Out Tree) (v : List ℕ) (r : Result ℕ RefusedValue) : Type 0 where
   pub same : ended o ≡ outcome_of r v
 
 -- ---- what is asked

@@ -11,14 +11,13 @@ ghost use Rattle.paper_values.specs.ValueCalls.{as_object};
 ghost use Rattle.value_held.specs.Given.{Ready};
 ghost use Rattle.value_held.specs.Holding.{Holds, Holding};
 ghost use Rattle.value_variables.specs.Variables.{Asked};
-ghost use Rattle.value_results.specs.declared.Outcome.TheVariants.{Refused};
 ghost use Rattle.value_results.specs.Results.{Few, argued, coerced_variables, result_of, Gives, Serves, FieldServes};
 
 use paper::{INPUT_DOCUMENT, KIND_ARGUMENT};
 use paper_values::{MOST_COERCED, TAG_INPUT};
 use value_coerce::{ALL_LEVELS, object};
-use value_kinds::Coerced;
-use value_variables::{Variables, coerce_variables};
+use value_kinds::RefusedRow;
+use value_variables::{RefusedAt, coerce_variables};
 use value_writing::{close, place};
 
 // What is to be coerced: an operation's variables, or the arguments of the field of a row, whose definitions are in this content.
@@ -32,22 +31,23 @@ pub enum Task {
     },
 }
 
-// What comes of it: a value up to this place, past the output's end where it is too long, or a refused value.
+// A value that is refused, by text and row, and the reason why, as a report shows them.
 #[derive(Clone, Copy)]
-pub enum Outcome {
-    UpTo(usize),
-    Refused { text: u32, row: u32, why: u32 },
+pub struct RefusedValue {
+    pub text: u32,
+    pub row: u32,
+    pub why: u32,
 }
 
 // A refused value.
-fn refused(text: u32, row: usize, why: u32) -> Outcome
+fn refused(text: u32, row: usize, why: u32) -> RefusedValue
     requires { row ≤ most_rows }
-    ensures { result ≡ Refused text row why }
+    ensures { result ≡ record { text = text; row = row; why = why } }
 {
-    Outcome::Refused {
-        text: text,
+    RefusedValue {
+        text,
         row: row as u32,
-        why: why,
+        why,
     }
 }
 
@@ -66,7 +66,7 @@ fn put_variables(
     past1: &[u32],
     held: &mut [u32],
     out: &mut [u8],
-) -> Outcome
+) -> Result<usize, RefusedValue>
     requires { Asked t.now book.now s.now rows.now n past.now s1.now rows1.now n1 past1.now × Few (doc_of s.now rows.now n) op held.old out.old }
     ensures { Gives (as_object (coerced_variables t.now (doc_of s.now rows.now n) op (doc_of s1.now rows1.now n1))) out.new result }
 {
@@ -89,8 +89,8 @@ fn put_variables(
         from,
     );
     match r {
-        Variables::Done { at, .. } => Outcome::UpTo(close(out, MOST_COERCED, 0, TAG_INPUT, at)),
-        Variables::Refused { text, row, why } => refused(text, row, why),
+        Ok(w) => Ok(close(out, MOST_COERCED, 0, TAG_INPUT, w.at)),
+        Err(RefusedAt { text, row, why }) => Err(refused(text, row, why)),
     }
 }
 
@@ -112,7 +112,7 @@ fn put_held(
     held: &[u32],
     many: usize,
     out: &mut [u8],
-) -> Outcome
+) -> Result<usize, RefusedValue>
     requires { Ready t.now book.now s.now rows.now n past.now × FieldServes t.now (doc_of s.now rows.now n) i start end × Holding t.now book.now s.now rows.now n s1.now rows1.now n1 past1.now held.now many × (length out.old ≡ most_coerced) }
     ensures { (ps : Pairs) → Holds t.now book.now s.now rows.now n s1.now rows1.now n1 held.now 0 many ps →
         Gives (argued t.now (doc_of s.now rows.now n) i ps) out.new result }
@@ -140,8 +140,8 @@ fn put_held(
         0,
     );
     match c {
-        Coerced::UpTo(e) => Outcome::UpTo(e),
-        Coerced::Refused { row, why } => refused(INPUT_DOCUMENT, row, why),
+        Ok(e) => Ok(e),
+        Err(RefusedRow { row, why }) => Err(refused(INPUT_DOCUMENT, row, why)),
     }
 }
 
@@ -163,7 +163,7 @@ fn put_arguments(
     past1: &[u32],
     held: &mut [u32],
     out: &mut [u8],
-) -> Outcome
+) -> Result<usize, RefusedValue>
     requires { Asked t.now book.now s.now rows.now n past.now s1.now rows1.now n1 past1.now × Few (doc_of s.now rows.now n) op held.old out.old × FieldServes t.now (doc_of s.now rows.now n) i start end }
     ensures { Gives (and_then (coerced_variables t.now (doc_of s.now rows.now n) op (doc_of s1.now rows1.now n1)) (argued t.now (doc_of s.now rows.now n) i)) out.new result }
 {
@@ -185,14 +185,15 @@ fn put_arguments(
         MOST_COERCED + 1,
     );
     match r {
-        Variables::Done { many, .. } => put_held(
-            t, book, s, rows, n, past, i, start, end, s1, rows1, n1, past1, held, many, out,
+        Ok(w) => put_held(
+            t, book, s, rows, n, past, i, start, end, s1, rows1, n1, past1, held, w.many, out,
         ),
-        Variables::Refused { text, row, why } => refused(text, row, why),
+        Err(RefusedAt { text, row, why }) => Err(refused(text, row, why)),
     }
 }
 
-// Does the task, where the row past each row's subtree is known in both texts.
+// Does the task, where the row past each row's subtree is known in both texts. A value up to this place, past the output's end where it is
+// too long, or Err with the value that is refused.
 pub fn put_task(
     t: &[u8],
     book: &[u32],
@@ -208,7 +209,7 @@ pub fn put_task(
     past1: &[u32],
     held: &mut [u32],
     out: &mut [u8],
-) -> Outcome
+) -> Result<usize, RefusedValue>
     requires { Asked t.now book.now s.now rows.now n past.now s1.now rows1.now n1 past1.now × Few (doc_of s.now rows.now n) op held.old out.old × Serves t.now (doc_of s.now rows.now n) task }
     ensures { Gives (result_of t.now (doc_of s.now rows.now n) op (doc_of s1.now rows1.now n1) task) out.new result }
 {

@@ -6,6 +6,7 @@ use mathlib.Core.List.{List}
 use Prim.Native.Nat.{ℕ, ◌+◌, ◌-◌, ◌≤◌, ◌<◌}
 use native.Mathlib.Omega.{arith}
 use native.Mathlib.Decide.{dec_lt}
+use Rattle.std.proofs.Common.{Result, Err}
 use lib.ListN.{length, take, drop}
 use lib.Dec.{eqb, ltb}
 use borrow.Author.Tests.{eq-eqb, ne_eqb, eqb-true, eqb-false, lt-ltb, le-ltb, ltb-false}
@@ -28,10 +29,7 @@ use Rattle.paper_values.specs.Coercion.{in_range, text_at, enum_value_at, intege
 use Rattle.paper_values.specs.Computed.{object_at, coerce}
 use Rattle.paper_values.specs.RowValues.{placed, token_at, items_from, entries_from, value_by}
 use Rattle.value_leaves.specs.Leaves.{sort_of, Leaf}
-use Rattle.value_leaves.specs.declared.Wrote.{Wrote}
-use Rattle.value_leaves.specs.declared.Wrote.TheVariants.{Refused}
-use Rattle.value_kinds.specs.declared.Coerced.TheVariants.{Refused as TheRefused}
-use Rattle.value_kinds.specs.Dues.{Sorted, told, Told}
+use Rattle.value_kinds.specs.Dues.{Sorted, refused, told, Told}
 use Rattle.value_tokens.specs.Spans.{Spanned, is_object_kind, takes_fields, Tokened}
 
 -- ---- rows
@@ -197,9 +195,9 @@ here_enum i n Own = refl
 here_enum i n (Enum ms) = here_member i n ms
 here_enum i n (Input ds) = refl
 
-leaf_told : (text limit from i : ℕ) (d : Doc) (p p' : List ℕ) (r : Wrote) (o : Out Tree) → Here (placed text d i) o → Leaf limit o from p p' r → Told text limit o from p p' (told i r)
+leaf_told : (text limit from i : ℕ) (d : Doc) (p p' : List ℕ) (r : Result ℕ ℕ) (o : Out Tree) → Here (placed text d i) o → Leaf limit o from p p' r → Told text limit o from p p' (told i r)
 leaf_told text limit from i d p p' r (Got t) h l = (l.0, ap (told i) l.1, l.2)
-leaf_told text limit from i d p p' r (No j why) h l = (ap (λ (a : At). a.text) h, ap (told i) l ∙ ap (λ (a : At). TheRefused a.row why) (sym h))
+leaf_told text limit from i d p p' r (No j why) h l = (ap (λ (a : At). a.text) h, ap (told i) l ∙ ap (λ (a : At). refused a.row why) (sym h))
 
 object_other : (i : At) (f : List Due → Out Tree) (k : Kind) → (sort_of k ≡ 8 → ⊥) → object_at i f k ≡ No i reason_kind
 object_other i f Other q = refl
@@ -226,7 +224,7 @@ name_is s rows n i at l p q = rw (p, q) refl
 pub token_is : (s rows : List ℕ) (n i start stop : ℕ) → start ≡ (row_in rows n i).start → stop ≡ (row_in rows n i).end → take (stop - start) (drop start s) ≡ token_at 0 (doc_of s rows n) i
 token_is s rows n i start stop p q = rw (p, q) refl
 
-module _ (d : Doc) (i sort limit from : ℕ) (p p' : List ℕ) (r : Wrote) (w : List ℕ) (q : w ≡ token_at 0 d i) where
+module _ (d : Doc) (i sort limit from : ℕ) (p p' : List ℕ) (r : Result ℕ ℕ) (w : List ℕ) (q : w ≡ token_at 0 d i) where
   pub token_int : kind_of d i ≡ kind_integer → ((k : Kind) (a : At) → sort_of k ≡ sort → Leaf limit (integer_at a w k) from p p' r) → Tokened d i sort limit from p p' r
   token_int e l = record {
     int = λ z k a h. subst (λ (x : List ℕ). Leaf limit (integer_at a x k) from p p' r) q (l k a h);
@@ -251,7 +249,7 @@ module _ (d : Doc) (i sort limit from : ℕ) (p p' : List ℕ) (r : Wrote) (w : 
     other = λ x y z. absurd (z e);
   }
 
-pub token_other : (d : Doc) (i sort limit from : ℕ) (p p' : List ℕ) → (kind_of d i ≡ kind_integer → ⊥) → (kind_of d i ≡ kind_float → ⊥) → (kind_of d i ≡ kind_string → ⊥) → Tokened d i sort limit from p p' (Refused reason_kind)
+pub token_other : (d : Doc) (i sort limit from : ℕ) (p p' : List ℕ) → (kind_of d i ≡ kind_integer → ⊥) → (kind_of d i ≡ kind_float → ⊥) → (kind_of d i ≡ kind_string → ⊥) → Tokened d i sort limit from p p' (Err reason_kind)
 token_other d i sort limit from p p' x y z = record {
   int = λ e. absurd (x e);
   decimal = λ e. absurd (y e);
@@ -259,7 +257,7 @@ token_other d i sort limit from p p' x y z = record {
   other = λ a b c. refl;
 }
 
-module _ (t book : List ℕ) (d : Doc) (i sort number limit from : ℕ) (p p' : List ℕ) (r : Wrote) (vars : Name → Option Tree) (text : ℕ) (read : ℕ → Value) (name : Name) (s : Sorted t book name sort number) where
+module _ (t book : List ℕ) (d : Doc) (i sort number limit from : ℕ) (p p' : List ℕ) (r : Result ℕ ℕ) (vars : Name → Option Tree) (text : ℕ) (read : ℕ → Value) (name : Name) (s : Sorted t book name sort number) where
   abbrev Is : Type 0
   Is = Told text limit (coerce (kind_of_type (table_of t)) vars (value_by text d read i) (named name)) from p p' (told i r)
 

@@ -1,6 +1,6 @@
 -- Rows and their tokens.
 -- Assumes nothing.
-use Rattle.std.specs.Prelude.{◌≡◌, Bool, ◌&&◌, ◌||◌, List, ℕ, ◌+◌, ◌≤◌, ◌<◌, length, eqb, ltb}
+use Rattle.std.specs.Prelude.{◌≡◌, Bool, ◌&&◌, ◌||◌, List, ℕ, ◌+◌, ◌≤◌, ◌<◌, length, eqb, ltb, Result, Err}
 use Rattle.paper.specs.Numbers.{kind_variable, kind_integer, kind_float, kind_string, kind_list, most_text}
 use Rattle.paper_query.specs.Constructs.{Doc, kind_of}
 use Rattle.query_rows.specs.Rowed.{cell, Sized}
@@ -11,8 +11,6 @@ use Rattle.paper_values.specs.Kinds.{Kind}
 use Rattle.paper_values.specs.Coercion.{integer_at, float_at, string_at}
 use Rattle.paper_values.specs.RowValues.{token_at}
 use Rattle.value_leaves.specs.Leaves.{sort_of, Leaf}
-use Rattle.value_leaves.specs.declared.Wrote.{Wrote}
-use Rattle.value_leaves.specs.declared.Wrote.TheVariants.{Refused}
 
 -- the lent numbers hold n rows that lie in the bytes s, strings with their quotes
 pub record Spanned (s rows : List ℕ) (n : ℕ) : Type 0 where
@@ -30,8 +28,8 @@ abbrev pub takes_fields : ℕ → ℕ → Bool
 takes_fields kind sort = eqb sort 8 && is_object_kind kind
 
 -- what a number or string token of row i answers; reason 1 for another row
-pub record Tokened (d : Doc) (i sort limit from : ℕ) (p p' : List ℕ) (r : Wrote) : Type 0 where
+pub record Tokened (d : Doc) (i sort limit from : ℕ) (p p' : List ℕ) (r : Result ℕ ℕ) : Type 0 where
   pub int : kind_of d i ≡ kind_integer → (k : Kind) (a : At) → sort_of k ≡ sort → Leaf limit (integer_at a (token_at 0 d i) k) from p p' r
   pub decimal : kind_of d i ≡ kind_float → (k : Kind) (a : At) → sort_of k ≡ sort → Leaf limit (float_at a (token_at 0 d i) k) from p p' r
   pub text : kind_of d i ≡ kind_string → (k : Kind) (a : At) → sort_of k ≡ sort → Leaf limit (string_at a (token_at 0 d i) (characters_of (token_at 0 d i)) k) from p p' r
-  pub other : (kind_of d i ≡ kind_integer → ⊥) → (kind_of d i ≡ kind_float → ⊥) → (kind_of d i ≡ kind_string → ⊥) → r ≡ Refused reason_kind
+  pub other : (kind_of d i ≡ kind_integer → ⊥) → (kind_of d i ≡ kind_float → ⊥) → (kind_of d i ≡ kind_string → ⊥) → r ≡ Err reason_kind

@@ -23,7 +23,7 @@ use paper::{
 };
 use paper_values::REASON_KIND;
 use value_kinds::put_enum;
-use value_leaves::{SORT_INPUT, Wrote, put_decimal, put_integer, put_text, put_truth};
+use value_leaves::{SORT_INPUT, put_decimal, put_integer, put_text, put_truth};
 
 // Is a row of this kind an object, where one of this sort is due?
 pub fn takes_fields(kind: u32, sort: u32) -> bool
@@ -38,7 +38,7 @@ pub fn takes_fields(kind: u32, sort: u32) -> bool
     KIND_LIST < kind
 }
 
-// Writes the number or string token of row i.
+// Writes the number or string token of row i. The place past what was written, or Err with the reason why it is refused.
 fn put_token(
     s: &[u8],
     rows: &[u32],
@@ -48,7 +48,7 @@ fn put_token(
     out: &mut [u8],
     limit: usize,
     from: usize,
-) -> Wrote
+) -> Result<usize, u32>
     requires { Spanned s.now rows.now n × Room limit from out.old }
     ensures { Tokened (doc_of s.now rows.now n) i sort limit from out.old out.new result }
 {
@@ -64,10 +64,11 @@ fn put_token(
     if kind == KIND_STRING {
         return put_text(out, limit, from, sort, s, start, stop);
     }
-    Wrote::Refused(REASON_KIND)
+    Err(REASON_KIND)
 }
 
 // Writes row i's value, that is no null and no variable, where a type of this sort and number is due, and not fields of an object.
+// The place past what was written, or Err with the reason why the row is refused.
 pub fn put_base(
     t: &[u8],
     book: &[u32],
@@ -80,7 +81,7 @@ pub fn put_base(
     out: &mut [u8],
     limit: usize,
     from: usize,
-) -> Wrote
+) -> Result<usize, u32>
     requires { Booked t.now book.now × Rowed s.now rows.now n × Spanned s.now rows.now n × (7 ≤ sort → number < count_in book.now) × Room limit from out.old
         × ((row_in rows.now n i).kind ≡ kind_variable → ⊥) × ((row_in rows.now n i).kind ≡ kind_null → ⊥) × (takes_fields (row_in rows.now n i).kind sort ≡ false) }
     ensures { (vars : Name → Option Tree) (text : ℕ) (read : ℕ → Value) (name : Name) → Sorted t.now book.now name sort number →

@@ -25,9 +25,10 @@ use Rattle.value_entries.specs.Entered.{Marks}
 use Rattle.value_held.specs.Given.{kinds_in}
 use Rattle.value_held.specs.Holding.{Holds}
 use Rattle.value_coerce.proofs.ObjectLaws.{join_pairs, join_nothing, join_more, encode_join, and_got}
-use Rattle.value_variables.specs.Variables.{is_definition, Same, Grows, givens_in, only_of, only_at, Told, definitions_from}
-use Rattle.value_variables.specs.declared.Variables.{Variables}
-use Rattle.value_variables.specs.declared.Variables.TheVariants.{Done, Refused}
+use Rattle.std.proofs.Common.{Result, Ok, Err}
+use Rattle.value_variables.specs.Variables.{written, refused, is_definition, Same, Grows, givens_in, only_of, only_at, Told, definitions_from}
+use Rattle.value_variables.specs.declared.WrittenPairs.{WrittenPairs}
+use Rattle.value_variables.specs.declared.RefusedAt.{RefusedAt}
 use Rattle.value_variables.proofs.DefinitionLaws.{from_first, from_more, from_other, from_end}
 use Rattle.value_variables.proofs.KeptLaws.{holds_same, holds_join}
 
@@ -53,30 +54,24 @@ only_first t gs v vs = go (entry_of v.1.name gs) v.1.default (variables_from (ki
 
 -- ---- what an answer says
 
-module _ (t book s rows : List ℕ) (n : ℕ) (s1 rows1 : List ℕ) (n1 limit many from : ℕ) (p p' held' : List ℕ) (r : Variables) where
-  pub told_done : (o : Out Pairs) (e m : ℕ) → Told t book s rows n s1 rows1 n1 limit o many from p p' held' r → r ≡ Done e m →
-      (ps : Pairs) × (o ≡ Got ps) × Put limit (encode_pairs ps) from p p' e × Holds t book s rows n s1 rows1 n1 held' many m ps
-  told_done (Got ps) e m g u =
-      let x : g.0 ≡ e = at_is g.0 g.1 g.2 in
-      let y : g.1 ≡ m = many_is g.0 g.1 g.2 in
-      (ps, refl, subst (λ (z : ℕ). Put limit (encode_pairs ps) from p p' z) x g.3, subst (λ (z : ℕ). Holds t book s rows n s1 rows1 n1 held' many z ps) y g.4)
+module _ (t book s rows : List ℕ) (n : ℕ) (s1 rows1 : List ℕ) (n1 limit many from : ℕ) (p p' held' : List ℕ) (r : Result WrittenPairs RefusedAt) where
+  pub told_done : (o : Out Pairs) (x : WrittenPairs) → Told t book s rows n s1 rows1 n1 limit o many from p p' held' r → r ≡ Ok x →
+      (ps : Pairs) × (o ≡ Got ps) × Put limit (encode_pairs ps) from p p' x.at × Holds t book s rows n s1 rows1 n1 held' many x.many ps
+  told_done (Got ps) x g u =
+      let y : ◌≡◌ {A = Result WrittenPairs RefusedAt} (written g.0 g.1) (Ok x) = sym g.2 ∙ u in
+      let z : record { at = g.0; many = g.1 } ≡ x = cc in
+      (ps, refl, subst (λ (w : WrittenPairs). Put limit (encode_pairs ps) from p p' w.at) z g.3, subst (λ (w : WrittenPairs). Holds t book s rows n s1 rows1 n1 held' many w.many ps) z g.4)
+  told_done (No i w) x g u = absurd (never g)
     where
-      at_is : (a b : ℕ) → r ≡ Done a b → a ≡ e
-      at_is a b q = cc
-
-      many_is : (a b : ℕ) → r ≡ Done a b → b ≡ m
-      many_is a b q = cc
-  told_done (No i w) e m g u = absurd (never g)
-    where
-      never : r ≡ Refused i.text i.row w → ⊥
+      never : r ≡ refused i.text i.row w → ⊥
       never q = let z : ◌≡◌ {A = ℕ} 0 1 = cc in omega arith
 
-  pub told_refused : (o : Out Pairs) (a b c : ℕ) → Told t book s rows n s1 rows1 n1 limit o many from p p' held' r → r ≡ Refused a b c → (i : At) × (w : ℕ) × (o ≡ No i w) × (r ≡ Refused i.text i.row w)
-  told_refused (Got ps) a b c g u = absurd (never g.0 g.1 g.2)
+  pub told_refused : (o : Out Pairs) (f : RefusedAt) → Told t book s rows n s1 rows1 n1 limit o many from p p' held' r → r ≡ Err f → (i : At) × (w : ℕ) × (o ≡ No i w) × (r ≡ refused i.text i.row w)
+  told_refused (Got ps) f g u = absurd (never g.0 g.1 g.2)
     where
-      never : (x y : ℕ) → r ≡ Done x y → ⊥
+      never : (x y : ℕ) → r ≡ written x y → ⊥
       never x y q = let z : ◌≡◌ {A = ℕ} 0 1 = cc in omega arith
-  told_refused (No i w) a b c g u = (i, w, refl, g)
+  told_refused (No i w) f g u = (i, w, refl, g)
 
 -- ---- the loop
 
@@ -149,39 +144,32 @@ module _ (t book s rows : List ℕ) (n : ℕ) (s1 rows1 : List ℕ) (n1 limit fr
           ∙ ap (λ (y : Out Pairs). and_then y (λ (ps : Pairs). Got (join_pairs g.done ps)))
           (only_first t (givens_in t d1) (due v) (map due (definitions_from d op (v + 1))) ∙ ap (λ (y : Out Pairs). and_then y (λ (ps : Pairs). and_then (behind (definitions_from d op (v + 1))) (λ (qs : Pairs). Got (join_pairs ps qs)))) e)
 
-      module _ (held' out' : List ℕ) (r : Variables) (a : Told t book s rows n s1 rows1 n1 limit (only_at t d d1 v) many at out out' held' r) (w : Same many held held') where
-        pub going_step : (e m : ℕ) → Grows many r → r ≡ Done e m → length out' ≡ length out → Going held' out' e m (v + 1)
-        going_step e m k u l =
-            let z = told_done t book s rows n s1 rows1 n1 limit many at out out' held' r (only_at t d d1 v) e m a u in
-            let more : m ≤ many + 1 = grown r k u in
+      module _ (held' out' : List ℕ) (r : Result WrittenPairs RefusedAt) (a : Told t book s rows n s1 rows1 n1 limit (only_at t d d1 v) many at out out' held' r) (w : Same many held held') where
+        pub going_step : (x : WrittenPairs) → Grows many r → r ≡ Ok x → length out' ≡ length out → Going held' out' x.at x.many (v + 1)
+        going_step x k u l =
+            let z = told_done t book s rows n s1 rows1 n1 limit many at out out' held' r (only_at t d d1 v) x a u in
+            let more : x.many ≤ many + 1 = subst (Grows many) u k in
             record {
               done = join_pairs g.done z.0;
-              put = put_as limit (encode_pairs g.done ++ encode_pairs z.0) (encode_pairs (join_pairs g.done z.0)) from p₀ out' e (sym (encode_join g.done z.0))
-                  (put_then limit (encode_pairs g.done) (encode_pairs z.0) from at e p₀ out out' g.put z.2);
-              holds = holds_join t book s rows n s1 rows1 n1 held' 0 many m g.done z.0 (holds_same t book s rows n s1 rows1 n1 held held' many w 0 g.done g.holds (omega arith)) z.3;
+              put = put_as limit (encode_pairs g.done ++ encode_pairs z.0) (encode_pairs (join_pairs g.done z.0)) from p₀ out' x.at (sym (encode_join g.done z.0))
+                  (put_then limit (encode_pairs g.done) (encode_pairs z.0) from at x.at p₀ out out' g.put z.2);
+              holds = holds_join t book s rows n s1 rows1 n1 held' 0 many x.many g.done z.0 (holds_same t book s rows n s1 rows1 n1 held held' many w 0 g.done g.holds (omega arith)) z.3;
               rest = turned (Got z.0) z.1 ∙ join_more g.done z.0 (behind (definitions_from d op (v + 1)));
               few = omega (arith, counted, more);
               size = w.size ∙ g.size;
-              room = room_after limit (encode_pairs z.0) at out out' e g.room l z.2;
+              room = room_after limit (encode_pairs z.0) at out out' x.at g.room l z.2;
             }
-          where
-            grown : (r : Variables) → Grows many r → r ≡ Done e m → m ≤ many + 1
-            grown (Done x y) k u = let q : y ≡ m = cc in omega (arith, k, q)
-            grown (Refused x y c) k u = absurd (never u)
-              where
-                never : Refused x y c ≡ Done e m → ⊥
-                never u = let q : ◌≡◌ {A = ℕ} 0 1 = cc in omega arith
 
-        pub going_stop : (x y c : ℕ) → r ≡ Refused x y c → Told t book s rows n s1 rows1 n1 limit whole 0 from p₀ out' held' r
-        going_stop x y c u =
-            let z = told_refused t book s rows n s1 rows1 n1 limit many at out out' held' r (only_at t d d1 v) x y c a u in
+        pub going_stop : (f : RefusedAt) → r ≡ Err f → Told t book s rows n s1 rows1 n1 limit whole 0 from p₀ out' held' r
+        going_stop f u =
+            let z = told_refused t book s rows n s1 rows1 n1 limit many at out out' held' r (only_at t d d1 v) f a u in
             subst (λ (o : Out Pairs). Told t book s rows n s1 rows1 n1 limit o 0 from p₀ out' held' r) (sym (turned (No z.0 z.1) z.2)) z.3
 
-  pub going_end : (held out : List ℕ) (at many v : ℕ) → Going held out at many v → n ≤ v → Told t book s rows n s1 rows1 n1 limit whole 0 from p₀ out held (Done at many)
+  pub going_end : (held out : List ℕ) (at many v : ℕ) → Going held out at many v → n ≤ v → Told t book s rows n s1 rows1 n1 limit whole 0 from p₀ out held (written at many)
   going_end held out at many v g h =
       let o : whole ≡ Got g.done =
       g.rest ∙ ap (λ (vs : List ℕ). and_then (behind vs) (λ (ps : Pairs). Got (join_pairs g.done ps))) (from_end d op v (subst (λ (k : ℕ). k ≤ v) (sym (rows_count rows n)) h)) ∙ ap Got (join_nothing g.done) in
-      subst (λ (y : Out Pairs). Told t book s rows n s1 rows1 n1 limit y 0 from p₀ out held (Done at many)) (sym o) (at, many, refl, g.put, g.holds)
+      subst (λ (y : Out Pairs). Told t book s rows n s1 rows1 n1 limit y 0 from p₀ out held (written at many)) (sym o) (at, many, refl, g.put, g.holds)
 
 -- ---- a repeated name before all else
 
@@ -201,14 +189,14 @@ module _ (t book s rows : List ℕ) (n : ℕ) (s1 rows1 : List ℕ) (n1 limit fr
   abbrev rest : Out Pairs
   rest = variables_from (kinds_in t) (givens_in t (doc_of s1 rows1 n1)) vs
 
-  pub all_repeated : again < n1 → Told t book s rows n s1 rows1 n1 limit (variables_of (kinds_in t) (given_in (doc_of s1 rows1 n1)) vs) 0 from p p' held' (Refused input_variables again reason_repeated)
+  pub all_repeated : again < n1 → Told t book s rows n s1 rows1 n1 limit (variables_of (kinds_in t) (given_in (doc_of s1 rows1 n1)) vs) 0 from p p' held' (refused input_variables again reason_repeated)
   all_repeated h = go twice marks
     where
-      go : (o : Option At) → Marks n1 input_variables o again → Told t book s rows n s1 rows1 n1 limit (unless o reason_repeated rest) 0 from p p' held' (Refused input_variables again reason_repeated)
+      go : (o : Option At) → Marks n1 input_variables o again → Told t book s rows n s1 rows1 n1 limit (unless o reason_repeated rest) 0 from p p' held' (refused input_variables again reason_repeated)
       go none z = absurd (omega (arith, h, z))
-      go (some e) z = let q = z.1 in ap (λ (i : At). Refused i.text i.row reason_repeated) (sym q)
+      go (some e) z = let q = z.1 in ap (λ (i : At). refused i.text i.row reason_repeated) (sym q)
 
-  pub all_in_order : (r : Variables) → n1 ≤ again → Told t book s rows n s1 rows1 n1 limit rest 0 from p p' held' r → Told t book s rows n s1 rows1 n1 limit (variables_of (kinds_in t) (given_in (doc_of s1 rows1 n1)) vs) 0 from p p' held' r
+  pub all_in_order : (r : Result WrittenPairs RefusedAt) → n1 ≤ again → Told t book s rows n s1 rows1 n1 limit rest 0 from p p' held' r → Told t book s rows n s1 rows1 n1 limit (variables_of (kinds_in t) (given_in (doc_of s1 rows1 n1)) vs) 0 from p p' held' r
   all_in_order r h a = go twice marks
     where
       go : (o : Option At) → Marks n1 input_variables o again → Told t book s rows n s1 rows1 n1 limit (unless o reason_repeated rest) 0 from p p' held' r

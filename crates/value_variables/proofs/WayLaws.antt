@@ -22,14 +22,14 @@ use Rattle.paper_values.specs.RowValues.{placed, value_of_row, entries_from}
 use Rattle.paper_values.specs.DocumentDues.{declared_ref, default_row, value_if, due_variable}
 use Rattle.paper_values.specs.CallRules.{no_variables}
 use Rattle.value_kinds.specs.Dues.{DueIs, Fits}
-use Rattle.value_kinds.specs.declared.Coerced.{Coerced}
+use Rattle.std.proofs.Common.{Option as Maybe, Some, None, Result}
+use Rattle.value_kinds.specs.declared.RefusedRow.{RefusedRow}
 use Rattle.value_definitions.specs.Definitions.{told as defaultTold}
-use Rattle.value_definitions.specs.declared.Default.{Default}
-use Rattle.value_definitions.specs.declared.Default.TheVariants as default
 use Rattle.value_held.specs.Given.{kinds_in, coerced, givens_at, ToldPairs}
 use Rattle.value_held.specs.Holding.{Kept, HeldAt, Gives, Names, Knows, held_from}
 use Rattle.value_variables.specs.Variables.{small, told, Asked, Same, Grows, givens_in, only_at, Told}
-use Rattle.value_variables.specs.declared.Variables.{Variables}
+use Rattle.value_variables.specs.declared.WrittenPairs.{WrittenPairs}
+use Rattle.value_variables.specs.declared.RefusedAt.{RefusedAt}
 use Rattle.value_variables.proofs.KeptLaws.{keep_same, keep_held, small_due, small_fits}
 use Rattle.value_variables.proofs.VariableLaws.{only_given, only_default, only_nothing, told_first, told_missing}
 
@@ -42,24 +42,24 @@ unfolding held_from
 nobody s held x = refl
 
 -- the row of a default
-pub default_some : (d : Doc) (v i : ℕ) (r : Default) → r ≡ defaultTold (default_row d v) → r ≡ default.Row i → default_row d v ≡ some i
+pub default_some : (d : Doc) (v i : ℕ) (r : Maybe ℕ) → r ≡ defaultTold (default_row d v) → r ≡ Some i → default_row d v ≡ some i
 default_some d v i r q e = go (default_row d v) q
   where
     go : (o : Option ℕ) → r ≡ defaultTold o → o ≡ some i
     go none q = absurd (never q)
       where
-        never : r ≡ default.Nothing → ⊥
+        never : r ≡ None → ⊥
         never q = let z : ◌≡◌ {A = ℕ} 0 1 = cc in omega arith
     go (some j) q = let z : j ≡ i = cc in ap some z
 
-pub default_none : (d : Doc) (v : ℕ) (r : Default) → r ≡ defaultTold (default_row d v) → r ≡ default.Nothing → default_row d v ≡ none
+pub default_none : (d : Doc) (v : ℕ) (r : Maybe ℕ) → r ≡ defaultTold (default_row d v) → r ≡ None → default_row d v ≡ none
 default_none d v r q e = go (default_row d v) q
   where
     go : (o : Option ℕ) → r ≡ defaultTold o → o ≡ none
     go none q = refl
     go (some j) q = absurd (never q)
       where
-        never : r ≡ default.Row j → ⊥
+        never : r ≡ Some j → ⊥
         never q = let z : ◌≡◌ {A = ℕ} 0 1 = cc in omega arith
 
 below : (n i j : ℕ) → if_below n i ≡ some j → j < n
@@ -113,10 +113,10 @@ module _ (t book s rows : List ℕ) (n : ℕ) (past s1 rows1 : List ℕ) (n1 : �
         (subst (λ (x : Name). entry_of x (givens_at t no_variables input_variables d1 n1 33 kind_object_field 0) ≡ none) spelt
         (g.none_is h t no_variables input_variables (nobody s1 held)))
 
-    abbrev Goal : List ℕ → Variables → Type 0
+    abbrev Goal : List ℕ → Result WrittenPairs RefusedAt → Type 0
     Goal held' x = Told t book s rows n s1 rows1 n1 limit (only_at t d d1 v) many from p p' held' x × Same many held held' × Grows many x
 
-    whole : (held' : List ℕ) (x : Variables) (o : Out Pairs) → only_at t d d1 v ≡ o → Same many held held' → Told t book s rows n s1 rows1 n1 limit o many from p p' held' x × Grows many x → Goal held' x
+    whole : (held' : List ℕ) (x : Result WrittenPairs RefusedAt) (o : Out Pairs) → only_at t d d1 v ≡ o → Same many held held' → Told t book s rows n s1 rows1 n1 limit o many from p p' held' x × Grows many x → Goal held' x
     whole held' x o q z w = (subst (λ (y : Out Pairs). Told t book s rows n s1 rows1 n1 limit y many from p p' held' x) (sym q) w.0, z, w.1)
 
     -- a value that is kept, of the row i of a text
@@ -129,7 +129,7 @@ module _ (t book s rows : List ℕ) (n : ℕ) (past s1 rows1 : List ℕ) (n1 : �
       same_here : Same many held held'
       same_here = keep_same held held' many name size text i sort (small number) wrappers k room
 
-    pub way_given : (held' : List ℕ) (c : Coerced) → r < n1 → held' ≡ sets held (row_size * many) (name ∷ size ∷ input_variables ∷ (r + 1) ∷ sort ∷ small number ∷ wrappers ∷ []) →
+    pub way_given : (held' : List ℕ) (c : Result ℕ RefusedRow) → r < n1 → held' ≡ sets held (row_size * many) (name ∷ size ∷ input_variables ∷ (r + 1) ∷ sort ∷ small number ∷ wrappers ∷ []) →
         ToldPairs input_variables limit (pair_first (part s name size) (constant (kinds_in t) (value_of_row input_variables d1 (r + 1)) ref) (Got no_pairs)) from p p' c → Goal held' (told input_variables (many + 1) c)
     way_given held' c h k w =
         whole held' (told input_variables (many + 1) c) (pair_first (name_of d v) (constant (kinds_in t) (value_of_row input_variables d1 (r + 1)) ref) (Got no_pairs))
@@ -138,7 +138,7 @@ module _ (t book s rows : List ℕ) (n : ℕ) (past s1 rows1 : List ℕ) (n1 : �
         (λ tree e. held_here held' input_variables (r + 1) k tree (λ z. absurd (omega (arith, z))) (λ z. record { there = omega (arith, h); is = e }))
         (subst (λ (x : Name). ToldPairs input_variables limit (pair_first x (constant (kinds_in t) (value_of_row input_variables d1 (r + 1)) ref) (Got no_pairs)) from p p' c) spelt w))
 
-    pub way_default : (held' : List ℕ) (c : Coerced) (i : ℕ) → n1 ≤ r → default_row d v ≡ some i → held' ≡ sets held (row_size * many) (name ∷ size ∷ input_document ∷ i ∷ sort ∷ small number ∷ wrappers ∷ []) →
+    pub way_default : (held' : List ℕ) (c : Result ℕ RefusedRow) (i : ℕ) → n1 ≤ r → default_row d v ≡ some i → held' ≡ sets held (row_size * many) (name ∷ size ∷ input_document ∷ i ∷ sort ∷ small number ∷ wrappers ∷ []) →
         ToldPairs input_document limit (pair_first (part s name size) (constant (kinds_in t) (value_of_row input_document d i) ref) (Got no_pairs)) from p p' c → Goal held' (told input_document (many + 1) c)
     way_default held' c i h e k w =
         whole held' (told input_document (many + 1) c) (pair_first (name_of d v) (constant (kinds_in t) (value_of_row input_document d i) ref) (Got no_pairs))
@@ -147,7 +147,7 @@ module _ (t book s rows : List ℕ) (n : ℕ) (past s1 rows1 : List ℕ) (n1 : �
         (λ tree q. held_here held' input_document i k tree (λ z. record { there = (let l = default_there s rows n v i e in omega (arith, l)); is = q }) (λ z. absurd (z refl)))
         (subst (λ (x : Name). ToldPairs input_document limit (pair_first x (constant (kinds_in t) (value_of_row input_document d i) ref) (Got no_pairs)) from p p' c) spelt w))
 
-    pub way_nothing : (c : Coerced) → n1 ≤ r → default_row d v ≡ none → ToldPairs input_document limit (missing_due (placed input_document d v) (due_variable d v) (Got no_pairs)) from p p' c → Goal held (told input_document many c)
+    pub way_nothing : (c : Result ℕ RefusedRow) → n1 ≤ r → default_row d v ≡ none → ToldPairs input_document limit (missing_due (placed input_document d v) (due_variable d v) (Got no_pairs)) from p p' c → Goal held (told input_document many c)
     way_nothing c h e w =
         whole held (told input_document many c) (missing_due (placed input_document d v) (due_variable d v) (Got no_pairs))
         (only_nothing t (givens_in t d1) var (entry_none h) (ap (value_if d) e)) (record { size = refl; cells = λ j k x y. refl })

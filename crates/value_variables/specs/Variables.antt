@@ -1,6 +1,6 @@
 -- What coercing an operation's variables asks and answers, and what is kept of those that have values.
 -- Assumes nothing.
-use Rattle.std.specs.Prelude.{◌≡◌, Bool, ◌&&◌, cond, List, ℕ, ◌+◌, ◌≤◌, ◌<◌, leb}
+use Rattle.std.specs.Prelude.{◌≡◌, Bool, ◌&&◌, cond, List, ℕ, ◌+◌, ◌≤◌, ◌<◌, leb, Result, Ok, Err}
 use lib.ListN.{length}
 use Rattle.paper.specs.Numbers.{row_size, most_rows, kind_variable_definition, input_document}
 use Rattle.paper.specs.Language.{Document}
@@ -16,21 +16,27 @@ use Rattle.paper_values.specs.RowValues.{placed}
 use Rattle.paper_values.specs.DocumentDues.{due_variable, given_in}
 use Rattle.paper_values.specs.CallRules.{no_variables}
 use Rattle.value_writing.specs.Writing.{Put}
-use Rattle.value_kinds.specs.declared.Coerced.{Coerced}
-use Rattle.value_kinds.specs.declared.Coerced.TheVariants as coerced
+use Rattle.value_kinds.specs.declared.RefusedRow.{RefusedRow}
 use Rattle.value_held.specs.Given.{Ready, kinds_in}
 use Rattle.value_held.specs.Holding.{Holds}
-use Rattle.value_variables.specs.declared.Variables.{Variables}
-use Rattle.value_variables.specs.declared.Variables.TheVariants.{Done, Refused}
+use Rattle.value_variables.specs.declared.WrittenPairs.{WrittenPairs}
+use Rattle.value_variables.specs.declared.RefusedAt.{RefusedAt}
 
 -- a definition's number, which is small
 abbrev pub small : ℕ → ℕ
 small k = cond (leb k most_rows) k 0
 
+-- the answer that the pairs are written up to a place and so many variables have values, and that a row of a text is refused
+abbrev pub written : ℕ → ℕ → Result WrittenPairs RefusedAt
+written at many = Ok (record { at = at; many = many })
+
+abbrev pub refused : ℕ → ℕ → ℕ → Result WrittenPairs RefusedAt
+refused text row why = Err (record { text = text; row = row; why = why })
+
 -- a writer's answer for a row of a text, after which so many variables have values
-abbrev pub told : ℕ → ℕ → Coerced → Variables
-told text many (coerced.UpTo e) = Done e many
-told text many (coerced.Refused row why) = Refused text row why
+abbrev pub told : ℕ → ℕ → Result ℕ RefusedRow → Result WrittenPairs RefusedAt
+told text many (Ok e) = written e many
+told text many (Err f) = refused text f.row f.why
 
 -- a variable definition of the operation of row op
 abbrev pub is_definition : ℕ → Row → Bool
@@ -60,15 +66,15 @@ pub record Same (many : ℕ) (held held' : List ℕ) : Type 0 where
   pub cells : (j k : ℕ) → j < many → k < row_size → cell held' j k ≡ cell held j k
 
 -- at most one variable more has a value
-abbrev pub Grows : ℕ → Variables → Type 0
-Grows many (Done at m) = m ≤ many + 1
-Grows many (Refused text row why) = Unit
+abbrev pub Grows : ℕ → Result WrittenPairs RefusedAt → Type 0
+Grows many (Ok w) = w.many ≤ many + 1
+Grows many (Err f) = Unit
 
 -- What came of variables, behind `many` that have values: their pairs are written and their values kept, or one is refused.
-abbrev pub Told : List ℕ → List ℕ → List ℕ → List ℕ → ℕ → List ℕ → List ℕ → ℕ → ℕ → Out Pairs → ℕ → ℕ → List ℕ → List ℕ → List ℕ → Variables → Type 0
+abbrev pub Told : List ℕ → List ℕ → List ℕ → List ℕ → ℕ → List ℕ → List ℕ → ℕ → ℕ → Out Pairs → ℕ → ℕ → List ℕ → List ℕ → List ℕ → Result WrittenPairs RefusedAt → Type 0
 Told t book s rows n s1 rows1 n1 limit (Got ps) many from p p' held' r =
-    (e : ℕ) × (m : ℕ) × (r ≡ Done e m) × Put limit (encode_pairs ps) from p p' e × Holds t book s rows n s1 rows1 n1 held' many m ps
-Told t book s rows n s1 rows1 n1 limit (No i w) many from p p' held' r = r ≡ Refused i.text i.row w
+    (e : ℕ) × (m : ℕ) × (r ≡ written e m) × Put limit (encode_pairs ps) from p p' e × Holds t book s rows n s1 rows1 n1 held' many m ps
+Told t book s rows n s1 rows1 n1 limit (No i w) many from p p' held' r = r ≡ refused i.text i.row w
 
 -- the definitions of an operation from row c on
 unfoldable pub definitions_from : Doc → ℕ → ℕ → List ℕ

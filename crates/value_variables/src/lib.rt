@@ -25,19 +25,27 @@ use paper_table::TAG_NAME;
 use paper_values::{REASON_REPEATED, TAG_PAIR};
 use query_rows::{kind_of, name_of, parent_of, size_of};
 use value_coerce::{ALL_LEVELS, value};
-use value_definitions::{Default, declared_of, default_of};
+use value_definitions::{declared_of, default_of};
 use value_entries::first_repeated;
 use value_held::{
     HELD_NUMBER, HELD_ROW, HELD_SIZE, HELD_SORT, HELD_TEXT, HELD_WRAPPERS, given, lacking,
 };
-use value_kinds::{Coerced, Due};
+use value_kinds::{Due, RefusedRow};
 use value_writing::{close, place, put_field};
 
-// What came of them: up to where their pairs are written and how many have values; or the value that is refused, by text and row, and why.
+// Up to where the pairs of variables are written, and how many have values.
 #[derive(Clone, Copy)]
-pub enum Variables {
-    Done { at: usize, many: usize },
-    Refused { text: u32, row: usize, why: u32 },
+pub struct WrittenPairs {
+    pub at: usize,
+    pub many: usize,
+}
+
+// A value that is refused, by text and row, and the reason why.
+#[derive(Clone, Copy)]
+pub struct RefusedAt {
+    pub text: u32,
+    pub row: usize,
+    pub why: u32,
 }
 
 // The numbers that are kept of all variables of an operation: seven of each of 64.
@@ -73,6 +81,7 @@ fn keep(held: &mut [u32], many: usize, at: u32, size: u32, text: u32, row: u32, 
 }
 
 // Writes the pair of a name, the l bytes of `names` from `at` on, and the constant of row i at its type.
+// The place past what was written, or Err with the row that is refused.
 fn put_pair(
     t: &[u8],
     book: &[u32],
@@ -89,7 +98,7 @@ fn put_pair(
     out: &mut [u8],
     limit: usize,
     from: usize,
-) -> Coerced
+) -> Result<usize, RefusedRow>
     requires { Ready t.now book.now s.now rows.now n past.now × (i ≤ n) × Fits book.now due.sort due.number due.wrappers × Meant t.now book.now due.sort due.number due.wrappers × (at + l ≤ length names.now) × Room limit from out.old }
     ensures { (text : ℕ) (r : Ref) → DueIs t.now book.now r due.sort due.number due.wrappers →
         ToldPairs text limit (pair_first (part names.now at l) (constant (kinds_in t.now) (value_of_row text (doc_of s.now rows.now n) i) r) (Got no_pairs)) from out.old out.new result }
@@ -97,27 +106,20 @@ fn put_pair(
     let start = place(limit, from, 3);
     let stop = at + l;
     let middle = put_field(out, limit, start, TAG_NAME, &names[at..stop]);
-    let r = value(
+    let e = value(
         t, book, s, rows, n, past, i, ALL_LEVELS, due, s, rows, n, past, held, 0, out, limit,
         middle,
-    );
-    let Coerced::UpTo(e) = r else {
-        return r;
-    };
-    Coerced::UpTo(close(out, limit, from, TAG_PAIR, e))
+    )?;
+    Ok(close(out, limit, from, TAG_PAIR, e))
 }
 
 // A writer's answer for a row of this text, after which `many` variables have values.
-fn of_pair(text: u32, r: Coerced, many: usize) -> Variables
+fn of_pair(text: u32, r: Result<usize, RefusedRow>, many: usize) -> Result<WrittenPairs, RefusedAt>
     ensures { result ≡ told text many r }
 {
     match r {
-        Coerced::UpTo(e) => Variables::Done { at: e, many: many },
-        Coerced::Refused { row, why } => Variables::Refused {
-            text: text,
-            row: row,
-            why: why,
-        },
+        Ok(e) => Ok(WrittenPairs { at: e, many }),
+        Err(RefusedRow { row, why }) => Err(RefusedAt { text, row, why }),
     }
 }
 
@@ -150,7 +152,7 @@ fn variable(
     out: &mut [u8],
     limit: usize,
     from: usize,
-) -> Variables
+) -> Result<WrittenPairs, RefusedAt>
     requires { Asked t.now book.now s.now rows.now n past.now s1.now rows1.now n1 past1.now × (v < n) × (row_size * (many + 1) ≤ length held.old) × Room limit from out.old × (many < most_variables) }
     ensures { Told t.now book.now s.now rows.now n s1.now rows1.now n1 limit
         (only_at t.now (doc_of s.now rows.now n) (doc_of s1.now rows1.now n1) v) many from out.old out.new held.new result
@@ -196,8 +198,7 @@ fn variable(
         );
         return of_pair(INPUT_VARIABLES, r, many + 1);
     }
-    let d = default_of(s, rows, n, past, v);
-    let Default::Row(i) = d else {
+    let Some(i) = default_of(s, rows, n, past, v) else {
         return of_pair(INPUT_DOCUMENT, lacking(limit, from, v, due.wrappers), many);
     };
     keep(held, many, name, size, INPUT_DOCUMENT, i as u32, due);
@@ -224,33 +225,27 @@ fn in_order(
     out: &mut [u8],
     limit: usize,
     from: usize,
-) -> Variables
+) -> Result<WrittenPairs, RefusedAt>
     requires { Asked t.now book.now s.now rows.now n past.now s1.now rows1.now n1 past1.now × (length (definitions_of (doc_of s.now rows.now n) op) ≤ most_variables) × (length held.old ≡ row_size * most_variables) × Room limit from out.old }
     ensures { Told t.now book.now s.now rows.now n s1.now rows1.now n1 limit
         (variables_from (kinds_in t.now) (givens_in t.now (doc_of s1.now rows1.now n1)) (variable_dues (doc_of s.now rows.now n) op)) 0 from out.old out.new held.new result }
 {
     let mut at = from;
     let mut many = 0;
-    let mut v = 0;
-    while v < n {
+    for v in 0..n {
         if !is_definition(rows, n, op, v) {
-            v += 1;
             continue;
         }
-        let r = variable(
+        let w = variable(
             t, book, s, rows, n, past, v, s1, rows1, n1, past1, held, many, out, limit, at,
-        );
-        let Variables::Done { at: e, many: m } = r else {
-            return r;
-        };
-        at = e;
-        many = m;
-        v += 1;
+        )?;
+        at = w.at;
+        many = w.many;
     }
-    Variables::Done { at: at, many: many }
+    Ok(WrittenPairs { at, many })
 }
 
-// Coerces the variables of the operation of row op: a repeated name in the variables text before all else.
+// Coerces the variables of the operation of row op: a repeated name in the variables text before all else. Err is the value that is refused.
 pub fn coerce_variables(
     t: &[u8],
     book: &[u32],
@@ -267,18 +262,18 @@ pub fn coerce_variables(
     out: &mut [u8],
     limit: usize,
     from: usize,
-) -> Variables
+) -> Result<WrittenPairs, RefusedAt>
     requires { Asked t.now book.now s.now rows.now n past.now s1.now rows1.now n1 past1.now × (length (definitions_of (doc_of s.now rows.now n) op) ≤ most_variables) × (length held.old ≡ row_size * most_variables) × Room limit from out.old }
     ensures { Told t.now book.now s.now rows.now n s1.now rows1.now n1 limit
         (variables_of (kinds_in t.now) (given_in (doc_of s1.now rows1.now n1)) (variable_dues (doc_of s.now rows.now n) op)) 0 from out.old out.new held.new result }
 {
     let again = first_repeated(s1, rows1, n1, past1, 0, KIND_OBJECT_FIELD);
     if again < n1 {
-        return Variables::Refused {
+        return Err(RefusedAt {
             text: INPUT_VARIABLES,
             row: again,
             why: REASON_REPEATED,
-        };
+        });
     }
     in_order(
         t, book, s, rows, n, past, op, s1, rows1, n1, past1, held, out, limit, from,

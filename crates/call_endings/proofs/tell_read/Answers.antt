@@ -2,8 +2,8 @@
 use Rattle.call_endings.proofs.EndLaws.{told_done, told_refused}
 use Rattle.call_endings.proofs.tell_read.Goals as goal
 
-pub returns-in-Done : goal.returns-in-Done
-returns-in-Done c = told_done _ _ _ _ c.in-Done.is c.tell.ensures
+pub returns-in-Ok : goal.returns-in-Ok
+returns-in-Ok c = told_done _ _ _ _ c.in-Ok.is c.tell.ensures
 
-pub returns-in-Refused : goal.returns-in-Refused
-returns-in-Refused c = told_refused _ _ _ _ _ c.in-Refused.is c.tell_refusal.ensures
+pub returns-in-Err : goal.returns-in-Err
+returns-in-Err c = told_refused _ _ _ _ _ c.in-Err.is c.tell_refusal.ensures

@@ -26,15 +26,15 @@ bounds-out-m c = omega (arith, c.loop-i-test.true, c.loop-i.invariant.0.few, c.l
 pub overflow_add-m : goal.overflow_add-m
 overflow_add-m c = omega (arith, c.loop-i-test.true, c.loop-i.invariant.0.few, c.requires.0.few)
 
-pub loop-i-preserved-then-is_block : goal.loop-i-preserved-then-is_block
-loop-i-preserved-then-is_block c = let a = c.args in let l = c.loop-i in
-    let w = subst (λ (b : Bool). Decides b (IsBlock (doc_of a.s.now a.rows.now a.n) a.o l.i)) c.if-is_block.true c.is_block.ensures in
-    (blocks_add (doc_of a.s.now a.rows.now a.n) a.o l.out l.m l.i l.invariant.0 w (omega (arith, c.loop-i-test.true, l.invariant.0.few, l.invariant.1, c.requires.5)) _ refl, length-set l.out l.m l.i ∙ l.invariant.1, omega (arith, c.loop-i-test.true))
+pub loop-i-preserved-then-not-is_block : goal.loop-i-preserved-then-not-is_block
+loop-i-preserved-then-not-is_block c = let a = c.args in let l = c.loop-i in
+    let w = subst (λ (b : Bool). Decides b (IsBlock (doc_of a.s.now a.rows.now a.n) a.o l.i)) c.if-not-is_block.true c.is_block.ensures in
+    (blocks_skip (doc_of a.s.now a.rows.now a.n) a.o l.out l.m l.i l.invariant.0 w, l.invariant.1, omega (arith, c.loop-i-test.true))
 
 pub loop-i-preserved : goal.loop-i-preserved
 loop-i-preserved c = let a = c.args in let l = c.loop-i in
-    let w = subst (λ (b : Bool). Decides b (IsBlock (doc_of a.s.now a.rows.now a.n) a.o l.i)) c.if-is_block.false c.is_block.ensures in
-    (blocks_skip (doc_of a.s.now a.rows.now a.n) a.o l.out l.m l.i l.invariant.0 w, l.invariant.1, omega (arith, c.loop-i-test.true))
+    let w = subst (λ (b : Bool). Decides b (IsBlock (doc_of a.s.now a.rows.now a.n) a.o l.i)) c.if-not-is_block.false c.is_block.ensures in
+    (blocks_add (doc_of a.s.now a.rows.now a.n) a.o l.out l.m l.i l.invariant.0 w (omega (arith, c.loop-i-test.true, l.invariant.0.few, l.invariant.1, c.requires.5)) _ refl, length-set l.out l.m l.i ∙ l.invariant.1, omega (arith, c.loop-i-test.true))
 
 pub shape_of-out : goal.shape_of-out
 shape_of-out c = c.loop-i.invariant.1

@@ -13,11 +13,11 @@ pub loop-i-init : goal.loop-i-init
 loop-i-init c = let a = c.args in let p = c.requires in
     filed_none (doc_of a.s.now a.rows.now a.n) a.seed _ _ _ _ p.1 c.clear.ensures (p.2 ∙ sym (room_rows a.rows.now a.n)) (p.3 ∙ sym (room_rows a.rows.now a.n))
 
-pub number_row-full-requires : goal.number_row-full-requires
-number_row-full-requires c = (c.requires.0, c.loop-i.invariant, c.loop-i-test.true)
+pub number_row-requires : goal.number_row-requires
+number_row-requires c = (c.requires.0, c.loop-i.invariant, c.loop-i-test.true)
 
 pub loop-i-preserved : goal.loop-i-preserved
-loop-i-preserved c = c.number_row-full.ensures
+loop-i-preserved c = c.number_row.ensures
 
 pub shape_of-head : goal.shape_of-head
 shape_of-head c = c.loop-i.invariant.heads ∙ sym c.requires.1

@@ -1,11 +1,7 @@
 -- Row by row.
-use Prim.Native.Nat.{◌-◌}
 use Rattle.query_rows.specs.Rowed.{doc_of}
 use Rattle.plan_keys.specs.Keyed.{Filed}
 use Rattle.plan_keys.proofs.number_by.Given as goal
 
 abbrev pub invariant-loop-i : goal.invariant-loop-i
 invariant-loop-i l = Filed (doc_of l.s l.rows l.n) l.seed l.head l.next l.keys l.i
-
-abbrev pub decreases-loop-i : goal.decreases-loop-i
-decreases-loop-i l = l.n - l.i

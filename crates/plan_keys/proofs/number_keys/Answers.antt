@@ -1,25 +1,24 @@
 -- Whatever the seed.
-use mathlib.Core.Path.{refl, sym, ◌∙◌}
+use mathlib.Core.Path.{refl, ◌∙◌}
 use native.Mathlib.Omega.{arith}
 use Rattle.query_rows.proofs.RowsIn.{rows_count}
 use Rattle.plan_keys.proofs.Filing.{filed_all}
 use Rattle.plan_keys.proofs.number_keys.Goals as goal
 
-pub loop-crowded-init : goal.loop-crowded-init
-loop-crowded-init c = let a = c.args in
-    (refl, refl, refl, filed_all _ _ _ _ _ _ (rows_count a.rows.now a.n) c.number_by-crowded.ensures, omega arith)
+pub loop-seed-init : goal.loop-seed-init
+loop-seed-init c = (refl, refl, refl, λ h. absurd (omega (arith, h)))
 
-pub returns-then-seed-eq-SEEDS : goal.returns-then-seed-eq-SEEDS
-returns-then-seed-eq-SEEDS c = c.loop-crowded.invariant.3
+pub number_by-requires : goal.number_by-requires
+number_by-requires c = let l = c.loop-seed.invariant in
+    (c.requires.0, l.0 ∙ c.requires.1, l.1 ∙ c.requires.2, l.2 ∙ c.requires.3)
 
-pub loop-crowded-preserved : goal.loop-crowded-preserved
-loop-crowded-preserved c = let a = c.args in (
-  c.number_by-crowded-in-loop-crowded.ensures.heads ∙ sym c.number_by-crowded.ensures.heads,
-  c.number_by-crowded-in-loop-crowded.ensures.nexts ∙ sym c.number_by-crowded.ensures.nexts,
-  c.number_by-crowded-in-loop-crowded.ensures.sizes ∙ sym c.number_by-crowded.ensures.sizes,
-  filed_all _ _ _ _ _ _ (rows_count a.rows.now a.n) c.number_by-crowded-in-loop-crowded.ensures,
-  omega (arith, c.loop-crowded.invariant.4, c.if-seed-eq-SEEDS.false),
-)
+pub returns-then-not-number_by : goal.returns-then-not-number_by
+returns-then-not-number_by c = filed_all _ _ _ _ _ _ (rows_count c.args.rows.now c.args.n) c.number_by.ensures
+
+pub loop-seed-preserved : goal.loop-seed-preserved
+loop-seed-preserved c = let l = c.loop-seed.invariant in
+    let k = c.number_by.auto in
+    (k.head ∙ l.0, k.next ∙ l.1, k.keys ∙ l.2, λ h. filed_all _ _ _ _ _ _ (rows_count c.args.rows.now c.args.n) c.number_by.ensures)
 
 pub returns : goal.returns
-returns c = c.loop-crowded.invariant.3
+returns c = c.loop-seed.invariant.3 (omega (arith, c.loop-seed-test.false))

@@ -5,6 +5,3 @@ use Rattle.plan_walk_blocks.proofs.came_before.Given as goal
 
 abbrev pub invariant-loop-j : goal.invariant-loop-j
 invariant-loop-j l = (l.j ≤ l.i) × (before l.found l.i l.key ≡ before l.found l.j l.key)
-
-abbrev pub decreases-loop-j : goal.decreases-loop-j
-decreases-loop-j l = l.j

@@ -14,11 +14,11 @@ block_formed-requires c = let p = c.requires in
 
 pub loop-b-preserved : goal.loop-b-preserved
 loop-b-preserved c = let l = c.loop-b in
-    (l.invariant.0, blocks_more _ _ l.b l.invariant.1 (decided_yes _ _ c.block_formed.ensures c.if-block_formed.true))
+    (l.invariant.0, blocks_more _ _ l.b l.invariant.1 (decided_yes _ _ c.block_formed.ensures c.if-not-block_formed.false))
 
-pub returns-in-loop-b : goal.returns-in-loop-b
-returns-in-loop-b c = let l = c.loop-b in
-    λ f. decided_no _ _ c.block_formed.ensures c.if-block_formed.false (f l.b (omega (arith, l.invariant.0, c.loop-b-test.true)))
+pub returns-then-not-block_formed : goal.returns-then-not-block_formed
+returns-then-not-block_formed c = let l = c.loop-b in
+    λ f. decided_no _ _ c.block_formed.ensures c.if-not-block_formed.true (f l.b (omega (arith, l.invariant.0, c.loop-b-test.true)))
 
 pub returns : goal.returns
 returns c = let l = c.loop-b in

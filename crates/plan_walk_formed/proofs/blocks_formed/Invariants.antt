@@ -1,5 +1,5 @@
 use mathlib.Core.Path.{◌≡◌}
-use Prim.Native.Nat.{ℕ, ◌-◌, ◌<◌}
+use Prim.Native.Nat.{ℕ, ◌<◌}
 use Rattle.paper_table.specs.Types.{table_of}
 use Rattle.paper_plan.specs.PlanNumbers.{blocks_in}
 use Rattle.plan_walk_formed.specs.Blocks.{BlockFormed}
@@ -7,6 +7,3 @@ use Rattle.plan_walk_formed.proofs.blocks_formed.Given as goal
 
 abbrev pub invariant-loop-b : goal.invariant-loop-b
 invariant-loop-b l = (l.n ≡ blocks_in l.p) × ((j : ℕ) → j < l.b → BlockFormed (table_of l.t) l.p j)
-
-abbrev pub decreases-loop-b : goal.decreases-loop-b
-decreases-loop-b l = l.n - l.b

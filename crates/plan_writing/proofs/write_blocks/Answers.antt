@@ -42,12 +42,6 @@ shape_of-plan-then-at-eq-TOO_MANY_STEPS c = c.plan-1.given ∙ length-set c.loop
 pub returns-then-at-eq-TOO_MANY_STEPS : goal.returns-then-at-eq-TOO_MANY_STEPS
 returns-then-at-eq-TOO_MANY_STEPS c = inr (going_over c.args.cells.now c.args.n (c.args.o ∷ take c.args.m c.args.out.now) c.loop-b.plan c.loop-b.at c.loop-b.b c.loop-b.invariant.0 (omega (arith, c.loop-b-test.true, holders_size c.args.o c.args.m c.args.out.now c.requires.1.within)) _ (holder_is c.args.o c.args.m c.args.out.now c.loop-b.b _ c.loop-b-test.true c.block_row-holder.ensures) _ (over_by c.expand-at.ensures c.if-at-eq-TOO_MANY_STEPS.true))
 
-pub overflow_add-b : goal.overflow_add-b
-overflow_add-b c = omega (arith, c.loop-b-test.true, c.requires.1.few)
-
-pub loop-b-smaller : goal.loop-b-smaller
-loop-b-smaller c = omega (arith, c.loop-b-test.true)
-
 pub loop-b-preserved : goal.loop-b-preserved
 loop-b-preserved c = (going_more c.args.cells.now c.args.n (c.args.o ∷ take c.args.m c.args.out.now) c.loop-b.plan c.loop-b.at c.loop-b.b c.loop-b.invariant.0 (omega (arith, c.loop-b-test.true, holders_size c.args.o c.args.m c.args.out.now c.requires.1.within)) _ (holder_is c.args.o c.args.m c.args.out.now c.loop-b.b _ c.loop-b-test.true c.block_row-holder.ensures) _ _ _ (omega (arith, c.requires.1.few, holders_size c.args.o c.args.m c.args.out.now c.requires.1.within)) refl (fitted_by c.expand-at.ensures c.if-at-eq-TOO_MANY_STEPS.false), c.opened-1.given ∙ c.loop-b.invariant.1, c.begun-1.given ∙ c.loop-b.invariant.2)
 
@@ -62,3 +56,11 @@ shape_of-plan c = c.loop-b.invariant.0.size ∙ sym (ap length c.requires.2 ∙ 
 
 pub returns : goal.returns
 returns c = let z : c.loop-b.b ≡ length (c.args.o ∷ take c.args.m c.args.out.now) = omega (arith, c.loop-b-test.false, c.loop-b.invariant.0.most, holders_size c.args.o c.args.m c.args.out.now c.requires.1.within) in inl (subst (Going c.args.cells.now c.args.n (c.args.o ∷ take c.args.m c.args.out.now) c.loop-b.plan c.loop-b.at) z c.loop-b.invariant.0)
+
+pub returns-else-at-eq-TOO_MANY_STEPS : goal.returns-else-at-eq-TOO_MANY_STEPS
+returns-else-at-eq-TOO_MANY_STEPS c =
+    let size = holders_size c.args.o c.args.m c.args.out.now c.requires.1.within in
+    let w : Going c.args.cells.now c.args.n (c.args.o ∷ take c.args.m c.args.out.now) c.expand-at.new.p c.expand-at.result (c.loop-b.b + 1) =
+    going_more c.args.cells.now c.args.n (c.args.o ∷ take c.args.m c.args.out.now) c.loop-b.plan c.loop-b.at c.loop-b.b c.loop-b.invariant.0 (omega (arith, c.loop-b-test.true, size)) _ (holder_is c.args.o c.args.m c.args.out.now c.loop-b.b _ c.loop-b-test.true c.block_row-holder.ensures) _ _ _ (omega (arith, c.requires.1.few, size)) refl (fitted_by c.expand-at.ensures c.if-at-eq-TOO_MANY_STEPS.false) in
+    let z : c.loop-b.b + 1 ≡ length (c.args.o ∷ take c.args.m c.args.out.now) = omega (arith, size) in
+    inl (subst (Going c.args.cells.now c.args.n (c.args.o ∷ take c.args.m c.args.out.now) c.expand-at.new.p c.expand-at.result) z w)

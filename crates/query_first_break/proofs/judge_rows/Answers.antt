@@ -15,12 +15,6 @@ overflow_cast-result c = omega (arith, c.requires.asked.rowed.few)
 pub returns-then-rule-ne0 : goal.returns-then-rule-ne0
 returns-then-rule-ne0 c = judged_breaks _ c.loop-i.invariant c.rule_at-rule.ensures c.if-rule-ne0.true
 
-pub overflow_add-i : goal.overflow_add-i
-overflow_add-i c = omega (arith, c.requires.asked.rowed.few)
-
-pub loop-i-smaller : goal.loop-i-smaller
-loop-i-smaller c = omega arith
-
 pub loop-i-preserved : goal.loop-i-preserved
 loop-i-preserved c = none_more _ c.loop-i.invariant c.rule_at-rule.ensures c.if-rule-ne0.false
 

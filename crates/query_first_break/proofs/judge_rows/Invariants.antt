@@ -1,4 +1,3 @@
-use Prim.Native.Nat.{◌-◌}
 use Rattle.paper_table.specs.Types.{table_of}
 use Rattle.query_rows.specs.Rowed.{doc_of}
 use Rattle.query_first_break.proofs.JudgedLaws.{NoneBefore}
@@ -6,6 +5,3 @@ use Rattle.query_first_break.proofs.judge_rows.Given as goal
 
 abbrev pub invariant-loop-i : goal.invariant-loop-i
 invariant-loop-i l = NoneBefore (table_of l.t) (doc_of l.s l.rows l.n) l.i
-
-abbrev pub decreases-loop-i : goal.decreases-loop-i
-decreases-loop-i l = l.n - l.i

@@ -1,10 +1,6 @@
 -- Row by row.
-use Prim.Native.Nat.{◌-◌, ◌≤◌}
 use Rattle.query_inside.specs.Enclosed.{EnclosedTo}
 use Rattle.query_inside.proofs.enclose.Given as goal
 
 abbrev pub invariant-loop-i : goal.invariant-loop-i
-invariant-loop-i l = (l.i ≤ l.n) × EnclosedTo l.t l.book l.es l.s l.rows l.n l.i l.inside l.at
-
-abbrev pub decreases-loop-i : goal.decreases-loop-i
-decreases-loop-i l = l.n - l.i
+invariant-loop-i l = EnclosedTo l.t l.book l.es l.s l.rows l.n l.i l.inside l.at

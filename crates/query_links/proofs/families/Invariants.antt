@@ -5,6 +5,3 @@ use Rattle.query_links.proofs.families.Given as goal
 
 abbrev pub invariant-loop-j : goal.invariant-loop-j
 invariant-loop-j l = RowChains parents firsts_size l.rows l.n l.first l.next l.j
-
-abbrev pub decreases-loop-j : goal.decreases-loop-j
-decreases-loop-j l = l.j

@@ -33,4 +33,4 @@ pub returns : goal.returns
 returns c =
     let written : c.first_roots-k.result < count_in c.args.book.now = omega (arith, c.if-count_of-k.false, c.count_of.ensures) in
     let a = c.args in
-    written_root a.t.now a.book.now c.requires c.first_roots-k.result c.first_roots-k.ensures written c.start_of.result c.end_of.result c.start_of.ensures c.end_of.ensures a.x _ _ _ (subst (FindTagged a.t.now c.start_of.result c.end_of.result (tag_query_root + a.x)) c.in-Found.is c.find_tagged.ensures)
+    written_root a.t.now a.book.now c.requires c.first_roots-k.result c.first_roots-k.ensures written c.start_of.result c.end_of.result c.start_of.ensures c.end_of.ensures a.x _ _ _ (subst (FindTagged a.t.now c.start_of.result c.end_of.result (tag_query_root + a.x)) c.in-Some.is c.find_tagged.ensures)

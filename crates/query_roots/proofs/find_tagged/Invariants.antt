@@ -6,8 +6,8 @@ use Rattle.table_members.proofs.FindLaws.{Sought}
 use Rattle.query_roots.specs.Rooted.{tagged}
 use Rattle.query_roots.proofs.find_tagged.Given as goal
 
-abbrev pub invariant-loop-k : goal.invariant-loop-k
-invariant-loop-k l = Sought l.from l.end l.i (find (tagged l.tag) (members_in l.t l.from l.end)) (find (tagged l.tag) (members_in l.t l.i l.end))
+abbrev pub invariant-loop-f : goal.invariant-loop-f
+invariant-loop-f l = Sought l.from l.end l.i (find (tagged l.tag) (members_in l.t l.from l.end)) (find (tagged l.tag) (members_in l.t l.i l.end))
 
-abbrev pub decreases-loop-k : goal.decreases-loop-k
-decreases-loop-k l = l.end - l.i
+abbrev pub decreases-loop-f : goal.decreases-loop-f
+decreases-loop-f l = l.end - l.i

@@ -15,12 +15,6 @@ owner_of-o-requires c = (c.requires.0, c.loop-i.invariant, c.loop-i-test.true)
 pub bounds-owner-i : goal.bounds-owner-i
 bounds-owner-i c = room_at _ _ _ c.loop-i.invariant.size c.requires.0.few c.loop-i-test.true
 
-pub overflow_add-i : goal.overflow_add-i
-overflow_add-i c = omega (arith, c.loop-i-test.true, c.requires.0.few)
-
-pub loop-i-smaller : goal.loop-i-smaller
-loop-i-smaller c = omega (arith, c.loop-i-test.true)
-
 pub loop-i-preserved : goal.loop-i-preserved
 loop-i-preserved c = owned_more _ _ _ _ (room_at _ _ _ refl c.requires.0.few c.loop-i-test.true) c.loop-i.invariant c.owner_of-o.ensures
 

@@ -1,11 +1,7 @@
 -- From the first row to the last: parents stand before their children.
-use Prim.Native.Nat.{◌-◌}
 use Rattle.query_rows.specs.Rowed.{doc_of}
 use Rattle.query_spreads.specs.Owners.{OwnedTo}
 use Rattle.query_spreads.proofs.owners.Given as goal
 
 abbrev pub invariant-loop-i : goal.invariant-loop-i
 invariant-loop-i l = OwnedTo (doc_of l.s l.rows l.n) l.i l.owner
-
-abbrev pub decreases-loop-i : goal.decreases-loop-i
-decreases-loop-i l = l.n - l.i

@@ -27,17 +27,11 @@ put_first-requires c = let a = c.args in
     let m = rows_count a.rows.now a.n in
     (omega (arith, c.if-a-n.true, i.firsts, i.enough, m), room_at _ _ _ i.nexts c.requires.0.few (omega (arith, c.loop-j-test.true, i.most, m)), omega (arith, i.nexts, room_most (count (doc_of a.s.now a.rows.now a.n))))
 
-pub loop-j-smaller-then-a-n : goal.loop-j-smaller-then-a-n
-loop-j-smaller-then-a-n c = omega (arith, c.loop-j-test.true)
-
 pub loop-j-preserved-then-a-n : goal.loop-j-preserved-then-a-n
 loop-j-preserved-then-a-n c = let a = c.args in
     let l = c.loop-j in
     let m = rows_count a.rows.now a.n in
     linking_more (doc_of a.s.now a.rows.now a.n) _ l.first l.next l.j _ l.invariant c.loop-j-test.true (omega (arith, m, c.requires.0.few)) c.spreader-a.ensures (omega (arith, m, c.if-a-n.true)) c.put_first.ensures.0 c.put_first.ensures.1
-
-pub loop-j-smaller : goal.loop-j-smaller
-loop-j-smaller c = omega (arith, c.loop-j-test.true)
 
 pub loop-j-preserved : goal.loop-j-preserved
 loop-j-preserved c = let a = c.args in

@@ -6,6 +6,3 @@ use Rattle.query_spreads.proofs.spreads.Given as goal
 
 abbrev pub invariant-loop-j : goal.invariant-loop-j
 invariant-loop-j l = Linking (doc_of l.s l.rows l.n) (length l.initial.first) l.first l.next l.j
-
-abbrev pub decreases-loop-j : goal.decreases-loop-j
-decreases-loop-j l = l.j

@@ -5,6 +5,3 @@ use Rattle.query_subtrees.proofs.fill_pasts.Given as goal
 
 abbrev pub invariant-loop-i : goal.invariant-loop-i
 invariant-loop-i l = PastsFrom (rows_in l.rows l.n) l.past l.i
-
-abbrev pub decreases-loop-i : goal.decreases-loop-i
-decreases-loop-i l = l.i

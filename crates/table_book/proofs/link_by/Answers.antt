@@ -28,14 +28,11 @@ size_of-requires c = (linking_cells _ _ _ c.loop-j.invariant c.loop-j-test.true 
 pub hash-h-requires : goal.hash-h-requires
 hash-h-requires c = linking_within _ _ _ c.loop-j.invariant c.loop-j-test.true c.name_of.ensures c.size_of.ensures
 
-pub is_full-requires : goal.is_full-requires
-is_full-requires c = (linking_cells _ _ _ c.loop-j.invariant c.loop-j-test.true ∙ c.loop-j.invariant.held.cells, (held_kept _ _ _ c.loop-j.invariant.kept c.loop-j.invariant.held).most, c.hash-h.ensures.1)
+pub is_full-crowded-requires : goal.is_full-crowded-requires
+is_full-crowded-requires c = (linking_cells _ _ _ c.loop-j.invariant c.loop-j-test.true ∙ c.loop-j.invariant.held.cells, (held_kept _ _ _ c.loop-j.invariant.kept c.loop-j.invariant.held).most, c.hash-h.ensures.1)
 
 pub put_first-requires : goal.put_first-requires
 put_first-requires c = (linking_cells _ _ _ c.loop-j.invariant c.loop-j-test.true ∙ c.loop-j.invariant.held.cells, c.hash-h.ensures.1, linking_room _ _ _ c.loop-j.invariant c.loop-j-test.true)
-
-pub loop-j-smaller : goal.loop-j-smaller
-loop-j-smaller c = omega (arith, c.loop-j-test.true)
 
 pub loop-j-preserved : goal.loop-j-preserved
 loop-j-preserved c = linking_more _ _ _ c.loop-j.invariant c.loop-j-test.true c.name_of.ensures c.size_of.ensures (c.hash-h.ensures.0 ∙ ap (λ (x : ℕ). hash_of x (part c.args.t.now c.name_of.result c.size_of.result)) (sym (c.clear_heads.ensures.seed_is ∙ seed_set c.args.book.now c.args.seed c.requires.cells))) c.hash-h.ensures.1 c.put_first.ensures

@@ -4,6 +4,3 @@ use Rattle.table_book.proofs.link_by.Given as goal
 
 abbrev pub invariant-loop-j : goal.invariant-loop-j
 invariant-loop-j l = Linking l.t l.initial.book l.book l.j
-
-abbrev pub decreases-loop-j : goal.decreases-loop-j
-decreases-loop-j l = l.j

@@ -6,8 +6,8 @@ use Rattle.table_entries.specs.Entries.{ArgumentEntry}
 use Rattle.table_entries.proofs.Writes.{Filling}
 use Rattle.table_entries.proofs.enter_arguments.Given as goal
 
-abbrev pub invariant-loop-start : goal.invariant-loop-start
-invariant-loop-start l = (l.i ≤ l.end) × Filling (ArgumentEntry l.t l.book) length l.initial.es l.es l.e l.k (arguments_in l.t l.from l.end) (arguments_in l.t l.i l.end)
+abbrev pub invariant-loop-f : goal.invariant-loop-f
+invariant-loop-f l = (l.i ≤ l.end) × Filling (ArgumentEntry l.t l.book) length l.initial.es l.es l.e l.k (arguments_in l.t l.from l.end) (arguments_in l.t l.i l.end)
 
-abbrev pub decreases-loop-start : goal.decreases-loop-start
-decreases-loop-start l = l.end - l.i
+abbrev pub decreases-loop-f : goal.decreases-loop-f
+decreases-loop-f l = l.end - l.i

@@ -5,8 +5,8 @@ use Rattle.table_entries.specs.Entries.{entries_of, MemberEntry}
 use Rattle.table_entries.proofs.Writes.{Filling}
 use Rattle.table_entries.proofs.enter_members.Given as goal
 
-abbrev pub invariant-loop-tag : goal.invariant-loop-tag
-invariant-loop-tag l = (l.i ≤ l.end) × Filling (MemberEntry l.t l.book) entries_of l.initial.es l.es l.e l.k (members_in l.t l.from l.end) (members_in l.t l.i l.end)
+abbrev pub invariant-loop-f : goal.invariant-loop-f
+invariant-loop-f l = (l.i ≤ l.end) × Filling (MemberEntry l.t l.book) entries_of l.initial.es l.es l.e l.k (members_in l.t l.from l.end) (members_in l.t l.i l.end)
 
-abbrev pub decreases-loop-tag : goal.decreases-loop-tag
-decreases-loop-tag l = l.end - l.i
+abbrev pub decreases-loop-f : goal.decreases-loop-f
+decreases-loop-f l = l.end - l.i

@@ -24,12 +24,6 @@ enter_definition-e-requires c =
     let few : Roomy c.loop-i.es (c.loop-i.e + entries_in (definition_on c.args.t.now c.loop-i.i)) = roomy_less (next_few _ _ _ _ c.requires.booked _ _ c.loop-i.invariant more) (omega arith) in
     (c.requires.booked, more, few)
 
-pub overflow_add-i : goal.overflow_add-i
-overflow_add-i c =
-    let more : c.loop-i.i < count_in c.args.book.now = omega (arith, c.loop-i-test.true, c.count_of-count.ensures) in
-    let roomy : c.loop-i.i < room = next_room _ _ _ _ c.requires.booked _ _ c.loop-i.invariant more in
-    omega (arith, roomy)
-
 pub overflow_cast-es : goal.overflow_cast-es
 overflow_cast-es c =
     let more : c.loop-i.i < count_in c.args.book.now = omega (arith, c.loop-i-test.true, c.count_of-count.ensures) in
@@ -47,11 +41,6 @@ bounds-es-i c =
     let more : c.loop-i.i < count_in c.args.book.now = omega (arith, c.loop-i-test.true, c.count_of-count.ensures) in
     let roomy : c.loop-i.i < room = next_room _ _ _ _ c.requires.booked _ _ c.loop-i.invariant more in
     omega (arith, roomy, c.enter_definition-e.ensures.cells, c.loop-i.invariant.few.cells)
-
-pub loop-i-smaller : goal.loop-i-smaller
-loop-i-smaller c =
-    let more : c.loop-i.i < count_in c.args.book.now = omega (arith, c.loop-i-test.true, c.count_of-count.ensures) in
-    omega (arith, more)
 
 pub loop-i-preserved : goal.loop-i-preserved
 loop-i-preserved c =

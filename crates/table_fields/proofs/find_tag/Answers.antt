@@ -1,9 +1,7 @@
 -- Field by field: the first of the tag is found from each place on, or it is here.
 use Rattle.table_fields.proofs.BoundsLaws.{later}
-use mathlib.Core.Path.{◌≡◌, sym, ◌∙◌}
+use mathlib.Core.Path.{sym, ◌∙◌}
 use native.Mathlib.Omega.{arith}
-use Rattle.table_fields.specs.declared.FieldRead.TheVariants.{Field}
-use Rattle.table_fields.specs.Fields.{field_at}
 use Rattle.table_fields.proofs.FieldLaws.{field_lies}
 use Rattle.table_fields.proofs.FindLaws.{seeks_start, seeks_end, seeks_torn, seeks_here, seeks_on}
 use Rattle.table_fields.proofs.find_tag.Goals as goal
@@ -17,20 +15,17 @@ read_field-requires c = later c.requires c.loop-i.invariant.order
 pub returns-in_default : goal.returns-in_default
 returns-in_default c = seeks_torn c.args.t.now c.args.at c.args.end c.args.tag c.loop-i.i c.requires.within c.loop-i.invariant c.loop-i-test.true (sym c.read_field.ensures ∙ c.in_default.is)
 
-pub returns-then-k-tag : goal.returns-then-k-tag
-returns-then-k-tag c =
-    let read : field_at c.args.t.now c.loop-i.i c.args.end ≡ Field c.in-Field.k c.in-Field.from c.in-Field.to = sym c.read_field.ensures ∙ c.in-Field.is in
-    seeks_here c.args.t.now c.args.at c.args.end c.args.tag c.loop-i.i c.requires.within c.loop-i.invariant c.loop-i-test.true _ _ _ read c.if-k-tag.true
+pub returns-then-f-tag : goal.returns-then-f-tag
+returns-then-f-tag c =
+    seeks_here c.args.t.now c.args.at c.args.end c.args.tag c.loop-i.i c.requires.within c.loop-i.invariant c.loop-i-test.true _ (sym c.read_field.ensures ∙ c.in-Some.is) c.if-f-tag.true
 
 pub loop-i-smaller : goal.loop-i-smaller
 loop-i-smaller c =
-    let read : field_at c.args.t.now c.loop-i.i c.args.end ≡ Field c.in-Field.k c.in-Field.from c.in-Field.to = sym c.read_field.ensures ∙ c.in-Field.is in
-    let l = field_lies c.args.t.now c.loop-i.i c.args.end _ _ _ c.loop-i.invariant.order read in omega (arith, l.begins, l.order, l.within, c.loop-i-test.true)
+    let l = field_lies c.args.t.now c.loop-i.i c.args.end _ c.loop-i.invariant.order (sym c.read_field.ensures ∙ c.in-Some.is) in omega (arith, l.begins, l.order, l.within, c.loop-i-test.true)
 
 pub loop-i-preserved : goal.loop-i-preserved
 loop-i-preserved c =
-    let read : field_at c.args.t.now c.loop-i.i c.args.end ≡ Field c.in-Field.k c.in-Field.from c.in-Field.to = sym c.read_field.ensures ∙ c.in-Field.is in
-    seeks_on c.args.t.now c.args.at c.args.end c.args.tag c.loop-i.i c.requires.within c.loop-i.invariant c.loop-i-test.true _ _ _ read c.if-k-tag.false
+    seeks_on c.args.t.now c.args.at c.args.end c.args.tag c.loop-i.i c.requires.within c.loop-i.invariant c.loop-i-test.true _ (sym c.read_field.ensures ∙ c.in-Some.is) c.if-f-tag.false
 
 pub returns : goal.returns
 returns c = seeks_end c.args.t.now c.args.at c.args.end c.args.tag c.loop-i.i c.requires.within c.loop-i.invariant c.loop-i-test.false

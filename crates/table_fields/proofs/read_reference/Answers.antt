@@ -58,12 +58,6 @@ overflow_add-wrappers c = let h = wrapped_small c.args.t.now c.args.start c.args
 pub overflow_cast-lists : goal.overflow_cast-lists
 overflow_cast-lists c = omega arith
 
-pub overflow_add-i : goal.overflow_add-i
-overflow_add-i c = omega (arith, c.loop-i-test.true, c.requires.within, c.requires.most)
-
-pub loop-i-smaller : goal.loop-i-smaller
-loop-i-smaller c = omega (arith, c.loop-i-test.true)
-
 pub loop-i-preserved : goal.loop-i-preserved
 loop-i-preserved c = wrapped_on c.args.t.now c.args.start c.args.end _ _ _ _ c.loop-i.i c.requires.within c.loop-i.invariant c.loop-i-test.true _ c.wrapper-w.ensures c.if-w-eq0.false
 

@@ -1,4 +1,6 @@
 -- Depth falls at each call; in a holder one field more is read at each turn, and what comes decides.
+use Rattle.std.proofs.lemmas.Result.{err_from_is_err_and}
+use Rattle.std.specs.Prelude.{Some}
 use Rattle.table_fields.proofs.BoundsLaws.{later, narrow}
 use borrow.Enum.Refused.{opened}
 use mathlib.Core.Path.{◌≡◌, sym, subst, ◌∙◌}
@@ -6,7 +8,6 @@ use Prim.Native.Nat.{◌+◌}
 use native.Mathlib.Omega.{arith}
 use mathlib.Core.Bool.{true, false}
 use lib.Seq.{slice}
-use Rattle.table_fields.specs.declared.FieldRead.TheVariants.{Field}
 use Rattle.table_fields.specs.Fields.{field_at}
 use Rattle.table_fields.proofs.FieldLaws.{Lies, field_lies}
 use Rattle.table_framing.specs.Holders.{Holder, HoldsAs}
@@ -56,33 +57,34 @@ overflow_cast-result-then-not-in_place t c = omega (arith, c.loop-i.invariant.or
 
 pub returns-then-not-in_place : goal.returns-then-not-in_place
 returns-then-not-in_place t c =
-    let read : field_at c.args.t.now c.loop-i.i c.args.end ≡ Field c.in-Field.k c.in-Field.start c.in-Field.e = sym c.read_field.ensures ∙ c.in-Field.is in
-    ordered_out c.args.t.now c.args.at c.args.tag c.args.end c.args.depth _ _ _ _ _ c.loop-i.i c.requires.within c.if-depth-eq0.false c.loop-i.invariant c.loop-i-test.true _ _ _ read _ c.in_place.ensures c.if-not-in_place.true
+    let read : field_at c.args.t.now c.loop-i.i c.args.end ≡ Some c.in-Some.f = sym c.read_field.ensures ∙ c.in-Some.is in
+    ordered_out c.args.t.now c.args.at c.args.tag c.args.end c.args.depth _ _ _ _ _ c.loop-i.i c.requires.within c.if-depth-eq0.false c.loop-i.invariant c.loop-i-test.true _ read _ c.in_place.ensures c.if-not-in_place.true
 
 pub overflow_sub-depth : goal.overflow_sub-depth
 overflow_sub-depth t c = let n = c.if-depth-eq0.false in omega arith
 
-pub first_wrong-w-requires : goal.first_wrong-w-requires
-first_wrong-w-requires t c =
-    let read : field_at c.args.t.now c.loop-i.i c.args.end ≡ Field c.in-Field.k c.in-Field.start c.in-Field.e = sym c.read_field.ensures ∙ c.in-Field.is in
-    let lies : Lies c.loop-i.i c.args.end c.in-Field.start c.in-Field.e = field_lies c.args.t.now c.loop-i.i c.args.end _ _ _ c.loop-i.invariant.order read in
+pub first_wrong-requires : goal.first_wrong-requires
+first_wrong-requires t c =
+    let read : field_at c.args.t.now c.loop-i.i c.args.end ≡ Some c.in-Some.f = sym c.read_field.ensures ∙ c.in-Some.is in
+    let lies : Lies c.loop-i.i c.args.end c.in-Some.f.start c.in-Some.f.end = field_lies c.args.t.now c.loop-i.i c.args.end _ c.loop-i.invariant.order read in
     let l = lies in (omega (arith, c.decreases, c.if-depth-eq0.false), narrow c.requires (omega (arith, l.begins, l.order)) l.within)
 
-pub returns-in_default-w : goal.returns-in_default-w
-returns-in_default-w t c =
-    let read : field_at c.args.t.now c.loop-i.i c.args.end ≡ Field c.in-Field.k c.in-Field.start c.in-Field.e = sym c.read_field.ensures ∙ c.in-Field.is in
-    ordered_inside c.args.t.now c.args.at c.args.tag c.args.end c.args.depth _ _ _ _ _ c.loop-i.i c.requires.within c.if-depth-eq0.false c.loop-i.invariant c.loop-i-test.true _ _ _ read _ c.in_place.ensures c.if-not-in_place.false _ _ c.first_wrong-w.ensures c.in_default-w.is
+pub returns-in_err-first_wrong : goal.returns-in_err-first_wrong
+returns-in_err-first_wrong t c =
+    let read : field_at c.args.t.now c.loop-i.i c.args.end ≡ Some c.in-Some.f = sym c.read_field.ensures ∙ c.in-Some.is in
+    let p = err_from_is_err_and c.from_residual.result c.from_residual.ensures.1 in
+    rw (p.1, p.2) (sym c.in_err-first_wrong.was ∙ ordered_inside c.args.t.now c.args.at c.args.tag c.args.end c.args.depth _ _ _ _ _ c.loop-i.i c.requires.within c.if-depth-eq0.false c.loop-i.invariant c.loop-i-test.true _ read _ c.in_place.ensures c.if-not-in_place.false _ _ c.first_wrong.ensures c.in_err-first_wrong.was)
 
 pub loop-i-smaller : goal.loop-i-smaller
 loop-i-smaller t c =
-    let read : field_at c.args.t.now c.loop-i.i c.args.end ≡ Field c.in-Field.k c.in-Field.start c.in-Field.e = sym c.read_field.ensures ∙ c.in-Field.is in
-    let lies : Lies c.loop-i.i c.args.end c.in-Field.start c.in-Field.e = field_lies c.args.t.now c.loop-i.i c.args.end _ _ _ c.loop-i.invariant.order read in
+    let read : field_at c.args.t.now c.loop-i.i c.args.end ≡ Some c.in-Some.f = sym c.read_field.ensures ∙ c.in-Some.is in
+    let lies : Lies c.loop-i.i c.args.end c.in-Some.f.start c.in-Some.f.end = field_lies c.args.t.now c.loop-i.i c.args.end _ c.loop-i.invariant.order read in
     let l = lies in omega (arith, l.begins, l.order, l.within, c.loop-i-test.true)
 
 pub loop-i-preserved : goal.loop-i-preserved
 loop-i-preserved t c =
-    let read : field_at c.args.t.now c.loop-i.i c.args.end ≡ Field c.in-Field.k c.in-Field.start c.in-Field.e = sym c.read_field.ensures ∙ c.in-Field.is in
-    ordered_on c.args.t.now c.args.at c.args.tag c.args.end c.args.depth _ _ _ _ _ c.loop-i.i c.requires.within c.if-depth-eq0.false c.loop-i.invariant c.loop-i-test.true _ _ _ read _ c.in_place.ensures c.if-not-in_place.false _ c.first_wrong-w.ensures c.in-Right.is _ c.least_after-least.ensures
+    let read : field_at c.args.t.now c.loop-i.i c.args.end ≡ Some c.in-Some.f = sym c.read_field.ensures ∙ c.in-Some.is in
+    ordered_on c.args.t.now c.args.at c.args.tag c.args.end c.args.depth _ _ _ _ _ c.loop-i.i c.requires.within c.if-depth-eq0.false c.loop-i.invariant c.loop-i-test.true _ read _ c.in_place.ensures c.if-not-in_place.false _ c.first_wrong.ensures c.in_ok-first_wrong.was _ c.least_after-least.ensures
 
 pub overflow_cast-lacking : goal.overflow_cast-lacking
 overflow_cast-lacking t c = omega (arith, c.requires.order, c.requires.within, c.requires.most)

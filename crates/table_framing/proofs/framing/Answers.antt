@@ -1,9 +1,10 @@
 -- One record more at each turn, and what comes decides.
+use Rattle.std.proofs.lemmas.Result.{err_from_is_err_and}
+use Rattle.std.specs.Prelude.{Some}
 use mathlib.Core.Path.{◌≡◌, sym, ◌∙◌}
 use native.Mathlib.Omega.{arith}
 use native.Mathlib.Nat.{le_refl}
 use lib.ListN.{length}
-use Rattle.table_fields.specs.declared.FieldRead.TheVariants.{Field}
 use Rattle.table_fields.specs.Fields.{field_at}
 use Rattle.table_fields.proofs.FieldLaws.{Lies, field_lies}
 use Rattle.table_framing.proofs.WrongLaws.{framing_start, framing_end, framing_torn, framing_out, framing_inside, framing_on}
@@ -26,30 +27,31 @@ overflow_cast-result-then-not-record_in_place c = omega (arith, c.loop-i.invaria
 
 pub returns-then-not-record_in_place : goal.returns-then-not-record_in_place
 returns-then-not-record_in_place c =
-    let read : field_at c.args.t.now c.loop-i.i (length c.args.t.now) ≡ Field c.in-Field.k c.in-Field.start c.in-Field.e = sym c.read_field.ensures ∙ c.in-Field.is in
-    framing_out c.args.t.now _ c.loop-i.i c.loop-i.invariant c.loop-i-test.true _ _ _ read _ c.record_in_place.ensures c.if-not-record_in_place.true
+    let read : field_at c.args.t.now c.loop-i.i (length c.args.t.now) ≡ Some c.in-Some.f = sym c.read_field.ensures ∙ c.in-Some.is in
+    framing_out c.args.t.now _ c.loop-i.i c.loop-i.invariant c.loop-i-test.true _ read _ c.record_in_place.ensures c.if-not-record_in_place.true
 
-pub first_wrong-w-requires : goal.first_wrong-w-requires
-first_wrong-w-requires c =
-    let read : field_at c.args.t.now c.loop-i.i (length c.args.t.now) ≡ Field c.in-Field.k c.in-Field.start c.in-Field.e = sym c.read_field.ensures ∙ c.in-Field.is in
-    let lies : Lies c.loop-i.i (length c.args.t.now) c.in-Field.start c.in-Field.e = field_lies c.args.t.now c.loop-i.i (length c.args.t.now) _ _ _ c.loop-i.invariant.order read in
+pub first_wrong-requires : goal.first_wrong-requires
+first_wrong-requires c =
+    let read : field_at c.args.t.now c.loop-i.i (length c.args.t.now) ≡ Some c.in-Some.f = sym c.read_field.ensures ∙ c.in-Some.is in
+    let lies : Lies c.loop-i.i (length c.args.t.now) c.in-Some.f.start c.in-Some.f.end = field_lies c.args.t.now c.loop-i.i (length c.args.t.now) _ c.loop-i.invariant.order read in
     let l = lies in record { order = omega (arith, l.begins, l.order); within = l.within; most = c.requires }
 
-pub returns-in_default-w : goal.returns-in_default-w
-returns-in_default-w c =
-    let read : field_at c.args.t.now c.loop-i.i (length c.args.t.now) ≡ Field c.in-Field.k c.in-Field.start c.in-Field.e = sym c.read_field.ensures ∙ c.in-Field.is in
-    framing_inside c.args.t.now _ c.loop-i.i c.loop-i.invariant c.loop-i-test.true _ _ _ read _ c.record_in_place.ensures c.if-not-record_in_place.false _ _ c.first_wrong-w.ensures c.in_default-w.is
+pub returns-in_err-first_wrong : goal.returns-in_err-first_wrong
+returns-in_err-first_wrong c =
+    let read : field_at c.args.t.now c.loop-i.i (length c.args.t.now) ≡ Some c.in-Some.f = sym c.read_field.ensures ∙ c.in-Some.is in
+    let p = err_from_is_err_and c.from_residual.result c.from_residual.ensures.1 in
+    rw (p.1, p.2) (sym c.in_err-first_wrong.was ∙ framing_inside c.args.t.now _ c.loop-i.i c.loop-i.invariant c.loop-i-test.true _ read _ c.record_in_place.ensures c.if-not-record_in_place.false _ _ c.first_wrong.ensures c.in_err-first_wrong.was)
 
 pub loop-i-smaller : goal.loop-i-smaller
 loop-i-smaller c =
-    let read : field_at c.args.t.now c.loop-i.i (length c.args.t.now) ≡ Field c.in-Field.k c.in-Field.start c.in-Field.e = sym c.read_field.ensures ∙ c.in-Field.is in
-    let lies : Lies c.loop-i.i (length c.args.t.now) c.in-Field.start c.in-Field.e = field_lies c.args.t.now c.loop-i.i (length c.args.t.now) _ _ _ c.loop-i.invariant.order read in
+    let read : field_at c.args.t.now c.loop-i.i (length c.args.t.now) ≡ Some c.in-Some.f = sym c.read_field.ensures ∙ c.in-Some.is in
+    let lies : Lies c.loop-i.i (length c.args.t.now) c.in-Some.f.start c.in-Some.f.end = field_lies c.args.t.now c.loop-i.i (length c.args.t.now) _ c.loop-i.invariant.order read in
     let l = lies in omega (arith, l.begins, l.order, l.within, c.loop-i-test.true)
 
 pub loop-i-preserved : goal.loop-i-preserved
 loop-i-preserved c =
-    let read : field_at c.args.t.now c.loop-i.i (length c.args.t.now) ≡ Field c.in-Field.k c.in-Field.start c.in-Field.e = sym c.read_field.ensures ∙ c.in-Field.is in
-    framing_on c.args.t.now _ c.loop-i.i c.loop-i.invariant c.loop-i-test.true _ _ _ read _ c.record_in_place.ensures c.if-not-record_in_place.false _ c.first_wrong-w.ensures c.in-Right.is _ c.roots_after-roots.ensures
+    let read : field_at c.args.t.now c.loop-i.i (length c.args.t.now) ≡ Some c.in-Some.f = sym c.read_field.ensures ∙ c.in-Some.is in
+    framing_on c.args.t.now _ c.loop-i.i c.loop-i.invariant c.loop-i-test.true _ read _ c.record_in_place.ensures c.if-not-record_in_place.false _ c.first_wrong.ensures c.in_ok-first_wrong.was _ c.roots_after-roots.ensures
 
 pub returns : goal.returns
 returns c = framing_end c.args.t.now _ c.loop-i.i c.loop-i.invariant c.loop-i-test.false

@@ -1,9 +1,9 @@
 -- One field more at each turn, and what comes decides.
+use Rattle.std.specs.Prelude.{Some}
 use Rattle.table_fields.proofs.BoundsLaws.{later, narrow}
 use mathlib.Core.Path.{◌≡◌, sym, ◌∙◌}
 use mathlib.Core.Bool.{false≢true}
 use native.Mathlib.Omega.{arith}
-use Rattle.table_fields.specs.declared.FieldRead.TheVariants.{Field}
 use Rattle.table_fields.specs.Fields.{field_at}
 use Rattle.table_fields.proofs.FieldLaws.{Lies, field_lies}
 use Rattle.table_framing_quick.proofs.UsualLaws.{going_start, going_on, going_end}
@@ -29,8 +29,8 @@ returns-then-not-in_place c = λ e. absurd (false≢true e)
 
 pub is_usual_member-requires : goal.is_usual_member-requires
 is_usual_member-requires c =
-    let read : field_at c.args.t.now c.loop-i.i c.args.end ≡ Field c.in-Field.k c.in-Field.start c.in-Field.e = sym c.read_field.ensures ∙ c.in-Field.is in
-    let lies : Lies c.loop-i.i c.args.end c.in-Field.start c.in-Field.e = field_lies c.args.t.now c.loop-i.i c.args.end _ _ _ c.loop-i.invariant.order read in
+    let read : field_at c.args.t.now c.loop-i.i c.args.end ≡ Some c.in-Some.f = sym c.read_field.ensures ∙ c.in-Some.is in
+    let lies : Lies c.loop-i.i c.args.end c.in-Some.f.start c.in-Some.f.end = field_lies c.args.t.now c.loop-i.i c.args.end _ c.loop-i.invariant.order read in
     let l = lies in narrow c.requires.0 (omega (arith, l.begins, l.order)) l.within
 
 pub returns-then-not-is_usual_member : goal.returns-then-not-is_usual_member
@@ -38,14 +38,14 @@ returns-then-not-is_usual_member c = λ e. absurd (false≢true e)
 
 pub loop-i-smaller : goal.loop-i-smaller
 loop-i-smaller c =
-    let read : field_at c.args.t.now c.loop-i.i c.args.end ≡ Field c.in-Field.k c.in-Field.start c.in-Field.e = sym c.read_field.ensures ∙ c.in-Field.is in
-    let lies : Lies c.loop-i.i c.args.end c.in-Field.start c.in-Field.e = field_lies c.args.t.now c.loop-i.i c.args.end _ _ _ c.loop-i.invariant.order read in
+    let read : field_at c.args.t.now c.loop-i.i c.args.end ≡ Some c.in-Some.f = sym c.read_field.ensures ∙ c.in-Some.is in
+    let lies : Lies c.loop-i.i c.args.end c.in-Some.f.start c.in-Some.f.end = field_lies c.args.t.now c.loop-i.i c.args.end _ c.loop-i.invariant.order read in
     let l = lies in omega (arith, l.begins, l.order, l.within, c.loop-i-test.true)
 
 pub loop-i-preserved : goal.loop-i-preserved
 loop-i-preserved c =
-    let read : field_at c.args.t.now c.loop-i.i c.args.end ≡ Field c.in-Field.k c.in-Field.start c.in-Field.e = sym c.read_field.ensures ∙ c.in-Field.is in
-    going_on c.args.t.now c.args.at c.args.tag c.args.end c.args.first c.args.from c.args.to _ _ _ c.loop-i.i c.requires.0.within c.loop-i.invariant c.loop-i-test.true _ _ _ read _ c.in_place.ensures c.if-not-in_place.false _ c.least_after-least.ensures _ c.room_of-n.ensures c.if-names-n.false c.if-rest-n.false (c.is_usual_member.ensures c.if-not-is_usual_member.false)
+    let read : field_at c.args.t.now c.loop-i.i c.args.end ≡ Some c.in-Some.f = sym c.read_field.ensures ∙ c.in-Some.is in
+    going_on c.args.t.now c.args.at c.args.tag c.args.end c.args.first c.args.from c.args.to _ _ _ c.loop-i.i c.requires.0.within c.loop-i.invariant c.loop-i-test.true _ read _ c.in_place.ensures c.if-not-in_place.false _ c.least_after-least.ensures _ c.room_of-n.ensures c.if-names-n.false c.if-rest-n.false (c.is_usual_member.ensures c.if-not-is_usual_member.false)
 
 pub returns : goal.returns
 returns c = λ e. going_end c.args.t.now c.args.at c.args.tag c.args.end c.args.first c.args.from c.args.to _ _ _ c.loop-i.i c.requires.0.within c.loop-i.invariant c.loop-i-test.false

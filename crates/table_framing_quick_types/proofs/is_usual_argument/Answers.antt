@@ -8,4 +8,4 @@ pub returns-in_default : goal.returns-in_default
 returns-in_default c = λ z. absurd (false≢true z)
 
 pub returns : goal.returns
-returns c = λ z. argument_fine c.args.t.now c.args.at c.args.end _ c.requires.within (begun _ _ _ _ _ c.in-Ends.is c.typed_end.ensures) (eqb-true _ _ z)
+returns c = λ z. argument_fine c.args.t.now c.args.at c.args.end _ c.requires.within (begun _ _ _ _ _ c.in-Some.is c.typed_end.ensures) (eqb-true _ _ z)

@@ -1,6 +1,5 @@
 -- A walk over the definitions.
 use mathlib.Core.Path.{◌≡◌}
-use Prim.Native.Nat.{◌-◌}
 use lib.ListN.{length}
 use Rattle.paper_table.specs.Types.{table_of}
 use Rattle.table_book.specs.Book.{book_size}
@@ -9,6 +8,3 @@ use Rattle.table_judge.proofs.first_break.Given as goal
 
 abbrev pub invariant-loop-i : goal.invariant-loop-i
 invariant-loop-i l = InOrder (table_of l.t) l.i × (length l.listed ≡ book_size)
-
-abbrev pub decreases-loop-i : goal.decreases-loop-i
-decreases-loop-i l = l.count - l.i

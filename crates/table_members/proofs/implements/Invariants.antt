@@ -7,8 +7,8 @@ use Rattle.table_members.specs.Members.{implemented_in}
 use Rattle.table_members.proofs.FindLaws.{Sought}
 use Rattle.table_members.proofs.implements.Given as goal
 
-abbrev pub invariant-loop-start : goal.invariant-loop-start
-invariant-loop-start l = Sought l.from l.end l.i (any_of (same (part l.s l.at l.n)) (implemented_in l.t l.from l.end)) (any_of (same (part l.s l.at l.n)) (implemented_in l.t l.i l.end))
+abbrev pub invariant-loop-f : goal.invariant-loop-f
+invariant-loop-f l = Sought l.from l.end l.i (any_of (same (part l.s l.at l.n)) (implemented_in l.t l.from l.end)) (any_of (same (part l.s l.at l.n)) (implemented_in l.t l.i l.end))
 
-abbrev pub decreases-loop-start : goal.decreases-loop-start
-decreases-loop-start l = l.end - l.i
+abbrev pub decreases-loop-f : goal.decreases-loop-f
+decreases-loop-f l = l.end - l.i

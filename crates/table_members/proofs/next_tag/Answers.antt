@@ -12,21 +12,21 @@ loop-i-init c = walked_start _ _ _ c.requires.order
 pub read_field-requires : goal.read_field-requires
 read_field-requires c = later c.requires c.loop-i.invariant.within
 
-pub returns-in_default : goal.returns-in_default
-returns-in_default c = let a = c.args in
-    tags_torn a.t.now a.at a.end a.tag c.loop-i.i c.requires.within c.loop-i.invariant c.loop-i-test.true (sym c.read_field.ensures ∙ c.in_default.is)
+pub returns-in_err-f : goal.returns-in_err-f
+returns-in_err-f c = let a = c.args in
+    rw c.from_residual.ensures (tags_torn a.t.now a.at a.end a.tag c.loop-i.i c.requires.within c.loop-i.invariant c.loop-i-test.true (sym c.read_field.ensures ∙ c.in_err-f.was))
 
-pub returns-then-k-tag : goal.returns-then-k-tag
-returns-then-k-tag c = let a = c.args in
-    tags_here a.t.now a.at a.end a.tag c.loop-i.i c.requires.within c.loop-i.invariant c.loop-i-test.true _ _ _ (sym c.read_field.ensures ∙ c.in-Field.is) c.if-k-tag.true
+pub returns-then-f-tag : goal.returns-then-f-tag
+returns-then-f-tag c = let a = c.args in
+    tags_here a.t.now a.at a.end a.tag c.loop-i.i c.requires.within c.loop-i.invariant c.loop-i-test.true _ (sym c.read_field.ensures ∙ c.in_ok-f.was) c.if-f-tag.true
 
 pub loop-i-smaller : goal.loop-i-smaller
 loop-i-smaller c = let a = c.args in
-    omega (arith, c.loop-i-test.true, tags_move a.t.now a.at a.end a.tag c.loop-i.i c.requires.within c.loop-i.invariant c.loop-i-test.true _ _ _ (sym c.read_field.ensures ∙ c.in-Field.is))
+    omega (arith, c.loop-i-test.true, tags_move a.t.now a.at a.end a.tag c.loop-i.i c.requires.within c.loop-i.invariant c.loop-i-test.true _ (sym c.read_field.ensures ∙ c.in_ok-f.was))
 
 pub loop-i-preserved : goal.loop-i-preserved
 loop-i-preserved c = let a = c.args in
-    tags_on a.t.now a.at a.end a.tag c.loop-i.i c.requires.within c.loop-i.invariant c.loop-i-test.true _ _ _ (sym c.read_field.ensures ∙ c.in-Field.is) c.if-k-tag.false
+    tags_on a.t.now a.at a.end a.tag c.loop-i.i c.requires.within c.loop-i.invariant c.loop-i-test.true _ (sym c.read_field.ensures ∙ c.in_ok-f.was) c.if-f-tag.false
 
 pub returns : goal.returns
 returns c = let a = c.args in

@@ -10,11 +10,11 @@ returns-in_default c = let a = c.args in
 
 pub overflow_sub-result : goal.overflow_sub-result
 overflow_sub-result c =
-    let found : Refers c.args.t.now c.find_tag-p.result.start c.find_tag-p.result.end c.in-Reference.from c.in-Reference.to c.in-Reference.wrappers = subst (RefersRead c.args.t.now c.find_tag-p.result.start c.find_tag-p.result.end) c.in-Reference.is c.read_reference.ensures in
+    let found : Refers c.args.t.now c.find_tag-p.result.start c.find_tag-p.result.end c.in-Some.r.start c.in-Some.r.end c.in-Some.r.wrappers = subst (RefersRead c.args.t.now c.find_tag-p.result.start c.find_tag-p.result.end) c.in-Some.is c.read_reference.ensures in
     found.order
 
 pub returns : goal.returns
 returns c =
-    let found : Refers c.args.t.now c.find_tag-p.result.start c.find_tag-p.result.end c.in-Reference.from c.in-Reference.to c.in-Reference.wrappers = subst (RefersRead c.args.t.now c.find_tag-p.result.start c.find_tag-p.result.end) c.in-Reference.is c.read_reference.ensures in
+    let found : Refers c.args.t.now c.find_tag-p.result.start c.find_tag-p.result.end c.in-Some.r.start c.in-Some.r.end c.in-Some.r.wrappers = subst (RefersRead c.args.t.now c.find_tag-p.result.start c.find_tag-p.result.end) c.in-Some.is c.read_reference.ensures in
     let a = c.args in
     type_found a.t.now a.start a.end _ _ c.find_tag-p.ensures c.requires.within _ _ _ found

@@ -6,8 +6,8 @@ use Rattle.table_possible.specs.Possible.{Possible}
 use Rattle.table_possible.proofs.NameLaws.{Inside}
 use Rattle.table_possible.proofs.mark_object.Given as goal
 
-abbrev pub invariant-loop-start : goal.invariant-loop-start
-invariant-loop-start l = Possible l.t l.book l.bits × Inside (start_in l.book l.j) l.end l.i (definition_on l.t l.j).implements (implemented_in l.t l.i l.end)
+abbrev pub invariant-loop-f : goal.invariant-loop-f
+invariant-loop-f l = Possible l.t l.book l.bits × Inside (start_in l.book l.j) l.end l.i (definition_on l.t l.j).implements (implemented_in l.t l.i l.end)
 
-abbrev pub decreases-loop-start : goal.decreases-loop-start
-decreases-loop-start l = l.end - l.i
+abbrev pub decreases-loop-f : goal.decreases-loop-f
+decreases-loop-f l = l.end - l.i

@@ -15,12 +15,6 @@ overflow_cast-result c = omega (arith, c.loop-i.invariant.order, c.requires.with
 pub returns-then-left-n : goal.returns-then-left-n
 returns-then-left-n c = wrapping_over c.args.t.now c.args.start c.args.end _ c.loop-i.i c.requires.within c.loop-i.invariant c.loop-i-test.true _ c.wraps-n.ensures c.if-left-n.true
 
-pub overflow_add-i : goal.overflow_add-i
-overflow_add-i c = omega (arith, c.loop-i-test.true, c.requires.within, c.requires.most)
-
-pub loop-i-smaller : goal.loop-i-smaller
-loop-i-smaller c = omega (arith, c.loop-i-test.true)
-
 pub loop-i-preserved : goal.loop-i-preserved
 loop-i-preserved c = wrapping_on c.args.t.now c.args.start c.args.end _ c.loop-i.i c.requires.within c.loop-i.invariant c.loop-i-test.true _ c.wraps-n.ensures c.if-left-n.false
 

@@ -7,8 +7,8 @@ use Rattle.table_rules_11_15.specs.Asked.{asked_of}
 use Rattle.table_rules_13_15.proofs.Walking.{Walking}
 use Rattle.table_rules_11_15.proofs.interface_place.Given as goal
 
-abbrev pub invariant-loop-tag : goal.invariant-loop-tag
-invariant-loop-tag l = Walking (asked_of l.rule (table_of l.t) (members_in l.t l.from l.stop) l.member) slim_member l.at l.end l.i l.p (members_in l.t l.at l.end) (members_in l.t l.i l.end)
+abbrev pub invariant-loop-f : goal.invariant-loop-f
+invariant-loop-f l = Walking (asked_of l.rule (table_of l.t) (members_in l.t l.from l.stop) l.member) slim_member l.at l.end l.i l.p (members_in l.t l.at l.end) (members_in l.t l.i l.end)
 
-abbrev pub decreases-loop-tag : goal.decreases-loop-tag
-decreases-loop-tag l = l.end - l.i
+abbrev pub decreases-loop-f : goal.decreases-loop-f
+decreases-loop-f l = l.end - l.i

@@ -6,8 +6,8 @@ use Rattle.table_rules_11_15_quick.specs.Keeping.{NameKept}
 use Rattle.table_rules_11_15_quick.proofs.KeepingLaws.{Holding}
 use Rattle.table_rules_11_15_quick.proofs.is_all_kept.Given as goal
 
-abbrev pub invariant-loop-start : goal.invariant-loop-start
-invariant-loop-start l = Holding (NameKept (table_of l.t) (members_in l.t l.from l.stop)) l.stop l.i (implemented_in l.t l.from l.stop) (implemented_in l.t l.i l.stop)
+abbrev pub invariant-loop-f : goal.invariant-loop-f
+invariant-loop-f l = Holding (NameKept (table_of l.t) (members_in l.t l.from l.stop)) l.stop l.i (implemented_in l.t l.from l.stop) (implemented_in l.t l.i l.stop)
 
-abbrev pub decreases-loop-start : goal.decreases-loop-start
-decreases-loop-start l = l.stop - l.i
+abbrev pub decreases-loop-f : goal.decreases-loop-f
+decreases-loop-f l = l.stop - l.i

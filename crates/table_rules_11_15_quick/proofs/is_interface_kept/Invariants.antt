@@ -10,8 +10,8 @@ use Rattle.table_rules_11_15_quick.specs.Keeping.{FieldKept}
 use Rattle.table_rules_11_15_quick.proofs.KeepingLaws.{Holding}
 use Rattle.table_rules_11_15_quick.proofs.is_interface_kept.Given as goal
 
-abbrev pub invariant-loop-tag : goal.invariant-loop-tag
-invariant-loop-tag l = Holding (FieldKept (table_of l.t) (members_in l.t l.from l.stop)) l.end l.i (members_in l.t l.at l.end) (members_in l.t l.i l.end) × (all_of slim_member (members_in l.t l.i l.end) ≡ true)
+abbrev pub invariant-loop-f : goal.invariant-loop-f
+invariant-loop-f l = Holding (FieldKept (table_of l.t) (members_in l.t l.from l.stop)) l.end l.i (members_in l.t l.at l.end) (members_in l.t l.i l.end) × (all_of slim_member (members_in l.t l.i l.end) ≡ true)
 
-abbrev pub decreases-loop-tag : goal.decreases-loop-tag
-decreases-loop-tag l = l.end - l.i
+abbrev pub decreases-loop-f : goal.decreases-loop-f
+decreases-loop-f l = l.end - l.i

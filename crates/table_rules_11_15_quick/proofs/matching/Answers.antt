@@ -15,11 +15,11 @@ argument_in-requires c = (c.requires.1, c.name_in-n.ensures.within)
 
 pub is_alike-requires : goal.is_alike-requires
 is_alike-requires c =
-    let found : ArgumentAt c.args.t.now (arguments_in c.args.t.now c.args.from c.args.stop) (part c.args.t.now c.name_in-n.result.at c.name_in-n.result.size) c.in-Argument.number c.in-Argument.own c.in-Argument.own_end = subst (ArgumentSought c.args.t.now (arguments_in c.args.t.now c.args.from c.args.stop) (part c.args.t.now c.name_in-n.result.at c.name_in-n.result.size)) c.in-Argument.is c.argument_in.ensures in
+    let found : ArgumentAt c.args.t.now (arguments_in c.args.t.now c.args.from c.args.stop) (part c.args.t.now c.name_in-n.result.at c.name_in-n.result.size) c.in_ok-a.a.number c.in_ok-a.a.start c.in_ok-a.a.end = subst (ArgumentSought c.args.t.now (arguments_in c.args.t.now c.args.from c.args.stop) (part c.args.t.now c.name_in-n.result.at c.name_in-n.result.size)) c.in_ok-a.was c.argument_in.ensures in
     (c.requires.0, found.bounds)
 
 pub returns-then-is_alike : goal.returns-then-is_alike
 returns-then-is_alike c =
-    let found : ArgumentAt c.args.t.now (arguments_in c.args.t.now c.args.from c.args.stop) (part c.args.t.now c.name_in-n.result.at c.name_in-n.result.size) c.in-Argument.number c.in-Argument.own c.in-Argument.own_end = subst (ArgumentSought c.args.t.now (arguments_in c.args.t.now c.args.from c.args.stop) (part c.args.t.now c.name_in-n.result.at c.name_in-n.result.size)) c.in-Argument.is c.argument_in.ensures in
+    let found : ArgumentAt c.args.t.now (arguments_in c.args.t.now c.args.from c.args.stop) (part c.args.t.now c.name_in-n.result.at c.name_in-n.result.size) c.in_ok-a.a.number c.in_ok-a.a.start c.in_ok-a.a.end = subst (ArgumentSought c.args.t.now (arguments_in c.args.t.now c.args.from c.args.stop) (part c.args.t.now c.name_in-n.result.at c.name_in-n.result.size)) c.in_ok-a.was c.argument_in.ensures in
     let a = c.args in
-    matched (arguments_in a.t.now a.from a.stop) (argument_from a.t.now a.start a.end) (part a.t.now c.name_in-n.result.at c.name_in-n.result.size) c.in-Argument.number _ c.name_in-n.ensures.is found.first (c.is_alike.ensures c.if-is_alike.true) (omega (arith, c.if-number-ge-BITS.false))
+    matched (arguments_in a.t.now a.from a.stop) (argument_from a.t.now a.start a.end) (part a.t.now c.name_in-n.result.at c.name_in-n.result.size) c.in_ok-a.a.number _ c.name_in-n.ensures.is found.first (c.is_alike.ensures c.if-is_alike.true) (omega (arith, c.if-a-ge-BITS.false))

@@ -8,8 +8,8 @@ use Rattle.paper_table.specs.Lists.{find, only_if}
 use Prim.Native.Nat.{◌-◌}
 use Rattle.table_rules_13_15.proofs.first_wrong.Given as goal
 
-abbrev pub invariant-loop-start : goal.invariant-loop-start
-invariant-loop-start l = Walking (λ x y. only_if (failing l.rule y (find (argument_named y.name) (arguments_in l.t l.from l.stop))) (part_argument_at l.member l.part x)) slim_argument l.at l.end l.i l.a (arguments_in l.t l.at l.end) (arguments_in l.t l.i l.end)
+abbrev pub invariant-loop-f : goal.invariant-loop-f
+invariant-loop-f l = Walking (λ x y. only_if (failing l.rule y (find (argument_named y.name) (arguments_in l.t l.from l.stop))) (part_argument_at l.member l.part x)) slim_argument l.at l.end l.i l.a (arguments_in l.t l.at l.end) (arguments_in l.t l.i l.end)
 
-abbrev pub decreases-loop-start : goal.decreases-loop-start
-decreases-loop-start l = l.end - l.i
+abbrev pub decreases-loop-f : goal.decreases-loop-f
+decreases-loop-f l = l.end - l.i

@@ -8,8 +8,8 @@ use Rattle.table_rules_4_8_quick.specs.Sound.{member_name, MemberSound, cells, m
 use Rattle.table_rules_4_8_quick.proofs.SoundLaws.{Sounding}
 use Rattle.table_rules_4_8_quick.proofs.are_members_sound.Given as goal
 
-abbrev pub invariant-loop-tag : goal.invariant-loop-tag
-invariant-loop-tag l = Sounding member_name (MemberSound (table_of l.t) (members_in l.t l.from l.end)) l.seen member_mark l.from l.end l.i l.m (members_in l.t l.from l.end) (members_in l.t l.i l.end) × (length l.others ≡ cells)
+abbrev pub invariant-loop-f : goal.invariant-loop-f
+invariant-loop-f l = Sounding member_name (MemberSound (table_of l.t) (members_in l.t l.from l.end)) l.seen member_mark l.from l.end l.i l.m (members_in l.t l.from l.end) (members_in l.t l.i l.end) × (length l.others ≡ cells)
 
-abbrev pub decreases-loop-tag : goal.decreases-loop-tag
-decreases-loop-tag l = l.end - l.i
+abbrev pub decreases-loop-f : goal.decreases-loop-f
+decreases-loop-f l = l.end - l.i

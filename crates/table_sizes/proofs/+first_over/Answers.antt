@@ -1,4 +1,6 @@
 -- Depth falls at each call; in a holder one field more is read at each turn, and what comes decides.
+use Rattle.std.proofs.lemmas.Result.{err_from_is_err_and}
+use Rattle.std.specs.Prelude.{Some}
 use Rattle.table_fields.proofs.BoundsLaws.{later, narrow}
 use borrow.Enum.Refused.{opened}
 use mathlib.Core.Path.{◌≡◌, sym, ap, subst, ◌∙◌}
@@ -6,7 +8,6 @@ use mathlib.Core.List.{List, head?}
 use Prim.Native.Nat.{ℕ, ◌+◌}
 use native.Mathlib.Omega.{arith}
 use lib.Seq.{slice}
-use Rattle.table_fields.specs.declared.FieldRead.TheVariants.{Field}
 use Rattle.table_fields.specs.Fields.{field_at}
 use Rattle.table_fields.proofs.FieldLaws.{Lies, field_lies}
 use Rattle.table_framing.specs.Holders.{HoldsAs}
@@ -44,41 +45,42 @@ overflow_cast-result t c = omega (arith, c.loop-i.invariant.order, c.requires.wi
 
 pub returns-then-names-n : goal.returns-then-names-n
 returns-then-names-n t c =
-    let read : field_at c.args.t.now c.loop-i.i c.args.end ≡ Field c.in-Field.k c.in-Field.start c.in-Field.e = sym c.read_field.ensures ∙ c.in-Field.is in
-    counting_names c.args.t.now c.args.at c.args.tag c.args.end c.args.depth _ _ c.loop-i.i c.requires.within c.loop-i.invariant c.loop-i-test.true _ _ _ read _ c.room_of-n.ensures c.if-names-n.true
+    let read : field_at c.args.t.now c.loop-i.i c.args.end ≡ Some c.in-Some.f = sym c.read_field.ensures ∙ c.in-Some.is in
+    counting_names c.args.t.now c.args.at c.args.tag c.args.end c.args.depth _ _ c.loop-i.i c.requires.within c.loop-i.invariant c.loop-i-test.true _ read _ c.room_of-n.ensures c.if-names-n.true
 
 pub overflow_cast-result-then-rest-n : goal.overflow_cast-result-then-rest-n
 overflow_cast-result-then-rest-n t c = omega (arith, c.loop-i.invariant.order, c.requires.within, c.requires.most)
 
 pub returns-then-rest-n : goal.returns-then-rest-n
 returns-then-rest-n t c =
-    let read : field_at c.args.t.now c.loop-i.i c.args.end ≡ Field c.in-Field.k c.in-Field.start c.in-Field.e = sym c.read_field.ensures ∙ c.in-Field.is in
-    counting_others c.args.t.now c.args.at c.args.tag c.args.end c.args.depth _ _ c.loop-i.i c.requires.within c.loop-i.invariant c.loop-i-test.true _ _ _ read _ c.room_of-n.ensures c.if-rest-n.true
+    let read : field_at c.args.t.now c.loop-i.i c.args.end ≡ Some c.in-Some.f = sym c.read_field.ensures ∙ c.in-Some.is in
+    counting_others c.args.t.now c.args.at c.args.tag c.args.end c.args.depth _ _ c.loop-i.i c.requires.within c.loop-i.invariant c.loop-i-test.true _ read _ c.room_of-n.ensures c.if-rest-n.true
 
 pub overflow_sub-depth : goal.overflow_sub-depth
 overflow_sub-depth t c = let n = not_plain c.args.depth c.args.tag c.is_plain.ensures c.if-is_plain.false in omega arith
 
-pub first_over-w-requires : goal.first_over-w-requires
-first_over-w-requires t c =
-    let read : field_at c.args.t.now c.loop-i.i c.args.end ≡ Field c.in-Field.k c.in-Field.start c.in-Field.e = sym c.read_field.ensures ∙ c.in-Field.is in
-    let lies : Lies c.loop-i.i c.args.end c.in-Field.start c.in-Field.e = field_lies c.args.t.now c.loop-i.i c.args.end _ _ _ c.loop-i.invariant.order read in
+pub first_over-requires : goal.first_over-requires
+first_over-requires t c =
+    let read : field_at c.args.t.now c.loop-i.i c.args.end ≡ Some c.in-Some.f = sym c.read_field.ensures ∙ c.in-Some.is in
+    let lies : Lies c.loop-i.i c.args.end c.in-Some.f.start c.in-Some.f.end = field_lies c.args.t.now c.loop-i.i c.args.end _ c.loop-i.invariant.order read in
     let l = lies in (omega (arith, c.decreases, not_plain c.args.depth c.args.tag c.is_plain.ensures c.if-is_plain.false), narrow c.requires (omega (arith, l.begins, l.order)) l.within)
 
-pub returns-in_default-w : goal.returns-in_default-w
-returns-in_default-w t c =
-    let read : field_at c.args.t.now c.loop-i.i c.args.end ≡ Field c.in-Field.k c.in-Field.start c.in-Field.e = sym c.read_field.ensures ∙ c.in-Field.is in
-    counting_inside c.args.t.now c.args.at c.args.tag c.args.end c.args.depth _ _ c.loop-i.i c.requires.within c.loop-i.invariant c.loop-i-test.true _ _ _ read _ c.room_of-n.ensures c.if-names-n.false c.if-rest-n.false _ _ c.first_over-w.ensures c.in_default-w.is
+pub returns-in_err-first_over : goal.returns-in_err-first_over
+returns-in_err-first_over t c =
+    let read : field_at c.args.t.now c.loop-i.i c.args.end ≡ Some c.in-Some.f = sym c.read_field.ensures ∙ c.in-Some.is in
+    let p = err_from_is_err_and c.from_residual.result c.from_residual.ensures.1 in
+    rw (p.1, p.2) (sym c.in_err-first_over.was ∙ counting_inside c.args.t.now c.args.at c.args.tag c.args.end c.args.depth _ _ c.loop-i.i c.requires.within c.loop-i.invariant c.loop-i-test.true _ read _ c.room_of-n.ensures c.if-names-n.false c.if-rest-n.false _ _ c.first_over.ensures c.in_err-first_over.was)
 
 pub loop-i-smaller : goal.loop-i-smaller
 loop-i-smaller t c =
-    let read : field_at c.args.t.now c.loop-i.i c.args.end ≡ Field c.in-Field.k c.in-Field.start c.in-Field.e = sym c.read_field.ensures ∙ c.in-Field.is in
-    let lies : Lies c.loop-i.i c.args.end c.in-Field.start c.in-Field.e = field_lies c.args.t.now c.loop-i.i c.args.end _ _ _ c.loop-i.invariant.order read in
+    let read : field_at c.args.t.now c.loop-i.i c.args.end ≡ Some c.in-Some.f = sym c.read_field.ensures ∙ c.in-Some.is in
+    let lies : Lies c.loop-i.i c.args.end c.in-Some.f.start c.in-Some.f.end = field_lies c.args.t.now c.loop-i.i c.args.end _ c.loop-i.invariant.order read in
     let l = lies in omega (arith, l.begins, l.order, l.within, c.loop-i-test.true)
 
 pub loop-i-preserved : goal.loop-i-preserved
 loop-i-preserved t c =
-    let read : field_at c.args.t.now c.loop-i.i c.args.end ≡ Field c.in-Field.k c.in-Field.start c.in-Field.e = sym c.read_field.ensures ∙ c.in-Field.is in
-    counting_on c.args.t.now c.args.at c.args.tag c.args.end c.args.depth _ _ c.loop-i.i c.requires.within c.loop-i.invariant c.loop-i-test.true _ _ _ read _ c.room_of-n.ensures c.if-names-n.false c.if-rest-n.false _ c.first_over-w.ensures c.in-Within.is
+    let read : field_at c.args.t.now c.loop-i.i c.args.end ≡ Some c.in-Some.f = sym c.read_field.ensures ∙ c.in-Some.is in
+    counting_on c.args.t.now c.args.at c.args.tag c.args.end c.args.depth _ _ c.loop-i.i c.requires.within c.loop-i.invariant c.loop-i-test.true _ read _ c.room_of-n.ensures c.if-names-n.false c.if-rest-n.false _ c.first_over.ensures c.in_ok-first_over.was
 
 pub returns : goal.returns
 returns t c = counting_end c.args.t.now c.args.at c.args.tag c.args.end c.args.depth _ _ c.loop-i.i c.requires.within c.loop-i.invariant c.loop-i-test.false

@@ -1,9 +1,10 @@
 -- One record more at each turn, and what comes decides.
+use Rattle.std.proofs.lemmas.Result.{err_from_is_err_and}
+use Rattle.std.specs.Prelude.{Some}
 use mathlib.Core.Path.{◌≡◌, sym, ◌∙◌}
 use native.Mathlib.Omega.{arith}
 use native.Mathlib.Nat.{le_refl}
 use lib.ListN.{length}
-use Rattle.table_fields.specs.declared.FieldRead.TheVariants.{Field}
 use Rattle.table_fields.specs.Fields.{field_at}
 use Rattle.table_fields.proofs.FieldLaws.{Lies, field_lies}
 use Rattle.table_sizes.proofs.CountLaws.{recording_start, recording_end, recording_torn, recording_over, recording_inside, recording_on}
@@ -23,30 +24,31 @@ overflow_cast-result c = omega (arith, c.loop-i.invariant.order, c.requires)
 
 pub returns-then-left-n : goal.returns-then-left-n
 returns-then-left-n c =
-    let read : field_at c.args.t.now c.loop-i.i (length c.args.t.now) ≡ Field c.in-Field.k c.in-Field.start c.in-Field.e = sym c.read_field.ensures ∙ c.in-Field.is in
-    recording_over c.args.t.now _ c.loop-i.i c.loop-i.invariant c.loop-i-test.true _ _ _ read _ c.is_record-n.ensures c.if-left-n.true
+    let read : field_at c.args.t.now c.loop-i.i (length c.args.t.now) ≡ Some c.in-Some.f = sym c.read_field.ensures ∙ c.in-Some.is in
+    recording_over c.args.t.now _ c.loop-i.i c.loop-i.invariant c.loop-i-test.true _ read _ c.is_record-n.ensures c.if-left-n.true
 
-pub first_over-w-requires : goal.first_over-w-requires
-first_over-w-requires c =
-    let read : field_at c.args.t.now c.loop-i.i (length c.args.t.now) ≡ Field c.in-Field.k c.in-Field.start c.in-Field.e = sym c.read_field.ensures ∙ c.in-Field.is in
-    let lies : Lies c.loop-i.i (length c.args.t.now) c.in-Field.start c.in-Field.e = field_lies c.args.t.now c.loop-i.i (length c.args.t.now) _ _ _ c.loop-i.invariant.order read in
+pub first_over-requires : goal.first_over-requires
+first_over-requires c =
+    let read : field_at c.args.t.now c.loop-i.i (length c.args.t.now) ≡ Some c.in-Some.f = sym c.read_field.ensures ∙ c.in-Some.is in
+    let lies : Lies c.loop-i.i (length c.args.t.now) c.in-Some.f.start c.in-Some.f.end = field_lies c.args.t.now c.loop-i.i (length c.args.t.now) _ c.loop-i.invariant.order read in
     let l = lies in record { order = omega (arith, l.begins, l.order); within = l.within; most = c.requires }
 
-pub returns-in_default-w : goal.returns-in_default-w
-returns-in_default-w c =
-    let read : field_at c.args.t.now c.loop-i.i (length c.args.t.now) ≡ Field c.in-Field.k c.in-Field.start c.in-Field.e = sym c.read_field.ensures ∙ c.in-Field.is in
-    recording_inside c.args.t.now _ c.loop-i.i c.loop-i.invariant c.loop-i-test.true _ _ _ read _ c.is_record-n.ensures c.if-left-n.false _ _ c.first_over-w.ensures c.in_default-w.is
+pub returns-in_err-first_over : goal.returns-in_err-first_over
+returns-in_err-first_over c =
+    let read : field_at c.args.t.now c.loop-i.i (length c.args.t.now) ≡ Some c.in-Some.f = sym c.read_field.ensures ∙ c.in-Some.is in
+    let p = err_from_is_err_and c.from_residual.result c.from_residual.ensures.1 in
+    rw (p.1, p.2) (sym c.in_err-first_over.was ∙ recording_inside c.args.t.now _ c.loop-i.i c.loop-i.invariant c.loop-i-test.true _ read _ c.is_record-n.ensures c.if-left-n.false _ _ c.first_over.ensures c.in_err-first_over.was)
 
 pub loop-i-smaller : goal.loop-i-smaller
 loop-i-smaller c =
-    let read : field_at c.args.t.now c.loop-i.i (length c.args.t.now) ≡ Field c.in-Field.k c.in-Field.start c.in-Field.e = sym c.read_field.ensures ∙ c.in-Field.is in
-    let lies : Lies c.loop-i.i (length c.args.t.now) c.in-Field.start c.in-Field.e = field_lies c.args.t.now c.loop-i.i (length c.args.t.now) _ _ _ c.loop-i.invariant.order read in
+    let read : field_at c.args.t.now c.loop-i.i (length c.args.t.now) ≡ Some c.in-Some.f = sym c.read_field.ensures ∙ c.in-Some.is in
+    let lies : Lies c.loop-i.i (length c.args.t.now) c.in-Some.f.start c.in-Some.f.end = field_lies c.args.t.now c.loop-i.i (length c.args.t.now) _ c.loop-i.invariant.order read in
     let l = lies in omega (arith, l.begins, l.order, l.within, c.loop-i-test.true)
 
 pub loop-i-preserved : goal.loop-i-preserved
 loop-i-preserved c =
-    let read : field_at c.args.t.now c.loop-i.i (length c.args.t.now) ≡ Field c.in-Field.k c.in-Field.start c.in-Field.e = sym c.read_field.ensures ∙ c.in-Field.is in
-    recording_on c.args.t.now _ c.loop-i.i c.loop-i.invariant c.loop-i-test.true _ _ _ read _ c.is_record-n.ensures c.if-left-n.false _ c.first_over-w.ensures c.in-Within.is
+    let read : field_at c.args.t.now c.loop-i.i (length c.args.t.now) ≡ Some c.in-Some.f = sym c.read_field.ensures ∙ c.in-Some.is in
+    recording_on c.args.t.now _ c.loop-i.i c.loop-i.invariant c.loop-i-test.true _ read _ c.is_record-n.ensures c.if-left-n.false _ c.first_over.ensures c.in_ok-first_over.was
 
 pub returns : goal.returns
 returns c = recording_end c.args.t.now _ c.loop-i.i c.loop-i.invariant c.loop-i-test.false

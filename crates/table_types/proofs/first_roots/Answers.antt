@@ -1,5 +1,5 @@
 -- A walk over the tags.
-use mathlib.Core.Path.{sym, ◌∙◌}
+use mathlib.Core.Path.{◌≡◌, sym, ◌∙◌}
 use native.Mathlib.Omega.{arith}
 use borrow.Author.Tests.{eq-eqb, ne_eqb}
 use Rattle.paper_table.specs.TableNumbers.{tag_roots}
@@ -32,4 +32,6 @@ loop-i-preserved c = let a = c.args in
     reached_on is_roots (table_of a.t.now) i c.loop-i.invariant (blank_definition tag_nothing) (omega (arith, c.loop-i-test.true, c.count_of-count.ensures, b.count)) (ne_eqb (definition_on a.t.now i).tag tag_roots (λ q. c.if-kind_of-eq-RECORD_ROOTS.false (e ∙ q)))
 
 pub returns : goal.returns
-returns c = reached_end is_roots (table_of c.args.t.now) c.loop-i.i c.loop-i.invariant (omega (arith, c.loop-i-test.false, c.count_of-count.ensures, c.requires.count))
+returns c =
+    let e : c.count_of-count.result ≡ c.loop-i.i = omega (arith, c.loop-i-test.false, c.loop-i.auto.i-end) in
+    e ∙ reached_end is_roots (table_of c.args.t.now) c.loop-i.i c.loop-i.invariant (omega (arith, c.loop-i-test.false, c.count_of-count.ensures, c.requires.count))

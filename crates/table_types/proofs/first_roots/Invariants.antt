@@ -1,11 +1,7 @@
 -- A walk over the tags.
-use Prim.Native.Nat.{◌-◌}
 use Rattle.paper_table.specs.Types.{table_of, is_roots}
 use Rattle.table_types.proofs.Entries.{Reached}
 use Rattle.table_types.proofs.first_roots.Given as goal
 
 abbrev pub invariant-loop-i : goal.invariant-loop-i
 invariant-loop-i l = Reached is_roots (table_of l.t) l.i
-
-abbrev pub decreases-loop-i : goal.decreases-loop-i
-decreases-loop-i l = l.count - l.i

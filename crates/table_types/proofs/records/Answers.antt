@@ -1,9 +1,9 @@
 -- Record by record: the definitions that are not entered yet stand from here on.
+use Rattle.std.specs.Prelude.{Some}
 use mathlib.Core.Path.{◌≡◌, sym, ◌∙◌}
 use lib.ListN.{length}
 use native.Mathlib.Omega.{arith}
 use Rattle.table_fields.specs.Fields.{field_at}
-use Rattle.table_fields.specs.declared.FieldRead.TheVariants.{Field}
 use Rattle.table_types.proofs.Recording.{recording_start, recording_end, recording_torn, next_below, next_bounds, recording_more}
 use Rattle.table_types.proofs.records.Goals as goal
 
@@ -21,29 +21,29 @@ returns-in_default c = recording_torn c.args.t.now c.loop-at.book c.loop-at.at c
 
 pub enter-requires : goal.enter-requires
 enter-requires c =
-    let read : field_at c.args.t.now c.loop-at.at (length c.args.t.now) ≡ Field c.in-Field.tag c.in-Field.start c.in-Field.stop = sym c.read_field.ensures ∙ c.in-Field.is in
+    let read : field_at c.args.t.now c.loop-at.at (length c.args.t.now) ≡ Some c.in-Some.f = sym c.read_field.ensures ∙ c.in-Some.is in
     let l = c.loop-at in
-    let n = next_bounds c.args.t.now l.book l.at l.i l.invariant c.loop-at-test.true _ _ _ read in
-    (record { order = n.0; within = n.1; most = c.requires.short }, l.invariant.cells, omega (arith, next_below c.args.t.now l.book l.at l.i l.invariant c.loop-at-test.true _ _ _ read, c.requires.few))
+    let n = next_bounds c.args.t.now l.book l.at l.i l.invariant c.loop-at-test.true _ read in
+    (record { order = n.0; within = n.1; most = c.requires.short }, l.invariant.cells, omega (arith, next_below c.args.t.now l.book l.at l.i l.invariant c.loop-at-test.true _ read, c.requires.few))
 
 pub overflow_add-i : goal.overflow_add-i
 overflow_add-i c =
-    let read : field_at c.args.t.now c.loop-at.at (length c.args.t.now) ≡ Field c.in-Field.tag c.in-Field.start c.in-Field.stop = sym c.read_field.ensures ∙ c.in-Field.is in
+    let read : field_at c.args.t.now c.loop-at.at (length c.args.t.now) ≡ Some c.in-Some.f = sym c.read_field.ensures ∙ c.in-Some.is in
     let l = c.loop-at in
-    omega (arith, next_below c.args.t.now l.book l.at l.i l.invariant c.loop-at-test.true _ _ _ read, c.requires.few)
+    omega (arith, next_below c.args.t.now l.book l.at l.i l.invariant c.loop-at-test.true _ read, c.requires.few)
 
 pub loop-at-smaller : goal.loop-at-smaller
 loop-at-smaller c =
-    let read : field_at c.args.t.now c.loop-at.at (length c.args.t.now) ≡ Field c.in-Field.tag c.in-Field.start c.in-Field.stop = sym c.read_field.ensures ∙ c.in-Field.is in
+    let read : field_at c.args.t.now c.loop-at.at (length c.args.t.now) ≡ Some c.in-Some.f = sym c.read_field.ensures ∙ c.in-Some.is in
     let l = c.loop-at in
-    let n = next_bounds c.args.t.now l.book l.at l.i l.invariant c.loop-at-test.true _ _ _ read in
+    let n = next_bounds c.args.t.now l.book l.at l.i l.invariant c.loop-at-test.true _ read in
     omega (arith, n.1, n.2)
 
 pub loop-at-preserved : goal.loop-at-preserved
 loop-at-preserved c =
-    let read : field_at c.args.t.now c.loop-at.at (length c.args.t.now) ≡ Field c.in-Field.tag c.in-Field.start c.in-Field.stop = sym c.read_field.ensures ∙ c.in-Field.is in
+    let read : field_at c.args.t.now c.loop-at.at (length c.args.t.now) ≡ Some c.in-Some.f = sym c.read_field.ensures ∙ c.in-Some.is in
     let l = c.loop-at in
-    recording_more c.args.t.now l.book l.at l.i l.invariant c.loop-at-test.true _ _ _ read _ c.enter.ensures
+    recording_more c.args.t.now l.book l.at l.i l.invariant c.loop-at-test.true _ read _ c.enter.ensures
 
 pub shape_of-book : goal.shape_of-book
 shape_of-book c = c.loop-at.invariant.cells ∙ sym c.requires.cells

@@ -6,8 +6,8 @@ use Rattle.table_walks.proofs.Walked.{Walking}
 use Rattle.table_walks.specs.Walks.{name_at}
 use Rattle.table_walks.proofs.implemented_place.Given as goal
 
-abbrev pub invariant-loop-start : goal.invariant-loop-start
-invariant-loop-start l = Walking (name_at l.rule (table_of l.t) (implemented_in l.t l.from l.end)) l.from l.end l.i l.m (implemented_in l.t l.from l.end) (implemented_in l.t l.i l.end)
+abbrev pub invariant-loop-f : goal.invariant-loop-f
+invariant-loop-f l = Walking (name_at l.rule (table_of l.t) (implemented_in l.t l.from l.end)) l.from l.end l.i l.m (implemented_in l.t l.from l.end) (implemented_in l.t l.i l.end)
 
-abbrev pub decreases-loop-start : goal.decreases-loop-start
-decreases-loop-start l = l.end - l.i
+abbrev pub decreases-loop-f : goal.decreases-loop-f
+decreases-loop-f l = l.end - l.i

@@ -6,8 +6,8 @@ use Rattle.table_walks.proofs.Walked.{Walking}
 use Rattle.table_walks.specs.Walks.{member_and_arguments_at}
 use Rattle.table_walks.proofs.members_place.Given as goal
 
-abbrev pub invariant-loop-tag : goal.invariant-loop-tag
-invariant-loop-tag l = Walking (member_and_arguments_at l.rule (table_of l.t) (members_in l.t l.from l.end)) l.from l.end l.i l.m (members_in l.t l.from l.end) (members_in l.t l.i l.end)
+abbrev pub invariant-loop-f : goal.invariant-loop-f
+invariant-loop-f l = Walking (member_and_arguments_at l.rule (table_of l.t) (members_in l.t l.from l.end)) l.from l.end l.i l.m (members_in l.t l.from l.end) (members_in l.t l.i l.end)
 
-abbrev pub decreases-loop-tag : goal.decreases-loop-tag
-decreases-loop-tag l = l.end - l.i
+abbrev pub decreases-loop-f : goal.decreases-loop-f
+decreases-loop-f l = l.end - l.i

@@ -3,6 +3,7 @@ use Prim.Native.Nat.{◌-◌}
 use mathlib.Core.Path.{refl, sym, ◌∙◌}
 use mathlib.Core.Logic.{inl}
 use native.Mathlib.Omega.{arith}
+use Rattle.text_cursor.proofs.Exits.{handed_on}
 use Rattle.text_arguments.specs.Arguments.{arguments_stack}
 use Rattle.text_arguments.specs.Passed.{Passed, shut}
 use Rattle.text_arguments.proofs.Onward.{ready_past, went_past, joined, unmoved}
@@ -12,43 +13,43 @@ use Rattle.text_arguments.proofs.arguments.Goals as goal
 pub returns-then-left-eq0 : goal.returns-then-left-eq0
 returns-then-left-eq0 c = deep_said _ _ _ _ _ c.requires.0 c.requires.1 c.if-left-eq0.true
 
-pub past-r-requires : goal.past-r-requires
-past-r-requires c = ready_past _ _ _ _ c.requires.0
+pub past-requires : goal.past-requires
+past-requires c = ready_past _ _ _ _ c.requires.0
 
-pub returns-in_default : goal.returns-in_default
-returns-in_default c = rw c.in_default.is (bad_said _ _ _ _ _ c.requires.0 c.requires.1 c.if-left-eq0.false _ c.past-r.ensures _ c.in_default.is)
+pub returns-in_err-d : goal.returns-in_err-d
+returns-in_err-d c = rw (handed_on _ _ c.from_residual.ensures) (bad_said _ _ _ _ _ c.requires.0 c.requires.1 c.if-left-eq0.false _ c.past.ensures _ c.in_err-d.was)
 
 pub loop-next-init : goal.loop-next-init
 loop-next-init c =
-    let begun : Passed 0 c.args.s.now c.args.rows.now c.args.rows.now c.args.c c.in-Done.first c.args.parent c.args.left (c.args.left - 1) shut shut arguments_stack one_more = turn_first _ _ _ _ _ c.requires.0 c.requires.1 c.if-left-eq0.false _ _ c.past-r.ensures c.in-Done.is in
+    let begun : Passed 0 c.args.s.now c.args.rows.now c.args.rows.now c.args.c c.in_ok-d.d c.args.parent c.args.left (c.args.left - 1) shut shut arguments_stack one_more = turn_first _ _ _ _ _ c.requires.0 c.requires.1 c.if-left-eq0.false _ _ c.past.ensures c.in_ok-d.was in
     let b = begun in unmoved _ _ _ _ _ _ b.size b.within b.few b.looks
 
-pub entry-t-requires : goal.entry-t-requires
-entry-t-requires c = (turn_ready _ _ _ _ _ _ _ _ _ c.loop-next.invariant c.requires.0.short c.requires.0.below, inl refl)
+pub entry-requires : goal.entry-requires
+entry-requires c = (turn_ready _ _ _ _ _ _ _ _ _ c.loop-next.invariant c.requires.0.short c.requires.0.below, inl refl)
 
-pub shape_of-rows-in_default-t : goal.shape_of-rows-in_default-t
-shape_of-rows-in_default-t c = c.entry-t.auto.rows ∙ c.loop-next.invariant.size ∙ sym c.requires.0.size
+pub shape_of-rows-in_err-next : goal.shape_of-rows-in_err-next
+shape_of-rows-in_err-next c = c.entry.auto.rows ∙ c.loop-next.invariant.size ∙ sym c.requires.0.size
 
-pub returns-in_default-t : goal.returns-in_default-t
-returns-in_default-t c =
-    let begun : Passed 0 c.args.s.now c.args.rows.now c.args.rows.now c.args.c c.in-Done.first c.args.parent c.args.left (c.args.left - 1) shut shut arguments_stack one_more = turn_first _ _ _ _ _ c.requires.0 c.requires.1 c.if-left-eq0.false _ _ c.past-r.ensures c.in-Done.is in
+pub returns-in_err-next : goal.returns-in_err-next
+returns-in_err-next c =
+    let begun : Passed 0 c.args.s.now c.args.rows.now c.args.rows.now c.args.c c.in_ok-d.d c.args.parent c.args.left (c.args.left - 1) shut shut arguments_stack one_more = turn_first _ _ _ _ _ c.requires.0 c.requires.1 c.if-left-eq0.false _ _ c.past.ensures c.in_ok-d.was in
     let joint : Passed 0 c.args.s.now c.args.rows.now c.loop-next.rows c.args.c c.loop-next.d c.args.parent c.args.left (c.args.left - 1) shut shut arguments_stack one_more = joined _ _ _ _ _ _ _ _ _ _ _ _ _ _ _ begun c.loop-next.invariant in
-    rw c.in_default-t.is (turn_stops _ _ _ _ _ _ _ _ _ joint _ _ c.entry-t.ensures _ c.in_default-t.is)
+    rw (handed_on _ _ c.from_residual-in_err-next.ensures) (turn_stops _ _ _ _ _ _ _ _ _ joint _ _ c.entry.ensures _ c.in_err-next.was)
 
-pub past-requires : goal.past-requires
-past-requires c = (c.requires.0.short, went_past _ _ _ _ _ _ _ _ _ (turn_read _ _ _ _ _ _ _ _ _ c.loop-next.invariant _ _ c.entry-t.ensures _ c.in-Done-t.is))
+pub past-requires-then-next-eq-TOKEN_PAREN_CLOSE : goal.past-requires-then-next-eq-TOKEN_PAREN_CLOSE
+past-requires-then-next-eq-TOKEN_PAREN_CLOSE c = (c.requires.0.short, went_past _ _ _ _ _ _ _ _ _ (turn_read _ _ _ _ _ _ _ _ _ c.loop-next.invariant _ _ c.entry.ensures _ c.in_ok-next.was))
 
 pub shape_of-rows-then-next-eq-TOKEN_PAREN_CLOSE : goal.shape_of-rows-then-next-eq-TOKEN_PAREN_CLOSE
-shape_of-rows-then-next-eq-TOKEN_PAREN_CLOSE c = let v = turn_read _ _ _ _ _ _ _ _ _ c.loop-next.invariant _ _ c.entry-t.ensures _ c.in-Done-t.is in v.size ∙ sym c.requires.0.size
+shape_of-rows-then-next-eq-TOKEN_PAREN_CLOSE c = let v = turn_read _ _ _ _ _ _ _ _ _ c.loop-next.invariant _ _ c.entry.ensures _ c.in_ok-next.was in v.size ∙ sym c.requires.0.size
 
 pub returns-then-next-eq-TOKEN_PAREN_CLOSE : goal.returns-then-next-eq-TOKEN_PAREN_CLOSE
 returns-then-next-eq-TOKEN_PAREN_CLOSE c =
-    let begun : Passed 0 c.args.s.now c.args.rows.now c.args.rows.now c.args.c c.in-Done.first c.args.parent c.args.left (c.args.left - 1) shut shut arguments_stack one_more = turn_first _ _ _ _ _ c.requires.0 c.requires.1 c.if-left-eq0.false _ _ c.past-r.ensures c.in-Done.is in
+    let begun : Passed 0 c.args.s.now c.args.rows.now c.args.rows.now c.args.c c.in_ok-d.d c.args.parent c.args.left (c.args.left - 1) shut shut arguments_stack one_more = turn_first _ _ _ _ _ c.requires.0 c.requires.1 c.if-left-eq0.false _ _ c.past.ensures c.in_ok-d.was in
     let joint : Passed 0 c.args.s.now c.args.rows.now c.loop-next.rows c.args.c c.loop-next.d c.args.parent c.args.left (c.args.left - 1) shut shut arguments_stack one_more = joined _ _ _ _ _ _ _ _ _ _ _ _ _ _ _ begun c.loop-next.invariant in
-    turn_ends _ _ _ _ _ _ _ _ _ joint _ c.entry-t.ensures c.in-Done-t.is c.if-left-eq0.false c.if-next-eq-TOKEN_PAREN_CLOSE.true _ c.past.ensures
+    turn_ends _ _ _ _ _ _ _ _ _ joint _ c.entry.ensures c.in_ok-next.was c.if-left-eq0.false c.if-next-eq-TOKEN_PAREN_CLOSE.true _ c.past-then-next-eq-TOKEN_PAREN_CLOSE.ensures
 
 pub loop-next-smaller : goal.loop-next-smaller
-loop-next-smaller c = let v = turn_read _ _ _ _ _ _ _ _ _ c.loop-next.invariant _ _ c.entry-t.ensures _ c.in-Done-t.is in omega (arith, v.on, v.within)
+loop-next-smaller c = let v = turn_read _ _ _ _ _ _ _ _ _ c.loop-next.invariant _ _ c.entry.ensures _ c.in_ok-next.was in omega (arith, v.on, v.within)
 
 pub loop-next-preserved : goal.loop-next-preserved
-loop-next-preserved c = turn_more _ _ _ _ _ _ _ _ _ c.loop-next.invariant _ _ c.entry-t.ensures _ c.in-Done-t.is c.if-next-eq-TOKEN_PAREN_CLOSE.false
+loop-next-preserved c = turn_more _ _ _ _ _ _ _ _ _ c.loop-next.invariant _ _ c.entry.ensures _ c.in_ok-next.was c.if-next-eq-TOKEN_PAREN_CLOSE.false

@@ -21,14 +21,14 @@ returns-in_default c =
 pub overflow_cast-result : goal.overflow_cast-result
 overflow_cast-result c =
     let first-token : c.unpacked-t.result ≡ head_of (from c.args.s.now 0) = scanned _ 0 _ _ c.requires (omega arith) c.scan-n.ensures c.unpacked-t.ensures in
-    let l = token_lies _ 0 _ _ _ (omega arith) (sym first-token ∙ c.in-Token.is) in omega arith
+    let l = token_lies _ 0 _ _ _ (omega arith) (sym first-token ∙ c.in-Ok.is) in omega arith
 
 pub overflow_cast-result-2 : goal.overflow_cast-result-2
 overflow_cast-result-2 c =
     let first-token : c.unpacked-t.result ≡ head_of (from c.args.s.now 0) = scanned _ 0 _ _ c.requires (omega arith) c.scan-n.ensures c.unpacked-t.ensures in
-    let l = token_lies _ 0 _ _ _ (omega arith) (sym first-token ∙ c.in-Token.is) in omega arith
+    let l = token_lies _ 0 _ _ _ (omega arith) (sym first-token ∙ c.in-Ok.is) in omega arith
 
 pub returns : goal.returns
 returns c =
     let first-token : c.unpacked-t.result ≡ head_of (from c.args.s.now 0) = scanned _ 0 _ _ c.requires (omega arith) c.scan-n.ensures c.unpacked-t.ensures in
-    ap (moved_to _ _) (sym c.in-Token.is ∙ first-token)
+    ap (moved_to _ _) (sym c.in-Ok.is ∙ first-token)

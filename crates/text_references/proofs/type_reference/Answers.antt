@@ -2,6 +2,7 @@
 use mathlib.Core.Logic.{inl, inr}
 use mathlib.Core.List.{[]}
 use native.Mathlib.Omega.{arith}
+use Rattle.text_cursor.proofs.Exits.{handed_on}
 use Rattle.text_references.proofs.TypeLaws.{type_none, type_deep, type_full, type_stop, type_ready, type_says}
 use Rattle.text_references.proofs.type_reference.Goals as goal
 use Rattle.text_references.proofs.type_reference.Goals.{then-c-ne-TOKEN_NAME+else-c-ne-TOKEN_BRACKET_OPEN+else-left-eq0, else-c-ne-TOKEN_NAME}
@@ -16,10 +17,10 @@ pub returns-then-n-eq-MOST_ROWS : goal.returns-then-n-eq-MOST_ROWS
 returns-then-n-eq-MOST_ROWS c = type_full _ _ _ _ _ c.requires [] (elim c.if-c-ne-TOKEN_NAME.branch [ then-c-ne-TOKEN_NAME+else-c-ne-TOKEN_BRACKET_OPEN+else-left-eq0 w ↦ inr (w.if-c-ne-TOKEN_BRACKET_OPEN.false, omega (arith, w.if-left-eq0.false)) | else-c-ne-TOKEN_NAME w ↦ inl w.if-c-ne-TOKEN_NAME.false ]) c.if-n-eq-MOST_ROWS.true
 
 pub typed-requires : goal.typed-requires
-typed-requires c = type_ready _ _ _ _ _ c.requires c.if-n-eq-MOST_ROWS.false c.open_brackets-o.result _ c.open_brackets-o.ensures c.in-Typed.is
+typed-requires c = type_ready _ _ _ _ _ c.requires c.if-n-eq-MOST_ROWS.false c.open_brackets.result _ c.open_brackets.ensures c.in_ok-w.was
 
-pub returns-in-Typed : goal.returns-in-Typed
-returns-in-Typed c = type_says _ _ _ _ _ c.requires c.if-n-eq-MOST_ROWS.false c.open_brackets-o.result _ c.open_brackets-o.ensures c.in-Typed.is _ c.typed.result c.typed.ensures
+pub returns : goal.returns
+returns c = type_says _ _ _ _ _ c.requires c.if-n-eq-MOST_ROWS.false c.open_brackets.result _ c.open_brackets.ensures c.in_ok-w.was _ c.typed.result c.typed.ensures
 
-pub returns-in-Untyped : goal.returns-in-Untyped
-returns-in-Untyped c = type_stop _ _ _ _ _ c.requires c.if-n-eq-MOST_ROWS.false [] c.open_brackets-o.result _ c.open_brackets-o.ensures c.in-Untyped.is
+pub returns-in_err-w : goal.returns-in_err-w
+returns-in_err-w c = rw (handed_on _ _ c.from_residual.ensures) (type_stop _ _ _ _ _ c.requires c.if-n-eq-MOST_ROWS.false [] c.open_brackets.result _ c.open_brackets.ensures c.in_err-w.was)

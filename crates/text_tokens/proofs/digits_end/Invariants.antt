@@ -1,13 +1,10 @@
 -- `text_tokens::digits_end` meets its contract: the run from `from` and the run from i end at one place.
 use mathlib.Core.Path.{◌≡◌}
-use Prim.Native.Nat.{◌+◌, ◌-◌}
-use lib.ListN.{length, drop}
+use Prim.Native.Nat.{◌+◌}
+use lib.ListN.{drop}
 use Rattle.paper.specs.Lexical.{digit}
 use Rattle.text_scan.specs.Run.{run_of}
 use Rattle.text_tokens.proofs.digits_end.Given as goal
 
 abbrev pub invariant-loop-i : goal.invariant-loop-i
 invariant-loop-i l = l.i + run_of digit (drop l.i l.s) ≡ l.from + run_of digit (drop l.from l.s)
-
-abbrev pub decreases-loop-i : goal.decreases-loop-i
-decreases-loop-i l = length l.s - l.i

@@ -12,21 +12,21 @@ pub returns-then-report-lt-REPORT_SIZE : goal.returns-then-report-lt-REPORT_SIZE
 returns-then-report-lt-REPORT_SIZE c = short_report c.if-report-lt-REPORT_SIZE.true refl refl
 
 pub slice_bounds-tell_call-end : goal.slice_bounds-tell_call-end
-slice_bounds-tell_call-end c = (sizes_kept c.sizes_met-s.ensures c.in-Met.is).0
+slice_bounds-tell_call-end c = (sizes_kept c.sizes_met-s.ensures c.in-Ok.is).0
 
-pub slice_bounds-tell_call-end-in-Met : goal.slice_bounds-tell_call-end-in-Met
-slice_bounds-tell_call-end-in-Met c = sym (length-take-le {A = ℕ} most_coerced c.args.value.now (sizes_kept c.sizes_met-s.ensures c.in-Met.is).0)
+pub slice_bounds-tell_call-end-in-Ok : goal.slice_bounds-tell_call-end-in-Ok
+slice_bounds-tell_call-end-in-Ok c = sym (length-take-le {A = ℕ} most_coerced c.args.value.now (sizes_kept c.sizes_met-s.ensures c.in-Ok.is).0)
 
 pub tell_call-requires : goal.tell_call-requires
-tell_call-requires c = let k = sizes_kept c.sizes_met-s.ensures c.in-Met.is in
+tell_call-requires c = let k = sizes_kept c.sizes_met-s.ensures c.in-Ok.is in
     ((k.1, k.2, k.3), c.if-report-lt-REPORT_SIZE.false, length-take-le {A = ℕ} most_coerced c.args.value.now k.0)
 
-pub returns-in-Met : goal.returns-in-Met
-returns-in-Met c = let a = c.args in
-    let k = sizes_kept c.sizes_met-s.ensures c.in-Met.is in
+pub returns-in-Ok : goal.returns-in-Ok
+returns-in-Ok c = let a = c.args in
+    let k = sizes_kept c.sizes_met-s.ensures c.in-Ok.is in
     told_beyond (EndFor a.call a.table.now a.document.now a.operation.now a.variables.now) a.table.now a.document.now a.variables.now a.value.now a.report.now _ _ _ (c.if-report-lt-REPORT_SIZE.false, k.0) (k.1, k.2, k.3) refl c.tell_call.ensures
 
-pub returns-in-Unmet : goal.returns-in-Unmet
-returns-in-Unmet c = let a = c.args in
+pub returns-in-Err : goal.returns-in-Err
+returns-in-Err c = let a = c.args in
     let t = c.tell_refusal.ensures in
-    sizes_unmet (EndFor a.call a.table.now a.document.now a.operation.now a.variables.now) a.table.now a.document.now a.variables.now a.value.now a.report.now _ _ _ _ c.if-report-lt-REPORT_SIZE.false c.sizes_met-s.ensures c.in-Unmet.is t.0 t.1
+    sizes_unmet (EndFor a.call a.table.now a.document.now a.operation.now a.variables.now) a.table.now a.document.now a.variables.now a.value.now a.report.now _ _ _ _ c.if-report-lt-REPORT_SIZE.false c.sizes_met-s.ensures c.in-Err.is t.0 t.1

@@ -24,7 +24,9 @@ use Rattle.paper_values.specs.Coercion.{value_in}
 use Rattle.paper_values.specs.RowValues.{value_at}
 use Rattle.value_writing.specs.Writing.{place_of}
 use Rattle.value_writing.proofs.PlaceLaws.{room_after}
-use Rattle.value_kinds.specs.declared.Coerced.TheVariants.{UpTo, Refused}
+use Rattle.std.proofs.Common.{Ok}
+use Rattle.std.proofs.lemmas.Result.{err_from_is_err_and}
+use Rattle.value_kinds.specs.Dues.{refused}
 use Rattle.value_kinds.proofs.KindLaws.{due_is}
 use Rattle.value_entries.specs.Entered.{dues_by}
 use Rattle.value_held.specs.Given.{coerced}
@@ -83,17 +85,17 @@ field-put_field-middle-requires t c = let a = c.args in room_first a.limit a.fro
 pub field-overflow_add-c : goal.field-overflow_add-c
 field-overflow_add-c t c = omega (arith, c.if-n-c.false, c.requires.0.treed.rowed.few)
 
-pub field-value-r-requires : goal.field-value-r-requires
-field-value-r-requires t c = let a = c.args in let w = (due_is a.t.now a.book.now c.requires.0.booked (member_from a.t.now a.tag a.start a.end).type _ _ _ _ _ _ c.member_type-m.ensures (leb-true (wrapperCount (member_from a.t.now a.tag a.start a.end).type) most_wrappers c.requires.3) c.due_of-due.ensures.0 c.due_of-due.ensures.1) in (omega (arith, c.decreases, w.1.few), (c.requires.0, omega (arith, c.if-n-c.false), w.1, room_after a.limit (house_field_bytes tag_name (member_from a.t.now a.tag a.start a.end).name) (place_of a.limit (a.from + 3)) a.out.now _ _ (room_first a.limit a.from (place_of a.limit (a.from + 3)) a.out.now c.requires.4 refl) c.put_field-middle.auto.out (name_put a.limit a.from _ _ a.out.now _ a.t.now c.member_name-name.result.at c.member_name-name.result.size (member_from a.t.now a.tag a.start a.end).name c.member_name-name.ensures.is c.place-first.ensures c.put_field-middle.ensures), record { ref = (member_from a.t.now a.tag a.start a.end).type; is = w.0 }, c.requires.5))
+pub field-value-requires : goal.field-value-requires
+field-value-requires t c = let a = c.args in let w = (due_is a.t.now a.book.now c.requires.0.booked (member_from a.t.now a.tag a.start a.end).type _ _ _ _ _ _ c.member_type-m.ensures (leb-true (wrapperCount (member_from a.t.now a.tag a.start a.end).type) most_wrappers c.requires.3) c.due_of-due.ensures.0 c.due_of-due.ensures.1) in (omega (arith, c.decreases, w.1.few), (c.requires.0, omega (arith, c.if-n-c.false), w.1, room_after a.limit (house_field_bytes tag_name (member_from a.t.now a.tag a.start a.end).name) (place_of a.limit (a.from + 3)) a.out.now _ _ (room_first a.limit a.from (place_of a.limit (a.from + 3)) a.out.now c.requires.4 refl) c.put_field-middle.auto.out (name_put a.limit a.from _ _ a.out.now _ a.t.now c.member_name-name.result.at c.member_name-name.result.size (member_from a.t.now a.tag a.start a.end).name c.member_name-name.ensures.is c.place-first.ensures c.put_field-middle.ensures), record { ref = (member_from a.t.now a.tag a.start a.end).type; is = w.0 }, c.requires.5))
 
-pub field-returns-in_default : goal.field-returns-in_default
-field-returns-in_default t c = let a = c.args in λ text ps g. step_stop a.t.now (value_in ps) text a.s.now a.held.now a.many (doc_of a.s.now a.rows.now a.n) a.n a.k a.kind a.h (due_of (member_from a.t.now a.tag a.start a.end)) a.limit a.from a.out.now _ (gives_name a.s.now a.held.now a.many (doc_of a.s.now a.rows.now a.n) a.n a.k a.kind a.h _ (member_from a.t.now a.tag a.start a.end).name _ c.member_name-name.ensures.is c.given-c.ensures) (knows a.t.now a.book.now a.s.now a.rows.now a.n a.s1.now a.rows1.now a.n1 a.held.now a.many ps g) c.if-n-c.false _ _ _ c.value-r.result (c.value-r.ensures text (member_from a.t.now a.tag a.start a.end).type ps (due_is a.t.now a.book.now c.requires.0.booked (member_from a.t.now a.tag a.start a.end).type _ _ _ _ _ _ c.member_type-m.ensures (leb-true (wrapperCount (member_from a.t.now a.tag a.start a.end).type) most_wrappers c.requires.3) c.due_of-due.ensures.0 c.due_of-due.ensures.1).0 g) _ _ c.in_default.is
+pub field-returns-in_err-e : goal.field-returns-in_err-e
+field-returns-in_err-e t c = let a = c.args in let q = err_from_is_err_and c.from_residual.result c.from_residual.ensures.1 in λ text ps g. rw (q.1, q.2, ← c.in_err-e.was) (step_stop a.t.now (value_in ps) text a.s.now a.held.now a.many (doc_of a.s.now a.rows.now a.n) a.n a.k a.kind a.h (due_of (member_from a.t.now a.tag a.start a.end)) a.limit a.from a.out.now _ (gives_name a.s.now a.held.now a.many (doc_of a.s.now a.rows.now a.n) a.n a.k a.kind a.h _ (member_from a.t.now a.tag a.start a.end).name _ c.member_name-name.ensures.is c.given-c.ensures) (knows a.t.now a.book.now a.s.now a.rows.now a.n a.s1.now a.rows1.now a.n1 a.held.now a.many ps g) c.if-n-c.false _ _ _ c.value.result (c.value.ensures text (member_from a.t.now a.tag a.start a.end).type ps (due_is a.t.now a.book.now c.requires.0.booked (member_from a.t.now a.tag a.start a.end).type _ _ _ _ _ _ c.member_type-m.ensures (leb-true (wrapperCount (member_from a.t.now a.tag a.start a.end).type) most_wrappers c.requires.3) c.due_of-due.ensures.0 c.due_of-due.ensures.1).0 g) _ c.in_err-e.was)
 
 pub field-close-requires : goal.field-close-requires
-field-close-requires t c = let a = c.args in step_behind a.t.now (value_in c.requires.5.pairs) 0 a.s.now a.held.now a.many (doc_of a.s.now a.rows.now a.n) a.n a.k a.kind a.h (due_of (member_from a.t.now a.tag a.start a.end)) a.limit a.from a.out.now _ (gives_name a.s.now a.held.now a.many (doc_of a.s.now a.rows.now a.n) a.n a.k a.kind a.h _ (member_from a.t.now a.tag a.start a.end).name _ c.member_name-name.ensures.is c.given-c.ensures) (knows a.t.now a.book.now a.s.now a.rows.now a.n a.s1.now a.rows1.now a.n1 a.held.now a.many c.requires.5.pairs c.requires.5.holds) c.if-n-c.false _ _ _ c.value-r.result (c.value-r.ensures 0 (member_from a.t.now a.tag a.start a.end).type c.requires.5.pairs (due_is a.t.now a.book.now c.requires.0.booked (member_from a.t.now a.tag a.start a.end).type _ _ _ _ _ _ c.member_type-m.ensures (leb-true (wrapperCount (member_from a.t.now a.tag a.start a.end).type) most_wrappers c.requires.3) c.due_of-due.ensures.0 c.due_of-due.ensures.1).0 c.requires.5.holds) _ c.in-UpTo.is (name_put a.limit a.from _ _ a.out.now _ a.t.now c.member_name-name.result.at c.member_name-name.result.size (member_from a.t.now a.tag a.start a.end).name c.member_name-name.ensures.is c.place-first.ensures c.put_field-middle.ensures) (room_first a.limit a.from _ a.out.now c.requires.4 refl) c.put_field-middle.auto.out c.value-r.auto.out
+field-close-requires t c = let a = c.args in step_behind a.t.now (value_in c.requires.5.pairs) 0 a.s.now a.held.now a.many (doc_of a.s.now a.rows.now a.n) a.n a.k a.kind a.h (due_of (member_from a.t.now a.tag a.start a.end)) a.limit a.from a.out.now _ (gives_name a.s.now a.held.now a.many (doc_of a.s.now a.rows.now a.n) a.n a.k a.kind a.h _ (member_from a.t.now a.tag a.start a.end).name _ c.member_name-name.ensures.is c.given-c.ensures) (knows a.t.now a.book.now a.s.now a.rows.now a.n a.s1.now a.rows1.now a.n1 a.held.now a.many c.requires.5.pairs c.requires.5.holds) c.if-n-c.false _ _ _ c.value.result (c.value.ensures 0 (member_from a.t.now a.tag a.start a.end).type c.requires.5.pairs (due_is a.t.now a.book.now c.requires.0.booked (member_from a.t.now a.tag a.start a.end).type _ _ _ _ _ _ c.member_type-m.ensures (leb-true (wrapperCount (member_from a.t.now a.tag a.start a.end).type) most_wrappers c.requires.3) c.due_of-due.ensures.0 c.due_of-due.ensures.1).0 c.requires.5.holds) _ c.in_ok-e.was (name_put a.limit a.from _ _ a.out.now _ a.t.now c.member_name-name.result.at c.member_name-name.result.size (member_from a.t.now a.tag a.start a.end).name c.member_name-name.ensures.is c.place-first.ensures c.put_field-middle.ensures) (room_first a.limit a.from _ a.out.now c.requires.4 refl) c.put_field-middle.auto.out c.value.auto.out
 
 pub field-returns : goal.field-returns
-field-returns t c = let a = c.args in λ text ps g. step_put a.t.now (value_in ps) text a.s.now a.held.now a.many (doc_of a.s.now a.rows.now a.n) a.n a.k a.kind a.h (due_of (member_from a.t.now a.tag a.start a.end)) a.limit a.from a.out.now _ (gives_name a.s.now a.held.now a.many (doc_of a.s.now a.rows.now a.n) a.n a.k a.kind a.h _ (member_from a.t.now a.tag a.start a.end).name _ c.member_name-name.ensures.is c.given-c.ensures) (knows a.t.now a.book.now a.s.now a.rows.now a.n a.s1.now a.rows1.now a.n1 a.held.now a.many ps g) c.if-n-c.false _ _ _ c.value-r.result (c.value-r.ensures text (member_from a.t.now a.tag a.start a.end).type ps (due_is a.t.now a.book.now c.requires.0.booked (member_from a.t.now a.tag a.start a.end).type _ _ _ _ _ _ c.member_type-m.ensures (leb-true (wrapperCount (member_from a.t.now a.tag a.start a.end).type) most_wrappers c.requires.3) c.due_of-due.ensures.0 c.due_of-due.ensures.1).0 g) _ c.in-UpTo.is (name_put a.limit a.from _ _ a.out.now _ a.t.now c.member_name-name.result.at c.member_name-name.result.size (member_from a.t.now a.tag a.start a.end).name c.member_name-name.ensures.is c.place-first.ensures c.put_field-middle.ensures) _ _ c.requires.4.place c.close.ensures
+field-returns t c = let a = c.args in λ text ps g. step_put a.t.now (value_in ps) text a.s.now a.held.now a.many (doc_of a.s.now a.rows.now a.n) a.n a.k a.kind a.h (due_of (member_from a.t.now a.tag a.start a.end)) a.limit a.from a.out.now _ (gives_name a.s.now a.held.now a.many (doc_of a.s.now a.rows.now a.n) a.n a.k a.kind a.h _ (member_from a.t.now a.tag a.start a.end).name _ c.member_name-name.ensures.is c.given-c.ensures) (knows a.t.now a.book.now a.s.now a.rows.now a.n a.s1.now a.rows1.now a.n1 a.held.now a.many ps g) c.if-n-c.false _ _ _ c.value.result (c.value.ensures text (member_from a.t.now a.tag a.start a.end).type ps (due_is a.t.now a.book.now c.requires.0.booked (member_from a.t.now a.tag a.start a.end).type _ _ _ _ _ _ c.member_type-m.ensures (leb-true (wrapperCount (member_from a.t.now a.tag a.start a.end).type) most_wrappers c.requires.3) c.due_of-due.ensures.0 c.due_of-due.ensures.1).0 g) _ c.in_ok-e.was (name_put a.limit a.from _ _ a.out.now _ a.t.now c.member_name-name.result.at c.member_name-name.result.size (member_from a.t.now a.tag a.start a.end).name c.member_name-name.ensures.is c.place-first.ensures c.put_field-middle.ensures) _ _ c.requires.4.place c.close.ensures
 
 pub input-start_of-start-requires : goal.input-start_of-start-requires
 input-start_of-start-requires t c = let a = c.args in (c.requires.0.booked.indexed.held.cells, number_room a.t.now a.book.now c.requires.0.booked a.due.number (c.requires.2.there (let z = takes_input (row_in a.rows.now a.n a.i).kind a.due.sort c.requires.6 in omega (arith, z))))
@@ -119,14 +121,14 @@ list-first_child-c-requires t c = (c.requires.0.treed, c.requires.1)
 pub list-loop-c-init : goal.list-loop-c-init
 list-loop-c-init t c = let a = c.args in (room_first a.limit a.from _ a.out.now c.requires.3 c.place-at.ensures, item_below (doc_of a.s.now a.rows.now a.n) a.n a.h (a.h + 1) _ c.first_child-c.ensures, λ text r ps δ g. list_start a.t.now (value_in ps) text (doc_of a.s.now a.rows.now a.n) a.n a.k a.h r a.limit a.from a.out.now _ _ c.place-at.ensures c.first_child-c.ensures)
 
-pub list-value-r-requires : goal.list-value-r-requires
-list-value-r-requires t c = (omega (arith, c.decreases, c.requires.2.few), (c.requires.0, omega (arith, c.loop-c-test.true), c.requires.2, c.loop-c.invariant.0, c.requires.4, c.requires.5))
+pub list-value-requires : goal.list-value-requires
+list-value-requires t c = (omega (arith, c.decreases, c.requires.2.few), (c.requires.0, omega (arith, c.loop-c-test.true), c.requires.2, c.loop-c.invariant.0, c.requires.4, c.requires.5))
 
-pub list-shape_of-out-in_default : goal.list-shape_of-out-in_default
-list-shape_of-out-in_default t c = c.value-r.auto.out ∙ c.loop-c.invariant.0.size ∙ sym c.requires.3.size
+pub list-shape_of-out-in_err-at : goal.list-shape_of-out-in_err-at
+list-shape_of-out-in_err-at t c = c.value.auto.out ∙ c.loop-c.invariant.0.size ∙ sym c.requires.3.size
 
-pub list-returns-in_default : goal.list-returns-in_default
-list-returns-in_default t c = let a = c.args in λ text r ps δ g. list_stop a.t.now (value_in ps) text (doc_of a.s.now a.rows.now a.n) a.n a.k a.h r a.limit a.from a.out.now c.loop-c.out c.loop-c.at c.loop-c.c (c.loop-c.invariant.2 text r ps δ g) _ c.value-r.result _ _ c.loop-c-test.true (c.loop-c.invariant.1 c.loop-c-test.true) (c.value-r.ensures text r ps δ g) c.in_default.is
+pub list-returns-in_err-at : goal.list-returns-in_err-at
+list-returns-in_err-at t c = let a = c.args in let q = err_from_is_err_and c.from_residual.result c.from_residual.ensures.1 in λ text r ps δ g. rw (q.1, q.2, ← c.in_err-at.was) (list_stop a.t.now (value_in ps) text (doc_of a.s.now a.rows.now a.n) a.n a.k a.h r a.limit a.from a.out.now c.loop-c.out c.loop-c.at c.loop-c.c (c.loop-c.invariant.2 text r ps δ g) _ c.value.result _ c.loop-c-test.true (c.loop-c.invariant.1 c.loop-c-test.true) (c.value.ensures text r ps δ g) c.in_err-at.was)
 
 pub list-next_child-c-requires : goal.list-next_child-c-requires
 list-next_child-c-requires t c = (c.requires.0.treed, c.requires.1, c.loop-c-test.true, c.loop-c.invariant.1 c.loop-c-test.true)
@@ -136,9 +138,9 @@ list-loop-c-smaller t c = let a = c.args in let z = child_more (doc_of a.s.now a
 
 pub list-loop-c-preserved : goal.list-loop-c-preserved
 list-loop-c-preserved t c = let a = c.args in (
-  told_room 0 a.limit c.loop-c.at c.loop-c.out _ c.value-r.result (coerced a.t.now (value_in c.requires.5.pairs) 0 (doc_of a.s.now a.rows.now a.n) a.k c.loop-c.c c.requires.4.ref) _ (c.value-r.ensures 0 c.requires.4.ref c.requires.5.pairs c.requires.4.is c.requires.5.holds) c.in-UpTo.is c.loop-c.invariant.0 c.value-r.auto.out,
+  told_room 0 a.limit c.loop-c.at c.loop-c.out _ c.value.result (coerced a.t.now (value_in c.requires.5.pairs) 0 (doc_of a.s.now a.rows.now a.n) a.k c.loop-c.c c.requires.4.ref) _ (c.value.ensures 0 c.requires.4.ref c.requires.5.pairs c.requires.4.is c.requires.5.holds) c.in_ok-at.was c.loop-c.invariant.0 c.value.auto.out,
   item_below (doc_of a.s.now a.rows.now a.n) a.n a.h (c.loop-c.c + 1) _ c.next_child-c.ensures,
-  λ text r ps δ g. let z = told_up text a.limit c.loop-c.at c.loop-c.out _ c.value-r.result (coerced a.t.now (value_in ps) text (doc_of a.s.now a.rows.now a.n) a.k c.loop-c.c r) _ (c.value-r.ensures text r ps δ g) c.in-UpTo.is in
+  λ text r ps δ g. let z = told_up text a.limit c.loop-c.at c.loop-c.out _ c.value.result (coerced a.t.now (value_in ps) text (doc_of a.s.now a.rows.now a.n) a.k c.loop-c.c r) _ (c.value.ensures text r ps δ g) c.in_ok-at.was in
       list_step a.t.now (value_in ps) text (doc_of a.s.now a.rows.now a.n) a.n a.k a.h r a.limit a.from a.out.now c.loop-c.out c.loop-c.at c.loop-c.c (c.loop-c.invariant.2 text r ps δ g) _ z.0 _ _ c.loop-c-test.true (c.loop-c.invariant.1 c.loop-c-test.true) z.1 z.2 c.next_child-c.ensures,
 )
 
@@ -163,39 +165,39 @@ object-returns-then-alien-n t c = let a = c.args in λ text ps g. object_unknown
 pub object-place-at-requires : goal.object-place-at-requires
 object-place-at-requires t c = (c.requires.4.least, c.requires.4.place, omega arith)
 
-pub object-loop-tag-init : goal.object-loop-tag-init
-object-loop-tag-init t c = let a = c.args in (room_first a.limit a.from _ a.out.now c.requires.4 c.place-at.ensures, c.requires.2.order, c.requires.3, λ text ps g. fields_start a.t.now (value_in ps) text (doc_of a.s.now a.rows.now a.n) a.n a.k a.kind a.h (λ x. dues_by a.kind a.t.now x a.end) a.start a.limit a.from a.out.now _ c.place-at.ensures)
+pub object-loop-f-init : goal.object-loop-f-init
+object-loop-f-init t c = let a = c.args in (room_first a.limit a.from _ a.out.now c.requires.4 c.place-at.ensures, c.requires.2.order, c.requires.3, λ text ps g. fields_start a.t.now (value_in ps) text (doc_of a.s.now a.rows.now a.n) a.n a.k a.kind a.h (λ x. dues_by a.kind a.t.now x a.end) a.start a.limit a.from a.out.now _ c.place-at.ensures)
 
 pub object-next_due-requires : goal.object-next_due-requires
-object-next_due-requires t c = later c.requires.2 c.loop-tag.invariant.1
+object-next_due-requires t c = later c.requires.2 c.loop-f.invariant.1
 
 pub object-close-requires : goal.object-close-requires
-object-close-requires t c = let a = c.args in fields_behind a.t.now (value_in c.requires.5.pairs) 0 (doc_of a.s.now a.rows.now a.n) a.n a.k a.kind a.h (λ x. dues_by a.kind a.t.now x a.end) a.start a.limit a.from a.out.now c.loop-tag.out c.loop-tag.at c.loop-tag.p (c.loop-tag.invariant.3 0 c.requires.5.pairs c.requires.5.holds) c.loop-tag.invariant.0
+object-close-requires t c = let a = c.args in fields_behind a.t.now (value_in c.requires.5.pairs) 0 (doc_of a.s.now a.rows.now a.n) a.n a.k a.kind a.h (λ x. dues_by a.kind a.t.now x a.end) a.start a.limit a.from a.out.now c.loop-f.out c.loop-f.at c.loop-f.p (c.loop-f.invariant.3 0 c.requires.5.pairs c.requires.5.holds) c.loop-f.invariant.0
 
 pub object-shape_of-out-in_default : goal.object-shape_of-out-in_default
-object-shape_of-out-in_default t c = c.close.auto.out ∙ c.loop-tag.invariant.0.size ∙ sym c.requires.4.size
+object-shape_of-out-in_default t c = c.close.auto.out ∙ c.loop-f.invariant.0.size ∙ sym c.requires.4.size
 
 pub object-returns-in_default : goal.object-returns-in_default
-object-returns-in_default t c = let a = c.args in λ text ps g. object_fields a.t.now (value_in ps) text (doc_of a.s.now a.rows.now a.n) a.n a.k a.kind a.h (λ x. dues_by a.kind a.t.now x a.end) a.start a.limit a.from a.out.now _ (c.find_again-again.ensures text (value_at text (doc_of a.s.now a.rows.now a.n) a.k)) c.if-again-n.false _ (c.find_alien-alien.ensures text (value_at text (doc_of a.s.now a.rows.now a.n) a.k)) c.if-alien-n.false _ _ (fields_end a.t.now (value_in ps) text (doc_of a.s.now a.rows.now a.n) a.n a.k a.kind a.h (λ x. dues_by a.kind a.t.now x a.end) a.start a.limit a.from a.out.now c.loop-tag.out c.loop-tag.at c.loop-tag.p (c.loop-tag.invariant.3 text ps g) _ _ (next_none a.kind a.t.now c.loop-tag.p a.end _ c.next_due.ensures c.in_default.is) c.close.ensures)
+object-returns-in_default t c = let a = c.args in λ text ps g. object_fields a.t.now (value_in ps) text (doc_of a.s.now a.rows.now a.n) a.n a.k a.kind a.h (λ x. dues_by a.kind a.t.now x a.end) a.start a.limit a.from a.out.now _ (c.find_again-again.ensures text (value_at text (doc_of a.s.now a.rows.now a.n) a.k)) c.if-again-n.false _ (c.find_alien-alien.ensures text (value_at text (doc_of a.s.now a.rows.now a.n) a.k)) c.if-alien-n.false _ _ (fields_end a.t.now (value_in ps) text (doc_of a.s.now a.rows.now a.n) a.n a.k a.kind a.h (λ x. dues_by a.kind a.t.now x a.end) a.start a.limit a.from a.out.now c.loop-f.out c.loop-f.at c.loop-f.p (c.loop-f.invariant.3 text ps g) _ _ (next_none a.kind a.t.now c.loop-f.p a.end _ c.next_due.ensures c.in_default.is) c.close.ensures)
 
-pub object-field-r-requires : goal.object-field-r-requires
-object-field-r-requires t c = let a = c.args in let f = (next_found a.kind a.t.now c.loop-tag.p a.end _ c.in-Found.tag c.in-Found.a c.in-Found.e c.next_due.ensures c.in-Found.is) in (omega (arith, c.decreases), (c.requires.0, c.requires.1, narrow c.requires.2 f.lies.order f.lies.within, slim_first (due_of (member_from a.t.now c.in-Found.tag c.in-Found.a c.in-Found.e)) (dues_by a.kind a.t.now c.loop-tag.p a.end) (dues_by a.kind a.t.now c.in-Found.e a.end) c.loop-tag.invariant.2 f.all_are, c.loop-tag.invariant.0, c.requires.5))
+pub object-field-requires : goal.object-field-requires
+object-field-requires t c = let a = c.args in let f = (next_found a.kind a.t.now c.loop-f.p a.end _ c.in-Some.f c.next_due.ensures c.in-Some.is) in (omega (arith, c.decreases), (c.requires.0, c.requires.1, narrow c.requires.2 f.lies.order f.lies.within, slim_first (due_of (member_from a.t.now c.in-Some.f.tag c.in-Some.f.start c.in-Some.f.end)) (dues_by a.kind a.t.now c.loop-f.p a.end) (dues_by a.kind a.t.now c.in-Some.f.end a.end) c.loop-f.invariant.2 f.all_are, c.loop-f.invariant.0, c.requires.5))
 
-pub object-shape_of-out-in_default-r : goal.object-shape_of-out-in_default-r
-object-shape_of-out-in_default-r t c = c.field-r.auto.out ∙ c.loop-tag.invariant.0.size ∙ sym c.requires.4.size
+pub object-shape_of-out-in_err-at : goal.object-shape_of-out-in_err-at
+object-shape_of-out-in_err-at t c = c.field.auto.out ∙ c.loop-f.invariant.0.size ∙ sym c.requires.4.size
 
-pub object-returns-in_default-r : goal.object-returns-in_default-r
-object-returns-in_default-r t c = let a = c.args in λ text ps g. object_fields a.t.now (value_in ps) text (doc_of a.s.now a.rows.now a.n) a.n a.k a.kind a.h (λ x. dues_by a.kind a.t.now x a.end) a.start a.limit a.from a.out.now _ (c.find_again-again.ensures text (value_at text (doc_of a.s.now a.rows.now a.n) a.k)) c.if-again-n.false _ (c.find_alien-alien.ensures text (value_at text (doc_of a.s.now a.rows.now a.n) a.k)) c.if-alien-n.false _ _ (fields_stop a.t.now (value_in ps) text (doc_of a.s.now a.rows.now a.n) a.n a.k a.kind a.h (λ x. dues_by a.kind a.t.now x a.end) a.start a.limit a.from a.out.now c.loop-tag.out c.loop-tag.at c.loop-tag.p (c.loop-tag.invariant.3 text ps g) (due_of (member_from a.t.now c.in-Found.tag c.in-Found.a c.in-Found.e)) c.in-Found.e (next_found a.kind a.t.now c.loop-tag.p a.end _ c.in-Found.tag c.in-Found.a c.in-Found.e c.next_due.ensures c.in-Found.is).all_are _ c.field-r.result _ _ (c.field-r.ensures text ps g) c.in_default-r.is)
+pub object-returns-in_err-at : goal.object-returns-in_err-at
+object-returns-in_err-at t c = let a = c.args in let q = err_from_is_err_and c.from_residual.result c.from_residual.ensures.1 in λ text ps g. rw (q.1, q.2, ← c.in_err-at.was) (object_fields a.t.now (value_in ps) text (doc_of a.s.now a.rows.now a.n) a.n a.k a.kind a.h (λ x. dues_by a.kind a.t.now x a.end) a.start a.limit a.from a.out.now _ (c.find_again-again.ensures text (value_at text (doc_of a.s.now a.rows.now a.n) a.k)) c.if-again-n.false _ (c.find_alien-alien.ensures text (value_at text (doc_of a.s.now a.rows.now a.n) a.k)) c.if-alien-n.false _ _ (fields_stop a.t.now (value_in ps) text (doc_of a.s.now a.rows.now a.n) a.n a.k a.kind a.h (λ x. dues_by a.kind a.t.now x a.end) a.start a.limit a.from a.out.now c.loop-f.out c.loop-f.at c.loop-f.p (c.loop-f.invariant.3 text ps g) (due_of (member_from a.t.now c.in-Some.f.tag c.in-Some.f.start c.in-Some.f.end)) c.in-Some.f.end (next_found a.kind a.t.now c.loop-f.p a.end _ c.in-Some.f c.next_due.ensures c.in-Some.is).all_are _ c.field.result _ (c.field.ensures text ps g) c.in_err-at.was))
 
-pub object-loop-tag-smaller : goal.object-loop-tag-smaller
-object-loop-tag-smaller t c = let a = c.args in let f = (next_found a.kind a.t.now c.loop-tag.p a.end _ c.in-Found.tag c.in-Found.a c.in-Found.e c.next_due.ensures c.in-Found.is) in omega (arith, f.lies.begins, f.lies.order, f.lies.within)
+pub object-loop-f-smaller : goal.object-loop-f-smaller
+object-loop-f-smaller t c = let a = c.args in let f = (next_found a.kind a.t.now c.loop-f.p a.end _ c.in-Some.f c.next_due.ensures c.in-Some.is) in omega (arith, f.lies.begins, f.lies.order, f.lies.within)
 
-pub object-loop-tag-preserved : goal.object-loop-tag-preserved
-object-loop-tag-preserved t c = let a = c.args in let f = (next_found a.kind a.t.now c.loop-tag.p a.end _ c.in-Found.tag c.in-Found.a c.in-Found.e c.next_due.ensures c.in-Found.is) in (
-  pairs_room 0 a.limit c.loop-tag.at c.loop-tag.out _ c.field-r.result (stepped a.t.now (value_in c.requires.5.pairs) 0 (doc_of a.s.now a.rows.now a.n) a.n a.k a.kind a.h (due_of (member_from a.t.now c.in-Found.tag c.in-Found.a c.in-Found.e))) _ (c.field-r.ensures 0 c.requires.5.pairs c.requires.5.holds) c.in-UpTo.is c.loop-tag.invariant.0 c.field-r.auto.out,
+pub object-loop-f-preserved : goal.object-loop-f-preserved
+object-loop-f-preserved t c = let a = c.args in let f = (next_found a.kind a.t.now c.loop-f.p a.end _ c.in-Some.f c.next_due.ensures c.in-Some.is) in (
+  pairs_room 0 a.limit c.loop-f.at c.loop-f.out _ c.field.result (stepped a.t.now (value_in c.requires.5.pairs) 0 (doc_of a.s.now a.rows.now a.n) a.n a.k a.kind a.h (due_of (member_from a.t.now c.in-Some.f.tag c.in-Some.f.start c.in-Some.f.end))) _ (c.field.ensures 0 c.requires.5.pairs c.requires.5.holds) c.in_ok-at.was c.loop-f.invariant.0 c.field.auto.out,
   f.lies.within,
-  slim_rest (due_of (member_from a.t.now c.in-Found.tag c.in-Found.a c.in-Found.e)) (dues_by a.kind a.t.now c.loop-tag.p a.end) (dues_by a.kind a.t.now c.in-Found.e a.end) c.loop-tag.invariant.2 f.all_are,
-  λ text ps g. fields_step a.t.now (value_in ps) text (doc_of a.s.now a.rows.now a.n) a.n a.k a.kind a.h (λ x. dues_by a.kind a.t.now x a.end) a.start a.limit a.from a.out.now c.loop-tag.out c.loop-tag.at c.loop-tag.p (c.loop-tag.invariant.3 text ps g) (due_of (member_from a.t.now c.in-Found.tag c.in-Found.a c.in-Found.e)) c.in-Found.e f.all_are _ c.field-r.result _ (c.field-r.ensures text ps g) c.in-UpTo.is,
+  slim_rest (due_of (member_from a.t.now c.in-Some.f.tag c.in-Some.f.start c.in-Some.f.end)) (dues_by a.kind a.t.now c.loop-f.p a.end) (dues_by a.kind a.t.now c.in-Some.f.end a.end) c.loop-f.invariant.2 f.all_are,
+  λ text ps g. fields_step a.t.now (value_in ps) text (doc_of a.s.now a.rows.now a.n) a.n a.k a.kind a.h (λ x. dues_by a.kind a.t.now x a.end) a.start a.limit a.from a.out.now c.loop-f.out c.loop-f.at c.loop-f.p (c.loop-f.invariant.3 text ps g) (due_of (member_from a.t.now c.in-Some.f.tag c.in-Some.f.start c.in-Some.f.end)) c.in-Some.f.end f.all_are _ c.field.result _ (c.field.ensures text ps g) c.in_ok-at.was,
 )
 
 pub put_kept-is_null-requires : goal.put_kept-is_null-requires
@@ -208,7 +210,7 @@ pub put_kept-returns-then-is_null : goal.put_kept-returns-then-is_null
 put_kept-returns-then-is_null t c = let a = c.args in λ vars text there r ref tree e δ kept. kept_null a.t.now vars text there (doc_of a.s.now a.rows.now a.n) a.n a.row a.i a.limit a.from r ref tree a.out.now _ c.put_nothing.result kept (subst (λ (b : Bool). Decides b (((row_in a.rows.now a.n a.row).kind ≡ kind_null) ⊎ ((row_in a.rows.now a.n a.row).kind ≡ kind_variable))) c.if-is_null.true c.is_null.ensures) (c.put_nothing.ensures text r e)
 
 pub put_kept-returns-then-limit-from : goal.put_kept-returns-then-limit-from
-put_kept-returns-then-limit-from t c = let a = c.args in λ vars text there r ref tree e δ kept. kept_full a.t.now vars text there (doc_of a.s.now a.rows.now a.n) a.n a.row a.i a.limit a.from r ref tree a.out.now _ (UpTo a.from) kept (subst (λ (b : Bool). Decides b (((row_in a.rows.now a.n a.row).kind ≡ kind_null) ⊎ ((row_in a.rows.now a.n a.row).kind ≡ kind_variable))) c.if-is_null.false c.is_null.ensures) c.if-limit-from.true c.requires.3.place refl
+put_kept-returns-then-limit-from t c = let a = c.args in λ vars text there r ref tree e δ kept. kept_full a.t.now vars text there (doc_of a.s.now a.rows.now a.n) a.n a.row a.i a.limit a.from r ref tree a.out.now _ (Ok a.from) kept (subst (λ (b : Bool). Decides b (((row_in a.rows.now a.n a.row).kind ≡ kind_null) ⊎ ((row_in a.rows.now a.n a.row).kind ≡ kind_variable))) c.if-is_null.false c.is_null.ensures) c.if-limit-from.true c.requires.3.place refl
 
 pub put_kept-value-requires : goal.put_kept-value-requires
 put_kept-value-requires t c = let a = c.args in (omega (arith, c.decreases), (c.requires.0, c.requires.1, c.requires.2, c.requires.3, c.requires.4, record { ready = c.requires.0; size = omega arith; pairs = no_pairs; holds = refl }))
@@ -225,17 +227,17 @@ single-overflow_mul-m t c = omega (arith, c.lists_in-m.ensures.0)
 pub single-place-first-requires : goal.single-place-first-requires
 single-place-first-requires t c = (c.requires.3.least, c.requires.3.place, omega (arith, c.lists_in-m.ensures.0))
 
-pub single-bare-r-requires : goal.single-bare-r-requires
-single-bare-r-requires t c = let a = c.args in (omega (arith, c.decreases), (c.requires.0, c.requires.1, c.requires.2, room_at a.limit a.from (a.from + 3 * c.lists_in-m.result) _ a.out.now c.requires.3 c.place-first.ensures, c.requires.5, c.requires.6))
+pub single-bare-requires : goal.single-bare-requires
+single-bare-requires t c = let a = c.args in (omega (arith, c.decreases), (c.requires.0, c.requires.1, c.requires.2, room_at a.limit a.from (a.from + 3 * c.lists_in-m.result) _ a.out.now c.requires.3 c.place-first.ensures, c.requires.5, c.requires.6))
 
-pub single-returns-in_default : goal.single-returns-in_default
-single-returns-in_default t c = let a = c.args in λ text r ps δ g. told_single a.t.now a.book.now (value_in ps) text (doc_of a.s.now a.rows.now a.n) a.k a.i a.due.sort a.due.number a.due.wrappers a.limit a.from a.out.now _ c.bare-r.result r δ c.requires.6.level c.requires.6.no_null c.requires.6.no_variable c.requires.6.no_list _ (c.lists_in-m.ensures.1 r δ.packs) (ones_stop text a.limit a.from _ (coerced a.t.now (value_in ps) text (doc_of a.s.now a.rows.now a.n) a.k a.i (named (base_of r))) a.out.now _ c.bare-r.result _ c.place-first.ensures (c.bare-r.ensures text (named (base_of r)) ps (due_base a.t.now a.book.now r a.due.sort a.due.number a.due.wrappers δ) g) _ _ c.in_default.is)
+pub single-returns-in_err-at : goal.single-returns-in_err-at
+single-returns-in_err-at t c = let a = c.args in let q = err_from_is_err_and c.from_residual.result c.from_residual.ensures.1 in λ text r ps δ g. rw (q.1, q.2, ← c.in_err-at.was) (told_single a.t.now a.book.now (value_in ps) text (doc_of a.s.now a.rows.now a.n) a.k a.i a.due.sort a.due.number a.due.wrappers a.limit a.from a.out.now _ c.bare.result r δ c.requires.6.level c.requires.6.no_null c.requires.6.no_variable c.requires.6.no_list _ (c.lists_in-m.ensures.1 r δ.packs) (ones_stop text a.limit a.from _ (coerced a.t.now (value_in ps) text (doc_of a.s.now a.rows.now a.n) a.k a.i (named (base_of r))) a.out.now _ c.bare.result _ c.place-first.ensures (c.bare.ensures text (named (base_of r)) ps (due_base a.t.now a.book.now r a.due.sort a.due.number a.due.wrappers δ) g) _ c.in_err-at.was))
 
 pub single-close_ones-requires : goal.single-close_ones-requires
-single-close_ones-requires t c = let a = c.args in ones_inside 0 a.limit a.from _ (coerced a.t.now (value_in c.requires.5.pairs) 0 (doc_of a.s.now a.rows.now a.n) a.k a.i (named (base_of c.requires.4.ref))) a.out.now _ c.bare-r.result _ c.place-first.ensures (c.bare-r.ensures 0 (named (base_of c.requires.4.ref)) c.requires.5.pairs (due_base a.t.now a.book.now c.requires.4.ref a.due.sort a.due.number a.due.wrappers c.requires.4.is) c.requires.5.holds) _ c.in-UpTo.is c.lists_in-m.ensures.0 c.requires.3 c.bare-r.auto.out
+single-close_ones-requires t c = let a = c.args in ones_inside 0 a.limit a.from _ (coerced a.t.now (value_in c.requires.5.pairs) 0 (doc_of a.s.now a.rows.now a.n) a.k a.i (named (base_of c.requires.4.ref))) a.out.now _ c.bare.result _ c.place-first.ensures (c.bare.ensures 0 (named (base_of c.requires.4.ref)) c.requires.5.pairs (due_base a.t.now a.book.now c.requires.4.ref a.due.sort a.due.number a.due.wrappers c.requires.4.is) c.requires.5.holds) _ c.in_ok-at.was c.lists_in-m.ensures.0 c.requires.3 c.bare.auto.out
 
 pub single-returns : goal.single-returns
-single-returns t c = let a = c.args in λ text r ps δ g. told_single a.t.now a.book.now (value_in ps) text (doc_of a.s.now a.rows.now a.n) a.k a.i a.due.sort a.due.number a.due.wrappers a.limit a.from a.out.now _ (UpTo c.close_ones.result) r δ c.requires.6.level c.requires.6.no_null c.requires.6.no_variable c.requires.6.no_list _ (c.lists_in-m.ensures.1 r δ.packs) (c.close_ones.ensures text (coerced a.t.now (value_in ps) text (doc_of a.s.now a.rows.now a.n) a.k a.i (named (base_of r))) a.out.now (ones_told text a.limit a.from _ (coerced a.t.now (value_in ps) text (doc_of a.s.now a.rows.now a.n) a.k a.i (named (base_of r))) a.out.now _ c.bare-r.result _ c.place-first.ensures (c.bare-r.ensures text (named (base_of r)) ps (due_base a.t.now a.book.now r a.due.sort a.due.number a.due.wrappers δ) g) _ c.in-UpTo.is))
+single-returns t c = let a = c.args in λ text r ps δ g. told_single a.t.now a.book.now (value_in ps) text (doc_of a.s.now a.rows.now a.n) a.k a.i a.due.sort a.due.number a.due.wrappers a.limit a.from a.out.now _ (Ok c.close_ones.result) r δ c.requires.6.level c.requires.6.no_null c.requires.6.no_variable c.requires.6.no_list _ (c.lists_in-m.ensures.1 r δ.packs) (c.close_ones.ensures text (coerced a.t.now (value_in ps) text (doc_of a.s.now a.rows.now a.n) a.k a.i (named (base_of r))) a.out.now (ones_told text a.limit a.from _ (coerced a.t.now (value_in ps) text (doc_of a.s.now a.rows.now a.n) a.k a.i (named (base_of r))) a.out.now _ c.bare.result _ c.place-first.ensures (c.bare.ensures text (named (base_of r)) ps (due_base a.t.now a.book.now r a.due.sort a.due.number a.due.wrappers δ) g) _ c.in_ok-at.was))
 
 pub value-put_nothing-requires : goal.value-put_nothing-requires
 value-put_nothing-requires t c = c.requires.3
@@ -265,7 +267,7 @@ pub value-returns-then-kind-ne-KIND_LIST : goal.value-returns-then-kind-ne-KIND_
 value-returns-then-kind-ne-KIND_LIST t c = λ text r ps δ g. c.single.ensures text r ps δ g
 
 pub value-returns-then-inside-ne-WRAP_LIST : goal.value-returns-then-inside-ne-WRAP_LIST
-value-returns-then-inside-ne-WRAP_LIST t c = let a = c.args in λ text r ps δ g. told_kind a.t.now a.book.now (value_in ps) text (doc_of a.s.now a.rows.now a.n) a.k a.i a.due.sort a.due.number a.due.wrappers a.limit a.from a.out.now _ (Refused a.i reason_kind) r δ c.if-k-eq0.false (λ e. c.if-kind-eq-KIND_NULL.false (c.kind_of-kind.ensures ∙ e)) (λ e. c.if-kind-eq-KIND_VARIABLE.false (c.kind_of-kind.ensures ∙ e)) _ (c.nullable-inside.ensures.2 r δ.packs) c.nullable-inside.ensures.1 c.if-inside-ne-WRAP_LIST.true (sym c.kind_of-kind.ensures ∙ c.if-kind-ne-KIND_LIST.false) refl
+value-returns-then-inside-ne-WRAP_LIST t c = let a = c.args in λ text r ps δ g. told_kind a.t.now a.book.now (value_in ps) text (doc_of a.s.now a.rows.now a.n) a.k a.i a.due.sort a.due.number a.due.wrappers a.limit a.from a.out.now _ (refused a.i reason_kind) r δ c.if-k-eq0.false (λ e. c.if-kind-eq-KIND_NULL.false (c.kind_of-kind.ensures ∙ e)) (λ e. c.if-kind-eq-KIND_VARIABLE.false (c.kind_of-kind.ensures ∙ e)) _ (c.nullable-inside.ensures.2 r δ.packs) c.nullable-inside.ensures.1 c.if-inside-ne-WRAP_LIST.true (sym c.kind_of-kind.ensures ∙ c.if-kind-ne-KIND_LIST.false) refl
 
 pub value-list-requires : goal.value-list-requires
 value-list-requires t c = let a = c.args in (omega (arith, c.decreases, c.if-k-eq0.false), (c.requires.0, list_there a.rows.now a.n a.i (sym c.kind_of-kind.ensures ∙ c.if-kind-ne-KIND_LIST.false), fits_items a.book.now a.due.sort a.due.number a.due.wrappers _ c.requires.2 c.nullable-inside.ensures.0, c.requires.3, meant_items a.t.now a.book.now a.due.sort a.due.number a.due.wrappers _ c.requires.4 c.nullable-inside.ensures.2 c.if-inside-ne-WRAP_LIST.false, c.requires.5))

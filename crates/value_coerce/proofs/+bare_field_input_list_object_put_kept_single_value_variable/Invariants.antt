@@ -52,8 +52,8 @@ invariant-list-loop-c l = Room l.limit l.at l.out × (l.c < l.n → parent_of (d
 abbrev pub decreases-list-loop-c : goal.decreases-list-loop-c
 decreases-list-loop-c l = l.n - l.c
 
-abbrev pub invariant-object-loop-tag : goal.invariant-object-loop-tag
-invariant-object-loop-tag l = Room l.limit l.at l.out × (l.p ≤ l.end) × (all_of slim_due (dues_by l.kind l.t l.p l.end) ≡ true) × ((text : ℕ) (ps : Pairs) → Holds l.t l.book l.s l.rows l.n l.s1 l.rows1 l.n1 l.held 0 l.many ps → Fielded l.t (value_in ps) text (doc_of l.s l.rows l.n) l.n l.k l.kind l.h (λ x. dues_by l.kind l.t x l.end) l.start l.limit l.from l.initial.out l.out l.at l.p)
+abbrev pub invariant-object-loop-f : goal.invariant-object-loop-f
+invariant-object-loop-f l = Room l.limit l.at l.out × (l.p ≤ l.end) × (all_of slim_due (dues_by l.kind l.t l.p l.end) ≡ true) × ((text : ℕ) (ps : Pairs) → Holds l.t l.book l.s l.rows l.n l.s1 l.rows1 l.n1 l.held 0 l.many ps → Fielded l.t (value_in ps) text (doc_of l.s l.rows l.n) l.n l.k l.kind l.h (λ x. dues_by l.kind l.t x l.end) l.start l.limit l.from l.initial.out l.out l.at l.p)
 
-abbrev pub decreases-object-loop-tag : goal.decreases-object-loop-tag
-decreases-object-loop-tag l = l.end - l.p
+abbrev pub decreases-object-loop-f : goal.decreases-object-loop-f
+decreases-object-loop-f l = l.end - l.p

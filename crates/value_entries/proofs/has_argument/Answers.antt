@@ -1,5 +1,11 @@
 -- One is there if and only if one is found.
-use mathlib.Core.Path.{sym, ap, subst, ◌∙◌}
+use mathlib.Core.Path.{◌≡◌, sym, ap, ◌∙◌}
+use mathlib.Core.List.{List}
+use Prim.Native.Nat.{ℕ}
+use Rattle.std.specs.Prelude.{Option, Some, None}
+use Rattle.std.specs.Option.{is_some}
+use Rattle.paper_table.specs.Lists.{any_of}
+use Rattle.table_fields.specs.declared.Field.{Field}
 use Rattle.paper_table.specs.Types.{argument_named}
 use Rattle.paper_table.specs.References.{found}
 use Rattle.table_book.specs.Book.{part}
@@ -7,10 +13,9 @@ use Rattle.table_members.specs.Members.{arguments_in, FindArgument}
 use Rattle.table_types.proofs.Objects.{any_found}
 use Rattle.value_entries.proofs.has_argument.Goals as goal
 
-pub returns-in_default : goal.returns-in_default
-returns-in_default c = let a = c.args in
-    sym (any_found (argument_named (part a.s.now a.at a.l)) (arguments_in a.t.now a.start a.end) ∙ ap found (subst (FindArgument a.t.now a.start a.end (part a.s.now a.at a.l)) c.in_default.is c.find_argument.ensures))
+by_what : (t : List ℕ) (start end : ℕ) (n : List ℕ) (r : Option Field) → FindArgument t start end n r → is_some r ≡ any_of (argument_named n) (arguments_in t start end)
+by_what t start end n None e = sym (any_found (argument_named n) (arguments_in t start end) ∙ ap found e)
+by_what t start end n (Some f) e = sym (any_found (argument_named n) (arguments_in t start end) ∙ ap found e.is)
 
 pub returns : goal.returns
-returns c = let a = c.args in
-    sym (any_found (argument_named (part a.s.now a.at a.l)) (arguments_in a.t.now a.start a.end) ∙ ap found (subst (FindArgument a.t.now a.start a.end (part a.s.now a.at a.l)) c.in-Found.is c.find_argument.ensures).is)
+returns c = let a = c.args in c.is_some.ensures ∙ by_what a.t.now a.start a.end (part a.s.now a.at a.l) c.find_argument.result c.find_argument.ensures

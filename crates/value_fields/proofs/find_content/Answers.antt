@@ -26,4 +26,4 @@ pub returns-in_default : goal.returns-in_default
 returns-in_default c = field_lacks c.args.t.now c.args.book.now c.requires.0 c.args.k c.requires.2 (part c.args.s.now c.args.at c.args.n) (λ z. c.if-kind_of.false (c.kind_of.ensures ∙ z)) c.start_of.result c.end_of.result c.start_of.ensures c.end_of.ensures (subst (FindMember c.args.t.now c.start_of.result c.end_of.result (part c.args.s.now c.args.at c.args.n)) c.in_default.is c.find_member.ensures)
 
 pub returns : goal.returns
-returns c = field_contained c.args.t.now c.args.book.now c.requires.0 c.args.k c.requires.2 (part c.args.s.now c.args.at c.args.n) (λ z. c.if-kind_of.false (c.kind_of.ensures ∙ z)) c.start_of.result c.end_of.result c.start_of.ensures c.end_of.ensures c.requires.1 _ _ _ (subst (FindMember c.args.t.now c.start_of.result c.end_of.result (part c.args.s.now c.args.at c.args.n)) c.in-Found.is c.find_member.ensures)
+returns c = field_contained c.args.t.now c.args.book.now c.requires.0 c.args.k c.requires.2 (part c.args.s.now c.args.at c.args.n) (λ z. c.if-kind_of.false (c.kind_of.ensures ∙ z)) c.start_of.result c.end_of.result c.start_of.ensures c.end_of.ensures c.requires.1 _ _ _ (subst (FindMember c.args.t.now c.start_of.result c.end_of.result (part c.args.s.now c.args.at c.args.n)) c.in-Some.is c.find_member.ensures)

@@ -19,11 +19,11 @@ pub returns-then-not-is_reached : goal.returns-then-not-is_reached
 returns-then-not-is_reached c = let a = c.args in
     wants_unreached a.t.now (doc_of a.s.now a.rows.now a.n) a.op a.row c.kind_of.ensures c.is_reached.result c.is_reached.ensures c.if-not-is_reached.true
 
-pub content_of-c-requires : goal.content_of-c-requires
-content_of-c-requires c = let a = c.args in
+pub content_of-requires : goal.content_of-requires
+content_of-requires c = let a = c.args in
     let p = c.requires in
     (accepted_known a.t.now p.accepted p.booked, p.booked, p.rowed)
 
 pub returns : goal.returns
 returns c = let a = c.args in
-    wants_reached a.t.now (doc_of a.s.now a.rows.now a.n) a.op a.row c.kind_of.ensures c.is_reached.result c.content_of-c.result.start c.content_of-c.result.end c.if-kind_of-ne-KIND_FIELD.false c.is_reached.ensures c.if-not-is_reached.false c.content_of-c.ensures
+    wants_reached a.t.now (doc_of a.s.now a.rows.now a.n) a.op a.row c.kind_of.ensures c.is_reached.result c.content_of.result c.if-kind_of-ne-KIND_FIELD.false c.is_reached.ensures c.if-not-is_reached.false c.content_of.ensures

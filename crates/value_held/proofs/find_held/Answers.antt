@@ -1,5 +1,5 @@
 -- The names of the variables, one after the other.
-use mathlib.Core.Path.{sym, ap, ◌∙◌}
+use mathlib.Core.Path.{◌≡◌, sym, ap, ◌∙◌}
 use Prim.Native.Nat.{ℕ}
 use native.Mathlib.Omega.{arith}
 use Rattle.table_book.specs.Book.{part}
@@ -20,4 +20,5 @@ pub loop-j-preserved : goal.loop-j-preserved
 loop-j-preserved c = let a = c.args in c.loop-j.invariant ∙ held_next a.s.now a.held.now (part a.s.now a.at a.l) a.many c.loop-j.j c.loop-j-test.true (rw (← c.cell_of-a.ensures, ← c.cell_of-size.ensures) (sym c.is_text.ensures ∙ c.if-is_text.false))
 
 pub returns : goal.returns
-returns c = let a = c.args in sym (c.loop-j.invariant ∙ held_end a.s.now a.held.now (part a.s.now a.at a.l) a.many c.loop-j.j (omega (arith, c.loop-j-test.false)))
+returns c = let a = c.args in let e : a.many ≡ c.loop-j.j = omega (arith, c.loop-j-test.false, c.loop-j.auto.j-end) in
+    e ∙ sym (c.loop-j.invariant ∙ held_end a.s.now a.held.now (part a.s.now a.at a.l) a.many c.loop-j.j c.loop-j-test.false)

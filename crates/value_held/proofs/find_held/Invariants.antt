@@ -7,6 +7,3 @@ use Rattle.value_held.proofs.find_held.Given as goal
 
 abbrev pub invariant-loop-j : goal.invariant-loop-j
 invariant-loop-j l = held_from l.s l.held (part l.s l.at l.l) l.many 0 ≡ held_from l.s l.held (part l.s l.at l.l) (l.many - l.j) l.j
-
-abbrev pub decreases-loop-j : goal.decreases-loop-j
-decreases-loop-j l = l.many - l.j

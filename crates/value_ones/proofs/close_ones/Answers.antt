@@ -5,7 +5,7 @@ use native.Mathlib.Omega.{arith}
 use Rattle.paper_values.specs.ValueNumbers.{tag_list}
 use Rattle.value_writing.specs.Writing.{place_of, Behind, Closed}
 use Rattle.value_kinds.specs.Dues.{Told}
-use Rattle.value_kinds.specs.declared.Coerced.TheVariants.{UpTo}
+use Rattle.std.proofs.Common.{Ok}
 use Rattle.value_ones.specs.Ones.{ones}
 use Rattle.value_ones.proofs.OnesLaws.{head_first, head_behind, ones_more}
 use Rattle.value_ones.proofs.close_ones.Goals as goal
@@ -16,7 +16,7 @@ loop-j-init c = let a = c.args in let q = c.requires in let z : a.m - a.m ≡ 0 
   q.end,
   q.order,
   q.size,
-  λ text o p g. subst (λ (x : ℕ). Told text a.limit (ones x o) (place_of a.limit (a.from + 3 * a.m)) p a.out.now (UpTo a.at)) (sym z) g,
+  λ text o p g. subst (λ (x : ℕ). Told text a.limit (ones x o) (place_of a.limit (a.from + 3 * a.m)) p a.out.now (Ok a.at)) (sym z) g,
 )
 
 pub overflow_mul-j : goal.overflow_mul-j
@@ -46,5 +46,5 @@ pub returns : goal.returns
 returns c = let a = c.args in let l = c.loop-j in
     let z : l.j ≡ 0 = omega (arith, c.loop-j-test.false) in let y : a.m - l.j ≡ a.m = omega (arith, z) in
     λ text o p g.
-    subst (λ (x : ℕ). Told text a.limit (ones a.m o) x p l.out (UpTo l.e)) (ap (λ (x : ℕ). place_of a.limit (a.from + 3 * x)) z ∙ head_first a.limit a.from c.requires.place)
-    (subst (λ (x : ℕ). Told text a.limit (ones x o) (place_of a.limit (a.from + 3 * l.j)) p l.out (UpTo l.e)) y (l.invariant.4 text o p g))
+    subst (λ (x : ℕ). Told text a.limit (ones a.m o) x p l.out (Ok l.e)) (ap (λ (x : ℕ). place_of a.limit (a.from + 3 * x)) z ∙ head_first a.limit a.from c.requires.place)
+    (subst (λ (x : ℕ). Told text a.limit (ones x o) (place_of a.limit (a.from + 3 * l.j)) p l.out (Ok l.e)) y (l.invariant.4 text o p g))

@@ -6,13 +6,10 @@ use lib.ListN.{length}
 use Rattle.paper_values.specs.Values.{Tree, Out}
 use Rattle.value_writing.specs.Writing.{place_of}
 use Rattle.value_kinds.specs.Dues.{Told}
-use Rattle.value_kinds.specs.declared.Coerced.TheVariants.{UpTo}
+use Rattle.std.proofs.Common.{Ok}
 use Rattle.value_ones.specs.Ones.{ones}
 use Rattle.value_ones.proofs.close_ones.Given as goal
 
 abbrev pub invariant-loop-j : goal.invariant-loop-j
 invariant-loop-j l = (l.j ≤ l.m) × (l.e ≤ l.limit + 1) × (l.e ≤ l.limit → l.from + 3 * l.j ≤ l.e) × (length l.out ≡ l.limit) ×
-    ((text : ℕ) (o : Out Tree) (p : List ℕ) → Told text l.limit o (place_of l.limit (l.from + 3 * l.m)) p l.initial.out (UpTo l.at) → Told text l.limit (ones (l.m - l.j) o) (place_of l.limit (l.from + 3 * l.j)) p l.out (UpTo l.e))
-
-abbrev pub decreases-loop-j : goal.decreases-loop-j
-decreases-loop-j l = l.j
+    ((text : ℕ) (o : Out Tree) (p : List ℕ) → Told text l.limit o (place_of l.limit (l.from + 3 * l.m)) p l.initial.out (Ok l.at) → Told text l.limit (ones (l.m - l.j) o) (place_of l.limit (l.from + 3 * l.j)) p l.out (Ok l.e))

@@ -1,5 +1,6 @@
 -- `value_results::put_arguments` meets its contract: the variables, and then the arguments with their values.
-use mathlib.Core.Path.{◌∙◌}
+use mathlib.Core.Path.{◌∙◌, ap}
+use Rattle.std.proofs.Common.{Err}
 use Prim.Native.Nat.{◌+◌}
 use native.Mathlib.Omega.{arith}
 use Rattle.paper_values.specs.ValueNumbers.{most_coerced}
@@ -17,19 +18,19 @@ coerce_variables-r-requires c = let p = c.requires in
 pub put_held-requires : goal.put_held-requires
 put_held-requires c = let a = c.args in
     let p = c.requires in
-    let v = told_valued a.t.now a.book.now a.s.now a.rows.now a.n a.s1.now a.rows1.now a.n1 most_coerced (most_coerced + 1) a.out.now _ _ _ (coerced_variables a.t.now (doc_of a.s.now a.rows.now a.n) a.op (doc_of a.s1.now a.rows1.now a.n1)) _ _ c.coerce_variables-r.ensures c.in-Done.is in
+    let v = told_valued a.t.now a.book.now a.s.now a.rows.now a.n a.s1.now a.rows1.now a.n1 most_coerced (most_coerced + 1) a.out.now _ _ _ (coerced_variables a.t.now (doc_of a.s.now a.rows.now a.n) a.op (doc_of a.s1.now a.rows1.now a.n1)) _ c.coerce_variables-r.ensures c.in-Ok.is in
     (p.0.ready, p.2, valued_holding a.op v p.0.ready1 p.1.few (c.coerce_variables-r.auto.held ∙ p.1.held_size), c.coerce_variables-r.auto.out ∙ p.1.out_size)
 
 pub refused-requires : goal.refused-requires
 refused-requires c = let a = c.args in
     let p = c.requires in
-    told_row a.t.now a.book.now a.s.now a.rows.now a.n a.s1.now a.rows1.now a.n1 most_coerced (most_coerced + 1) a.out.now _ _ _ (coerced_variables a.t.now (doc_of a.s.now a.rows.now a.n) a.op (doc_of a.s1.now a.rows1.now a.n1)) _ _ _ (variables_rows a.t.now (doc_of a.s.now a.rows.now a.n) a.op (doc_of a.s1.now a.rows1.now a.n1) (omega (arith, p.0.ready.treed.rowed.few, rows_count a.rows.now a.n)) (omega (arith, p.0.ready1.treed.rowed.few, rows_count a.rows1.now a.n1))) c.coerce_variables-r.ensures c.in-Refused.is
+    told_row a.t.now a.book.now a.s.now a.rows.now a.n a.s1.now a.rows1.now a.n1 most_coerced (most_coerced + 1) a.out.now _ _ _ (coerced_variables a.t.now (doc_of a.s.now a.rows.now a.n) a.op (doc_of a.s1.now a.rows1.now a.n1)) _ (variables_rows a.t.now (doc_of a.s.now a.rows.now a.n) a.op (doc_of a.s1.now a.rows1.now a.n1) (omega (arith, p.0.ready.treed.rowed.few, rows_count a.rows.now a.n)) (omega (arith, p.0.ready1.treed.rowed.few, rows_count a.rows1.now a.n1))) c.coerce_variables-r.ensures c.in-Err.is
 
-pub returns-in-Done : goal.returns-in-Done
-returns-in-Done c = let a = c.args in
-    let v = told_valued a.t.now a.book.now a.s.now a.rows.now a.n a.s1.now a.rows1.now a.n1 most_coerced (most_coerced + 1) a.out.now _ _ _ (coerced_variables a.t.now (doc_of a.s.now a.rows.now a.n) a.op (doc_of a.s1.now a.rows1.now a.n1)) _ _ c.coerce_variables-r.ensures c.in-Done.is in
+pub returns-in-Ok : goal.returns-in-Ok
+returns-in-Ok c = let a = c.args in
+    let v = told_valued a.t.now a.book.now a.s.now a.rows.now a.n a.s1.now a.rows1.now a.n1 most_coerced (most_coerced + 1) a.out.now _ _ _ (coerced_variables a.t.now (doc_of a.s.now a.rows.now a.n) a.op (doc_of a.s1.now a.rows1.now a.n1)) _ c.coerce_variables-r.ensures c.in-Ok.is in
     valued_then v (argued a.t.now (doc_of a.s.now a.rows.now a.n) a.i) _ _ (c.put_held.ensures v.pairs v.holds)
 
-pub returns-in-Refused : goal.returns-in-Refused
-returns-in-Refused c = let a = c.args in
-    by_answer c.refused.ensures (told_refused a.t.now a.book.now a.s.now a.rows.now a.n a.s1.now a.rows1.now a.n1 most_coerced (most_coerced + 1) a.out.now _ _ _ (coerced_variables a.t.now (doc_of a.s.now a.rows.now a.n) a.op (doc_of a.s1.now a.rows1.now a.n1)) (argued a.t.now (doc_of a.s.now a.rows.now a.n) a.i) _ _ _ _ c.coerce_variables-r.ensures c.in-Refused.is)
+pub returns-in-Err : goal.returns-in-Err
+returns-in-Err c = let a = c.args in
+    by_answer (ap Err c.refused.ensures) (told_refused a.t.now a.book.now a.s.now a.rows.now a.n a.s1.now a.rows1.now a.n1 most_coerced (most_coerced + 1) a.out.now _ _ _ (coerced_variables a.t.now (doc_of a.s.now a.rows.now a.n) a.op (doc_of a.s1.now a.rows1.now a.n1)) (argued a.t.now (doc_of a.s.now a.rows.now a.n) a.i) _ _ c.coerce_variables-r.ensures c.in-Err.is)
