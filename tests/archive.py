@@ -9,7 +9,8 @@ import re
 import struct
 import sys
 
-ALLOWED = {"memcpy", "memmove", "memset", "memcmp"}
+# what README promises; a copy or a comparison that becomes a call of libc would show here
+ALLOWED = {"memset"}
 WRITE, ALLOC, EXEC, TLS = 1, 2, 4, 0x400
 SYMTAB, INIT_ARRAY, FINI_ARRAY, PREINIT_ARRAY, PROGBITS, NOBITS = 2, 14, 15, 16, 1, 8
 COMMON = 0xFFF2

@@ -1,14 +1,21 @@
--- `value_writing::copy`: the bytes that were copied lie between those before and those behind them.
-use mathlib.Core.Path.{◌≡◌, ◌∙◌, sym}
-use borrow.Author.Rules.{rules}
-use native.Mathlib.Omega.{arith}
-use Prim.Native.Nat.{◌+◌, ◌-◌}
-use lib.ListN.{length}
-use lib.Seq.{sets-eq, take_all}
-use Rattle.std.proofs.lemmas.Slice.{put_mid-paste}
+-- `value_writing::copy` meets its contract: after j turns, j bytes are copied.
+use mathlib.Core.Path.{refl, ap, ◌∙◌}
+use mathlib.Core.List.{List}
+use Prim.Native.Nat.{ℕ, ◌+◌}
+use lib.ListN.{length, get_or, set, take}
+use lib.Seq.{sets, length-sets, take_all}
+use Rattle.value_writing.proofs.StoreLaws.{copy_step}
 use Rattle.value_writing.proofs.copy.Goals as goal
+
+pub loop-j-init : goal.loop-j-init
+loop-j-init c = (refl, refl)
+
+pub loop-j-preserved : goal.loop-j-preserved
+loop-j-preserved c = let a = c.args in
+    let l = c.loop-j in
+    let e = ap (λ (x : List ℕ). set x (a.from + l.j) (get_or a.s.now l.j 0)) l.invariant.0 ∙ copy_step a.out.now a.s.now a.from l.j c.loop-j-test.true in
+    (e, ap length e ∙ length-sets a.out.now a.from (take (l.j + 1) a.s.now))
 
 pub returns : goal.returns
 returns c = let a = c.args in
-    let e : a.from + length a.s.now - a.from ≡ length a.s.now = omega arith in
-    put_mid-paste a.from _ a.out.now _ a.s.now (length a.s.now) c.copy_from_slice.ensures.after (sym e) (search rules) ∙ rw (take_all (length a.s.now) a.s.now (search rules)) (sym (sets-eq a.s.now a.out.now a.from c.requires))
+    c.loop-j.invariant.0 ∙ ap (sets a.out.now a.from) (take_all c.loop-j.j a.s.now c.loop-j-test.false)
