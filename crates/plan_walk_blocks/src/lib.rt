@@ -42,6 +42,8 @@ fn walk_one(
 }
 
 // Walks the blocks as given, from no marks and no pairs: the number of pairs, or 513 where they are over 512.
+// Never inlined: within `gw_walk` what was inlined before the loop decided how fast it ran (docs/LOOK-BACK.md, d1).
+#[inline(never)]
 pub fn walk_blocks(
     p: &[u32],
     blocks: &[u32],

@@ -145,6 +145,8 @@ fn is_headed(p: &[u32]) -> bool
 }
 
 // Is a lent plan well-formed?
+// Never inlined: within `gw_walk` what was inlined before the loops decided how fast they ran (docs/LOOK-BACK.md, d1).
+#[inline(never)]
 pub fn is_formed(t: &[u8], book: &[u32], p: &[u32]) -> bool
     requires { Booked t.now book.now }
     ensures { Decides result (WellFormed (table_of t.now) p.now) }
